@@ -1,0 +1,42 @@
+// Why a report is refused: the first rule that it breaks, and where.
+use thiserror::Error;
+
+/// What a report has too much of.
+#[derive(Debug, Clone, Copy, PartialEq, Eq, Error)]
+pub enum Excess {
+    /// More than 1,048,576 bytes.
+    #[error("bytes")]
+    Bytes,
+    /// More than 256 players.
+    #[error("players")]
+    Players,
+    /// More than 32 rounds.
+    #[error("rounds")]
+    Rounds,
+}
+
+/// Why a report is refused. Lines, columns and rounds count from 1.
+#[derive(Debug, Clone, Copy, PartialEq, Eq, Error)]
+pub enum Fault {
+    /// A start rank or a points field that is no number of its kind.
+    #[error("line {line}: bad number")]
+    BadNumber { line: usize },
+    /// A start rank that an earlier line has.
+    #[error("line {line}: duplicate")]
+    Duplicate { line: usize },
+    /// A column that must be blank is not.
+    #[error("line {line}: column {column} must be blank")]
+    Misaligned { line: usize, column: usize },
+    /// Opponent, colour and result of a round that do not fit together.
+    #[error("line {line}: round {round}: bad cell")]
+    BadCell { line: usize, round: usize },
+    /// The report is larger than this program reads.
+    #[error("too many {0}")]
+    TooMany(Excess),
+    /// No line of the kind `001`.
+    #[error("no players")]
+    NoPlayers,
+    /// Memory was refused.
+    #[error("out of memory")]
+    OutOfMemory,
+}
