@@ -1,9 +1,9 @@
 -- What the words of a command line ask for, by clap's rules at the program's command.
-use Rattle.std.specs.Prelude.{◌≡◌, ℕ, Bool, true, false, List, [], ◌∷◌, map, Option, Some, None, codes, Result, Ok, Err, if◌then◌else◌, not, ◌&&◌}
+use Rattle.std.specs.Prelude.{◌≡◌, Bool, true, false, List, [], Option, Some, None, codes, if◌then◌else◌}
 use Rattle.std.specs.List.{list_any}
 use Rattle.std.specs.Str.{bytes_eq}
 use Rattle.clap.specs.Words.{App, Row, Shape, Text, new_app, subcommand_of, with_subcommand, fault_of}
-use Rattle.clap.specs.Simple.{new_shape, on_top}
+use Rattle.clap.specs.Simple.{on_top}
 use Rattle.clap.specs.declared.error.kind.ErrorKind.{ErrorKind}
 use Rattle.clap.specs.declared.error.kind.ErrorKind.TheVariants.{DisplayHelp, DisplayVersion, OutOfMemory}
 use Rattle.arbiter.specs.declared.words.Request.{Request}

@@ -1,7 +1,7 @@
-use Rattle.std.proofs.Common.{rules, ap, ◌∙◌, subst, map, codes}
+use Rattle.std.proofs.Common.{ap, ◌∙◌, subst, map}
 use Rattle.std.proofs.lemmas.Result.{IfOk-weaker}
 use Rattle.clap.specs.Words.{App, HasKind, fault_of, is_simple_and_free}
-use Rattle.arbiter.proofs.WordLemmas.{simple_and_free, told_of_words, has_request}
+use Rattle.arbiter.proofs.WordLemmas.{simple_and_free, told_of_words}
 use Rattle.arbiter.proofs.words.read_words.Goals as goal
 
 pub returns-in-Err : goal.returns-in-Err
