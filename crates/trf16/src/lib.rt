@@ -1,4 +1,9 @@
 // Tournament reports in TRF16 columns: reading them, with every refusal named, and asking what they say.
 #![tactic(auto)]
 
+pub mod cell;
+mod columns;
 pub mod fault;
+mod lines;
+
+ghost use Rattle.trf16.specs.Verdict.{verdict};

@@ -1,0 +1,6 @@
+pub mod Lines
+pub mod Fields
+pub mod Cells
+pub mod Sheet
+pub mod Verdict
+pub mod Steps
