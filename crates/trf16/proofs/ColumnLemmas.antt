@@ -1,10 +1,11 @@
 -- How a line falls into columns, step by step.
-use Rattle.std.proofs.Common.{◌≡◌, ℕ, zero, suc, ◌+◌, ◌-◌, ◌<◌, ◌≤◌, Bool, true, false, ◌&&◌, ◌||◌, ◌==◌, not, cond, get_or, List, [], ◌∷◌, ◌++◌, length, take, drop, refl, sym, ap, ◌∙◌, append_assoc, arith}
-use Rattle.std.proofs.lemmas.List.{append-nil, length-append, drop-take, take-append-drop, drop_at, length-take-le}
+use Rattle.std.proofs.Common.{◌≡◌, ℕ, zero, suc, ◌+◌, ◌-◌, ◌<◌, ◌≤◌, Bool, true, false, ◌&&◌, ◌||◌, ◌==◌, not, cond, get_or, inl, inr, subst, List, [], ◌∷◌, ◌++◌, length, take, drop, refl, sym, ap, ◌∙◌, append_assoc, arith}
+use Rattle.std.proofs.lemmas.List.{append-nil, length-append, length-drop, drop-drop, drop_at, length-take-le, get_or-set_same, get_or-set_other}
 use Rattle.std.proofs.Math.Seq.{take-add}
-use Rattle.std.proofs.lemmas.Grind.{common_steps}
+use Rattle.std.proofs.lemmas.Bool.{cases_lt}
+use Rattle.std.proofs.Math.ListN.{set}
 use Rattle.trf16.specs.Lines.{onto_first, goes_on, columns, joined}
-use Rattle.trf16.specs.Steps.{IsStart}
+use Rattle.trf16.specs.Steps.{IsStart, AllStart}
 
 pub columns-bytes : (b : ℕ) (rest : List ℕ) → columns false (b ∷ rest) ≡ (b ∷ []) ∷ columns false rest
 columns-bytes b [] = refl
@@ -62,9 +63,6 @@ first_character bytes b rest n e within inside behind =
     let one_more : 1 + n ≡ suc n = omega arith in
     rw (e, one_more) (IsFirst-from true (b ∷ rest) (b ∷ take n rest) (suc n) (drop n rest) refl refl (columns-character b rest n within inside behind))
 
-take_next : {A : Type 0} (xs : List A) (n : ℕ) → take (n + 1) xs ≡ take n xs ++ take 1 (drop n xs)
-take_next xs n = take-add n 1 xs
-
 -- the first column begins at the first byte
 pub IsStart-zero : (utf8 : Bool) (bytes : List ℕ) → IsStart utf8 bytes 0 0
 IsStart-zero utf8 bytes = record { within = omega arith; front = refl; back = refl }
@@ -72,13 +70,40 @@ IsStart-zero utf8 bytes = record { within = omega arith; front = refl; back = re
 -- the next column begins behind the first of the rest
 pub IsStart-next : (utf8 : Bool) (bytes : List ℕ) (before at len : ℕ) → IsStart utf8 bytes before at → len ≤ length (drop at bytes)
     → IsFirst utf8 (drop at bytes) len → IsStart utf8 bytes (before + 1) (at + len)
-IsStart-next utf8 bytes before at len start within one = record {
-  within = ?;
-  front = ?;
-  back = ?;
+IsStart-next utf8 bytes before at len start within one =
+    let cols = columns utf8 bytes in
+    let together : take at bytes ++ take len (drop at bytes) ≡ joined (take before cols ++ take 1 (drop before cols)) =
+        rw (start.front, one.first, start.back) (sym (joined-append (take before cols) (take 1 (drop before cols)))) in
+    record {
+  within = omega (arith, length-drop at bytes);
+  front = take-add at len bytes ∙ together ∙ ap joined (sym (take-add before 1 (columns utf8 bytes)));
+  back = ap (columns utf8) (sym (drop-drop len at bytes)) ∙ one.rest ∙ ap (λ (cols : List (List ℕ)). drop 1 cols) start.back ∙ drop-drop 1 before (columns utf8 bytes);
 }
 
 -- the bytes of some columns lie between where they begin and where they end
 pub text_between : (utf8 : Bool) (bytes : List ℕ) (i j a b : ℕ) → i ≤ j → IsStart utf8 bytes i a → IsStart utf8 bytes j b
     → (a ≤ b) × (drop a (take b bytes) ≡ joined (take (j - i) (drop i (columns utf8 bytes))))
-text_between utf8 bytes i j a b le start end = ?
+text_between utf8 bytes i j a b le start end =
+    let cols = columns utf8 bytes in
+    let middle = joined (take (j - i) (drop i cols)) in
+    let sum : j ≡ i + (j - i) = omega arith in
+    let parts : take b bytes ≡ take a bytes ++ middle =
+        end.front ∙ ap (λ n. joined (take n cols)) sum ∙ ap joined (take-add i (j - i) cols) ∙ joined-append (take i cols) (take (j - i) (drop i cols))
+        ∙ ap (λ (front : List ℕ). front ++ middle) (sym start.front) in
+    let first : length (take a bytes) ≡ a = length-take-le a bytes start.within in
+    let both : length (take b bytes) ≡ b = length-take-le b bytes end.within in
+    let total : length (take b bytes) ≡ length (take a bytes) + length middle = ap length parts ∙ length-append (take a bytes) middle in
+    (omega arith, ap (λ (bs : List ℕ). drop a bs) parts ∙ drop_at (take a bytes) middle a first)
+
+-- one more place is noted
+pub AllStart-set : (utf8 : Bool) (bytes starts : List ℕ) (k at : ℕ) → k < length starts → AllStart utf8 bytes starts k → IsStart utf8 bytes k at
+    → AllStart utf8 bytes (set starts k at) (k + 1)
+AllStart-set utf8 bytes starts k at room before here j lt =
+    elim (cases_lt j k) [
+      | inl below ↦ rw (get_or-set_other starts k j at 0 (λ e. omega (arith, e))) (before j below)
+      | inr above ↦ let same : k ≡ j = omega arith in subst (λ n. IsStart utf8 bytes n (get_or (set starts k at) n 0)) same (rw (get_or-set_same starts k at 0 room) here)
+    ]
+
+-- what stands behind a column
+pub joined-behind : (utf8 : Bool) (bytes : List ℕ) (before at : ℕ) → IsStart utf8 bytes before at → drop at bytes ≡ joined (drop before (columns utf8 bytes))
+joined-behind utf8 bytes before at start = sym (joined-columns utf8 (drop at bytes)) ∙ ap joined start.back

@@ -60,7 +60,8 @@ impl<'a> Line<'a> {
         let mut at = 0;
         for k in 0..STARTS {
             starts[k] = at;
-            at += column_len(&bytes[at..], utf8);
+            let (_, rest) = bytes.split_at(at);
+            at += column_len(rest, utf8);
         }
         Line {
             bytes,
@@ -84,7 +85,8 @@ impl<'a> Line<'a> {
     pub(crate) fn is_too_long(&self) -> bool
         ensures { result ≡ not (is_blank (joined (drop 411 self.now))) }
     {
-        !is_blank(&self.bytes[self.starts[411]..])
+        let (_, rest) = self.bytes.split_at(self.starts[411]);
+        !is_blank(rest)
     }
 }
 
