@@ -1,21 +1,20 @@
 -- The cells of the crosstable: opponent, colour and result of a round (TRF16, columns 92 to 99 and every ten further).
-use Rattle.std.specs.Prelude.{ℕ, ◌-◌, Bool, true, false, ◌&&◌, ◌||◌, ◌==◌, nat_le, if◌then◌else◌, List, [], ◌∷◌, Option, Some, None, option_and_then}
-use Rattle.trf16.specs.Fields.{number_of}
+use Rattle.std.specs.Prelude.{ℕ, Bool, true, false, ◌||◌, ◌==◌, if◌then◌else◌, List, [], ◌∷◌, Option, Some, None, option_and_then}
+use Rattle.std.specs.Option.{option_map_or}
+use Rattle.std.specs.Char.{to_ascii_uppercase}
+use Rattle.trf16.specs.Fields.{words, number_of}
 use Rattle.trf16.specs.declared.cell.Colour.{Colour}
 use Rattle.trf16.specs.declared.cell.Colour.TheVariants.{White, Black}
 use Rattle.trf16.specs.declared.cell.Bye.TheVariants.{Half, Full, Allocated, Zero}
+use Rattle.trf16.specs.declared.cell.Outcome.{Outcome}
 use Rattle.trf16.specs.declared.cell.Outcome.TheVariants.{Win, Draw, Loss}
 use Rattle.trf16.specs.declared.cell.Cell.{Cell}
 use Rattle.trf16.specs.declared.cell.Cell.TheVariants.{Blank, Bye, Game, Forfeit, Unfinished}
 
--- a letter in upper case
-abbrev pub upper : ℕ → ℕ
-upper b = if nat_le 97 b && nat_le b 122 then b - 32 else b
-
 -- what stands in one column, letters in upper case: a missing column is blank, and a character of several bytes is no mark
 abbrev pub mark_in : List ℕ → Option ℕ
 mark_in [] = Some 32
-mark_in (b ∷ []) = Some (upper b)
+mark_in (b ∷ []) = Some (to_ascii_uppercase b)
 mark_in (b ∷ c ∷ rest) = None
 
 -- w or b
@@ -41,16 +40,21 @@ forfeit_cell opponent colour result =
     if result == 43 then Some (Forfeit opponent colour true)
     else (if result == 45 then Some (Forfeit opponent colour false) else None)
 
--- a game: 1, = or 0 where it is rated, W, D or L where it is not, and a blank where it has no result yet
+-- whether a game is rated, and how it ended: 1, = or 0 where it is rated, W, D or L where it is not
+abbrev pub outcome_of : ℕ → Option (Bool × Outcome)
+outcome_of result =
+    if result == 49 then Some (true, Win)
+    else (if result == 61 then Some (true, Draw)
+    else (if result == 48 then Some (true, Loss)
+    else (if result == 87 then Some (false, Win)
+    else (if result == 68 then Some (false, Draw)
+    else (if result == 76 then Some (false, Loss) else None)))))
+
+-- with an opponent and a colour: a game with its result, one without a result yet where that is blank, or a forfeit
 abbrev pub game_cell : ℕ → Colour → ℕ → Option Cell
 game_cell opponent colour result =
-    if result == 49 then Some (Game opponent colour true Win)
-    else (if result == 61 then Some (Game opponent colour true Draw)
-    else (if result == 48 then Some (Game opponent colour true Loss)
-    else (if result == 87 then Some (Game opponent colour false Win)
-    else (if result == 68 then Some (Game opponent colour false Draw)
-    else (if result == 76 then Some (Game opponent colour false Loss)
-    else (if result == 32 then Some (Unfinished opponent colour) else forfeit_cell opponent (Some colour) result))))))
+    if result == 32 then Some (Unfinished opponent colour)
+    else option_map_or (λ played. Some (Game opponent colour played.0 played.1)) (outcome_of result) (forfeit_cell opponent (Some colour) result)
 
 -- the cell of an opponent or none, a colour and a result, where the three have one
 abbrev pub cell_of : Option ℕ → ℕ → ℕ → Option Cell
@@ -68,3 +72,8 @@ abbrev pub opponent_in : List (List ℕ) → Option (Option ℕ)
 opponent_in [] = Some None
 opponent_in (word ∷ []) = option_and_then (λ n. Some (opponent_of n)) (number_of word)
 opponent_in _ = None
+
+-- the cell that three fields spell: opponent, colour and result
+abbrev pub cell_from : List ℕ → List ℕ → List ℕ → Option Cell
+cell_from opponent colour result =
+    option_and_then (λ o. option_and_then (λ c. option_and_then (λ r. cell_of o c r) (mark_in result)) (mark_in colour)) (opponent_in (words opponent))

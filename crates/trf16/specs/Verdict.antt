@@ -4,8 +4,8 @@ use Rattle.std.specs.List.{list_all, list_any}
 use Rattle.std.specs.Option.{ok_or}
 use Rattle.std.specs.Str.{is_utf8, bytes_eq}
 use Rattle.trf16.specs.Lines.{without_marks, lines, columns, joined, text, is_blank}
-use Rattle.trf16.specs.Fields.{words, number_in, points_of, trimmed}
-use Rattle.trf16.specs.Cells.{mark_in, cell_of, opponent_in}
+use Rattle.trf16.specs.Fields.{words, number_in, points_in, trimmed, without_last}
+use Rattle.trf16.specs.Cells.{cell_from}
 use Rattle.trf16.specs.Sheet.{Entry, Sheet, with_player, known}
 use Rattle.trf16.specs.declared.cell.Cell.{Cell}
 use Rattle.trf16.specs.declared.cell.Cell.TheVariants.{Blank}
@@ -35,20 +35,9 @@ start_at sheet n line = do
   start ← ok_or (number_in (words (text line 5 8))) (BadNumber n)
   if start == 0 then Err (BadNumber n) else (if known sheet start then Err (Duplicate n) else Ok start)
 
--- the points that the words of the field name, in half points: none where there is no word
-abbrev pub points_in : List (List ℕ) → Option (Option ℕ)
-points_in [] = Some None
-points_in (word ∷ []) = option_and_then (λ points. Some (Some points)) (points_of word)
-points_in _ = None
-
 -- columns 81 to 84: the points, or blank
 unfoldable pub points_at : ℕ → List (List ℕ) → Result (Option ℕ) Fault
 points_at n line = ok_or (points_in (words (text line 81 84))) (BadNumber n)
-
--- the cell that three fields spell: opponent, colour and result
-abbrev pub cell_from : List ℕ → List ℕ → List ℕ → Option Cell
-cell_from opponent colour result =
-    option_and_then (λ o. option_and_then (λ c. option_and_then (λ r. cell_of o c r) (mark_in result)) (mark_in colour)) (opponent_in (words opponent))
 
 -- the round that follows `before` others: opponent in columns 92 to 95, colour in 97 and result in 99, the others blank, and each
 -- round stands ten columns further on
@@ -74,11 +63,6 @@ abbrev pub is_blank_cell : Cell → Bool
 is_blank_cell Blank = true
 is_blank_cell _ = false
 
--- cells without the blank ones at their end
-abbrev pub without_last_blanks : List Cell → List Cell
-without_last_blanks [] = []
-without_last_blanks (cell ∷ rest) = if list_all is_blank_cell (cell ∷ rest) then [] else cell ∷ without_last_blanks rest
-
 -- the player that line n names, behind those of the lines before
 unfoldable pub player_at : Sheet → ℕ → List (List ℕ) → Result Entry Fault
 player_at sheet n line = do
@@ -88,7 +72,7 @@ player_at sheet n line = do
   _ ← blank_at n line 90
   _ ← blank_at n line 91
   cells ← rounds_at n line 0 32
-  Ok (record { start = start; line = n; points = points; left = trimmed (text line 9 80); right = trimmed (text line 85 89); cells = without_last_blanks cells })
+  Ok (record { start = start; line = n; points = points; left = trimmed (text line 9 80); right = trimmed (text line 85 89); cells = without_last is_blank_cell cells })
 
 -- a line of the kind 001
 abbrev pub is_player : List (List ℕ) → Bool

@@ -4,6 +4,8 @@
 pub mod cell;
 mod columns;
 pub mod fault;
+mod fields;
+mod grammar;
 mod lines;
 
 ghost use Rattle.trf16.specs.Verdict.{verdict};
