@@ -1,5 +1,12 @@
 // Tournament reports in TRF16 columns: reading them, with every refusal named, and asking what they say.
 #![tactic(auto)]
 
+pub mod cell;
+mod columns;
 pub mod devices;
 pub mod fault;
+mod fields;
+mod grammar;
+mod lines;
+
+ghost use Rattle.trf16.specs.Verdict.{verdict};

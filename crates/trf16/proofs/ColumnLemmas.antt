@@ -1,0 +1,109 @@
+-- How a line falls into columns, step by step.
+use Rattle.std.proofs.Common.{◌≡◌, ℕ, zero, suc, ◌+◌, ◌-◌, ◌<◌, ◌≤◌, Bool, true, false, ◌&&◌, ◌||◌, ◌==◌, not, cond, get_or, inl, inr, subst, List, [], ◌∷◌, ◌++◌, length, take, drop, refl, sym, ap, ◌∙◌, append_assoc, arith}
+use Rattle.std.proofs.lemmas.List.{append-nil, length-append, length-drop, drop-drop, drop_at, length-take-le, get_or-set_same, get_or-set_other}
+use Rattle.std.proofs.Math.Seq.{take-add}
+use Rattle.std.proofs.lemmas.Bool.{cases_lt}
+use Rattle.std.proofs.Math.ListN.{set}
+use Rattle.trf16.specs.Lines.{onto_first, goes_on, columns, joined}
+use Rattle.trf16.specs.Steps.{IsStart, AllStart}
+
+pub columns-bytes : (b : ℕ) (rest : List ℕ) → columns false (b ∷ rest) ≡ (b ∷ []) ∷ columns false rest
+columns-bytes b [] = refl
+columns-bytes b (c ∷ rest) = refl
+
+-- the first character of a text that is UTF-8
+pub columns-character : (b : ℕ) (rest : List ℕ) (n : ℕ) → n ≤ length rest → ((k : ℕ) → k < n → goes_on (get_or rest k 0) ≡ true)
+    → (n < length rest → goes_on (get_or rest n 0) ≡ false) → columns true (b ∷ rest) ≡ (b ∷ take n rest) ∷ columns true (drop n rest)
+columns-character b [] zero within inside behind = refl
+columns-character b [] (suc n) within inside behind = absurd (omega arith)
+columns-character b (c ∷ rest) zero within inside behind = let stops : goes_on c ≡ false = behind (omega arith) in rw stops refl
+columns-character b (c ∷ rest) (suc n) within inside behind =
+    let follows : goes_on c ≡ true = inside 0 (omega arith) in
+    let others : columns true (c ∷ rest) ≡ (c ∷ take n rest) ∷ columns true (drop n rest) =
+        columns-character c rest n (omega arith) (λ k lt. inside (suc k) (omega arith)) (λ lt. behind (omega arith)) in
+    rw (follows, others) refl
+
+pub joined-append : (xs ys : List (List ℕ)) → joined (xs ++ ys) ≡ joined xs ++ joined ys
+joined-append [] ys = refl
+joined-append (x ∷ xs) ys = ap (λ (bs : List ℕ). x ++ bs) (joined-append xs ys) ∙ sym (append_assoc x (joined xs) (joined ys))
+
+joined-onto_first : (b : ℕ) (cols : List (List ℕ)) → joined (onto_first b cols) ≡ b ∷ joined cols
+joined-onto_first b [] = refl
+joined-onto_first b (first ∷ others) = refl
+
+column_step : (b c : ℕ) (rest : List ℕ) (utf8 goes : Bool) → joined (columns utf8 (c ∷ rest)) ≡ c ∷ rest
+    → joined (cond goes (onto_first b (columns utf8 (c ∷ rest))) ((b ∷ []) ∷ columns utf8 (c ∷ rest))) ≡ b ∷ c ∷ rest
+column_step b c rest utf8 true e = joined-onto_first b (columns utf8 (c ∷ rest)) ∙ ap (λ (bs : List ℕ). b ∷ bs) e
+column_step b c rest utf8 false e = ap (λ (bs : List ℕ). b ∷ bs) e
+
+-- the columns are the whole line
+pub joined-columns : (utf8 : Bool) (bytes : List ℕ) → joined (columns utf8 bytes) ≡ bytes
+joined-columns utf8 [] = refl
+joined-columns utf8 (b ∷ []) = refl
+joined-columns utf8 (b ∷ c ∷ rest) = column_step b c rest utf8 (utf8 && goes_on c) (joined-columns utf8 (c ∷ rest))
+
+-- what one column takes off a line
+pub record IsFirst (utf8 : Bool) (bytes : List ℕ) (len : ℕ) : Type 0 where
+  pub first : take len bytes ≡ joined (take 1 (columns utf8 bytes))
+  pub rest : columns utf8 (drop len bytes) ≡ drop 1 (columns utf8 bytes)
+
+IsFirst-from : (utf8 : Bool) (bytes column : List ℕ) (len : ℕ) (rest : List ℕ) → take len bytes ≡ column → drop len bytes ≡ rest
+    → columns utf8 bytes ≡ column ∷ columns utf8 rest → IsFirst utf8 bytes len
+IsFirst-from utf8 bytes column len rest t d e = record {
+  first = rw (t, e) (sym (append-nil column));
+  rest = rw (d, e) refl;
+}
+
+pub first_byte : (bytes : List ℕ) (b : ℕ) (rest : List ℕ) → bytes ≡ b ∷ rest → IsFirst false bytes 1
+first_byte bytes b rest e = rw e (IsFirst-from false (b ∷ rest) (b ∷ []) 1 rest refl refl (columns-bytes b rest))
+
+pub first_character : (bytes : List ℕ) (b : ℕ) (rest : List ℕ) (n : ℕ) → bytes ≡ b ∷ rest → n ≤ length rest → ((k : ℕ) → k < n → goes_on (get_or rest k 0) ≡ true)
+    → (n < length rest → goes_on (get_or rest n 0) ≡ false) → IsFirst true bytes (1 + n)
+first_character bytes b rest n e within inside behind =
+    let one_more : 1 + n ≡ suc n = omega arith in
+    rw (e, one_more) (IsFirst-from true (b ∷ rest) (b ∷ take n rest) (suc n) (drop n rest) refl refl (columns-character b rest n within inside behind))
+
+-- the first column begins at the first byte
+pub IsStart-zero : (utf8 : Bool) (bytes : List ℕ) → IsStart utf8 bytes 0 0
+IsStart-zero utf8 bytes = record { within = omega arith; front = refl; back = refl }
+
+-- the next column begins behind the first of the rest
+pub IsStart-next : (utf8 : Bool) (bytes : List ℕ) (before at len : ℕ) → IsStart utf8 bytes before at → len ≤ length (drop at bytes)
+    → IsFirst utf8 (drop at bytes) len → IsStart utf8 bytes (before + 1) (at + len)
+IsStart-next utf8 bytes before at len start within one =
+    let cols = columns utf8 bytes in
+    let together : take at bytes ++ take len (drop at bytes) ≡ joined (take before cols ++ take 1 (drop before cols)) =
+        rw (start.front, one.first, start.back) (sym (joined-append (take before cols) (take 1 (drop before cols)))) in
+    record {
+  within = omega (arith, length-drop at bytes);
+  front = take-add at len bytes ∙ together ∙ ap joined (sym (take-add before 1 (columns utf8 bytes)));
+  back = ap (columns utf8) (sym (drop-drop len at bytes)) ∙ one.rest ∙ ap (λ (cols : List (List ℕ)). drop 1 cols) start.back ∙ drop-drop 1 before (columns utf8 bytes);
+}
+
+-- the bytes of some columns lie between where they begin and where they end
+pub text_between : (utf8 : Bool) (bytes : List ℕ) (i j a b : ℕ) → i ≤ j → IsStart utf8 bytes i a → IsStart utf8 bytes j b
+    → (a ≤ b) × (drop a (take b bytes) ≡ joined (take (j - i) (drop i (columns utf8 bytes))))
+text_between utf8 bytes i j a b le start end =
+    let cols = columns utf8 bytes in
+    let middle = joined (take (j - i) (drop i cols)) in
+    let sum : j ≡ i + (j - i) = omega arith in
+    let parts : take b bytes ≡ take a bytes ++ middle =
+        end.front ∙ ap (λ n. joined (take n cols)) sum ∙ ap joined (take-add i (j - i) cols) ∙ joined-append (take i cols) (take (j - i) (drop i cols))
+        ∙ ap (λ (front : List ℕ). front ++ middle) (sym start.front) in
+    let first : length (take a bytes) ≡ a = length-take-le a bytes start.within in
+    let both : length (take b bytes) ≡ b = length-take-le b bytes end.within in
+    let total : length (take b bytes) ≡ length (take a bytes) + length middle = ap length parts ∙ length-append (take a bytes) middle in
+    (omega arith, ap (λ (bs : List ℕ). drop a bs) parts ∙ drop_at (take a bytes) middle a first)
+
+-- one more place is noted
+pub AllStart-set : (utf8 : Bool) (bytes starts : List ℕ) (k at : ℕ) → k < length starts → AllStart utf8 bytes starts k → IsStart utf8 bytes k at
+    → AllStart utf8 bytes (set starts k at) (k + 1)
+AllStart-set utf8 bytes starts k at room before here j lt =
+    elim (cases_lt j k) [
+      | inl below ↦ rw (get_or-set_other starts k j at 0 (λ e. omega (arith, e))) (before j below)
+      | inr above ↦ let same : k ≡ j = omega arith in subst (λ n. IsStart utf8 bytes n (get_or (set starts k at) n 0)) same (rw (get_or-set_same starts k at 0 room) here)
+    ]
+
+-- what stands behind a column
+pub joined-behind : (utf8 : Bool) (bytes : List ℕ) (before at : ℕ) → IsStart utf8 bytes before at → drop at bytes ≡ joined (drop before (columns utf8 bytes))
+joined-behind utf8 bytes before at start = sym (joined-columns utf8 (drop at bytes)) ∙ ap joined start.back

@@ -1,0 +1,9 @@
+use Rattle.std.proofs.Common.{ap, not, ◌∙◌, arith}
+use Rattle.trf16.specs.Lines.{is_blank}
+use Rattle.trf16.proofs.ColumnLemmas.{joined-behind}
+use Rattle.trf16.proofs.columns.Line.is_too_long.Goals as goal
+
+pub returns : goal.returns
+returns c =
+    rw (c.is_blank.ensures, c.split_at.ensures.back, ← c.self.view_is)
+    (ap (λ bytes. not (is_blank bytes)) (joined-behind c.self.inside.utf8 c.self.inside.bytes.now 411 _ (c.self.invariant 411 (omega arith))))

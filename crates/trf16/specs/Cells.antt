@@ -1,0 +1,79 @@
+-- The cells of the crosstable: opponent, colour and result of a round (TRF16, columns 92 to 99 and every ten further).
+use Rattle.std.specs.Prelude.{ℕ, Bool, true, false, ◌||◌, ◌==◌, if◌then◌else◌, List, [], ◌∷◌, Option, Some, None, option_and_then}
+use Rattle.std.specs.Option.{option_map_or}
+use Rattle.std.specs.Char.{to_ascii_uppercase}
+use Rattle.trf16.specs.Fields.{words, number_of}
+use Rattle.trf16.specs.declared.cell.Colour.{Colour}
+use Rattle.trf16.specs.declared.cell.Colour.TheVariants.{White, Black}
+use Rattle.trf16.specs.declared.cell.Bye.TheVariants.{Half, Full, Allocated, Zero}
+use Rattle.trf16.specs.declared.cell.Outcome.{Outcome}
+use Rattle.trf16.specs.declared.cell.Outcome.TheVariants.{Win, Draw, Loss}
+use Rattle.trf16.specs.declared.cell.Cell.{Cell}
+use Rattle.trf16.specs.declared.cell.Cell.TheVariants.{Blank, Bye, Game, Forfeit, Unfinished}
+
+-- what stands in one column, letters in upper case: a missing column is blank, and a character of several bytes is no mark
+abbrev pub mark_in : List ℕ → Option ℕ
+mark_in [] = Some 32
+mark_in (b ∷ []) = Some (to_ascii_uppercase b)
+mark_in (b ∷ c ∷ rest) = None
+
+-- w or b
+abbrev pub colour_of : ℕ → Option Colour
+colour_of c = if c == 87 then Some White else (if c == 66 then Some Black else None)
+
+-- a dash or a blank
+abbrev pub is_no_colour : ℕ → Bool
+is_no_colour c = (c == 45) || (c == 32)
+
+-- without an opponent: blank, H, F, U or Z
+abbrev pub bye_cell : ℕ → Option Cell
+bye_cell result =
+    if result == 32 then Some Blank
+    else (if result == 72 then Some (Bye Half)
+    else (if result == 70 then Some (Bye Full)
+    else (if result == 85 then Some (Bye Allocated)
+    else (if result == 90 then Some (Bye Zero) else None))))
+
+-- a game that was not played: + or -
+abbrev pub forfeit_cell : ℕ → Option Colour → ℕ → Option Cell
+forfeit_cell opponent colour result =
+    if result == 43 then Some (Forfeit opponent colour true)
+    else (if result == 45 then Some (Forfeit opponent colour false) else None)
+
+-- whether a game is rated, and how it ended: 1, = or 0 where it is rated, W, D or L where it is not
+abbrev pub outcome_of : ℕ → Option (Bool × Outcome)
+outcome_of result =
+    if result == 49 then Some (true, Win)
+    else (if result == 61 then Some (true, Draw)
+    else (if result == 48 then Some (true, Loss)
+    else (if result == 87 then Some (false, Win)
+    else (if result == 68 then Some (false, Draw)
+    else (if result == 76 then Some (false, Loss) else None)))))
+
+-- with an opponent and a colour: a game with its result, one without a result yet where that is blank, or a forfeit
+abbrev pub game_cell : ℕ → Colour → ℕ → Option Cell
+game_cell opponent colour result =
+    if result == 32 then Some (Unfinished opponent colour)
+    else option_map_or (λ played. Some (Game opponent colour played.0 played.1)) (outcome_of result) (forfeit_cell opponent (Some colour) result)
+
+-- the cell of an opponent or none, a colour and a result, where the three have one
+abbrev pub cell_of : Option ℕ → ℕ → ℕ → Option Cell
+cell_of None colour result = if is_no_colour colour then bye_cell result else None
+cell_of (Some opponent) colour result =
+    if is_no_colour colour then forfeit_cell opponent None result
+    else option_and_then (λ c. game_cell opponent c result) (colour_of colour)
+
+-- 0 is no opponent
+abbrev pub opponent_of : ℕ → Option ℕ
+opponent_of n = if n == 0 then None else Some n
+
+-- the opponent that the words of a field name, or none; no answer where they are no number
+abbrev pub opponent_in : List (List ℕ) → Option (Option ℕ)
+opponent_in [] = Some None
+opponent_in (word ∷ []) = option_and_then (λ n. Some (opponent_of n)) (number_of word)
+opponent_in _ = None
+
+-- the cell that three fields spell: opponent, colour and result
+abbrev pub cell_from : List ℕ → List ℕ → List ℕ → Option Cell
+cell_from opponent colour result =
+    option_and_then (λ o. option_and_then (λ c. option_and_then (λ r. cell_of o c r) (mark_in result)) (mark_in colour)) (opponent_in (words opponent))

@@ -1,0 +1,69 @@
+-- What a report says: its lines that are carried, and its players.
+use Rattle.std.specs.Prelude.{ℕ, ◌+◌, ◌-◌, Bool, true, false, ◌==◌, nat_lt, max, if◌then◌else◌, List, [], ◌∷◌, ◌++◌, Option, slice_index_or}
+use Rattle.std.specs.List.{list_any}
+use Rattle.trf16.specs.declared.cell.Bye.TheVariants.{Half, Full, Allocated, Zero}
+use Rattle.trf16.specs.declared.cell.Cell.{Cell}
+use Rattle.trf16.specs.declared.cell.Cell.TheVariants.{Blank, Bye, Game, Forfeit, Unfinished}
+
+-- what the line of a player says: the start rank, the line's number, the points field in half points, the carried columns 9 to 80
+-- and 85 to 89 without the blanks at their ends, and the cells up to the last that is not blank
+pub record Entry : Type 0 where
+  pub start : ℕ
+  pub line : ℕ
+  pub points : Option ℕ
+  pub left : List ℕ
+  pub right : List ℕ
+  pub cells : List Cell
+
+-- a report: whether its columns are characters, each of its lines that is carried (none at the line of a player), and its players
+-- in the order of their lines
+pub record Sheet : Type 0 where
+  pub utf8 : Bool
+  pub carried : List (Option (List ℕ))
+  pub players : List Entry
+
+-- a report with one more player
+abbrev pub with_player : Sheet → Entry → Sheet
+with_player sheet entry = record sheet { players = sheet.players ++ entry ∷ [] }
+
+-- whether a start rank is that of a player
+abbrev pub known : Sheet → ℕ → Bool
+known sheet start = list_any (λ entry. entry.start == start) sheet.players
+
+-- the cell of a round, which counts from 1; past the last it is blank
+abbrev pub cell_at : List Cell → ℕ → Cell
+cell_at cells round = slice_index_or cells (round - 1) Blank
+
+-- the cells of the player with a start rank
+abbrev pub cells_of : List Entry → ℕ → List Cell
+cells_of [] start = []
+cells_of (entry ∷ rest) start = if entry.start == start then entry.cells else cells_of rest start
+
+-- the cell of a player in a round
+abbrev pub cell_in : Sheet → ℕ → ℕ → Cell
+cell_in sheet start round = cell_at (cells_of sheet.players start) round
+
+-- whether a cell names an opponent or is the pairing-allocated bye
+abbrev pub is_paired : Cell → Bool
+is_paired Blank = false
+is_paired (Bye Half) = false
+is_paired (Bye Full) = false
+is_paired (Bye Allocated) = true
+is_paired (Bye Zero) = false
+is_paired (Game opponent colour rated got) = true
+is_paired (Forfeit opponent colour won) = true
+is_paired (Unfinished opponent colour) = true
+
+-- the last round in which one of some cells is paired, or 0
+abbrev pub last_paired : List Cell → ℕ
+last_paired [] = 0
+last_paired (cell ∷ rest) = if nat_lt 0 (last_paired rest) then last_paired rest + 1 else (if is_paired cell then 1 else 0)
+
+-- the last round in which some player is paired, or 0
+abbrev pub last_paired_of : List Entry → ℕ
+last_paired_of [] = 0
+last_paired_of (entry ∷ rest) = max (last_paired entry.cells) (last_paired_of rest)
+
+-- how many rounds were paired
+abbrev pub rounds_played : Sheet → ℕ
+rounds_played sheet = last_paired_of sheet.players

@@ -1,0 +1,129 @@
+-- The verdict on a text: the report that it is, or the first rule that it breaks.
+use Rattle.std.specs.Prelude.{◌≡◌, ℕ, zero, suc, ◌+◌, ◌*◌, Bool, true, false, not, ◌&&◌, ◌==◌, nat_lt, if◌then◌else◌, List, [], ◌∷◌, length, drop, map, codes, Option, Some, None, option_and_then, Result, Ok, Err}
+use Rattle.std.specs.List.{list_all, list_any}
+use Rattle.std.specs.Option.{ok_or}
+use Rattle.std.specs.Str.{is_utf8, bytes_eq}
+use Rattle.trf16.specs.Lines.{without_marks, lines, columns, joined, text, is_blank}
+use Rattle.trf16.specs.Fields.{words, number_in, points_in, trimmed, without_last}
+use Rattle.trf16.specs.Cells.{cell_from}
+use Rattle.trf16.specs.Sheet.{Entry, Sheet, with_player, known}
+use Rattle.trf16.specs.declared.cell.Cell.{Cell}
+use Rattle.trf16.specs.declared.cell.Cell.TheVariants.{Blank}
+use Rattle.trf16.specs.declared.fault.Excess.TheVariants.{Bytes, Players, Rounds}
+use Rattle.trf16.specs.declared.fault.Fault.{Fault}
+use Rattle.trf16.specs.declared.fault.Fault.TheVariants.{BadNumber, Duplicate, Misaligned, BadCell, TooMany, NoPlayers, OutOfMemory}
+
+-- what the next step gives, unless a step before met a fault
+infixl 10 ◌>>=◌
+abbrev pub ◌>>=◌ : {A B : Type 0} → Result A Fault → (A → Result B Fault) → Result B Fault
+(Ok x) >>= f = f x
+(Err fault) >>= f = Err fault
+
+-- what a call answers is what the definition gives, seen by `view`, or memory was refused
+abbrev pub Gives : {X Y : Type 0} → (X → Y) → Result X Fault → Result Y Fault → Type 0
+Gives view (Ok x) given = given ≡ Ok (view x)
+Gives view (Err OutOfMemory) given = Unit {0}
+Gives view (Err fault) given = given ≡ Err fault
+
+-- column k of line n must be blank
+unfoldable pub blank_at : ℕ → List (List ℕ) → ℕ → Result (Unit {0}) Fault
+blank_at n line k = if is_blank (text line k k) then Ok tt else Err (Misaligned n k)
+
+-- columns 5 to 8: the start rank, 1 to 9999, which no earlier line has
+unfoldable pub start_at : Sheet → ℕ → List (List ℕ) → Result ℕ Fault
+start_at sheet n line = do
+  start ← ok_or (number_in (words (text line 5 8))) (BadNumber n)
+  if start == 0 then Err (BadNumber n) else (if known sheet start then Err (Duplicate n) else Ok start)
+
+-- columns 81 to 84: the points, or blank
+unfoldable pub points_at : ℕ → List (List ℕ) → Result (Option ℕ) Fault
+points_at n line = ok_or (points_in (words (text line 81 84))) (BadNumber n)
+
+-- the round that follows `before` others: opponent in columns 92 to 95, colour in 97 and result in 99, the others blank, and each
+-- round stands ten columns further on
+unfoldable pub round_at : ℕ → List (List ℕ) → ℕ → Result Cell Fault
+round_at n line before = do
+  let at = 91 + 10 * before
+  _ ← blank_at n line (at + 5)
+  _ ← blank_at n line (at + 7)
+  _ ← blank_at n line (at + 9)
+  _ ← blank_at n line (at + 10)
+  ok_or (cell_from (text line (at + 1) (at + 4)) (text line (at + 6) (at + 6)) (text line (at + 8) (at + 8))) (BadCell n (before + 1))
+
+-- some rounds one after the other, of which `before` others stand in front
+unfoldable pub rounds_at : ℕ → List (List ℕ) → ℕ → ℕ → Result (List Cell) Fault
+rounds_at n line before zero = Ok []
+rounds_at n line before (suc more) = do
+  cell ← round_at n line before
+  others ← rounds_at n line (before + 1) more
+  Ok (cell ∷ others)
+
+-- a cell that says nothing
+abbrev pub is_blank_cell : Cell → Bool
+is_blank_cell Blank = true
+is_blank_cell _ = false
+
+-- the player that line n names, behind those of the lines before
+unfoldable pub player_at : Sheet → ℕ → List (List ℕ) → Result Entry Fault
+player_at sheet n line = do
+  _ ← blank_at n line 4
+  start ← start_at sheet n line
+  points ← points_at n line
+  _ ← blank_at n line 90
+  _ ← blank_at n line 91
+  cells ← rounds_at n line 0 32
+  Ok (record { start = start; line = n; points = points; left = trimmed (text line 9 80); right = trimmed (text line 85 89); cells = without_last is_blank_cell cells })
+
+-- a line of the kind 001
+abbrev pub is_player : List (List ℕ) → Bool
+is_player line = bytes_eq (text line 1 3) (codes "001")
+
+-- something stands behind the last round that is read, in column 412 or further on
+abbrev pub is_too_long : List (List ℕ) → Bool
+is_too_long line = not (is_blank (joined (drop 411 line)))
+
+-- a report with what line n adds to it
+unfoldable pub line_onto : Sheet → ℕ → List (List ℕ) → Result Sheet Fault
+line_onto sheet n line =
+    if is_player line then (do
+      entry ← player_at sheet n line
+      Ok (with_player sheet entry))
+    else Ok sheet
+
+-- a report with what some lines add to it, of which the first is line n
+unfoldable pub lines_onto : Sheet → ℕ → List (List ℕ) → Result Sheet Fault
+lines_onto sheet n [] = Ok sheet
+lines_onto sheet n (line ∷ rest) = do
+  next ← line_onto sheet n (columns sheet.utf8 line)
+  lines_onto next (n + 1) rest
+
+-- a line as it is carried: not where it is a player's
+abbrev pub carried_line : Bool → List ℕ → Option (List ℕ)
+carried_line utf8 line = if is_player (columns utf8 line) then None else Some line
+
+-- a report whose players are still to be read
+abbrev pub without_players : Bool → List (List ℕ) → Sheet
+without_players utf8 all = record { utf8 = utf8; carried = map (carried_line utf8) all; players = [] }
+
+-- whether a player's line goes on behind the last round that is read
+abbrev pub has_too_many_rounds : Bool → List (List ℕ) → Bool
+has_too_many_rounds utf8 all = list_any (λ line. is_player (columns utf8 line) && is_too_long (columns utf8 line)) all
+
+-- the report, where it is not too large and has players
+unfoldable pub sized : Sheet → Bool → Result Sheet Fault
+sized sheet too_long =
+    if nat_lt 256 (length sheet.players) then Err (TooMany Players)
+    else (if too_long then Err (TooMany Rounds)
+    else (if length sheet.players == 0 then Err NoPlayers else Ok sheet))
+
+-- the report that some lines are
+unfoldable pub report_of : Bool → List (List ℕ) → Result Sheet Fault
+report_of utf8 all = do
+  sheet ← lines_onto (without_players utf8 all) 1 all
+  sized sheet (has_too_many_rounds utf8 all)
+
+-- the report that a text is, or the first rule that it breaks; a column is a character where the text is UTF-8, else a byte
+unfoldable pub verdict : List ℕ → Result Sheet Fault
+verdict bytes =
+    if nat_lt 1048576 (length bytes) then Err (TooMany Bytes)
+    else report_of (is_utf8 (without_marks bytes)) (lines (without_marks bytes))

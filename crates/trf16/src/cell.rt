@@ -1,0 +1,56 @@
+// What one round holds for one player: a cell of the report's crosstable.
+
+/// The colour of the pieces.
+#[derive(Debug, Clone, Copy, PartialEq, Eq)]
+pub enum Colour {
+    White,
+    Black,
+}
+
+/// A round without an opponent, for which points may be given (TRF16: `H`, `F`, `U`, `Z`).
+#[derive(Debug, Clone, Copy, PartialEq, Eq)]
+pub enum Bye {
+    /// `H`: a requested bye of half a point.
+    Half,
+    /// `F`: a requested bye of a full point.
+    Full,
+    /// `U`: the pairing-allocated bye.
+    Allocated,
+    /// `Z`: a known absence, without points.
+    Zero,
+}
+
+/// How a game ended for the player of the cell.
+#[derive(Debug, Clone, Copy, PartialEq, Eq)]
+pub enum Outcome {
+    /// 2 half points.
+    Win,
+    /// 1 half point.
+    Draw,
+    /// No half points.
+    Loss,
+}
+
+/// Opponent, colour and result of a player in a round. An opponent is named by a start rank, 1 to 9999.
+#[derive(Debug, Clone, Copy, PartialEq, Eq)]
+pub enum Cell {
+    /// Nothing is said of the round.
+    Blank,
+    /// A round without an opponent.
+    Bye(Bye),
+    /// A game that was played; it is rated or not (`1`, `=`, `0` or `W`, `D`, `L`).
+    Game {
+        opponent: u16,
+        colour: Colour,
+        rated: bool,
+        got: Outcome,
+    },
+    /// A game that was not played, won (`+`) or lost (`-`); the colour may be left out.
+    Forfeit {
+        opponent: u16,
+        colour: Option<Colour>,
+        won: bool,
+    },
+    /// A game without a result yet.
+    Unfinished { opponent: u16, colour: Colour },
+}
