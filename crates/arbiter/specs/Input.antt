@@ -2,8 +2,8 @@
 use Rattle.std.specs.Prelude.{◌<◌, ◌≤◌, ℕ, List, Result, Ok, Err, length}
 use Rattle.std.specs.Io.KnownBytes.{Consumes, IsAtEnd}
 use Rattle.arbiter.specs.Devices.{Use, HasNotFailed, HasFailed}
-use Rattle.arbiter.specs.declared.input.Trouble.{Trouble}
-use Rattle.arbiter.specs.declared.input.Trouble.TheVariants.{Read, Memory}
+use Rattle.arbiter.specs.declared.input.InputFault.{InputFault}
+use Rattle.arbiter.specs.declared.input.InputFault.TheVariants.{Read, Memory}
 
 -- how many bytes are read at most: one more than a report may have
 abbrev pub most_read : ℕ
@@ -17,7 +17,7 @@ pub record IsRead (source : Use) (input : List ℕ) : Type 0 where
   pub sound : HasNotFailed source
 
 -- the input was read, or a call of the source failed, or memory was refused and no call failed
-abbrev pub ReadsInput : {T : Type 0} → (T → List ℕ) → Use → Result T Trouble → Type 0
+abbrev pub ReadsInput : {T : Type 0} → (T → List ℕ) → Use → Result T InputFault → Type 0
 ReadsInput items source (Ok input) = IsRead source (items input)
 ReadsInput items source (Err Read) = HasFailed source
 ReadsInput items source (Err Memory) = HasNotFailed source

@@ -13,9 +13,9 @@ const MOST_READ: usize = 1_048_577;
 /// How many bytes are asked for at once.
 const PIECE: usize = 16_384;
 
-/// Why a run could not be carried through.
+/// Why the input could not be read.
 #[derive(Debug, Clone, Copy, PartialEq, Eq)]
-pub enum Trouble {
+pub enum InputFault {
     /// The source failed.
     Read,
     /// Memory was refused.
@@ -25,7 +25,7 @@ pub enum Trouble {
 /// Reads all bytes of a source, or the first 1,048,577 of more. Each call but one that tells the
 /// end gives a byte, so there are at most as many calls.
 #[tactic(auto, using(crate::proofs::InputLemmas::given_to_end))]
-pub fn read_input<R: Source>(alloc: Global, reader: &mut R) -> Result<Vec<u8>, Trouble>
+pub fn read_input<R: Source>(alloc: Global, reader: &mut R) -> Result<Vec<u8>, InputFault>
     ensures input { ReadsInput (λ bytes. bytes.items) (use_of R.left R.failures reader.old reader.new) result }
     ensures calls { R.calls reader.new ≤ R.calls reader.old + most_read }
 {
@@ -34,13 +34,13 @@ pub fn read_input<R: Source>(alloc: Global, reader: &mut R) -> Result<Vec<u8>, T
     while bytes.len() < MOST_READ {
         let room = PIECE.min(MOST_READ - bytes.len());
         let Ok(count) = reader.take(&mut piece[..room]) else {
-            return Err(Trouble::Read);
+            return Err(InputFault::Read);
         };
         if count == 0 {
             return Ok(bytes);
         }
         if bytes.extend_from_slice(&piece[..count]).is_err() {
-            return Err(Trouble::Memory);
+            return Err(InputFault::Memory);
         }
     }
     Ok(bytes)

@@ -2,6 +2,8 @@
 #![tactic(auto)]
 
 mod input;
+mod reply;
+mod texts;
 mod words;
 
 use std::io;
