@@ -5,3 +5,4 @@ pub mod Texts
 pub mod Commands
 pub mod Run
 pub mod Replies
+pub mod Standin

@@ -17,14 +17,32 @@ abbrev pub IsInput : Option (List ℕ) → List ℕ → Type 0
 IsInput None input = Unit {0}
 IsInput (Some bytes) input = input ≡ bytes
 
--- the words ask for a command, and this is its answer over the bytes of the source
-pub record IsAnswered (words : List (List ℕ)) (source : Reading) (answer : Answer) : Type 0 where
-  pub request : Request
+-- a request is answered over the bytes of the source
+pub record IsAnswered (request : Request) (source : Reading) (answer : Answer) : Type 0 where
   pub input : List ℕ
-  pub asked : AsksFor words request
   pub read : IsInput source.device.before input
   pub sound : HasNotFailed source.device
   pub answers : Answers request input answer
+
+-- a call of the source failed
+pub record HasReadFault (source : Reading) (answer : Answer) : Type 0 where
+  pub failed : HasFailed source.device
+  pub tells : answer ≡ read_fault
+
+-- memory was refused
+pub record IsOutOfMemory (source : Reading) (answer : Answer) : Type 0 where
+  pub sound : HasNotFailed source.device
+  pub tells : answer ≡ out_of_memory
+
+-- what is answered to a request
+abbrev pub IsReplyTo : Request → Reading → Answer → Type 0
+IsReplyTo request source answer = IsAnswered request source answer ⊎ (HasReadFault source answer ⊎ IsOutOfMemory source answer)
+
+-- the words make a request, which is answered
+pub record IsCarriedOut (words : List (List ℕ)) (source : Reading) (answer : Answer) : Type 0 where
+  pub request : Request
+  pub asked : AsksFor words request
+  pub replies : IsReplyTo request source answer
 
 -- the words ask for help or the version, and nothing is read; the text is clap's
 pub record IsHelped (words : List (List ℕ)) (source : Reading) (answer : Answer) : Type 0 where
@@ -38,22 +56,10 @@ pub record IsCorrected (words : List (List ℕ)) (source : Reading) (answer : An
   pub unread : IsUnread source
   pub status : answer.status ≡ BadWords
 
--- the words ask for a command, and a call of the source failed
-pub record HasReadFault (words : List (List ℕ)) (source : Reading) (answer : Answer) : Type 0 where
-  pub request : Request
-  pub asked : AsksFor words request
-  pub failed : HasFailed source.device
-  pub tells : answer ≡ read_fault
-
--- memory was refused
-pub record IsOutOfMemory (source : Reading) (answer : Answer) : Type 0 where
-  pub sound : HasNotFailed source.device
-  pub tells : answer ≡ out_of_memory
-
 -- what is answered to the words and to what the source gives
 abbrev pub IsAnswer : List (List ℕ) → Reading → Answer → Type 0
-IsAnswer words source answer = IsAnswered words source answer ⊎ (IsHelped words source answer ⊎ (IsCorrected words source answer
-    ⊎ (HasReadFault words source answer ⊎ IsOutOfMemory source answer)))
+IsAnswer words source answer = IsCarriedOut words source answer ⊎ (IsHelped words source answer ⊎ (IsCorrected words source answer
+    ⊎ IsOutOfMemory source answer))
 
 -- ---- how it is written
 

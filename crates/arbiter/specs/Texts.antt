@@ -26,14 +26,14 @@ write_text = codes "device: write failed\n"
 
 -- why a report is refused
 abbrev pub fault_text : Fault → List ℕ
-fault_text (BadNumber line) = codes "refused: line " ++ decimal line ++ codes ": bad number\n"
-fault_text (Duplicate line) = codes "refused: line " ++ decimal line ++ codes ": duplicate\n"
-fault_text (Misaligned line column) = codes "refused: line " ++ decimal line ++ codes ": column " ++ decimal column ++ codes " must be blank\n"
-fault_text (BadCell line round) = codes "refused: line " ++ decimal line ++ codes ": round " ++ decimal round ++ codes ": bad cell\n"
+fault_text (BadNumber line) = codes "refused: line " ++ (decimal line ++ codes ": bad number\n")
+fault_text (Duplicate line) = codes "refused: line " ++ (decimal line ++ codes ": duplicate\n")
+fault_text (Misaligned line column) = codes "refused: line " ++ (decimal line ++ (codes ": column " ++ (decimal column ++ codes " must be blank\n")))
+fault_text (BadCell line round) = codes "refused: line " ++ (decimal line ++ (codes ": round " ++ (decimal round ++ codes ": bad cell\n")))
 fault_text (TooMany excess) = excess_text excess
 fault_text NoPlayers = codes "refused: no players\n"
 fault_text OutOfMemory = memory_text
 
 -- a report is accepted: how many players it has, and how many rounds were paired
 abbrev pub accepted_text : ℕ → ℕ → List ℕ
-accepted_text players rounds = codes "accepted players " ++ decimal players ++ codes " rounds " ++ decimal rounds ++ codes "\n"
+accepted_text players rounds = codes "accepted players " ++ (decimal players ++ (codes " rounds " ++ (decimal rounds ++ codes "\n")))

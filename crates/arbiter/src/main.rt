@@ -1,8 +1,10 @@
 // The arbiter at the command line: it checks a tournament report that stands on standard input.
 #![tactic(auto)]
 
+mod check;
 mod input;
 mod reply;
+mod run;
 mod texts;
 mod words;
 
