@@ -11,4 +11,4 @@ pub mod player;
 mod reading;
 pub mod report;
 
-ghost use Rattle.trf16.specs.Verdict.{verdict};
+pub use reading::read;
