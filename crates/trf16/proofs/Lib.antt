@@ -1,3 +1,5 @@
 pub mod LineLemmas
 pub mod ColumnLemmas
 pub mod FieldLemmas
+pub mod ReadingLemmas
+pub mod ReportLemmas

@@ -1,6 +1,7 @@
 -- What a report says: its lines that are carried, and its players.
-use Rattle.std.specs.Prelude.{ℕ, ◌+◌, ◌-◌, Bool, true, false, ◌==◌, nat_lt, max, if◌then◌else◌, List, [], ◌∷◌, ◌++◌, Option, slice_index_or}
+use Rattle.std.specs.Prelude.{ℕ, ◌+◌, ◌-◌, Bool, true, false, ◌==◌, nat_lt, max, if◌then◌else◌, List, [], ◌∷◌, ◌++◌, Option, None, slice_index_or}
 use Rattle.std.specs.List.{list_any}
+use Rattle.trf16.specs.declared.player.Player.{Player}
 use Rattle.trf16.specs.declared.cell.Bye.TheVariants.{Half, Full, Allocated, Zero}
 use Rattle.trf16.specs.declared.cell.Cell.{Cell}
 use Rattle.trf16.specs.declared.cell.Cell.TheVariants.{Blank, Bye, Game, Forfeit, Unfinished}
@@ -22,6 +23,10 @@ pub record Sheet : Type 0 where
   pub carried : List (Option (List ℕ))
   pub players : List Entry
 
+-- what a player is, wherever it lies in memory
+abbrev pub entry_of : Player → Entry
+entry_of p = record { start = p.start; line = p.line; points = p.points; left = p.left.now; right = p.right.now; cells = p.cells.items }
+
 -- a report with one more player
 abbrev pub with_player : Sheet → Entry → Sheet
 with_player sheet entry = record sheet { players = sheet.players ++ entry ∷ [] }
@@ -29,6 +34,10 @@ with_player sheet entry = record sheet { players = sheet.players ++ entry ∷ []
 -- whether a start rank is that of a player
 abbrev pub known : Sheet → ℕ → Bool
 known sheet start = list_any (λ entry. entry.start == start) sheet.players
+
+-- a line that is carried, which counts from 1; none at the line of a player and behind the last line
+abbrev pub carried_in : Sheet → ℕ → Option (List ℕ)
+carried_in sheet n = slice_index_or sheet.carried (n - 1) None
 
 -- the cell of a round, which counts from 1; past the last it is blank
 abbrev pub cell_at : List Cell → ℕ → Cell

@@ -19,21 +19,31 @@ abbrev pub ◌>>=◌ : {A B : Type 0} → Result A Fault → (A → Result B Fau
 (Ok x) >>= f = f x
 (Err fault) >>= f = Err fault
 
+-- the fault that a call answers is the one that the definition gives, or memory was refused
+abbrev pub Fails : {Y : Type 0} → Fault → Result Y Fault → Type 0
+Fails OutOfMemory given = Unit {0}
+Fails fault given = given ≡ Err fault
+
 -- what a call answers is what the definition gives, seen by `view`, or memory was refused
 abbrev pub Gives : {X Y : Type 0} → (X → Y) → Result X Fault → Result Y Fault → Type 0
 Gives view (Ok x) given = given ≡ Ok (view x)
-Gives view (Err OutOfMemory) given = Unit {0}
-Gives view (Err fault) given = given ≡ Err fault
+Gives view (Err fault) given = Fails fault given
 
 -- column k of line n must be blank
 unfoldable pub blank_at : ℕ → List (List ℕ) → ℕ → Result (Unit {0}) Fault
 blank_at n line k = if is_blank (text line k k) then Ok tt else Err (Misaligned n k)
 
--- columns 5 to 8: the start rank, 1 to 9999, which no earlier line has
+-- columns 5 to 8: the start rank, 1 to 9999
+unfoldable pub start_number_at : ℕ → List (List ℕ) → Result ℕ Fault
+start_number_at n line = do
+  start ← ok_or (number_in (words (text line 5 8))) (BadNumber n)
+  if start == 0 then Err (BadNumber n) else Ok start
+
+-- the start rank, which no earlier line has
 unfoldable pub start_at : Sheet → ℕ → List (List ℕ) → Result ℕ Fault
 start_at sheet n line = do
-  start ← ok_or (number_in (words (text line 5 8))) (BadNumber n)
-  if start == 0 then Err (BadNumber n) else (if known sheet start then Err (Duplicate n) else Ok start)
+  start ← start_number_at n line
+  if known sheet start then Err (Duplicate n) else Ok start
 
 -- columns 81 to 84: the points, or blank
 unfoldable pub points_at : ℕ → List (List ℕ) → Result (Option ℕ) Fault
@@ -63,6 +73,12 @@ abbrev pub is_blank_cell : Cell → Bool
 is_blank_cell Blank = true
 is_blank_cell _ = false
 
+-- the rounds of a line up to the last that is not blank
+unfoldable pub cells_at : ℕ → List (List ℕ) → Result (List Cell) Fault
+cells_at n line = do
+  cells ← rounds_at n line 0 32
+  Ok (without_last is_blank_cell cells)
+
 -- the player that line n names, behind those of the lines before
 unfoldable pub player_at : Sheet → ℕ → List (List ℕ) → Result Entry Fault
 player_at sheet n line = do
@@ -71,8 +87,8 @@ player_at sheet n line = do
   points ← points_at n line
   _ ← blank_at n line 90
   _ ← blank_at n line 91
-  cells ← rounds_at n line 0 32
-  Ok (record { start = start; line = n; points = points; left = trimmed (text line 9 80); right = trimmed (text line 85 89); cells = without_last is_blank_cell cells })
+  cells ← cells_at n line
+  Ok (record { start = start; line = n; points = points; left = trimmed (text line 9 80); right = trimmed (text line 85 89); cells = cells })
 
 -- a line of the kind 001
 abbrev pub is_player : List (List ℕ) → Bool

@@ -90,6 +90,18 @@ impl<'a> Line<'a> {
     }
 }
 
+/// The first three columns of a line.
+pub(crate) fn kind(bytes: &[u8], utf8: bool) -> &[u8]
+    ensures { result.now ≡ text (columns utf8 bytes.now) 1 3 }
+{
+    let mut len = 0;
+    for _ in 0..3usize {
+        let (_, rest) = bytes.split_at(len);
+        len += column_len(rest, utf8);
+    }
+    bytes.split_at(len).0
+}
+
 /// Whether there is nothing but blanks.
 pub(crate) fn is_blank(bytes: &[u8]) -> bool
     ensures { result ≡ is_blank bytes.now }

@@ -8,5 +8,8 @@ pub mod fault;
 mod fields;
 mod grammar;
 mod lines;
+pub mod player;
+mod reading;
+pub mod report;
 
-ghost use Rattle.trf16.specs.Verdict.{verdict};
+pub use reading::read;

@@ -1,0 +1,115 @@
+-- Reading one thing after the other, as a loop does.
+use Rattle.std.proofs.Common.{◌≡◌, ℕ, Bool, true, false, cond, ◌||◌, ◌&&◌, suc, ◌-◌, ◌+◌, ◌≤◌, ◌<◌, List, [], ◌∷◌, ◌++◌, length, Result, Ok, Err, refl, sym, ap, ◌∙◌, append_assoc, arith}
+use Rattle.std.specs.Prelude.{MatchResult, is_ok}
+use Rattle.std.specs.Str.{is_utf8, IsUtf8}
+use Rattle.std.proofs.lemmas.Str.{is_utf8-from_IsUtf8, IsUtf8-from_is_utf8}
+use Rattle.std.proofs.lemmas.List.{append-nil}
+use Rattle.trf16.specs.declared.cell.Cell.{Cell}
+use Rattle.trf16.specs.declared.fault.Fault.{Fault}
+use Rattle.trf16.specs.declared.fault.Fault.TheVariants.{BadNumber, Duplicate, Misaligned, BadCell, TooMany, NoPlayers, OutOfMemory}
+use Rattle.trf16.specs.Verdict.{◌>>=◌, Fails, round_at, rounds_at, player_at, is_player, is_too_long, line_onto, lines_onto, has_too_many_rounds}
+use Rattle.trf16.specs.Sheet.{Entry, Sheet, with_player}
+use Rattle.trf16.specs.Lines.{columns}
+
+-- what was read before, and what is still read
+abbrev pub behind : List Cell → Result (List Cell) Fault → Result (List Cell) Fault
+behind front read = read >>= λ cells. Ok (front ++ cells)
+
+-- a fault that one reading answers is that of another which ends with it
+pub Fails-on : {A B : Type 0} (fault : Fault) (first : Result A Fault) (whole : Result B Fault) → ((f : Fault) → first ≡ Err f → whole ≡ Err f)
+    → Fails fault first → Fails fault whole
+Fails-on OutOfMemory first whole on h = tt
+Fails-on (BadNumber n) first whole on h = on (BadNumber n) h
+Fails-on (Duplicate n) first whole on h = on (Duplicate n) h
+Fails-on (Misaligned n k) first whole on h = on (Misaligned n k) h
+Fails-on (BadCell n r) first whole on h = on (BadCell n r) h
+Fails-on (TooMany what) first whole on h = on (TooMany what) h
+Fails-on NoPlayers first whole on h = on NoPlayers h
+
+regroup : (front : List Cell) (cell : Cell) (read : Result (List Cell) Fault)
+    → behind front (read >>= λ others. Ok (cell ∷ others)) ≡ behind (front ++ cell ∷ []) read
+regroup front cell (Ok others) = ap (λ (cells : List Cell). Ok cells) (sym (append_assoc front (cell ∷ []) others))
+regroup front cell (Err fault) = refl
+
+pub rounds-go_on : (n : ℕ) (line : List (List ℕ)) (front : List Cell) (before : ℕ) (cell : Cell) (total : Result (List Cell) Fault)
+    → before < 32 → round_at n line before ≡ Ok cell → behind front (rounds_at n line before (32 - before)) ≡ total
+    → behind (front ++ cell ∷ []) (rounds_at n line (before + 1) (32 - (before + 1))) ≡ total
+unfolding rounds_at
+rounds-go_on n line front before cell total lt here so_far =
+    let more : 32 - before ≡ suc (32 - (before + 1)) = omega arith in
+    let one : behind front (rounds_at n line before (32 - before)) ≡ behind (front ++ cell ∷ []) (rounds_at n line (before + 1) (32 - (before + 1))) =
+        rw (more, here) (regroup front cell (rounds_at n line (before + 1) (32 - (before + 1)))) in
+    sym one ∙ so_far
+
+pub rounds-fail : (n : ℕ) (line : List (List ℕ)) (front : List Cell) (before : ℕ) (total : Result (List Cell) Fault) → before < 32
+    → behind front (rounds_at n line before (32 - before)) ≡ total → (fault : Fault) → round_at n line before ≡ Err fault → total ≡ Err fault
+unfolding rounds_at
+rounds-fail n line front before total lt so_far fault here =
+    let more : 32 - before ≡ suc (32 - (before + 1)) = omega arith in
+    let one : behind front (rounds_at n line before (32 - before)) ≡ Err fault = rw (more, here) refl in
+    sym so_far ∙ one
+
+pub rounds-end : (n : ℕ) (line : List (List ℕ)) (front : List Cell) (before : ℕ) (total : Result (List Cell) Fault) → 32 ≤ before
+    → behind front (rounds_at n line before (32 - before)) ≡ total → total ≡ Ok front
+unfolding rounds_at
+rounds-end n line front before total le so_far =
+    let none : 32 - before ≡ 0 = omega arith in
+    let one : behind front (rounds_at n line before (32 - before)) ≡ Ok front = rw none (ap (λ (cells : List Cell). Ok cells) (append-nil front)) in
+    sym so_far ∙ one
+
+done : Sheet → Result Sheet Fault
+done sheet = Ok sheet
+
+failed : Fault → Result Sheet Fault
+failed fault = Err fault
+
+differ : (fault : Fault) (next : Sheet) → failed fault ≡ done next → ⊥
+unfolding done failed
+differ fault next e = cc
+
+keeps_columns : (sheet next : Sheet) (named : Bool) (read : Result Entry Fault)
+    → cond named (read >>= λ entry. Ok (with_player sheet entry)) (Ok sheet) ≡ Ok next → next.utf8 ≡ sheet.utf8
+unfolding done failed
+keeps_columns sheet next true (Ok entry) e = let same : with_player sheet entry ≡ next = cc in sym (ap (λ (s : Sheet). s.utf8) same)
+keeps_columns sheet next true (Err fault) e = absurd (differ fault next e)
+keeps_columns sheet next false read e = let same : sheet ≡ next = cc in sym (ap (λ (s : Sheet). s.utf8) same)
+
+-- what a line adds does not change what a column is
+pub line_onto-utf8 : (sheet : Sheet) (n : ℕ) (line : List (List ℕ)) (next : Sheet) → line_onto sheet n line ≡ Ok next → next.utf8 ≡ sheet.utf8
+unfolding line_onto
+line_onto-utf8 sheet n line next e = keeps_columns sheet next (is_player line) (player_at sheet n line) e
+
+pub lines-go_on : (sheet next : Sheet) (n : ℕ) (line : List ℕ) (rest : List (List ℕ)) → line_onto sheet n (columns sheet.utf8 line) ≡ Ok next
+    → lines_onto sheet n (line ∷ rest) ≡ lines_onto next (n + 1) rest
+unfolding lines_onto
+lines-go_on sheet next n line rest e = rw e refl
+
+pub lines-fail : (sheet : Sheet) (n : ℕ) (line : List ℕ) (rest : List (List ℕ)) (fault : Fault) → line_onto sheet n (columns sheet.utf8 line) ≡ Err fault
+    → lines_onto sheet n (line ∷ rest) ≡ Err fault
+unfolding lines_onto
+lines-fail sheet n line rest fault e = rw e refl
+
+pub lines-end : (sheet : Sheet) (n : ℕ) → lines_onto sheet n [] ≡ Ok sheet
+unfolding lines_onto
+lines-end sheet n = refl
+
+pub nil_from_length : (bytes : List ℕ) → length bytes ≡ 0 → bytes ≡ []
+nil_from_length [] none = refl
+nil_from_length (b ∷ bytes) none = absurd (omega arith)
+
+-- the test of all lines where one of those before is too long, and where none is
+pub stays_long : (next long here others total : Bool) → next ≡ long → long ≡ true → (long || (here || others)) ≡ total → (next || others) ≡ total
+stays_long next long here others total same holds so_far = rw (same, holds) (rw holds at so_far)
+
+pub becomes_long : (next long here others total : Bool) → next ≡ here → long ≡ false → (long || (here || others)) ≡ total → (next || others) ≡ total
+becomes_long next long here others total same not_yet so_far = rw same (rw not_yet at so_far)
+
+-- what `from_utf8` tells is the test
+pub is_utf8_is : {S E : Type 0} (A : S → Type 0) (B : E → Type 0) (bytes : List ℕ) (r : Result S E)
+    → MatchResult r (λ s. A s × IsUtf8 bytes) (λ e. ¬ (IsUtf8 bytes) × B e) → is_ok r ≡ is_utf8 bytes
+is_utf8_is A B bytes (Ok s) h = sym (is_utf8-from_IsUtf8 bytes h.1)
+is_utf8_is A B bytes (Err e) h = by (is_utf8 bytes) refl
+  where
+    by : (b : Bool) → is_utf8 bytes ≡ b → false ≡ b
+    by true passes = absurd (h.0 (IsUtf8-from_is_utf8 bytes passes))
+    by false fails = refl

@@ -1,0 +1,56 @@
+-- The players of a report, seen as a map by start rank and as a list in the order of their lines.
+use Rattle.std.proofs.Common.{◌≡◌, ℕ, Bool, true, false, cond, ◌||◌, ◌==◌, nat_eq, List, [], ◌∷◌, ◌++◌, map, Option, None, Some, refl, sym, ap, ◌∙◌, is_some, arith}
+use Rattle.std.specs.List.{list_any}
+use Rattle.std.specs.Map.{keys_of, lookup}
+use Rattle.std.proofs.lemmas.Bool.Decides.{nat_tests}
+use Rattle.std.proofs.lemmas.List.{map-append}
+use Rattle.trf16.specs.declared.player.Player.{Player}
+use Rattle.trf16.specs.Sheet.{Entry, entry_of}
+
+-- entries whose keys are the start ranks of their players
+pub record AreKeyed (entries : List (ℕ × Player)) : Type 0 where
+  pub keys : keys_of entries ≡ map (λ e. e.1.start) entries
+
+first_of_lists : (x y : ℕ) (xs ys : List ℕ) → (x ∷ xs) ≡ (y ∷ ys) → x ≡ y
+first_of_lists x y xs ys e = cc
+
+rest_of_lists : (x y : ℕ) (xs ys : List ℕ) → (x ∷ xs) ≡ (y ∷ ys) → xs ≡ ys
+rest_of_lists x y xs ys e = cc
+
+eq-sym : (a b : ℕ) → nat_eq a b ≡ nat_eq b a
+eq-sym a b = grind (arith, nat_tests)
+
+known_step : (k start : ℕ) (p : Player) (found : Option Player) (others : Bool) → k ≡ p.start → is_some found ≡ others
+    → is_some (cond (nat_eq start k) (Some p) found) ≡ ((p.start == start) || others)
+known_step k start p found others same e = rw (same, eq-sym start p.start) (by (nat_eq p.start start) e)
+  where
+    by : (here : Bool) → is_some found ≡ others → is_some (cond here (Some p) found) ≡ (here || others)
+    by true e' = refl
+    by false e' = e'
+
+-- a look-up finds a player exactly where some player has the start rank
+pub known-lookup : (es : List (ℕ × Player)) (start : ℕ) → keys_of es ≡ map (λ e. e.1.start) es
+    → is_some (lookup (nat_eq start) es) ≡ list_any (λ (entry : Entry). entry.start == start) (map (λ e. entry_of e.1) es)
+known-lookup [] start keyed = refl
+known-lookup (e ∷ es) start keyed =
+    known_step e.0 start e.1 (lookup (nat_eq start) es) (list_any (λ (entry : Entry). entry.start == start) (map (λ e. entry_of e.1) es))
+        (first_of_lists e.0 e.1.start (keys_of es) (map (λ e. e.1.start) es) keyed)
+        (known-lookup es start (rest_of_lists e.0 e.1.start (keys_of es) (map (λ e. e.1.start) es) keyed))
+
+pub entries-values : (es : List (ℕ × Player)) → map entry_of (map (λ e. e.1) es) ≡ map (λ e. entry_of e.1) es
+entries-values [] = refl
+entries-values (e ∷ es) = ap (λ (rest : List Entry). entry_of e.1 ∷ rest) (entries-values es)
+
+pub none_from : {X : Type 0} (o : Option X) → is_some o ≡ false → o ≡ None
+none_from None e = refl
+none_from (Some x) e = absurd (true_false e)
+  where
+    true_false : true ≡ false → ⊥
+    true_false e = cc
+
+-- a player whose key is his start rank keeps the entries keyed
+pub keyed-push : (es : List (ℕ × Player)) (p : Player) → keys_of es ≡ map (λ e. e.1.start) es
+    → keys_of (es ++ (p.start, p) ∷ []) ≡ map (λ e. e.1.start) (es ++ (p.start, p) ∷ [])
+keyed-push es p keyed =
+    map-append (λ (e : ℕ × Player). e.0) es ((p.start, p) ∷ []) ∙ ap (λ (starts : List ℕ). starts ++ p.start ∷ []) keyed
+    ∙ sym (map-append (λ (e : ℕ × Player). e.1.start) es ((p.start, p) ∷ []))

@@ -1,0 +1,22 @@
+// A player of a report: what his line says, field by field.
+ghost use Rattle.std.specs.Prelude.{◌≤◌, vec_len};
+
+use crate::cell::Cell;
+
+/// What a line of the kind `001` says.
+#[derive(Drop)]
+pub struct Player<'a> {
+    /// The start rank, 1 to 9999.
+    pub start: u16,
+    /// The number of the line, from 1.
+    pub line: usize,
+    /// The points field in half points, if it is not blank.
+    pub points: Option<u16>,
+    /// Columns 9 to 80 (sex, title, name, rating, federation, FIDE number, birth date), without the blanks at their end.
+    pub left: &'a [u8],
+    /// Columns 85 to 89 (rank), without the blanks at their end.
+    pub right: &'a [u8],
+    /// The rounds from the first to the last that is not blank.
+    pub cells: Vec<Cell>,
+    ghost few_cells: { vec_len cells ≤ 32 },
+}

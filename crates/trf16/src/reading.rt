@@ -1,0 +1,231 @@
+// Reading a report from its text, line by line, with the first rule that it breaks.
+ghost use Rattle.std.specs.Prelude.{◌≡◌, ◌+◌, ◌<◌, ◌≤◌, ◌&&◌, false, IfOk, length, take, vec_len};
+ghost use Rattle.std.specs.Str.{is_utf8};
+ghost use Rattle.trf16.specs.Lines.{lines, columns};
+ghost use Rattle.trf16.specs.Fields.{without_last};
+ghost use Rattle.trf16.specs.Sheet.{entry_of, known};
+ghost use Rattle.trf16.specs.Verdict.{Gives, blank_at, start_number_at, start_at, points_at, round_at, rounds_at, is_blank_cell, cells_at, player_at, is_player, is_too_long, line_onto, lines_onto, has_too_many_rounds, sized, report_of, verdict};
+
+use crate::cell::Cell;
+use crate::columns::{Line, is_blank, kind};
+use crate::fault::{Excess, Fault};
+use crate::fields::{number_in, points_in, trimmed};
+use crate::grammar::cell_from;
+use crate::lines::{next_line, skip_marks};
+use crate::player::Player;
+use crate::report::Report;
+use std::alloc::Global;
+use std::str;
+
+// Column k of line n must be blank.
+#[tactic(auto, unfolding(crate::specs::Verdict::blank_at))]
+fn blank_at(n: usize, line: &Line<'_>, k: usize) -> Result<(), Fault>
+    requires from_one { 0 < k }
+    requires in_reach { k < 412 }
+    ensures { Gives (λ x. x) result (blank_at n line.now k) }
+{
+    if is_blank(line.text(k, k)) {
+        Ok(())
+    } else {
+        Err(Fault::Misaligned { line: n, column: k })
+    }
+}
+
+// The start rank that line n names.
+#[tactic(auto, unfolding(crate::specs::Verdict::start_number_at))]
+fn start_number_at(n: usize, line: &Line<'_>) -> Result<u16, Fault>
+    ensures { Gives (λ x. x) result (start_number_at n line.now) }
+{
+    match number_in(line.text(5, 8)) {
+        None | Some(0) => Err(Fault::BadNumber { line: n }),
+        Some(start) => Ok(start),
+    }
+}
+
+// The same, which no line before may have named.
+#[tactic(auto, unfolding(crate::specs::Verdict::start_at))]
+fn start_at(report: &Report<'_>, n: usize, line: &Line<'_>) -> Result<u16, Fault>
+    ensures given { Gives (λ x. x) result (start_at report.now n line.now) }
+    ensures new { IfOk result (λ start. known report.now start ≡ false) }
+{
+    let start = start_number_at(n, line)?;
+    if report.knows(start) {
+        return Err(Fault::Duplicate { line: n });
+    }
+    Ok(start)
+}
+
+#[tactic(auto, unfolding(crate::specs::Verdict::points_at))]
+fn points_at(n: usize, line: &Line<'_>) -> Result<Option<u16>, Fault>
+    ensures { Gives (λ x. x) result (points_at n line.now) }
+{
+    match points_in(line.text(81, 84)) {
+        None => Err(Fault::BadNumber { line: n }),
+        Some(points) => Ok(points),
+    }
+}
+
+// The round behind `before` others.
+#[tactic(auto, unfolding(crate::specs::Verdict::round_at))]
+fn round_at(n: usize, line: &Line<'_>, before: usize) -> Result<Cell, Fault>
+    requires { before < 32 }
+    ensures { Gives (λ x. x) result (round_at n line.now before) }
+{
+    let at = 91 + 10 * before;
+    blank_at(n, line, at + 5)?;
+    blank_at(n, line, at + 7)?;
+    blank_at(n, line, at + 9)?;
+    blank_at(n, line, at + 10)?;
+    match cell_from(line.text(at + 1, at + 4), line.text(at + 6, at + 6), line.text(at + 8, at + 8)) {
+        None => Err(Fault::BadCell {
+            line: n,
+            round: before + 1,
+        }),
+        Some(cell) => Ok(cell),
+    }
+}
+
+// All rounds of a line.
+fn rounds_at(alloc: Global, n: usize, line: &Line<'_>) -> Result<Vec<Cell>, Fault>
+    ensures cells { Gives (λ cells. cells.items) result (rounds_at n line.now 0 32) }
+    ensures all { IfOk result (λ cells. vec_len cells ≡ 32) }
+{
+    let mut cells = Vec::new(alloc);
+    for before in 0..32 {
+        cells.push(round_at(n, line, before)?)?;
+    }
+    Ok(cells)
+}
+
+fn is_blank_cell(cell: &Cell) -> bool
+    ensures { result ≡ is_blank_cell cell.now }
+{
+    match cell {
+        Cell::Blank => true,
+        _ => false,
+    }
+}
+
+// How many cells there are up to the last that is not blank.
+fn said_len(cells: &[Cell]) -> usize
+    ensures value { take result cells.now ≡ without_last is_blank_cell cells.now }
+    ensures within { result ≤ length cells.now }
+{
+    let mut len = 0;
+    for (i, cell) in cells.iter().enumerate() {
+        if !is_blank_cell(cell) {
+            len = i + 1;
+        }
+    }
+    len
+}
+
+#[tactic(auto, unfolding(crate::specs::Verdict::cells_at))]
+fn cells_at(alloc: Global, n: usize, line: &Line<'_>) -> Result<Vec<Cell>, Fault>
+    ensures given { Gives (λ cells. cells.items) result (cells_at n line.now) }
+    ensures few { IfOk result (λ cells. vec_len cells ≤ 32) }
+{
+    let mut cells = rounds_at(alloc, n, line)?;
+    let len = said_len(&cells);
+    cells.truncate(len);
+    Ok(cells)
+}
+
+// The player that line n names, behind those of a report so far.
+#[tactic(auto, unfolding(crate::specs::Verdict::player_at))]
+fn player_at<'a>(alloc: Global, report: &Report<'a>, n: usize, line: &Line<'a>) -> Result<Player<'a>, Fault>
+    ensures given { Gives entry_of result (player_at report.now n line.now) }
+    ensures new { IfOk result (λ player. known report.now player.start ≡ false) }
+{
+    blank_at(n, line, 4)?;
+    let start = start_at(report, n, line)?;
+    let points = points_at(n, line)?;
+    blank_at(n, line, 90)?;
+    blank_at(n, line, 91)?;
+    let cells = cells_at(alloc, n, line)?;
+    Ok(Player {
+        start,
+        line: n,
+        points,
+        left: trimmed(line.text(9, 80)),
+        right: trimmed(line.text(85, 89)),
+        cells,
+    })
+}
+
+// Reads line n onto a report, and tells whether it is a player's that goes on behind the last round.
+#[tactic(auto, unfolding(crate::specs::Verdict::line_onto))]
+fn read_line<'a>(alloc: Global, report: &mut Report<'a>, n: usize, bytes: &'a [u8]) -> Result<bool, Fault>
+    ensures given { Gives (λ _. report.new) result (line_onto report.old n (columns report.old.utf8 bytes.now)) }
+    ensures long { let line = columns report.old.utf8 bytes.now in IfOk result (λ long. long ≡ (is_player line && is_too_long line)) }
+{
+    let utf8 = report.is_utf8();
+    if kind(bytes, utf8) != b"001".as_slice() {
+        return Ok(false);
+    }
+    let line = Line::new(bytes, utf8);
+    let player = player_at(alloc, report, n, &line)?;
+    report.enter(player)?;
+    Ok(line.is_too_long())
+}
+
+// Reads all lines onto a report, and tells whether a player's line goes on behind the last round.
+fn read_lines<'a>(alloc: Global, report: &mut Report<'a>, text: &'a [u8]) -> Result<bool, Fault>
+    ensures given { Gives (λ _. report.new) result (lines_onto report.old 1 (lines text.now)) }
+    ensures long { IfOk result (λ long. long ≡ has_too_many_rounds report.old.utf8 (lines text.now)) }
+{
+    let mut rest = text;
+    let mut n = 1;
+    let mut long = false;
+    while !rest.is_empty() {
+        let (line, after) = next_line(rest);
+        let too_long = read_line(alloc, report, n, line)?;
+        long = long || too_long;
+        rest = after;
+        n += 1;
+    }
+    Ok(long)
+}
+
+fn is_utf8(bytes: &[u8]) -> bool
+    ensures { result ≡ is_utf8 bytes.now }
+{
+    str::from_utf8(bytes).is_ok()
+}
+
+// The report, where it is not too large and has players.
+#[tactic(auto, unfolding(crate::specs::Verdict::sized))]
+fn sized<'a>(report: Report<'a>, too_long: bool) -> Result<Report<'a>, Fault>
+    ensures { Gives (λ r. r) result (sized report.entry too_long) }
+{
+    let count = report.players().len();
+    if 256 < count {
+        return Err(Fault::TooMany(Excess::Players));
+    }
+    if too_long {
+        return Err(Fault::TooMany(Excess::Rounds));
+    }
+    if count == 0 {
+        return Err(Fault::NoPlayers);
+    }
+    Ok(report)
+}
+
+/// Reads a report of at most 1,048,576 bytes, 256 players and 32 rounds: the report that the text is, or the first rule that it
+/// breaks. A column is a character where the text is UTF-8, else a byte; byte order marks in front are skipped.
+///
+/// # Errors
+/// Too many bytes goes before all; then what is wrong with a line, in the order of the lines; then too many players, too many
+/// rounds, and no players. Want of memory may come at any growth.
+#[tactic(auto, unfolding(crate::specs::Verdict::verdict, crate::specs::Verdict::report_of))]
+pub fn read<'a>(alloc: Global, bytes: &'a [u8]) -> Result<Report<'a>, Fault>
+    ensures { Gives (λ report. report) result (verdict bytes.now) }
+{
+    if 1_048_576 < bytes.len() {
+        return Err(Fault::TooMany(Excess::Bytes));
+    }
+    let text = skip_marks(bytes);
+    let mut report = Report::without_players(alloc, text, is_utf8(text));
+    let too_long = read_lines(alloc, &mut report, text)?;
+    sized(report, too_long)
+}

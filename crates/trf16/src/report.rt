@@ -1,0 +1,170 @@
+// A report that was accepted, and what it says.
+ghost use Rattle.std.specs.Prelude.{◌≡◌, ◌<◌, ◌≤◌, false, map, length, Ok, option_copied};
+ghost use Rattle.trf16.specs.Lines.{lines};
+ghost use Rattle.trf16.specs.Sheet.{entry_of, with_player, known, cell_at, cell_in, carried_in, is_paired, last_paired, rounds_played};
+ghost use Rattle.trf16.specs.Verdict.{Gives, carried_line, without_players};
+
+use crate::cell::{Bye, Cell};
+use crate::columns::kind;
+use crate::fault::Fault;
+use crate::lines::next_line;
+use crate::player::Player;
+use indexmap::IndexMap;
+use indexmap::map::Values;
+use std::alloc::Global;
+use std::marker::Model;
+
+/// A report: its lines as they stand, and its players by start rank, in the order of their lines.
+#[derive(Drop)]
+pub struct Report<'a> {
+    pub(crate) utf8: bool,
+    // everything behind the byte order marks
+    pub(crate) text: &'a [u8],
+    pub(crate) players: IndexMap<u16, Player<'a>>,
+}
+
+impl<'a> Model for Report<'a> {
+    ghost use Rattle.std.specs.Prelude.{◌≡◌, map};
+    ghost use Rattle.std.specs.Map.{keys_of};
+    ghost use Rattle.trf16.specs.Lines.{lines};
+    ghost use Rattle.trf16.specs.Sheet.{Sheet, entry_of};
+    ghost use Rattle.trf16.specs.Verdict.{carried_line};
+
+    ghost Value = { Sheet };
+
+    ghost view = { λ r. record {
+        utf8 = r.utf8;
+        carried = map (carried_line r.utf8) (lines r.text.now);
+        players = map (λ e. entry_of e.1) r.players.entries } };
+
+    ghost invariant = { λ r. keys_of r.players.entries ≡ map (λ e. e.1.start) r.players.entries };
+}
+
+impl<'a> Report<'a> {
+    // A report whose players are still to be read.
+    pub(crate) fn without_players(alloc: Global, text: &'a [u8], utf8: bool) -> Report<'a>
+        ensures { result ≡ without_players utf8 (lines text.now) }
+    {
+        Report {
+            utf8,
+            text,
+            players: IndexMap::new(alloc),
+        }
+    }
+
+    /// The players, in the order of their lines.
+    pub fn players(&self) -> Values<'_, u16, Player<'a>>
+        ensures { map entry_of result ≡ self.now.players }
+    {
+        self.players.values()
+    }
+
+    // Whether a column is a character, and not a byte.
+    pub(crate) fn is_utf8(&self) -> bool
+        ensures { result ≡ self.now.utf8 }
+    {
+        self.utf8
+    }
+
+    // Whether a start rank is that of a player.
+    pub(crate) fn knows(&self, start: u16) -> bool
+        ensures { result ≡ known self.now start }
+    {
+        self.players.contains_key(&start)
+    }
+
+    // Adds the player of the next line.
+    pub(crate) fn enter(&mut self, player: Player<'a>) -> Result<(), Fault>
+        requires { known self.old player.start ≡ false }
+        ensures { Gives (λ _. self.new) result (Ok (with_player self.old (entry_of player.entry))) }
+    {
+        self.players.insert(player.start, player)?;
+        Ok(())
+    }
+
+    /// The cell of a player in a round, which counts from 1; behind his last cell it is blank.
+    pub fn cell(&self, start: u16, round: u8) -> Cell
+        requires { 0 < round }
+        ensures { result ≡ cell_in self.now start round }
+    {
+        match self.players.get(&start) {
+            Some(player) => cell_at(&player.cells, round),
+            None => Cell::Blank,
+        }
+    }
+
+    /// The last round in which some player has an opponent or the pairing-allocated bye; 0 where there is none.
+    pub fn rounds_played(&self) -> u8
+        ensures value { result ≡ rounds_played self.now }
+        ensures few { result ≤ 32 }
+    {
+        let mut last = 0;
+        for player in self.players.values() {
+            last = last.max(last_paired(&player.cells));
+        }
+        last
+    }
+
+    /// A line that is carried as it stands, which counts from 1: not that of a player. It takes time in step with the text.
+    pub fn carried(&self, line: usize) -> Option<&'a [u8]>
+        requires { 0 < line }
+        ensures { option_copied result ≡ carried_in self.now line }
+    {
+        let mut rest = self.text;
+        let mut left = line;
+        while !rest.is_empty() {
+            let (first, after) = next_line(rest);
+            if left == 1 {
+                return carried_line(first, self.utf8);
+            }
+            left -= 1;
+            rest = after;
+        }
+        None
+    }
+}
+
+// A line, unless it is a player's.
+fn carried_line(line: &[u8], utf8: bool) -> Option<&[u8]>
+    ensures { option_copied result ≡ carried_line utf8 line.now }
+{
+    if kind(line, utf8) == b"001".as_slice() {
+        None
+    } else {
+        Some(line)
+    }
+}
+
+fn cell_at(cells: &[Cell], round: u8) -> Cell
+    requires { 0 < round }
+    ensures { result ≡ cell_at cells.now round }
+{
+    cells
+        .get(usize::from(round) - 1)
+        .copied()
+        .unwrap_or(Cell::Blank)
+}
+
+fn is_paired(cell: &Cell) -> bool
+    ensures { result ≡ is_paired cell.now }
+{
+    match cell {
+        Cell::Blank | Cell::Bye(Bye::Half | Bye::Full | Bye::Zero) => false,
+        Cell::Bye(Bye::Allocated) | Cell::Game { .. } | Cell::Forfeit { .. } | Cell::Unfinished { .. } => true,
+    }
+}
+
+// The last round in which one of some cells is paired.
+fn last_paired(cells: &[Cell]) -> u8
+    requires { length cells.now ≤ 32 }
+    ensures value { result ≡ last_paired cells.now }
+    ensures within { result ≤ length cells.now }
+{
+    let mut last = 0;
+    for (i, cell) in cells.iter().enumerate() {
+        if is_paired(cell) {
+            last = i as u8 + 1;
+        }
+    }
+    last
+}
