@@ -3,6 +3,7 @@
 
 pub mod cell;
 mod columns;
+pub mod devices;
 pub mod fault;
 mod fields;
 mod grammar;

@@ -1,0 +1,4 @@
+pub mod InputLemmas
+pub mod ReplyLemmas
+pub mod WordLemmas
+pub mod RunLemmas

@@ -1,0 +1,39 @@
+-- The texts that the program writes, apart from clap's.
+use Rattle.std.specs.Prelude.{ℕ, List, ◌++◌, codes}
+use Rattle.std.specs.Fmt.{decimal}
+use Rattle.trf16.specs.declared.fault.Excess.{Excess}
+use Rattle.trf16.specs.declared.fault.Excess.TheVariants.{Bytes, Players, Rounds}
+use Rattle.trf16.specs.declared.fault.Fault.{Fault}
+use Rattle.trf16.specs.declared.fault.Fault.TheVariants.{BadNumber, Duplicate, Misaligned, BadCell, TooMany, NoPlayers, OutOfMemory}
+
+-- what a report has too much of
+abbrev pub excess_text : Excess → List ℕ
+excess_text Bytes = codes "refused: too many bytes\n"
+excess_text Players = codes "refused: too many players\n"
+excess_text Rounds = codes "refused: too many rounds\n"
+
+-- memory was refused
+abbrev pub memory_text : List ℕ
+memory_text = codes "memory: refused\n"
+
+-- a call of the source failed
+abbrev pub read_text : List ℕ
+read_text = codes "device: read failed\n"
+
+-- a call of standard output failed
+abbrev pub write_text : List ℕ
+write_text = codes "device: write failed\n"
+
+-- why a report is refused
+abbrev pub fault_text : Fault → List ℕ
+fault_text (BadNumber line) = codes "refused: line " ++ (decimal line ++ codes ": bad number\n")
+fault_text (Duplicate line) = codes "refused: line " ++ (decimal line ++ codes ": duplicate\n")
+fault_text (Misaligned line column) = codes "refused: line " ++ (decimal line ++ (codes ": column " ++ (decimal column ++ codes " must be blank\n")))
+fault_text (BadCell line round) = codes "refused: line " ++ (decimal line ++ (codes ": round " ++ (decimal round ++ codes ": bad cell\n")))
+fault_text (TooMany excess) = excess_text excess
+fault_text NoPlayers = codes "refused: no players\n"
+fault_text OutOfMemory = memory_text
+
+-- a report is accepted: how many players it has, and how many rounds were paired
+abbrev pub accepted_text : ℕ → ℕ → List ℕ
+accepted_text players rounds = codes "accepted players " ++ (decimal players ++ (codes " rounds " ++ (decimal rounds ++ codes "\n")))

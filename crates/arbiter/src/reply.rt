@@ -1,0 +1,101 @@
+// The reply of a run: a status and a text, which is written to standard output or to standard error.
+ghost use Rattle.std.specs.Prelude.{◌≡◌, IsTrue, ◌↔◌, true, string_bytes};
+ghost use Rattle.arbiter.specs.Devices.{use_of};
+ghost use Rattle.arbiter.specs.Commands.{code_of, is_output};
+ghost use Rattle.arbiter.specs.Replies.{answer_of, Puts, text_of};
+ghost use Rattle.arbiter.specs.Run.{IsWritten};
+
+use std::alloc::Global;
+use trf16::devices::{Failed, Sink};
+
+/// How a run ended.
+#[derive(Debug, Clone, Copy, PartialEq, Eq)]
+pub enum Status {
+    /// The command was carried out.
+    Done,
+    /// The report is refused.
+    Refused,
+    /// The words are refused.
+    BadWords,
+    /// A device failed, or memory was refused.
+    Trouble,
+}
+
+impl Status {
+    /// The number with which the program ends.
+    pub fn code(self) -> u8
+        ensures { result ≡ code_of self }
+    {
+        match self {
+            Status::Done => 0,
+            Status::Refused => 1,
+            Status::BadWords => 2,
+            Status::Trouble => 5,
+        }
+    }
+
+    // Whether the text goes to standard output.
+    fn is_output(self) -> bool
+        ensures { result ≡ is_output self }
+    {
+        matches!(self, Status::Done)
+    }
+}
+
+/// A text of the program: one that it has, or one that it made.
+#[derive(Debug, Drop)]
+pub enum Text {
+    Fixed(&'static str),
+    Made(String),
+}
+
+impl Text {
+    fn as_bytes(&self) -> &[u8]
+        ensures { result.now ≡ text_of self.now }
+    {
+        match self {
+            Text::Fixed(text) => text.as_bytes(),
+            Text::Made(text) => text.as_bytes(),
+        }
+    }
+}
+
+/// What a run says: its status, and the text that goes with it.
+#[derive(Debug, Drop)]
+pub struct Reply {
+    pub status: Status,
+    pub text: Text,
+}
+
+impl Reply {
+    /// Writes the text where the status says, and answers with which status the run ends: if
+    /// standard output fails, that is told on standard error. A failure of standard error changes
+    /// nothing.
+    pub fn write<O: Sink, E: Sink>(&self, out: &mut O, err: &mut E) -> Status
+        ensures { IsWritten (answer_of self.now) (use_of O.held O.failures out.old out.new)
+            (use_of E.held E.failures err.old err.new) result }
+    {
+        let text = self.text.as_bytes();
+        if !self.status.is_output() {
+            let _ = put_all(err, text);
+            return self.status;
+        }
+        if put_all(out, text).is_err() {
+            let _ = put_all(err, b"device: write failed\n");
+            return Status::Trouble;
+        }
+        self.status
+    }
+}
+
+// Writes a text in as many calls as the sink takes.
+#[tactic(auto, using(crate::proofs::ReplyLemmas::written_further))]
+fn put_all<W: Sink>(sink: &mut W, text: &[u8]) -> Result<(), Failed>
+    ensures { Puts text.now (use_of W.held W.failures sink.old sink.new) result }
+{
+    let mut done = 0;
+    while done < text.len() {
+        done += sink.put(&text[done..])?;
+    }
+    Ok(())
+}

@@ -1,0 +1,24 @@
+-- What one call of a device counts: each call, and each failure.
+use Rattle.std.specs.Prelude.{◌≡◌, ◌+◌, ◌-◌, ◌^◌, ◌<◌, ◌≤◌, ℕ, Result, MatchResult}
+use Rattle.trf16.specs.declared.devices.Counted.{Counted}
+
+-- a count rises by one, and stays where it is as large as it can be
+pub record CountsOne (old new : ℕ) : Type 0 where
+  pub counts : old < 2 ^ 64 - 1 → new ≡ old + 1
+  pub at_most : new ≤ old + 1
+
+-- the count of failures rises by one where the call failed, and else stays
+abbrev pub CountsFailure : {T E : Type 0} → ℕ → ℕ → Result T E → Type 0
+CountsFailure old new answer = MatchResult answer (λ _. new ≡ old) (λ _. CountsOne old new)
+
+-- the reader or writer whose calls are counted
+abbrev pub inner_of : {T : Type 0} → Counted T → T
+inner_of counted = counted.inner
+
+-- how many calls were made
+abbrev pub calls_of : {T : Type 0} → Counted T → ℕ
+calls_of counted = counted.calls
+
+-- how many of the calls failed
+abbrev pub failures_of : {T : Type 0} → Counted T → ℕ
+failures_of counted = counted.failures
