@@ -1,11 +1,14 @@
 -- The players of a report, seen as a map by start rank and as a list in the order of their lines.
-use Rattle.std.proofs.Common.{◌≡◌, ℕ, Bool, true, false, cond, ◌||◌, ◌==◌, nat_eq, List, [], ◌∷◌, ◌++◌, map, Option, None, Some, refl, sym, ap, ◌∙◌, is_some, arith}
+use Rattle.std.proofs.Common.{◌≡◌, ℕ, suc, ◌+◌, ◌<◌, nat_lt, max, length, take, get_or, Bool, true, false, cond, ◌||◌, ◌==◌, nat_eq, List, [], ◌∷◌, ◌++◌, map, Option, None, Some, refl, sym, ap, ◌∙◌, is_some, arith}
 use Rattle.std.specs.List.{list_any}
 use Rattle.std.specs.Map.{keys_of, lookup}
+use Rattle.std.proofs.lemmas.Bool.{lt-ltb}
 use Rattle.std.proofs.lemmas.Bool.Decides.{nat_tests}
-use Rattle.std.proofs.lemmas.List.{map-append}
+use Rattle.std.specs.Option.{option_map_or}
+use Rattle.std.proofs.lemmas.List.{map-append, take_more, length-take-le}
 use Rattle.trf16.specs.declared.player.Player.{Player}
-use Rattle.trf16.specs.Sheet.{Entry, entry_of}
+use Rattle.trf16.specs.declared.cell.Cell.{Cell}
+use Rattle.trf16.specs.Sheet.{Entry, entry_of, cells_of, is_paired, last_paired, last_paired_of}
 
 -- entries whose keys are the start ranks of their players
 pub record AreKeyed (entries : List (ℕ × Player)) : Type 0 where
@@ -54,3 +57,37 @@ pub keyed-push : (es : List (ℕ × Player)) (p : Player) → keys_of es ≡ map
 keyed-push es p keyed =
     map-append (λ (e : ℕ × Player). e.0) es ((p.start, p) ∷ []) ∙ ap (λ (starts : List ℕ). starts ++ p.start ∷ []) keyed
     ∙ sym (map-append (λ (e : ℕ × Player). e.1.start) es ((p.start, p) ∷ []))
+
+cells_step : (k start : ℕ) (p : Player) (found : Option Player) (others : List Cell) → k ≡ p.start → option_map_or (λ (q : Player). q.cells.items) found [] ≡ others
+    → option_map_or (λ (q : Player). q.cells.items) (cond (nat_eq start k) (Some p) found) [] ≡ cond (p.start == start) p.cells.items others
+cells_step k start p found others same e = rw (same, eq-sym start p.start) (by (nat_eq p.start start) e)
+  where
+    by : (here : Bool) → option_map_or (λ (q : Player). q.cells.items) found [] ≡ others
+        → option_map_or (λ (q : Player). q.cells.items) (cond here (Some p) found) [] ≡ cond here p.cells.items others
+    by true e' = refl
+    by false e' = e'
+
+-- the cells that a look-up finds
+pub cells-lookup : (es : List (ℕ × Player)) (start : ℕ) → keys_of es ≡ map (λ e. e.1.start) es
+    → option_map_or (λ (p : Player). p.cells.items) (lookup (nat_eq start) es) [] ≡ cells_of (map (λ e. entry_of e.1) es) start
+cells-lookup [] start keyed = refl
+cells-lookup (e ∷ es) start keyed =
+    cells_step e.0 start e.1 (lookup (nat_eq start) es) (cells_of (map (λ e. entry_of e.1) es) start)
+        (first_of_lists e.0 e.1.start (keys_of es) (map (λ e. e.1.start) es) keyed)
+        (cells-lookup es start (rest_of_lists e.0 e.1.start (keys_of es) (map (λ e. e.1.start) es) keyed))
+
+paired_step : (len others : ℕ) (first last : Bool) → 0 < len + 1
+    → cond (nat_lt 0 (cond last (len + 1) others)) (cond last (len + 1) others + 1) (cond first 1 0)
+        ≡ cond last (suc len + 1) (cond (nat_lt 0 others) (others + 1) (cond first 1 0))
+paired_step len others first true h = rw (lt-ltb 0 (len + 1) h) (omega arith)
+paired_step len others first false h = refl
+
+-- one more cell
+pub last_paired-push : (cells : List Cell) (cell : Cell) → last_paired (cells ++ cell ∷ []) ≡ cond (is_paired cell) (length cells + 1) (last_paired cells)
+last_paired-push [] cell = refl
+last_paired-push (c ∷ cells) cell = rw (last_paired-push cells cell) (paired_step (length cells) (last_paired cells) (is_paired c) (is_paired cell) (omega arith))
+
+pub last_paired-more : (cells : List Cell) (i : ℕ) (d : Cell) → i < length cells
+    → last_paired (take (i + 1) cells) ≡ cond (is_paired (get_or cells i d)) (i + 1) (last_paired (take i cells))
+last_paired-more cells i d lt =
+    rw (take_more cells i d lt, last_paired-push (take i cells) (get_or cells i d), length-take-le i cells (omega arith)) refl

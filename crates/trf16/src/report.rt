@@ -98,8 +98,8 @@ impl<'a> Report<'a> {
         ensures value { result ≡ rounds_played self.now }
         ensures few { result ≤ 32 }
     {
-        let mut last = 0;
-        for player in self.players.values() {
+        let mut last = 0u8;
+        for player in self.players() {
             last = last.max(last_paired(&player.cells));
         }
         last
