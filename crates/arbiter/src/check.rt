@@ -25,7 +25,7 @@ pub fn check(alloc: Global, bytes: &[u8]) -> Result<Reply, AllocError>
 fn accepted(alloc: Global, report: &Report<'_>) -> Result<Reply, AllocError>
     ensures { IfOk result (λ reply. answer_of reply ≡ check_answer (Ok report.now)) }
 {
-    let players = report.players().count();
+    let players = report.players().len();
     let text = texts::accepted(alloc, players, report.rounds_played())?;
     Ok(Reply {
         status: Status::Done,
