@@ -6,10 +6,11 @@ use Rattle.std.proofs.lemmas.Str.{is_utf8-from_IsUtf8, IsUtf8-from_is_utf8}
 use Rattle.std.proofs.lemmas.List.{append-nil}
 use Rattle.trf16.specs.declared.cell.Cell.{Cell}
 use Rattle.trf16.specs.declared.fault.Fault.{Fault}
-use Rattle.trf16.specs.declared.fault.Fault.TheVariants.{BadNumber, Duplicate, Misaligned, BadCell, TooMany, NoPlayers, OutOfMemory}
-use Rattle.trf16.specs.Verdict.{◌>>=◌, Fails, round_at, rounds_at, player_at, is_player, is_too_long, line_onto, lines_onto, has_too_many_rounds}
+use Rattle.trf16.specs.declared.fault.Fault.TheVariants.{BadNumber, Duplicate, Misaligned, BadCell, BadExtension, TooMany, NoPlayers, NoSuchOpponent, SelfOpponent, NotMutual, Colours, Results, Points, OutOfMemory}
+use Rattle.trf16.specs.Verdict.{round_at, rounds_at, player_at, is_player, is_too_long, line_onto, lines_onto, has_too_many_rounds}
 use Rattle.trf16.specs.Sheet.{Entry, Sheet, with_player}
 use Rattle.trf16.specs.Lines.{columns}
+use Rattle.trf16.specs.Outcomes.{◌>>=◌, Fails}
 
 -- what was read before, and what is still read
 abbrev pub behind : List Cell → Result (List Cell) Fault → Result (List Cell) Fault
@@ -25,6 +26,13 @@ Fails-on (Misaligned n k) first whole on h = on (Misaligned n k) h
 Fails-on (BadCell n r) first whole on h = on (BadCell n r) h
 Fails-on (TooMany what) first whole on h = on (TooMany what) h
 Fails-on NoPlayers first whole on h = on NoPlayers h
+Fails-on (BadExtension n) first whole on h = on (BadExtension n) h
+Fails-on (NoSuchOpponent p r) first whole on h = on (NoSuchOpponent p r) h
+Fails-on (SelfOpponent p r) first whole on h = on (SelfOpponent p r) h
+Fails-on (NotMutual p r) first whole on h = on (NotMutual p r) h
+Fails-on (Colours p r) first whole on h = on (Colours p r) h
+Fails-on (Results p r) first whole on h = on (Results p r) h
+Fails-on (Points p) first whole on h = on (Points p) h
 
 regroup : (front : List Cell) (cell : Cell) (read : Result (List Cell) Fault)
     → behind front (read >>= λ others. Ok (cell ∷ others)) ≡ behind (front ++ cell ∷ []) read

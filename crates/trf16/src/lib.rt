@@ -5,6 +5,7 @@ pub mod cell;
 mod columns;
 pub mod devices;
 pub mod fault;
+pub mod kind;
 mod fields;
 mod grammar;
 mod lines;

@@ -1,8 +1,9 @@
 // A report that was accepted, and what it says.
 ghost use Rattle.std.specs.Prelude.{◌≡◌, ◌<◌, ◌≤◌, false, map, length, Ok, option_copied};
 ghost use Rattle.trf16.specs.Lines.{lines};
+ghost use Rattle.trf16.specs.Outcomes.{Gives};
 ghost use Rattle.trf16.specs.Sheet.{entry_of, with_player, known, cell_at, cell_in, carried_in, is_paired, last_paired, rounds_played};
-ghost use Rattle.trf16.specs.Verdict.{Gives, carried_line, without_players};
+ghost use Rattle.trf16.specs.Verdict.{carried_line, without_players};
 
 use crate::cell::{Bye, Cell};
 use crate::columns::kind;
