@@ -7,7 +7,13 @@ use Rattle.std.specs.Str.{bytes_eq}
 use Rattle.std.proofs.lemmas.List.{drop_more, drop_all}
 use Rattle.std.proofs.lemmas.Slice.Eq.{bytes_eq-Decides}
 use Rattle.trf16.specs.Lines.{columns, text, lines}
-use Rattle.trf16.specs.Extensions.{is_kind, is_word}
+use Rattle.std.specs.Prelude.{option_copied}
+use denote.Ref.{Bor}
+use Rattle.trf16.specs.Extensions.{is_kind, is_word, names_absent}
+use Rattle.trf16.specs.Absence.{is_of, first_at}
+use Rattle.trf16.specs.declared.kind.Kind.{Kind}
+use Rattle.trf16.specs.declared.kind.Kind.TheVariants.{Xxa, Xxs, Xxp, Rank}
+use Rattle.trf16.specs.declared.player.Player.{Player}
 use Rattle.trf16.specs.Sheet.{Entry, Sheet}
 use Rattle.trf16.specs.Outcomes.{◌>>=◌}
 use Rattle.trf16.specs.Answering.{cell_fits, cells_fit, player_fits, players_fit}
@@ -70,3 +76,25 @@ pub some_of-cons : (test : List (List ℕ) → Bool) (utf8 : Bool) (line : List 
     → (is_player (columns utf8 line) ≡ true → test (columns utf8 line) ≡ false) → test (columns utf8 line) ≡ here
     → some_of test utf8 (line ∷ rest) ≡ (here || some_of test utf8 rest)
 some_of-cons test utf8 line rest here none is = ap (λ b. b || some_of test utf8 rest) (carried-test test utf8 line none ∙ is)
+
+-- whether a line of one of some kinds is no player's
+pub not_of_kinds : (line : List (List ℕ)) (kinds : List Kind) → is_player line ≡ true → list_any (is_of line) kinds ≡ false
+not_of_kinds line [] player = refl
+not_of_kinds line (Xxa ∷ kinds) player = rw (not_of_kind line (codes "XXA") refl player) (not_of_kinds line kinds player)
+not_of_kinds line (Xxs ∷ kinds) player = rw (not_of_kind line (codes "XXS") refl player) (not_of_kinds line kinds player)
+not_of_kinds line (Xxp ∷ kinds) player = rw (not_of_kind line (codes "XXP") refl player) (not_of_kinds line kinds player)
+not_of_kinds line (Rank ∷ kinds) player = rw (not_of_kind line (codes "XXC") refl player) (not_of_kinds line kinds player)
+
+pub not_absent : (start : ℕ) (line : List (List ℕ)) → is_player line ≡ true → names_absent start line ≡ false
+not_absent start line player = rw (not_of_kind line (codes "XXZ") refl player) refl
+
+pub first_at-cons : (test : List (List ℕ) → Bool) (utf8 : Bool) (n : ℕ) (line : List ℕ) (rest : List (List ℕ)) (here : Bool)
+    → (is_player (columns utf8 line) ≡ true → test (columns utf8 line) ≡ false) → test (columns utf8 line) ≡ here
+    → first_at test utf8 n (map (carried_line utf8) (line ∷ rest)) ≡ cond here (Some n) (first_at test utf8 (n + 1) (map (carried_line utf8) rest))
+first_at-cons test utf8 n line rest here none is =
+    ap (λ b. cond b (Some n) (first_at test utf8 (n + 1) (map (carried_line utf8) rest))) (carried-test test utf8 line none ∙ is)
+
+-- the cells of what a look-up lends
+pub cells-copied : (o : Option (Bor Player)) → option_map_or (λ p. p.now.cells.items) o [] ≡ option_map_or (λ (q : Player). q.cells.items) (option_copied o) []
+cells-copied None = refl
+cells-copied (Some p) = refl

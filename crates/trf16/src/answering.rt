@@ -110,8 +110,8 @@ fn cells_fit(report: &Report<'_>, player: u16, cells: &[Cell]) -> Result<(), Fau
     Ok(())
 }
 
-// The half points of some rounds.
-fn sum_of(cells: &[Cell]) -> u16
+/// The half points of some rounds.
+pub(crate) fn sum_of(cells: &[Cell]) -> u16
     requires { length cells.now ≤ 32 }
     ensures { result ≡ sum_by half_points cells.now }
 {
@@ -142,8 +142,8 @@ fn points_fit(report: &Report<'_>, player: &Player<'_>, rounds: u8) -> Result<()
     })
 }
 
-// The cells of the first rounds.
-fn front(cells: &[Cell], rounds: u8) -> &[Cell]
+/// The cells of the first rounds.
+pub(crate) fn front(cells: &[Cell], rounds: u8) -> &[Cell]
     ensures value { result.now ≡ take rounds cells.now }
     ensures shorter { length result.now ≤ length cells.now }
 {

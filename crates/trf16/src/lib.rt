@@ -13,6 +13,7 @@ mod grammar;
 pub mod kind;
 mod lines;
 pub mod player;
+mod queries;
 mod reading;
 pub mod report;
 

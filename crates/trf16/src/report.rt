@@ -1,6 +1,7 @@
 // A report that was accepted, and what it says.
-ghost use Rattle.std.specs.Prelude.{◌≡◌, ◌<◌, ◌≤◌, map, length, option_copied, IfSome};
-ghost use Rattle.trf16.specs.Sheet.{entry_of, known, cell_at, cell_in, carried_in, is_paired, last_paired, rounds_played};
+ghost use Rattle.std.specs.Prelude.{◌≡◌, ◌<◌, ◌≤◌, map, length, option_copied, IfSome, []};
+ghost use Rattle.std.specs.Option.{option_map_or};
+ghost use Rattle.trf16.specs.Sheet.{entry_of, known, cells_of, cell_at, cell_in, carried_in, is_paired, last_paired, rounds_played};
 ghost use Rattle.trf16.specs.Answering.{has_other_points};
 ghost use Rattle.trf16.specs.Verdict.{carried_line};
 
@@ -77,12 +78,19 @@ impl<'a> Report<'a> {
         self.players.contains_key(&start)
     }
 
+    // The player with a start rank.
+    pub(crate) fn player(&self, start: u16) -> Option<&Player<'a>>
+        ensures { option_map_or (λ p. p.now.cells.items) result [] ≡ cells_of self.now.players start }
+    {
+        self.players.get(&start)
+    }
+
     /// The cell of a player in a round, which counts from 1; behind his last cell it is blank.
     pub fn cell(&self, start: u16, round: u8) -> Cell
         requires { 0 < round }
         ensures { result ≡ cell_in self.now start round }
     {
-        match self.players.get(&start) {
+        match self.player(start) {
             Some(player) => cell_at(&player.cells, round),
             None => Cell::Blank,
         }
