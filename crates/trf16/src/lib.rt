@@ -12,6 +12,7 @@ mod fields;
 mod grammar;
 pub mod kind;
 mod lines;
+pub mod meetings;
 pub mod player;
 mod queries;
 mod reading;
