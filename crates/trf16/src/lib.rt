@@ -19,3 +19,6 @@ mod reading;
 pub mod report;
 
 pub use reading::read;
+
+#[cfg(test)]
+mod tests;
