@@ -3,3 +3,5 @@ pub mod ColumnLemmas
 pub mod FieldLemmas
 pub mod ReadingLemmas
 pub mod ReportLemmas
+pub mod WrittenNumbers
+pub mod WrittenColumns

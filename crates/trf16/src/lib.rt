@@ -8,6 +8,7 @@ pub mod fault;
 pub mod kind;
 mod fields;
 mod grammar;
+pub mod laws;
 mod lines;
 pub mod player;
 mod reading;
