@@ -5,3 +5,6 @@ pub mod ReadingLemmas
 pub mod ReportLemmas
 pub mod WrittenNumbers
 pub mod WrittenColumns
+pub mod WrittenCells
+pub mod WrittenRounds
+pub mod WrittenText

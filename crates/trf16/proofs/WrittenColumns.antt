@@ -1,9 +1,9 @@
 -- The columns of a text that is put together from others.
-use Rattle.std.proofs.Common.{◌≡◌, ℕ, zero, suc, ◌+◌, ◌-◌, ◌<◌, ◌≤◌, Bool, true, false, not, ◌&&◌, ◌||◌, ◌==◌, cond, List, [], ◌∷◌, ◌++◌, length, take, drop, map, refl, sym, ap, ◌∙◌, append_assoc, arith, subst}
+use Rattle.std.proofs.Common.{◌≡◌, ℕ, zero, suc, ◌+◌, ◌-◌, ◌<◌, ◌≤◌, Bool, true, false, not, ◌&&◌, ◌||◌, ◌==◌, nat_le, nat_lt, cond, List, [], ◌∷◌, ◌++◌, length, take, drop, map, refl, sym, ap, ◌∙◌, append_assoc, arith, subst}
 use Rattle.std.specs.Prelude.{slice_range}
 use Rattle.std.specs.List.{list_all}
 use Rattle.std.specs.Char.{is_ascii}
-use Rattle.std.proofs.lemmas.Bool.{and_parts, true≢false}
+use Rattle.std.proofs.lemmas.Bool.{and_parts, and_from, true≢false}
 use Rattle.std.proofs.lemmas.Bool.Decides.{nat_tests}
 use Rattle.std.proofs.lemmas.List.{take_at, drop_at, append-nil, length-append}
 use Rattle.trf16.specs.Lines.{onto_first, goes_on, columns, joined, text}
@@ -102,8 +102,21 @@ columns-joined utf8 [] h = refl
 columns-joined utf8 (col ∷ cols) h =
     rw (columns-append utf8 col (joined cols) (starts-joined utf8 cols h.1), h.0.one, columns-joined utf8 cols h.1) refl
 
+-- what stands in the columns that are written: ASCII, and no control character
+abbrev pub is_plain : ℕ → Bool
+is_plain b = nat_le 32 b && nat_lt b 128
+
+plain_ascii : (b : ℕ) → is_plain b ≡ true → is_ascii b ≡ true
+plain_ascii b h = (and_parts (nat_le 32 b) (nat_lt b 128) h).1
+
+pub ascii-plain : (bytes : List ℕ) → list_all is_plain bytes ≡ true → list_all is_ascii bytes ≡ true
+ascii-plain [] h = refl
+ascii-plain (b ∷ rest) h =
+    let both = and_parts (is_plain b) (list_all is_plain rest) h in
+    and_from (is_ascii b) (list_all is_ascii rest) (plain_ascii b both.0) (ascii-plain rest both.1)
+
 -- bytes that are ASCII are a column each
-pub each : List ℕ → List (List ℕ)
+unfoldable pub each : List ℕ → List (List ℕ)
 each bytes = map (λ b. b ∷ []) bytes
 
 ascii_starts : (c : ℕ) → is_ascii c ≡ true → goes_on c ≡ false

@@ -6,10 +6,11 @@ use Rattle.std.specs.Char.{is_ascii_digit}
 use Rattle.std.proofs.lemmas.Bool.{lt-ltb, le-leb, cases_lt, and_parts, leb-true, eqb-true, true≢false}
 use Rattle.std.proofs.lemmas.Bool.Decides.{nat_tests, eqb_tells}
 use Rattle.std.proofs.lemmas.List.{take_all, drop_all, length-append, length-replicate, nil_from_length}
-use Rattle.std.proofs.lemmas.Str.Parse.{IsNumeralModel, numerals_by_fold}
+use Rattle.std.proofs.lemmas.Str.Parse.{IsNumeralModel, numerals_by_fold, digits_value_short}
 use Rattle.std.proofs.lemmas.Fmt.{digits_decimal, digits_value-decimal, length-decimal-le, decimal_nonempty}
 use Rattle.trf16.specs.Fields.{words, number_after, is_number, number_of, number_in, points_in, points_of}
 use Rattle.trf16.specs.Written.{blanks, right_in_four, points_text}
+use Rattle.trf16.proofs.WrittenColumns.{is_plain}
 use Rattle.trf16.proofs.FieldLemmas.{words-blank, words-word, not_blank}
 
 pub all_digits : List ℕ → Type 0
@@ -26,6 +27,10 @@ digits-decimal n lt = digits_decimal own n (small n lt)
 
 pub value-decimal : (n : ℕ) → n < 10000 → number_after 0 (decimal n) ≡ n
 value-decimal n lt = digits_value-decimal own n (small n lt)
+
+-- at most four digits spell a number below 10000
+pub value_below : (bytes : List ℕ) → list_all is_ascii_digit bytes ≡ true → length bytes ≤ 4 → number_after 0 bytes < 10000
+value_below bytes h few = digits_value_short own bytes 4 h few
 
 pub length-decimal : (n : ℕ) → n < 10000 → (0 < length (decimal n)) × (length (decimal n) ≤ 4)
 length-decimal n lt = (decimal_nonempty n (small n lt), length-decimal-le 4 n (omega arith) (omega arith) (small n lt))
@@ -61,7 +66,9 @@ is_self (Some (Some read)) points = read == points
 is_self _ points = false
 
 reads : ℕ → Bool
-reads points = is_self (points_in (words (right_in_four (points_text points)))) points
+reads points =
+    is_self (points_in (words (right_in_four (points_text points)))) points
+    && (list_all is_plain (right_in_four (points_text points)) && (length (right_in_four (points_text points)) == 4))
 
 all_read : ℕ → Bool
 all_read zero = true
@@ -87,6 +94,19 @@ self_read None points h = absurd (true≢false (sym h))
 self_read (Some None) points h = absurd (true≢false (sym h))
 self_read (Some (Some read)) points h = ap (λ n. Some (Some n)) (eqb-true read points h)
 
-pub points : (n : ℕ) → n < 200 → points_in (words (right_in_four (points_text n))) ≡ Some (Some n)
+-- points, in four columns
+pub record ArePoints (n : ℕ) : Type 0 where
+  pub read : points_in (words (right_in_four (points_text n))) ≡ Some (Some n)
+  pub plain : list_all is_plain (right_in_four (points_text n)) ≡ true
+  pub four : length (right_in_four (points_text n)) ≡ 4
+
+pub points_are : (n : ℕ) → n < 200 → ArePoints n
 unfolding reads
-points n lt = self_read (points_in (words (right_in_four (points_text n)))) n (reads_below 200 all_read_200 n lt)
+points_are n lt =
+    let text = right_in_four (points_text n) in
+    let one = and_parts (is_self (points_in (words text)) n) (list_all is_plain text && (length text == 4)) (reads_below 200 all_read_200 n lt) in
+    let two = and_parts (list_all is_plain text) (length text == 4) one.1 in
+    record { read = self_read (points_in (words text)) n one.0; plain = two.0; four = eqb-true (length text) 4 two.1 }
+
+pub points : (n : ℕ) → n < 200 → points_in (words (right_in_four (points_text n))) ≡ Some (Some n)
+points n lt = (points_are n lt).read
