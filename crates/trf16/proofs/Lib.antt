@@ -8,3 +8,5 @@ pub mod WrittenColumns
 pub mod WrittenCells
 pub mod WrittenRounds
 pub mod WrittenText
+pub mod WrittenFields
+pub mod WrittenPlayers

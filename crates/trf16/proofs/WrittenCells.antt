@@ -48,7 +48,7 @@ pub record Fields (cell : Cell) : Type 0 where
   pub read : cell_from opponent (colour ∷ []) (result ∷ []) ≡ Some cell
   pub plain : list_all is_plain (cell_text cell) ≡ true
 
-length-four : (n : ℕ) → n < 10000 → length (right_in_four (decimal n)) ≡ 4
+pub length-four : (n : ℕ) → n < 10000 → length (right_in_four (decimal n)) ≡ 4
 length-four n lt =
     let sizes = length-decimal n lt in
     omega (arith, length-append (blanks (4 - length (decimal n))) (decimal n), length-replicate {A = ℕ} (4 - length (decimal n)) 32)

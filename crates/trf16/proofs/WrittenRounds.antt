@@ -118,7 +118,7 @@ unfolding each tail_of
 tail-rounds [] = refl
 tail-rounds (cell ∷ rest) = each-append (cell_text cell) (flat_map round_text rest)
 
-lead_blank : (k : ℕ) → (k ≡ 1) ⊎ (k ≡ 2) → (cells : List Cell) → is_blank (text (each (flat_map round_text cells)) k k) ≡ true
+pub lead_blank : (k : ℕ) → (k ≡ 1) ⊎ (k ≡ 2) → (cells : List Cell) → is_blank (text (each (flat_map round_text cells)) k k) ≡ true
 unfolding each
 lead_blank k (inl e) [] = rw e refl
 lead_blank k (inl e) (cell ∷ rest) = rw e refl
@@ -192,7 +192,7 @@ ascii_onto b (first ∷ others) h =
     let two = and_parts (is_ascii b) (list_all is_ascii first) one.0 in
     (two.0, and_from (list_all is_ascii first) (list_all (λ word. list_all is_ascii word) others) two.1 one.1)
 
-ascii_both : (b : ℕ) (rest : List ℕ) → is_ascii b ≡ true → list_all is_ascii rest ≡ true → list_all is_ascii (b ∷ rest) ≡ true
+pub ascii_both : (b : ℕ) (rest : List ℕ) → is_ascii b ≡ true → list_all is_ascii rest ≡ true → list_all is_ascii (b ∷ rest) ≡ true
 ascii_both b rest h h' = and_from (is_ascii b) (list_all is_ascii rest) h h'
 
 ascii_32 : (b : ℕ) → b ≡ 32 → is_ascii b ≡ true
@@ -391,13 +391,16 @@ ascii-blank (b ∷ rest) h =
     let both = and_parts (b == 32) (list_all (λ b. b == 32) rest) h in
     ascii_both b rest (ascii_32 b (eqb-true b 32 both.0)) (ascii-blank rest both.1)
 
+pub joined_at : (i k : ℕ) (cols : List (List ℕ)) → joined (drop i cols) ≡ joined (take k (drop i cols)) ++ joined (drop (i + k) cols)
+joined_at i k cols =
+    ap joined (sym (take-append-drop k (drop i cols))) ∙ joined-append (take k (drop i cols)) (drop k (drop i cols))
+    ∙ ap (λ (cs : List (List ℕ)). joined (take k (drop i cols)) ++ joined cs) (drop-drop k i cols)
+
 -- the bytes of columns from a place on are ASCII where those of some columns are, and those behind them
 pub ascii_from : (i k : ℕ) (cols : List (List ℕ)) → list_all is_ascii (joined (take k (drop i cols))) ≡ true → list_all is_ascii (joined (drop (i + k) cols)) ≡ true
     → list_all is_ascii (joined (drop i cols)) ≡ true
 ascii_from i k cols h h' =
-    let parts : joined (drop i cols) ≡ joined (take k (drop i cols)) ++ joined (drop (i + k) cols) =
-        ap joined (sym (take-append-drop k (drop i cols))) ∙ joined-append (take k (drop i cols)) (drop k (drop i cols))
-        ∙ ap (λ (cs : List (List ℕ)). joined (take k (drop i cols)) ++ joined cs) (drop-drop k i cols) in
+    let parts = joined_at i k cols in
     rw parts (list_all-append is_ascii (joined (take k (drop i cols))) (joined (drop (i + k) cols)) h h')
 
 pub round_ascii : (cols : List (List ℕ)) (cell : Cell) → IsRound cols cell → list_all is_ascii (joined (drop 10 cols)) ≡ true → list_all is_ascii (joined cols) ≡ true
