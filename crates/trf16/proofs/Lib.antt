@@ -10,3 +10,4 @@ pub mod WrittenRounds
 pub mod WrittenText
 pub mod WrittenFields
 pub mod WrittenPlayers
+pub mod WrittenReport

@@ -163,7 +163,7 @@ utf8_lines bytes = utf8_onto [] bytes ∙ from_onto (lines bytes)
 
 -- byte order marks
 
-abbrev has_mark : List ℕ → Bool
+abbrev pub has_mark : List ℕ → Bool
 has_mark (a ∷ b ∷ c ∷ rest) = (a == 0xEF) && (b == 0xBB) && (c == 0xBF)
 has_mark _ = false
 
