@@ -5,4 +5,3 @@ pub mod Texts
 pub mod Commands
 pub mod Run
 pub mod Replies
-pub mod Standin

@@ -8,18 +8,40 @@ mod run;
 mod texts;
 mod words;
 
-use std::io;
+use reply::Status;
+use std::io::ErrorKind;
+use std::process::ExitCode;
+use std::{env, io};
+use trf16::devices::Counted;
 
-fn main(rt: HostRuntime) -> io::Result<()> {
+fn main(rt: HostRuntime) -> ExitCode {
+    let status = match run_on(&rt) {
+        Ok(status) => status,
+        Err(error) => without_words(&rt, &error),
+    };
+    ExitCode::from(status.code())
+}
+
+// Runs the program over its words and the three standard streams.
+fn run_on(rt: &HostRuntime) -> io::Result<Status> {
     let alloc = rt.alloc();
-    let all: Vec<String> = std::env::args(&rt)?.collect(alloc)?;
-    let mut texts: Vec<&str> = Vec::new(alloc);
+    let all: Vec<String> = env::args(rt)?.collect(alloc)?;
+    let mut words: Vec<&str> = Vec::new(alloc);
     for word in all.iter().skip(1) {
-        texts.push(word.as_str())?;
+        words.push(word.as_str())?;
     }
-    match words::read_words(alloc, texts.as_slice())? {
-        words::Asked::Command(request) => println!(rt; "{request:?}"),
-        words::Asked::Help(text) => println!(rt; "HELP\n{text}"),
-        words::Asked::Mistake(text) => println!(rt; "BAD\n{text}"),
-    }
+    let mut reader = Counted::new(rt.stdin());
+    let mut out = Counted::new(rt.stdout());
+    let mut err = Counted::new(rt.stderr());
+    Ok(run::run(alloc, words.as_slice(), &mut reader, &mut out, &mut err))
+}
+
+// The words could not be had: they are no text, or memory was refused.
+fn without_words(rt: &HostRuntime, error: &io::Error) -> Status {
+    let (status, text) = match error.kind() {
+        ErrorKind::InvalidData => (Status::BadWords, "words: not UTF-8"),
+        _ => (Status::Trouble, "memory: refused"),
+    };
+    let _ = rt.eprintln(text);
+    status
 }

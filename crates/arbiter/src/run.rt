@@ -88,3 +88,6 @@ fn out_of_memory() -> Reply
         text: Text::Fixed("memory: refused\n"),
     }
 }
+
+#[cfg(test)]
+mod tests;

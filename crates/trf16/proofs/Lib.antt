@@ -3,6 +3,8 @@ pub mod ColumnLemmas
 pub mod FieldLemmas
 pub mod ReadingLemmas
 pub mod ReportLemmas
+pub mod AnsweringLemmas
+pub mod MeetingLemmas
 pub mod WrittenNumbers
 pub mod WrittenColumns
 pub mod WrittenCells

@@ -1,10 +1,10 @@
 -- The rules on two players who name each other in a round, and on the sum of a player's points.
-use Rattle.std.specs.Prelude.{◌≡◌, ℕ, ◌+◌, ◌-◌, Bool, true, false, not, ◌&&◌, ◌||◌, ◌==◌, nat_eq, nat_le, nat_lt, if◌then◌else◌, List, [], ◌∷◌, length, codes, Option, Some, None, sum_by, Result, Ok, Err}
+use Rattle.std.specs.Prelude.{◌≡◌, ℕ, ◌+◌, ◌-◌, Bool, true, false, not, ◌&&◌, ◌||◌, ◌==◌, nat_eq, nat_le, nat_lt, if◌then◌else◌, List, [], ◌∷◌, length, codes, Option, Some, None, sum_by, take, Result, Ok, Err}
 use Rattle.std.specs.List.{list_any}
 use Rattle.std.specs.Option.{option_map_or}
 use Rattle.trf16.specs.Lines.{columns}
 use Rattle.trf16.specs.Extensions.{is_kind}
-use Rattle.trf16.specs.Sheet.{Entry, Sheet, known, cell_in, half_points, points_upto, opponent_in_cell, colour_in_cell, rounds_played}
+use Rattle.trf16.specs.Sheet.{Entry, Sheet, known, cell_in, half_points, opponent_in_cell, colour_in_cell, rounds_played}
 use Rattle.trf16.specs.Outcomes.{◌>>=◌}
 use Rattle.trf16.specs.declared.cell.Colour.{Colour}
 use Rattle.trf16.specs.declared.cell.Colour.TheVariants.{White, Black}
@@ -65,7 +65,7 @@ has_other_points sheet = list_any (λ line. option_map_or (λ bytes. is_kind (co
 unfoldable pub points_fit : Sheet → Entry → Result (Unit {0}) Fault
 points_fit sheet entry =
     option_map_or (λ points.
-        if (points == points_upto sheet entry.start (rounds_played sheet)) || (points == sum_by half_points entry.cells) || (has_other_points sheet && nat_lt points 200)
+        if (points == sum_by half_points (take (rounds_played sheet) entry.cells)) || (points == sum_by half_points entry.cells) || (has_other_points sheet && nat_lt points 200)
         then Ok tt else Err (Points entry.start))
       entry.points (Ok tt)
 

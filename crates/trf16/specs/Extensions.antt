@@ -1,16 +1,17 @@
 -- The extension lines XXR, XXC and XXZ, and the kinds of lines that are known and not supported.
-use Rattle.std.specs.Prelude.{ℕ, ◌-◌, Bool, true, false, not, ◌&&◌, ◌||◌, ◌==◌, nat_lt, if◌then◌else◌, List, [], ◌∷◌, ◌++◌, drop, codes, Option, Some, None, option_and_then}
+use Rattle.std.specs.Prelude.{ℕ, ◌-◌, Bool, true, false, not, ◌&&◌, ◌||◌, ◌==◌, nat_lt, if◌then◌else◌, List, [], ◌∷◌, ◌++◌, map, drop, codes, Option, Some, None, option_and_then}
 use Rattle.std.specs.List.{list_all, list_any, position_or_len}
 use Rattle.std.specs.Option.{option_map_or}
-use Rattle.std.specs.Str.{bytes_eq, str_to_ascii_uppercase}
+use Rattle.std.specs.Str.{bytes_eq}
+use Rattle.std.specs.Char.{to_ascii_lowercase}
 use Rattle.trf16.specs.Lines.{columns, joined, text}
-use Rattle.trf16.specs.Fields.{words, number_of}
+use Rattle.trf16.specs.Fields.{words, number_of, number_in}
 use Rattle.trf16.specs.declared.cell.Colour.{Colour}
 use Rattle.trf16.specs.declared.cell.Colour.TheVariants.{White, Black}
 
--- two texts, of which the second is in upper case, are the same but for the case of their letters
+-- two words are the same but for the case of their letters
 abbrev pub is_word : List ℕ → List ℕ → Bool
-is_word word capitals = bytes_eq (str_to_ascii_uppercase word) capitals
+is_word word capitals = bytes_eq (map to_ascii_lowercase word) (map to_ascii_lowercase capitals)
 
 -- a line of a kind: its first three columns, in either case
 abbrev pub is_kind : List ℕ → List (List ℕ) → Bool
@@ -26,8 +27,7 @@ positive n = if n == 0 then None else Some n
 
 -- XXR: the number of rounds is one word
 abbrev pub rounds_in : List (List ℕ) → Option ℕ
-rounds_in (word ∷ []) = option_and_then positive (number_of word)
-rounds_in _ = None
+rounds_in all = option_and_then positive (number_in all)
 
 -- XXC: the initial colour behind a word, of that in front of it: white1 and black1 name it, and not both; rank names none
 abbrev pub colour_behind : Option Colour → List ℕ → Option (Option Colour)

@@ -101,12 +101,16 @@ colour_onto sheet n line = do
 unfoldable pub absence_onto : Sheet → ℕ → List (List ℕ) → Result Sheet Fault
 absence_onto sheet n line = if are_start_ranks (words_of line) then Ok sheet else Err (BadExtension n)
 
+-- 001: a player
+unfoldable pub player_onto : Sheet → ℕ → List (List ℕ) → Result Sheet Fault
+player_onto sheet n line = do
+  entry ← player_at sheet n line
+  Ok (with_player sheet entry)
+
 -- a report with what line n adds to it
 unfoldable pub line_onto : Sheet → ℕ → List (List ℕ) → Result Sheet Fault
 line_onto sheet n line =
-    if is_player line then (do
-      entry ← player_at sheet n line
-      Ok (with_player sheet entry))
+    if is_player line then player_onto sheet n line
     else (if is_kind (codes "XXR") line then rounds_onto sheet n line
     else (if is_kind (codes "XXC") line then colour_onto sheet n line
     else (if is_kind (codes "XXZ") line then absence_onto sheet n line else Ok sheet)))

@@ -1,16 +1,21 @@
 // Tournament reports in TRF16 columns: reading them, with every refusal named, and asking what they say.
 #![tactic(auto)]
 
+mod answering;
 pub mod cell;
 mod columns;
 pub mod devices;
+mod draft;
+mod extensions;
 pub mod fault;
-pub mod kind;
 mod fields;
 mod grammar;
+pub mod kind;
 pub mod laws;
 mod lines;
+pub mod meetings;
 pub mod player;
+mod queries;
 mod reading;
 pub mod report;
 

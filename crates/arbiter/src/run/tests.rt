@@ -1,0 +1,262 @@
+// Runs over memory: small reports with the answers that must come, and devices that fail or give little at a time.
+use crate::reply::Status;
+use crate::run::run;
+use std::alloc::{AllocError, Global};
+use std::io;
+use std::io::{ErrorKind, Read, Write};
+use trf16::devices::Counted;
+
+const FOUR_PLAYERS: &[u8] = b"001    1\n001    2\n001    3\n001    4\n";
+
+const ACCEPTED: &str = "accepted players 4 rounds 0\n";
+
+// Gives one byte a call.
+#[derive(Drop)]
+struct Dripping<'a>(&'a [u8]);
+
+impl<'a> Read for Dripping<'a> {
+    fn read(&mut self, into: &mut [u8]) -> io::Result<usize> {
+        let Some((first, rest)) = self.0.split_first() else {
+            return Ok(0);
+        };
+        if into.is_empty() {
+            return Ok(0);
+        }
+        into[0] = *first;
+        self.0 = rest;
+        Ok(1)
+    }
+}
+
+// Is interrupted where its bytes end.
+#[derive(Drop)]
+struct Breaking<'a>(Dripping<'a>);
+
+impl<'a> Read for Breaking<'a> {
+    fn read(&mut self, into: &mut [u8]) -> io::Result<usize> {
+        match self.0.read(into) {
+            Ok(0) => Err(io::Error::from(ErrorKind::Interrupted)),
+            answer => answer,
+        }
+    }
+}
+
+// Never ends.
+#[derive(Drop)]
+struct Endless;
+
+impl Read for Endless {
+    fn read(&mut self, into: &mut [u8]) -> io::Result<usize> {
+        Ok(into.len())
+    }
+}
+
+// Takes three bytes a call, and none once it is full.
+#[derive(Drop)]
+struct Small {
+    held: Vec<u8>,
+    room: usize,
+}
+
+impl Write for Small {
+    fn write(&mut self, piece: &[u8]) -> io::Result<usize> {
+        let count = piece.len().min(3).min(self.room);
+        self.held.extend_from_slice(&piece[..count])?;
+        self.room -= count;
+        Ok(count)
+    }
+
+    fn flush(&mut self) -> io::Result<()> {
+        Ok(())
+    }
+}
+
+// What a run left.
+#[derive(Drop)]
+struct Ended {
+    status: Status,
+    out: Vec<u8>,
+    err: Vec<u8>,
+}
+
+// A run over a reader, with writers of some room.
+fn run_on<'a, R: Read + Drop>(
+    alloc: Global,
+    words: &'a [&'a str],
+    reader: R,
+    out_room: usize,
+    err_room: usize,
+) -> Ended {
+    let mut reader = Counted::new(reader);
+    let held = Vec::new(alloc);
+    let room = out_room;
+    let mut out = Counted::new(Small { held, room });
+    let held = Vec::new(alloc);
+    let room = err_room;
+    let mut err = Counted::new(Small { held, room });
+    let status = run(alloc, words, &mut reader, &mut out, &mut err);
+    Ended {
+        status,
+        out: out.into_inner().held,
+        err: err.into_inner().held,
+    }
+}
+
+// `check` of a text.
+fn check(alloc: Global, text: &[u8]) -> Ended {
+    run_on(alloc, &["check"], text, 1000, 1000)
+}
+
+// Whether a run printed a text and did nothing else.
+fn has_printed(ended: &Ended, text: &str) -> bool {
+    ended.status == Status::Done && ended.out.as_slice() == text.as_bytes() && ended.err.is_empty()
+}
+
+// Whether a run refused a report with a text and did nothing else.
+fn has_refused(ended: &Ended, text: &str) -> bool {
+    ended.status == Status::Refused
+        && ended.out.is_empty()
+        && ended.err.as_slice() == text.as_bytes()
+}
+
+#[test]
+fn four_players_are_accepted(rt: HostRuntime) -> Result<(), AllocError> {
+    assert!(rt; has_printed(&check(rt.alloc(), FOUR_PLAYERS), ACCEPTED));
+    let mut marked = Vec::from_slice(rt.alloc(), b"\xef\xbb\xbf")?;
+    marked.extend_from_slice(FOUR_PLAYERS)?;
+    assert!(rt; has_printed(&check(rt.alloc(), marked.as_slice()), ACCEPTED));
+    Ok(())
+}
+
+#[test]
+fn empty_input_is_refused(rt: HostRuntime) {
+    assert!(rt; has_refused(&check(rt.alloc(), b""), "refused: no players\n"));
+}
+
+#[test]
+fn shifted_column_is_refused(rt: HostRuntime) -> Result<(), AllocError> {
+    let text = format!(in rt.alloc(); "001    1{:84}   2 w 1\n001    2{:83}   1 b 0\n", "", "")?;
+    let ended = check(rt.alloc(), text.as_bytes());
+    assert!(rt; has_refused(&ended, "refused: line 1: column 96 must be blank\n"));
+    Ok(())
+}
+
+// A report of two players, the first of whom has this name.
+fn named(alloc: Global, name: &[u8]) -> Result<Vec<u8>, AllocError> {
+    let mut text = Vec::from_slice(alloc, b"001    1      ")?;
+    text.extend_from_slice(name)?;
+    let rest = format!(in alloc; "{:71}   2 w 1\n001    2{:83}   1 b 0\n", "", "")?;
+    text.extend_from_slice(rest.as_bytes())?;
+    Ok(text)
+}
+
+#[test]
+fn names_may_be_utf8_or_latin1(rt: HostRuntime) -> Result<(), AllocError> {
+    for name in [b"M\xfcller".as_slice(), b"M\xc3\xbcller".as_slice()] {
+        let text = named(rt.alloc(), name)?;
+        let ended = check(rt.alloc(), text.as_slice());
+        assert!(rt; has_printed(&ended, "accepted players 2 rounds 1\n"));
+    }
+    Ok(())
+}
+
+#[test]
+fn start_rank_is_a_number_of_its_own(rt: HostRuntime) {
+    let ended = check(rt.alloc(), b"001");
+    assert!(rt; has_refused(&ended, "refused: line 1: bad number\n"));
+    let ended = check(rt.alloc(), b"001    1\n001    1\n");
+    assert!(rt; has_refused(&ended, "refused: line 2: duplicate\n"));
+}
+
+#[test]
+fn players_are_256_at_most(rt: HostRuntime) -> Result<(), AllocError> {
+    let mut text = String::new(rt.alloc());
+    for start in 1..257 {
+        text.push_str(format!(in rt.alloc(); "001 {start:>4}\n")?.as_str())?;
+    }
+    let ended = check(rt.alloc(), text.as_bytes());
+    assert!(rt; has_printed(&ended, "accepted players 256 rounds 0\n"));
+    text.push_str("001  257\n")?;
+    let ended = check(rt.alloc(), text.as_bytes());
+    assert!(rt; has_refused(&ended, "refused: too many players\n"));
+    Ok(())
+}
+
+#[test]
+fn one_byte_a_call_is_the_same(rt: HostRuntime) {
+    let ended = run_on(rt.alloc(), &["check"], Dripping(FOUR_PLAYERS), 1000, 0);
+    assert!(rt; has_printed(&ended, ACCEPTED));
+}
+
+#[test]
+fn endless_source_is_too_long(rt: HostRuntime) {
+    let ended = run_on(rt.alloc(), &["check"], Endless, 0, 1000);
+    assert!(rt; has_refused(&ended, "refused: too many bytes\n"));
+}
+
+#[test]
+fn interrupted_source_is_no_end(rt: HostRuntime) {
+    for text in [FOUR_PLAYERS, b""] {
+        let source = Breaking(Dripping(text));
+        let ended = run_on(rt.alloc(), &["check"], source, 1000, 1000);
+        assert!(rt; ended.status == Status::Trouble);
+        assert!(rt; ended.out.is_empty());
+        assert_eq!(rt; ended.err.as_slice(), b"device: read failed\n".as_slice());
+    }
+}
+
+#[test]
+fn full_output_has_a_part_of_the_text(rt: HostRuntime) {
+    let ended = run_on(rt.alloc(), &["check"], FOUR_PLAYERS, 11, 1000);
+    assert!(rt; ended.status == Status::Trouble);
+    assert_eq!(rt; ended.out.as_slice(), b"accepted pl".as_slice());
+    assert_eq!(rt; ended.err.as_slice(), b"device: write failed\n".as_slice());
+}
+
+#[test]
+fn full_standard_error_changes_no_status(rt: HostRuntime) {
+    let ended = run_on(rt.alloc(), &["check"], b"".as_slice(), 0, 9);
+    assert!(rt; ended.status == Status::Refused);
+    assert_eq!(rt; ended.err.as_slice(), b"refused: ".as_slice());
+    let ended = run_on(rt.alloc(), &["check"], FOUR_PLAYERS, 0, 0);
+    assert!(rt; ended.status == Status::Trouble);
+}
+
+// The texts are clap's; that nothing is read is seen from a source that would fail.
+#[test]
+fn help_and_version_are_printed(rt: HostRuntime) {
+    let table = [
+        (["--help"].as_slice(), "Usage: arbiter <COMMAND>"),
+        (["check", "--help"].as_slice(), "Usage: arbiter check"),
+        (["--version"].as_slice(), "arbiter 1.0\n"),
+    ];
+    for (words, part) in table {
+        let ended = run_on(rt.alloc(), words, Breaking(Dripping(b"")), 1000, 0);
+        assert!(rt; ended.status == Status::Done);
+        assert!(rt; contains(ended.out.as_slice(), part.as_bytes()));
+    }
+}
+
+#[test]
+fn other_words_are_refused(rt: HostRuntime) {
+    let table = [
+        ([].as_slice(), "Usage: arbiter <COMMAND>"),
+        (["pair"].as_slice(), "unrecognized subcommand 'pair'"),
+        (["help"].as_slice(), "unrecognized subcommand 'help'"),
+        (["check", "x"].as_slice(), "unexpected argument 'x'"),
+        (
+            ["check", "--rounds", "5"].as_slice(),
+            "Usage: arbiter check",
+        ),
+    ];
+    for (words, part) in table {
+        let ended = run_on(rt.alloc(), words, Breaking(Dripping(b"")), 0, 1000);
+        assert!(rt; ended.status == Status::BadWords);
+        assert!(rt; contains(ended.err.as_slice(), part.as_bytes()));
+    }
+}
+
+// Whether a text has a part.
+fn contains(text: &[u8], part: &[u8]) -> bool {
+    part.is_empty() || text.windows(part.len()).any(|window| window == part)
+}
