@@ -5,6 +5,7 @@ pub mod ReadingLemmas
 pub mod ReportLemmas
 pub mod AnsweringLemmas
 pub mod MeetingLemmas
+pub mod Characters
 pub mod WrittenNumbers
 pub mod WrittenColumns
 pub mod WrittenCells

@@ -11,6 +11,7 @@ use Rattle.std.proofs.lemmas.List.{append-nil, length-append, length-take, take-
 use Rattle.std.proofs.lemmas.Slice.Eq.{bytes_eq-Decides}
 use Rattle.trf16.specs.Lines.{columns, joined, text, is_blank}
 use Rattle.trf16.specs.Fields.{words, number_in, points_in, without_last, trimmed}
+use Rattle.trf16.specs.Cells.{cell_from}
 use Rattle.trf16.specs.Sheet.{Entry, Sheet, known}
 use Rattle.trf16.specs.Outcomes.{◌>>=◌}
 use Rattle.trf16.specs.Verdict.{blank_at, start_number_at, start_at, points_at, rounds_at, is_blank_cell, cells_at, player_at, is_player, is_too_long}
@@ -23,7 +24,7 @@ use Rattle.trf16.proofs.ColumnLemmas.{joined-columns, joined-append}
 use Rattle.trf16.proofs.WrittenNumbers.{numbers}
 use Rattle.trf16.proofs.WrittenColumns.{is_plain, each, joined-each, length-each, starts, starts-append, starts-ascii, columns-append, columns-ascii, AreColumns, AreColumns-drop, columns-are, IsColumn, ascii-plain, slice_part}
 use Rattle.trf16.proofs.WrittenCells.{is_sound, Fields, fields_of, text-behind, list_all-append, plain-number, length-four, four_are}
-use Rattle.trf16.proofs.WrittenRounds.{then_ok, ok_or_ok, same_ok, blank_ok, blank_from, tail_of, tail-rounds, lead_blank, rounds-written, WereRounds, rounds_were, ascii-blank, ascii_from, joined_at}
+use Rattle.trf16.proofs.WrittenRounds.{then_ok, ok_or_ok, same_ok, blank_ok, blank_from, tail_of, tail-rounds, lead_blank, rounds-written, WereRounds, rounds_were, ascii-blank, ascii_from, joined_at, fields_are}
 use Rattle.trf16.proofs.WrittenText.{is_inside, utf8_split, utf8_nil, utf8_behind, utf8_front}
 use Rattle.trf16.proofs.WrittenFields.{without_last-append, without_last-twice, IsCut, cut, all_cut, length_cut, IsCarried, carried_is, IsFilled, filled, inside-plain, are_small, IsPointsField, points_field_is, ascii-points, ascii-number}
 
@@ -75,6 +76,9 @@ start_is sheet n line start e =
   fresh = ap (known sheet) (sym fresh.1) ∙ fresh.0;
 }
 
+is_same : (sheet : Sheet) (n : ℕ) (line : List (List ℕ)) (made entry : Entry) → made ≡ entry → IsPlayer sheet n line made → IsPlayer sheet n line entry
+is_same sheet n line made entry e h = subst (IsPlayer sheet n line) e h
+
 pub player_is : (sheet : Sheet) (n : ℕ) (line : List (List ℕ)) (entry : Entry) → player_at sheet n line ≡ Ok entry → IsPlayer sheet n line entry
 unfolding player_at points_at
 player_is sheet n line entry e =
@@ -89,7 +93,7 @@ player_is sheet n line entry e =
     let same : made s2.0 s3.0 s6.0 ≡ entry = same_ok (made s2.0 s3.0 s6.0) entry s6.2 in
     let start = start_is sheet n line s2.0 s2.1 in
     let points : points_in (words (text line 81 84)) ≡ Some s3.0 = ok_or_ok (points_in (words (text line 81 84))) (BadNumber n) s3.0 s3.1 in
-    subst (IsPlayer sheet n line) same (record {
+    let built : IsPlayer sheet n line (made s2.0 s3.0 s6.0) = record {
   blank4 = blank_ok n line 4 s1.0 s1.1;
   number = start.number;
   some = start.some;
@@ -101,7 +105,8 @@ player_is sheet n line entry e =
   numbered = refl;
   left = refl;
   right = refl;
-})
+    } in
+    is_same sheet n line (made s2.0 s3.0 s6.0) entry same built
 
 -- what is known of a player who was read
 pub record IsSoundEntry (utf8 : Bool) (entry : Entry) : Type 0 where
@@ -165,6 +170,21 @@ length-rounds (cell ∷ cells) h =
     let eight : length (cell_text cell) ≡ 8 = length-cell cell both.0 in
     let others : length (flat_map round_text cells) ≡ 10 * length cells = length-rounds cells both.1 in
     omega (arith, length-append (cell_text cell) (flat_map round_text cells))
+
+-- a cell that was read, written and read again
+pub cell_again : (opponent colour result : List ℕ) (cell : Cell) → cell_from opponent colour result ≡ Some cell
+    → cell_from (slice_range (cell_text cell) 0 4) (slice_range (cell_text cell) 5 6) (slice_range (cell_text cell) 7 8) ≡ Some cell
+cell_again opponent colour result cell e =
+    let f = fields_of cell (fields_are opponent colour result cell e).sound in
+    let o = four_are f.opponent f.four in
+    let spelled : cell_text cell ≡ o.0 ∷ o.1 ∷ o.2 ∷ o.3 ∷ 32 ∷ f.colour ∷ 32 ∷ f.result ∷ [] =
+        f.spelled ∙ ap (λ (bs : List ℕ). bs ++ (32 ∷ f.colour ∷ 32 ∷ f.result ∷ [])) o.4 in
+    let read : cell_from (o.0 ∷ o.1 ∷ o.2 ∷ o.3 ∷ []) (f.colour ∷ []) (f.result ∷ []) ≡ Some cell =
+        ap (λ (bs : List ℕ). cell_from bs (f.colour ∷ []) (f.result ∷ [])) (sym o.4) ∙ f.read in
+    rw spelled read
+
+pub cell_size : (opponent colour result : List ℕ) (cell : Cell) → cell_from opponent colour result ≡ Some cell → length (cell_text cell) ≡ 8
+cell_size opponent colour result cell e = length-cell cell (fields_are opponent colour result cell e).sound
 
 all_are_blank : (n : ℕ) → list_all is_blank_cell (replicate n Blank) ≡ true
 all_are_blank zero = refl
