@@ -1,11 +1,10 @@
 -- The columns of a text that is UTF-8 are its characters.
-use Rattle.std.proofs.Common.{◌≡◌, ℕ, ◌+◌, ◌*◌, ◌/◌, ◌%◌, ◌<◌, ◌≤◌, Bool, true, false, not, ◌&&◌, cond, nat_lt, nat_le, List, [], ◌∷◌, ◌++◌, map, refl, sym, ap, ◌∙◌, arith}
+use Rattle.std.proofs.Common.{◌≡◌, ℕ, ◌+◌, ◌/◌, ◌%◌, ◌<◌, ◌≤◌, Bool, true, false, cond, nat_lt, List, [], ◌∷◌, map, refl, sym, ap, ◌∙◌, arith}
 use Rattle.std.specs.Str.{is_utf8, chars, encode_utf8_all}
 use Rattle.std.specs.Char.{encode_utf8}
-use Rattle.std.proofs.lemmas.Bool.{ltb-false, le-leb, le-ltb, lt-ltb}
 use Rattle.std.proofs.lemmas.Bool.Decides.{nat_tests}
 use Rattle.std.proofs.lemmas.Str.{IsUtf8-from_is_utf8, chars-encodes}
-use Rattle.trf16.specs.Lines.{goes_on, onto_first, columns}
+use Rattle.trf16.specs.Lines.{goes_on, columns}
 use Rattle.trf16.proofs.ColumnLemmas.{columns-bytes}
 use Rattle.trf16.proofs.WrittenColumns.{starts, starts-append, columns-append, IsColumn}
 
@@ -32,7 +31,7 @@ four_bytes c x y z h = record { one = rw (next_goes_on x, next_goes_on y, next_g
 
 encoded : (c : ℕ) (one two three : Bool) → nat_lt c 128 ≡ one
     → IsColumn true (cond one (c ∷ []) (cond two ((192 + c / 64) ∷ (128 + c % 64) ∷ []) (cond three ((224 + c / 4096) ∷ (128 + (c / 64) % 64) ∷ (128 + c % 64) ∷ [])
-        ((240 + c / 262144) ∷ (128 + (c / 4096) % 64) ∷ (128 + (c / 64) % 64) ∷ (128 + c % 64) ∷ []))))
+    ((240 + c / 262144) ∷ (128 + (c / 4096) % 64) ∷ (128 + (c / 64) % 64) ∷ (128 + c % 64) ∷ []))))
 encoded c true two three e = one_byte c (low e)
   where
     low : nat_lt c 128 ≡ true → goes_on c ≡ false

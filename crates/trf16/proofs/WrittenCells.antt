@@ -1,20 +1,18 @@
 -- The cells of a line, written in their columns, read back as themselves.
-use Rattle.std.proofs.Common.{◌≡◌, ◌≢◌, ℕ, zero, suc, ◌+◌, ◌-◌, ◌*◌, ◌<◌, ◌≤◌, Bool, true, false, not, ◌&&◌, ◌||◌, ◌==◌, nat_lt, cond, List, [], ◌∷◌, ◌++◌, length, take, drop, map, replicate, refl, sym, ap, ◌∙◌, append_assoc, arith, subst, inl, inr, Option, Some, None, Result, Ok, Err}
-use Rattle.std.specs.Prelude.{slice_range, option_and_then, codes}
+use Rattle.std.proofs.Common.{◌≡◌, ℕ, zero, suc, ◌+◌, ◌-◌, ◌<◌, Bool, true, false, ◌&&◌, nat_lt, List, [], ◌∷◌, ◌++◌, length, take, drop, refl, sym, ap, ◌∙◌, arith, Option, Some, None}
+use Rattle.std.specs.Prelude.{codes}
 use Rattle.std.specs.Fmt.{decimal}
-use Rattle.std.specs.List.{list_all, flat_map}
-use Rattle.std.specs.Option.{option_map_or, ok_or}
+use Rattle.std.specs.List.{list_all}
+use Rattle.std.specs.Option.{option_map_or}
 use Rattle.std.specs.Char.{is_ascii, is_ascii_digit, to_ascii_uppercase}
-use Rattle.std.proofs.lemmas.Bool.{and_parts, and_from, true≢false, lt-ltb, ltb-true, eqb-true, ne_eqb}
-use Rattle.std.proofs.lemmas.Bool.Decides.{nat_tests, eqb_tells}
-use Rattle.std.proofs.lemmas.List.{take_at, drop_at, append-nil, length-append, length-replicate, drop-drop}
-use Rattle.trf16.specs.Lines.{columns, joined, text, is_blank}
-use Rattle.trf16.specs.Fields.{words, number_of, number_in}
-use Rattle.trf16.specs.Cells.{cell_from, cell_of, opponent_in, opponent_of, mark_in, bye_cell, game_cell, forfeit_cell, outcome_of, colour_of, is_no_colour}
+use Rattle.std.proofs.lemmas.Bool.{and_parts, and_from, ltb-true, ne_eqb}
+use Rattle.std.proofs.lemmas.Bool.Decides.{nat_tests}
+use Rattle.std.proofs.lemmas.List.{length-append, length-replicate, drop-drop}
+use Rattle.trf16.specs.Lines.{joined, text}
+use Rattle.trf16.specs.Fields.{words}
+use Rattle.trf16.specs.Cells.{cell_from, cell_of, opponent_in}
 use Rattle.trf16.specs.Sheet.{opponent_in_cell}
-use Rattle.trf16.specs.Outcomes.{◌>>=◌}
-use Rattle.trf16.specs.Verdict.{blank_at, round_at, rounds_at, cells_at, is_blank_cell}
-use Rattle.trf16.specs.Written.{blanks, right_in_four, bye_letter, colour_letter, outcome_letter, meeting_text, cell_text, round_text}
+use Rattle.trf16.specs.Written.{blanks, right_in_four, colour_letter, meeting_text, cell_text}
 use Rattle.trf16.specs.declared.cell.Colour.{Colour}
 use Rattle.trf16.specs.declared.cell.Colour.TheVariants.{White, Black}
 use Rattle.trf16.specs.declared.cell.Bye.{Bye as ByeKind}
@@ -23,10 +21,8 @@ use Rattle.trf16.specs.declared.cell.Outcome.{Outcome}
 use Rattle.trf16.specs.declared.cell.Outcome.TheVariants.{Win, Draw, Loss}
 use Rattle.trf16.specs.declared.cell.Cell.{Cell}
 use Rattle.trf16.specs.declared.cell.Cell.TheVariants.{Blank, Bye, Game, Forfeit, Unfinished}
-use Rattle.trf16.specs.declared.fault.Fault.{Fault}
-use Rattle.trf16.specs.declared.fault.Fault.TheVariants.{BadCell, Misaligned}
 use Rattle.trf16.proofs.WrittenNumbers.{words-blanks, words-digits, digits-decimal, length-decimal, number_of-decimal}
-use Rattle.trf16.proofs.WrittenColumns.{is_plain, each, joined-each, length-each, slice_part}
+use Rattle.trf16.proofs.WrittenColumns.{is_plain}
 
 -- the opponent that a cell names is a start rank
 abbrev pub is_sound : Cell → Bool

@@ -1,13 +1,12 @@
 -- The columns of a text that is put together from others.
-use Rattle.std.proofs.Common.{◌≡◌, ℕ, zero, suc, ◌+◌, ◌-◌, ◌<◌, ◌≤◌, Bool, true, false, not, ◌&&◌, ◌||◌, ◌==◌, nat_le, nat_lt, cond, List, [], ◌∷◌, ◌++◌, length, take, drop, map, refl, sym, ap, ◌∙◌, append_assoc, arith, subst}
+use Rattle.std.proofs.Common.{◌≡◌, ℕ, zero, suc, ◌+◌, ◌-◌, ◌≤◌, Bool, true, false, not, ◌&&◌, nat_le, nat_lt, cond, List, [], ◌∷◌, ◌++◌, length, take, drop, map, refl, sym, ap, arith, subst}
 use Rattle.std.specs.Prelude.{slice_range}
 use Rattle.std.specs.List.{list_all}
 use Rattle.std.specs.Char.{is_ascii}
 use Rattle.std.proofs.lemmas.Bool.{and_parts, and_from, true≢false}
 use Rattle.std.proofs.lemmas.Bool.Decides.{nat_tests}
-use Rattle.std.proofs.lemmas.List.{take_at, drop_at, append-nil, length-append}
-use Rattle.trf16.specs.Lines.{onto_first, goes_on, columns, joined, text}
-use Rattle.trf16.proofs.ColumnLemmas.{joined-columns, joined-append}
+use Rattle.std.proofs.lemmas.List.{take_at, drop_at}
+use Rattle.trf16.specs.Lines.{onto_first, goes_on, columns, joined}
 
 -- a column begins in front of this text, or nothing stands there
 abbrev pub starts : Bool → List ℕ → Bool
@@ -168,6 +167,6 @@ columns-fewer utf8 (b ∷ c ∷ xs) ys =
     by : (test : Bool) {first' second' : List ℕ} {more more' : List (List ℕ)} → columns utf8 (c ∷ xs) ≡ first' ∷ more → columns utf8 (c ∷ (xs ++ ys)) ≡ second' ∷ more'
         → length (columns utf8 (c ∷ xs)) ≤ length (columns utf8 (c ∷ (xs ++ ys)))
         → length (cond test (onto_first b (columns utf8 (c ∷ xs))) ((b ∷ []) ∷ columns utf8 (c ∷ xs)))
-            ≤ length (cond test (onto_first b (columns utf8 (c ∷ (xs ++ ys)))) ((b ∷ []) ∷ columns utf8 (c ∷ (xs ++ ys))))
+        ≤ length (cond test (onto_first b (columns utf8 (c ∷ (xs ++ ys)))) ((b ∷ []) ∷ columns utf8 (c ∷ (xs ++ ys))))
     by true e e' le = rw (e, e') (rw (e, e') at le)
     by false e e' le = omega arith

@@ -1,21 +1,20 @@
 -- The carried columns and the points of a player: trimmed, written in their columns, and read again.
-use Rattle.std.proofs.Common.{◌≡◌, ◌≢◌, ℕ, zero, suc, ◌+◌, ◌-◌, ◌*◌, ◌<◌, ◌≤◌, min, Bool, true, false, not, ◌&&◌, ◌||◌, ◌==◌, nat_le, nat_lt, cond, List, [], ◌∷◌, ◌++◌, length, take, drop, map, replicate, refl, sym, ap, ◌∙◌, append_assoc, arith, subst, ◌⊎◌, inl, inr, Option, Some, None}
-use Rattle.std.specs.Prelude.{option_and_then}
+use Rattle.std.proofs.Common.{◌≡◌, ℕ, zero, suc, ◌+◌, ◌-◌, ◌*◌, ◌<◌, ◌≤◌, Bool, true, false, ◌&&◌, ◌||◌, ◌==◌, nat_le, cond, List, [], ◌∷◌, ◌++◌, length, take, drop, refl, sym, ap, ◌∙◌, arith, subst, Option, Some, None}
 use Rattle.std.specs.List.{list_all}
 use Rattle.std.specs.Char.{is_ascii, is_ascii_digit}
 use Rattle.std.specs.Str.{is_utf8}
-use Rattle.std.proofs.lemmas.Bool.{and_parts, and_from, true≢false, eqb-true, or_cases}
+use Rattle.std.proofs.lemmas.Bool.{and_parts, and_from, eqb-true}
 use Rattle.std.proofs.lemmas.Bool.Decides.{nat_tests}
-use Rattle.std.proofs.lemmas.List.{append-nil, length-append, length-replicate, length-take, take-append-drop, drop-drop}
+use Rattle.std.proofs.lemmas.List.{length-append, length-replicate, length-take, take-append-drop, drop-drop}
 use Rattle.std.proofs.lemmas.List.Folds.{list_all-append as all-append}
 use Rattle.trf16.specs.Lines.{columns, joined, is_blank}
-use Rattle.trf16.specs.Fields.{words, number_of, number_in, half_after, points_after, points_of, points_in, without_last, trimmed}
-use Rattle.trf16.specs.Written.{blanks, right_in_four, left_in, points_text, points_field}
+use Rattle.trf16.specs.Fields.{words, number_in, half_after, points_after, points_of, points_in, without_last, trimmed}
+use Rattle.trf16.specs.Written.{blanks, left_in, points_field}
 use Rattle.trf16.proofs.ColumnLemmas.{joined-columns, joined-append}
-use Rattle.trf16.proofs.WrittenNumbers.{ArePoints, points_are}
+use Rattle.trf16.proofs.WrittenNumbers.{points_are}
 use Rattle.trf16.proofs.WrittenColumns.{is_plain, each, length-each, starts, starts-append, starts-ascii, starts-joined, columns-append, columns-ascii, columns-joined, columns-fewer, AreColumns, AreColumns-drop, AreColumns-take, columns-are, ascii-plain}
 use Rattle.trf16.proofs.WrittenCells.{plain-blanks, ascii-digits, list_all-append}
-use Rattle.trf16.proofs.WrittenRounds.{then_some, number_is, IsNumberWord, ascii-words, ascii-blank, ascii_both}
+use Rattle.trf16.proofs.WrittenRounds.{then_some, number_is, ascii-words, ascii_both}
 use Rattle.trf16.proofs.WrittenText.{is_inside, utf8_front}
 
 -- items at the end of a list that pass a test
@@ -111,18 +110,18 @@ carried_is utf8 line at width inside =
     let whole = joined part in
     let c = cut (λ b. b == 32) whole in
     let are : AreColumns utf8 part =
-        AreColumns-take utf8 width (drop (1 + at) cols) (subst (AreColumns utf8) (drop-drop at 1 cols) (AreColumns-drop utf8 at (drop 1 cols) (columns-are utf8 line))) in
+    AreColumns-take utf8 width (drop (1 + at) cols) (subst (AreColumns utf8) (drop-drop at 1 cols) (AreColumns-drop utf8 at (drop 1 cols) (columns-are utf8 line))) in
     let kept = trimmed whole in
     let fewer : length (columns utf8 kept) ≤ length (columns utf8 (kept ++ c.back)) = columns-fewer utf8 kept c.back in
     let size : length (columns utf8 (kept ++ c.back)) ≡ length part =
-        ap (λ (bs : List ℕ). length (columns utf8 bs)) (sym c.parts) ∙ ap (λ (cs : List (List ℕ)). length cs) (columns-joined utf8 part are) in
+    ap (λ (bs : List ℕ). length (columns utf8 bs)) (sym c.parts) ∙ ap (λ (cs : List (List ℕ)). length cs) (columns-joined utf8 part are) in
     record {
-  front = starts_front utf8 kept c.back (rw (← c.parts) (starts-joined utf8 part are));
-  few = omega (arith, length-take width (drop (1 + at) cols));
-  cut = without_last-twice (λ b. b == 32) whole;
-  inside = all_cut (λ b. b == 32) is_inside whole
-      (all_take is_inside width (drop (1 + at) cols) (all_drop is_inside (1 + at) cols (rw (joined-columns utf8 line) inside)));
-}
+      front = starts_front utf8 kept c.back (rw (← c.parts) (starts-joined utf8 part are));
+      few = omega (arith, length-take width (drop (1 + at) cols));
+      cut = without_last-twice (λ b. b == 32) whole;
+      inside = all_cut (λ b. b == 32) is_inside whole
+          (all_take is_inside width (drop (1 + at) cols) (all_drop is_inside (1 + at) cols (rw (joined-columns utf8 line) inside)));
+    }
 
 -- such a text, filled with blanks
 pub record IsFilled (utf8 : Bool) (width : ℕ) (bytes : List ℕ) : Type 0 where
@@ -151,18 +150,18 @@ filled utf8 width bytes c =
     let ascii = ascii-plain (blanks n) (plain-blanks n) in
     let front = starts-ascii utf8 (blanks n) ascii in
     let cols : columns utf8 (bytes ++ blanks n) ≡ columns utf8 bytes ++ each (blanks n) =
-        columns-append utf8 bytes (blanks n) front ∙ ap (λ (cs : List (List ℕ)). columns utf8 bytes ++ cs) (columns-ascii utf8 (blanks n) ascii) in
+    columns-append utf8 bytes (blanks n) front ∙ ap (λ (cs : List (List ℕ)). columns utf8 bytes ++ cs) (columns-ascii utf8 (blanks n) ascii) in
     let count : length (columns utf8 (bytes ++ blanks n)) ≡ length (columns utf8 bytes) + n =
-        ap (λ (cs : List (List ℕ)). length cs) cols ∙ length-append (columns utf8 bytes) (each (blanks n))
-        ∙ ap (λ k. length (columns utf8 bytes) + k) (length-each (blanks n) ∙ length-replicate {A = ℕ} n 32) in
+    ap (λ (cs : List (List ℕ)). length cs) cols ∙ length-append (columns utf8 bytes) (each (blanks n))
+    ∙ ap (λ k. length (columns utf8 bytes) + k) (length-each (blanks n) ∙ length-replicate {A = ℕ} n 32) in
     let few : length (columns utf8 bytes) ≤ width = c.few in
     record {
-  size = omega (arith, count);
-  front = starts-append utf8 bytes (blanks n) c.front front;
-  read = without_last-append (λ b. b == 32) bytes (blanks n) (all_blank n) ∙ c.cut;
-  inside = list_all-append is_inside bytes (blanks n) c.inside (inside-plain (blanks n) (plain-blanks n));
-  same = utf8_front bytes (blanks n) ascii;
-}
+      size = omega (arith, count);
+      front = starts-append utf8 bytes (blanks n) c.front front;
+      read = without_last-append (λ b. b == 32) bytes (blanks n) (all_blank n) ∙ c.cut;
+      inside = list_all-append is_inside bytes (blanks n) c.inside (inside-plain (blanks n) (plain-blanks n));
+      same = utf8_front bytes (blanks n) ascii;
+    }
 
 -- the points field
 

@@ -1,17 +1,16 @@
 -- Numbers and points, written in four columns, read back as themselves.
-use Rattle.std.proofs.Common.{◌≡◌, ◌≢◌, ℕ, zero, suc, ◌+◌, ◌-◌, ◌*◌, ◌^◌, ◌<◌, ◌≤◌, Bool, true, false, ◌&&◌, ◌||◌, ◌==◌, cond, get_or, List, [], ◌∷◌, ◌++◌, length, take, drop, refl, sym, ap, ◌∙◌, arith, rules, inl, inr, subst, Option, Some, None, replicate}
+use Rattle.std.proofs.Common.{◌≡◌, ◌≢◌, ℕ, zero, suc, ◌-◌, ◌^◌, ◌<◌, ◌≤◌, Bool, true, false, ◌&&◌, ◌==◌, List, [], ◌∷◌, ◌++◌, length, refl, sym, ap, ◌∙◌, arith, rules, inl, inr, subst, Option, Some, None}
 use Rattle.std.specs.Fmt.{decimal, digits}
 use Rattle.std.specs.List.{list_all}
 use Rattle.std.specs.Char.{is_ascii_digit}
-use Rattle.std.proofs.lemmas.Bool.{lt-ltb, le-leb, cases_lt, and_parts, leb-true, eqb-true, true≢false}
-use Rattle.std.proofs.lemmas.Bool.Decides.{nat_tests, eqb_tells}
-use Rattle.std.proofs.lemmas.List.{take_all, drop_all, length-append, length-replicate, nil_from_length}
+use Rattle.std.proofs.lemmas.Bool.{le-leb, cases_lt, and_parts, eqb-true, true≢false}
+use Rattle.std.proofs.lemmas.Bool.Decides.{nat_tests}
 use Rattle.std.proofs.lemmas.Str.Parse.{IsNumeralModel, numerals_by_fold, digits_value_short}
 use Rattle.std.proofs.lemmas.Fmt.{digits_decimal, digits_value-decimal, length-decimal-le, decimal_nonempty}
-use Rattle.trf16.specs.Fields.{words, number_after, is_number, number_of, number_in, points_in, points_of}
+use Rattle.trf16.specs.Fields.{words, number_after, number_of, number_in, points_in}
 use Rattle.trf16.specs.Written.{blanks, right_in_four, points_text}
 use Rattle.trf16.proofs.WrittenColumns.{is_plain}
-use Rattle.trf16.proofs.FieldLemmas.{words-blank, words-word, not_blank}
+use Rattle.trf16.proofs.FieldLemmas.{words-blank, not_blank}
 
 pub all_digits : List ℕ → Type 0
 all_digits bs = list_all is_ascii_digit bs ≡ true

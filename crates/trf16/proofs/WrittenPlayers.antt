@@ -1,13 +1,13 @@
 -- The line of a player, written, reads back as the player.
-use Rattle.std.proofs.Common.{◌≡◌, ◌≢◌, ℕ, zero, suc, ◌+◌, ◌-◌, ◌*◌, ◌<◌, ◌≤◌, Bool, true, false, not, ◌&&◌, ◌||◌, ◌==◌, cond, List, [], ◌∷◌, ◌++◌, length, take, drop, map, replicate, refl, sym, ap, ◌∙◌, append_assoc, arith, subst, ◌⊎◌, inl, inr, Option, Some, None, Result, Ok, Err}
+use Rattle.std.proofs.Common.{◌≡◌, ℕ, zero, suc, ◌+◌, ◌-◌, ◌*◌, ◌<◌, ◌≤◌, Bool, true, false, not, ◌&&◌, ◌==◌, cond, List, [], ◌∷◌, ◌++◌, length, take, drop, replicate, refl, sym, ap, ◌∙◌, append_assoc, arith, subst, inl, inr, Option, Some, Result, Ok, Err}
 use Rattle.std.specs.Prelude.{slice_range, codes}
 use Rattle.std.specs.Fmt.{decimal}
 use Rattle.std.specs.List.{list_all, flat_map}
 use Rattle.std.specs.Option.{ok_or}
 use Rattle.std.specs.Char.{is_ascii}
 use Rattle.std.specs.Str.{is_utf8, bytes_eq}
-use Rattle.std.proofs.lemmas.Bool.{and_parts, and_from, true≢false, ne_eqb, eqb-true}
-use Rattle.std.proofs.lemmas.List.{append-nil, length-append, length-take, take-append-drop, drop-drop, drop_at, drop_all}
+use Rattle.std.proofs.lemmas.Bool.{and_parts, true≢false}
+use Rattle.std.proofs.lemmas.List.{append-nil, length-append, drop-drop, drop_at, drop_all}
 use Rattle.std.proofs.lemmas.Slice.Eq.{bytes_eq-Decides}
 use Rattle.trf16.specs.Lines.{columns, joined, text, is_blank}
 use Rattle.trf16.specs.Fields.{words, number_in, points_in, without_last, trimmed}
@@ -15,18 +15,18 @@ use Rattle.trf16.specs.Cells.{cell_from}
 use Rattle.trf16.specs.Sheet.{Entry, Sheet, known}
 use Rattle.trf16.specs.Outcomes.{◌>>=◌}
 use Rattle.trf16.specs.Verdict.{blank_at, start_number_at, start_at, points_at, rounds_at, is_blank_cell, cells_at, player_at, is_player, is_too_long}
-use Rattle.trf16.specs.Written.{blanks, right_in_four, left_in, points_field, cell_text, round_text, player_text}
+use Rattle.trf16.specs.Written.{right_in_four, left_in, points_field, cell_text, round_text, player_text}
 use Rattle.trf16.specs.declared.cell.Cell.{Cell}
 use Rattle.trf16.specs.declared.cell.Cell.TheVariants.{Blank}
 use Rattle.trf16.specs.declared.fault.Fault.{Fault}
 use Rattle.trf16.specs.declared.fault.Fault.TheVariants.{BadNumber, Duplicate}
-use Rattle.trf16.proofs.ColumnLemmas.{joined-columns, joined-append}
+use Rattle.trf16.proofs.ColumnLemmas.{joined-columns}
 use Rattle.trf16.proofs.WrittenNumbers.{numbers}
-use Rattle.trf16.proofs.WrittenColumns.{is_plain, each, joined-each, length-each, starts, starts-append, starts-ascii, columns-append, columns-ascii, AreColumns, AreColumns-drop, columns-are, IsColumn, ascii-plain, slice_part}
-use Rattle.trf16.proofs.WrittenCells.{is_sound, Fields, fields_of, text-behind, list_all-append, plain-number, length-four, four_are}
-use Rattle.trf16.proofs.WrittenRounds.{then_ok, ok_or_ok, same_ok, blank_ok, blank_from, tail_of, tail-rounds, lead_blank, rounds-written, WereRounds, rounds_were, ascii-blank, ascii_from, joined_at, fields_are}
+use Rattle.trf16.proofs.WrittenColumns.{is_plain, each, joined-each, length-each, starts-append, starts-ascii, columns-append, columns-ascii, AreColumns, AreColumns-drop, columns-are, ascii-plain, slice_part}
+use Rattle.trf16.proofs.WrittenCells.{is_sound, fields_of, text-behind, list_all-append, plain-number, length-four, four_are}
+use Rattle.trf16.proofs.WrittenRounds.{then_ok, ok_or_ok, same_ok, blank_ok, blank_from, tail_of, tail-rounds, lead_blank, rounds-written, rounds_were, ascii-blank, ascii_from, joined_at, fields_are}
 use Rattle.trf16.proofs.WrittenText.{is_inside, utf8_split, utf8_nil, utf8_behind, utf8_front}
-use Rattle.trf16.proofs.WrittenFields.{without_last-append, without_last-twice, IsCut, cut, all_cut, length_cut, IsCarried, carried_is, IsFilled, filled, inside-plain, are_small, IsPointsField, points_field_is, ascii-points, ascii-number}
+use Rattle.trf16.proofs.WrittenFields.{without_last-append, without_last-twice, cut, all_cut, length_cut, IsCarried, carried_is, filled, inside-plain, are_small, points_field_is, ascii-points, ascii-number}
 
 -- what the line of a player is
 pub record IsPlayer (sheet : Sheet) (n : ℕ) (line : List (List ℕ)) (entry : Entry) : Type 0 where
@@ -45,8 +45,19 @@ pub record IsPlayer (sheet : Sheet) (n : ℕ) (line : List (List ℕ)) (entry : 
 pub player_from : (sheet : Sheet) (n : ℕ) (line : List (List ℕ)) (entry : Entry) → IsPlayer sheet n line entry → player_at sheet n line ≡ Ok entry
 unfolding player_at start_at start_number_at points_at
 player_from sheet n line entry p =
-    rw (blank_from n line 4 p.blank4, p.number, p.some, p.fresh, p.points, blank_from n line 90 p.blank90, blank_from n line 91 p.blank91, p.cells,
-        p.numbered, p.left, p.right) refl
+    rw (
+      blank_from n line 4 p.blank4,
+      p.number,
+      p.some,
+      p.fresh,
+      p.points,
+      blank_from n line 90 p.blank90,
+      blank_from n line 91 p.blank91,
+      p.cells,
+      p.numbered,
+      p.left,
+      p.right,
+    ) refl
 
 -- a step that is refused where a test holds
 unless_ok : (b : Bool) (x y : ℕ) (fault : Fault) → ◌≡◌ {A = Result ℕ Fault} (cond b (Err fault) (Ok x)) (Ok y) → (b ≡ false) × (x ≡ y)
@@ -71,10 +82,10 @@ start_is sheet n line start e =
     let read : number_in (words (text line 5 8)) ≡ Some inner.0 = ok_or_ok (number_in (words (text line 5 8))) (BadNumber n) inner.0 inner.1 in
     let same : inner.0 ≡ start = some.1 ∙ fresh.1 in
     record {
-  number = read ∙ ap (λ s. Some s) same;
-  some = ap (λ s. s == 0) (sym same) ∙ some.0;
-  fresh = ap (known sheet) (sym fresh.1) ∙ fresh.0;
-}
+      number = read ∙ ap (λ s. Some s) same;
+      some = ap (λ s. s == 0) (sym same) ∙ some.0;
+      fresh = ap (known sheet) (sym fresh.1) ∙ fresh.0;
+    }
 
 is_same : (sheet : Sheet) (n : ℕ) (line : List (List ℕ)) (made entry : Entry) → made ≡ entry → IsPlayer sheet n line made → IsPlayer sheet n line entry
 is_same sheet n line made entry e h = subst (IsPlayer sheet n line) e h
@@ -83,7 +94,7 @@ pub player_is : (sheet : Sheet) (n : ℕ) (line : List (List ℕ)) (entry : Entr
 unfolding player_at points_at
 player_is sheet n line entry e =
     let made : ℕ → Option ℕ → List Cell → Entry = λ start points cells.
-        record { start = start; line = n; points = points; left = trimmed (text line 9 80); right = trimmed (text line 85 89); cells = cells } in
+    record { start = start; line = n; points = points; left = trimmed (text line 9 80); right = trimmed (text line 85 89); cells = cells } in
     let s1 = then_ok (blank_at n line 4) (λ _. start_at sheet n line >>= λ start. points_at n line >>= λ points. blank_at n line 90 >>= λ _. blank_at n line 91 >>= λ _. cells_at n line >>= λ cells. Ok (made start points cells)) entry e in
     let s2 = then_ok (start_at sheet n line) (λ start. points_at n line >>= λ points. blank_at n line 90 >>= λ _. blank_at n line 91 >>= λ _. cells_at n line >>= λ cells. Ok (made start points cells)) entry s1.2 in
     let s3 = then_ok (points_at n line) (λ points. blank_at n line 90 >>= λ _. blank_at n line 91 >>= λ _. cells_at n line >>= λ cells. Ok (made s2.0 points cells)) entry s2.2 in
@@ -94,17 +105,17 @@ player_is sheet n line entry e =
     let start = start_is sheet n line s2.0 s2.1 in
     let points : points_in (words (text line 81 84)) ≡ Some s3.0 = ok_or_ok (points_in (words (text line 81 84))) (BadNumber n) s3.0 s3.1 in
     let built : IsPlayer sheet n line (made s2.0 s3.0 s6.0) = record {
-  blank4 = blank_ok n line 4 s1.0 s1.1;
-  number = start.number;
-  some = start.some;
-  fresh = start.fresh;
-  points = points;
-  blank90 = blank_ok n line 90 s4.0 s4.1;
-  blank91 = blank_ok n line 91 s5.0 s5.1;
-  cells = s6.1;
-  numbered = refl;
-  left = refl;
-  right = refl;
+      blank4 = blank_ok n line 4 s1.0 s1.1;
+      number = start.number;
+      some = start.some;
+      fresh = start.fresh;
+      points = points;
+      blank90 = blank_ok n line 90 s4.0 s4.1;
+      blank91 = blank_ok n line 91 s5.0 s5.1;
+      cells = s6.1;
+      numbered = refl;
+      left = refl;
+      right = refl;
     } in
     is_same sheet n line (made s2.0 s3.0 s6.0) entry same built
 
@@ -142,12 +153,12 @@ six_parts a b c d e f la lb lc ld le =
     let l4 : length abcd ≡ 84 = omega (arith, length-append abc d) in
     let l5 : length abcde ≡ 89 = omega (arith, length-append abcd e) in
     record {
-  start = slice_part a b (c ++ (d ++ (e ++ f))) 4 8 la (omega arith);
-  left = ap (λ (cs : List (List ℕ)). slice_range cs 8 80) s1 ∙ slice_part ab c (d ++ (e ++ f)) 8 80 l2 (omega arith);
-  points = ap (λ (cs : List (List ℕ)). slice_range cs 80 84) s2 ∙ slice_part abc d (e ++ f) 80 84 l3 (omega arith);
-  right = ap (λ (cs : List (List ℕ)). slice_range cs 84 89) s3 ∙ slice_part abcd e f 84 89 l4 (omega arith);
-  back = ap (λ (cs : List (List ℕ)). drop 89 cs) s4 ∙ drop_at abcde f 89 l5;
-}
+      start = slice_part a b (c ++ (d ++ (e ++ f))) 4 8 la (omega arith);
+      left = ap (λ (cs : List (List ℕ)). slice_range cs 8 80) s1 ∙ slice_part ab c (d ++ (e ++ f)) 8 80 l2 (omega arith);
+      points = ap (λ (cs : List (List ℕ)). slice_range cs 80 84) s2 ∙ slice_part abc d (e ++ f) 80 84 l3 (omega arith);
+      right = ap (λ (cs : List (List ℕ)). slice_range cs 84 89) s3 ∙ slice_part abcd e f 84 89 l4 (omega arith);
+      back = ap (λ (cs : List (List ℕ)). drop 89 cs) s4 ∙ drop_at abcde f 89 l5;
+    }
 
 -- the rounds that are written
 
@@ -178,9 +189,9 @@ cell_again opponent colour result cell e =
     let f = fields_of cell (fields_are opponent colour result cell e).sound in
     let o = four_are f.opponent f.four in
     let spelled : cell_text cell ≡ o.0 ∷ o.1 ∷ o.2 ∷ o.3 ∷ 32 ∷ f.colour ∷ 32 ∷ f.result ∷ [] =
-        f.spelled ∙ ap (λ (bs : List ℕ). bs ++ (32 ∷ f.colour ∷ 32 ∷ f.result ∷ [])) o.4 in
+    f.spelled ∙ ap (λ (bs : List ℕ). bs ++ (32 ∷ f.colour ∷ 32 ∷ f.result ∷ [])) o.4 in
     let read : cell_from (o.0 ∷ o.1 ∷ o.2 ∷ o.3 ∷ []) (f.colour ∷ []) (f.result ∷ []) ≡ Some cell =
-        ap (λ (bs : List ℕ). cell_from bs (f.colour ∷ []) (f.result ∷ [])) (sym o.4) ∙ f.read in
+    ap (λ (bs : List ℕ). cell_from bs (f.colour ∷ []) (f.result ∷ [])) (sym o.4) ∙ f.read in
     rw spelled read
 
 pub cell_size : (opponent colour result : List ℕ) (cell : Cell) → cell_from opponent colour result ≡ Some cell → length (cell_text cell) ≡ 8
@@ -241,14 +252,14 @@ written_player sheet utf8 entry s small fresh =
     let starts1 = starts-append utf8 S (L ++ (P ++ (R ++ C))) (starts-ascii utf8 S ascii-S) starts2 in
     let cols5 : columns utf8 (R ++ C) ≡ columns utf8 R ++ each C = columns-append utf8 R C starts5 ∙ ap (λ (cs : List (List ℕ)). columns utf8 R ++ cs) (columns-ascii utf8 C ascii-C) in
     let cols4 : columns utf8 (P ++ (R ++ C)) ≡ each P ++ (columns utf8 R ++ each C) =
-        rw (columns-append utf8 P (R ++ C) starts4, columns-ascii utf8 P ascii-P, cols5) refl in
+    rw (columns-append utf8 P (R ++ C) starts4, columns-ascii utf8 P ascii-P, cols5) refl in
     let cols3 : columns utf8 (L ++ (P ++ (R ++ C))) ≡ columns utf8 L ++ (each P ++ (columns utf8 R ++ each C)) =
-        rw (columns-append utf8 L (P ++ (R ++ C)) starts3, cols4) refl in
+    rw (columns-append utf8 L (P ++ (R ++ C)) starts3, cols4) refl in
     let cols2 : columns utf8 (S ++ (L ++ (P ++ (R ++ C)))) ≡ each S ++ (columns utf8 L ++ (each P ++ (columns utf8 R ++ each C))) =
-        rw (columns-append utf8 S (L ++ (P ++ (R ++ C))) starts2, columns-ascii utf8 S ascii-S, cols3) refl in
+    rw (columns-append utf8 S (L ++ (P ++ (R ++ C))) starts2, columns-ascii utf8 S ascii-S, cols3) refl in
     let W = each (codes "001 ") ++ (each S ++ (columns utf8 L ++ (each P ++ (columns utf8 R ++ each C)))) in
     let cols : columns utf8 (player_text utf8 entry) ≡ each (codes "001 ") ++ (each S ++ (columns utf8 L ++ (each P ++ (columns utf8 R ++ each C)))) =
-        rw (columns-append utf8 (codes "001 ") (S ++ (L ++ (P ++ (R ++ C)))) starts1, columns-ascii utf8 (codes "001 ") refl, cols2) refl in
+    rw (columns-append utf8 (codes "001 ") (S ++ (L ++ (P ++ (R ++ C)))) starts1, columns-ascii utf8 (codes "001 ") refl, cols2) refl in
     let size-S : length (each S) ≡ 4 = length-each S ∙ length-four entry.start s.start in
     let size-P : length (each P) ≡ 4 = length-each P ∙ p.four in
     let parts = six_parts (each (codes "001 ")) (each S) (columns utf8 L) (each P) (columns utf8 R) (each C) (length-each (codes "001 ")) size-S l.size size-P r.size in
@@ -277,15 +288,15 @@ written_player sheet utf8 entry s small fresh =
     let size : length (each C) ≤ 322 = omega (arith, length-each C, length-rounds entry.cells s.sound) in
     let end : drop 411 W ≡ [] = sym (drop-drop 322 89 W) ∙ ap (λ (cs : List (List ℕ)). drop 322 cs) back ∙ drop_all 322 (each C) size in
     record {
-  read = rw cols (player_from sheet entry.line W entry player);
-  named = rw cols front.1;
-  short = rw cols (ap not (blank_none (drop 411 W) end));
-  inside = list_all-append is_inside (codes "001 ") (S ++ (L ++ (P ++ (R ++ C)))) refl (list_all-append is_inside S (L ++ (P ++ (R ++ C))) (inside-plain S plain-S)
-      (list_all-append is_inside L (P ++ (R ++ C)) l.inside (list_all-append is_inside P (R ++ C) (inside-plain P p.plain)
-      (list_all-append is_inside R C r.inside (inside-plain C plain-C)))));
-  same = utf8_behind (codes "001 ") (S ++ (L ++ (P ++ (R ++ C)))) refl ∙ utf8_behind S (L ++ (P ++ (R ++ C))) ascii-S ∙ four_split L P (R ++ C) p.four ascii-P
-      ∙ rw (utf8_front R C ascii-C, l.same, r.same) refl;
-}
+      read = rw cols (player_from sheet entry.line W entry player);
+      named = rw cols front.1;
+      short = rw cols (ap not (blank_none (drop 411 W) end));
+      inside = list_all-append is_inside (codes "001 ") (S ++ (L ++ (P ++ (R ++ C)))) refl (list_all-append is_inside S (L ++ (P ++ (R ++ C))) (inside-plain S plain-S)
+          (list_all-append is_inside L (P ++ (R ++ C)) l.inside (list_all-append is_inside P (R ++ C) (inside-plain P p.plain)
+          (list_all-append is_inside R C r.inside (inside-plain C plain-C)))));
+      same = utf8_behind (codes "001 ") (S ++ (L ++ (P ++ (R ++ C)))) refl ∙ utf8_behind S (L ++ (P ++ (R ++ C))) ascii-S ∙ four_split L P (R ++ C) p.four ascii-P
+          ∙ rw (utf8_front R C ascii-C, l.same, r.same) refl;
+    }
 
 -- what was read
 
@@ -351,21 +362,21 @@ was_player utf8 sheet n line entry inside named short p =
     let utf8-L : is_utf8 L ≡ is_utf8 (trimmed L) = ap is_utf8 l.parts ∙ utf8_front (trimmed L) l.back (ascii-blank l.back l.passes) in
     let utf8-R : is_utf8 R ≡ is_utf8 (trimmed R) = ap is_utf8 r.parts ∙ utf8_front (trimmed R) r.back (ascii-blank r.back r.passes) in
     let back : is_utf8 (joined (drop 80 cols)) ≡ is_utf8 entry.right =
-        utf8_skip 80 4 cols points ∙ ap is_utf8 (joined_at 84 5 cols) ∙ utf8_front R (joined (drop 89 cols)) behind89 ∙ utf8-R ∙ ap is_utf8 p.right in
+    utf8_skip 80 4 cols points ∙ ap is_utf8 (joined_at 84 5 cols) ∙ utf8_front R (joined (drop 89 cols)) behind89 ∙ utf8-R ∙ ap is_utf8 p.right in
     let all : is_utf8 line ≡ is_utf8 (joined (drop 8 cols)) =
-        ap is_utf8 (sym (joined-columns utf8 line)) ∙ utf8_skip 0 3 cols (kind_ascii (text cols 1 3) named) ∙ utf8_skip 3 1 cols (ascii-blank (text cols 4 4) p.blank4)
-        ∙ utf8_skip 4 4 cols number.1 in
+    ap is_utf8 (sym (joined-columns utf8 line)) ∙ utf8_skip 0 3 cols (kind_ascii (text cols 1 3) named) ∙ utf8_skip 3 1 cols (ascii-blank (text cols 4 4) p.blank4)
+    ∙ utf8_skip 4 4 cols number.1 in
     record {
-  sound = record {
-    start = number.0;
-    some = p.some;
-    left = subst (IsCarried utf8 72) p.left (carried_is utf8 line 7 72 inside);
-    right = subst (IsCarried utf8 5) p.right (carried_is utf8 line 83 5 inside);
-    sound = subst (λ (cs : List Cell). list_all is_sound cs ≡ true) cells.2 (all_cut is_blank_cell is_sound cells.0 rounds.sound);
-    few = let fewer : length (without_last is_blank_cell cells.0) ≤ length cells.0 = length_cut is_blank_cell cells.0 in
-        subst (λ (cs : List Cell). length cs ≤ 32) cells.2 (omega arith);
-    cut = subst (λ (cs : List Cell). without_last is_blank_cell cs ≡ cs) cells.2 (without_last-twice is_blank_cell cells.0);
-  };
-  same = all ∙ ap is_utf8 (joined_at 8 72 cols) ∙ join_columns utf8 L (drop 80 cols) are points'
-      ∙ rw (back, utf8-L) (ap (λ (bs : List ℕ). is_utf8 bs && is_utf8 entry.right) p.left);
-}
+      sound = record {
+        start = number.0;
+        some = p.some;
+        left = subst (IsCarried utf8 72) p.left (carried_is utf8 line 7 72 inside);
+        right = subst (IsCarried utf8 5) p.right (carried_is utf8 line 83 5 inside);
+        sound = subst (λ (cs : List Cell). list_all is_sound cs ≡ true) cells.2 (all_cut is_blank_cell is_sound cells.0 rounds.sound);
+        few = let fewer : length (without_last is_blank_cell cells.0) ≤ length cells.0 = length_cut is_blank_cell cells.0 in
+            subst (λ (cs : List Cell). length cs ≤ 32) cells.2 (omega arith);
+        cut = subst (λ (cs : List Cell). without_last is_blank_cell cs ≡ cs) cells.2 (without_last-twice is_blank_cell cells.0);
+      };
+      same = all ∙ ap is_utf8 (joined_at 8 72 cols) ∙ join_columns utf8 L (drop 80 cols) are points'
+          ∙ rw (back, utf8-L) (ap (λ (bs : List ℕ). is_utf8 bs && is_utf8 entry.right) p.left);
+    }

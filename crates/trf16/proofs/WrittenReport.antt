@@ -1,20 +1,19 @@
 -- The canonical text of a report that was read reads back as that report.
-use Rattle.std.proofs.Common.{◌≡◌, ◌≢◌, ℕ, zero, suc, ◌+◌, ◌-◌, ◌*◌, ◌<◌, ◌≤◌, Bool, true, false, not, ◌&&◌, ◌||◌, ◌==◌, nat_lt, cond, List, [], ◌∷◌, ◌++◌, length, take, drop, map, refl, sym, ap, ◌∙◌, append_assoc, arith, subst, ◌⊎◌, inl, inr, Option, Some, None, Result, Ok, Err}
+use Rattle.std.proofs.Common.{◌≡◌, ℕ, ◌+◌, ◌*◌, ◌<◌, ◌≤◌, Bool, true, false, ◌&&◌, ◌||◌, ◌==◌, nat_lt, cond, List, [], ◌∷◌, ◌++◌, length, take, map, refl, sym, ap, ◌∙◌, append_assoc, arith, subst, inl, inr, Option, Some, None, Result, Ok, Err}
 use Rattle.std.specs.Prelude.{codes, sum_by, is_some}
-use Rattle.std.specs.List.{list_all, list_any}
+use Rattle.std.specs.List.{list_all}
 use Rattle.std.specs.Option.{option_map_or, ok_or}
 use Rattle.std.specs.Str.{is_utf8}
-use Rattle.std.proofs.lemmas.Bool.{and_parts, and_from, or_parts, or_cases, true≢false, eqb-true, ltb-true, le-ltb}
-use Rattle.std.proofs.lemmas.List.{append-nil, length-take}
+use Rattle.std.proofs.lemmas.Bool.{and_parts, or_parts, or_cases, eqb-true, ltb-true, le-ltb}
+use Rattle.std.proofs.lemmas.List.{append-nil}
 use Rattle.std.proofs.lemmas.List.Sums.{sum_by-cons, sum_by-take-le}
 use Rattle.trf16.specs.Lines.{columns, lines, without_marks}
 use Rattle.trf16.specs.Extensions.{is_kind, words_of, rounds_in, colour_in, are_start_ranks}
-use Rattle.trf16.specs.Sheet.{Entry, Sheet, with_player, known, half_points, outcome_points, bye_points, rounds_played}
+use Rattle.trf16.specs.Sheet.{Entry, Sheet, with_player, half_points, rounds_played}
 use Rattle.trf16.specs.Outcomes.{◌>>=◌}
 use Rattle.trf16.specs.Answering.{cells_fit, points_fit, player_fits, players_fit, has_other_points}
 use Rattle.trf16.specs.Verdict.{player_at, is_player, is_too_long, rounds_onto, colour_onto, absence_onto, player_onto, line_onto, lines_onto, carried_line, without_players, has_too_many_rounds, names_too_many_rounds, sized, report_of, verdict}
 use Rattle.trf16.specs.Written.{player_text, lines_text, written}
-use Rattle.trf16.specs.declared.cell.Colour.{Colour}
 use Rattle.trf16.specs.declared.cell.Bye.TheVariants.{Half, Full, Allocated, Zero}
 use Rattle.trf16.specs.declared.cell.Outcome.TheVariants.{Win, Draw, Loss}
 use Rattle.trf16.specs.declared.cell.Cell.{Cell}
@@ -25,7 +24,7 @@ use Rattle.trf16.specs.declared.fault.Fault.TheVariants.{BadExtension, Duplicate
 use Rattle.trf16.proofs.WrittenRounds.{then_ok, same_ok}
 use Rattle.trf16.proofs.WrittenText.{is_inside, are_inside, are_utf8, lines-line, lines-inside, utf8_lines, has_mark, no_mark, without_marks-no_mark, line-no_mark}
 use Rattle.trf16.proofs.WrittenFields.{are_small}
-use Rattle.trf16.proofs.WrittenPlayers.{IsPlayer, player_is, IsSoundEntry, WasPlayer, was_player, IsWrittenPlayer, written_player}
+use Rattle.trf16.proofs.WrittenPlayers.{IsPlayer, player_is, was_player, written_player}
 
 -- what a fault would be
 not_ok : {A : Type 0} (fault : Fault) (y : A) → ◌≡◌ {A = Result A Fault} (Err fault) (Ok y) → ⊥
@@ -124,13 +123,13 @@ unfolding lines_onto
 end_read utf8 sheet final n u e =
     let same : sheet ≡ final = same_ok sheet final e in
     record {
-  entries = [];
-  utf8_is = ap (λ (s : Sheet). s.utf8) (sym same) ∙ u;
-  carried = ap (λ (s : Sheet). s.carried) (sym same);
-  players = ap (λ (s : Sheet). s.players) (sym same) ∙ sym (append-nil sheet.players);
-  few = tt;
-  copied = λ small. record { copy = []; read = e; carried = refl; short = refl; same = refl; text = refl; unmarked = λ bytes b h. refl };
-}
+      entries = [];
+      utf8_is = ap (λ (s : Sheet). s.utf8) (sym same) ∙ u;
+      carried = ap (λ (s : Sheet). s.carried) (sym same);
+      players = ap (λ (s : Sheet). s.players) (sym same) ∙ sym (append-nil sheet.players);
+      few = tt;
+      copied = λ small. record { copy = []; read = e; carried = refl; short = refl; same = refl; text = refl; unmarked = λ bytes b h. refl };
+    }
 
 first_onto : (sheet final : Sheet) (n : ℕ) (line : List ℕ) (rest : List (List ℕ)) → lines_onto sheet n (line ∷ rest) ≡ Ok final
     → (next : Sheet) × (line_onto sheet n (columns sheet.utf8 line) ≡ Ok next) × (lines_onto next (n + 1) rest ≡ Ok final)
@@ -148,23 +147,23 @@ carried_read : (utf8 : Bool) (sheet next final : Sheet) (n : ℕ) (line : List �
 carried_read utf8 sheet next final n line rest u inside other e later =
     let keeps = line_keeps sheet n (columns sheet.utf8 line) next (rw u other) e in
     record {
-  entries = later.entries;
-  utf8_is = later.utf8_is;
-  carried = later.carried ∙ keeps.carried;
-  players = later.players ∙ ap (λ (ps : List Entry). ps ++ later.entries) keeps.players;
-  few = later.few;
-  copied = λ small.
-      let c = later.copied small in
-      record {
-    copy = line ∷ c.copy;
-    read = onto_from sheet next final n line c.copy e c.read;
-    carried = ap (λ (ls : List (Option (List ℕ))). carried_line utf8 line ∷ ls) c.carried;
-    short = rw other c.short;
-    same = ap (λ b. is_utf8 line && b) c.same;
-    text = rw other (lines-line line (lines_text utf8 (map (carried_line utf8) rest) later.entries) inside ∙ ap (λ (ls : List (List ℕ)). line ∷ ls) c.text);
-    unmarked = λ bytes b h. rw other (line-no_mark bytes line rest (lines_text utf8 (map (carried_line utf8) rest) later.entries) b h);
-  };
-}
+      entries = later.entries;
+      utf8_is = later.utf8_is;
+      carried = later.carried ∙ keeps.carried;
+      players = later.players ∙ ap (λ (ps : List Entry). ps ++ later.entries) keeps.players;
+      few = later.few;
+      copied = λ small.
+          let c = later.copied small in
+          record {
+            copy = line ∷ c.copy;
+            read = onto_from sheet next final n line c.copy e c.read;
+            carried = ap (λ (ls : List (Option (List ℕ))). carried_line utf8 line ∷ ls) c.carried;
+            short = rw other c.short;
+            same = ap (λ b. is_utf8 line && b) c.same;
+            text = rw other (lines-line line (lines_text utf8 (map (carried_line utf8) rest) later.entries) inside ∙ ap (λ (ls : List (List ℕ)). line ∷ ls) c.text);
+            unmarked = λ bytes b h. rw other (line-no_mark bytes line rest (lines_text utf8 (map (carried_line utf8) rest) later.entries) b h);
+          };
+    }
 
 player_read : (utf8 : Bool) (sheet next final : Sheet) (n : ℕ) (line : List ℕ) (rest : List (List ℕ)) → sheet.utf8 ≡ utf8 → list_all is_inside line ≡ true
     → is_player (columns utf8 line) ≡ true → is_too_long (columns utf8 line) ≡ false → line_onto sheet n (columns sheet.utf8 line) ≡ Ok next
@@ -175,29 +174,29 @@ player_read utf8 sheet next final n line rest u inside named short e later =
     let player : IsPlayer sheet n (columns utf8 line) entry = subst (λ b. IsPlayer sheet n (columns b line) entry) u adds.player in
     let was = was_player utf8 sheet n line entry inside named short player in
     record {
-  entries = entry ∷ later.entries;
-  utf8_is = later.utf8_is;
-  carried = later.carried ∙ ap (λ (s : Sheet). s.carried) (sym adds.next_is);
-  players = later.players ∙ ap (λ (s : Sheet). s.players ++ later.entries) (sym adds.next_is) ∙ append_assoc sheet.players (entry ∷ []) later.entries;
-  few = (was.sound.few, later.few);
-  copied = λ small.
-      let c = later.copied small.1 in
-      let w = written_player sheet utf8 entry was.sound small.0 player.fresh in
-      let text = player_text utf8 entry in
-      let again : line_onto sheet n (columns sheet.utf8 text) ≡ Ok next =
+      entries = entry ∷ later.entries;
+      utf8_is = later.utf8_is;
+      carried = later.carried ∙ ap (λ (s : Sheet). s.carried) (sym adds.next_is);
+      players = later.players ∙ ap (λ (s : Sheet). s.players ++ later.entries) (sym adds.next_is) ∙ append_assoc sheet.players (entry ∷ []) later.entries;
+      few = (was.sound.few, later.few);
+      copied = λ small.
+          let c = later.copied small.1 in
+          let w = written_player sheet utf8 entry was.sound small.0 player.fresh in
+          let text = player_text utf8 entry in
+          let again : line_onto sheet n (columns sheet.utf8 text) ≡ Ok next =
           ap (λ b. line_onto sheet n (columns b text)) u
           ∙ line_from sheet n (columns utf8 text) entry w.named (ap (λ k. player_at sheet k (columns utf8 text)) player.numbered ∙ w.read)
           ∙ ap (λ (s : Sheet). Ok s) adds.next_is in
-      record {
-    copy = text ∷ c.copy;
-    read = onto_from sheet next final n text c.copy again c.read;
-    carried = rw (named, w.named, c.carried) refl;
-    short = rw (w.named, w.short) c.short;
-    same = rw (w.same, was.same, c.same) refl;
-    text = rw named (lines-line text (lines_text utf8 (map (carried_line utf8) rest) later.entries) w.inside ∙ ap (λ (ls : List (List ℕ)). text ∷ ls) c.text);
-    unmarked = λ bytes b h. rw named refl;
-  };
-}
+          record {
+            copy = text ∷ c.copy;
+            read = onto_from sheet next final n text c.copy again c.read;
+            carried = rw (named, w.named, c.carried) refl;
+            short = rw (w.named, w.short) c.short;
+            same = rw (w.same, was.same, c.same) refl;
+            text = rw named (lines-line text (lines_text utf8 (map (carried_line utf8) rest) later.entries) w.inside ∙ ap (λ (ls : List (List ℕ)). text ∷ ls) c.text);
+            unmarked = λ bytes b h. rw named refl;
+          };
+    }
 
 were_read : (utf8 : Bool) (sheet final : Sheet) (n : ℕ) (all : List (List ℕ)) → sheet.utf8 ≡ utf8 → are_inside all ≡ true → has_too_many_rounds utf8 all ≡ false
     → lines_onto sheet n all ≡ Ok final → WereRead utf8 sheet final n all
@@ -246,11 +245,13 @@ small_points sheet entry y few e = by entry.points e
   where
     all : sum_by half_points entry.cells ≤ 64
     all = let le : sum_by half_points entry.cells ≤ 2 * length entry.cells = sum_le entry.cells in omega arith
+
     some : sum_by half_points (take (rounds_played sheet) entry.cells) ≤ 64
     some =
         let le : sum_by half_points (take (rounds_played sheet) entry.cells) ≤ sum_by half_points entry.cells = sum_by-take-le half_points entry.cells (rounds_played sheet) in
         let le' : sum_by half_points entry.cells ≤ 64 = all in
         omega arith
+
     tests : (points : ℕ)
         → ((points == sum_by half_points (take (rounds_played sheet) entry.cells)) || (points == sum_by half_points entry.cells) || (has_other_points sheet && nat_lt points 200)) ≡ true
         → points < 200
@@ -265,17 +266,19 @@ small_points sheet entry y few e = by entry.points e
               ]
           | inr other ↦ ltb-true points 200 (and_parts (has_other_points sheet) (nat_lt points 200) other).1
         ]
+
     decide : (points : ℕ) (b : Bool) → (b ≡ true → points < 200) → ◌≡◌ {A = Result (Unit {0}) Fault} (cond b (Ok tt) (Err (Points entry.start))) (Ok y) → points < 200
     decide points true h e = h refl
     decide points false h e = absurd (not_ok (Points entry.start) y e)
+
     by : (points : Option ℕ)
         → option_map_or (λ p.
-            cond ((p == sum_by half_points (take (rounds_played sheet) entry.cells)) || (p == sum_by half_points entry.cells) || (has_other_points sheet && nat_lt p 200))
-              (Ok tt) (Err (Points entry.start))) points (Ok tt) ≡ Ok y → are_small points
+        cond ((p == sum_by half_points (take (rounds_played sheet) entry.cells)) || (p == sum_by half_points entry.cells) || (has_other_points sheet && nat_lt p 200))
+        (Ok tt) (Err (Points entry.start))) points (Ok tt) ≡ Ok y → are_small points
     by None e = tt
     by (Some points) e =
         decide points ((points == sum_by half_points (take (rounds_played sheet) entry.cells)) || (points == sum_by half_points entry.cells) || (has_other_points sheet && nat_lt points 200))
-          (tests points) e
+        (tests points) e
 
 all_small : (sheet : Sheet) (entries : List Entry) (y : Unit {0}) → are_all_few entries → players_fit sheet entries ≡ Ok y → are_all_small entries
 unfolding players_fit player_fits
@@ -321,11 +324,11 @@ report_is utf8 all report e =
     let size = sized_is s1.0 s2.0 long s2.1 in
     let same1 : s1.0 ≡ report = size.same ∙ same2 in
     record {
-  read = s1.1 ∙ ap (λ (s : Sheet). Ok s) same1;
-  size = ap (λ (s : Sheet). sized s long) (sym same1) ∙ s2.1 ∙ ap (λ (s : Sheet). Ok s) same2;
-  short = size.short;
-  fit = subst (λ (s : Sheet). players_fit s s.players ≡ Ok tt) same2 s3.1;
-}
+      read = s1.1 ∙ ap (λ (s : Sheet). Ok s) same1;
+      size = ap (λ (s : Sheet). sized s long) (sym same1) ∙ s2.1 ∙ ap (λ (s : Sheet). Ok s) same2;
+      short = size.short;
+      fit = subst (λ (s : Sheet). players_fit s s.players ≡ Ok tt) same2 s3.1;
+    }
 
 report_from : (utf8 : Bool) (all : List (List ℕ)) (report : Sheet) → IsReport utf8 all report → report_of utf8 all ≡ Ok report
 unfolding report_of
@@ -348,7 +351,7 @@ text_is utf8 bytes report unmarked r =
     let small : are_all_small w.entries = all_small report w.entries tt w.few (subst (λ (ps : List Entry). players_fit report ps ≡ Ok tt) w.players r.fit) in
     let c = w.copied small in
     let text : written report ≡ lines_text utf8 (map (carried_line utf8) all) w.entries =
-        text_by report.utf8 utf8 report.carried (map (carried_line utf8) all) report.players w.entries w.utf8_is w.carried w.players in
+    text_by report.utf8 utf8 report.carried (map (carried_line utf8) all) report.players w.entries w.utf8_is w.carried w.players in
     let copy : lines (written report) ≡ c.copy = ap lines text ∙ c.text in
     let empty : without_players utf8 c.copy ≡ without_players utf8 all = rw c.carried refl in
     let again : IsReport utf8 c.copy report = record {
@@ -358,10 +361,10 @@ text_is utf8 bytes report unmarked r =
       fit = r.fit;
     } in
     record {
-  unmarked = ap has_mark text ∙ c.unmarked bytes refl unmarked;
-  same = utf8_lines (written report) ∙ ap are_utf8 copy ∙ c.same;
-  read = ap (report_of utf8) copy ∙ report_from utf8 c.copy report again;
-}
+      unmarked = ap has_mark text ∙ c.unmarked bytes refl unmarked;
+      same = utf8_lines (written report) ∙ ap are_utf8 copy ∙ c.same;
+      read = ap (report_of utf8) copy ∙ report_from utf8 c.copy report again;
+    }
 
 verdict_is : (bytes : List ℕ) (report : Sheet) → verdict bytes ≡ Ok report → report_of (is_utf8 (without_marks bytes)) (lines (without_marks bytes)) ≡ Ok report
 unfolding verdict

@@ -1,30 +1,29 @@
 -- The rounds of a line: what is known of those that were read, and that they read back where they are written.
-use Rattle.std.proofs.Common.{◌≡◌, ◌≢◌, ℕ, zero, suc, ◌+◌, ◌-◌, ◌*◌, ◌<◌, ◌≤◌, Bool, true, false, not, ◌&&◌, ◌||◌, ◌==◌, nat_lt, nat_le, cond, List, [], ◌∷◌, ◌++◌, length, take, drop, map, replicate, refl, sym, ap, ◌∙◌, append_assoc, arith, subst, ◌⊎◌, inl, inr, Option, Some, None, Result, Ok, Err}
-use Rattle.std.specs.Prelude.{slice_range, option_and_then}
+use Rattle.std.proofs.Common.{◌≡◌, ℕ, zero, suc, ◌+◌, ◌-◌, ◌*◌, ◌<◌, ◌≤◌, Bool, true, false, ◌&&◌, ◌==◌, nat_lt, nat_le, cond, List, [], ◌∷◌, ◌++◌, length, take, drop, replicate, refl, sym, ap, ◌∙◌, arith, subst, ◌⊎◌, inl, inr, Option, Some, None, Result, Ok, Err}
+use Rattle.std.specs.Prelude.{option_and_then}
 use Rattle.std.specs.List.{list_all, flat_map}
 use Rattle.std.specs.Option.{option_map_or, ok_or}
 use Rattle.std.specs.Char.{is_ascii, is_ascii_digit, to_ascii_uppercase}
-use Rattle.std.proofs.lemmas.Bool.{and_parts, and_from, true≢false, lt-ltb, ltb-true, ltb-false, leb-true, ne_eqb, eqb-true}
+use Rattle.std.proofs.lemmas.Bool.{and_parts, and_from, lt-ltb, ltb-false, leb-true, ne_eqb, eqb-true}
 use Rattle.std.proofs.lemmas.Bool.Decides.{nat_tests, eqb_tells}
-use Rattle.std.proofs.lemmas.List.{take_at, drop_at, append-nil, length-append, length-replicate, drop-drop, take-append-drop, map-append}
-use Rattle.std.proofs.lemmas.List.Folds.{list_all-append as all-append}
-use Rattle.trf16.specs.Lines.{columns, joined, text, is_blank, onto_first}
-use Rattle.trf16.specs.Fields.{words, number_of, number_after, is_number, without_last}
+use Rattle.std.proofs.lemmas.List.{drop-drop, take-append-drop, map-append}
+use Rattle.trf16.specs.Lines.{joined, text, is_blank, onto_first}
+use Rattle.trf16.specs.Fields.{words, number_of, number_after, is_number}
 use Rattle.trf16.specs.Cells.{cell_from, cell_of, opponent_in, opponent_of, mark_in, bye_cell, game_cell, forfeit_cell, outcome_of, colour_of, is_no_colour}
 use Rattle.trf16.specs.Sheet.{opponent_in_cell}
 use Rattle.trf16.specs.Outcomes.{◌>>=◌}
-use Rattle.trf16.specs.Verdict.{blank_at, round_at, rounds_at, cells_at, is_blank_cell}
+use Rattle.trf16.specs.Verdict.{blank_at, round_at, rounds_at}
 use Rattle.trf16.specs.Written.{cell_text, round_text}
 use Rattle.trf16.specs.declared.cell.Colour.{Colour}
 use Rattle.trf16.specs.declared.cell.Outcome.{Outcome}
 use Rattle.trf16.specs.declared.cell.Cell.{Cell}
-use Rattle.trf16.specs.declared.cell.Cell.TheVariants.{Blank, Bye, Game, Forfeit, Unfinished}
+use Rattle.trf16.specs.declared.cell.Cell.TheVariants.{Blank, Game}
 use Rattle.trf16.specs.declared.fault.Fault.{Fault}
 use Rattle.trf16.specs.declared.fault.Fault.TheVariants.{BadCell, Misaligned}
 use Rattle.trf16.proofs.WrittenNumbers.{value_below}
-use Rattle.trf16.proofs.WrittenColumns.{each, joined-each, length-each}
+use Rattle.trf16.proofs.WrittenColumns.{each}
 use Rattle.trf16.proofs.ColumnLemmas.{joined-append}
-use Rattle.trf16.proofs.WrittenCells.{is_sound, Fields, fields_of, four_are, text-behind, list_all-append, ascii-digits}
+use Rattle.trf16.proofs.WrittenCells.{is_sound, fields_of, four_are, text-behind, list_all-append, ascii-digits}
 
 -- what steps one after the other gave
 pub then_ok : {A B : Type 0} (read : Result A Fault) (next : A → Result B Fault) (y : B) → (read >>= next) ≡ Ok y → (x : A) × (read ≡ Ok x) × (next x ≡ Ok y)
@@ -80,9 +79,17 @@ round_from n line before cell r =
     let at = 91 + 10 * before in
     let D = drop at line in
     let at_blank : (k : ℕ) → 0 < k → is_blank (text D k k) ≡ true → blank_at n line (at + k) ≡ Ok tt =
-        λ k some h. blank_from n line (at + k) (ap is_blank (text-behind line at k k some) ∙ h) in
-    rw (at_blank 5 (omega arith) r.blank5, at_blank 7 (omega arith) r.blank7, at_blank 9 (omega arith) r.blank9, at_blank 10 (omega arith) r.blank10,
-        text-behind line at 1 4 (omega arith), text-behind line at 6 6 (omega arith), text-behind line at 8 8 (omega arith), r.read) refl
+    λ k some h. blank_from n line (at + k) (ap is_blank (text-behind line at k k some) ∙ h) in
+    rw (
+      at_blank 5 (omega arith) r.blank5,
+      at_blank 7 (omega arith) r.blank7,
+      at_blank 9 (omega arith) r.blank9,
+      at_blank 10 (omega arith) r.blank10,
+      text-behind line at 1 4 (omega arith),
+      text-behind line at 6 6 (omega arith),
+      text-behind line at 8 8 (omega arith),
+      r.read,
+    ) refl
 
 pub round_is : (n : ℕ) (line : List (List ℕ)) (before : ℕ) (cell : Cell) → round_at n line before ≡ Ok cell → IsRound (drop (91 + 10 * before) line) cell
 unfolding round_at
@@ -96,12 +103,12 @@ round_is n line before cell e =
     let e10 = then_ok (blank_at n line (at + 10)) (λ _. ok_or fields (BadCell n (before + 1))) cell e9.2 in
     let read : fields ≡ Some cell = ok_or_ok fields (BadCell n (before + 1)) cell e10.2 in
     record {
-  blank5 = ap is_blank (sym (text-behind line at 5 5 (omega arith))) ∙ blank_ok n line (at + 5) e5.0 e5.1;
-  blank7 = ap is_blank (sym (text-behind line at 7 7 (omega arith))) ∙ blank_ok n line (at + 7) e7.0 e7.1;
-  blank9 = ap is_blank (sym (text-behind line at 9 9 (omega arith))) ∙ blank_ok n line (at + 9) e9.0 e9.1;
-  blank10 = ap is_blank (sym (text-behind line at 10 10 (omega arith))) ∙ blank_ok n line (at + 10) e10.0 e10.1;
-  read = rw (← text-behind line at 1 4 (omega arith), ← text-behind line at 6 6 (omega arith), ← text-behind line at 8 8 (omega arith)) read;
-}
+      blank5 = ap is_blank (sym (text-behind line at 5 5 (omega arith))) ∙ blank_ok n line (at + 5) e5.0 e5.1;
+      blank7 = ap is_blank (sym (text-behind line at 7 7 (omega arith))) ∙ blank_ok n line (at + 7) e7.0 e7.1;
+      blank9 = ap is_blank (sym (text-behind line at 9 9 (omega arith))) ∙ blank_ok n line (at + 9) e9.0 e9.1;
+      blank10 = ap is_blank (sym (text-behind line at 10 10 (omega arith))) ∙ blank_ok n line (at + 10) e10.0 e10.1;
+      read = rw (← text-behind line at 1 4 (omega arith), ← text-behind line at 6 6 (omega arith), ← text-behind line at 8 8 (omega arith)) read;
+    }
 
 -- written rounds
 
@@ -139,15 +146,15 @@ written cell rest sound =
     let f = fields_of cell sound in
     let o = four_are f.opponent f.four in
     let spelled : cell_text cell ≡ o.0 ∷ o.1 ∷ o.2 ∷ o.3 ∷ 32 ∷ f.colour ∷ 32 ∷ f.result ∷ [] =
-        f.spelled ∙ ap (λ (bs : List ℕ). bs ++ (32 ∷ f.colour ∷ 32 ∷ f.result ∷ [])) o.4 in
+    f.spelled ∙ ap (λ (bs : List ℕ). bs ++ (32 ∷ f.colour ∷ 32 ∷ f.result ∷ [])) o.4 in
     let cols : each (cell_text cell) ≡ (o.0 ∷ []) ∷ (o.1 ∷ []) ∷ (o.2 ∷ []) ∷ (o.3 ∷ []) ∷ (32 ∷ []) ∷ (f.colour ∷ []) ∷ (32 ∷ []) ∷ (f.result ∷ []) ∷ [] =
-        ap each spelled ∙ eight o.0 o.1 o.2 o.3 32 f.colour 32 f.result in
+    ap each spelled ∙ eight o.0 o.1 o.2 o.3 32 f.colour 32 f.result in
     let read : cell_from (o.0 ∷ o.1 ∷ o.2 ∷ o.3 ∷ []) (f.colour ∷ []) (f.result ∷ []) ≡ Some cell =
-        ap (λ (bs : List ℕ). cell_from bs (f.colour ∷ []) (f.result ∷ [])) (sym o.4) ∙ f.read in
+    ap (λ (bs : List ℕ). cell_from bs (f.colour ∷ []) (f.result ∷ [])) (sym o.4) ∙ f.read in
     record {
-  round = λ h1 h2. rw cols (record { blank5 = refl; blank7 = refl; blank9 = h1; blank10 = h2; read = read });
-  behind = rw cols refl;
-}
+      round = λ h1 h2. rw cols (record { blank5 = refl; blank7 = refl; blank9 = h1; blank10 = h2; read = read });
+      behind = rw cols refl;
+    }
 
 none_written : (cols : List (List ℕ)) → cols ≡ [] → IsRound cols Blank
 none_written cols e = rw e (record { blank5 = refl; blank7 = refl; blank9 = refl; blank10 = refl; read = refl })
@@ -175,9 +182,9 @@ rounds-written n line before (suc more) (cell ∷ cells) sound few e =
     let rest = each (flat_map round_text cells) in
     let w = written cell rest both.0 in
     let here : round_at n line before ≡ Ok cell =
-        round_from n line before cell (subst (λ (cs : List (List ℕ)). IsRound cs cell) (sym e) (w.round (lead_blank 1 (inl refl) cells) (lead_blank 2 (inr refl) cells))) in
+    round_from n line before cell (subst (λ (cs : List (List ℕ)). IsRound cs cell) (sym e) (w.round (lead_blank 1 (inl refl) cells) (lead_blank 2 (inr refl) cells))) in
     let others : drop (91 + 10 * (before + 1)) line ≡ tail_of cells =
-        next_columns line before ∙ ap (λ (cs : List (List ℕ)). drop 10 cs) e ∙ w.behind ∙ tail-rounds cells in
+    next_columns line before ∙ ap (λ (cs : List (List ℕ)). drop 10 cs) e ∙ w.behind ∙ tail-rounds cells in
     let left : suc more - length (cell ∷ cells) ≡ more - length cells = omega arith in
     rw (here, rounds-written n line (before + 1) more cells both.1 (omega arith) others, left) refl
 
@@ -283,7 +290,7 @@ names_bye : (result : ℕ) → Names None (bye_cell result)
 unfolding Names
 names_bye result =
     names_either None (result == 32) _ _ refl (names_either None (result == 72) _ _ refl (names_either None (result == 70) _ _ refl
-      (names_either None (result == 85) _ _ refl (names_either None (result == 90) _ _ refl tt))))
+    (names_either None (result == 85) _ _ refl (names_either None (result == 90) _ _ refl tt))))
 
 names_forfeit : (n : ℕ) (colour : Option Colour) (result : ℕ) → Names (Some n) (forfeit_cell n colour result)
 unfolding Names
@@ -379,11 +386,11 @@ fields_are opponent colour result cell e =
     let names : Names s1.0 (Some cell) = subst (Names s1.0) s3.2 (names_cell s1.0 s2.0 s3.0) in
     let same : opponent_in_cell cell ≡ s1.0 = names in
     record {
-  sound = rw same (sound_start s1.0 o.0);
-  opponent_ascii = ascii-words opponent o.1;
-  colour_ascii = mark_ascii colour s2.0 s2.1 (by_cases (is_ascii s2.0) (λ h. none_some (cell_of s1.0 s2.0 s3.0) cell (far_colour s1.0 s2.0 s3.0 h) s3.2));
-  result_ascii = mark_ascii result s3.0 s3.1 (by_cases (is_ascii s3.0) (λ h. none_some (cell_of s1.0 s2.0 s3.0) cell (far_result s1.0 s2.0 s3.0 h) s3.2));
-}
+      sound = rw same (sound_start s1.0 o.0);
+      opponent_ascii = ascii-words opponent o.1;
+      colour_ascii = mark_ascii colour s2.0 s2.1 (by_cases (is_ascii s2.0) (λ h. none_some (cell_of s1.0 s2.0 s3.0) cell (far_colour s1.0 s2.0 s3.0 h) s3.2));
+      result_ascii = mark_ascii result s3.0 s3.1 (by_cases (is_ascii s3.0) (λ h. none_some (cell_of s1.0 s2.0 s3.0) cell (far_result s1.0 s2.0 s3.0 h) s3.2));
+    }
 
 pub ascii-blank : (bytes : List ℕ) → is_blank bytes ≡ true → list_all is_ascii bytes ≡ true
 ascii-blank [] h = refl
@@ -407,8 +414,8 @@ pub round_ascii : (cols : List (List ℕ)) (cell : Cell) → IsRound cols cell �
 round_ascii cols cell r h =
     let f = fields_are (text cols 1 4) (text cols 6 6) (text cols 8 8) cell r.read in
     ascii_from 0 4 cols f.opponent_ascii (ascii_from 4 1 cols (ascii-blank (text cols 5 5) r.blank5) (ascii_from 5 1 cols f.colour_ascii
-      (ascii_from 6 1 cols (ascii-blank (text cols 7 7) r.blank7) (ascii_from 7 1 cols f.result_ascii
-      (ascii_from 8 1 cols (ascii-blank (text cols 9 9) r.blank9) (ascii_from 9 1 cols (ascii-blank (text cols 10 10) r.blank10) h))))))
+    (ascii_from 6 1 cols (ascii-blank (text cols 7 7) r.blank7) (ascii_from 7 1 cols f.result_ascii
+    (ascii_from 8 1 cols (ascii-blank (text cols 9 9) r.blank9) (ascii_from 9 1 cols (ascii-blank (text cols 10 10) r.blank10) h))))))
 
 -- what is known of rounds that were read
 pub record WereRounds (line : List (List ℕ)) (before more : ℕ) (cells : List Cell) : Type 0 where
@@ -432,7 +439,7 @@ rounds_were n line before (suc more) cells e =
     let f = fields_are (text cols 1 4) (text cols 6 6) (text cols 8 8) first.0 here.read in
     let sum : before + suc more ≡ before + 1 + more = omega arith in
     record {
-  count = rw (← same) (ap suc others.count);
-  sound = rw (← same) (and_from (is_sound first.0) (list_all is_sound then.0) f.sound others.sound);
-  ascii = rw sum (λ h. round_ascii cols first.0 here (rw (next_columns line before) at (others.ascii h)));
-}
+      count = rw (← same) (ap suc others.count);
+      sound = rw (← same) (and_from (is_sound first.0) (list_all is_sound then.0) f.sound others.sound);
+      ascii = rw sum (λ h. round_ascii cols first.0 here (rw (next_columns line before) at (others.ascii h)));
+    }

@@ -1,10 +1,10 @@
 -- The lines of a text that is put together from lines, and whether it is UTF-8.
-use Rattle.std.proofs.Common.{◌≡◌, ◌≢◌, ℕ, zero, suc, ◌+◌, ◌-◌, ◌*◌, ◌<◌, ◌≤◌, Bool, true, false, not, ◌&&◌, ◌||◌, ◌==◌, cond, get_or, List, [], ◌∷◌, ◌++◌, length, take, drop, map, refl, sym, ap, ◌∙◌, append_assoc, arith, subst, ◌⊎◌, inl, inr}
+use Rattle.std.proofs.Common.{◌≡◌, ℕ, ◌+◌, ◌<◌, Bool, true, false, not, ◌&&◌, ◌==◌, cond, get_or, List, [], ◌∷◌, ◌++◌, length, take, drop, refl, sym, ap, ◌∙◌, append_assoc, arith, subst, ◌⊎◌, inl, inr}
 use Rattle.std.specs.List.{list_all}
 use Rattle.std.specs.Char.{is_ascii}
 use Rattle.std.specs.Str.{is_utf8, IsUtf8}
-use Rattle.std.proofs.lemmas.Bool.{and_parts, and_from, true≢false, ltb-true, eqb-true, and_left}
-use Rattle.std.proofs.lemmas.Bool.Decides.{nat_tests, eqb_tells}
+use Rattle.std.proofs.lemmas.Bool.{and_parts, and_from, true≢false, ltb-true, eqb-true}
+use Rattle.std.proofs.lemmas.Bool.Decides.{nat_tests}
 use Rattle.std.proofs.lemmas.List.{take_at, drop_at, append-nil, length-append, get_or_at}
 use Rattle.std.proofs.lemmas.Str.{is_utf8-from_IsUtf8, IsUtf8-from_is_utf8, IsUtf8-append, IsUtf8-nil, IsUtf8-take, IsUtf8-drop, IsCharBoundary-before_ascii, IsCharBoundary-after_ascii, IsUtf8-from_ascii}
 use Rattle.std.proofs.lemmas.Str.Ascii.{IsAscii-cons, IsAscii-nil}
@@ -24,18 +24,18 @@ utf8_split xs c ys ascii =
     let within : length xs < length whole = omega (arith, length-append xs (c ∷ ys)) in
     let below : get_or whole (length xs) 0 < 128 = rw here small in
     let to : is_utf8 whole ≡ true → (is_utf8 xs && is_utf8 ys) ≡ true = λ h.
-        let u : IsUtf8 whole = IsUtf8-from_is_utf8 whole h in
-        let front : IsUtf8 (take (length xs) whole) = IsUtf8-take whole (length xs) u (IsCharBoundary-before_ascii whole (length xs) within below) in
-        let back : IsUtf8 (drop (length xs + 1) whole) = IsUtf8-drop whole (length xs + 1) u (IsCharBoundary-after_ascii whole (length xs) u within below) in
-        let same : xs ++ c ∷ ys ≡ (xs ++ c ∷ []) ++ ys = sym (append_assoc xs (c ∷ []) ys) in
-        let behind : drop (length xs + 1) whole ≡ ys =
-            ap (λ (bs : List ℕ). drop (length xs + 1) bs) same ∙ drop_at (xs ++ c ∷ []) ys (length xs + 1) (length-append xs (c ∷ [])) in
-        and_from (is_utf8 xs) (is_utf8 ys)
-          (is_utf8-from_IsUtf8 xs (subst IsUtf8 (take_at xs (c ∷ ys) (length xs) refl) front)) (is_utf8-from_IsUtf8 ys (subst IsUtf8 behind back)) in
+    let u : IsUtf8 whole = IsUtf8-from_is_utf8 whole h in
+    let front : IsUtf8 (take (length xs) whole) = IsUtf8-take whole (length xs) u (IsCharBoundary-before_ascii whole (length xs) within below) in
+    let back : IsUtf8 (drop (length xs + 1) whole) = IsUtf8-drop whole (length xs + 1) u (IsCharBoundary-after_ascii whole (length xs) u within below) in
+    let same : xs ++ c ∷ ys ≡ (xs ++ c ∷ []) ++ ys = sym (append_assoc xs (c ∷ []) ys) in
+    let behind : drop (length xs + 1) whole ≡ ys =
+    ap (λ (bs : List ℕ). drop (length xs + 1) bs) same ∙ drop_at (xs ++ c ∷ []) ys (length xs + 1) (length-append xs (c ∷ [])) in
+    and_from (is_utf8 xs) (is_utf8 ys)
+    (is_utf8-from_IsUtf8 xs (subst IsUtf8 (take_at xs (c ∷ ys) (length xs) refl) front)) (is_utf8-from_IsUtf8 ys (subst IsUtf8 behind back)) in
     let from : (is_utf8 xs && is_utf8 ys) ≡ true → is_utf8 whole ≡ true = λ h.
-        let both = and_parts (is_utf8 xs) (is_utf8 ys) h in
-        let one : IsUtf8 (c ∷ []) = IsUtf8-from_ascii (c ∷ []) (IsAscii-cons c [] small IsAscii-nil) in
-        is_utf8-from_IsUtf8 whole (IsUtf8-append xs (c ∷ ys) (IsUtf8-from_is_utf8 xs both.0) (IsUtf8-append (c ∷ []) ys one (IsUtf8-from_is_utf8 ys both.1))) in
+    let both = and_parts (is_utf8 xs) (is_utf8 ys) h in
+    let one : IsUtf8 (c ∷ []) = IsUtf8-from_ascii (c ∷ []) (IsAscii-cons c [] small IsAscii-nil) in
+    is_utf8-from_IsUtf8 whole (IsUtf8-append xs (c ∷ ys) (IsUtf8-from_is_utf8 xs both.0) (IsUtf8-append (c ∷ []) ys one (IsUtf8-from_is_utf8 ys both.1))) in
     same_truth (is_utf8 whole) (is_utf8 xs && is_utf8 ys) to from
 
 pub utf8_nil : is_utf8 [] ≡ true
@@ -144,7 +144,7 @@ utf8_onto front (b ∷ []) = by (ends_line b) refl
     by false e = sym (and_true (is_utf8 (front ++ b ∷ [])))
 utf8_onto front (b ∷ c ∷ rest) =
     by ((b == 13) && (c == 10)) (ends_line b) refl refl (utf8_onto [] rest ∙ from_onto (lines rest)) (utf8_onto [] (c ∷ rest) ∙ from_onto (lines (c ∷ rest)))
-      (utf8_onto (front ++ b ∷ []) (c ∷ rest))
+    (utf8_onto (front ++ b ∷ []) (c ∷ rest))
   where
     by : (pair ends : Bool) → ((b == 13) && (c == 10)) ≡ pair → ends_line b ≡ ends → is_utf8 rest ≡ are_utf8 (lines rest) → is_utf8 (c ∷ rest) ≡ are_utf8 (lines (c ∷ rest))
         → is_utf8 ((front ++ b ∷ []) ++ c ∷ rest) ≡ are_utf8 (onto (front ++ b ∷ []) (lines (c ∷ rest)))
@@ -204,6 +204,7 @@ lines-front (b ∷ c ∷ rest) first others e = by ((b == 13) && (c == 10)) (end
   where
     empty : (more : List (List ℕ)) → [] ∷ more ≡ first ∷ others → (rest' : List ℕ) × (b ∷ c ∷ rest ≡ first ++ rest')
     empty more e = let same : [] ≡ first = cc in (b ∷ c ∷ rest, ap (λ (bs : List ℕ). bs ++ b ∷ c ∷ rest) same)
+
     by : (pair ends : Bool) → cond pair ([] ∷ lines rest) (cond ends ([] ∷ lines (c ∷ rest)) (onto_first b (lines (c ∷ rest)))) ≡ first ∷ others
         → ((first' : List ℕ) (others' : List (List ℕ)) → lines (c ∷ rest) ≡ first' ∷ others' → (rest' : List ℕ) × (c ∷ rest ≡ first' ++ rest'))
         → (rest' : List ℕ) × (b ∷ c ∷ rest ≡ first ++ rest')
