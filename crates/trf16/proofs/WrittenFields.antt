@@ -6,7 +6,9 @@ use Rattle.std.specs.Str.{is_utf8}
 use Rattle.std.proofs.lemmas.Bool.{and_parts, and_from, eqb-true}
 use Rattle.std.proofs.lemmas.Bool.Decides.{nat_tests}
 use Rattle.std.proofs.lemmas.List.{length-append, length-replicate, length-take, take-append-drop, drop-drop}
+use Rattle.std.proofs.lemmas.Option.{none-some}
 use Rattle.std.proofs.lemmas.List.Folds.{list_all-append as all-append}
+use Rattle.std.proofs.Math.Bool.{and-true}
 use Rattle.trf16.specs.Lines.{columns, joined, is_blank}
 use Rattle.trf16.specs.Fields.{words, number_in, half_after, points_after, points_of, points_in, without_last, trimmed}
 use Rattle.trf16.specs.Written.{blanks, left_in, points_field}
@@ -23,14 +25,10 @@ without_last-all : {X : Type 0} (test : X → Bool) (xs : List X) → list_all t
 without_last-all test [] h = refl
 without_last-all test (x ∷ xs) h = rw h refl
 
-and_true : (b : Bool) → (b && true) ≡ b
-and_true true = refl
-and_true false = refl
-
 pub without_last-append : {X : Type 0} (test : X → Bool) (xs ys : List X) → list_all test ys ≡ true → without_last test (xs ++ ys) ≡ without_last test xs
 without_last-append test [] ys h = without_last-all test ys h
 without_last-append test (x ∷ xs) ys h =
-    rw (all-append test xs ys, h, and_true (list_all test xs), without_last-append test xs ys h) refl
+    rw (all-append test xs ys, h, and-true (list_all test xs), without_last-append test xs ys h) refl
 
 list_all-without_last : {X : Type 0} (test : X → Bool) (xs : List X) → list_all test (without_last test xs) ≡ list_all test xs
 list_all-without_last test [] = refl
@@ -186,9 +184,6 @@ digit_ascii b h = grind (arith, nat_tests)
 point_ascii : (b : ℕ) → ((b == 46) || (b == 44)) ≡ true → is_ascii b ≡ true
 point_ascii b h = grind (arith, nat_tests)
 
-none_some : {A : Type 0} (x : A) → None ≡ Some x → ⊥
-none_some x e = cc
-
 half_ascii : (whole : ℕ) (rest : List ℕ) (points : ℕ) → half_after whole rest ≡ Some points → list_all is_ascii rest ≡ true
 half_ascii whole [] points e = refl
 half_ascii whole (d ∷ []) points e = by (d == 48) (d == 53) refl refl e
@@ -197,8 +192,8 @@ half_ascii whole (d ∷ []) points e = by (d == 48) (d == 53) refl refl e
         → list_all is_ascii (d ∷ []) ≡ true
     by true five is is' e = let same : d ≡ 48 = eqb-true d 48 is in rw same refl
     by false true is is' e = let same : d ≡ 53 = eqb-true d 53 is' in rw same refl
-    by false false is is' e = absurd (none_some points e)
-half_ascii whole (d ∷ c ∷ rest) points e = absurd (none_some points e)
+    by false false is is' e = absurd (none-some points e)
+half_ascii whole (d ∷ c ∷ rest) points e = absurd (none-some points e)
 
 points_ascii : (whole : ℕ) (word : List ℕ) (points : ℕ) → points_after whole word ≡ Some points → list_all is_ascii word ≡ true
 points_ascii whole [] points e = refl
@@ -210,31 +205,31 @@ points_ascii whole (b ∷ rest) points e =
         → (points_after (10 * whole + (b - 48)) rest ≡ Some points → list_all is_ascii rest ≡ true) → list_all is_ascii (b ∷ rest) ≡ true
     by true point is is' e again = ascii_both b rest (digit_ascii b is) (again e)
     by false true is is' e again = ascii_both b rest (point_ascii b is') (half_ascii whole rest points e)
-    by false false is is' e again = absurd (none_some points e)
+    by false false is is' e again = absurd (none-some points e)
 
 points_of-ascii : (word : List ℕ) (points : ℕ) → points_of word ≡ Some points → list_all is_ascii word ≡ true
 points_of-ascii word points e = by (nat_le 1 (length word) && nat_le (length word) 4) e
   where
     by : (b : Bool) → cond b (points_after 0 word) None ≡ Some points → list_all is_ascii word ≡ true
     by true e = points_ascii 0 word points e
-    by false e = absurd (none_some points e)
+    by false e = absurd (none-some points e)
 
 points_words : (all : List (List ℕ)) (points : Option ℕ) → points_in all ≡ Some points → list_all (λ word. list_all is_ascii word) all ≡ true
 points_words [] points e = refl
 points_words (word ∷ []) points e =
     let s = then_some (points_of word) (λ p. Some (Some p)) points e in
     and_from (list_all is_ascii word) true (points_of-ascii word s.0 s.1) refl
-points_words (word ∷ word' ∷ all) points e = absurd (none_some points e)
+points_words (word ∷ word' ∷ all) points e = absurd (none-some points e)
 
 pub ascii-points : (field : List ℕ) (points : Option ℕ) → points_in (words field) ≡ Some points → list_all is_ascii field ≡ true
 ascii-points field points e = ascii-words field (points_words (words field) points e)
 
 number_words : (all : List (List ℕ)) (n : ℕ) → number_in all ≡ Some n → (n < 10000) × (list_all (λ word. list_all is_ascii word) all ≡ true)
-number_words [] n e = absurd (none_some n e)
+number_words [] n e = absurd (none-some n e)
 number_words (word ∷ []) n e =
     let w = number_is word n e in
     (w.below, and_from (list_all is_ascii word) true (ascii-digits word w.digits) refl)
-number_words (word ∷ word' ∷ all) n e = absurd (none_some n e)
+number_words (word ∷ word' ∷ all) n e = absurd (none-some n e)
 
 pub ascii-number : (field : List ℕ) (n : ℕ) → number_in (words field) ≡ Some n → (n < 10000) × (list_all is_ascii field ≡ true)
 ascii-number field n e = let w = number_words (words field) n e in (w.0, ascii-words field w.1)

@@ -9,6 +9,7 @@ use Rattle.std.specs.Str.{is_utf8, bytes_eq}
 use Rattle.std.proofs.lemmas.Bool.{and_parts, true≢false}
 use Rattle.std.proofs.lemmas.List.{append-nil, length-append, drop-drop, drop_at, drop_all}
 use Rattle.std.proofs.lemmas.Slice.Eq.{bytes_eq-Decides}
+use Rattle.std.proofs.Math.Bool.{and-true}
 use Rattle.trf16.specs.Lines.{columns, joined, text, is_blank}
 use Rattle.trf16.specs.Fields.{words, number_in, points_in, without_last, trimmed}
 use Rattle.trf16.specs.Cells.{cell_from}
@@ -311,11 +312,7 @@ nil_no_column utf8 e = differ e
 
 join_columns : (utf8 : Bool) (left : List ℕ) (cols : List (List ℕ)) → AreColumns utf8 cols → list_all is_ascii (joined (take 4 cols)) ≡ true
     → is_utf8 (left ++ joined cols) ≡ (is_utf8 left && is_utf8 (joined cols))
-join_columns utf8 left [] are h = ap is_utf8 (append-nil left) ∙ sym (ap (λ b. is_utf8 left && b) utf8_nil ∙ and_true (is_utf8 left))
-  where
-    and_true : (b : Bool) → (b && true) ≡ b
-    and_true true = refl
-    and_true false = refl
+join_columns utf8 left [] are h = ap is_utf8 (append-nil left) ∙ sym (ap (λ b. is_utf8 left && b) utf8_nil ∙ and-true (is_utf8 left))
 join_columns utf8 left ([] ∷ cols) are h = absurd (nil_no_column utf8 are.0.one)
 join_columns utf8 left ((c ∷ column) ∷ cols) are h =
     let ascii = (and_parts (is_ascii c) (list_all is_ascii (column ++ joined (take 3 cols))) h).0 in

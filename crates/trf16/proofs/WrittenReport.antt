@@ -1,4 +1,12 @@
 -- The canonical text of a report that was read reads back as that report.
+--
+-- The lines that were read have a copy, line by line: a line that is carried is its own copy, and that of a player's line is the
+-- text of the player. `Copies` says what the copy keeps: it reads on to the same report, as the same start ranks stand in front of
+-- each line; the same lines are carried; none is too long; it is UTF-8 where the lines are; and the canonical text falls into it.
+-- The rules on two players, the sums and the sizes speak of the report alone, so they hold again. They are used once: a points
+-- field that is accepted is below 100 points, and only such a field fits into its four columns (`small_points`).
+-- A new field of a player's line wants: what its reading tells (`was_player`), its columns (`written_player`), and that the
+-- reading finds it there (`IsPlayer`, in both directions).
 use Rattle.std.proofs.Common.{◌≡◌, ℕ, ◌+◌, ◌*◌, ◌<◌, ◌≤◌, Bool, true, false, ◌&&◌, ◌||◌, ◌==◌, nat_lt, cond, List, [], ◌∷◌, ◌++◌, length, take, map, refl, sym, ap, ◌∙◌, append_assoc, arith, subst, inl, inr, Option, Some, None, Result, Ok, Err}
 use Rattle.std.specs.Prelude.{codes, sum_by, is_some}
 use Rattle.std.specs.List.{list_all}

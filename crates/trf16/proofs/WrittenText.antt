@@ -8,6 +8,7 @@ use Rattle.std.proofs.lemmas.Bool.Decides.{nat_tests}
 use Rattle.std.proofs.lemmas.List.{take_at, drop_at, append-nil, length-append, get_or_at}
 use Rattle.std.proofs.lemmas.Str.{is_utf8-from_IsUtf8, IsUtf8-from_is_utf8, IsUtf8-append, IsUtf8-nil, IsUtf8-take, IsUtf8-drop, IsCharBoundary-before_ascii, IsCharBoundary-after_ascii, IsUtf8-from_ascii}
 use Rattle.std.proofs.lemmas.Str.Ascii.{IsAscii-cons, IsAscii-nil}
+use Rattle.std.proofs.Math.Bool.{and-true}
 use Rattle.trf16.specs.Lines.{ends_line, onto_first, lines, without_marks}
 
 same_truth : (a b : Bool) → (a ≡ true → b ≡ true) → (b ≡ true → a ≡ true) → a ≡ b
@@ -41,10 +42,6 @@ utf8_split xs c ys ascii =
 pub utf8_nil : is_utf8 [] ≡ true
 utf8_nil = is_utf8-from_IsUtf8 [] IsUtf8-nil
 
-and_true : (b : Bool) → (b && true) ≡ b
-and_true true = refl
-and_true false = refl
-
 pub utf8_behind : (xs ys : List ℕ) → list_all is_ascii xs ≡ true → is_utf8 (xs ++ ys) ≡ is_utf8 ys
 utf8_behind [] ys h = refl
 utf8_behind (c ∷ xs) ys h =
@@ -58,7 +55,7 @@ pub utf8_front : (xs ys : List ℕ) → list_all is_ascii ys ≡ true → is_utf
 utf8_front xs [] h = ap is_utf8 (append-nil xs)
 utf8_front xs (c ∷ ys) h =
     let both = and_parts (is_ascii c) (list_all is_ascii ys) h in
-    utf8_split xs c ys both.0 ∙ rw (utf8_ascii ys both.1) (and_true (is_utf8 xs))
+    utf8_split xs c ys both.0 ∙ rw (utf8_ascii ys both.1) (and-true (is_utf8 xs))
 
 -- a byte that is no end of a line
 abbrev pub is_inside : ℕ → Bool
@@ -136,12 +133,12 @@ from_onto (first ∷ others) = refl
 -- a text is UTF-8 where its lines are
 utf8_onto : (front bytes : List ℕ) → is_utf8 (front ++ bytes) ≡ are_utf8 (onto front (lines bytes))
 unfolding onto
-utf8_onto front [] = ap is_utf8 (append-nil front) ∙ sym (and_true (is_utf8 front))
+utf8_onto front [] = ap is_utf8 (append-nil front) ∙ sym (and-true (is_utf8 front))
 utf8_onto front (b ∷ []) = by (ends_line b) refl
   where
     by : (ends : Bool) → ends_line b ≡ ends → is_utf8 (front ++ b ∷ []) ≡ are_utf8 (onto front (cond ends ([] ∷ []) ((b ∷ []) ∷ [])))
     by true e = utf8_split front b [] (end_ascii b e) ∙ rw (utf8_nil, append-nil front) refl
-    by false e = sym (and_true (is_utf8 (front ++ b ∷ [])))
+    by false e = sym (and-true (is_utf8 (front ++ b ∷ [])))
 utf8_onto front (b ∷ c ∷ rest) =
     by ((b == 13) && (c == 10)) (ends_line b) refl refl (utf8_onto [] rest ∙ from_onto (lines rest)) (utf8_onto [] (c ∷ rest) ∙ from_onto (lines (c ∷ rest)))
     (utf8_onto (front ++ b ∷ []) (c ∷ rest))
