@@ -11,6 +11,7 @@ pub mod fault;
 mod fields;
 mod grammar;
 pub mod kind;
+pub mod laws;
 mod lines;
 pub mod meetings;
 pub mod player;
