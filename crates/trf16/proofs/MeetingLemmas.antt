@@ -1,5 +1,5 @@
 -- What the rules on two players come to, where no fault was met.
-use Rattle.std.proofs.Common.{◌≡◌, ◌⊎◌, inl, inr, ℕ, zero, suc, Bool, true, false, not, cond, ◌&&◌, ◌||◌, ◌+◌, ◌-◌, ◌*◌, ◌≤◌, ◌<◌, nat_eq, nat_le, nat_lt, eqb, List, [], ◌∷◌, length, get_or, take, Option, Some, None, Result, Ok, Err, refl, sym, ap, subst, ◌∙◌, arith, Contains}
+use Rattle.std.proofs.Common.{◌≡◌, ◌⊎◌, inl, inr, ℕ, zero, suc, Bool, true, false, not, cond, ◌&&◌, ◌||◌, ◌+◌, ◌-◌, ◌≤◌, ◌<◌, nat_eq, nat_le, nat_lt, List, [], ◌∷◌, length, get_or, take, Option, Some, None, Result, Ok, Err, refl, ap, subst, arith}
 use Rattle.std.specs.Prelude.{IfSome, ◌==◌, sum_by}
 use Rattle.std.specs.Option.{option_map_or}
 use Rattle.std.proofs.lemmas.Bool.{eqb-true, eqb-false, ltb-true, leb-true, cases_lt}
@@ -10,7 +10,7 @@ use Rattle.trf16.specs.Sheet.{Entry, Sheet, known, cell_in, cells_of, half_point
 use Rattle.trf16.specs.Outcomes.{◌>>=◌}
 use Rattle.trf16.specs.Answering.{are_opposite, is_forfeit, are_of_one_class, has_other_points, pair_fits, cell_fits, cells_fit, points_fit, player_fits, players_fit}
 use Rattle.trf16.specs.Verdict.{verdict, report_of, lines_onto, sized, without_players, has_too_many_rounds}
-use Rattle.trf16.specs.Meetings.{IsAnswered, AnswerEachOther, AreSum, HavePoints}
+use Rattle.trf16.specs.Meetings.{AnswerEachOther, AreSum, HavePoints}
 use Rattle.trf16.specs.declared.cell.Cell.{Cell}
 use Rattle.trf16.specs.declared.cell.Cell.TheVariants.{Blank}
 use Rattle.trf16.specs.declared.fault.Excess.TheVariants.{Bytes}
@@ -162,7 +162,7 @@ answered bytes sheet e start round opponent from_one names =
     let within : round - 1 < length cells = inside (cases_lt (round - 1) (length cells)) in
     let place : 1 + (round - 1) ≡ round = omega arith in
     let here : cell_fits sheet start round (cell_in sheet start round) ≡ fits =
-        subst (λ r. cell_fits sheet start r (cell_in sheet start round) ≡ fits) place (cell_of-fit sheet start 1 cells (round - 1) within all) in
+    subst (λ r. cell_fits sheet start r (cell_in sheet start round) ≡ fits) place (cell_of-fit sheet start 1 cells (round - 1) within all) in
     let fit = cell_is sheet start round opponent (cell_in sheet start round) names here in
     record {
       player = fit.player;
@@ -175,6 +175,7 @@ answered bytes sheet e start round opponent from_one names =
   where
     blank : {X : Type 0} (o : Option X) (x : X) → o ≡ None → o ≡ Some x → ⊥
     blank o x none some = cc
+
     inside : (round - 1 < length (cells_of sheet.players start)) ⊎ (length (cells_of sheet.players start) ≤ round - 1) → round - 1 < length (cells_of sheet.players start)
     inside (inl lt) = lt
     inside (inr le) =
@@ -199,6 +200,7 @@ sums sheet entry points e = by (either_true _ _ e)
     one : ((points == sum_by half_points (take (rounds_played sheet) entry.cells)) ≡ true) ⊎ ((points == sum_by half_points entry.cells) ≡ true) → AreSum sheet entry points
     one (inl f) = inl (eqb-true _ _ f)
     one (inr f) = inr (inl (eqb-true _ _ f))
+
     by : (((points == sum_by half_points (take (rounds_played sheet) entry.cells)) || (points == sum_by half_points entry.cells)) ≡ true) ⊎ ((has_other_points sheet && nat_lt points 200) ≡ true)
         → AreSum sheet entry points
     by (inl f) = one (either_true _ _ f)
@@ -206,7 +208,7 @@ sums sheet entry points e = by (either_true _ _ e)
 
 points_is : (sheet : Sheet) (entry : Entry) (o : Option ℕ)
     → option_map_or (λ points. cond (((points == sum_by half_points (take (rounds_played sheet) entry.cells)) || (points == sum_by half_points entry.cells))
-        || (has_other_points sheet && nat_lt points 200)) (Ok (tt {0})) (Err (Points entry.start))) o (Ok (tt {0})) ≡ fits
+    || (has_other_points sheet && nat_lt points 200)) (Ok (tt {0})) (Err (Points entry.start))) o (Ok (tt {0})) ≡ fits
     → IfSome o (AreSum sheet entry)
 points_is sheet entry None e = tt
 points_is sheet entry (Some points) e = sums sheet entry points (kept _ (Points entry.start) (tt {0}) (tt {0}) e)

@@ -1,8 +1,7 @@
 -- What holds of an accepted report, in words of its own: who names whom, and what the points fields are.
-use Rattle.std.specs.Prelude.{◌≡◌, ◌⊎◌, ℕ, ◌+◌, ◌<◌, ◌≤◌, Bool, true, ◌&&◌, ◌||◌, List, Option, Some, Result, Ok, Contains, IfSome, sum_by, take}
+use Rattle.std.specs.Prelude.{◌≡◌, ◌⊎◌, ℕ, ◌+◌, ◌<◌, ◌≤◌, true, ◌&&◌, ◌||◌, Some, Contains, IfSome, sum_by, take}
 use Rattle.trf16.specs.Sheet.{Entry, Sheet, known, cell_in, half_points, opponent_in_cell, colour_in_cell, rounds_played}
 use Rattle.trf16.specs.Answering.{are_opposite, is_forfeit, are_of_one_class, has_other_points}
-use Rattle.trf16.specs.Verdict.{verdict}
 
 -- a player's opponent in a round is another player of the report, who names him in that round; their colours are opposite unless both
 -- results are forfeits, the results are of one class, and together they have at most 2 half points

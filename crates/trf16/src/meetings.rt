@@ -8,12 +8,10 @@ ghost use Rattle.trf16.specs.Verdict.{verdict};
 /// forfeits, results of one class, and together at most 2 half points.
 pub fn opponents_answer_each_other()
     ensures { (bytes : List ℕ) (sheet : Sheet) → verdict bytes ≡ Ok sheet → AnswerEachOther sheet }
-{
-}
+{}
 
 /// In an accepted report each points field that is not blank is one of the two sums of the player's points; where a line `XXS`
 /// stands, it may be any value under 100 points.
 pub fn points_are_sums()
     ensures { (bytes : List ℕ) (sheet : Sheet) → verdict bytes ≡ Ok sheet → HavePoints sheet }
-{
-}
+{}

@@ -6,7 +6,8 @@ use crate::read;
 use std::test::Fail;
 
 // Round 1: 1 beats 2, and 3 has the pairing-allocated bye. Round 2: 1 has half a point, 2 wins against 3 by forfeit. 3 does not play on.
-const REPORT: &[u8] = b"XXR 5\nxxc BLACK1\n012 An evening open\n001    1                                                                         1.5          2 w 1  0000 - H\n001    2                                                                                      1 b 0     3 w +\n001    3                                                                         1,0       0000 - U     2 b -  0000 - Z\nXXZ 2 9\n";
+const REPORT: &[u8] =
+    b"XXR 5\nxxc BLACK1\n012 An evening open\n001    1                                                                         1.5          2 w 1  0000 - H\n001    2                                                                                      1 b 0     3 w +\n001    3                                                                         1,0       0000 - U     2 b -  0000 - Z\nXXZ 2 9\n";
 
 #[test]
 fn players_and_cells(rt: HostRuntime) -> Result<(), Fail> {
@@ -66,6 +67,12 @@ fn first_fault(rt: HostRuntime) {
     let fault = |bytes: &[u8]| read(rt.alloc(), bytes).err();
     assert_eq!(rt; fault(b""), Some(Fault::NoPlayers));
     assert_eq!(rt; fault(b"001"), Some(Fault::BadNumber { line: 1 }));
-    assert_eq!(rt; fault(b"001    1\r\n001    1"), Some(Fault::Duplicate { line: 2 }));
-    assert_eq!(rt; fault(b"XXR 33\r001    1"), Some(Fault::TooMany(Excess::Rounds)));
+    assert_eq!(rt;
+        fault(b"001    1\r\n001    1"),
+        Some(Fault::Duplicate { line: 2 })
+    );
+    assert_eq!(rt;
+        fault(b"XXR 33\r001    1"),
+        Some(Fault::TooMany(Excess::Rounds))
+    );
 }
