@@ -4,7 +4,7 @@ use Rattle.std.specs.Fmt.{decimal}
 use Rattle.trf16.specs.declared.fault.Excess.{Excess}
 use Rattle.trf16.specs.declared.fault.Excess.TheVariants.{Bytes, Players, Rounds}
 use Rattle.trf16.specs.declared.fault.Fault.{Fault}
-use Rattle.trf16.specs.declared.fault.Fault.TheVariants.{BadNumber, Duplicate, Misaligned, BadCell, TooMany, NoPlayers, OutOfMemory}
+use Rattle.trf16.specs.declared.fault.Fault.TheVariants.{BadNumber, Duplicate, Misaligned, BadCell, BadExtension, TooMany, NoPlayers, NoSuchOpponent, SelfOpponent, NotMutual, Colours, Results, Points, OutOfMemory}
 
 -- what a report has too much of
 abbrev pub excess_text : Excess → List ℕ
@@ -24,14 +24,25 @@ read_text = codes "device: read failed\n"
 abbrev pub write_text : List ℕ
 write_text = codes "device: write failed\n"
 
+-- what does not fit in a round of a player
+abbrev pub round_text : ℕ → ℕ → List ℕ → List ℕ
+round_text player round what = codes "refused: player " ++ (decimal player ++ (codes " round " ++ (decimal round ++ what)))
+
 -- why a report is refused
 abbrev pub fault_text : Fault → List ℕ
 fault_text (BadNumber line) = codes "refused: line " ++ (decimal line ++ codes ": bad number\n")
 fault_text (Duplicate line) = codes "refused: line " ++ (decimal line ++ codes ": duplicate\n")
 fault_text (Misaligned line column) = codes "refused: line " ++ (decimal line ++ (codes ": column " ++ (decimal column ++ codes " must be blank\n")))
 fault_text (BadCell line round) = codes "refused: line " ++ (decimal line ++ (codes ": round " ++ (decimal round ++ codes ": bad cell\n")))
+fault_text (BadExtension line) = codes "refused: line " ++ (decimal line ++ codes ": bad extension\n")
 fault_text (TooMany excess) = excess_text excess
 fault_text NoPlayers = codes "refused: no players\n"
+fault_text (NoSuchOpponent player round) = round_text player round (codes ": no such opponent\n")
+fault_text (SelfOpponent player round) = round_text player round (codes ": own opponent\n")
+fault_text (NotMutual player round) = round_text player round (codes ": not mutual\n")
+fault_text (Colours player round) = round_text player round (codes ": colours\n")
+fault_text (Results player round) = round_text player round (codes ": results\n")
+fault_text (Points player) = codes "refused: player " ++ (decimal player ++ codes ": points\n")
 fault_text OutOfMemory = memory_text
 
 -- a report is accepted: how many players it has, and how many rounds were paired

@@ -25,8 +25,25 @@ pub fn refused(alloc: Global, fault: Fault) -> Result<String, AllocError>
         Fault::BadCell { line, round } => {
             format!(in alloc; "refused: line {line}: round {round}: bad cell\n")
         }
+        Fault::BadExtension { line } => format!(in alloc; "refused: line {line}: bad extension\n"),
         Fault::TooMany(excess) => too_many(alloc, excess),
         Fault::NoPlayers => String::from_str(alloc, "refused: no players\n"),
+        Fault::NoSuchOpponent { player, round } => {
+            format!(in alloc; "refused: player {player} round {round}: no such opponent\n")
+        }
+        Fault::SelfOpponent { player, round } => {
+            format!(in alloc; "refused: player {player} round {round}: own opponent\n")
+        }
+        Fault::NotMutual { player, round } => {
+            format!(in alloc; "refused: player {player} round {round}: not mutual\n")
+        }
+        Fault::Colours { player, round } => {
+            format!(in alloc; "refused: player {player} round {round}: colours\n")
+        }
+        Fault::Results { player, round } => {
+            format!(in alloc; "refused: player {player} round {round}: results\n")
+        }
+        Fault::Points { player } => format!(in alloc; "refused: player {player}: points\n"),
         Fault::OutOfMemory => String::from_str(alloc, "memory: refused\n"),
     }
 }

@@ -3,3 +3,4 @@ pub mod ColumnLemmas
 pub mod FieldLemmas
 pub mod ReadingLemmas
 pub mod ReportLemmas
+pub mod AnsweringLemmas

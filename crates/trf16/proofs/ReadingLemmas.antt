@@ -1,15 +1,18 @@
 -- Reading one thing after the other, as a loop does.
 use Rattle.std.proofs.Common.{◌≡◌, ℕ, Bool, true, false, cond, ◌||◌, ◌&&◌, suc, ◌-◌, ◌+◌, ◌≤◌, ◌<◌, List, [], ◌∷◌, ◌++◌, length, Result, Ok, Err, refl, sym, ap, ◌∙◌, append_assoc, arith}
-use Rattle.std.specs.Prelude.{MatchResult, is_ok}
+use Rattle.std.specs.Prelude.{MatchResult, is_ok, is_some, codes, Some}
+use Rattle.std.specs.Option.{ok_or}
+use Rattle.trf16.specs.Extensions.{is_kind, words_of, rounds_in, colour_in, are_start_ranks}
 use Rattle.std.specs.Str.{is_utf8, IsUtf8}
 use Rattle.std.proofs.lemmas.Str.{is_utf8-from_IsUtf8, IsUtf8-from_is_utf8}
 use Rattle.std.proofs.lemmas.List.{append-nil}
 use Rattle.trf16.specs.declared.cell.Cell.{Cell}
 use Rattle.trf16.specs.declared.fault.Fault.{Fault}
-use Rattle.trf16.specs.declared.fault.Fault.TheVariants.{BadNumber, Duplicate, Misaligned, BadCell, TooMany, NoPlayers, OutOfMemory}
-use Rattle.trf16.specs.Verdict.{◌>>=◌, Fails, round_at, rounds_at, player_at, is_player, is_too_long, line_onto, lines_onto, has_too_many_rounds}
+use Rattle.trf16.specs.declared.fault.Fault.TheVariants.{BadNumber, Duplicate, Misaligned, BadCell, BadExtension, TooMany, NoPlayers, NoSuchOpponent, SelfOpponent, NotMutual, Colours, Results, Points, OutOfMemory}
+use Rattle.trf16.specs.Verdict.{round_at, rounds_at, player_at, is_player, is_too_long, player_onto, rounds_onto, colour_onto, absence_onto, line_onto, lines_onto, has_too_many_rounds}
 use Rattle.trf16.specs.Sheet.{Entry, Sheet, with_player}
 use Rattle.trf16.specs.Lines.{columns}
+use Rattle.trf16.specs.Outcomes.{◌>>=◌, Fails}
 
 -- what was read before, and what is still read
 abbrev pub behind : List Cell → Result (List Cell) Fault → Result (List Cell) Fault
@@ -25,6 +28,13 @@ Fails-on (Misaligned n k) first whole on h = on (Misaligned n k) h
 Fails-on (BadCell n r) first whole on h = on (BadCell n r) h
 Fails-on (TooMany what) first whole on h = on (TooMany what) h
 Fails-on NoPlayers first whole on h = on NoPlayers h
+Fails-on (BadExtension n) first whole on h = on (BadExtension n) h
+Fails-on (NoSuchOpponent p r) first whole on h = on (NoSuchOpponent p r) h
+Fails-on (SelfOpponent p r) first whole on h = on (SelfOpponent p r) h
+Fails-on (NotMutual p r) first whole on h = on (NotMutual p r) h
+Fails-on (Colours p r) first whole on h = on (Colours p r) h
+Fails-on (Results p r) first whole on h = on (Results p r) h
+Fails-on (Points p) first whole on h = on (Points p) h
 
 regroup : (front : List Cell) (cell : Cell) (read : Result (List Cell) Fault)
     → behind front (read >>= λ others. Ok (cell ∷ others)) ≡ behind (front ++ cell ∷ []) read
@@ -67,17 +77,61 @@ differ : (fault : Fault) (next : Sheet) → failed fault ≡ done next → ⊥
 unfolding done failed
 differ fault next e = cc
 
-keeps_columns : (sheet next : Sheet) (named : Bool) (read : Result Entry Fault)
-    → cond named (read >>= λ entry. Ok (with_player sheet entry)) (Ok sheet) ≡ Ok next → next.utf8 ≡ sheet.utf8
+same_sheet : (sheet next : Sheet) → done sheet ≡ done next → sheet ≡ next
+unfolding done
+same_sheet sheet next e = cc
+
+-- a step that changes a sheet by `change` only, and keeps what a column is
+stays_so : {X : Type 0} (sheet next : Sheet) (change : X → Sheet) (read : Result X Fault) → ((x : X) → (change x).utf8 ≡ sheet.utf8)
+    → (read >>= λ x. Ok (change x)) ≡ Ok next → next.utf8 ≡ sheet.utf8
 unfolding done failed
-keeps_columns sheet next true (Ok entry) e = let same : with_player sheet entry ≡ next = cc in sym (ap (λ (s : Sheet). s.utf8) same)
-keeps_columns sheet next true (Err fault) e = absurd (differ fault next e)
-keeps_columns sheet next false read e = let same : sheet ≡ next = cc in sym (ap (λ (s : Sheet). s.utf8) same)
+stays_so sheet next change (Ok x) keeps e = ap (λ (s : Sheet). s.utf8) (sym (same_sheet (change x) next e)) ∙ keeps x
+stays_so sheet next change (Err fault) keeps e = absurd (differ fault next e)
+
+player_onto-utf8 : (sheet : Sheet) (n : ℕ) (line : List (List ℕ)) (next : Sheet) → player_onto sheet n line ≡ Ok next → next.utf8 ≡ sheet.utf8
+unfolding player_onto
+player_onto-utf8 sheet n line next e = stays_so sheet next (with_player sheet) (player_at sheet n line) (λ x. refl) e
+
+colour_onto-utf8 : (sheet : Sheet) (n : ℕ) (line : List (List ℕ)) (next : Sheet) → colour_onto sheet n line ≡ Ok next → next.utf8 ≡ sheet.utf8
+unfolding colour_onto
+colour_onto-utf8 sheet n line next e =
+    stays_so sheet next (λ initial. record sheet { initial = initial }) (ok_or (colour_in sheet.initial (words_of line)) (BadExtension n)) (λ x. refl) e
+
+rounds_named : (sheet next : Sheet) (n : ℕ) (named : Bool) (read : Result ℕ Fault)
+    → (read >>= λ rounds. cond named (Err (Duplicate n)) (Ok (record sheet { total = Some rounds }))) ≡ Ok next → next.utf8 ≡ sheet.utf8
+unfolding done failed
+rounds_named sheet next n true (Ok rounds) e = absurd (differ (Duplicate n) next e)
+rounds_named sheet next n false (Ok rounds) e = ap (λ (s : Sheet). s.utf8) (sym (same_sheet (record sheet { total = Some rounds }) next e))
+rounds_named sheet next n named (Err fault) e = absurd (differ fault next e)
+
+rounds_onto-utf8 : (sheet : Sheet) (n : ℕ) (line : List (List ℕ)) (next : Sheet) → rounds_onto sheet n line ≡ Ok next → next.utf8 ≡ sheet.utf8
+unfolding rounds_onto
+rounds_onto-utf8 sheet n line next e = rounds_named sheet next n (is_some sheet.total) (ok_or (rounds_in (words_of line)) (BadExtension n)) e
+
+absence_named : (sheet next : Sheet) (n : ℕ) (fits : Bool) → cond fits (Ok sheet) (Err (BadExtension n)) ≡ Ok next → next.utf8 ≡ sheet.utf8
+unfolding done failed
+absence_named sheet next n true e = ap (λ (s : Sheet). s.utf8) (sym (same_sheet sheet next e))
+absence_named sheet next n false e = absurd (differ (BadExtension n) next e)
+
+absence_onto-utf8 : (sheet : Sheet) (n : ℕ) (line : List (List ℕ)) (next : Sheet) → absence_onto sheet n line ≡ Ok next → next.utf8 ≡ sheet.utf8
+unfolding absence_onto
+absence_onto-utf8 sheet n line next e = absence_named sheet next n (are_start_ranks (words_of line)) e
+
+by_kind : (sheet : Sheet) (n : ℕ) (line : List (List ℕ)) (next : Sheet) (player rounds colour absence : Bool)
+    → cond player (player_onto sheet n line) (cond rounds (rounds_onto sheet n line) (cond colour (colour_onto sheet n line)
+        (cond absence (absence_onto sheet n line) (Ok sheet)))) ≡ Ok next → next.utf8 ≡ sheet.utf8
+unfolding done
+by_kind sheet n line next true rounds colour absence e = player_onto-utf8 sheet n line next e
+by_kind sheet n line next false true colour absence e = rounds_onto-utf8 sheet n line next e
+by_kind sheet n line next false false true absence e = colour_onto-utf8 sheet n line next e
+by_kind sheet n line next false false false true e = absence_onto-utf8 sheet n line next e
+by_kind sheet n line next false false false false e = ap (λ (s : Sheet). s.utf8) (sym (same_sheet sheet next e))
 
 -- what a line adds does not change what a column is
 pub line_onto-utf8 : (sheet : Sheet) (n : ℕ) (line : List (List ℕ)) (next : Sheet) → line_onto sheet n line ≡ Ok next → next.utf8 ≡ sheet.utf8
 unfolding line_onto
-line_onto-utf8 sheet n line next e = keeps_columns sheet next (is_player line) (player_at sheet n line) e
+line_onto-utf8 sheet n line next e =
+    by_kind sheet n line next (is_player line) (is_kind (codes "XXR") line) (is_kind (codes "XXC") line) (is_kind (codes "XXZ") line) e
 
 pub lines-go_on : (sheet next : Sheet) (n : ℕ) (line : List ℕ) (rest : List (List ℕ)) → line_onto sheet n (columns sheet.utf8 line) ≡ Ok next
     → lines_onto sheet n (line ∷ rest) ≡ lines_onto next (n + 1) rest

@@ -2,6 +2,11 @@ pub mod Devices
 pub mod Lines
 pub mod Fields
 pub mod Cells
+pub mod Outcomes
+pub mod Extensions
 pub mod Sheet
+pub mod Answering
 pub mod Verdict
+pub mod Absence
+pub mod Written
 pub mod Steps

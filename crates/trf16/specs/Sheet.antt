@@ -1,7 +1,11 @@
 -- What a report says: its lines that are carried, and its players.
-use Rattle.std.specs.Prelude.{ℕ, ◌+◌, ◌-◌, Bool, true, false, ◌==◌, nat_lt, max, if◌then◌else◌, List, [], ◌∷◌, ◌++◌, Option, None, slice_index_or}
+use Rattle.std.specs.Prelude.{ℕ, ◌+◌, ◌-◌, Bool, true, false, ◌==◌, nat_lt, max, if◌then◌else◌, List, [], ◌∷◌, ◌++◌, Option, None, Some, slice_index_or, take, sum_by}
 use Rattle.std.specs.List.{list_any}
 use Rattle.trf16.specs.declared.player.Player.{Player}
+use Rattle.trf16.specs.declared.cell.Colour.{Colour}
+use Rattle.trf16.specs.declared.cell.Outcome.{Outcome}
+use Rattle.trf16.specs.declared.cell.Outcome.TheVariants.{Win, Draw, Loss}
+use Rattle.trf16.specs.declared.cell.Bye.{Bye as ByeKind}
 use Rattle.trf16.specs.declared.cell.Bye.TheVariants.{Half, Full, Allocated, Zero}
 use Rattle.trf16.specs.declared.cell.Cell.{Cell}
 use Rattle.trf16.specs.declared.cell.Cell.TheVariants.{Blank, Bye, Game, Forfeit, Unfinished}
@@ -16,12 +20,14 @@ pub record Entry : Type 0 where
   pub right : List ℕ
   pub cells : List Cell
 
--- a report: whether its columns are characters, each of its lines that is carried (none at the line of a player), and its players
--- in the order of their lines
+-- a report: whether its columns are characters, each of its lines that is carried (none at the line of a player), its players in
+-- the order of their lines, the total of rounds where a line XXR names it, and the initial colour where a line XXC names it
 pub record Sheet : Type 0 where
   pub utf8 : Bool
   pub carried : List (Option (List ℕ))
   pub players : List Entry
+  pub total : Option ℕ
+  pub initial : Option Colour
 
 -- what a player is, wherever it lies in memory
 abbrev pub entry_of : Player → Entry
@@ -76,3 +82,44 @@ last_paired_of (entry ∷ rest) = max (last_paired entry.cells) (last_paired_of 
 -- how many rounds were paired
 abbrev pub rounds_played : Sheet → ℕ
 rounds_played sheet = last_paired_of sheet.players
+
+-- the half points of a game that was played
+abbrev pub outcome_points : Outcome → ℕ
+outcome_points Win = 2
+outcome_points Draw = 1
+outcome_points Loss = 0
+
+-- the half points of a round without an opponent: H gives 1, F and U give 2, and Z none
+abbrev pub bye_points : ByeKind → ℕ
+bye_points Half = 1
+bye_points Full = 2
+bye_points Allocated = 2
+bye_points Zero = 0
+
+-- the half points of a cell: a forfeit win gives 2, and a game without a result none
+abbrev pub half_points : Cell → ℕ
+half_points Blank = 0
+half_points (Bye bye) = bye_points bye
+half_points (Game opponent colour rated got) = outcome_points got
+half_points (Forfeit opponent colour won) = if won then 2 else 0
+half_points (Unfinished opponent colour) = 0
+
+-- the half points of a player in the rounds from 1 on, of which there are `upto`
+abbrev pub points_upto : Sheet → ℕ → ℕ → ℕ
+points_upto sheet start upto = sum_by half_points (take upto (cells_of sheet.players start))
+
+-- the opponent that a cell names
+abbrev pub opponent_in_cell : Cell → Option ℕ
+opponent_in_cell Blank = None
+opponent_in_cell (Bye bye) = None
+opponent_in_cell (Game opponent colour rated got) = Some opponent
+opponent_in_cell (Forfeit opponent colour won) = Some opponent
+opponent_in_cell (Unfinished opponent colour) = Some opponent
+
+-- the colour that a cell names
+abbrev pub colour_in_cell : Cell → Option Colour
+colour_in_cell Blank = None
+colour_in_cell (Bye bye) = None
+colour_in_cell (Game opponent colour rated got) = Some colour
+colour_in_cell (Forfeit opponent colour won) = colour
+colour_in_cell (Unfinished opponent colour) = Some colour

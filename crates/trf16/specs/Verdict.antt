@@ -1,33 +1,20 @@
 -- The verdict on a text: the report that it is, or the first rule that it breaks.
-use Rattle.std.specs.Prelude.{◌≡◌, ℕ, zero, suc, ◌+◌, ◌*◌, Bool, true, false, not, ◌&&◌, ◌==◌, nat_lt, if◌then◌else◌, List, [], ◌∷◌, length, drop, map, codes, Option, Some, None, option_and_then, Result, Ok, Err}
+use Rattle.std.specs.Prelude.{ℕ, zero, suc, ◌+◌, ◌*◌, Bool, true, false, not, ◌&&◌, ◌||◌, ◌==◌, nat_lt, if◌then◌else◌, List, [], ◌∷◌, length, drop, map, codes, Option, Some, None, is_some, option_and_then, Result, Ok, Err}
 use Rattle.std.specs.List.{list_all, list_any}
-use Rattle.std.specs.Option.{ok_or}
+use Rattle.std.specs.Option.{ok_or, option_map_or}
 use Rattle.std.specs.Str.{is_utf8, bytes_eq}
 use Rattle.trf16.specs.Lines.{without_marks, lines, columns, joined, text, is_blank}
 use Rattle.trf16.specs.Fields.{words, number_in, points_in, trimmed, without_last}
 use Rattle.trf16.specs.Cells.{cell_from}
+use Rattle.trf16.specs.Extensions.{is_kind, words_of, rounds_in, colour_in, are_start_ranks}
 use Rattle.trf16.specs.Sheet.{Entry, Sheet, with_player, known}
+use Rattle.trf16.specs.Outcomes.{◌>>=◌}
+use Rattle.trf16.specs.Answering.{players_fit}
 use Rattle.trf16.specs.declared.cell.Cell.{Cell}
 use Rattle.trf16.specs.declared.cell.Cell.TheVariants.{Blank}
 use Rattle.trf16.specs.declared.fault.Excess.TheVariants.{Bytes, Players, Rounds}
 use Rattle.trf16.specs.declared.fault.Fault.{Fault}
-use Rattle.trf16.specs.declared.fault.Fault.TheVariants.{BadNumber, Duplicate, Misaligned, BadCell, TooMany, NoPlayers, OutOfMemory}
-
--- what the next step gives, unless a step before met a fault
-infixl 10 ◌>>=◌
-abbrev pub ◌>>=◌ : {A B : Type 0} → Result A Fault → (A → Result B Fault) → Result B Fault
-(Ok x) >>= f = f x
-(Err fault) >>= f = Err fault
-
--- the fault that a call answers is the one that the definition gives, or memory was refused
-abbrev pub Fails : {Y : Type 0} → Fault → Result Y Fault → Type 0
-Fails OutOfMemory given = Unit {0}
-Fails fault given = given ≡ Err fault
-
--- what a call answers is what the definition gives, seen by `view`, or memory was refused
-abbrev pub Gives : {X Y : Type 0} → (X → Y) → Result X Fault → Result Y Fault → Type 0
-Gives view (Ok x) given = given ≡ Ok (view x)
-Gives view (Err fault) given = Fails fault given
+use Rattle.trf16.specs.declared.fault.Fault.TheVariants.{BadNumber, Duplicate, Misaligned, BadCell, BadExtension, TooMany, NoPlayers}
 
 -- column k of line n must be blank
 unfoldable pub blank_at : ℕ → List (List ℕ) → ℕ → Result (Unit {0}) Fault
@@ -98,13 +85,35 @@ is_player line = bytes_eq (text line 1 3) (codes "001")
 abbrev pub is_too_long : List (List ℕ) → Bool
 is_too_long line = not (is_blank (joined (drop 411 line)))
 
+-- XXR: the number of rounds, which no earlier line has named
+unfoldable pub rounds_onto : Sheet → ℕ → List (List ℕ) → Result Sheet Fault
+rounds_onto sheet n line = do
+  rounds ← ok_or (rounds_in (words_of line)) (BadExtension n)
+  if is_some sheet.total then Err (Duplicate n) else Ok (record sheet { total = Some rounds })
+
+-- XXC: the initial colour
+unfoldable pub colour_onto : Sheet → ℕ → List (List ℕ) → Result Sheet Fault
+colour_onto sheet n line = do
+  initial ← ok_or (colour_in sheet.initial (words_of line)) (BadExtension n)
+  Ok (record sheet { initial = initial })
+
+-- XXZ: start ranks of those who are absent
+unfoldable pub absence_onto : Sheet → ℕ → List (List ℕ) → Result Sheet Fault
+absence_onto sheet n line = if are_start_ranks (words_of line) then Ok sheet else Err (BadExtension n)
+
+-- 001: a player
+unfoldable pub player_onto : Sheet → ℕ → List (List ℕ) → Result Sheet Fault
+player_onto sheet n line = do
+  entry ← player_at sheet n line
+  Ok (with_player sheet entry)
+
 -- a report with what line n adds to it
 unfoldable pub line_onto : Sheet → ℕ → List (List ℕ) → Result Sheet Fault
 line_onto sheet n line =
-    if is_player line then (do
-      entry ← player_at sheet n line
-      Ok (with_player sheet entry))
-    else Ok sheet
+    if is_player line then player_onto sheet n line
+    else (if is_kind (codes "XXR") line then rounds_onto sheet n line
+    else (if is_kind (codes "XXC") line then colour_onto sheet n line
+    else (if is_kind (codes "XXZ") line then absence_onto sheet n line else Ok sheet)))
 
 -- a report with what some lines add to it, of which the first is line n
 unfoldable pub lines_onto : Sheet → ℕ → List (List ℕ) → Result Sheet Fault
@@ -119,24 +128,30 @@ carried_line utf8 line = if is_player (columns utf8 line) then None else Some li
 
 -- a report whose players are still to be read
 abbrev pub without_players : Bool → List (List ℕ) → Sheet
-without_players utf8 all = record { utf8 = utf8; carried = map (carried_line utf8) all; players = [] }
+without_players utf8 all = record { utf8 = utf8; carried = map (carried_line utf8) all; players = []; total = None; initial = None }
 
 -- whether a player's line goes on behind the last round that is read
 abbrev pub has_too_many_rounds : Bool → List (List ℕ) → Bool
 has_too_many_rounds utf8 all = list_any (λ line. is_player (columns utf8 line) && is_too_long (columns utf8 line)) all
 
+-- more than 32 rounds are named
+abbrev pub names_too_many_rounds : Sheet → Bool
+names_too_many_rounds sheet = option_map_or (λ total. nat_lt 32 total) sheet.total false
+
 -- the report, where it is not too large and has players
 unfoldable pub sized : Sheet → Bool → Result Sheet Fault
 sized sheet too_long =
     if nat_lt 256 (length sheet.players) then Err (TooMany Players)
-    else (if too_long then Err (TooMany Rounds)
+    else (if too_long || names_too_many_rounds sheet then Err (TooMany Rounds)
     else (if length sheet.players == 0 then Err NoPlayers else Ok sheet))
 
 -- the report that some lines are
 unfoldable pub report_of : Bool → List (List ℕ) → Result Sheet Fault
 report_of utf8 all = do
   sheet ← lines_onto (without_players utf8 all) 1 all
-  sized sheet (has_too_many_rounds utf8 all)
+  sheet ← sized sheet (has_too_many_rounds utf8 all)
+  _ ← players_fit sheet sheet.players
+  Ok sheet
 
 -- the report that a text is, or the first rule that it breaks; a column is a character where the text is UTF-8, else a byte
 unfoldable pub verdict : List ℕ → Result Sheet Fault

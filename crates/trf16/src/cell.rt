@@ -1,4 +1,5 @@
 // What one round holds for one player: a cell of the report's crosstable.
+ghost use Rattle.std.specs.Prelude.{◌≡◌, ◌≤◌};
 
 /// The colour of the pieces.
 #[derive(Debug, Clone, Copy, PartialEq, Eq)]
@@ -53,4 +54,43 @@ pub enum Cell {
     },
     /// A game without a result yet.
     Unfinished { opponent: u16, colour: Colour },
+}
+
+impl Cell {
+    ghost use Rattle.trf16.specs.Sheet.{half_points, opponent_in_cell, colour_in_cell};
+
+    /// The half points of the round: a win, a forfeit win, `F` and `U` give 2, a draw and `H` give 1, all else none.
+    pub fn half_points(&self) -> u16
+        ensures value { result ≡ half_points self.now }
+        ensures few { result ≤ 2 }
+    {
+        match self {
+            Cell::Bye(Bye::Full | Bye::Allocated) => 2,
+            Cell::Bye(Bye::Half) => 1,
+            Cell::Game { got: Outcome::Win, .. } | Cell::Forfeit { won: true, .. } => 2,
+            Cell::Game { got: Outcome::Draw, .. } => 1,
+            _ => 0,
+        }
+    }
+
+    /// The opponent's start rank, where the cell names one.
+    pub fn opponent(&self) -> Option<u16>
+        ensures { result ≡ opponent_in_cell self.now }
+    {
+        match self {
+            Cell::Game { opponent, .. } | Cell::Forfeit { opponent, .. } | Cell::Unfinished { opponent, .. } => Some(*opponent),
+            Cell::Blank | Cell::Bye(_) => None,
+        }
+    }
+
+    /// The colour, where the cell names one.
+    pub fn colour(&self) -> Option<Colour>
+        ensures { result ≡ colour_in_cell self.now }
+    {
+        match self {
+            Cell::Game { colour, .. } | Cell::Unfinished { colour, .. } => Some(*colour),
+            Cell::Forfeit { colour, .. } => *colour,
+            Cell::Blank | Cell::Bye(_) => None,
+        }
+    }
 }

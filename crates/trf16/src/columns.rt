@@ -90,16 +90,17 @@ impl<'a> Line<'a> {
     }
 }
 
-/// The first three columns of a line.
-pub(crate) fn kind(bytes: &[u8], utf8: bool) -> &[u8]
-    ensures { result.now ≡ text (columns utf8 bytes.now) 1 3 }
+/// The first three columns of a line, and what stands behind them.
+pub(crate) fn split_kind(bytes: &[u8], utf8: bool) -> (&[u8], &[u8])
+    ensures kind { result.0.now ≡ text (columns utf8 bytes.now) 1 3 }
+    ensures rest { result.1.now ≡ joined (drop 3 (columns utf8 bytes.now)) }
 {
     let mut len = 0;
     for _ in 0..3usize {
         let (_, rest) = bytes.split_at(len);
         len += column_len(rest, utf8);
     }
-    bytes.split_at(len).0
+    bytes.split_at(len)
 }
 
 /// Whether there is nothing but blanks.

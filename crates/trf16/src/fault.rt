@@ -34,12 +34,33 @@ pub enum Fault {
     /// Opponent, colour and result of a round that do not fit together.
     #[error("line {line}: round {round}: bad cell")]
     BadCell { line: usize, round: usize },
+    /// A line `XXR`, `XXC` or `XXZ` whose words are not those of its kind.
+    #[error("line {line}: bad extension")]
+    BadExtension { line: usize },
     /// The report is larger than this program reads.
     #[error("too many {0}")]
     TooMany(Excess),
     /// No line of the kind `001`.
     #[error("no players")]
     NoPlayers,
+    /// A player's opponent in a round is no player of the report.
+    #[error("player {player} round {round}: no such opponent")]
+    NoSuchOpponent { player: u16, round: usize },
+    /// A player is his own opponent.
+    #[error("player {player} round {round}: own opponent")]
+    SelfOpponent { player: u16, round: usize },
+    /// A player's opponent does not name him in that round.
+    #[error("player {player} round {round}: not mutual")]
+    NotMutual { player: u16, round: usize },
+    /// Two who meet do not have opposite colours.
+    #[error("player {player} round {round}: colours")]
+    Colours { player: u16, round: usize },
+    /// The results of two who meet do not fit together.
+    #[error("player {player} round {round}: results")]
+    Results { player: u16, round: usize },
+    /// A points field is not the sum of the player's points.
+    #[error("player {player}: points")]
+    Points { player: u16 },
     /// Memory was refused.
     #[error("out of memory")]
     OutOfMemory,

@@ -34,7 +34,8 @@ fn word_len(bytes: &[u8]) -> usize
 
 /// The first word of a text and what stands behind it, or none where there are only blanks.
 pub(crate) fn next_word(bytes: &[u8]) -> Option<(&[u8], &[u8])>
-    ensures { MatchOption result (words bytes.now ≡ []) (λ x. words bytes.now ≡ x.0.now ∷ words x.1.now) }
+    ensures first { MatchOption result (words bytes.now ≡ []) (λ x. words bytes.now ≡ x.0.now ∷ words x.1.now) }
+    ensures shorter { IfSome result (λ x. length x.1.now < length bytes.now) }
 {
     let (_, rest) = bytes.split_at(blank_len(bytes));
     if rest.is_empty() {

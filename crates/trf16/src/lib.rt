@@ -1,14 +1,19 @@
 // Tournament reports in TRF16 columns: reading them, with every refusal named, and asking what they say.
 #![tactic(auto)]
 
+mod answering;
 pub mod cell;
 mod columns;
 pub mod devices;
+mod draft;
+mod extensions;
 pub mod fault;
 mod fields;
 mod grammar;
+pub mod kind;
 mod lines;
 pub mod player;
+mod queries;
 mod reading;
 pub mod report;
 

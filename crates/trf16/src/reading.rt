@@ -3,11 +3,16 @@ ghost use Rattle.std.specs.Prelude.{◌≡◌, ◌+◌, ◌<◌, ◌≤◌, ◌&
 ghost use Rattle.std.specs.Str.{is_utf8};
 ghost use Rattle.trf16.specs.Lines.{lines, columns};
 ghost use Rattle.trf16.specs.Fields.{without_last};
+ghost use Rattle.trf16.specs.Outcomes.{Gives};
 ghost use Rattle.trf16.specs.Sheet.{entry_of, known};
-ghost use Rattle.trf16.specs.Verdict.{Gives, blank_at, start_number_at, start_at, points_at, round_at, rounds_at, is_blank_cell, cells_at, player_at, is_player, is_too_long, line_onto, lines_onto, has_too_many_rounds, sized, report_of, verdict};
+ghost use Rattle.trf16.specs.Verdict.{blank_at, start_number_at, start_at, points_at, round_at, rounds_at, is_blank_cell, cells_at, player_at, is_player, is_too_long, player_onto, rounds_onto, colour_onto, absence_onto, line_onto, lines_onto, has_too_many_rounds, sized, report_of, verdict};
 
+
+use crate::answering::players_fit;
 use crate::cell::Cell;
-use crate::columns::{Line, is_blank, kind};
+use crate::columns::{Line, is_blank, split_kind};
+use crate::draft::Draft;
+use crate::extensions::{are_start_ranks, colour_in, is_word, rounds_in};
 use crate::fault::{Excess, Fault};
 use crate::fields::{number_in, points_in, trimmed};
 use crate::grammar::cell_from;
@@ -44,12 +49,12 @@ fn start_number_at(n: usize, line: &Line<'_>) -> Result<u16, Fault>
 
 // The same, which no line before may have named.
 #[tactic(auto, unfolding(crate::specs::Verdict::start_at))]
-fn start_at(report: &Report<'_>, n: usize, line: &Line<'_>) -> Result<u16, Fault>
-    ensures given { Gives (λ x. x) result (start_at report.now n line.now) }
-    ensures new { IfOk result (λ start. known report.now start ≡ false) }
+fn start_at(draft: &Draft<'_>, n: usize, line: &Line<'_>) -> Result<u16, Fault>
+    ensures given { Gives (λ x. x) result (start_at draft.now n line.now) }
+    ensures new { IfOk result (λ start. known draft.now start ≡ false) }
 {
     let start = start_number_at(n, line)?;
-    if report.knows(start) {
+    if draft.knows(start) {
         return Err(Fault::Duplicate { line: n });
     }
     Ok(start)
@@ -133,12 +138,12 @@ fn cells_at(alloc: Global, n: usize, line: &Line<'_>) -> Result<Vec<Cell>, Fault
 
 // The player that line n names, behind those of a report so far.
 #[tactic(auto, unfolding(crate::specs::Verdict::player_at))]
-fn player_at<'a>(alloc: Global, report: &Report<'a>, n: usize, line: &Line<'a>) -> Result<Player<'a>, Fault>
-    ensures given { Gives entry_of result (player_at report.now n line.now) }
-    ensures new { IfOk result (λ player. known report.now player.start ≡ false) }
+fn player_at<'a>(alloc: Global, draft: &Draft<'a>, n: usize, line: &Line<'a>) -> Result<Player<'a>, Fault>
+    ensures given { Gives entry_of result (player_at draft.now n line.now) }
+    ensures new { IfOk result (λ player. known draft.now player.start ≡ false) }
 {
     blank_at(n, line, 4)?;
-    let start = start_at(report, n, line)?;
+    let start = start_at(draft, n, line)?;
     let points = points_at(n, line)?;
     blank_at(n, line, 90)?;
     blank_at(n, line, 91)?;
@@ -153,33 +158,90 @@ fn player_at<'a>(alloc: Global, report: &Report<'a>, n: usize, line: &Line<'a>) 
     })
 }
 
-// Reads line n onto a report, and tells whether it is a player's that goes on behind the last round.
-#[tactic(auto, unfolding(crate::specs::Verdict::line_onto))]
-fn read_line<'a>(alloc: Global, report: &mut Report<'a>, n: usize, bytes: &'a [u8]) -> Result<bool, Fault>
-    ensures given { Gives (λ _. report.new) result (line_onto report.old n (columns report.old.utf8 bytes.now)) }
-    ensures long { let line = columns report.old.utf8 bytes.now in IfOk result (λ long. long ≡ (is_player line && is_too_long line)) }
+// XXR: the total of rounds.
+#[tactic(auto, unfolding(crate::specs::Verdict::rounds_onto))]
+fn rounds_onto(draft: &mut Draft<'_>, n: usize, bytes: &[u8]) -> Result<(), Fault>
+    ensures { Gives (λ _. draft.new) result (rounds_onto draft.old n (columns draft.old.utf8 bytes.now)) }
 {
-    let utf8 = report.is_utf8();
-    if kind(bytes, utf8) != b"001".as_slice() {
-        return Ok(false);
+    let (_, rest) = split_kind(bytes, draft.is_utf8());
+    let Some(rounds) = rounds_in(rest) else {
+        return Err(Fault::BadExtension { line: n });
+    };
+    if draft.has_total() {
+        return Err(Fault::Duplicate { line: n });
     }
-    let line = Line::new(bytes, utf8);
-    let player = player_at(alloc, report, n, &line)?;
-    report.enter(player)?;
+    draft.set_total(rounds);
+    Ok(())
+}
+
+// XXC: the initial colour.
+#[tactic(auto, unfolding(crate::specs::Verdict::colour_onto))]
+fn colour_onto(draft: &mut Draft<'_>, n: usize, bytes: &[u8]) -> Result<(), Fault>
+    ensures { Gives (λ _. draft.new) result (colour_onto draft.old n (columns draft.old.utf8 bytes.now)) }
+{
+    let (_, rest) = split_kind(bytes, draft.is_utf8());
+    let Some(initial) = colour_in(draft.initial(), rest) else {
+        return Err(Fault::BadExtension { line: n });
+    };
+    draft.set_initial(initial);
+    Ok(())
+}
+
+// XXZ: the start ranks of those who are absent.
+#[tactic(auto, unfolding(crate::specs::Verdict::absence_onto))]
+fn absence_onto(draft: &mut Draft<'_>, n: usize, bytes: &[u8]) -> Result<(), Fault>
+    ensures { Gives (λ _. draft.new) result (absence_onto draft.old n (columns draft.old.utf8 bytes.now)) }
+{
+    let (_, rest) = split_kind(bytes, draft.is_utf8());
+    if !are_start_ranks(rest) {
+        return Err(Fault::BadExtension { line: n });
+    }
+    Ok(())
+}
+
+// 001: a player; and whether his line goes on behind the last round.
+#[tactic(auto, unfolding(crate::specs::Verdict::player_onto))]
+fn player_onto<'a>(alloc: Global, draft: &mut Draft<'a>, n: usize, bytes: &'a [u8]) -> Result<bool, Fault>
+    ensures given { Gives (λ _. draft.new) result (player_onto draft.old n (columns draft.old.utf8 bytes.now)) }
+    ensures long { IfOk result (λ long. long ≡ is_too_long (columns draft.old.utf8 bytes.now)) }
+{
+    let line = Line::new(bytes, draft.is_utf8());
+    let player = player_at(alloc, draft, n, &line)?;
+    draft.enter(player)?;
     Ok(line.is_too_long())
 }
 
+// Reads line n onto a report, and tells whether it is a player's that goes on behind the last round.
+#[tactic(auto, unfolding(crate::specs::Verdict::line_onto))]
+fn line_onto<'a>(alloc: Global, draft: &mut Draft<'a>, n: usize, bytes: &'a [u8]) -> Result<bool, Fault>
+    ensures given { Gives (λ _. draft.new) result (line_onto draft.old n (columns draft.old.utf8 bytes.now)) }
+    ensures long { let line = columns draft.old.utf8 bytes.now in IfOk result (λ long. long ≡ (is_player line && is_too_long line)) }
+{
+    let (kind, _) = split_kind(bytes, draft.is_utf8());
+    if kind == b"001".as_slice() {
+        return player_onto(alloc, draft, n, bytes);
+    }
+    if is_word(kind, b"XXR") {
+        rounds_onto(draft, n, bytes)?;
+    } else if is_word(kind, b"XXC") {
+        colour_onto(draft, n, bytes)?;
+    } else if is_word(kind, b"XXZ") {
+        absence_onto(draft, n, bytes)?;
+    }
+    Ok(false)
+}
+
 // Reads all lines onto a report, and tells whether a player's line goes on behind the last round.
-fn read_lines<'a>(alloc: Global, report: &mut Report<'a>, text: &'a [u8]) -> Result<bool, Fault>
-    ensures given { Gives (λ _. report.new) result (lines_onto report.old 1 (lines text.now)) }
-    ensures long { IfOk result (λ long. long ≡ has_too_many_rounds report.old.utf8 (lines text.now)) }
+fn lines_onto<'a>(alloc: Global, draft: &mut Draft<'a>, text: &'a [u8]) -> Result<bool, Fault>
+    ensures given { Gives (λ _. draft.new) result (lines_onto draft.old 1 (lines text.now)) }
+    ensures long { IfOk result (λ long. long ≡ has_too_many_rounds draft.old.utf8 (lines text.now)) }
 {
     let mut rest = text;
     let mut n = 1;
     let mut long = false;
     while !rest.is_empty() {
         let (line, after) = next_line(rest);
-        let too_long = read_line(alloc, report, n, line)?;
+        let too_long = line_onto(alloc, draft, n, line)?;
         long = long || too_long;
         rest = after;
         n += 1;
@@ -195,20 +257,21 @@ fn is_utf8(bytes: &[u8]) -> bool
 
 // The report, where it is not too large and has players.
 #[tactic(auto, unfolding(crate::specs::Verdict::sized))]
-fn sized<'a>(report: Report<'a>, too_long: bool) -> Result<Report<'a>, Fault>
-    ensures { Gives (λ r. r) result (sized report.entry too_long) }
+fn sized<'a>(draft: Draft<'a>, too_long: bool) -> Result<Report<'a>, Fault>
+    ensures { Gives (λ r. r) result (sized draft.entry too_long) }
 {
-    let count = report.players().len();
+    let count = draft.count();
     if 256 < count {
         return Err(Fault::TooMany(Excess::Players));
     }
-    if too_long {
+    let names_too_many = draft.names_too_many_rounds();
+    if too_long || names_too_many {
         return Err(Fault::TooMany(Excess::Rounds));
     }
     if count == 0 {
         return Err(Fault::NoPlayers);
     }
-    Ok(report)
+    Ok(draft.into_report())
 }
 
 /// Reads a report of at most 1,048,576 bytes, 256 players and 32 rounds: the report that the text is, or the first rule that it
@@ -216,7 +279,8 @@ fn sized<'a>(report: Report<'a>, too_long: bool) -> Result<Report<'a>, Fault>
 ///
 /// # Errors
 /// Too many bytes goes before all; then what is wrong with a line, in the order of the lines; then too many players, too many
-/// rounds, and no players. Want of memory may come at any growth.
+/// rounds, and no players; then for each player in the order of the lines what does not fit in his rounds, and then his points.
+/// Want of memory may come at any growth.
 #[tactic(auto, unfolding(crate::specs::Verdict::verdict, crate::specs::Verdict::report_of))]
 pub fn read<'a>(alloc: Global, bytes: &'a [u8]) -> Result<Report<'a>, Fault>
     ensures { Gives (λ report. report) result (verdict bytes.now) }
@@ -225,7 +289,9 @@ pub fn read<'a>(alloc: Global, bytes: &'a [u8]) -> Result<Report<'a>, Fault>
         return Err(Fault::TooMany(Excess::Bytes));
     }
     let text = skip_marks(bytes);
-    let mut report = Report::without_players(alloc, text, is_utf8(text));
-    let too_long = read_lines(alloc, &mut report, text)?;
-    sized(report, too_long)
+    let mut draft = Draft::new(alloc, text, is_utf8(text));
+    let too_long = lines_onto(alloc, &mut draft, text)?;
+    let report = sized(draft, too_long)?;
+    players_fit(&report)?;
+    Ok(report)
 }

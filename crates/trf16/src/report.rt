@@ -1,17 +1,17 @@
 // A report that was accepted, and what it says.
-ghost use Rattle.std.specs.Prelude.{◌≡◌, ◌<◌, ◌≤◌, false, map, length, Ok, option_copied};
-ghost use Rattle.trf16.specs.Lines.{lines};
-ghost use Rattle.trf16.specs.Sheet.{entry_of, with_player, known, cell_at, cell_in, carried_in, is_paired, last_paired, rounds_played};
-ghost use Rattle.trf16.specs.Verdict.{Gives, carried_line, without_players};
+ghost use Rattle.std.specs.Prelude.{◌≡◌, ◌<◌, ◌≤◌, map, length, option_copied, IfSome, []};
+ghost use Rattle.std.specs.Option.{option_map_or};
+ghost use Rattle.trf16.specs.Sheet.{entry_of, known, cells_of, cell_at, cell_in, carried_in, is_paired, last_paired, rounds_played};
+ghost use Rattle.trf16.specs.Answering.{has_other_points};
+ghost use Rattle.trf16.specs.Verdict.{carried_line};
 
-use crate::cell::{Bye, Cell};
-use crate::columns::kind;
-use crate::fault::Fault;
+use crate::cell::{Bye, Cell, Colour};
+use crate::columns::split_kind;
+use crate::extensions::is_word;
 use crate::lines::next_line;
 use crate::player::Player;
 use indexmap::IndexMap;
 use indexmap::map::Values;
-use std::alloc::Global;
 use std::marker::Model;
 
 /// A report: its lines as they stand, and its players by start rank, in the order of their lines.
@@ -21,49 +21,54 @@ pub struct Report<'a> {
     // everything behind the byte order marks
     pub(crate) text: &'a [u8],
     pub(crate) players: IndexMap<u16, Player<'a>>,
+    pub(crate) total: Option<u8>,
+    pub(crate) initial: Option<Colour>,
 }
 
 impl<'a> Model for Report<'a> {
-    ghost use Rattle.std.specs.Prelude.{◌≡◌, map};
+    ghost use Rattle.std.specs.Prelude.{◌≡◌, ◌≤◌, map, length};
+    ghost use Rattle.std.specs.Option.{ForSome};
     ghost use Rattle.std.specs.Map.{keys_of};
     ghost use Rattle.trf16.specs.Lines.{lines};
     ghost use Rattle.trf16.specs.Sheet.{Sheet, entry_of};
-    ghost use Rattle.trf16.specs.Verdict.{carried_line};
+    ghost use Rattle.trf16.specs.Answering.{has_other_points};
+ghost use Rattle.trf16.specs.Verdict.{carried_line};
 
     ghost Value = { Sheet };
 
     ghost view = { λ r. record {
         utf8 = r.utf8;
         carried = map (carried_line r.utf8) (lines r.text.now);
-        players = map (λ e. entry_of e.1) r.players.entries } };
+        players = map (λ e. entry_of e.1) r.players.entries;
+        total = r.total;
+        initial = r.initial } };
 
-    ghost invariant = { λ r. keys_of r.players.entries ≡ map (λ e. e.1.start) r.players.entries };
+    ghost invariant = { λ r. (keys_of r.players.entries ≡ map (λ e. e.1.start) r.players.entries)
+        × (length r.players.entries ≤ 256) × ForSome r.total (λ total. total ≤ 32) };
 }
 
 impl<'a> Report<'a> {
-    // A report whose players are still to be read.
-    pub(crate) fn without_players(alloc: Global, text: &'a [u8], utf8: bool) -> Report<'a>
-        ensures { result ≡ without_players utf8 (lines text.now) }
-    {
-        Report {
-            utf8,
-            text,
-            players: IndexMap::new(alloc),
-        }
-    }
-
     /// The players, in the order of their lines.
     pub fn players(&self) -> Values<'_, u16, Player<'a>>
-        ensures { map entry_of result ≡ self.now.players }
+        ensures players { map entry_of result ≡ self.now.players }
+        ensures few { length result ≤ 256 }
     {
         self.players.values()
     }
 
-    // Whether a column is a character, and not a byte.
-    pub(crate) fn is_utf8(&self) -> bool
-        ensures { result ≡ self.now.utf8 }
+    /// The total of rounds that a line `XXR` names, 1 to 32.
+    pub fn total_rounds(&self) -> Option<u8>
+        ensures value { result ≡ self.now.total }
+        ensures few { IfSome result (λ total. total ≤ 32) }
     {
-        self.utf8
+        self.total
+    }
+
+    /// The initial colour that a line `XXC` names.
+    pub fn initial(&self) -> Option<Colour>
+        ensures { result ≡ self.now.initial }
+    {
+        self.initial
     }
 
     // Whether a start rank is that of a player.
@@ -73,13 +78,11 @@ impl<'a> Report<'a> {
         self.players.contains_key(&start)
     }
 
-    // Adds the player of the next line.
-    pub(crate) fn enter(&mut self, player: Player<'a>) -> Result<(), Fault>
-        requires { known self.old player.start ≡ false }
-        ensures { Gives (λ _. self.new) result (Ok (with_player self.old (entry_of player.entry))) }
+    // The player with a start rank.
+    pub(crate) fn player(&self, start: u16) -> Option<&Player<'a>>
+        ensures { option_map_or (λ p. p.now.cells.items) result [] ≡ cells_of self.now.players start }
     {
-        self.players.insert(player.start, player)?;
-        Ok(())
+        self.players.get(&start)
     }
 
     /// The cell of a player in a round, which counts from 1; behind his last cell it is blank.
@@ -87,7 +90,7 @@ impl<'a> Report<'a> {
         requires { 0 < round }
         ensures { result ≡ cell_in self.now start round }
     {
-        match self.players.get(&start) {
+        match self.player(start) {
             Some(player) => cell_at(&player.cells, round),
             None => Cell::Blank,
         }
@@ -122,13 +125,30 @@ impl<'a> Report<'a> {
         }
         None
     }
+
+    // Whether a line `XXS` says that games have other points. It takes time in step with the text.
+    pub(crate) fn has_other_points(&self) -> bool
+        ensures { result ≡ has_other_points self.now }
+    {
+        let mut rest = self.text;
+        while !rest.is_empty() {
+            let (line, after) = next_line(rest);
+            let (kind, _) = split_kind(line, self.utf8);
+            if is_word(kind, b"XXS") {
+                return true;
+            }
+            rest = after;
+        }
+        false
+    }
 }
 
 // A line, unless it is a player's.
 fn carried_line(line: &[u8], utf8: bool) -> Option<&[u8]>
     ensures { option_copied result ≡ carried_line utf8 line.now }
 {
-    if kind(line, utf8) == b"001".as_slice() {
+    let (kind, _) = split_kind(line, utf8);
+    if kind == b"001".as_slice() {
         None
     } else {
         Some(line)

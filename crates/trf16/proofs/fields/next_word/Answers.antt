@@ -2,8 +2,8 @@ use Rattle.std.proofs.Common.{◌<◌, length, arith}
 use Rattle.trf16.proofs.FieldLemmas.{next_word_is}
 use Rattle.trf16.proofs.fields.next_word.Goals as goal
 
-pub returns : goal.returns
-returns c =
+pub returns-clause-first : goal.returns-clause-first
+returns-clause-first c =
     let same = c.blank_len.ensures.same in
     let some : 0 < length c.split_at.result.1.now = grind arith in
     rw (c.split_at-2.ensures.front, c.split_at-2.ensures.back)

@@ -9,7 +9,7 @@ use Rattle.trf16.specs.Lines.{lines}
 use Rattle.trf16.specs.Sheet.{Entry, Sheet, known, entry_of, with_player}
 use Rattle.trf16.specs.Verdict.{carried_line}
 use Rattle.trf16.proofs.ReportLemmas.{known-lookup, none_from, keyed-push}
-use Rattle.trf16.proofs.report.Report.enter.Goals as goal
+use Rattle.trf16.proofs.draft.Draft.enter.Goals as goal
 
 pub invariant_of-self-2 : goal.invariant_of-self-2
 invariant_of-self-2 c =
@@ -30,7 +30,7 @@ returns c =
     let new : c.insert.new.self.entries ≡ entries ++ (start, c.args.player) ∷ [] =
         c.in_ok-insert.ensures.entries ∙ insert_entry-new nat_eq c.self.inside.players start c.args.player (none_from (get nat_eq c.self.inside.players start) missing) in
     let given : List Entry → Result Sheet Fault = λ ps. Ok (record {
-        utf8 = c.self.inside.utf8; carried = map (carried_line c.self.inside.utf8) (lines c.self.inside.text.now); players = ps }) in
+        utf8 = c.self.inside.utf8; carried = map (carried_line c.self.inside.utf8) (lines c.self.inside.text.now); players = ps; total = c.self.inside.total; initial = c.self.inside.initial }) in
     let of_entry = λ (e : ℕ × Player). entry_of e.1 in
     ap (λ (sheet : Sheet). Ok (with_player sheet (entry_of c.args.player))) (sym c.self.view_is)
     ∙ ap given (sym (map-append of_entry entries ((start, c.args.player) ∷ [])) ∙ ap (map of_entry) (sym new))

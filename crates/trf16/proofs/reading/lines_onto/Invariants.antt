@@ -1,12 +1,12 @@
 use Rattle.std.proofs.Common.{◌≡◌, ◌+◌, ◌≤◌, ◌||◌, length}
 use Rattle.trf16.specs.Lines.{lines}
 use Rattle.trf16.specs.Verdict.{lines_onto, has_too_many_rounds}
-use Rattle.trf16.proofs.reading.read_lines.Given as goal
+use Rattle.trf16.proofs.reading.lines_onto.Given as goal
 
 abbrev pub invariant-loop-rest : goal.invariant-loop-rest
-invariant-loop-rest l = (lines_onto l.report l.n (lines l.rest) ≡ lines_onto l.initial.report 1 (lines l.text))
-    × ((l.long || has_too_many_rounds l.initial.report.utf8 (lines l.rest)) ≡ has_too_many_rounds l.initial.report.utf8 (lines l.text))
-    × (l.report.utf8 ≡ l.initial.report.utf8)
+invariant-loop-rest l = (lines_onto l.draft l.n (lines l.rest) ≡ lines_onto l.initial.draft 1 (lines l.text))
+    × ((l.long || has_too_many_rounds l.initial.draft.utf8 (lines l.rest)) ≡ has_too_many_rounds l.initial.draft.utf8 (lines l.text))
+    × (l.draft.utf8 ≡ l.initial.draft.utf8)
     × (l.n + length l.rest ≤ length l.text + 1)
 
 abbrev pub decreases-loop-rest : goal.decreases-loop-rest

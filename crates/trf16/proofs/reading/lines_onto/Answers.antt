@@ -4,30 +4,30 @@ use Rattle.std.proofs.lemmas.Result.{err_from_is_err_and}
 use Rattle.trf16.specs.Lines.{lines, columns}
 use Rattle.trf16.specs.Verdict.{is_player, is_too_long, line_onto, lines_onto, has_too_many_rounds}
 use Rattle.trf16.proofs.ReadingLemmas.{Fails-on, line_onto-utf8, lines-go_on, lines-fail, lines-end, stays_long, becomes_long, nil_from_length}
-use Rattle.trf16.proofs.reading.read_lines.Goals as goal
-use Rattle.trf16.proofs.reading.read_lines.Goals.{then-long, else-long}
+use Rattle.trf16.proofs.reading.lines_onto.Goals as goal
+use Rattle.trf16.proofs.reading.lines_onto.Goals.{then-long, else-long}
 
 pub returns-in_err-too_long-clause-given : goal.returns-in_err-too_long-clause-given
 returns-in_err-too_long-clause-given c =
     let p = err_from_is_err_and c.from_residual.result c.from_residual.ensures.1 in
-    let sheet = c.loop-rest.report in
+    let sheet = c.loop-rest.draft in
     let line = c.next_line.result.0.now in
     let after = lines c.next_line.result.1.now in
-    rw (p.1, p.2) (Fails-on c.in_err-too_long.field-0.0 (line_onto sheet c.loop-rest.n (columns sheet.utf8 line)) (lines_onto c.args.report.now 1 (lines c.args.text.now))
+    rw (p.1, p.2) (Fails-on c.in_err-too_long.field-0.0 (line_onto sheet c.loop-rest.n (columns sheet.utf8 line)) (lines_onto c.args.draft.now 1 (lines c.args.text.now))
         (λ fault e. sym c.loop-rest.invariant.0 ∙ ap (lines_onto sheet c.loop-rest.n) c.next_line.ensures.first ∙ lines-fail sheet c.loop-rest.n line after fault e)
         c.in_err-too_long.ensures.given)
 
 pub loop-rest-preserved : goal.loop-rest-preserved
 loop-rest-preserved c =
-    let sheet = c.loop-rest.report in
-    let next = c.read_line.new.report in
+    let sheet = c.loop-rest.draft in
+    let next = c.line_onto.new.draft in
     let line = c.next_line.result.0.now in
     let after = lines c.next_line.result.1.now in
     let given = c.in_ok-too_long.ensures.given in
-    let read : lines_onto next (c.loop-rest.n + 1) after ≡ lines_onto c.args.report.now 1 (lines c.args.text.now) =
+    let read : lines_onto next (c.loop-rest.n + 1) after ≡ lines_onto c.args.draft.now 1 (lines c.args.text.now) =
         sym (lines-go_on sheet next c.loop-rest.n line after given) ∙ ap (lines_onto sheet c.loop-rest.n) (sym c.next_line.ensures.first) ∙ c.loop-rest.invariant.0 in
-    let same : next.utf8 ≡ c.args.report.now.utf8 = line_onto-utf8 sheet c.loop-rest.n (columns sheet.utf8 line) next given ∙ c.loop-rest.invariant.2 in
-    let utf8 = c.args.report.now.utf8 in
+    let same : next.utf8 ≡ c.args.draft.now.utf8 = line_onto-utf8 sheet c.loop-rest.n (columns sheet.utf8 line) next given ∙ c.loop-rest.invariant.2 in
+    let utf8 = c.args.draft.now.utf8 in
     let long = c.loop-rest.long in
     let here = is_player (columns utf8 line) && is_too_long (columns utf8 line) in
     let others = has_too_many_rounds utf8 after in
@@ -43,4 +43,4 @@ loop-rest-preserved c =
 pub returns-clause-given : goal.returns-clause-given
 returns-clause-given c =
     let nothing : c.loop-rest.rest.now ≡ [] = nil_from_length c.loop-rest.rest.now (eqb-true _ _ (sym c.loop-rest-test.ensures)) in
-    sym c.loop-rest.invariant.0 ∙ ap (λ (bytes : List ℕ). lines_onto c.loop-rest.report c.loop-rest.n (lines bytes)) nothing ∙ lines-end c.loop-rest.report c.loop-rest.n
+    sym c.loop-rest.invariant.0 ∙ ap (λ (bytes : List ℕ). lines_onto c.loop-rest.draft c.loop-rest.n (lines bytes)) nothing ∙ lines-end c.loop-rest.draft c.loop-rest.n

@@ -1,0 +1,57 @@
+-- The extension lines XXR, XXC and XXZ, and the kinds of lines that are known and not supported.
+use Rattle.std.specs.Prelude.{ℕ, ◌-◌, Bool, true, false, not, ◌&&◌, ◌||◌, ◌==◌, nat_lt, if◌then◌else◌, List, [], ◌∷◌, ◌++◌, map, drop, codes, Option, Some, None, option_and_then}
+use Rattle.std.specs.List.{list_all, list_any, position_or_len}
+use Rattle.std.specs.Option.{option_map_or}
+use Rattle.std.specs.Str.{bytes_eq}
+use Rattle.std.specs.Char.{to_ascii_lowercase}
+use Rattle.trf16.specs.Lines.{columns, joined, text}
+use Rattle.trf16.specs.Fields.{words, number_of, number_in}
+use Rattle.trf16.specs.declared.cell.Colour.{Colour}
+use Rattle.trf16.specs.declared.cell.Colour.TheVariants.{White, Black}
+
+-- two words are the same but for the case of their letters
+abbrev pub is_word : List ℕ → List ℕ → Bool
+is_word word capitals = bytes_eq (map to_ascii_lowercase word) (map to_ascii_lowercase capitals)
+
+-- a line of a kind: its first three columns, in either case
+abbrev pub is_kind : List ℕ → List (List ℕ) → Bool
+is_kind capitals line = is_word (text line 1 3) capitals
+
+-- the words behind the kind of a line
+abbrev pub words_of : List (List ℕ) → List (List ℕ)
+words_of line = words (joined (drop 3 line))
+
+-- a number that is not 0
+abbrev pub positive : ℕ → Option ℕ
+positive n = if n == 0 then None else Some n
+
+-- XXR: the number of rounds is one word
+abbrev pub rounds_in : List (List ℕ) → Option ℕ
+rounds_in all = option_and_then positive (number_in all)
+
+-- XXC: the initial colour behind a word, of that in front of it: white1 and black1 name it, and not both; rank names none
+abbrev pub colour_behind : Option Colour → List ℕ → Option (Option Colour)
+colour_behind None word =
+    if is_word word (codes "WHITE1") then Some (Some White)
+    else (if is_word word (codes "BLACK1") then Some (Some Black)
+    else (if is_word word (codes "RANK") then Some None else None))
+colour_behind (Some White) word = if is_word word (codes "WHITE1") || is_word word (codes "RANK") then Some (Some White) else None
+colour_behind (Some Black) word = if is_word word (codes "BLACK1") || is_word word (codes "RANK") then Some (Some Black) else None
+
+-- the same behind some words
+abbrev pub colour_behind_all : Option Colour → List (List ℕ) → Option (Option Colour)
+colour_behind_all initial [] = Some initial
+colour_behind_all initial (word ∷ rest) = option_and_then (λ next. colour_behind_all next rest) (colour_behind initial word)
+
+-- the same behind the words of a line, of which there is at least one
+abbrev pub colour_in : Option Colour → List (List ℕ) → Option (Option Colour)
+colour_in initial [] = None
+colour_in initial (word ∷ rest) = colour_behind_all initial (word ∷ rest)
+
+-- XXZ: each word is the start rank of a player who is absent from the next round
+abbrev pub are_start_ranks : List (List ℕ) → Bool
+are_start_ranks all = list_all (λ word. option_map_or (λ n. nat_lt 0 n) (number_of word) false) all
+
+-- a line XXZ that names a start rank
+abbrev pub names_absent : ℕ → List (List ℕ) → Bool
+names_absent start line = is_kind (codes "XXZ") line && list_any (λ word. option_map_or (λ n. n == start) (number_of word) false) (words_of line)

@@ -1,0 +1,149 @@
+// What the lines so far say: a report whose lines are still being read.
+ghost use Rattle.std.specs.Prelude.{◌≡◌, ◌≤◌, false, length, is_some, Ok, Some};
+ghost use Rattle.trf16.specs.Lines.{lines};
+ghost use Rattle.trf16.specs.Outcomes.{Gives};
+ghost use Rattle.trf16.specs.Sheet.{entry_of, with_player, known};
+ghost use Rattle.trf16.specs.Verdict.{without_players, names_too_many_rounds};
+
+use crate::cell::Colour;
+use crate::fault::Fault;
+use crate::player::Player;
+use crate::report::Report;
+use indexmap::IndexMap;
+use std::alloc::Global;
+use std::marker::Model;
+
+// The same as a report, but for its limits, which are looked at after all lines.
+#[derive(Drop)]
+pub(crate) struct Draft<'a> {
+    utf8: bool,
+    // everything behind the byte order marks
+    text: &'a [u8],
+    players: IndexMap<u16, Player<'a>>,
+    total: Option<u16>,
+    initial: Option<Colour>,
+}
+
+impl<'a> Model for Draft<'a> {
+    ghost use Rattle.std.specs.Prelude.{◌≡◌, map};
+    ghost use Rattle.std.specs.Map.{keys_of};
+    ghost use Rattle.trf16.specs.Lines.{lines};
+    ghost use Rattle.trf16.specs.Sheet.{Sheet, entry_of};
+    ghost use Rattle.trf16.specs.Verdict.{carried_line};
+
+    ghost Value = { Sheet };
+
+    ghost view = { λ r. record {
+        utf8 = r.utf8;
+        carried = map (carried_line r.utf8) (lines r.text.now);
+        players = map (λ e. entry_of e.1) r.players.entries;
+        total = r.total;
+        initial = r.initial } };
+
+    ghost invariant = { λ r. keys_of r.players.entries ≡ map (λ e. e.1.start) r.players.entries };
+}
+
+impl<'a> Draft<'a> {
+    /// A report of which no line is read yet.
+    pub(crate) fn new(alloc: Global, text: &'a [u8], utf8: bool) -> Draft<'a>
+        ensures { result ≡ without_players utf8 (lines text.now) }
+    {
+        Draft {
+            utf8,
+            text,
+            players: IndexMap::new(alloc),
+            total: None,
+            initial: None,
+        }
+    }
+
+    /// Whether a column is a character, and not a byte.
+    pub(crate) fn is_utf8(&self) -> bool
+        ensures { result ≡ self.now.utf8 }
+    {
+        self.utf8
+    }
+
+    /// Whether a start rank is that of a player.
+    pub(crate) fn knows(&self, start: u16) -> bool
+        ensures { result ≡ known self.now start }
+    {
+        self.players.contains_key(&start)
+    }
+
+    /// How many players there are.
+    pub(crate) fn count(&self) -> usize
+        ensures { result ≡ length self.now.players }
+    {
+        self.players.len()
+    }
+
+    /// Adds the player of the next line.
+    pub(crate) fn enter(&mut self, player: Player<'a>) -> Result<(), Fault>
+        requires { known self.old player.start ≡ false }
+        ensures { Gives (λ _. self.new) result (Ok (with_player self.old (entry_of player.entry))) }
+    {
+        self.players.insert(player.start, player)?;
+        Ok(())
+    }
+
+    /// Whether a line has named the total of rounds.
+    pub(crate) fn has_total(&self) -> bool
+        ensures { result ≡ is_some self.now.total }
+    {
+        self.total.is_some()
+    }
+
+    /// Names the total of rounds.
+    pub(crate) fn set_total(&mut self, rounds: u16)
+        ensures { self.new ≡ record self.old { total = Some rounds } }
+    {
+        self.total = Some(rounds);
+    }
+
+    /// The initial colour that the lines so far name.
+    pub(crate) fn initial(&self) -> Option<Colour>
+        ensures { result ≡ self.now.initial }
+    {
+        self.initial
+    }
+
+    /// Names the initial colour, or none.
+    pub(crate) fn set_initial(&mut self, initial: Option<Colour>)
+        ensures { self.new ≡ record self.old { initial = initial } }
+    {
+        self.initial = initial;
+    }
+
+    /// Whether more than 32 rounds are named.
+    pub(crate) fn names_too_many_rounds(&self) -> bool
+        ensures { result ≡ names_too_many_rounds self.now }
+    {
+        match self.total {
+            Some(rounds) => 32 < rounds,
+            None => false,
+        }
+    }
+
+    /// The report, once its limits are looked at.
+    pub(crate) fn into_report(self) -> Report<'a>
+        requires few_players { length self.players ≤ 256 }
+        requires few_rounds { names_too_many_rounds self ≡ false }
+        ensures { result ≡ self.entry }
+    {
+        let Draft {
+            utf8,
+            text,
+            players,
+            total,
+            initial,
+        } = self;
+        Report {
+            utf8,
+            text,
+            players,
+            total: total.map(|rounds| rounds as u8),
+            initial,
+        }
+    }
+}

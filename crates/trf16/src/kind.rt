@@ -1,0 +1,14 @@
+// The kinds of lines that are known and not supported by every call.
+
+/// A kind of line that changes what a report means.
+#[derive(Debug, Clone, Copy, PartialEq, Eq)]
+pub enum Kind {
+    /// `XXA`: accelerated pairings.
+    Xxa,
+    /// `XXS`: other points for games.
+    Xxs,
+    /// `XXP`: players who do not meet.
+    Xxp,
+    /// `XXC` with the word `rank`: the columns 86 to 89 as the ranking.
+    Rank,
+}

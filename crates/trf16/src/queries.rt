@@ -1,0 +1,73 @@
+// What a report says of the round that comes next: who is absent, the points so far, and what is not supported.
+ghost use Rattle.std.specs.Prelude.{◌≡◌, ◌≤◌, ◌*◌};
+ghost use Rattle.trf16.specs.Absence.{is_absence, is_named_absent, absent, first_of};
+ghost use Rattle.trf16.specs.Sheet.{points_upto};
+
+use crate::answering::{front, sum_of};
+use crate::cell::{Bye, Cell};
+use crate::extensions::{is_of_some, names_absent};
+use crate::kind::Kind;
+use crate::lines::next_line;
+use crate::report::Report;
+
+// A cell that says that a player does not play.
+fn is_absence(cell: &Cell) -> bool
+    ensures { result ≡ is_absence cell.now }
+{
+    match cell {
+        Cell::Bye(Bye::Half | Bye::Full | Bye::Zero) => true,
+        _ => false,
+    }
+}
+
+impl<'a> Report<'a> {
+    // Whether a line `XXZ` names a player.
+    fn is_named_absent(&self, start: u16) -> bool
+        ensures { result ≡ is_named_absent self.now start }
+    {
+        let mut rest = self.text;
+        while !rest.is_empty() {
+            let (line, after) = next_line(rest);
+            if names_absent(line, self.utf8, start) {
+                return true;
+            }
+            rest = after;
+        }
+        false
+    }
+
+    /// Whether a player is absent from the round behind the last that was paired: a line `XXZ` names him, or his cell there is
+    /// `H`, `F` or `Z`. It takes time in step with the text.
+    pub fn absent(&self, start: u16) -> bool
+        ensures { result ≡ absent self.now start }
+    {
+        self.is_named_absent(start) || is_absence(&self.cell(start, self.rounds_played() + 1))
+    }
+
+    /// The half points of a player in the rounds 1 to `upto`.
+    pub fn points(&self, start: u16, upto: u8) -> u16
+        ensures value { result ≡ points_upto self.now start upto }
+    {
+        match self.player(start) {
+            Some(player) => sum_of(front(&player.cells, upto)),
+            None => 0,
+        }
+    }
+
+    /// The number of the first line of one of some kinds, from 1. It takes time in step with the text.
+    pub fn unsupported(&self, kinds: &[Kind]) -> Option<usize>
+        ensures { result ≡ first_of kinds.now self.now }
+    {
+        let mut rest = self.text;
+        let mut n = 1;
+        while !rest.is_empty() {
+            let (line, after) = next_line(rest);
+            if is_of_some(line, self.utf8, kinds) {
+                return Some(n);
+            }
+            rest = after;
+            n += 1;
+        }
+        None
+    }
+}
