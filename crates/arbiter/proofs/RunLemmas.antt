@@ -1,5 +1,5 @@
 -- What is read of the source is enough to answer over all its bytes.
-use Rattle.std.proofs.Common.{true, nat_lt, ◌≡◌, ◌≤◌, ◌<◌, ◌++◌, ℕ, List, [], Option, None, Some, Err, length, refl, sym, ◌∙◌, ap, rules, arith, append-nil, inl, inr, length-append}
+use Rattle.std.proofs.Common.{true, nat_lt, ◌≡◌, ◌≤◌, ◌<◌, ◌++◌, ℕ, List, [], Option, None, Some, Err, length, refl, sym, ◌∙◌, ap, arith, append-nil, inl, inr, length-append}
 use Rattle.std.specs.Io.KnownBytes.{Consumes, IsAtEnd}
 use Rattle.std.proofs.lemmas.Bool.{cases_lt}
 use Rattle.std.proofs.lemmas.Bool.Decides.{nat_tests}
@@ -7,7 +7,7 @@ use Rattle.trf16.specs.Verdict.{verdict}
 use Rattle.trf16.specs.declared.fault.Excess.TheVariants.{Bytes}
 use Rattle.trf16.specs.declared.fault.Fault.TheVariants.{TooMany}
 use Rattle.arbiter.specs.Commands.{Answer, Answers, check_answer}
-use Rattle.arbiter.specs.Devices.{Reading, Use}
+use Rattle.arbiter.specs.Devices.{Reading}
 use Rattle.arbiter.specs.Input.{IsRead, most_read}
 use Rattle.arbiter.specs.Run.{IsAnswered, IsInput}
 use Rattle.arbiter.specs.declared.words.Request.{Request}

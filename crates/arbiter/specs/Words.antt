@@ -2,7 +2,7 @@
 use Rattle.std.specs.Prelude.{◌≡◌, Bool, true, false, List, [], Option, Some, None, codes, if◌then◌else◌}
 use Rattle.std.specs.List.{list_any}
 use Rattle.std.specs.Str.{bytes_eq}
-use Rattle.clap.specs.Words.{App, Row, Shape, Text, new_app, subcommand_of, with_subcommand, fault_of}
+use Rattle.clap.specs.Words.{App, Row, Text, new_app, subcommand_of, with_subcommand, fault_of}
 use Rattle.clap.specs.Simple.{on_top}
 use Rattle.clap.specs.declared.error.kind.ErrorKind.{ErrorKind}
 use Rattle.clap.specs.declared.error.kind.ErrorKind.TheVariants.{DisplayHelp, DisplayVersion, OutOfMemory}
@@ -15,19 +15,22 @@ use Rattle.arbiter.specs.declared.words.Asked.TheVariants.{Command, Help, Mistak
 abbrev pub check_app : App
 check_app = new_app (codes "check")
 
--- `arbiter`: all words stand behind its name, it has a version and no command `help`, and it wants a command
-abbrev pub settled : Shape → Shape
-settled top = record top {
+-- a command with a version
+abbrev pub versioned : App → App
+versioned = on_top (λ top. record top { has_version = true })
+
+-- a command that takes all words as its arguments, has no command `help`, and wants a command
+abbrev pub settled : App → App
+settled = on_top (λ top. record top {
   no_binary_name = true;
   disable_help_subcommand = true;
-  has_version = true;
   arg_required_else_help = true;
   subcommand_required = true;
-}
+})
 
 -- the program's command line
 abbrev pub arbiter_app : App
-arbiter_app = with_subcommand (on_top settled (new_app (codes "arbiter"))) check_app.top
+arbiter_app = with_subcommand (settled (versioned (new_app (codes "arbiter")))) check_app.top
 
 -- the request that a command and its options make
 abbrev pub request_by : Option (Text × List Row) → Option Request

@@ -1,6 +1,9 @@
 // The arbiter at the command line: it checks a tournament report that stands on standard input.
 #![tactic(auto)]
 
+ghost use Rattle.std.specs.Prelude.{◌≡◌, ◌≢◌};
+ghost use Rattle.std.specs.IoError.{error_kind};
+
 mod check;
 mod input;
 mod reply;
@@ -37,7 +40,10 @@ fn run_on(rt: &HostRuntime) -> io::Result<Status> {
 }
 
 // The words could not be had: they are no text, or memory was refused.
-fn without_words(rt: &HostRuntime, error: &io::Error) -> Status {
+fn without_words(rt: &HostRuntime, error: &io::Error) -> Status
+    ensures no_text { error_kind error.now ≡ ErrorKind.InvalidData → result ≡ Status.BadWords }
+    ensures no_memory { error_kind error.now ≢ ErrorKind.InvalidData → result ≡ Status.Trouble }
+{
     let (status, text) = match error.kind() {
         ErrorKind::InvalidData => (Status::BadWords, "words: not UTF-8"),
         _ => (Status::Trouble, "memory: refused"),

@@ -1,9 +1,8 @@
 // The words of the command line: which command they ask for, or what help or refusal they get.
-ghost use Rattle.std.specs.Prelude.{◌≡◌, IfOk, IfErr, map, true, false, codes, Some};
+ghost use Rattle.std.specs.Prelude.{◌≡◌, IfOk, map, false, codes};
 ghost use Rattle.clap.specs.declared.Command.{out-Command as fields_of};
-ghost use Rattle.clap.specs.Words.{app_of, kind_of, subcommand_rows_of, subcommand_of, fault_of, is_simple, is_simple_and_free};
-ghost use Rattle.clap.specs.Simple.{on_top, new_app};
-ghost use Rattle.arbiter.specs.Words.{ComesTo, Tells, arbiter_app, check_app, request_by, settled};
+ghost use Rattle.clap.specs.Words.{app_of, kind_of, new_app, subcommand_rows_of};
+ghost use Rattle.arbiter.specs.Words.{ComesTo, Tells, arbiter_app, check_app, request_by, settled, versioned};
 
 use clap::error::ErrorKind;
 use clap::{ArgMatches, Command, Error};
@@ -75,7 +74,7 @@ fn arbiter_command<'a>(alloc: Global) -> Result<Command<'a>, AllocError>
 
 // The name and the texts of the program.
 fn named<'a>(alloc: Global) -> Result<Command<'a>, AllocError>
-    ensures app { IfOk result (λ command. app_of command ≡ on_top (λ top. record top { has_version = true }) (new_app (codes "arbiter"))) }
+    ensures app { IfOk result (λ command. app_of command ≡ versioned (new_app (codes "arbiter"))) }
     ensures local { IfOk result (λ command. (fields_of command).has_globals ≡ false) }
 {
     Command::new(alloc, "arbiter")
@@ -89,7 +88,7 @@ fn named<'a>(alloc: Global) -> Result<Command<'a>, AllocError>
 
 // A command that takes all words as arguments, and wants a command among them.
 fn with_settings<'a>(command: Command<'a>) -> Command<'a>
-    ensures app { app_of result ≡ on_top (λ top. record top { no_binary_name = true; disable_help_subcommand = true; arg_required_else_help = true; subcommand_required = true }) (app_of command.entry) }
+    ensures app { app_of result ≡ settled (app_of command.entry) }
     ensures local { (fields_of result).has_globals ≡ (fields_of command.entry).has_globals }
 {
     command
