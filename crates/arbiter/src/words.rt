@@ -2,7 +2,7 @@
 ghost use Rattle.std.specs.Prelude.{◌≡◌, IfOk, map, false, codes};
 ghost use Rattle.clap.specs.declared.Command.{out-Command as fields_of};
 ghost use Rattle.clap.specs.Words.{app_of, kind_of, new_app, subcommand_rows_of};
-ghost use Rattle.arbiter.specs.Words.{ComesTo, Tells, arbiter_app, check_app, request_by, settled, versioned};
+ghost use Rattle.arbiter.specs.Words.{ComesTo, Tells, arbiter_app, check_app, format_app, request_by, settled, versioned};
 
 use clap::error::ErrorKind;
 use clap::{ArgMatches, Command, Error};
@@ -13,6 +13,8 @@ use std::alloc::{AllocError, Global};
 pub enum Request {
     /// Tells whether a report is accepted.
     Check,
+    /// Writes a report in canonical columns.
+    Format,
 }
 
 /// What the words of a command line come to.
@@ -47,6 +49,7 @@ fn request_in(matches: &ArgMatches<'_>) -> Option<Request>
 {
     match matches.subcommand_name() {
         Some("check") => Some(Request::Check),
+        Some("format") => Some(Request::Format),
         _ => None,
     }
 }
@@ -69,7 +72,9 @@ fn arbiter_command<'a>(alloc: Global) -> Result<Command<'a>, AllocError>
     ensures app { IfOk result (λ command. app_of command ≡ arbiter_app) }
     ensures local { IfOk result (λ command. (fields_of command).has_globals ≡ false) }
 {
-    with_settings(named(alloc)?).subcommand(check_command(alloc))
+    with_settings(named(alloc)?)
+        .subcommand(check_command(alloc))?
+        .subcommand(format_command(alloc))
 }
 
 // The name and the texts of the program.
@@ -79,7 +84,7 @@ fn named<'a>(alloc: Global) -> Result<Command<'a>, AllocError>
 {
     Command::new(alloc, "arbiter")
         .about(
-            "Checks a chess tournament report in TRF16 columns, which is read from standard input",
+            "Checks and rewrites a chess tournament report in TRF16 columns, which is read from standard input",
         )
         .after_help("Example: arbiter check < report.trf")
         .version("1.0")
@@ -106,4 +111,14 @@ fn check_command<'a>(alloc: Global) -> Command<'a>
     Command::new(alloc, "check")
         .about("Tells how many players and rounds the report has, or why it is refused")
         .after_help("The report is read from standard input: arbiter check < report.trf")
+}
+
+// The command `format`.
+fn format_command<'a>(alloc: Global) -> Command<'a>
+    ensures app { app_of result ≡ format_app }
+    ensures local { (fields_of result).has_globals ≡ false }
+{
+    Command::new(alloc, "format")
+        .about("Writes the report in canonical columns, or tells why it is refused")
+        .after_help("The report is read from standard input: arbiter format < report.trf")
 }
