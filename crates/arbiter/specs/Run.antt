@@ -1,7 +1,8 @@
 -- A run: what is answered to the words and to the bytes of the source, and how the answer is written.
 use Rattle.std.specs.Prelude.{◌≡◌, ◌⊎◌, ◌+◌, ◌<◌, ◌≤◌, ℕ, Bool, true, false, List, Option, None, Some, length, take}
 use Rattle.std.specs.Io.KnownBytes.{Appends}
-use Rattle.arbiter.specs.Devices.{Reading, Use, HasFailed, HasNotFailed, IsKept, IsUnread}
+use Rattle.arbiter.specs.Devices.{Reading, IsKept, IsUnread}
+use Rattle.trf16.specs.Output.{Use, HasFailed, HasNotFailed}
 use Rattle.arbiter.specs.Commands.{Answer, Answers, is_output, out_of_memory, read_fault}
 use Rattle.arbiter.specs.Input.{most_read}
 use Rattle.arbiter.specs.Texts.{write_text}
@@ -62,18 +63,6 @@ IsAnswer words source answer = IsCarriedOut words source answer ⊎ (IsHelped wo
     ⊎ IsOutOfMemory source answer))
 
 -- ---- how it is written
-
--- the whole text was written
-pub record HasText (text : List ℕ) (sink : Use) : Type 0 where
-  pub written : Appends sink.before sink.after text
-  pub sound : HasNotFailed sink
-
--- a call of the sink failed, and the text was written up to a place before its end
-pub record HasPart (text : List ℕ) (sink : Use) : Type 0 where
-  pub place : ℕ
-  pub before_end : place < length text
-  pub written : Appends sink.before sink.after (take place text)
-  pub failed : HasFailed sink
 
 -- the text was written, or as much of it as the sink took
 abbrev pub HasTextOrPart : List ℕ → Use → Type 0

@@ -7,13 +7,17 @@ use Rattle.clap.specs.Simple.{on_top}
 use Rattle.clap.specs.declared.error.kind.ErrorKind.{ErrorKind}
 use Rattle.clap.specs.declared.error.kind.ErrorKind.TheVariants.{DisplayHelp, DisplayVersion, OutOfMemory}
 use Rattle.arbiter.specs.declared.words.Request.{Request}
-use Rattle.arbiter.specs.declared.words.Request.TheVariants.{Check}
+use Rattle.arbiter.specs.declared.words.Request.TheVariants.{Check, Format}
 use Rattle.arbiter.specs.declared.words.Asked.{Asked}
 use Rattle.arbiter.specs.declared.words.Asked.TheVariants.{Command, Help, Mistake}
 
 -- `check`, without options
 abbrev pub check_app : App
 check_app = new_app (codes "check")
+
+-- `format`, without options
+abbrev pub format_app : App
+format_app = new_app (codes "format")
 
 -- a command with a version
 abbrev pub versioned : App → App
@@ -30,12 +34,12 @@ settled = on_top (λ top. record top {
 
 -- the program's command line
 abbrev pub arbiter_app : App
-arbiter_app = with_subcommand (settled (versioned (new_app (codes "arbiter")))) check_app.top
+arbiter_app = with_subcommand (with_subcommand (settled (versioned (new_app (codes "arbiter")))) check_app.top) format_app.top
 
 -- the request that a command and its options make
 abbrev pub request_by : Option (Text × List Row) → Option Request
 request_by None = None
-request_by (Some (name, options)) = if bytes_eq name (codes "check") then Some Check else None
+request_by (Some (name, options)) = if bytes_eq name (codes "check") then Some Check else (if bytes_eq name (codes "format") then Some Format else None)
 
 -- an error of clap's that shows what was asked for: help, or the version
 abbrev pub is_shown : ErrorKind → Bool

@@ -1,10 +1,11 @@
 // The command `check`: whether a report is accepted, and how many players and rounds it has.
-ghost use Rattle.std.specs.Prelude.{◌≡◌, ◌≢◌, IfOk};
+ghost use Rattle.std.specs.Prelude.{◌≡◌, IfOk, Ok};
 ghost use Rattle.trf16.specs.Verdict.{verdict};
-ghost use Rattle.arbiter.specs.Commands.{check_answer, refusal};
+ghost use Rattle.arbiter.specs.Commands.{check_answer};
 ghost use Rattle.arbiter.specs.Replies.{answer_of};
 
 use crate::reply::{Reply, Status, Text};
+use crate::refusal::refused;
 use crate::texts;
 use std::alloc::{AllocError, Global};
 use trf16::fault::Fault;
@@ -29,18 +30,6 @@ fn accepted(alloc: Global, report: &Report<'_>) -> Result<Reply, AllocError>
     let text = texts::accepted(alloc, players, report.rounds_played())?;
     Ok(Reply {
         status: Status::Done,
-        text: Text::Made(text),
-    })
-}
-
-// Why a report is refused.
-fn refused(alloc: Global, fault: Fault) -> Result<Reply, AllocError>
-    requires { fault ≢ Fault.OutOfMemory }
-    ensures { IfOk result (λ reply. answer_of reply ≡ refusal fault) }
-{
-    let text = texts::refused(alloc, fault)?;
-    Ok(Reply {
-        status: Status::Refused,
         text: Text::Made(text),
     })
 }

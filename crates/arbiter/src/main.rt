@@ -5,7 +5,9 @@ ghost use Rattle.std.specs.Prelude.{◌≡◌, ◌≢◌};
 ghost use Rattle.std.specs.IoError.{error_kind};
 
 mod check;
+mod format;
 mod input;
+mod refusal;
 mod reply;
 mod run;
 mod texts;

@@ -1,12 +1,13 @@
 // The reply of a run: a status and a text, which is written to standard output or to standard error.
 ghost use Rattle.std.specs.Prelude.{◌≡◌, IsTrue, ◌↔◌, true, string_bytes};
-ghost use Rattle.arbiter.specs.Devices.{use_of};
+ghost use Rattle.trf16.specs.Output.{use_of, Puts};
 ghost use Rattle.arbiter.specs.Commands.{code_of, is_output};
-ghost use Rattle.arbiter.specs.Replies.{answer_of, Puts, text_of};
+ghost use Rattle.arbiter.specs.Replies.{answer_of, text_of};
 ghost use Rattle.arbiter.specs.Run.{IsWritten};
 
 use std::alloc::Global;
-use trf16::devices::{Failed, Sink};
+use trf16::devices::Sink;
+use trf16::output::put_all;
 
 /// How a run ended.
 #[derive(Debug, Clone, Copy, PartialEq, Eq)]
@@ -42,11 +43,12 @@ impl Status {
     }
 }
 
-/// A text of the program: one that it has, or one that it made.
+/// A text of the program: one that it has, one that it made, or the bytes of a report.
 #[derive(Debug, Drop)]
 pub enum Text {
     Fixed(&'static str),
     Made(String),
+    Bytes(Vec<u8>),
 }
 
 impl Text {
@@ -56,6 +58,7 @@ impl Text {
         match self {
             Text::Fixed(text) => text.as_bytes(),
             Text::Made(text) => text.as_bytes(),
+            Text::Bytes(text) => text.as_slice(),
         }
     }
 }
@@ -86,16 +89,4 @@ impl Reply {
         }
         self.status
     }
-}
-
-// Writes a text in as many calls as the sink takes.
-#[tactic(auto, using(crate::proofs::ReplyLemmas::written_further))]
-fn put_all<W: Sink>(sink: &mut W, text: &[u8]) -> Result<(), Failed>
-    ensures { Puts text.now (use_of W.held W.failures sink.old sink.new) result }
-{
-    let mut done = 0;
-    while done < text.len() {
-        done += sink.put(&text[done..])?;
-    }
-    Ok(())
 }

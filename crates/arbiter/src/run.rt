@@ -1,12 +1,14 @@
 // A run of the program: from its words and the bytes of its input to the text that it writes.
 ghost use Rattle.std.specs.Prelude.{◌≡◌, ◌≤◌, ◌+◌, IfOk, map};
 ghost use Rattle.arbiter.specs.Commands.{Answers, out_of_memory};
-ghost use Rattle.arbiter.specs.Devices.{reading_of, use_of};
+ghost use Rattle.arbiter.specs.Devices.{reading_of};
+ghost use Rattle.trf16.specs.Output.{use_of};
 ghost use Rattle.arbiter.specs.Input.{most_read};
 ghost use Rattle.arbiter.specs.Replies.{answer_of};
 ghost use Rattle.arbiter.specs.Run.{IsAnswer, IsOutOfMemory, IsReplyTo, IsRun};
 
 use crate::check::check;
+use crate::format::format;
 use crate::input::{InputFault, read_input};
 use crate::reply::{Reply, Status, Text};
 use crate::words::{Asked, Request, read_words};
@@ -76,6 +78,7 @@ fn answer(alloc: Global, request: Request, input: &[u8]) -> Result<Reply, AllocE
 {
     match request {
         Request::Check => check(alloc, input),
+        Request::Format => format(alloc, input),
     }
 }
 

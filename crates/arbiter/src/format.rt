@@ -1,0 +1,37 @@
+// The command `format`: a report in canonical columns.
+ghost use Rattle.std.specs.Prelude.{◌≡◌, IfOk, Ok};
+ghost use Rattle.trf16.specs.Verdict.{verdict};
+ghost use Rattle.arbiter.specs.Commands.{format_answer};
+ghost use Rattle.arbiter.specs.Replies.{answer_of};
+
+use crate::refusal::refused;
+use crate::reply::{Reply, Status, Text};
+use std::alloc::{AllocError, Global};
+use trf16::devices::{Counted, Failed};
+use trf16::fault::Fault;
+use trf16::report::Report;
+
+/// What `format` says of the bytes of a report.
+pub fn format(alloc: Global, bytes: &[u8]) -> Result<Reply, AllocError>
+    ensures { IfOk result (λ reply. answer_of reply ≡ format_answer (verdict bytes.now)) }
+{
+    match trf16::read(alloc, bytes) {
+        Ok(report) => rewritten(alloc, &report),
+        Err(Fault::OutOfMemory) => Err(AllocError),
+        Err(fault) => refused(alloc, fault),
+    }
+}
+
+// An accepted report, made whole before the first byte is written.
+fn rewritten(alloc: Global, report: &Report<'_>) -> Result<Reply, AllocError>
+    ensures { IfOk result (λ reply. answer_of reply ≡ format_answer (Ok report.now)) }
+{
+    let mut text = Counted::new(Vec::new(alloc));
+    match trf16::write(report, &mut text) {
+        Ok(()) => Ok(Reply {
+            status: Status::Done,
+            text: Text::Bytes(text.into_inner()),
+        }),
+        Err(Failed) => Err(AllocError),
+    }
+}
