@@ -4,3 +4,4 @@ pub mod FieldLemmas
 pub mod ReadingLemmas
 pub mod ReportLemmas
 pub mod AnsweringLemmas
+pub mod OutputLemmas

@@ -12,9 +12,11 @@ mod fields;
 mod grammar;
 pub mod kind;
 mod lines;
+pub mod output;
 pub mod player;
 mod queries;
 mod reading;
+
 pub mod report;
 
 pub use reading::read;
