@@ -5,3 +5,4 @@ pub mod ReadingLemmas
 pub mod ReportLemmas
 pub mod AnsweringLemmas
 pub mod OutputLemmas
+pub mod WritingLemmas

@@ -18,5 +18,7 @@ mod queries;
 mod reading;
 
 pub mod report;
+mod writing;
 
 pub use reading::read;
+pub use writing::write;
