@@ -1,4 +1,3 @@
 pub mod InputLemmas
-pub mod ReplyLemmas
 pub mod WordLemmas
 pub mod RunLemmas

@@ -107,3 +107,30 @@ AllStart-set utf8 bytes starts k at room before here j lt =
 -- what stands behind a column
 pub joined-behind : (utf8 : Bool) (bytes : List ℕ) (before at : ℕ) → IsStart utf8 bytes before at → drop at bytes ≡ joined (drop before (columns utf8 bytes))
 joined-behind utf8 bytes before at start = sym (joined-columns utf8 (drop at bytes)) ∙ ap joined start.back
+
+some_column : (b : ℕ) (cols : List (List ℕ)) (goes : Bool) → 0 < length (cond goes (onto_first b cols) ((b ∷ []) ∷ cols))
+some_column b [] true = omega arith
+some_column b (first ∷ others) true = omega arith
+some_column b cols false = omega arith
+
+few_columns : (b n : ℕ) (cols : List (List ℕ)) (goes : Bool) → length cols ≤ n → length (cond goes (onto_first b cols) ((b ∷ []) ∷ cols)) ≤ n + 1
+few_columns b n [] true h = omega arith
+few_columns b n (first ∷ others) true h = omega (arith, h)
+few_columns b n cols false h = omega (arith, h)
+
+-- there is a column where there is a byte, and there are no more columns than bytes
+pub columns-some : (utf8 : Bool) (b : ℕ) (rest : List ℕ) → 0 < length (columns utf8 (b ∷ rest))
+columns-some utf8 b [] = omega arith
+columns-some utf8 b (c ∷ rest) = some_column b (columns utf8 (c ∷ rest)) (utf8 && goes_on c)
+
+pub columns-few : (utf8 : Bool) (bytes : List ℕ) → length (columns utf8 bytes) ≤ length bytes
+columns-few utf8 [] = omega arith
+columns-few utf8 (b ∷ []) = omega arith
+columns-few utf8 (b ∷ c ∷ rest) = let fewer : length (columns utf8 (c ∷ rest)) ≤ length (c ∷ rest) = columns-few utf8 (c ∷ rest) in
+    omega (arith, few_columns b (length (c ∷ rest)) (columns utf8 (c ∷ rest)) (utf8 && goes_on c) fewer)
+
+-- one column less
+pub columns-less : (utf8 : Bool) (bytes after : List ℕ) → 0 < length bytes → columns utf8 after ≡ drop 1 (columns utf8 bytes)
+    → length (columns utf8 bytes) ≡ length (columns utf8 after) + 1
+columns-less utf8 [] after h e = absurd (omega arith)
+columns-less utf8 (b ∷ rest) after h e = omega (arith, columns-some utf8 b rest, ap length e, length-drop 1 (columns utf8 (b ∷ rest)))

@@ -14,3 +14,5 @@ pub mod WrittenText
 pub mod WrittenFields
 pub mod WrittenPlayers
 pub mod WrittenReport
+pub mod OutputLemmas
+pub mod WritingLemmas

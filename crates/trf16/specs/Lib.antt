@@ -1,4 +1,5 @@
 pub mod Devices
+pub mod Output
 pub mod Lines
 pub mod Fields
 pub mod Cells

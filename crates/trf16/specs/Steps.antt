@@ -1,6 +1,8 @@
--- What the inner functions of reading cut off a text, one step at a time.
-use Rattle.std.specs.Prelude.{◌≡◌, ℕ, ◌<◌, ◌≤◌, Bool, ◌&&◌, ◌==◌, if◌then◌else◌, List, [], ◌∷◌, length, take, drop, slice_index}
+-- What the inner functions cut off a text, or put of it, one step at a time.
+use Rattle.std.specs.Prelude.{◌≡◌, ℕ, ◌<◌, ◌≤◌, Bool, ◌&&◌, ◌==◌, if◌then◌else◌, List, [], ◌∷◌, ◌++◌, length, take, drop, slice_index, Option, Some, None}
 use Rattle.trf16.specs.Lines.{columns, joined}
+use Rattle.trf16.specs.Sheet.{Entry}
+use Rattle.trf16.specs.Written.{player_text}
 
 -- what stands behind the end of a line that ends in front
 abbrev pub behind_end : List ℕ → List ℕ
@@ -17,3 +19,15 @@ pub record IsStart (utf8 : Bool) (bytes : List ℕ) (before at : ℕ) : Type 0 w
 -- the first `count` of these places are where columns begin, one after the other
 abbrev pub AllStart : Bool → List ℕ → List ℕ → ℕ → Type 0
 AllStart utf8 bytes starts count = (k : ℕ) → k < count → IsStart utf8 bytes k (slice_index starts k)
+
+-- the line that is put next: one that is carried, or that of the next player
+abbrev pub next_text : Bool → Option (List ℕ) → List Entry → List ℕ
+next_text utf8 (Some line) players = line ++ (10 ∷ [])
+next_text utf8 None [] = []
+next_text utf8 None (entry ∷ players) = player_text utf8 entry ++ (10 ∷ [])
+
+-- the players whose lines are put behind it
+abbrev pub players_behind : Option (List ℕ) → List Entry → List Entry
+players_behind (Some line) players = players
+players_behind None [] = []
+players_behind None (entry ∷ players) = players

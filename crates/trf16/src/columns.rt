@@ -103,6 +103,20 @@ pub(crate) fn split_kind(bytes: &[u8], utf8: bool) -> (&[u8], &[u8])
     bytes.split_at(len)
 }
 
+/// How many columns a text has.
+pub(crate) fn column_count(bytes: &[u8], utf8: bool) -> usize
+    ensures { result ≡ length (columns utf8 bytes.now) }
+{
+    let mut rest = bytes;
+    let mut count = 0;
+    while !rest.is_empty() {
+        let (_, after) = rest.split_at(column_len(rest, utf8));
+        rest = after;
+        count += 1;
+    }
+    count
+}
+
 /// Whether there is nothing but blanks.
 pub(crate) fn is_blank(bytes: &[u8]) -> bool
     ensures { result ≡ is_blank bytes.now }

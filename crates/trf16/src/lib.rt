@@ -14,12 +14,15 @@ pub mod kind;
 pub mod laws;
 mod lines;
 pub mod meetings;
+pub mod output;
 pub mod player;
 mod queries;
 mod reading;
 pub mod report;
+mod writing;
 
 pub use reading::read;
+pub use writing::write;
 
 #[cfg(test)]
 mod tests;

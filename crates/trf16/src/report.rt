@@ -145,7 +145,7 @@ impl<'a> Report<'a> {
 }
 
 // A line, unless it is a player's.
-fn carried_line(line: &[u8], utf8: bool) -> Option<&[u8]>
+pub(crate) fn carried_line(line: &[u8], utf8: bool) -> Option<&[u8]>
     ensures { option_copied result ≡ carried_line utf8 line.now }
 {
     let (kind, _) = split_kind(line, utf8);

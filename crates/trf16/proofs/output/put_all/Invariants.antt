@@ -1,6 +1,6 @@
 use Rattle.std.proofs.Common.{length, ◌-◌}
-use Rattle.arbiter.proofs.ReplyLemmas.{HasWritten}
-use Rattle.arbiter.proofs.reply.put_all.Given as goal
+use Rattle.trf16.proofs.OutputLemmas.{HasWritten}
+use Rattle.trf16.proofs.output.put_all.Given as goal
 
 abbrev pub invariant-loop-done : goal.invariant-loop-done
 invariant-loop-done g l = HasWritten l.text l.done (g.W.Sink.held l.initial.sink) (g.W.Sink.held l.sink) (g.W.Sink.failures l.initial.sink) (g.W.Sink.failures l.sink)
