@@ -1,5 +1,5 @@
 -- How a line falls into columns, step by step.
-use Rattle.std.proofs.Common.{◌≡◌, ℕ, zero, suc, ◌+◌, ◌-◌, ◌<◌, ◌≤◌, Bool, true, false, ◌&&◌, ◌||◌, ◌==◌, not, cond, get_or, inl, inr, subst, List, [], ◌∷◌, ◌++◌, length, take, drop, refl, sym, ap, ◌∙◌, append_assoc, arith}
+use Rattle.std.proofs.Common.{◌≡◌, ℕ, zero, suc, ◌+◌, ◌-◌, ◌<◌, ◌≤◌, Bool, true, false, ◌&&◌, cond, get_or, inl, inr, subst, List, [], ◌∷◌, ◌++◌, length, take, drop, refl, sym, ap, ◌∙◌, append_assoc, arith}
 use Rattle.std.proofs.lemmas.List.{append-nil, length-append, length-drop, drop-drop, drop_at, length-take-le, get_or-set_same, get_or-set_other}
 use Rattle.std.proofs.Math.Seq.{take-add}
 use Rattle.std.proofs.lemmas.Bool.{cases_lt}
@@ -20,7 +20,7 @@ columns-character b (c ∷ rest) zero within inside behind = let stops : goes_on
 columns-character b (c ∷ rest) (suc n) within inside behind =
     let follows : goes_on c ≡ true = inside 0 (omega arith) in
     let others : columns true (c ∷ rest) ≡ (c ∷ take n rest) ∷ columns true (drop n rest) =
-        columns-character c rest n (omega arith) (λ k lt. inside (suc k) (omega arith)) (λ lt. behind (omega arith)) in
+    columns-character c rest n (omega arith) (λ k lt. inside (suc k) (omega arith)) (λ lt. behind (omega arith)) in
     rw (follows, others) refl
 
 pub joined-append : (xs ys : List (List ℕ)) → joined (xs ++ ys) ≡ joined xs ++ joined ys
@@ -73,12 +73,12 @@ pub IsStart-next : (utf8 : Bool) (bytes : List ℕ) (before at len : ℕ) → Is
 IsStart-next utf8 bytes before at len start within one =
     let cols = columns utf8 bytes in
     let together : take at bytes ++ take len (drop at bytes) ≡ joined (take before cols ++ take 1 (drop before cols)) =
-        rw (start.front, one.first, start.back) (sym (joined-append (take before cols) (take 1 (drop before cols)))) in
+    rw (start.front, one.first, start.back) (sym (joined-append (take before cols) (take 1 (drop before cols)))) in
     record {
-  within = omega (arith, length-drop at bytes);
-  front = take-add at len bytes ∙ together ∙ ap joined (sym (take-add before 1 (columns utf8 bytes)));
-  back = ap (columns utf8) (sym (drop-drop len at bytes)) ∙ one.rest ∙ ap (λ (cols : List (List ℕ)). drop 1 cols) start.back ∙ drop-drop 1 before (columns utf8 bytes);
-}
+      within = omega (arith, length-drop at bytes);
+      front = take-add at len bytes ∙ together ∙ ap joined (sym (take-add before 1 (columns utf8 bytes)));
+      back = ap (columns utf8) (sym (drop-drop len at bytes)) ∙ one.rest ∙ ap (λ (cols : List (List ℕ)). drop 1 cols) start.back ∙ drop-drop 1 before (columns utf8 bytes);
+    }
 
 -- the bytes of some columns lie between where they begin and where they end
 pub text_between : (utf8 : Bool) (bytes : List ℕ) (i j a b : ℕ) → i ≤ j → IsStart utf8 bytes i a → IsStart utf8 bytes j b
@@ -88,8 +88,8 @@ text_between utf8 bytes i j a b le start end =
     let middle = joined (take (j - i) (drop i cols)) in
     let sum : j ≡ i + (j - i) = omega arith in
     let parts : take b bytes ≡ take a bytes ++ middle =
-        end.front ∙ ap (λ n. joined (take n cols)) sum ∙ ap joined (take-add i (j - i) cols) ∙ joined-append (take i cols) (take (j - i) (drop i cols))
-        ∙ ap (λ (front : List ℕ). front ++ middle) (sym start.front) in
+    end.front ∙ ap (λ n. joined (take n cols)) sum ∙ ap joined (take-add i (j - i) cols) ∙ joined-append (take i cols) (take (j - i) (drop i cols))
+    ∙ ap (λ (front : List ℕ). front ++ middle) (sym start.front) in
     let first : length (take a bytes) ≡ a = length-take-le a bytes start.within in
     let both : length (take b bytes) ≡ b = length-take-le b bytes end.within in
     let total : length (take b bytes) ≡ length (take a bytes) + length middle = ap length parts ∙ length-append (take a bytes) middle in

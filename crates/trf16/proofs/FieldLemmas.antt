@@ -1,10 +1,9 @@
 -- How a field falls into words, step by step, and what digits spell.
-use Rattle.std.proofs.Common.{◌≡◌, ◌≢◌, ℕ, zero, suc, ◌+◌, ◌-◌, ◌*◌, ◌^◌, ◌<◌, ◌≤◌, Bool, true, false, ◌&&◌, ◌==◌, cond, get_or, List, [], ◌∷◌, ◌++◌, length, take, drop, refl, sym, ap, ◌∙◌, arith, inl, inr, add-zero, subst}
+use Rattle.std.proofs.Common.{◌≡◌, ◌≢◌, ℕ, zero, suc, ◌+◌, ◌-◌, ◌<◌, ◌≤◌, Bool, true, false, ◌&&◌, ◌==◌, cond, get_or, List, [], ◌∷◌, ◌++◌, length, take, drop, refl, sym, ap, ◌∙◌, arith, inl, inr, add-zero, subst}
 use Rattle.std.specs.List.{list_all}
 use Rattle.std.proofs.lemmas.List.{take_more, drop_more, get_or-drop, length-drop}
 use Rattle.std.proofs.lemmas.Bool.Decides.{eqb_tells}
 use Rattle.std.proofs.lemmas.List.Folds.{list_all-append}
-use Rattle.trf16.specs.Lines.{onto_first}
 use Rattle.trf16.specs.Fields.{words, without_last}
 
 pub words-blank : (rest : List ℕ) → words (32 ∷ rest) ≡ words rest
@@ -29,7 +28,7 @@ words-word (b ∷ c ∷ rest) (suc zero) within some inside behind =
     subst (λ d. words (b ∷ d ∷ rest) ≡ (b ∷ []) ∷ words (d ∷ rest)) (sym blank) (word_end b rest (inside 0 (omega arith)))
 words-word (b ∷ c ∷ rest) (suc (suc n)) within some inside behind =
     let others : words (c ∷ rest) ≡ take (suc n) (c ∷ rest) ∷ words (drop (suc n) (c ∷ rest)) =
-        words-word (c ∷ rest) (suc n) (omega arith) (omega arith) (λ k lt. inside (suc k) (omega arith)) (λ lt. behind (omega arith)) in
+    words-word (c ∷ rest) (suc n) (omega arith) (omega arith) (λ k lt. inside (suc k) (omega arith)) (λ lt. behind (omega arith)) in
     rw (not_blank b (inside 0 (omega arith)), not_blank c (inside 1 (omega arith)), others) refl
 
 -- the first word behind some blanks

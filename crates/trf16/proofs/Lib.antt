@@ -4,3 +4,13 @@ pub mod FieldLemmas
 pub mod ReadingLemmas
 pub mod ReportLemmas
 pub mod AnsweringLemmas
+pub mod MeetingLemmas
+pub mod Characters
+pub mod WrittenNumbers
+pub mod WrittenColumns
+pub mod WrittenCells
+pub mod WrittenRounds
+pub mod WrittenText
+pub mod WrittenFields
+pub mod WrittenPlayers
+pub mod WrittenReport

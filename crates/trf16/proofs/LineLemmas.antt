@@ -1,5 +1,5 @@
 -- How a text falls into lines, step by step.
-use Rattle.std.proofs.Common.{◌≡◌, ℕ, zero, suc, ◌+◌, ◌<◌, ◌≤◌, Bool, true, false, ◌&&◌, ◌||◌, ◌==◌, not, cond, get_or, List, [], ◌∷◌, ◌++◌, length, take, drop, refl, sym, ap, ◌∙◌, arith}
+use Rattle.std.proofs.Common.{◌≡◌, ℕ, suc, ◌+◌, ◌<◌, ◌≤◌, Bool, true, false, ◌&&◌, ◌==◌, not, cond, get_or, List, [], ◌∷◌, length, take, drop, refl, arith}
 use Rattle.std.proofs.lemmas.Grind.{common_steps}
 use Rattle.std.specs.List.{position_or_len}
 use Rattle.std.proofs.lemmas.List.Sums.{position_or_len_is}
@@ -16,7 +16,7 @@ cc_no e = cc
 step : (b c : ℕ) (rest : List ℕ) (ends both : Bool) (k : ℕ) → (both ≡ true → ends ≡ true) → both ≡ (b == 13) && (c == 10)
     → lines (c ∷ rest) ≡ take k (c ∷ rest) ∷ lines (behind_end (drop k (c ∷ rest)))
     → cond both ([] ∷ lines rest) (cond ends ([] ∷ lines (c ∷ rest)) (onto_first b (lines (c ∷ rest))))
-        ≡ take (cond (not ends) (1 + k) 0) (b ∷ c ∷ rest) ∷ lines (behind_end (drop (cond (not ends) (1 + k) 0) (b ∷ c ∷ rest)))
+    ≡ take (cond (not ends) (1 + k) 0) (b ∷ c ∷ rest) ∷ lines (behind_end (drop (cond (not ends) (1 + k) 0) (b ∷ c ∷ rest)))
 step b c rest true true k h e others = rw (← e) refl
 step b c rest true false k h e others = rw (← e) refl
 step b c rest false true k h e others = let no : false ≡ true = h refl in absurd (cc_no no)

@@ -1,5 +1,5 @@
 -- Reading one thing after the other, as a loop does.
-use Rattle.std.proofs.Common.{◌≡◌, ℕ, Bool, true, false, cond, ◌||◌, ◌&&◌, suc, ◌-◌, ◌+◌, ◌≤◌, ◌<◌, List, [], ◌∷◌, ◌++◌, length, Result, Ok, Err, refl, sym, ap, ◌∙◌, append_assoc, arith}
+use Rattle.std.proofs.Common.{◌≡◌, ℕ, Bool, true, false, cond, ◌||◌, suc, ◌-◌, ◌+◌, ◌≤◌, ◌<◌, List, [], ◌∷◌, ◌++◌, length, Result, Ok, Err, refl, sym, ap, ◌∙◌, append_assoc, arith}
 use Rattle.std.specs.Prelude.{MatchResult, is_ok, is_some, codes, Some}
 use Rattle.std.specs.Option.{ok_or}
 use Rattle.trf16.specs.Extensions.{is_kind, words_of, rounds_in, colour_in, are_start_ranks}
@@ -9,8 +9,8 @@ use Rattle.std.proofs.lemmas.List.{append-nil}
 use Rattle.trf16.specs.declared.cell.Cell.{Cell}
 use Rattle.trf16.specs.declared.fault.Fault.{Fault}
 use Rattle.trf16.specs.declared.fault.Fault.TheVariants.{BadNumber, Duplicate, Misaligned, BadCell, BadExtension, TooMany, NoPlayers, NoSuchOpponent, SelfOpponent, NotMutual, Colours, Results, Points, OutOfMemory}
-use Rattle.trf16.specs.Verdict.{round_at, rounds_at, player_at, is_player, is_too_long, player_onto, rounds_onto, colour_onto, absence_onto, line_onto, lines_onto, has_too_many_rounds}
-use Rattle.trf16.specs.Sheet.{Entry, Sheet, with_player}
+use Rattle.trf16.specs.Verdict.{round_at, rounds_at, player_at, is_player, player_onto, rounds_onto, colour_onto, absence_onto, line_onto, lines_onto}
+use Rattle.trf16.specs.Sheet.{Sheet, with_player}
 use Rattle.trf16.specs.Lines.{columns}
 use Rattle.trf16.specs.Outcomes.{◌>>=◌, Fails}
 
@@ -48,7 +48,7 @@ unfolding rounds_at
 rounds-go_on n line front before cell total lt here so_far =
     let more : 32 - before ≡ suc (32 - (before + 1)) = omega arith in
     let one : behind front (rounds_at n line before (32 - before)) ≡ behind (front ++ cell ∷ []) (rounds_at n line (before + 1) (32 - (before + 1))) =
-        rw (more, here) (regroup front cell (rounds_at n line (before + 1) (32 - (before + 1)))) in
+    rw (more, here) (regroup front cell (rounds_at n line (before + 1) (32 - (before + 1)))) in
     sym one ∙ so_far
 
 pub rounds-fail : (n : ℕ) (line : List (List ℕ)) (front : List Cell) (before : ℕ) (total : Result (List Cell) Fault) → before < 32
@@ -119,7 +119,7 @@ absence_onto-utf8 sheet n line next e = absence_named sheet next n (are_start_ra
 
 by_kind : (sheet : Sheet) (n : ℕ) (line : List (List ℕ)) (next : Sheet) (player rounds colour absence : Bool)
     → cond player (player_onto sheet n line) (cond rounds (rounds_onto sheet n line) (cond colour (colour_onto sheet n line)
-        (cond absence (absence_onto sheet n line) (Ok sheet)))) ≡ Ok next → next.utf8 ≡ sheet.utf8
+    (cond absence (absence_onto sheet n line) (Ok sheet)))) ≡ Ok next → next.utf8 ≡ sheet.utf8
 unfolding done
 by_kind sheet n line next true rounds colour absence e = player_onto-utf8 sheet n line next e
 by_kind sheet n line next false true colour absence e = rounds_onto-utf8 sheet n line next e

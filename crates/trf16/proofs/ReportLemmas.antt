@@ -1,5 +1,5 @@
 -- The players of a report, seen as a map by start rank and as a list in the order of their lines.
-use Rattle.std.proofs.Common.{◌≡◌, ℕ, suc, ◌+◌, ◌<◌, nat_lt, max, length, take, get_or, Bool, true, false, cond, ◌||◌, ◌==◌, nat_eq, List, [], ◌∷◌, ◌++◌, map, Option, None, Some, refl, sym, ap, ◌∙◌, is_some, arith}
+use Rattle.std.proofs.Common.{◌≡◌, ℕ, suc, ◌+◌, ◌<◌, nat_lt, length, take, get_or, Bool, true, false, cond, ◌||◌, ◌==◌, nat_eq, List, [], ◌∷◌, ◌++◌, map, Option, None, Some, refl, sym, ap, ◌∙◌, is_some, arith}
 use Rattle.std.specs.List.{list_any}
 use Rattle.std.specs.Map.{keys_of, lookup}
 use Rattle.std.proofs.lemmas.Bool.{lt-ltb}
@@ -8,7 +8,7 @@ use Rattle.std.specs.Option.{option_map_or}
 use Rattle.std.proofs.lemmas.List.{map-append, take_more, length-take-le}
 use Rattle.trf16.specs.declared.player.Player.{Player}
 use Rattle.trf16.specs.declared.cell.Cell.{Cell}
-use Rattle.trf16.specs.Sheet.{Entry, entry_of, cells_of, is_paired, last_paired, last_paired_of}
+use Rattle.trf16.specs.Sheet.{Entry, entry_of, cells_of, is_paired, last_paired}
 
 -- entries whose keys are the start ranks of their players
 pub record AreKeyed (entries : List (ℕ × Player)) : Type 0 where
@@ -37,8 +37,8 @@ pub known-lookup : (es : List (ℕ × Player)) (start : ℕ) → keys_of es ≡ 
 known-lookup [] start keyed = refl
 known-lookup (e ∷ es) start keyed =
     known_step e.0 start e.1 (lookup (nat_eq start) es) (list_any (λ (entry : Entry). entry.start == start) (map (λ e. entry_of e.1) es))
-        (first_of_lists e.0 e.1.start (keys_of es) (map (λ e. e.1.start) es) keyed)
-        (known-lookup es start (rest_of_lists e.0 e.1.start (keys_of es) (map (λ e. e.1.start) es) keyed))
+    (first_of_lists e.0 e.1.start (keys_of es) (map (λ e. e.1.start) es) keyed)
+    (known-lookup es start (rest_of_lists e.0 e.1.start (keys_of es) (map (λ e. e.1.start) es) keyed))
 
 pub entries-values : (es : List (ℕ × Player)) → map entry_of (map (λ e. e.1) es) ≡ map (λ e. entry_of e.1) es
 entries-values [] = refl
@@ -73,12 +73,12 @@ pub cells-lookup : (es : List (ℕ × Player)) (start : ℕ) → keys_of es ≡ 
 cells-lookup [] start keyed = refl
 cells-lookup (e ∷ es) start keyed =
     cells_step e.0 start e.1 (lookup (nat_eq start) es) (cells_of (map (λ e. entry_of e.1) es) start)
-        (first_of_lists e.0 e.1.start (keys_of es) (map (λ e. e.1.start) es) keyed)
-        (cells-lookup es start (rest_of_lists e.0 e.1.start (keys_of es) (map (λ e. e.1.start) es) keyed))
+    (first_of_lists e.0 e.1.start (keys_of es) (map (λ e. e.1.start) es) keyed)
+    (cells-lookup es start (rest_of_lists e.0 e.1.start (keys_of es) (map (λ e. e.1.start) es) keyed))
 
 paired_step : (len others : ℕ) (first last : Bool) → 0 < len + 1
     → cond (nat_lt 0 (cond last (len + 1) others)) (cond last (len + 1) others + 1) (cond first 1 0)
-        ≡ cond last (suc len + 1) (cond (nat_lt 0 others) (others + 1) (cond first 1 0))
+    ≡ cond last (suc len + 1) (cond (nat_lt 0 others) (others + 1) (cond first 1 0))
 paired_step len others first true h = rw (lt-ltb 0 (len + 1) h) (omega arith)
 paired_step len others first false h = refl
 

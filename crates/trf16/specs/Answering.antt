@@ -1,5 +1,5 @@
 -- The rules on two players who name each other in a round, and on the sum of a player's points.
-use Rattle.std.specs.Prelude.{◌≡◌, ℕ, ◌+◌, ◌-◌, Bool, true, false, not, ◌&&◌, ◌||◌, ◌==◌, nat_eq, nat_le, nat_lt, if◌then◌else◌, List, [], ◌∷◌, length, codes, Option, Some, None, sum_by, take, Result, Ok, Err}
+use Rattle.std.specs.Prelude.{ℕ, ◌+◌, Bool, true, false, not, ◌&&◌, ◌||◌, ◌==◌, nat_le, nat_lt, if◌then◌else◌, List, [], ◌∷◌, codes, Option, Some, sum_by, take, Result, Ok, Err}
 use Rattle.std.specs.List.{list_any}
 use Rattle.std.specs.Option.{option_map_or}
 use Rattle.trf16.specs.Lines.{columns}
@@ -9,7 +9,7 @@ use Rattle.trf16.specs.Outcomes.{◌>>=◌}
 use Rattle.trf16.specs.declared.cell.Colour.{Colour}
 use Rattle.trf16.specs.declared.cell.Colour.TheVariants.{White, Black}
 use Rattle.trf16.specs.declared.cell.Cell.{Cell}
-use Rattle.trf16.specs.declared.cell.Cell.TheVariants.{Blank, Bye, Game, Forfeit, Unfinished}
+use Rattle.trf16.specs.declared.cell.Cell.TheVariants.{Game, Forfeit, Unfinished}
 use Rattle.trf16.specs.declared.fault.Fault.{Fault}
 use Rattle.trf16.specs.declared.fault.Fault.TheVariants.{NoSuchOpponent, SelfOpponent, NotMutual, Colours, Results, Points}
 
@@ -42,12 +42,12 @@ pair_fits start round mine theirs =
 unfoldable pub cell_fits : Sheet → ℕ → ℕ → Cell → Result (Unit {0}) Fault
 cell_fits sheet start round mine =
     option_map_or (λ opponent.
-        if not (known sheet opponent) then Err (NoSuchOpponent start round)
-        else (if opponent == start then Err (SelfOpponent start round)
-        else (let theirs = cell_in sheet opponent round in
-            if not (option_map_or (λ o. o == start) (opponent_in_cell theirs) false) then Err (NotMutual start round)
-            else pair_fits start round mine theirs)))
-      (opponent_in_cell mine) (Ok tt)
+    if not (known sheet opponent) then Err (NoSuchOpponent start round)
+    else (if opponent == start then Err (SelfOpponent start round)
+    else (let theirs = cell_in sheet opponent round in
+    if not (option_map_or (λ o. o == start) (opponent_in_cell theirs) false) then Err (NotMutual start round)
+    else pair_fits start round mine theirs)))
+    (opponent_in_cell mine) (Ok tt)
 
 -- the same for the cells of a player from a round on
 unfoldable pub cells_fit : Sheet → ℕ → ℕ → List Cell → Result (Unit {0}) Fault
@@ -65,9 +65,9 @@ has_other_points sheet = list_any (λ line. option_map_or (λ bytes. is_kind (co
 unfoldable pub points_fit : Sheet → Entry → Result (Unit {0}) Fault
 points_fit sheet entry =
     option_map_or (λ points.
-        if (points == sum_by half_points (take (rounds_played sheet) entry.cells)) || (points == sum_by half_points entry.cells) || (has_other_points sheet && nat_lt points 200)
-        then Ok tt else Err (Points entry.start))
-      entry.points (Ok tt)
+    if (points == sum_by half_points (take (rounds_played sheet) entry.cells)) || (points == sum_by half_points entry.cells) || (has_other_points sheet && nat_lt points 200)
+    then Ok tt else Err (Points entry.start))
+    entry.points (Ok tt)
 
 -- the rounds of a player, and then his points
 unfoldable pub player_fits : Sheet → Entry → Result (Unit {0}) Fault

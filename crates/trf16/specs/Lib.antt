@@ -7,6 +7,7 @@ pub mod Extensions
 pub mod Sheet
 pub mod Answering
 pub mod Verdict
+pub mod Meetings
 pub mod Absence
 pub mod Written
 pub mod Steps

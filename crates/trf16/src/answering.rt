@@ -15,7 +15,8 @@ fn are_opposite(mine: Option<Colour>, theirs: Option<Colour>) -> bool
     ensures { result ≡ are_opposite mine theirs }
 {
     match (mine, theirs) {
-        (Some(Colour::White), Some(Colour::Black)) | (Some(Colour::Black), Some(Colour::White)) => true,
+        (Some(Colour::White), Some(Colour::Black)) | (Some(Colour::Black), Some(Colour::White)) =>
+            true,
         _ => false,
     }
 }

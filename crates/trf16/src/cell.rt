@@ -53,7 +53,10 @@ pub enum Cell {
         won: bool,
     },
     /// A game without a result yet.
-    Unfinished { opponent: u16, colour: Colour },
+    Unfinished {
+        opponent: u16,
+        colour: Colour,
+    },
 }
 
 impl Cell {
@@ -67,8 +70,15 @@ impl Cell {
         match self {
             Cell::Bye(Bye::Full | Bye::Allocated) => 2,
             Cell::Bye(Bye::Half) => 1,
-            Cell::Game { got: Outcome::Win, .. } | Cell::Forfeit { won: true, .. } => 2,
-            Cell::Game { got: Outcome::Draw, .. } => 1,
+            Cell::Game {
+                got: Outcome::Win,
+                ..
+            }
+            | Cell::Forfeit { won: true, .. } => 2,
+            Cell::Game {
+                got: Outcome::Draw,
+                ..
+            } => 1,
             _ => 0,
         }
     }
@@ -78,7 +88,9 @@ impl Cell {
         ensures { result ≡ opponent_in_cell self.now }
     {
         match self {
-            Cell::Game { opponent, .. } | Cell::Forfeit { opponent, .. } | Cell::Unfinished { opponent, .. } => Some(*opponent),
+            Cell::Game { opponent, .. }
+            | Cell::Forfeit { opponent, .. }
+            | Cell::Unfinished { opponent, .. } => Some(*opponent),
             Cell::Blank | Cell::Bye(_) => None,
         }
     }

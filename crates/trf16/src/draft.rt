@@ -34,11 +34,12 @@ impl<'a> Model for Draft<'a> {
     ghost Value = { Sheet };
 
     ghost view = { λ r. record {
-        utf8 = r.utf8;
-        carried = map (carried_line r.utf8) (lines r.text.now);
-        players = map (λ e. entry_of e.1) r.players.entries;
-        total = r.total;
-        initial = r.initial } };
+      utf8 = r.utf8;
+      carried = map (carried_line r.utf8) (lines r.text.now);
+      players = map (λ e. entry_of e.1) r.players.entries;
+      total = r.total;
+      initial = r.initial;
+    } };
 
     ghost invariant = { λ r. keys_of r.players.entries ≡ map (λ e. e.1.start) r.players.entries };
 }

@@ -11,10 +11,15 @@ pub mod fault;
 mod fields;
 mod grammar;
 pub mod kind;
+pub mod laws;
 mod lines;
+pub mod meetings;
 pub mod player;
 mod queries;
 mod reading;
 pub mod report;
 
 pub use reading::read;
+
+#[cfg(test)]
+mod tests;

@@ -7,7 +7,6 @@ ghost use Rattle.trf16.specs.Outcomes.{Gives};
 ghost use Rattle.trf16.specs.Sheet.{entry_of, known};
 ghost use Rattle.trf16.specs.Verdict.{blank_at, start_number_at, start_at, points_at, round_at, rounds_at, is_blank_cell, cells_at, player_at, is_player, is_too_long, player_onto, rounds_onto, colour_onto, absence_onto, line_onto, lines_onto, has_too_many_rounds, sized, report_of, verdict};
 
-
 use crate::answering::players_fit;
 use crate::cell::Cell;
 use crate::columns::{Line, is_blank, split_kind};
@@ -81,7 +80,11 @@ fn round_at(n: usize, line: &Line<'_>, before: usize) -> Result<Cell, Fault>
     blank_at(n, line, at + 7)?;
     blank_at(n, line, at + 9)?;
     blank_at(n, line, at + 10)?;
-    match cell_from(line.text(at + 1, at + 4), line.text(at + 6, at + 6), line.text(at + 8, at + 8)) {
+    match cell_from(
+        line.text(at + 1, at + 4),
+        line.text(at + 6, at + 6),
+        line.text(at + 8, at + 8),
+    ) {
         None => Err(Fault::BadCell {
             line: n,
             round: before + 1,
@@ -138,7 +141,12 @@ fn cells_at(alloc: Global, n: usize, line: &Line<'_>) -> Result<Vec<Cell>, Fault
 
 // The player that line n names, behind those of a report so far.
 #[tactic(auto, unfolding(crate::specs::Verdict::player_at))]
-fn player_at<'a>(alloc: Global, draft: &Draft<'a>, n: usize, line: &Line<'a>) -> Result<Player<'a>, Fault>
+fn player_at<'a>(
+    alloc: Global,
+    draft: &Draft<'a>,
+    n: usize,
+    line: &Line<'a>,
+) -> Result<Player<'a>, Fault>
     ensures given { Gives entry_of result (player_at draft.now n line.now) }
     ensures new { IfOk result (λ player. known draft.now player.start ≡ false) }
 {
@@ -201,7 +209,12 @@ fn absence_onto(draft: &mut Draft<'_>, n: usize, bytes: &[u8]) -> Result<(), Fau
 
 // 001: a player; and whether his line goes on behind the last round.
 #[tactic(auto, unfolding(crate::specs::Verdict::player_onto))]
-fn player_onto<'a>(alloc: Global, draft: &mut Draft<'a>, n: usize, bytes: &'a [u8]) -> Result<bool, Fault>
+fn player_onto<'a>(
+    alloc: Global,
+    draft: &mut Draft<'a>,
+    n: usize,
+    bytes: &'a [u8],
+) -> Result<bool, Fault>
     ensures given { Gives (λ _. draft.new) result (player_onto draft.old n (columns draft.old.utf8 bytes.now)) }
     ensures long { IfOk result (λ long. long ≡ is_too_long (columns draft.old.utf8 bytes.now)) }
 {
@@ -213,7 +226,12 @@ fn player_onto<'a>(alloc: Global, draft: &mut Draft<'a>, n: usize, bytes: &'a [u
 
 // Reads line n onto a report, and tells whether it is a player's that goes on behind the last round.
 #[tactic(auto, unfolding(crate::specs::Verdict::line_onto))]
-fn line_onto<'a>(alloc: Global, draft: &mut Draft<'a>, n: usize, bytes: &'a [u8]) -> Result<bool, Fault>
+fn line_onto<'a>(
+    alloc: Global,
+    draft: &mut Draft<'a>,
+    n: usize,
+    bytes: &'a [u8],
+) -> Result<bool, Fault>
     ensures given { Gives (λ _. draft.new) result (line_onto draft.old n (columns draft.old.utf8 bytes.now)) }
     ensures long { let line = columns draft.old.utf8 bytes.now in IfOk result (λ long. long ≡ (is_player line && is_too_long line)) }
 {

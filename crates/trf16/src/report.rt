@@ -32,16 +32,17 @@ impl<'a> Model for Report<'a> {
     ghost use Rattle.trf16.specs.Lines.{lines};
     ghost use Rattle.trf16.specs.Sheet.{Sheet, entry_of};
     ghost use Rattle.trf16.specs.Answering.{has_other_points};
-ghost use Rattle.trf16.specs.Verdict.{carried_line};
+    ghost use Rattle.trf16.specs.Verdict.{carried_line};
 
     ghost Value = { Sheet };
 
     ghost view = { λ r. record {
-        utf8 = r.utf8;
-        carried = map (carried_line r.utf8) (lines r.text.now);
-        players = map (λ e. entry_of e.1) r.players.entries;
-        total = r.total;
-        initial = r.initial } };
+      utf8 = r.utf8;
+      carried = map (carried_line r.utf8) (lines r.text.now);
+      players = map (λ e. entry_of e.1) r.players.entries;
+      total = r.total;
+      initial = r.initial;
+    } };
 
     ghost invariant = { λ r. (keys_of r.players.entries ≡ map (λ e. e.1.start) r.players.entries)
         × (length r.players.entries ≤ 256) × ForSome r.total (λ total. total ≤ 32) };
@@ -170,7 +171,10 @@ fn is_paired(cell: &Cell) -> bool
 {
     match cell {
         Cell::Blank | Cell::Bye(Bye::Half | Bye::Full | Bye::Zero) => false,
-        Cell::Bye(Bye::Allocated) | Cell::Game { .. } | Cell::Forfeit { .. } | Cell::Unfinished { .. } => true,
+        Cell::Bye(Bye::Allocated)
+        | Cell::Game { .. }
+        | Cell::Forfeit { .. }
+        | Cell::Unfinished { .. } => true,
     }
 }
 

@@ -1,4 +1,4 @@
-use Rattle.std.proofs.Common.{◌≡◌, ◌+◌, sym, ◌∙◌, drop, get_or}
+use Rattle.std.proofs.Common.{◌+◌, sym, ◌∙◌, get_or}
 use Rattle.std.proofs.lemmas.Result.{err_from_is_err_and}
 use Rattle.trf16.specs.declared.cell.Cell.TheVariants.{Blank}
 use Rattle.trf16.specs.Answering.{cell_fits, cells_fit}
@@ -13,7 +13,7 @@ returns-in_err-cell_fits c =
     let cells = c.args.cells.now in
     let i = c.loop-i.i in
     rw (p.1, p.2) (Fails-on c.in_err-cell_fits.field-0.0 (cell_fits sheet c.args.player (i + 1) (get_or cells i Blank)) (cells_fit sheet c.args.player 1 cells)
-        (λ fault e. sym c.loop-i.invariant ∙ cells-fail sheet c.args.player cells i fault c.loop-i-test.true e) c.in_err-cell_fits.ensures)
+    (λ fault e. sym c.loop-i.invariant ∙ cells-fail sheet c.args.player cells i fault c.loop-i-test.true e) c.in_err-cell_fits.ensures)
 
 pub loop-i-preserved : goal.loop-i-preserved
 loop-i-preserved c =

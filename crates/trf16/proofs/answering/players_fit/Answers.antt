@@ -1,4 +1,4 @@
-use Rattle.std.proofs.Common.{◌≡◌, ◌∷◌, [], map, ap, sym, ◌∙◌}
+use Rattle.std.proofs.Common.{map, ap, sym, ◌∙◌}
 use Rattle.std.proofs.lemmas.Result.{err_from_is_err_and}
 use Rattle.trf16.specs.Sheet.{entry_of}
 use Rattle.trf16.specs.Answering.{player_fits, players_fit}
@@ -19,9 +19,9 @@ returns-in_err-player_fits c =
     let sheet = c.args.report.now in
     let entry = entry_of c.in-Some.player.now in
     rw (p.1, p.2) (Fails-on c.in_err-player_fits.field-0.0 (player_fits sheet entry) (players_fit sheet sheet.players)
-        (λ fault e. sym c.loop-player.invariant
-            ∙ players-fail sheet (map entry_of c.loop-player.player-iterator) entry (map entry_of c.next.new.self) fault (ap (map entry_of) c.in-Some.ensures.steps) e)
-        c.in_err-player_fits.ensures)
+    (λ fault e. sym c.loop-player.invariant
+    ∙ players-fail sheet (map entry_of c.loop-player.player-iterator) entry (map entry_of c.next.new.self) fault (ap (map entry_of) c.in-Some.ensures.steps) e)
+    c.in_err-player_fits.ensures)
 
 pub returns : goal.returns
 returns c = sym c.loop-player.invariant ∙ players-end c.args.report.now (map entry_of c.loop-player.player-iterator) (ap (map entry_of) c.in-None.ensures.steps.0)

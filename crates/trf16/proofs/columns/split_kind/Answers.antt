@@ -9,7 +9,7 @@ loop-preserved c =
     let rest = c.split_at.ensures.back in
     let within : len ≤ length (drop c.loop.len c.args.bytes.now) = rw (← rest) c.column_len-len.ensures.within in
     let one : IsFirst c.args.utf8 (drop c.loop.len c.args.bytes.now) len =
-        rw (← rest) (record { first = c.column_len-len.ensures.first; rest = c.column_len-len.ensures.rest }) in
+    rw (← rest) (record { first = c.column_len-len.ensures.first; rest = c.column_len-len.ensures.rest }) in
     IsStart-next c.args.utf8 c.args.bytes.now c.loop.counter c.loop.len len c.loop.invariant within one
 
 pub returns-clause-rest : goal.returns-clause-rest

@@ -1,9 +1,7 @@
 use Rattle.std.proofs.Common.{◌≡◌, ◌==◌, false, length}
-use Rattle.std.specs.Prelude.{codes}
 use Rattle.std.specs.List.{list_any}
 use Rattle.std.specs.Option.{option_map_or}
 use Rattle.trf16.specs.Fields.{words, number_of}
-use Rattle.trf16.specs.Extensions.{is_word}
 use Rattle.trf16.proofs.extensions.has_number.Given as goal
 
 abbrev pub invariant-loop-word : goal.invariant-loop-word

@@ -1,4 +1,3 @@
-use Rattle.std.proofs.Common.{◌≡◌, ◌∷◌, length}
 use Rattle.trf16.proofs.LineLemmas.{lines_at}
 use Rattle.trf16.proofs.lines.next_line.Goals as goal
 

@@ -1,4 +1,4 @@
-use Rattle.std.proofs.Common.{◌≡◌, ℕ, List, [], ◌&&◌, ◌∷◌, ◌+◌, ◌≤◌, ◌||◌, Bool, false, true, ap, sym, ◌∙◌, length, arith, Err, Ok}
+use Rattle.std.proofs.Common.{◌≡◌, ℕ, List, [], ◌&&◌, ◌+◌, ◌||◌, Bool, ap, sym, ◌∙◌, arith}
 use Rattle.std.proofs.lemmas.Bool.{eqb-true}
 use Rattle.std.proofs.lemmas.Result.{err_from_is_err_and}
 use Rattle.trf16.specs.Lines.{lines, columns}
@@ -14,8 +14,8 @@ returns-in_err-too_long-clause-given c =
     let line = c.next_line.result.0.now in
     let after = lines c.next_line.result.1.now in
     rw (p.1, p.2) (Fails-on c.in_err-too_long.field-0.0 (line_onto sheet c.loop-rest.n (columns sheet.utf8 line)) (lines_onto c.args.draft.now 1 (lines c.args.text.now))
-        (λ fault e. sym c.loop-rest.invariant.0 ∙ ap (lines_onto sheet c.loop-rest.n) c.next_line.ensures.first ∙ lines-fail sheet c.loop-rest.n line after fault e)
-        c.in_err-too_long.ensures.given)
+    (λ fault e. sym c.loop-rest.invariant.0 ∙ ap (lines_onto sheet c.loop-rest.n) c.next_line.ensures.first ∙ lines-fail sheet c.loop-rest.n line after fault e)
+    c.in_err-too_long.ensures.given)
 
 pub loop-rest-preserved : goal.loop-rest-preserved
 loop-rest-preserved c =
@@ -25,7 +25,7 @@ loop-rest-preserved c =
     let after = lines c.next_line.result.1.now in
     let given = c.in_ok-too_long.ensures.given in
     let read : lines_onto next (c.loop-rest.n + 1) after ≡ lines_onto c.args.draft.now 1 (lines c.args.text.now) =
-        sym (lines-go_on sheet next c.loop-rest.n line after given) ∙ ap (lines_onto sheet c.loop-rest.n) (sym c.next_line.ensures.first) ∙ c.loop-rest.invariant.0 in
+    sym (lines-go_on sheet next c.loop-rest.n line after given) ∙ ap (lines_onto sheet c.loop-rest.n) (sym c.next_line.ensures.first) ∙ c.loop-rest.invariant.0 in
     let same : next.utf8 ≡ c.args.draft.now.utf8 = line_onto-utf8 sheet c.loop-rest.n (columns sheet.utf8 line) next given ∙ c.loop-rest.invariant.2 in
     let utf8 = c.args.draft.now.utf8 in
     let long = c.loop-rest.long in
@@ -34,11 +34,12 @@ loop-rest-preserved c =
     let total = has_too_many_rounds utf8 (lines c.args.text.now) in
     let so_far : (long || (here || others)) ≡ total = ap (λ (ls : List (List ℕ)). long || has_too_many_rounds utf8 ls) (sym c.next_line.ensures.first) ∙ c.loop-rest.invariant.1 in
     let told : c.in_ok-too_long.too_long ≡ here =
-        c.in_ok-too_long.ensures.long ∙ ap (λ (u : Bool). is_player (columns u line) && is_too_long (columns u line)) c.loop-rest.invariant.2 in
-    ( read,
+    c.in_ok-too_long.ensures.long ∙ ap (λ (u : Bool). is_player (columns u line) && is_too_long (columns u line)) c.loop-rest.invariant.2 in (
+      read,
       elim c.if-long.branch [ then-long w ↦ stays_long _ long here others total w.long-is w.if-long.true so_far | else-long w ↦ becomes_long _ long here others total (w.long-is ∙ told) w.if-long.false so_far ],
       same,
-      omega (arith, c.next_line.ensures.shorter, c.loop-rest.invariant.3) )
+      omega (arith, c.next_line.ensures.shorter, c.loop-rest.invariant.3),
+    )
 
 pub returns-clause-given : goal.returns-clause-given
 returns-clause-given c =

@@ -1,4 +1,4 @@
-use Rattle.std.proofs.Common.{ap, not, ◌∙◌, arith}
+use Rattle.std.proofs.Common.{ap, not, arith}
 use Rattle.trf16.specs.Lines.{is_blank}
 use Rattle.trf16.proofs.ColumnLemmas.{joined-behind}
 use Rattle.trf16.proofs.columns.Line.is_too_long.Goals as goal

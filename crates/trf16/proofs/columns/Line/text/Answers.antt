@@ -1,4 +1,4 @@
-use Rattle.std.proofs.Common.{◌≡◌, ◌≤◌, ◌-◌, length, take, get_or, ap, ◌∙◌, arith}
+use Rattle.std.proofs.Common.{◌≡◌, ◌-◌, length, get_or, ap, ◌∙◌, arith}
 use Rattle.std.proofs.lemmas.List.{length-take-le}
 use Rattle.trf16.proofs.ColumnLemmas.{text_between}
 use Rattle.trf16.proofs.columns.Line.text.Goals as goal
@@ -9,7 +9,7 @@ split_at-requires-2 c =
     let end = c.self.invariant c.args.last (omega arith) in
     let between = text_between c.self.inside.utf8 c.self.inside.bytes.now (c.args.first - 1) c.args.last _ _ (omega arith) start end in
     let front : length c.split_at.result.0.now ≡ get_or c.self.inside.starts c.args.last 0 =
-        ap length c.split_at.ensures.front ∙ length-take-le (get_or c.self.inside.starts c.args.last 0) c.self.inside.bytes.now end.within in
+    ap length c.split_at.ensures.front ∙ length-take-le (get_or c.self.inside.starts c.args.last 0) c.self.inside.bytes.now end.within in
     rw front between.0
 
 pub returns : goal.returns

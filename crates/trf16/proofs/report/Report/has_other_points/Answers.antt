@@ -12,7 +12,7 @@ returns-then-is_word c =
     let line = c.next_line.result.0.now in
     let test = is_kind (codes "XXS") in
     let here : test (columns utf8 line) ≡ true =
-        sym (c.if-is_word.ensures ∙ ap (λ (kind : List ℕ). is_word kind (codes "XXS")) c.split_kind.ensures.kind) in
+    sym (c.if-is_word.ensures ∙ ap (λ (kind : List ℕ). is_word kind (codes "XXS")) c.split_kind.ensures.kind) in
     sym (some_of-cons test utf8 line (lines c.next_line.result.1.now) true (not_of_kind (columns utf8 line) (codes "XXS") refl) here)
     ∙ ap (some_of test utf8) (sym c.next_line.ensures.first) ∙ c.loop-rest.invariant ∙ ap has_other_points c.self.view_is
 
@@ -22,6 +22,6 @@ loop-rest-preserved c =
     let line = c.next_line.result.0.now in
     let test = is_kind (codes "XXS") in
     let here : test (columns utf8 line) ≡ false =
-        sym (c.if-is_word.ensures ∙ ap (λ (kind : List ℕ). is_word kind (codes "XXS")) c.split_kind.ensures.kind) in
+    sym (c.if-is_word.ensures ∙ ap (λ (kind : List ℕ). is_word kind (codes "XXS")) c.split_kind.ensures.kind) in
     sym (some_of-cons test utf8 line (lines c.next_line.result.1.now) false (not_of_kind (columns utf8 line) (codes "XXS") refl) here)
     ∙ ap (some_of test utf8) (sym c.next_line.ensures.first) ∙ c.loop-rest.invariant

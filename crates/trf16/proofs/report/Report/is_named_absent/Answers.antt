@@ -1,4 +1,4 @@
-use Rattle.std.proofs.Common.{◌≡◌, true, false, ap, sym, ◌∙◌}
+use Rattle.std.proofs.Common.{true, false, ap, sym, ◌∙◌}
 use Rattle.trf16.specs.Lines.{columns, lines}
 use Rattle.trf16.specs.Extensions.{names_absent}
 use Rattle.trf16.specs.Absence.{is_named_absent}

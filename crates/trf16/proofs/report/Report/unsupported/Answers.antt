@@ -1,4 +1,4 @@
-use Rattle.std.proofs.Common.{◌≡◌, ◌+◌, ℕ, List, [], true, false, map, ap, sym, ◌∙◌, arith}
+use Rattle.std.proofs.Common.{◌≡◌, ℕ, List, [], true, false, map, ap, sym, ◌∙◌, arith}
 use Rattle.std.specs.List.{list_any}
 use Rattle.trf16.specs.Lines.{columns, lines}
 use Rattle.trf16.specs.Absence.{is_of, first_at, first_of}
@@ -21,10 +21,11 @@ pub loop-rest-preserved : goal.loop-rest-preserved
 loop-rest-preserved c =
     let utf8 = c.self.inside.utf8 in
     let line = c.next_line.result.0.now in
-    let test = λ (cols : List (List ℕ)). list_any (is_of cols) c.args.kinds.now in
-    ( sym (first_at-cons test utf8 c.loop-rest.n line (lines c.next_line.result.1.now) false (not_of_kinds (columns utf8 line) c.args.kinds.now) (sym c.if-is_of_some.ensures))
-        ∙ ap (λ (ls : List (List ℕ)). first_at test utf8 c.loop-rest.n (map (carried_line utf8) ls)) (sym c.next_line.ensures.first) ∙ c.loop-rest.invariant.0,
-      omega (arith, c.next_line.ensures.shorter, c.loop-rest.invariant.1) )
+    let test = λ (cols : List (List ℕ)). list_any (is_of cols) c.args.kinds.now in (
+      sym (first_at-cons test utf8 c.loop-rest.n line (lines c.next_line.result.1.now) false (not_of_kinds (columns utf8 line) c.args.kinds.now) (sym c.if-is_of_some.ensures))
+          ∙ ap (λ (ls : List (List ℕ)). first_at test utf8 c.loop-rest.n (map (carried_line utf8) ls)) (sym c.next_line.ensures.first) ∙ c.loop-rest.invariant.0,
+      omega (arith, c.next_line.ensures.shorter, c.loop-rest.invariant.1),
+    )
 
 pub returns : goal.returns
 returns c =

@@ -1,0 +1,396 @@
+-- The canonical text of a report that was read reads back as that report.
+--
+-- The lines that were read have a copy, line by line: a line that is carried is its own copy, and that of a player's line is the
+-- text of the player. `Copies` says what the copy keeps: it reads on to the same report, as the same start ranks stand in front of
+-- each line; the same lines are carried; none is too long; it is UTF-8 where the lines are; and the canonical text falls into it.
+-- The rules on two players, the sums and the sizes speak of the report alone, so they hold again. They are used once: a points
+-- field that is accepted is below 100 points, and only such a field fits into its four columns (`small_points`).
+-- A new field of a player's line wants: what its reading tells (`was_player`), its columns (`written_player`), and that the
+-- reading finds it there (`IsPlayer`, in both directions).
+use Rattle.std.proofs.Common.{◌≡◌, ℕ, ◌+◌, ◌*◌, ◌<◌, ◌≤◌, Bool, true, false, ◌&&◌, ◌||◌, ◌==◌, nat_lt, cond, List, [], ◌∷◌, ◌++◌, length, take, map, refl, sym, ap, ◌∙◌, append_assoc, arith, subst, inl, inr, Option, Some, None, Result, Ok, Err}
+use Rattle.std.specs.Prelude.{codes, sum_by, is_some}
+use Rattle.std.specs.List.{list_all}
+use Rattle.std.specs.Option.{option_map_or, ok_or}
+use Rattle.std.specs.Str.{is_utf8}
+use Rattle.std.proofs.lemmas.Bool.{and_parts, or_parts, or_cases, eqb-true, ltb-true, le-ltb}
+use Rattle.std.proofs.lemmas.List.{append-nil}
+use Rattle.std.proofs.lemmas.List.Sums.{sum_by-cons, sum_by-take-le}
+use Rattle.trf16.specs.Lines.{columns, lines, without_marks}
+use Rattle.trf16.specs.Extensions.{is_kind, words_of, rounds_in, colour_in, are_start_ranks}
+use Rattle.trf16.specs.Sheet.{Entry, Sheet, with_player, half_points, rounds_played}
+use Rattle.trf16.specs.Outcomes.{◌>>=◌}
+use Rattle.trf16.specs.Answering.{cells_fit, points_fit, player_fits, players_fit, has_other_points}
+use Rattle.trf16.specs.Verdict.{player_at, is_player, is_too_long, rounds_onto, colour_onto, absence_onto, player_onto, line_onto, lines_onto, carried_line, without_players, has_too_many_rounds, names_too_many_rounds, sized, report_of, verdict}
+use Rattle.trf16.specs.Written.{player_text, lines_text, written}
+use Rattle.trf16.specs.declared.cell.Bye.TheVariants.{Half, Full, Allocated, Zero}
+use Rattle.trf16.specs.declared.cell.Outcome.TheVariants.{Win, Draw, Loss}
+use Rattle.trf16.specs.declared.cell.Cell.{Cell}
+use Rattle.trf16.specs.declared.cell.Cell.TheVariants.{Blank, Bye, Game, Forfeit, Unfinished}
+use Rattle.trf16.specs.declared.fault.Excess.TheVariants.{Bytes, Players, Rounds}
+use Rattle.trf16.specs.declared.fault.Fault.{Fault}
+use Rattle.trf16.specs.declared.fault.Fault.TheVariants.{BadExtension, Duplicate, Points, TooMany, NoPlayers}
+use Rattle.trf16.proofs.WrittenRounds.{then_ok, same_ok}
+use Rattle.trf16.proofs.WrittenText.{is_inside, are_inside, are_utf8, lines-line, lines-inside, utf8_lines, has_mark, no_mark, without_marks-no_mark, line-no_mark}
+use Rattle.trf16.proofs.WrittenFields.{are_small}
+use Rattle.trf16.proofs.WrittenPlayers.{IsPlayer, player_is, was_player, written_player}
+
+-- what a fault would be
+not_ok : {A : Type 0} (fault : Fault) (y : A) → ◌≡◌ {A = Result A Fault} (Err fault) (Ok y) → ⊥
+not_ok fault y e = cc
+
+-- what a line changes where it is no player's
+record Keeps (sheet next : Sheet) : Type 0 where
+  utf8 : next.utf8 ≡ sheet.utf8
+  carried : next.carried ≡ sheet.carried
+  players : next.players ≡ sheet.players
+
+keeps_from : (sheet made next : Sheet) → ◌≡◌ {A = Result Sheet Fault} (Ok made) (Ok next) → Keeps sheet made → Keeps sheet next
+keeps_from sheet made next e k = subst (Keeps sheet) (same_ok made next e) k
+
+rounds_keep : (sheet : Sheet) (n : ℕ) (line : List (List ℕ)) (next : Sheet) → rounds_onto sheet n line ≡ Ok next → Keeps sheet next
+unfolding rounds_onto
+rounds_keep sheet n line next e =
+    let s = then_ok (ok_or (rounds_in (words_of line)) (BadExtension n)) (λ rounds. cond (is_some sheet.total) (Err (Duplicate n)) (Ok (record sheet { total = Some rounds }))) next e in
+    by (is_some sheet.total) s.0 s.2
+  where
+    by : (b : Bool) (rounds : ℕ) → ◌≡◌ {A = Result Sheet Fault} (cond b (Err (Duplicate n)) (Ok (record sheet { total = Some rounds }))) (Ok next) → Keeps sheet next
+    by true rounds e = absurd (not_ok (Duplicate n) next e)
+    by false rounds e = keeps_from sheet (record sheet { total = Some rounds }) next e (record { utf8 = refl; carried = refl; players = refl })
+
+colour_keep : (sheet : Sheet) (n : ℕ) (line : List (List ℕ)) (next : Sheet) → colour_onto sheet n line ≡ Ok next → Keeps sheet next
+unfolding colour_onto
+colour_keep sheet n line next e =
+    let s = then_ok (ok_or (colour_in sheet.initial (words_of line)) (BadExtension n)) (λ initial. Ok (record sheet { initial = initial })) next e in
+    keeps_from sheet (record sheet { initial = s.0 }) next s.2 (record { utf8 = refl; carried = refl; players = refl })
+
+absence_keep : (sheet : Sheet) (n : ℕ) (line : List (List ℕ)) (next : Sheet) → absence_onto sheet n line ≡ Ok next → Keeps sheet next
+unfolding absence_onto
+absence_keep sheet n line next e = by (are_start_ranks (words_of line)) e
+  where
+    by : (b : Bool) → ◌≡◌ {A = Result Sheet Fault} (cond b (Ok sheet) (Err (BadExtension n))) (Ok next) → Keeps sheet next
+    by true e = keeps_from sheet sheet next e (record { utf8 = refl; carried = refl; players = refl })
+    by false e = absurd (not_ok (BadExtension n) next e)
+
+line_keeps : (sheet : Sheet) (n : ℕ) (line : List (List ℕ)) (next : Sheet) → is_player line ≡ false → line_onto sheet n line ≡ Ok next → Keeps sheet next
+unfolding line_onto
+line_keeps sheet n line next other e =
+    by (is_kind (codes "XXR") line) (is_kind (codes "XXC") line) (is_kind (codes "XXZ") line) (rw other at e)
+  where
+    by : (r c z : Bool) → cond r (rounds_onto sheet n line) (cond c (colour_onto sheet n line) (cond z (absence_onto sheet n line) (Ok sheet))) ≡ Ok next → Keeps sheet next
+    by true c z e = rounds_keep sheet n line next e
+    by false true z e = colour_keep sheet n line next e
+    by false false true e = absence_keep sheet n line next e
+    by false false false e = keeps_from sheet sheet next e (record { utf8 = refl; carried = refl; players = refl })
+
+-- what a player's line adds
+record Adds (sheet : Sheet) (n : ℕ) (line : List (List ℕ)) (next : Sheet) : Type 0 where
+  entry : Entry
+  player : IsPlayer sheet n line entry
+  next_is : with_player sheet entry ≡ next
+
+line_adds : (sheet : Sheet) (n : ℕ) (line : List (List ℕ)) (next : Sheet) → is_player line ≡ true → line_onto sheet n line ≡ Ok next → Adds sheet n line next
+unfolding line_onto player_onto
+line_adds sheet n line next named e =
+    let s = then_ok (player_at sheet n line) (λ entry. Ok (with_player sheet entry)) next (rw named at e) in
+    record { entry = s.0; player = player_is sheet n line s.0 s.1; next_is = same_ok (with_player sheet s.0) next s.2 }
+
+line_from : (sheet : Sheet) (n : ℕ) (line : List (List ℕ)) (entry : Entry) → is_player line ≡ true → player_at sheet n line ≡ Ok entry
+    → line_onto sheet n line ≡ Ok (with_player sheet entry)
+unfolding line_onto player_onto
+line_from sheet n line entry named e = rw (named, e) refl
+
+abbrev are_all_small : List Entry → Type 0
+are_all_small [] = Unit {0}
+are_all_small (entry ∷ entries) = are_small entry.points × are_all_small entries
+
+abbrev are_all_few : List Entry → Type 0
+are_all_few [] = Unit {0}
+are_all_few (entry ∷ entries) = (length entry.cells ≤ 32) × are_all_few entries
+
+-- lines that read as others do, and are those of the canonical text
+record Copies (utf8 : Bool) (sheet final : Sheet) (n : ℕ) (all : List (List ℕ)) (entries : List Entry) : Type 0 where
+  copy : List (List ℕ)
+  read : lines_onto sheet n copy ≡ Ok final
+  carried : map (carried_line utf8) copy ≡ map (carried_line utf8) all
+  short : has_too_many_rounds utf8 copy ≡ false
+  same : are_utf8 copy ≡ are_utf8 all
+  text : lines (lines_text utf8 (map (carried_line utf8) all) entries) ≡ copy
+  unmarked : (bytes : List ℕ) → lines bytes ≡ all → has_mark bytes ≡ false → has_mark (lines_text utf8 (map (carried_line utf8) all) entries) ≡ false
+
+-- what some lines add, and that they can be copied
+record WereRead (utf8 : Bool) (sheet final : Sheet) (n : ℕ) (all : List (List ℕ)) : Type 0 where
+  entries : List Entry
+  utf8_is : final.utf8 ≡ utf8
+  carried : final.carried ≡ sheet.carried
+  players : final.players ≡ sheet.players ++ entries
+  few : are_all_few entries
+  copied : are_all_small entries → Copies utf8 sheet final n all entries
+
+end_read : (utf8 : Bool) (sheet final : Sheet) (n : ℕ) → sheet.utf8 ≡ utf8 → lines_onto sheet n [] ≡ Ok final → WereRead utf8 sheet final n []
+unfolding lines_onto
+end_read utf8 sheet final n u e =
+    let same : sheet ≡ final = same_ok sheet final e in
+    record {
+      entries = [];
+      utf8_is = ap (λ (s : Sheet). s.utf8) (sym same) ∙ u;
+      carried = ap (λ (s : Sheet). s.carried) (sym same);
+      players = ap (λ (s : Sheet). s.players) (sym same) ∙ sym (append-nil sheet.players);
+      few = tt;
+      copied = λ small. record { copy = []; read = e; carried = refl; short = refl; same = refl; text = refl; unmarked = λ bytes b h. refl };
+    }
+
+first_onto : (sheet final : Sheet) (n : ℕ) (line : List ℕ) (rest : List (List ℕ)) → lines_onto sheet n (line ∷ rest) ≡ Ok final
+    → (next : Sheet) × (line_onto sheet n (columns sheet.utf8 line) ≡ Ok next) × (lines_onto next (n + 1) rest ≡ Ok final)
+unfolding lines_onto
+first_onto sheet final n line rest e = then_ok (line_onto sheet n (columns sheet.utf8 line)) (λ next. lines_onto next (n + 1) rest) final e
+
+onto_from : (sheet next final : Sheet) (n : ℕ) (line : List ℕ) (rest : List (List ℕ)) → line_onto sheet n (columns sheet.utf8 line) ≡ Ok next
+    → lines_onto next (n + 1) rest ≡ Ok final → lines_onto sheet n (line ∷ rest) ≡ Ok final
+unfolding lines_onto
+onto_from sheet next final n line rest e e' = rw e e'
+
+carried_read : (utf8 : Bool) (sheet next final : Sheet) (n : ℕ) (line : List ℕ) (rest : List (List ℕ)) → sheet.utf8 ≡ utf8 → list_all is_inside line ≡ true
+    → is_player (columns utf8 line) ≡ false → line_onto sheet n (columns sheet.utf8 line) ≡ Ok next → WereRead utf8 next final (n + 1) rest
+    → WereRead utf8 sheet final n (line ∷ rest)
+carried_read utf8 sheet next final n line rest u inside other e later =
+    let keeps = line_keeps sheet n (columns sheet.utf8 line) next (rw u other) e in
+    record {
+      entries = later.entries;
+      utf8_is = later.utf8_is;
+      carried = later.carried ∙ keeps.carried;
+      players = later.players ∙ ap (λ (ps : List Entry). ps ++ later.entries) keeps.players;
+      few = later.few;
+      copied = λ small.
+          let c = later.copied small in
+          record {
+            copy = line ∷ c.copy;
+            read = onto_from sheet next final n line c.copy e c.read;
+            carried = ap (λ (ls : List (Option (List ℕ))). carried_line utf8 line ∷ ls) c.carried;
+            short = rw other c.short;
+            same = ap (λ b. is_utf8 line && b) c.same;
+            text = rw other (lines-line line (lines_text utf8 (map (carried_line utf8) rest) later.entries) inside ∙ ap (λ (ls : List (List ℕ)). line ∷ ls) c.text);
+            unmarked = λ bytes b h. rw other (line-no_mark bytes line rest (lines_text utf8 (map (carried_line utf8) rest) later.entries) b h);
+          };
+    }
+
+player_read : (utf8 : Bool) (sheet next final : Sheet) (n : ℕ) (line : List ℕ) (rest : List (List ℕ)) → sheet.utf8 ≡ utf8 → list_all is_inside line ≡ true
+    → is_player (columns utf8 line) ≡ true → is_too_long (columns utf8 line) ≡ false → line_onto sheet n (columns sheet.utf8 line) ≡ Ok next
+    → WereRead utf8 next final (n + 1) rest → WereRead utf8 sheet final n (line ∷ rest)
+player_read utf8 sheet next final n line rest u inside named short e later =
+    let adds = line_adds sheet n (columns sheet.utf8 line) next (rw u named) e in
+    let entry = adds.entry in
+    let player : IsPlayer sheet n (columns utf8 line) entry = subst (λ b. IsPlayer sheet n (columns b line) entry) u adds.player in
+    let was = was_player utf8 sheet n line entry inside named short player in
+    record {
+      entries = entry ∷ later.entries;
+      utf8_is = later.utf8_is;
+      carried = later.carried ∙ ap (λ (s : Sheet). s.carried) (sym adds.next_is);
+      players = later.players ∙ ap (λ (s : Sheet). s.players ++ later.entries) (sym adds.next_is) ∙ append_assoc sheet.players (entry ∷ []) later.entries;
+      few = (was.sound.few, later.few);
+      copied = λ small.
+          let c = later.copied small.1 in
+          let w = written_player sheet utf8 entry was.sound small.0 player.fresh in
+          let text = player_text utf8 entry in
+          let again : line_onto sheet n (columns sheet.utf8 text) ≡ Ok next =
+          ap (λ b. line_onto sheet n (columns b text)) u
+          ∙ line_from sheet n (columns utf8 text) entry w.named (ap (λ k. player_at sheet k (columns utf8 text)) player.numbered ∙ w.read)
+          ∙ ap (λ (s : Sheet). Ok s) adds.next_is in
+          record {
+            copy = text ∷ c.copy;
+            read = onto_from sheet next final n text c.copy again c.read;
+            carried = rw (named, w.named, c.carried) refl;
+            short = rw (w.named, w.short) c.short;
+            same = rw (w.same, was.same, c.same) refl;
+            text = rw named (lines-line text (lines_text utf8 (map (carried_line utf8) rest) later.entries) w.inside ∙ ap (λ (ls : List (List ℕ)). text ∷ ls) c.text);
+            unmarked = λ bytes b h. rw named refl;
+          };
+    }
+
+were_read : (utf8 : Bool) (sheet final : Sheet) (n : ℕ) (all : List (List ℕ)) → sheet.utf8 ≡ utf8 → are_inside all ≡ true → has_too_many_rounds utf8 all ≡ false
+    → lines_onto sheet n all ≡ Ok final → WereRead utf8 sheet final n all
+were_read utf8 sheet final n [] u inside short e = end_read utf8 sheet final n u e
+were_read utf8 sheet final n (line ∷ rest) u inside short e =
+    let first = first_onto sheet final n line rest e in
+    let both = and_parts (list_all is_inside line) (are_inside rest) inside in
+    let long = or_parts (is_player (columns utf8 line) && is_too_long (columns utf8 line)) (has_too_many_rounds utf8 rest) short in
+    let later : first.0.utf8 ≡ utf8 → WereRead utf8 first.0 final (n + 1) rest = λ u'. were_read utf8 first.0 final (n + 1) rest u' both.1 long.1 first.2 in
+    by (is_player (columns utf8 line)) refl first.0 first.1 both.0 long.0 later
+  where
+    by : (named : Bool) → is_player (columns utf8 line) ≡ named → (next : Sheet) → line_onto sheet n (columns sheet.utf8 line) ≡ Ok next → list_all is_inside line ≡ true
+        → (named && is_too_long (columns utf8 line)) ≡ false → (next.utf8 ≡ utf8 → WereRead utf8 next final (n + 1) rest) → WereRead utf8 sheet final n (line ∷ rest)
+    by true named next e inside short later =
+        let adds = line_adds sheet n (columns sheet.utf8 line) next (rw u named) e in
+        player_read utf8 sheet next final n line rest u inside named short e (later (ap (λ (s : Sheet). s.utf8) (sym adds.next_is) ∙ u))
+    by false named next e inside short later =
+        let keeps = line_keeps sheet n (columns sheet.utf8 line) next (rw u named) e in
+        carried_read utf8 sheet next final n line rest u inside named e (later (keeps.utf8 ∙ u))
+
+-- points
+
+half_points_le : (cell : Cell) → half_points cell ≤ 2
+half_points_le Blank = omega arith
+half_points_le (Bye Half) = omega arith
+half_points_le (Bye Full) = omega arith
+half_points_le (Bye Allocated) = omega arith
+half_points_le (Bye Zero) = omega arith
+half_points_le (Game opponent colour rated Win) = omega arith
+half_points_le (Game opponent colour rated Draw) = omega arith
+half_points_le (Game opponent colour rated Loss) = omega arith
+half_points_le (Forfeit opponent colour true) = omega arith
+half_points_le (Forfeit opponent colour false) = omega arith
+half_points_le (Unfinished opponent colour) = omega arith
+
+sum_le : (cells : List Cell) → sum_by half_points cells ≤ 2 * length cells
+sum_le [] = omega arith
+sum_le (cell ∷ cells) =
+    let here : half_points cell ≤ 2 = half_points_le cell in
+    let others : sum_by half_points cells ≤ 2 * length cells = sum_le cells in
+    omega (arith, sum_by-cons half_points cell cells)
+
+small_points : (sheet : Sheet) (entry : Entry) (y : Unit {0}) → length entry.cells ≤ 32 → points_fit sheet entry ≡ Ok y → are_small entry.points
+unfolding points_fit
+small_points sheet entry y few e = by entry.points e
+  where
+    all : sum_by half_points entry.cells ≤ 64
+    all = let le : sum_by half_points entry.cells ≤ 2 * length entry.cells = sum_le entry.cells in omega arith
+
+    some : sum_by half_points (take (rounds_played sheet) entry.cells) ≤ 64
+    some =
+        let le : sum_by half_points (take (rounds_played sheet) entry.cells) ≤ sum_by half_points entry.cells = sum_by-take-le half_points entry.cells (rounds_played sheet) in
+        let le' : sum_by half_points entry.cells ≤ 64 = all in
+        omega arith
+
+    tests : (points : ℕ)
+        → ((points == sum_by half_points (take (rounds_played sheet) entry.cells)) || (points == sum_by half_points entry.cells) || (has_other_points sheet && nat_lt points 200)) ≡ true
+        → points < 200
+    tests points h =
+        let le : sum_by half_points entry.cells ≤ 64 = all in
+        let le' : sum_by half_points (take (rounds_played sheet) entry.cells) ≤ 64 = some in
+        elim (or_cases ((points == sum_by half_points (take (rounds_played sheet) entry.cells)) || (points == sum_by half_points entry.cells)) (has_other_points sheet && nat_lt points 200) h) [
+          | inl sums ↦
+              elim (or_cases (points == sum_by half_points (take (rounds_played sheet) entry.cells)) (points == sum_by half_points entry.cells) sums) [
+                | inl one ↦ let same : points ≡ sum_by half_points (take (rounds_played sheet) entry.cells) = eqb-true points (sum_by half_points (take (rounds_played sheet) entry.cells)) one in omega arith
+                | inr two ↦ let same : points ≡ sum_by half_points entry.cells = eqb-true points (sum_by half_points entry.cells) two in omega arith
+              ]
+          | inr other ↦ ltb-true points 200 (and_parts (has_other_points sheet) (nat_lt points 200) other).1
+        ]
+
+    decide : (points : ℕ) (b : Bool) → (b ≡ true → points < 200) → ◌≡◌ {A = Result (Unit {0}) Fault} (cond b (Ok tt) (Err (Points entry.start))) (Ok y) → points < 200
+    decide points true h e = h refl
+    decide points false h e = absurd (not_ok (Points entry.start) y e)
+
+    by : (points : Option ℕ)
+        → option_map_or (λ p.
+        cond ((p == sum_by half_points (take (rounds_played sheet) entry.cells)) || (p == sum_by half_points entry.cells) || (has_other_points sheet && nat_lt p 200))
+        (Ok tt) (Err (Points entry.start))) points (Ok tt) ≡ Ok y → are_small points
+    by None e = tt
+    by (Some points) e =
+        decide points ((points == sum_by half_points (take (rounds_played sheet) entry.cells)) || (points == sum_by half_points entry.cells) || (has_other_points sheet && nat_lt points 200))
+        (tests points) e
+
+all_small : (sheet : Sheet) (entries : List Entry) (y : Unit {0}) → are_all_few entries → players_fit sheet entries ≡ Ok y → are_all_small entries
+unfolding players_fit player_fits
+all_small sheet [] y few e = tt
+all_small sheet (entry ∷ entries) y few e =
+    let outer = then_ok (player_fits sheet entry) (λ _. players_fit sheet entries) y e in
+    let inner = then_ok (cells_fit sheet entry.start 1 entry.cells) (λ _. points_fit sheet entry) outer.0 outer.1 in
+    (small_points sheet entry outer.0 few.0 inner.2, all_small sheet entries y few.1 outer.2)
+
+-- the whole
+
+record IsSized (sheet sized_sheet : Sheet) (long : Bool) : Type 0 where
+  same : sheet ≡ sized_sheet
+  short : long ≡ false
+
+sized_is : (sheet next : Sheet) (long : Bool) → sized sheet long ≡ Ok next → IsSized sheet next long
+unfolding sized
+sized_is sheet next long e = by (nat_lt 256 (length sheet.players)) (length sheet.players == 0) long (names_too_many_rounds sheet) e
+  where
+    by : (many none long named : Bool)
+        → ◌≡◌ {A = Result Sheet Fault} (cond many (Err (TooMany Players)) (cond (long || named) (Err (TooMany Rounds)) (cond none (Err NoPlayers) (Ok sheet)))) (Ok next) → IsSized sheet next long
+    by true none long named e = absurd (not_ok (TooMany Players) next e)
+    by false none true named e = absurd (not_ok (TooMany Rounds) next e)
+    by false none false true e = absurd (not_ok (TooMany Rounds) next e)
+    by false true false false e = absurd (not_ok NoPlayers next e)
+    by false false false false e = record { same = same_ok sheet next e; short = refl }
+
+-- what a report that was read is
+record IsReport (utf8 : Bool) (all : List (List ℕ)) (report : Sheet) : Type 0 where
+  read : lines_onto (without_players utf8 all) 1 all ≡ Ok report
+  size : sized report (has_too_many_rounds utf8 all) ≡ Ok report
+  short : has_too_many_rounds utf8 all ≡ false
+  fit : players_fit report report.players ≡ Ok tt
+
+report_is : (utf8 : Bool) (all : List (List ℕ)) (report : Sheet) → report_of utf8 all ≡ Ok report → IsReport utf8 all report
+unfolding report_of
+report_is utf8 all report e =
+    let long = has_too_many_rounds utf8 all in
+    let s1 = then_ok (lines_onto (without_players utf8 all) 1 all) (λ sheet. sized sheet long >>= λ sheet. players_fit sheet sheet.players >>= λ _. Ok sheet) report e in
+    let s2 = then_ok (sized s1.0 long) (λ sheet. players_fit sheet sheet.players >>= λ _. Ok sheet) report s1.2 in
+    let s3 = then_ok (players_fit s2.0 s2.0.players) (λ _. Ok s2.0) report s2.2 in
+    let same2 : s2.0 ≡ report = same_ok s2.0 report s3.2 in
+    let size = sized_is s1.0 s2.0 long s2.1 in
+    let same1 : s1.0 ≡ report = size.same ∙ same2 in
+    record {
+      read = s1.1 ∙ ap (λ (s : Sheet). Ok s) same1;
+      size = ap (λ (s : Sheet). sized s long) (sym same1) ∙ s2.1 ∙ ap (λ (s : Sheet). Ok s) same2;
+      short = size.short;
+      fit = subst (λ (s : Sheet). players_fit s s.players ≡ Ok tt) same2 s3.1;
+    }
+
+report_from : (utf8 : Bool) (all : List (List ℕ)) (report : Sheet) → IsReport utf8 all report → report_of utf8 all ≡ Ok report
+unfolding report_of
+report_from utf8 all report r = rw (r.read, r.size, r.fit) refl
+
+-- the canonical text, by its lines
+record IsText (utf8 : Bool) (all : List (List ℕ)) (bytes : List ℕ) (report : Sheet) : Type 0 where
+  unmarked : has_mark (written report) ≡ false
+  same : is_utf8 (written report) ≡ are_utf8 all
+  read : report_of utf8 (lines (written report)) ≡ Ok report
+
+text_by : (b utf8 : Bool) (ls carried : List (Option (List ℕ))) (ps players : List Entry) → b ≡ utf8 → ls ≡ carried → ps ≡ players
+    → lines_text b ls ps ≡ lines_text utf8 carried players
+text_by b utf8 ls carried ps players e e' e2 = rw (e, e', e2) refl
+
+text_is : (utf8 : Bool) (bytes : List ℕ) (report : Sheet) → has_mark bytes ≡ false → IsReport utf8 (lines bytes) report → IsText utf8 (lines bytes) bytes report
+text_is utf8 bytes report unmarked r =
+    let all = lines bytes in
+    let w = were_read utf8 (without_players utf8 all) report 1 all refl (lines-inside bytes) r.short r.read in
+    let small : are_all_small w.entries = all_small report w.entries tt w.few (subst (λ (ps : List Entry). players_fit report ps ≡ Ok tt) w.players r.fit) in
+    let c = w.copied small in
+    let text : written report ≡ lines_text utf8 (map (carried_line utf8) all) w.entries =
+    text_by report.utf8 utf8 report.carried (map (carried_line utf8) all) report.players w.entries w.utf8_is w.carried w.players in
+    let copy : lines (written report) ≡ c.copy = ap lines text ∙ c.text in
+    let empty : without_players utf8 c.copy ≡ without_players utf8 all = rw c.carried refl in
+    let again : IsReport utf8 c.copy report = record {
+      read = ap (λ (s : Sheet). lines_onto s 1 c.copy) empty ∙ c.read;
+      size = ap (sized report) (c.short ∙ sym r.short) ∙ r.size;
+      short = c.short;
+      fit = r.fit;
+    } in
+    record {
+      unmarked = ap has_mark text ∙ c.unmarked bytes refl unmarked;
+      same = utf8_lines (written report) ∙ ap are_utf8 copy ∙ c.same;
+      read = ap (report_of utf8) copy ∙ report_from utf8 c.copy report again;
+    }
+
+verdict_is : (bytes : List ℕ) (report : Sheet) → verdict bytes ≡ Ok report → report_of (is_utf8 (without_marks bytes)) (lines (without_marks bytes)) ≡ Ok report
+unfolding verdict
+verdict_is bytes report e = by (nat_lt 1048576 (length bytes)) e
+  where
+    by : (b : Bool) → cond b (Err (TooMany Bytes)) (report_of (is_utf8 (without_marks bytes)) (lines (without_marks bytes))) ≡ Ok report
+        → report_of (is_utf8 (without_marks bytes)) (lines (without_marks bytes)) ≡ Ok report
+    by true e = absurd (not_ok (TooMany Bytes) report e)
+    by false e = e
+
+verdict_from : (bytes : List ℕ) (report : Sheet) → length bytes ≤ 1048576 → without_marks bytes ≡ bytes → report_of (is_utf8 bytes) (lines bytes) ≡ Ok report → verdict bytes ≡ Ok report
+unfolding verdict
+verdict_from bytes report few same e = rw (le-ltb 1048576 (length bytes) few, same) e
+
+pub round_trip : (bytes : List ℕ) (report : Sheet) → verdict bytes ≡ Ok report → length (written report) ≤ 1048576 → verdict (written report) ≡ Ok report
+round_trip bytes report e few =
+    let body = without_marks bytes in
+    let r = report_is (is_utf8 body) (lines body) report (verdict_is bytes report e) in
+    let t = text_is (is_utf8 body) body report (without_marks-no_mark bytes) r in
+    let same : is_utf8 (written report) ≡ is_utf8 body = t.same ∙ sym (utf8_lines body) in
+    verdict_from (written report) report few (no_mark (written report) t.unmarked) (ap (λ b. report_of b (lines (written report))) same ∙ t.read)
