@@ -6,12 +6,12 @@ use Rattle.std.proofs.lemmas.Bool.Decides.{nat_tests}
 use Rattle.trf16.specs.Verdict.{verdict}
 use Rattle.trf16.specs.declared.fault.Excess.TheVariants.{Bytes}
 use Rattle.trf16.specs.declared.fault.Fault.TheVariants.{TooMany}
-use Rattle.arbiter.specs.Commands.{Answer, Answers, check_answer}
+use Rattle.arbiter.specs.Commands.{Answer, Answers, check_answer, format_answer}
 use Rattle.arbiter.specs.Devices.{Reading}
 use Rattle.arbiter.specs.Input.{IsRead, most_read}
 use Rattle.arbiter.specs.Run.{IsAnswered, IsInput}
 use Rattle.arbiter.specs.declared.words.Request.{Request}
-use Rattle.arbiter.specs.declared.words.Request.TheVariants.{Check}
+use Rattle.arbiter.specs.declared.words.Request.TheVariants.{Check, Format}
 
 -- as many bytes as are read at most are too many for a report
 verdict-long : (bytes : List ℕ) → most_read ≤ length bytes → verdict bytes ≡ Err (TooMany Bytes)
@@ -37,6 +37,7 @@ whole_input (Some bytes) (Some rest) input given whole = (bytes, refl, ap verdic
 -- an answer rests on the verdict alone
 answers_by_verdict : (request : Request) (bytes input : List ℕ) (answer : Answer) → verdict bytes ≡ verdict input → Answers request input answer → Answers request bytes answer
 answers_by_verdict Check bytes input answer same h = h ∙ sym (ap check_answer same)
+answers_by_verdict Format bytes input answer same h = h ∙ sym (ap format_answer same)
 
 -- an answer over what was read is one over all bytes of the source
 pub answered : (request : Request) (source : Reading) (input : List ℕ) (answer : Answer) → IsRead source.device input → Answers request input answer

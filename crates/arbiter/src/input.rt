@@ -26,7 +26,8 @@ pub enum InputFault {
 /// end gives a byte, so there are at most as many calls.
 #[tactic(auto, using(crate::proofs::InputLemmas::given_to_end))]
 pub fn read_input<R: Source>(alloc: Global, reader: &mut R) -> Result<Vec<u8>, InputFault>
-    ensures input { ReadsInput (λ bytes. bytes.items) (use_of R.left R.failures reader.old reader.new) result }
+    ensures input { ReadsInput (λ bytes. bytes.items)
+        (use_of R.left R.failures reader.old reader.new) result }
     ensures calls { R.calls reader.new ≤ R.calls reader.old + most_read }
 {
     let mut bytes = Vec::new(alloc);

@@ -28,7 +28,8 @@ pub fn run<'a, R: Source, O: Sink, E: Sink>(
 ) -> Status
     ensures { IsRun (map (λ word. word.now) words.now)
         (reading_of R.left R.failures R.calls reader.old reader.new)
-        (use_of O.held O.failures out.old out.new) (use_of E.held E.failures err.old err.new) result }
+        (use_of O.held O.failures out.old out.new)
+        (use_of E.held E.failures err.old err.new) result }
 {
     reply_to(alloc, words, reader).write(out, err)
 }
@@ -56,7 +57,8 @@ fn reply_to<'a, R: Source>(alloc: Global, words: &'a [&'a str], reader: &mut R) 
 // What is answered to a request, over what the source gives.
 #[tactic(auto, using(crate::proofs::RunLemmas::answered))]
 fn reply_to_request<R: Source>(alloc: Global, request: Request, reader: &mut R) -> Reply
-    ensures replies { IsReplyTo request (reading_of R.left R.failures R.calls reader.old reader.new) (answer_of result) }
+    ensures replies { IsReplyTo request
+        (reading_of R.left R.failures R.calls reader.old reader.new) (answer_of result) }
     ensures bounded { R.calls reader.new ≤ R.calls reader.old + most_read }
 {
     match read_input(alloc, reader) {

@@ -2,7 +2,8 @@
 ghost use Rattle.std.specs.Prelude.{◌≡◌, IfOk, map, false, codes};
 ghost use Rattle.clap.specs.declared.Command.{out-Command as fields_of};
 ghost use Rattle.clap.specs.Words.{app_of, kind_of, new_app, subcommand_rows_of};
-ghost use Rattle.arbiter.specs.Words.{ComesTo, Tells, arbiter_app, check_app, format_app, request_by, settled, versioned};
+ghost use Rattle.arbiter.specs.Words.{ComesTo, Tells, request_by};
+ghost use Rattle.arbiter.specs.Words.{arbiter_app, check_app, format_app, settled, versioned};
 
 use clap::error::ErrorKind;
 use clap::{ArgMatches, Command, Error};
