@@ -16,7 +16,6 @@ pub mod output;
 pub mod player;
 mod queries;
 mod reading;
-
 pub mod report;
 mod writing;
 
