@@ -30,12 +30,8 @@ struct Small {
 
 impl Write for Small {
     fn write(&mut self, piece: &[u8]) -> io::Result<usize> {
-        let count = piece.len().min(self.room).min(3);
-        for byte in piece.split_at(count).0 {
-            if self.held.push(*byte).is_err() {
-                return Ok(0);
-            }
-        }
+        let count = piece.len().min(3).min(self.room);
+        self.held.extend_from_slice(&piece[..count])?;
         self.room -= count;
         Ok(count)
     }
