@@ -13,7 +13,7 @@ use Rattle.trf16.specs.Written.{right_in_four, left_in, points_text, points_fiel
 pub points_room : (points : ℕ) (whole : List ℕ) (n : ℕ) → whole ≡ decimal (points / 2) → n ≡ 4 - (length whole + 2) → n ≡ 4 - length (points_text points)
 points_room points whole n e room =
     let total : length (points_text points) ≡ length (decimal (points / 2)) + 2 =
-        length-append (decimal (points / 2)) (46 ∷ cond (points % 2 == 0) 48 53 ∷ []) in
+    length-append (decimal (points / 2)) (46 ∷ cond (points % 2 == 0) 48 53 ∷ []) in
     omega (arith, total, room, ap length e)
 
 -- ---- the line of a player, from each field on

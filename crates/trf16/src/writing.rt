@@ -12,7 +12,7 @@ use crate::devices::{Failed, Sink};
 use crate::lines::next_line;
 use crate::output::put_all;
 use crate::player::Player;
-use crate::report::{carried_line, Report};
+use crate::report::{Report, carried_line};
 use indexmap::map::Values;
 use itoa::Buffer;
 
@@ -117,7 +117,12 @@ fn outcome_letter(rated: bool, got: Outcome) -> u8
 
 // Opponent, colour and the letter of the result.
 #[tactic(auto, using(crate::proofs::OutputLemmas::put_both, crate::proofs::OutputLemmas::put_neither))]
-fn put_meeting<W: Sink>(w: &mut W, opponent: u16, colour: Option<Colour>, letter: u8) -> Result<(), Failed>
+fn put_meeting<W: Sink>(
+    w: &mut W,
+    opponent: u16,
+    colour: Option<Colour>,
+    letter: u8,
+) -> Result<(), Failed>
     ensures { Puts (meeting_text opponent colour letter) (use_of W.held W.failures w.old w.new) result }
 {
     put_number(w, opponent)?;
@@ -190,7 +195,12 @@ fn put_player_line<W: Sink>(w: &mut W, utf8: bool, player: &Player<'_>) -> Resul
 }
 
 // The next line: one that is carried, or that of the next player.
-fn put_next<W: Sink>(w: &mut W, utf8: bool, carried: Option<&[u8]>, players: &mut Values<'_, u16, Player<'_>>) -> Result<(), Failed>
+fn put_next<W: Sink>(
+    w: &mut W,
+    utf8: bool,
+    carried: Option<&[u8]>,
+    players: &mut Values<'_, u16, Player<'_>>,
+) -> Result<(), Failed>
     ensures text { Puts (next_text utf8 (option_copied carried.entry) (map entry_of players.old)) (use_of W.held W.failures w.old w.new) result }
     ensures players { map entry_of players.new ≡ players_behind (option_copied carried.entry) (map entry_of players.old) }
 {
@@ -213,8 +223,16 @@ pub fn write<W: Sink>(report: &Report<'_>, w: &mut W) -> Result<(), Failed>
     let mut rest = report.text;
     while !rest.is_empty() {
         let (line, after) = next_line(rest);
-        put_next(w, report.utf8, carried_line(line, report.utf8), &mut players)?;
+        put_next(
+            w,
+            report.utf8,
+            carried_line(line, report.utf8),
+            &mut players,
+        )?;
         rest = after;
     }
     Ok(())
 }
+
+#[cfg(test)]
+mod tests;

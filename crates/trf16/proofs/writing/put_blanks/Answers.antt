@@ -6,4 +6,4 @@ use Rattle.trf16.proofs.writing.put_blanks.Goals as goal
 pub returns : goal.returns
 returns g c =
     subst (λ bs. Puts bs (use_of g.W.Sink.held g.W.Sink.failures c.args.w.now c.put_all.new.sink) c.put_all.result)
-        (c.split_at.ensures.front ∙ take-replicate c.args.count 72 32 c.requires) c.put_all.ensures
+    (c.split_at.ensures.front ∙ take-replicate c.args.count 72 32 c.requires) c.put_all.ensures

@@ -70,5 +70,5 @@ returns g c =
     let behind-4 = put_next whole (from_points c.args.utf8 entry) (points_field entry.points) (from_right c.args.utf8 entry) _ _ _ _ _ _ behind-3 refl c.in_ok-put_points_field.ensures in
     let behind-5 = put_next whole (from_right c.args.utf8 entry) (left_in c.args.utf8 5 entry.right) (flat_map round_text entry.cells) _ _ _ _ _ _ behind-4 refl c.in_ok-put_left-2.ensures in
     put_last whole (flat_map round_text entry.cells) _ _ _ _ _ _ _ behind-5
-        (subst (λ cells. Puts (flat_map round_text cells) (use_of g.W.Sink.held g.W.Sink.failures c.put_left-2.new.w c.put_rounds.new.w) c.put_rounds.result)
-            c.deref.ensures.value c.put_rounds.ensures)
+    (subst (λ cells. Puts (flat_map round_text cells) (use_of g.W.Sink.held g.W.Sink.failures c.put_left-2.new.w c.put_rounds.new.w) c.put_rounds.result)
+    c.deref.ensures.value c.put_rounds.ensures)

@@ -13,13 +13,13 @@ returns-in_err-put_round g c =
     let cells = c.args.cells.now in
     let i = c.loop-cell.cell-index in
     rw p.1 (put_fails (flat_map round_text cells) (flat_map round_text (drop i cells)) (round_text (get_or cells i Blank))
-        (flat_map round_text (drop (i + 1) cells)) _ _ _ _ _ _ c.loop-cell.invariant
-        (ap (flat_map round_text) (drop_more cells i Blank c.loop-cell-test.true)) c.in_err-put_round.ensures)
+    (flat_map round_text (drop (i + 1) cells)) _ _ _ _ _ _ c.loop-cell.invariant
+    (ap (flat_map round_text) (drop_more cells i Blank c.loop-cell-test.true)) c.in_err-put_round.ensures)
 
 pub loop-cell-preserved : goal.loop-cell-preserved
 loop-cell-preserved g c =
     let cells = c.args.cells.now in
     let i = c.loop-cell.cell-index in
     put_next (flat_map round_text cells) (flat_map round_text (drop i cells)) (round_text (get_or cells i Blank))
-        (flat_map round_text (drop (i + 1) cells)) _ _ _ _ _ _ c.loop-cell.invariant
-        (ap (flat_map round_text) (drop_more cells i Blank c.loop-cell-test.true)) c.in_ok-put_round.ensures
+    (flat_map round_text (drop (i + 1) cells)) _ _ _ _ _ _ c.loop-cell.invariant
+    (ap (flat_map round_text) (drop_more cells i Blank c.loop-cell-test.true)) c.in_ok-put_round.ensures

@@ -21,11 +21,11 @@ returns-in_err-put_next g c =
     let after = c.next_line.result.1.now in
     let behind = players_behind carried players in
     rw p.1 (put_fails (written c.args.report.now) (lines_text utf8 (map (carried_line utf8) (lines rest)) players) (next_text utf8 carried players)
-        (lines_text utf8 (map (carried_line utf8) (lines after)) behind) _ _ _ _ _ _ c.loop-players.invariant
-        (lines_next utf8 rest c.next_line.result.0.now after carried players behind c.next_line.ensures.first
-            (c.carried_line.ensures ∙ ap (λ (sheet : Sheet). carried_line sheet.utf8 c.next_line.result.0.now) c.report.view_is) refl)
-        (subst (λ (sheet : Sheet). HasPart (next_text sheet.utf8 carried players) (use_of g.W.Sink.held g.W.Sink.failures c.loop-players.w c.put_next.new.w))
-            c.report.view_is c.in_err-put_next.ensures.text))
+    (lines_text utf8 (map (carried_line utf8) (lines after)) behind) _ _ _ _ _ _ c.loop-players.invariant
+    (lines_next utf8 rest c.next_line.result.0.now after carried players behind c.next_line.ensures.first
+    (c.carried_line.ensures ∙ ap (λ (sheet : Sheet). carried_line sheet.utf8 c.next_line.result.0.now) c.report.view_is) refl)
+    (subst (λ (sheet : Sheet). HasPart (next_text sheet.utf8 carried players) (use_of g.W.Sink.held g.W.Sink.failures c.loop-players.w c.put_next.new.w))
+    c.report.view_is c.in_err-put_next.ensures.text))
 
 pub loop-players-preserved : goal.loop-players-preserved
 loop-players-preserved g c =
@@ -36,8 +36,8 @@ loop-players-preserved g c =
     let after = c.next_line.result.1.now in
     let behind = map entry_of c.put_next.new.players in
     put_next (written c.args.report.now) (lines_text utf8 (map (carried_line utf8) (lines rest)) players) (next_text utf8 carried players)
-        (lines_text utf8 (map (carried_line utf8) (lines after)) behind) _ _ _ _ _ _ c.loop-players.invariant
-        (lines_next utf8 rest c.next_line.result.0.now after carried players behind c.next_line.ensures.first
-            (c.carried_line.ensures ∙ ap (λ (sheet : Sheet). carried_line sheet.utf8 c.next_line.result.0.now) c.report.view_is) c.put_next.ensures.players)
-        (subst (λ (sheet : Sheet). HasText (next_text sheet.utf8 carried players) (use_of g.W.Sink.held g.W.Sink.failures c.loop-players.w c.put_next.new.w))
-            c.report.view_is c.in_ok-put_next.ensures.text)
+    (lines_text utf8 (map (carried_line utf8) (lines after)) behind) _ _ _ _ _ _ c.loop-players.invariant
+    (lines_next utf8 rest c.next_line.result.0.now after carried players behind c.next_line.ensures.first
+    (c.carried_line.ensures ∙ ap (λ (sheet : Sheet). carried_line sheet.utf8 c.next_line.result.0.now) c.report.view_is) c.put_next.ensures.players)
+    (subst (λ (sheet : Sheet). HasText (next_text sheet.utf8 carried players) (use_of g.W.Sink.held g.W.Sink.failures c.loop-players.w c.put_next.new.w))
+    c.report.view_is c.in_ok-put_next.ensures.text)

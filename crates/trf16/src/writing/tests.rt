@@ -1,0 +1,68 @@
+// Reports that are read and written again.
+use crate::devices::{Counted, Failed};
+use crate::{read, write};
+use std::io;
+use std::io::Write;
+
+// Small letters and capitals, numbers and points in other forms, lines that end in different ways.
+const REPORT: &str = "012 Pohár města\r\n\
+001    1 m GM Müller, Jörg                      2600 GER    12345678 1980/01/01 2,0     1  2    W 1     3   +  0000 - z\n\
+\r\
+001 2    w    Šimáně, Žofie                     1850                              ,5    3     1 b 0       - H     3 w  \n\
+XXR 3\r\n\
+001   3                                                                         1          0000 - U     1 - -     2 B  \n\
+001 4                                                                            ";
+
+const CANONICAL: &str = "012 Pohár města\n\
+001    1 m GM Müller, Jörg                      2600 GER    12345678 1980/01/01  2.0    1     2 w 1     3 - +  0000 - Z\n\
+\n\
+001    2 w    Šimáně, Žofie                     1850                             0.5    3     1 b 0  0000 - H     3 w  \n\
+XXR 3\n\
+001    3                                                                         1.0       0000 - U     1 - -     2 b  \n\
+001    4                                                                                 \n";
+
+// Takes three bytes a call, and none once it is full.
+#[derive(Drop)]
+struct Small {
+    held: Vec<u8>,
+    room: usize,
+}
+
+impl Write for Small {
+    fn write(&mut self, piece: &[u8]) -> io::Result<usize> {
+        let count = piece.len().min(3).min(self.room);
+        self.held.extend_from_slice(&piece[..count])?;
+        self.room -= count;
+        Ok(count)
+    }
+
+    fn flush(&mut self) -> io::Result<()> {
+        Ok(())
+    }
+}
+
+#[test]
+fn report_is_written_in_canonical_form(rt: HostRuntime) {
+    let Ok(report) = read(rt.alloc(), REPORT.as_bytes()) else {
+        panic!(rt; "refused");
+    };
+    let mut writer = Counted::new(Vec::new(rt.alloc()));
+    assert_eq!(rt; write(&report, &mut writer), Ok(()));
+    assert_eq!(rt; writer.into_inner().as_slice(), CANONICAL.as_bytes());
+}
+
+#[test]
+fn sink_that_fails_holds_a_part(rt: HostRuntime) {
+    let Ok(report) = read(rt.alloc(), REPORT.as_bytes()) else {
+        panic!(rt; "refused");
+    };
+    let mut writer = Counted::new(Small {
+        held: Vec::new(rt.alloc()),
+        room: 200,
+    });
+    assert_eq!(rt; write(&report, &mut writer), Err(Failed));
+    assert_eq!(rt;
+        writer.into_inner().held.as_slice(),
+        CANONICAL.as_bytes().split_at(200).0
+    );
+}
