@@ -1,0 +1,21 @@
+-- The order of choices: each has a key, a list of numbers, and the key that has the lower number at the first difference is first.
+use Rattle.std.specs.Prelude.{◌≡◌, ℕ, zero, suc, Bool, true, false, ◌&&◌, ◌||◌, eqb, ltb, List, [], ◌∷◌, ◌++◌, ◌⊎◌, cond}
+
+-- whether a key is before another: at the first difference its number is lower, or it has ended
+abbrev pub is_before : List ℕ → List ℕ → Bool
+is_before [] [] = false
+is_before [] (y ∷ ys) = true
+is_before (x ∷ xs) [] = false
+is_before (x ∷ xs) (y ∷ ys) = ltb x y || (eqb x y && is_before xs ys)
+
+module _ (key : List ℕ → List ℕ) where
+  -- a choice put before the first one whose key is not before its own
+  abbrev pub put : List ℕ → List (List ℕ) → List (List ℕ)
+  put choice [] = choice ∷ []
+  put choice (other ∷ others) =
+      cond (is_before (key other) (key choice)) (other ∷ put choice others) (choice ∷ other ∷ others)
+
+  -- choices sorted by their keys
+  abbrev pub sorted : List (List ℕ) → List (List ℕ)
+  sorted [] = []
+  sorted (choice ∷ others) = put choice (sorted others)

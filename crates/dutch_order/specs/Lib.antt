@@ -1,0 +1,6 @@
+pub mod Choices
+pub mod Keys
+pub mod Trials
+pub mod Steps
+pub mod Walks
+pub mod Transposition

@@ -1,0 +1,7 @@
+// Arrangements of numbers in the order of the Handbook's article D, specified by lists that are sorted by a key.
+#![tactic(auto)]
+
+pub mod rules;
+pub mod search;
+pub mod steps;
+pub mod transposition;
