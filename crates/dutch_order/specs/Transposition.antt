@@ -21,7 +21,7 @@ short_beginnings meets first pool =
 
 -- how transpositions are searched: at each place each place of the pool is tried, and fits if it is not taken yet and the two
 -- players may meet
-unfoldable pub transposition_plan : (ℕ → ℕ → Bool) → List ℕ → List ℕ → Plan
+abbrev pub transposition_plan : (ℕ → ℕ → Bool) → List ℕ → List ℕ → Plan
 transposition_plan meets first pool = record {
   places = length first;
   width = length pool;

@@ -37,11 +37,11 @@ struct Opponents<'a, R> {
 }
 
 impl<'a, R: Rule> Tree for Opponents<'a, R> {
-    ghost use Rattle.std.proofs.Common.{≤_refl};
+    ghost use Rattle.std.proofs.Common.{rules};
 
     ghost plan = { λ t. transposition_plan (R.meets t.rule.now) t.first.now t.pool.now };
 
-    ghost within = { λ t p. ? };
+    ghost within = { λ t p. Prim.search rules };
 
     fn places(&self) -> usize {
         self.first.len()
