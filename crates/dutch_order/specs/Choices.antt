@@ -9,7 +9,7 @@ subsets (x ∷ numbers) (suc k) = map (λ set. x ∷ set) (subsets numbers k) ++
 
 -- a list without a number
 abbrev pub without : ℕ → List ℕ → List ℕ
-without x numbers = filter (λ y. not (eqb x y)) numbers
+without x numbers = filter (λ y. not (eqb y x)) numbers
 
 -- all lists of k distinct members of a list of distinct numbers: any first member, and then a list of the others
 abbrev pub tuples : List ℕ → ℕ → List (List ℕ)

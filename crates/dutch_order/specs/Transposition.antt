@@ -1,6 +1,6 @@
 -- Transpositions (C.04.3 D.1): tuples in the order of their numbers.
-use Rattle.std.specs.Prelude.{ℕ, ◌+◌, Bool, not, ◌&&◌, eqb, List, [], ◌∷◌, map, filter, flat_map, length, take, slice_index}
-use Rattle.std.specs.List.{list_any, range_with_len}
+use Rattle.std.specs.Prelude.{ℕ, zero, suc, Bool, not, ◌&&◌, eqb, List, [], ◌∷◌, ◌++◌, map, filter, length, take, slice_index}
+use Rattle.std.specs.List.{list_any}
 use Rattle.dutch_order.specs.Choices.{tuples, all_meet}
 use Rattle.dutch_order.specs.Keys.{sorted}
 use Rattle.dutch_order.specs.Trials.{Plan}
@@ -14,10 +14,15 @@ tuple_key tuple = tuple
 abbrev pub transpositions : (ℕ → ℕ → Bool) → List ℕ → List ℕ → List (List ℕ)
 transpositions meets first pool = filter (all_meet meets first) (sorted tuple_key (tuples pool (length first)))
 
--- the beginnings that are too short: for each shorter beginning of the first list, the tuples whose players may meet it
+-- the beginnings shorter than k, the empty one among them: tuples of the pool whose players may meet the first ones so far
+abbrev pub beginnings_below : (ℕ → ℕ → Bool) → List ℕ → List ℕ → ℕ → List (List ℕ)
+beginnings_below meets first pool zero = []
+beginnings_below meets first pool (suc k) =
+    beginnings_below meets first pool k ++ filter (all_meet meets (take k first)) (tuples pool k)
+
+-- the beginnings that are too short
 abbrev pub short_beginnings : (ℕ → ℕ → Bool) → List ℕ → List ℕ → List (List ℕ)
-short_beginnings meets first pool =
-    flat_map (λ k. filter (all_meet meets (take k first)) (tuples pool k)) (range_with_len 0 (length first))
+short_beginnings meets first pool = beginnings_below meets first pool (length first)
 
 -- how transpositions are searched: at each place each place of the pool is tried, and fits if it is not taken yet and the two
 -- players may meet
