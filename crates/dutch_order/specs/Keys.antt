@@ -1,5 +1,6 @@
 -- The order of choices: each has a key, a list of numbers, and the key that has the lower number at the first difference is first.
-use Rattle.std.specs.Prelude.{◌≡◌, ℕ, zero, suc, Bool, true, false, ◌&&◌, ◌||◌, eqb, ltb, List, [], ◌∷◌, ◌++◌, ◌⊎◌, cond}
+use Rattle.std.specs.Prelude.{◌≡◌, ℕ, Bool, true, false, ◌&&◌, ◌||◌, eqb, ltb, List, [], ◌∷◌, ◌⊎◌, cond}
+use Rattle.std.specs.List.{AllByRecursion}
 
 -- whether a key is before another: at the first difference its number is lower, or it has ended
 abbrev pub is_before : List ℕ → List ℕ → Bool
@@ -19,3 +20,14 @@ module _ (key : List ℕ → List ℕ) where
   abbrev pub sorted : List (List ℕ) → List (List ℕ)
   sorted [] = []
   sorted (choice ∷ others) = put choice (sorted others)
+
+-- something is a member of a list
+abbrev pub IsIn : {X : Type 0} → X → List X → Type 0
+IsIn x [] = ⊥
+IsIn x (y ∷ ys) = (x ≡ y) ⊎ IsIn x ys
+
+-- choices ascend by a key: the key of each is before the keys of all later ones
+abbrev pub Ascends : (List ℕ → List ℕ) → List (List ℕ) → Type 0
+Ascends key [] = Unit {0}
+Ascends key (choice ∷ others) =
+    AllByRecursion (λ other. is_before (key choice) (key other) ≡ true) others × Ascends key others
