@@ -1,6 +1,9 @@
 -- The order of keys, and lists that ascend by a key.
 use Rattle.std.proofs.Common.{◌≡◌, ℕ, zero, suc, ◌+◌, ◌<◌, ◌≤◌, Bool, true, false, ◌&&◌, ◌||◌, eqb, ltb, cond, List, [], ◌∷◌, ◌++◌, map, length, refl, sym, ◌∙◌, ap, arith, ◌⊎◌, inl, inr, subst}
-use Rattle.std.specs.List.{filter, flat_map, AllByRecursion}
+use Rattle.std.specs.List.{filter, flat_map, AllByRecursion, AllPairs}
+use Rattle.std.specs.List.Sorted.{IsStrictlyIncreasing}
+use Rattle.std.proofs.lemmas.List.Kept.{AllPairs-from_increasing}
+use Rattle.std.proofs.lemmas.List.Elements.{recursion_from_All}
 use Rattle.std.proofs.lemmas.Bool.{ltb-true, lt-ltb, le-ltb, eq-eqb, eqb-true, ne_eqb, or_cases, and_parts, or_left, or_right, and_from, cases_order, true≢false, cases_Bool}
 use Rattle.dutch_order.specs.Keys.{is_before, put, sorted, IsIn, Ascends}
 
@@ -164,3 +167,44 @@ Ascends-unique key (x ∷ xs) (y ∷ ys) p q there back =
     (Ascends-unique key xs ys p.1 q.1
     (λ z m. still_there key y z ys (subst (λ w. is_before (key w) (key z) ≡ true) heads (member_has (λ other. is_before (key x) (key other) ≡ true) xs p.0 z m)) (there z (inr m)))
     (λ z m. still_there key x z xs (subst (λ w. is_before (key w) (key z) ≡ true) (sym heads) (member_has (λ other. is_before (key y) (key other) ≡ true) ys q.0 z m)) (back z (inr m))))
+
+-- each number is below all later ones
+abbrev pub Rises : List ℕ → Type 0
+Rises [] = Unit {0}
+Rises (x ∷ xs) = AllByRecursion (λ y. x < y) xs × Rises xs
+
+pub Rises-from_pairs : (xs : List ℕ) → AllPairs (λ x y. x < y) xs → Rises xs
+Rises-from_pairs [] pairs = tt
+Rises-from_pairs (x ∷ xs) pairs =
+    (recursion_from_All (λ y. x < y) xs (λ k d low. pairs 0 (suc k) d (omega arith) (omega arith)),
+    Rises-from_pairs xs (λ i j d before within. pairs (suc i) (suc j) d (omega arith) (omega arith)))
+
+pub Rises-from : (xs : List ℕ) → IsStrictlyIncreasing xs → Rises xs
+Rises-from xs h = Rises-from_pairs xs (AllPairs-from_increasing xs h)
+
+AllByRecursion-filter : (P : ℕ → Type 0) (p : ℕ → Bool) (xs : List ℕ) → AllByRecursion P xs → AllByRecursion P (filter p xs)
+AllByRecursion-filter P p [] all = tt
+AllByRecursion-filter P p (x ∷ xs) all =
+    elim (p x) as (λ b. AllByRecursion P (cond b (x ∷ filter p xs) (filter p xs))) [
+      true ↦ (all.0, AllByRecursion-filter P p xs all.1)
+    | false ↦ AllByRecursion-filter P p xs all.1
+    ]
+
+pub Rises-filter : (p : ℕ → Bool) (xs : List ℕ) → Rises xs → Rises (filter p xs)
+Rises-filter p [] rises = tt
+Rises-filter p (x ∷ xs) rises =
+    elim (p x) as (λ b. Rises (cond b (x ∷ filter p xs) (filter p xs))) [
+      true ↦ (AllByRecursion-filter (λ y. x < y) p xs rises.0, Rises-filter p xs rises.1)
+    | false ↦ Rises-filter p xs rises.1
+    ]
+
+-- one number before each of a list of tuples keeps their order
+pub Ascends-head : (x : ℕ) (tuples' : List (List ℕ)) → Ascends (λ tuple. tuple) tuples' → Ascends (λ tuple. tuple) (map (λ tuple. x ∷ tuple) tuples')
+Ascends-head x [] p = tt
+Ascends-head x (first ∷ tuples') p =
+    (all_members (λ other. is_before (x ∷ first) other ≡ true) (map (λ tuple. x ∷ tuple) tuples')
+    (λ other m.
+      let from = IsIn-map (λ tuple. x ∷ tuple) other tuples' m in
+      subst (λ z. is_before (x ∷ first) z ≡ true) (sym from.1)
+      (is_before-equal x first from.0 ∙ member_has (λ z. is_before first z ≡ true) tuples' p.0 from.0 from.2)),
+    Ascends-head x tuples' p.1)

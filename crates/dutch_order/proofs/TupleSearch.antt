@@ -1,5 +1,6 @@
 -- The search of transpositions finds the tuples that may meet, in the order of their numbers.
-use Rattle.std.proofs.Common.{◌≡◌, ℕ, zero, suc, ◌+◌, ◌-◌, ◌*◌, ◌<◌, ◌≤◌, Bool, true, false, not, ◌&&◌, ◌||◌, eqb, cond, List, [], ◌∷◌, ◌++◌, map, length, get_or, take, drop, refl, sym, ◌∙◌, ap, arith, length-append, append_assoc, ◌⊎◌, inl, inr, slice_index}
+use Rattle.std.proofs.Common.{◌≡◌, ℕ, zero, suc, ◌+◌, ◌-◌, ◌*◌, ◌<◌, ◌≤◌, Bool, true, false, not, ◌&&◌, ◌||◌, eqb, cond, List, [], ◌∷◌, ◌++◌, map, length, get_or, take, drop, refl, sym, ◌∙◌, ap, arith, length-append, append_assoc, ◌⊎◌, inl, inr, slice_index, subst}
+use Rattle.std.proofs.lemmas.List.{length-map}
 use Rattle.std.specs.List.{filter, flat_map, list_any, AllByRecursion, AllPairs}
 use Rattle.std.specs.List.Sorted.{IsStrictlyIncreasing}
 use Rattle.std.proofs.Math.Seq.{drop-cons, take-length}
@@ -7,27 +8,14 @@ use Rattle.std.proofs.lemmas.Simd.{map-map}
 use Rattle.std.proofs.lemmas.List.{append-nil, map-append}
 use Rattle.std.proofs.lemmas.List.Folds.{flat_map-map, list_any-append}
 use Rattle.std.proofs.lemmas.List.Kept.{AllPairs-from_increasing}
-use Rattle.std.proofs.lemmas.List.Elements.{recursion_from_All}
 use Rattle.std.proofs.lemmas.Bool.{ne_eqb, eq-eqb, cases_order}
-use Rattle.dutch_order.specs.Trials.{Plan, numbers_from}
+use Rattle.dutch_order.specs.Trials.{Plan, numbers_from, entry, ahead, hits, trials}
 use Rattle.dutch_order.specs.Choices.{tuples, without, all_meet}
-use Rattle.dutch_order.specs.Transposition.{transposition_plan, numbers_at}
+use Rattle.dutch_order.specs.Transposition.{transposition_plan, numbers_at, transpositions, short_beginnings, beginnings_below}
 use Rattle.dutch_order.proofs.Lists.{map-flat_map, filter-flat_map, flat_map-filter, flat_map-same, flat_map-below, map-numbers_from, map-cond, map-same, filter-same, filter-filter, filter-all}
-use Rattle.dutch_order.proofs.Found.{found, found-zero, found-suc}
-
--- each number is below all later ones
-abbrev pub Rises : List ℕ → Type 0
-Rises [] = Unit {0}
-Rises (x ∷ xs) = AllByRecursion (λ y. x < y) xs × Rises xs
-
-pub Rises-from_pairs : (xs : List ℕ) → AllPairs (λ x y. x < y) xs → Rises xs
-Rises-from_pairs [] pairs = tt
-Rises-from_pairs (x ∷ xs) pairs =
-    (recursion_from_All (λ y. x < y) xs (λ k d low. pairs 0 (suc k) d (omega arith) (omega arith)),
-    Rises-from_pairs xs (λ i j d before within. pairs (suc i) (suc j) d (omega arith) (omega arith)))
-
-pub Rises-from : (xs : List ℕ) → IsStrictlyIncreasing xs → Rises xs
-Rises-from xs h = Rises-from_pairs xs (AllPairs-from_increasing xs h)
+use Rattle.dutch_order.specs.Keys.{is_before, sorted, Ascends, IsIn}
+use Rattle.dutch_order.proofs.Found.{found, found-zero, found-suc, ahead-new, short_paths, trials-short}
+use Rattle.dutch_order.proofs.Orders.{Rises, Rises-from, Rises-filter, Ascends-append, Ascends-head, IsIn-map, IsIn-flat_map, member_has, is_before-lower, sorted-ascending}
 
 -- a test of a tuple with one more number at its head
 filter-head : (meets : ℕ → ℕ → Bool) (first : ℕ) (firsts : List ℕ) (x : ℕ) (tuples' : List (List ℕ)) → filter (all_meet meets (first ∷ firsts)) (map (λ tuple. x ∷ tuple) tuples') ≡ cond (meets first x) (map (λ tuple. x ∷ tuple) (filter (all_meet meets firsts) tuples')) []
@@ -44,6 +32,31 @@ both_tests : (free may : Bool) (f : List ℕ → List ℕ) (paths numbers : List
 both_tests true true f paths numbers g same = same
 both_tests true false f paths numbers g same = refl
 both_tests false may f paths numbers g same = refl
+
+-- tuples with a first member from a rising list ascend, if those after each one do
+tuples-ascend_from : (k : ℕ) (all : List ℕ) → ((x : ℕ) → Ascends (λ tuple. tuple) (tuples (without x all) k)) → (xs : List ℕ) → Rises xs → Ascends (λ tuple. tuple) (flat_map (λ x. map (λ tuple. x ∷ tuple) (tuples (without x all) k)) xs)
+tuples-ascend_from k all each [] rises = tt
+tuples-ascend_from k all each (x ∷ xs) rises =
+    Ascends-append (λ tuple. tuple) (map (λ tuple. x ∷ tuple) (tuples (without x all) k)) (flat_map (λ x. map (λ tuple. x ∷ tuple) (tuples (without x all) k)) xs)
+    (Ascends-head x (tuples (without x all) k) (each x))
+    (tuples-ascend_from k all each xs rises.1)
+    (λ a b m n.
+      let here = IsIn-map (λ tuple. x ∷ tuple) a (tuples (without x all) k) m in
+      let later = IsIn-flat_map (λ y. map (λ tuple. y ∷ tuple) (tuples (without y all) k)) b xs n in
+      let there = IsIn-map (λ tuple. later.0 ∷ tuple) b (tuples (without later.0 all) k) later.2 in
+      subst (λ z. is_before z b ≡ true) (sym here.1)
+      (subst (λ z. is_before (x ∷ here.0) z ≡ true) (sym there.1)
+      (is_before-lower x later.0 here.0 there.0 (member_has (λ y. x < y) xs rises.0 later.0 later.1))))
+
+-- the tuples of a rising list ascend
+pub tuples-ascend : (k : ℕ) (numbers : List ℕ) → Rises numbers → Ascends (λ tuple. tuple) (tuples numbers k)
+tuples-ascend zero numbers rises = (tt, tt)
+tuples-ascend (suc k) numbers rises =
+    tuples-ascend_from k numbers (λ x. tuples-ascend k (without x numbers) (Rises-filter (λ y. not (eqb y x)) numbers rises)) numbers rises
+
+map-self : (xs : List (List ℕ)) → map (λ x. x) xs ≡ xs
+map-self [] = refl
+map-self (x ∷ xs) = ap (λ rest. x ∷ rest) (map-self xs)
 
 module _ (meets : ℕ → ℕ → Bool) (first pool : List ℕ) (rises : IsStrictlyIncreasing pool) where
   abbrev pub plan : Plan
@@ -130,3 +143,37 @@ module _ (meets : ℕ → ℕ → Bool) (first pool : List ℕ) (rises : IsStric
       ∙ sym (flat_map-filter G (free path) pool)
       ∙ sym (map-flat_map put_on (λ x. filter p (grown x)) (filter (free path) pool))
       ∙ ap (map put_on) (sym (filter-flat_map p grown (filter (free path) pool)))
+
+  starts_at_none : (open_places : ℕ) → entry plan open_places [] ≡ 0
+  starts_at_none zero = refl
+  starts_at_none (suc open_places) = refl
+
+  -- of a new search, the whole paths with so many places
+  pub found-new : (open_places : ℕ) → open_places ≤ length first → map (numbers_at pool) (found plan open_places []) ≡ filter (all_meet meets (take open_places first)) (tuples pool open_places)
+  found-new open_places room =
+      tuples-found open_places [] tt (omega arith)
+      ∙ ap (λ l. map (λ tuple. tuple) (filter (all_meet meets (take open_places first)) (tuples l open_places))) (filter-all pool)
+      ∙ map-self (filter (all_meet meets (take open_places first)) (tuples pool open_places))
+
+  pub transpositions-found : map (numbers_at pool) (hits (ahead plan [] 0)) ≡ transpositions meets first pool
+  transpositions-found =
+      ap (λ number. map (numbers_at pool) (hits (ahead plan [] number))) (sym (starts_at_none (length first)))
+      ∙ ap (λ events. map (numbers_at pool) (hits events)) (ahead-new plan)
+      ∙ found-new (length first) (omega arith)
+      ∙ ap (λ firsts. filter (all_meet meets firsts) (tuples pool (length first))) (take-length first)
+      ∙ ap (filter (all_meet meets first)) (sym (sorted-ascending (λ tuple. tuple) (tuples pool (length first)) (tuples-ascend (length first) pool (Rises-from pool rises))))
+
+  short-length : (k : ℕ) → k ≤ length first → length (short_paths plan (length pool) (λ path. refl) (λ path. refl) k []) ≡ length (beginnings_below meets first pool k)
+  short-length zero room = refl
+  short-length (suc k) room =
+      length-append (short_paths plan (length pool) (λ path. refl) (λ path. refl) k []) (found plan k [])
+      ∙ ap (λ n. n + length (found plan k [])) (short-length k (omega arith))
+      ∙ ap (λ n. length (beginnings_below meets first pool k) + n) (sym (length-map (found plan k []) (numbers_at pool)) ∙ ap length (found-new k (omega arith)))
+      ∙ sym (length-append (beginnings_below meets first pool k) (filter (all_meet meets (take k first)) (tuples pool k)))
+
+  pub transpositions-trials : trials (ahead plan [] 0) ≡ length pool * length (short_beginnings meets first pool)
+  transpositions-trials =
+      ap (λ number. trials (ahead plan [] number)) (sym (starts_at_none (length first)))
+      ∙ ap trials (ahead-new plan)
+      ∙ trials-short plan (length pool) (λ path. refl) (λ path. refl) (length first) []
+      ∙ ap (λ n. length pool * n) (short-length (length first) (omega arith))
