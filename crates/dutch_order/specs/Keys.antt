@@ -1,5 +1,5 @@
 -- The order of choices: each has a key, a list of numbers, and the key that has the lower number at the first difference is first.
-use Rattle.std.specs.Prelude.{◌≡◌, ℕ, Bool, true, false, ◌&&◌, ◌||◌, eqb, ltb, List, [], ◌∷◌, ◌⊎◌, cond}
+use Rattle.std.specs.Prelude.{◌≡◌, ℕ, ◌-◌, Bool, true, false, ◌&&◌, ◌||◌, eqb, ltb, List, [], ◌∷◌, ◌⊎◌, cond}
 use Rattle.std.specs.List.{AllByRecursion}
 
 -- whether a key is before another: at the first difference its number is lower, or it has ended
@@ -31,3 +31,7 @@ abbrev pub Ascends : (List ℕ → List ℕ) → List (List ℕ) → Type 0
 Ascends key [] = Unit {0}
 Ascends key (choice ∷ others) =
     AllByRecursion (λ other. is_before (key choice) (key other) ≡ true) others × Ascends key others
+
+-- a number as it counts in a key where the higher one is first; every number is below 65536
+abbrev pub higher_first : ℕ → ℕ
+higher_first number = 65535 - number

@@ -4,3 +4,5 @@ pub mod Trials
 pub mod Steps
 pub mod Walks
 pub mod Transposition
+pub mod Halves
+pub mod Limbo
