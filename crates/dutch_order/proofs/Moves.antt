@@ -3,6 +3,7 @@ use Rattle.std.proofs.Common.{◌≡◌, ℕ, zero, suc, ◌+◌, ◌-◌, ◌<�
 use Rattle.std.specs.List.{flat_map, AllByRecursion}
 use Rattle.std.proofs.lemmas.List.{append-nil}
 use Rattle.dutch_order.specs.Trials.{Plan, Event, numbers_from, entry, below, after, ahead, trials}
+use Rattle.dutch_order.specs.Walks.{Walked}
 
 -- nothing follows the empty path
 pub after-nil : (plan : Plan) (open_places : ℕ) (begun : List ℕ) → after plan open_places begun [] ≡ []
@@ -167,3 +168,30 @@ ahead-ended plan (first ∷ path) after_pop number same empty none = absurd (ome
 -- a whole path that was not handed out yet
 pub ahead-whole : (plan : Plan) (path : List ℕ) (number : ℕ) → length path ≡ plan.places → number ≡ 0 → ahead plan path number ≡ Some path ∷ ahead plan path 1
 ahead-whole plan path number whole fresh = ap (ahead plan path) fresh ∙ ahead-found plan path whole
+
+-- a path that goes on, and one that loses its last number
+pub Walked-push : (plan : Plan) (begun path : List ℕ) (number : ℕ) → Walked plan begun path → number < plan.stop (begun ++ path) → Walked plan begun (path ++ number ∷ [])
+Walked-push plan begun [] number walked low = (subst (λ path. number < plan.stop path) (append-nil begun) low, tt)
+Walked-push plan begun (first ∷ path) number walked low =
+    (walked.0, Walked-push plan (begun ++ first ∷ []) path number walked.1
+    (subst (λ path'. number < plan.stop path') (sym (append_assoc begun (first ∷ []) path)) low))
+
+pub Walked-pop : (plan : Plan) (begun path : List ℕ) (number : ℕ) → Walked plan begun (path ++ number ∷ []) → Walked plan begun path × (number < plan.stop (begun ++ path))
+Walked-pop plan begun [] number walked = (tt, subst (λ path. number < plan.stop path) (sym (append-nil begun)) walked.0)
+Walked-pop plan begun (first ∷ path) number walked =
+    let rest = Walked-pop plan (begun ++ first ∷ []) path number walked.1 in
+    ((walked.0, rest.0), subst (λ path'. number < plan.stop path') (append_assoc begun (first ∷ []) path) rest.1)
+
+-- the same, at the paths that the code has
+pub Walked-longer : (plan : Plan) (path longer : List ℕ) (number : ℕ) → longer ≡ path ++ number ∷ [] → Walked plan [] path → number < plan.stop path → Walked plan [] longer
+Walked-longer plan path longer number is_longer walked low =
+    subst (Walked plan []) (sym is_longer) (Walked-push plan [] path number walked low)
+
+pub Walked-shorter : (plan : Plan) (path shorter : List ℕ) (number : ℕ) → path ≡ shorter ++ number ∷ [] → Walked plan [] path → Walked plan [] shorter × (number < plan.stop shorter)
+Walked-shorter plan path shorter number is_longer walked = Walked-pop plan [] shorter number (subst (Walked plan []) is_longer walked)
+
+-- the numbers of a path are below what bounds each place
+pub Walked-below : (plan : Plan) (bound : ℕ) → ((path : List ℕ) → plan.stop path ≤ bound) → (begun path : List ℕ) → Walked plan begun path → AllByRecursion (λ number. number < bound) path
+Walked-below plan bound stops begun [] walked = tt
+Walked-below plan bound stops begun (number ∷ path) walked =
+    (omega (arith, stops begun), Walked-below plan bound stops (begun ++ number ∷ []) path walked.1)

@@ -1,7 +1,6 @@
 // The one search of all generators: a path of numbers that is filled place by place, goes back where no number fits, and can be
 // stopped before each trial.
 ghost use Rattle.std.specs.Prelude.{◌≡◌, ◌+◌, ◌-◌, ◌<◌, ◌≤◌, ℕ, None, [], ◌∷◌, length, true, false};
-ghost use Rattle.std.specs.List.{AllByRecursion};
 ghost use Rattle.dutch_order.specs.Trials.{Plan, entry, below, ahead, hits, trials};
 ghost use Rattle.dutch_order.specs.Steps.{MatchStep};
 ghost use Rattle.dutch_order.specs.Walks.{Stands, IsOpen, IsSpent};
