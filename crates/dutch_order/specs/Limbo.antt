@@ -1,5 +1,5 @@
 -- Exchanges of moved-down players (C.04.3 D.3): sets of places of the bracket, by their scores and then by their numbers.
-use Rattle.std.specs.Prelude.{ℕ, ◌+◌, ◌-◌, Bool, ◌&&◌, ◌||◌, not, ◌==◌, nat_lt, List, [], ◌∷◌, ◌++◌, map, length, slice_index, slice_range, if◌then◌else◌}
+use Rattle.std.specs.Prelude.{ℕ, ◌+◌, ◌-◌, ◌<◌, ◌≤◌, Bool, ◌&&◌, ◌||◌, not, ◌==◌, nat_lt, List, [], ◌∷◌, ◌++◌, map, drop, length, slice_index, slice_range, if◌then◌else◌}
 use Rattle.dutch_order.specs.Choices.{subsets}
 use Rattle.dutch_order.specs.Keys.{sorted, higher_first}
 use Rattle.dutch_order.specs.Trials.{Plan, numbers_from}
@@ -16,6 +16,10 @@ limbo_key scores set = map (λ number. higher_first (score_of scores number)) se
 -- all sets of k of the players with these scores, by their keys
 abbrev pub limbo_exchanges : List ℕ → ℕ → List (List ℕ)
 limbo_exchanges scores k = sorted (limbo_key scores) (subsets (numbers_from 1 (length scores)) k)
+
+-- scores that do not ascend
+abbrev pub IsNonAscending : List ℕ → Type 0
+IsNonAscending scores = (i : ℕ) → i + 1 < length scores → slice_index scores (i + 1) ≤ slice_index scores i
 
 -- how they are searched: first the places of the first set with the same scores, then those of the set. A place of the first set
 -- follows the last one, or is the first of its score
@@ -43,3 +47,11 @@ abbrev pub limbo_plan : List ℕ → ℕ → Plan
 limbo_plan scores k =
     two_halves k (length scores) (length scores)
     (λ path place. if nat_lt (length path) k then leads scores k path place else mirrors scores k path place)
+
+-- the numbers of places, which count from 1
+abbrev pub numbers_of : List ℕ → List ℕ
+numbers_of places = map (λ place. place + 1) places
+
+-- the set that a path has found
+abbrev pub second_numbers : ℕ → List ℕ → List ℕ
+second_numbers k path = numbers_of (drop k path)
