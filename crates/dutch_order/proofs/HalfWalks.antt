@@ -1,6 +1,7 @@
 -- The paths of a search of two halves.
 use Rattle.std.proofs.Common.{◌≡◌, ℕ, zero, suc, ◌+◌, ◌-◌, ◌<◌, ◌≤◌, Bool, true, false, ◌||◌, ◌==◌, nat_lt, cond, List, [], ◌∷◌, ◌++◌, length, get_or, refl, sym, ◌∙◌, ap, append_assoc, arith, length-append, subst, if◌then◌else◌, zero-add}
 use Rattle.std.proofs.lemmas.List.{append-nil}
+use Rattle.std.proofs.lemmas.Bool.{ne_eqb, eq-eqb, or_right, lt-ltb, le-ltb}
 use Rattle.dutch_order.specs.Trials.{Plan}
 use Rattle.dutch_order.specs.Halves.{half_start, half_stop, two_halves}
 
@@ -87,3 +88,58 @@ Admitted-join plan (suc m) n (suc total) begun [] back whole p q = absurd p
 Admitted-join plan (suc m) n (suc total) begun (x ∷ front) back whole p q =
     (p.0, p.1, p.2, Admitted-join plan m n total (begun ++ x ∷ []) front back (omega arith) p.3
     (subst (λ b. Admitted plan n b back) (sym (append_assoc begun (x ∷ []) front)) q))
+
+get_or-last : (begun : List ℕ) (x : ℕ) → get_or (begun ++ x ∷ []) (length begun) 0 ≡ x
+get_or-last [] x = refl
+get_or-last (y ∷ begun) x = get_or-last begun x
+
+-- after a number that does not end a half, the next one is tried
+pub start-on : (half : ℕ) (begun : List ℕ) (x : ℕ) → (suc (length begun) ≡ half → ⊥) → half_start half (begun ++ x ∷ []) ≡ suc x
+start-on half begun x apart =
+    let long : length (begun ++ x ∷ []) ≡ suc (length begun) = omega (arith, length-append begun (x ∷ [])) in
+    ap (λ n. if (n == 0) || (n == half) then 0 else (get_or (begun ++ x ∷ []) (n - 1) 0 + 1)) long
+    ∙ ap (λ b. if b || (suc (length begun) == half) then 0 else (get_or (begun ++ x ∷ []) (suc (length begun) - 1) 0 + 1)) (ne_eqb (suc (length begun)) 0 (λ e. omega arith))
+    ∙ ap (λ b. if b then 0 else (get_or (begun ++ x ∷ []) (suc (length begun) - 1) 0 + 1)) (ne_eqb (suc (length begun)) half apart)
+    ∙ ap (λ n. get_or (begun ++ x ∷ []) n 0 + 1) (let e : suc (length begun) - 1 ≡ length begun = omega arith in e)
+    ∙ ap (λ n. n + 1) (get_or-last begun x)
+    ∙ (let e : x + 1 ≡ suc x = omega arith in e)
+
+-- the second half starts at 0
+pub start-second : (half : ℕ) (front : List ℕ) → length front ≡ half → half_start half front ≡ 0
+start-second half front same =
+    ap (λ b. if b then 0 else (get_or front (length front - 1) 0 + 1)) (or_right (length front == 0) (length front == half) (eq-eqb (length front) half same))
+
+pub stop-first : (half first_count second_count : ℕ) (path : List ℕ) → length path < half → half_stop half first_count second_count path ≡ first_count - (half - 1 - length path)
+stop-first half first_count second_count path h =
+    ap (λ b. if b then (first_count - (half - 1 - length path)) else (second_count - (half + half - 1 - length path))) (lt-ltb (length path) half h)
+
+pub stop-second : (half first_count second_count : ℕ) (path : List ℕ) → half ≤ length path → half_stop half first_count second_count path ≡ second_count - (half + half - 1 - length path)
+stop-second half first_count second_count path h =
+    ap (λ b. if b then (first_count - (half - 1 - length path)) else (second_count - (half + half - 1 - length path))) (le-ltb (length path) half h)
+
+-- the two halves of a path
+pub record Halved (fits : List ℕ → ℕ → Bool) (half first_count second_count : ℕ) (front back : List ℕ) : Type 0 where
+  pub front_climbs : Climbs 0 first_count front
+  pub back_climbs : Climbs 0 second_count back
+  pub front_fits : AllFit fits [] front
+  pub back_fits : AllFit fits front back
+  pub front_length : length front ≡ half
+  pub back_length : length back ≡ half
+
+module _ (half first_count second_count : ℕ) (fits : List ℕ → ℕ → Bool) where
+  pub halves-split : (path : List ℕ) → Admitted (two_halves half first_count second_count fits) (half + half) [] path → (front : List ℕ) × (back : List ℕ) × (path ≡ front ++ back) × Halved fits half first_count second_count front back
+  halves-split path admitted =
+      let plan : Plan = two_halves half first_count second_count fits in
+      let parts = Admitted-split plan half half (half + half) [] path refl admitted in
+      let one = half-climbs plan 0 half first_count (λ begun x later more. start-on half begun x (λ e. omega arith)) (λ begun later more. stop-first half first_count second_count begun more) half [] parts.0 0 (omega arith) (omega arith) (λ more. refl) parts.3 in
+      let two = half-climbs plan half (half + half) second_count (λ begun x later more. start-on half begun x (λ e. omega arith)) (λ begun later more. stop-second half first_count second_count begun later) half parts.0 parts.1 0 (omega (arith, one.2)) (omega (arith, one.2)) (λ more. start-second half parts.0 one.2) parts.4 in
+      (parts.0, parts.1, parts.2, record {
+        front_climbs = one.0; back_climbs = two.0; front_fits = one.1; back_fits = two.1; front_length = one.2; back_length = two.2
+      })
+
+  pub halves-join : (front back : List ℕ) → Halved fits half first_count second_count front back → Admitted (two_halves half first_count second_count fits) (half + half) [] (front ++ back)
+  halves-join front back halved =
+      let plan : Plan = two_halves half first_count second_count fits in
+      Admitted-join plan half half (half + half) [] front back refl
+      (half-admitted plan 0 half first_count (λ begun x later more. start-on half begun x (λ e. omega arith)) (λ begun later more. stop-first half first_count second_count begun more) half [] front 0 (omega arith) (omega arith) (λ more. refl) halved.front_climbs halved.front_fits halved.front_length)
+      (half-admitted plan half (half + half) second_count (λ begun x later more. start-on half begun x (λ e. omega arith)) (λ begun later more. stop-second half first_count second_count begun later) half front back 0 (omega (arith, halved.front_length)) (omega (arith, halved.front_length)) (λ more. start-second half front halved.front_length) halved.back_climbs halved.back_fits halved.back_length)
