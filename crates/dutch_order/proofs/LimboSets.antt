@@ -1,5 +1,5 @@
 -- The search of sets of moved-down players finds all sets, by their keys.
-use Rattle.std.proofs.Common.{◌≡◌, ℕ, zero, suc, ◌+◌, ◌-◌, ◌<◌, ◌≤◌, Bool, true, false, not, ◌&&◌, ◌||◌, eqb, ◌==◌, nat_lt, cond, List, [], ◌∷◌, ◌++◌, map, length, get_or, drop, take, refl, sym, ◌∙◌, ap, append_assoc, arith, length-append, subst, ◌⊎◌, inl, inr, slice_index, if◌then◌else◌}
+use Rattle.std.proofs.Common.{◌≡◌, ℕ, zero, suc, ◌+◌, ◌-◌, ◌<◌, ◌≤◌, Bool, true, false, not, ◌&&◌, ◌||◌, eqb, ◌==◌, nat_lt, cond, List, [], ◌∷◌, ◌++◌, map, length, get_or, drop, take, refl, sym, ◌∙◌, ap, append_assoc, arith, length-append, subst, ◌⊎◌, inl, inr, slice_index, if◌then◌else◌, zero-add}
 use Rattle.std.specs.List.{slice_range}
 use Rattle.std.proofs.lemmas.List.{append-nil, length-map, get_or_past}
 use Rattle.std.proofs.lemmas.Simd.{map-map}
@@ -215,3 +215,140 @@ module _ (scores : List ℕ) (k : ℕ) (falls : IsNonAscending scores) where
       (fits-first begun c.0 (omega arith) ∙ c.4, rest.2),
       ap (λ x. x ∷ map sc rest.0) c.3 ∙ ap (λ xs. sc a ∷ xs) rest.3,
       ap suc rest.4)
+
+  module _ (small : (i : ℕ) → sc i ≤ 65535) where
+    abbrev weight : ℕ → ℕ
+    weight place = higher_first (sc place)
+
+    -- a place that leads later has a lower score
+    leads-lower : (begun : List ℕ) (s x y : ℕ) → half_start k begun ≡ s → s ≤ x → x < y → leads scores k begun y ≡ true → weight x < weight y
+    leads-lower begun s x y start low below leading =
+        elim (or_cases ((y == half_start k begun) || (y == 0)) (not (sc (y - 1) == sc y)) leading) [
+          inl early ↦ elim (or_cases (y == half_start k begun) (y == 0) early) [
+            inl first ↦ absurd (omega (arith, eqb-true y (half_start k begun) first, start))
+          | inr none ↦ absurd (omega (arith, eqb-true y 0 none))
+          ]
+        | inr apart ↦
+            let differ : sc (y - 1) ≡ sc y → ⊥ = eqb-false (sc (y - 1)) (sc y) (not-true (sc (y - 1) == sc y) apart) in
+            let up : sc y ≤ sc (y - 1) = no_higher_at (y - 1) y (omega arith) in
+            let over : sc (y - 1) ≤ sc x = no_higher_at x (y - 1) (omega arith) in
+            omega (arith, differ, up, over, small x, small y)
+        ]
+
+    leads-order : (begun xs ys : List ℕ) (s : ℕ) → (0 < length xs → half_start k begun ≡ s) → length begun + length xs ≡ k → length xs ≡ length ys → Climbs s (length scores) xs → AllFit fits begun xs → AllFit fits begun ys → is_before xs ys ≡ true → is_before (map weight xs) (map weight ys) ≡ true
+    leads-order begun [] [] s start whole same climbs p q h = h
+    leads-order begun [] (y ∷ ys) s start whole same climbs p q h = refl
+    leads-order begun (x ∷ xs) [] s start whole same climbs p q h = h
+    leads-order begun (x ∷ xs) (y ∷ ys) s start whole same climbs p q h =
+        elim (is_before-cases x y xs ys h) [
+          inl lower ↦
+            is_before-lower (weight x) (weight y) (map weight xs) (map weight ys)
+            (leads-lower begun s x y (start (omega arith)) climbs.0 lower (sym (fits-first begun y (omega arith)) ∙ q.0))
+        | inr rest ↦
+            let later : AllFit fits (begun ++ x ∷ []) ys = subst (λ z. AllFit fits (begun ++ z ∷ []) ys) (sym rest.0) q.1 in
+            subst (λ z. is_before (weight x ∷ map weight xs) (weight z ∷ map weight ys) ≡ true) rest.0
+            (is_before-equal (weight x) (map weight xs) (map weight ys)
+            ∙ leads-order (begun ++ x ∷ []) xs ys (suc x) (λ more. start-on k begun x (λ e. omega arith)) (omega (arith, whole, length-append begun (x ∷ []))) (omega arith) climbs.2 p.1 later rest.1)
+        ]
+
+    -- the front of the key of a set
+    front_of : (places : List ℕ) → map (λ number. higher_first (score_of scores number)) (numbers_of places) ≡ map weight places
+    front_of places =
+        map-map (λ number. higher_first (score_of scores number)) (λ place. place + 1) places
+        ∙ map-same (λ place. higher_first (score_of scores (place + 1))) weight places (λ place. ap (λ n. higher_first (slice_index scores n)) (let e : place + 1 - 1 ≡ place = omega arith in e))
+
+    abbrev plan : Plan
+    plan = limbo_plan scores k
+
+    limbo-order : (p q : List ℕ) → IsIn p (found plan (k + k) []) → IsIn q (found plan (k + k) []) → is_before p q ≡ true → is_before (limbo_key scores (second_numbers k p)) (limbo_key scores (second_numbers k q)) ≡ true
+    limbo-order p q m n h =
+        let found_p = found-admitted plan (k + k) [] p m in
+        let found_q = found-admitted plan (k + k) [] q n in
+        let halves_p = halves-split k (length scores) (length scores) fits found_p.0 found_p.2 in
+        let halves_q = halves-split k (length scores) (length scores) fits found_q.0 found_q.2 in
+        let C : List ℕ = halves_p.0 in let A : List ℕ = halves_p.1 in
+        let D : List ℕ = halves_q.0 in let B : List ℕ = halves_q.1 in
+        let p_is : p ≡ C ++ A = found_p.1 ∙ halves_p.2 in
+        let q_is : q ≡ D ++ B = found_q.1 ∙ halves_q.2 in
+        let set_p : second_numbers k p ≡ numbers_of A = ap (second_numbers k) p_is ∙ ap numbers_of (drop_front C A k halves_p.3.front_length) in
+        let set_q : second_numbers k q ≡ numbers_of B = ap (second_numbers k) q_is ∙ ap numbers_of (drop_front D B k halves_q.3.front_length) in
+        let scored_p : map sc A ≡ map sc C = second-scores [] C [] A halves_p.3.front_length refl (omega (arith, halves_p.3.front_length, halves_p.3.back_length)) (subst (λ c. AllFit fits c A) (sym (append-nil C)) halves_p.3.back_fits) in
+        let scored_q : map sc B ≡ map sc D = second-scores [] D [] B halves_q.3.front_length refl (omega (arith, halves_q.3.front_length, halves_q.3.back_length)) (subst (λ c. AllFit fits c B) (sym (append-nil D)) halves_q.3.back_fits) in
+        let weigh_p : map weight A ≡ map weight C = sym (map-map higher_first sc A) ∙ ap (map higher_first) scored_p ∙ map-map higher_first sc C in
+        let weigh_q : map weight B ≡ map weight D = sym (map-map higher_first sc B) ∙ ap (map higher_first) scored_q ∙ map-map higher_first sc D in
+        let key_p : limbo_key scores (second_numbers k p) ≡ map weight C ++ numbers_of A = ap (limbo_key scores) set_p ∙ ap (λ front. front ++ numbers_of A) (front_of A ∙ weigh_p) in
+        let key_q : limbo_key scores (second_numbers k q) ≡ map weight D ++ numbers_of B = ap (limbo_key scores) set_q ∙ ap (λ front. front ++ numbers_of B) (front_of B ∙ weigh_q) in
+        let same : length C ≡ length D = halves_p.3.front_length ∙ sym halves_q.3.front_length in
+        let cases = is_before-split C D A B same (subst (λ z. is_before (C ++ A) z ≡ true) q_is (subst (λ z. is_before z q ≡ true) p_is h)) in
+        subst (λ z. is_before z (limbo_key scores (second_numbers k q)) ≡ true) (sym key_p)
+        (subst (λ z. is_before (map weight C ++ numbers_of A) z ≡ true) (sym key_q)
+        (elim cases [
+          inl equal ↦
+            subst (λ z. is_before (map weight C ++ numbers_of A) (map weight z ++ numbers_of B) ≡ true) equal.0
+            (is_before-begun (map weight C) (numbers_of A) (numbers_of B) ∙ is_before-map (λ place. place + 1) (λ x y below. omega arith) A B equal.1)
+        | inr first ↦
+            is_before-join (map weight C) (map weight D) (numbers_of A) (numbers_of B) (length-map C weight ∙ same ∙ sym (length-map D weight))
+            (leads-order [] C D 0 (λ more. refl) (zero-add (length C) ∙ halves_p.3.front_length) same halves_p.3.front_climbs halves_p.3.front_fits halves_q.3.front_fits first)
+        ]))
+
+    places_up : (first count : ℕ) → map (λ place. place + 1) (numbers_from first count) ≡ numbers_from (suc first) count
+    places_up first zero = refl
+    places_up first (suc count) = ap (λ x. x ∷ map (λ place. place + 1) (numbers_from (suc first) count)) (let e : first + 1 ≡ suc first = omega arith in e) ∙ ap (λ xs. suc first ∷ xs) (places_up (suc first) count)
+
+    all_sets : subsets (numbers_from 1 (length scores)) k ≡ map numbers_of (subsets (numbers_from 0 (length scores)) k)
+    all_sets =
+        ap (λ numbers. subsets numbers k) (sym (places_up 0 (length scores))) ∙ subsets-map (λ place. place + 1) (numbers_from 0 (length scores)) k
+
+    found-set : (set : List ℕ) → IsIn set (map (second_numbers k) (found plan (k + k) [])) → IsIn set (subsets (numbers_from 1 (length scores)) k)
+    found-set set m =
+        let from = IsIn-map (second_numbers k) set (found plan (k + k) []) m in
+        let path = found-admitted plan (k + k) [] from.0 from.2 in
+        let halves = halves-split k (length scores) (length scores) fits path.0 path.2 in
+        let is : set ≡ numbers_of halves.1 = from.1 ∙ ap (second_numbers k) (path.1 ∙ halves.2) ∙ ap numbers_of (drop_front halves.0 halves.1 k halves.3.front_length) in
+        subst (IsIn set) (sym all_sets)
+        (subst (λ z. IsIn z (map numbers_of (subsets (numbers_from 0 (length scores)) k))) (sym is)
+        (map-IsIn numbers_of halves.1 (subsets (numbers_from 0 (length scores)) k)
+        (climbs-subset 0 (length scores) k halves.1 (subst (λ b. Climbs 0 b halves.1) (let e : length scores ≡ 0 + length scores = omega arith in e) halves.3.back_climbs) halves.3.back_length)))
+
+    set-found : (set : List ℕ) → IsIn set (subsets (numbers_from 1 (length scores)) k) → IsIn set (map (second_numbers k) (found plan (k + k) []))
+    set-found set m =
+        let from = IsIn-map numbers_of set (subsets (numbers_from 0 (length scores)) k) (subst (IsIn set) all_sets m) in
+        let A : List ℕ = from.0 in
+        let climbs = subsets-climb 0 (length scores) k A from.2 in
+        let within : Climbs 0 (length scores) A = subst (λ b. Climbs 0 b A) (let e : 0 + length scores ≡ length scores = omega arith in e) climbs.0 in
+        let front = first_set [] A 0 0 (omega (arith, climbs.1)) (λ more. refl) (omega arith) within in
+        let C : List ℕ = front.0 in
+        let long : length C ≡ k = front.4 ∙ climbs.1 in
+        let halved : Halved fits k (length scores) (length scores) C A = record {
+          front_climbs = front.1; back_climbs = within; front_fits = front.2;
+          back_fits = subst (λ c. AllFit fits c A) (append-nil C) (second-fits [] C [] A 0 long refl (sym front.3) within);
+          front_length = long; back_length = climbs.1
+        } in
+        let there : IsIn (C ++ A) (found plan (k + k) []) = admitted-found plan (k + k) [] (C ++ A) (halves-join k (length scores) (length scores) fits C A halved) in
+        subst (λ z. IsIn z (map (second_numbers k) (found plan (k + k) []))) (ap numbers_of (drop_front C A k long) ∙ sym from.1)
+        (map-IsIn (second_numbers k) (C ++ A) (found plan (k + k) []) there)
+
+    pub limbo_key-apart : (x y : List ℕ) → length x ≡ length y → limbo_key scores x ≡ limbo_key scores y → x ≡ y
+    limbo_key-apart x y same equal =
+        let front : List ℕ → List ℕ = λ set. map (λ number. higher_first (score_of scores number)) set in
+        sym (drop_front (front x) x (length x) (length-map x (λ number. higher_first (score_of scores number))))
+        ∙ ap (drop (length x)) equal
+        ∙ drop_front (front y) y (length x) (length-map y (λ number. higher_first (score_of scores number)) ∙ sym same)
+
+    sets_ascend : Ascends (λ set. set) (subsets (numbers_from 1 (length scores)) k)
+    sets_ascend = subsets-ascend 1 (length scores) k
+
+    starts_at_none : (open_places : ℕ) → entry plan open_places [] ≡ 0
+    starts_at_none zero = refl
+    starts_at_none (suc open_places) = refl
+
+    -- what a new search finds are all sets, by their keys
+    pub limbo-found : map (second_numbers k) (hits (ahead plan [] 0)) ≡ limbo_exchanges scores k
+    limbo-found =
+        ap (λ number. map (second_numbers k) (hits (ahead plan [] number))) (sym (starts_at_none (k + k)))
+        ∙ ap (λ events. map (second_numbers k) (hits events)) (ahead-new plan)
+        ∙ ascending-sorted (limbo_key scores) (map (second_numbers k) (found plan (k + k) [])) (subsets (numbers_from 1 (length scores)) k)
+          (Ascends-map (limbo_key scores) (second_numbers k) (found plan (k + k) []) (found-ascends plan (k + k) []) limbo-order)
+          sets_ascend
+          (λ x y m n. limbo_key-apart x y ((subsets-climb 1 (length scores) k x m).1 ∙ sym (subsets-climb 1 (length scores) k y n).1))
+          found-set set-found

@@ -1,5 +1,5 @@
 -- What is ahead of a search after each of its moves.
-use Rattle.std.proofs.Common.{◌≡◌, ℕ, zero, suc, ◌+◌, ◌-◌, ◌<◌, ◌≤◌, Bool, true, false, cond, List, [], ◌∷◌, ◌++◌, length, refl, sym, ◌∙◌, ap, append_assoc, arith, length-append, Option, Some, None, subst}
+use Rattle.std.proofs.Common.{◌≡◌, ℕ, zero, suc, ◌+◌, ◌-◌, ◌<◌, ◌≤◌, Bool, true, false, cond, List, [], ◌∷◌, ◌++◌, length, refl, sym, ◌∙◌, ap, append_assoc, arith, length-append, Option, Some, None, subst, take, drop}
 use Rattle.std.specs.List.{flat_map, AllByRecursion}
 use Rattle.std.proofs.lemmas.List.{append-nil}
 use Rattle.dutch_order.specs.Trials.{Plan, Event, numbers_from, entry, below, after, ahead, trials}
@@ -195,3 +195,21 @@ pub Walked-below : (plan : Plan) (bound : ℕ) → ((path : List ℕ) → plan.s
 Walked-below plan bound stops begun [] walked = tt
 Walked-below plan bound stops begun (number ∷ path) walked =
     (omega (arith, stops begun), Walked-below plan bound stops (begun ++ number ∷ []) path walked.1)
+
+-- a part of a path
+pub AllByRecursion-drop : (P : ℕ → Type 0) (n : ℕ) (xs : List ℕ) → AllByRecursion P xs → AllByRecursion P (drop n xs)
+AllByRecursion-drop P zero xs all = all
+AllByRecursion-drop P (suc n) [] all = tt
+AllByRecursion-drop P (suc n) (x ∷ xs) all = AllByRecursion-drop P n xs all.1
+
+pub AllByRecursion-take : (P : ℕ → Type 0) (n : ℕ) (xs : List ℕ) → AllByRecursion P xs → AllByRecursion P (take n xs)
+AllByRecursion-take P zero xs all = tt
+AllByRecursion-take P (suc n) [] all = tt
+AllByRecursion-take P (suc n) (x ∷ xs) all = (all.0, AllByRecursion-take P n xs all.1)
+
+-- a search with no places is done without a trial
+pub trials-nothing : (plan : Plan) → plan.places ≡ 0 → trials (ahead plan [] 0) ≡ 0
+trials-nothing plan none =
+    let whole : length {A = ℕ} [] ≡ plan.places = omega arith in
+    ap trials (ahead-found plan [] whole)
+    ∙ ap trials (ahead-end plan 1 (spent-whole plan [] 1 whole (omega arith)))
