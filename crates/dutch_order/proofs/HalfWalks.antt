@@ -1,5 +1,7 @@
 -- The paths of a search of two halves.
-use Rattle.std.proofs.Common.{◌≡◌, ℕ, zero, suc, ◌+◌, ◌-◌, ◌<◌, ◌≤◌, Bool, true, false, ◌||◌, ◌==◌, nat_lt, cond, List, [], ◌∷◌, ◌++◌, length, get_or, refl, sym, ◌∙◌, ap, append_assoc, arith, length-append, subst, if◌then◌else◌, zero-add}
+use Rattle.std.proofs.Common.{◌≡◌, ℕ, zero, suc, ◌+◌, ◌-◌, ◌<◌, ◌≤◌, Bool, true, false, ◌||◌, ◌==◌, nat_lt, cond, List, [], ◌∷◌, ◌++◌, length, get_or, refl, sym, ◌∙◌, ap, append_assoc, arith, length-append, subst, if◌then◌else◌, zero-add, take, drop}
+use Rattle.std.specs.List.{AllByRecursion}
+use Rattle.dutch_order.specs.Walks.{Walked}
 use Rattle.std.proofs.lemmas.List.{append-nil}
 use Rattle.std.proofs.lemmas.Bool.{ne_eqb, eq-eqb, or_right, lt-ltb, le-ltb}
 use Rattle.dutch_order.specs.Trials.{Plan}
@@ -143,3 +145,21 @@ module _ (half first_count second_count : ℕ) (fits : List ℕ → ℕ → Bool
       Admitted-join plan half half (half + half) [] front back refl
       (half-admitted plan 0 half first_count (λ begun x later more. start-on half begun x (λ e. omega arith)) (λ begun later more. stop-first half first_count second_count begun more) half [] front 0 (omega arith) (omega arith) (λ more. refl) halved.front_climbs halved.front_fits halved.front_length)
       (half-admitted plan half (half + half) second_count (λ begun x later more. start-on half begun x (λ e. omega arith)) (λ begun later more. stop-second half first_count second_count begun later) half front back 0 (omega (arith, halved.front_length)) (omega (arith, halved.front_length)) (λ more. start-second half front halved.front_length) halved.back_climbs halved.back_fits halved.back_length)
+
+-- the two halves of a path that a search has walked are below their counts
+module _ (half first_count second_count : ℕ) (fits : List ℕ → ℕ → Bool) where
+  pub Walked-second : (begun path : List ℕ) → half ≤ length begun → Walked (two_halves half first_count second_count fits) begun path → AllByRecursion (λ place. place < second_count) path
+  Walked-second begun [] later walked = tt
+  Walked-second begun (x ∷ path) later walked =
+      (omega (arith, walked.0, stop-second half first_count second_count begun later),
+      Walked-second (begun ++ x ∷ []) path (omega (arith, length-append begun (x ∷ []))) walked.1)
+
+  pub Walked-first : (m : ℕ) (begun path : List ℕ) → length begun + m ≡ half → Walked (two_halves half first_count second_count fits) begun path → AllByRecursion (λ place. place < first_count) (take m path) × AllByRecursion (λ place. place < second_count) (drop m path)
+  Walked-first zero begun path whole walked = (tt, Walked-second begun path (omega arith) walked)
+  Walked-first (suc m) begun [] whole walked = (tt, tt)
+  Walked-first (suc m) begun (x ∷ path) whole walked =
+      let rest = Walked-first m (begun ++ x ∷ []) path (omega (arith, whole, length-append begun (x ∷ []))) walked.1 in
+      ((omega (arith, walked.0, stop-first half first_count second_count begun (omega arith)), rest.0), rest.1)
+
+  pub Walked-halves : (path : List ℕ) → Walked (two_halves half first_count second_count fits) [] path → AllByRecursion (λ place. place < first_count) (take half path) × AllByRecursion (λ place. place < second_count) (drop half path)
+  Walked-halves path walked = Walked-first half [] path (omega arith) walked

@@ -6,3 +6,6 @@ pub mod Walks
 pub mod Transposition
 pub mod Halves
 pub mod Limbo
+pub mod Exchange
+pub mod Stages
+pub mod Sides
