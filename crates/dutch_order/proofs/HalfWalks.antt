@@ -163,3 +163,9 @@ module _ (half first_count second_count : ℕ) (fits : List ℕ → ℕ → Bool
 
   pub Walked-halves : (path : List ℕ) → Walked (two_halves half first_count second_count fits) [] path → AllByRecursion (λ place. place < first_count) (take half path) × AllByRecursion (λ place. place < second_count) (drop half path)
   Walked-halves path walked = Walked-first half [] path (omega arith) walked
+
+pub take_short : (n : ℕ) (xs : List ℕ) → length xs ≤ n → take n xs ≡ xs
+take_short zero [] h = refl
+take_short zero (x ∷ xs) h = absurd (omega arith)
+take_short (suc n) [] h = refl
+take_short (suc n) (x ∷ xs) h = ap (λ rest. x ∷ rest) (take_short n xs (omega arith))

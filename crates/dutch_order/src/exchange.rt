@@ -3,13 +3,17 @@
 // The sets are searched in stages, one for each number of exchanged players and each difference of the sums. A stage fills the
 // places of the numbers moved out, highest first, and then those of the numbers moved in, lowest first, and tries a place only while
 // the wanted difference lies between the least and the greatest that can still come. So a stage never scans all sets.
-ghost use Rattle.std.specs.Prelude.{◌≡◌, ◌+◌, ◌*◌, ◌-◌, ◌<◌, ◌≤◌, ℕ, [], ◌∷◌, length, map, take, drop};
+ghost use Rattle.std.specs.Prelude.{◌≡◌, ◌+◌, ◌*◌, ◌-◌, ◌<◌, ◌≤◌, ℕ, true, false, [], ◌∷◌, length, map, take, drop};
 ghost use Rattle.std.specs.List.{AllByRecursion};
 ghost use Rattle.dutch_order.specs.Trials.{numbers_from};
-ghost use Rattle.dutch_order.specs.Stages.{least_at, greatest_at};
+ghost use Rattle.dutch_order.specs.Stages.{least_at, greatest_at, least_difference, greatest_difference, exchange_plan, sets_ahead, trials_ahead, stages_ahead, set_of};
+ghost use Rattle.dutch_order.specs.Steps.{MatchStep};
+ghost use Rattle.dutch_order.specs.Walks.{Stands};
+ghost use Rattle.dutch_order.specs.Trials.{ahead};
 
 use crate::halves::{end_of_half, first_of_half};
-use crate::search::{LIMIT, Tree};
+use crate::search::{LIMIT, Tree, Walk, climb_on};
+use crate::steps::{Budget, Step};
 use crate::sums::{run_of, total_of, value_at};
 
 /// The two sides of an exchange: the numbers of the original set, from the highest, and the others, from the lowest.
@@ -117,5 +121,129 @@ impl<'a> Tree for Stage<'a> {
             reach_in(self.pool, self.k, self.size, path, place)
         };
         reach.least <= self.difference && self.difference <= reach.greatest
+    }
+}
+
+/// The least difference of the sums of exchanges of so many.
+fn least_of(pool: &[u16], k: usize, size: usize) -> usize
+    requires few { length pool.now ≤ LIMIT }
+    requires enough { k ≤ length pool.now }
+    requires outs { size ≤ k }
+    requires ins { size ≤ length pool.now - k }
+    ensures { result ≡ least_difference pool.now k size }
+{
+    run_of(pool, k, Side::In, 0, size).saturating_sub(run_of(pool, k, Side::Out, 0, size))
+}
+
+/// The greatest one.
+fn greatest_of(pool: &[u16], k: usize, size: usize) -> usize
+    requires few { length pool.now ≤ LIMIT }
+    requires enough { k ≤ length pool.now }
+    requires outs { size ≤ k }
+    requires ins { size ≤ length pool.now - k }
+    ensures { result ≡ greatest_difference pool.now k size }
+{
+    let most_in = run_of(pool, k, Side::In, pool.len() - k - size, size);
+    most_in.saturating_sub(run_of(pool, k, Side::Out, k - size, size))
+}
+
+/// Where a search of exchanges stands.
+#[derive(Drop)]
+struct Place {
+    size: usize,
+    difference: usize,
+    walk: Walk,
+}
+
+/// Goes on to the next stage, where there is one.
+fn next_stage(pool: &[u16], k: usize, place: &mut Place) -> bool
+    requires few { length pool.now ≤ LIMIT }
+    requires enough { k ≤ length pool.now }
+    requires outs { place.old.size ≤ k }
+    requires ins { place.old.size ≤ length pool.now - k }
+    requires spent { ahead (exchange_plan pool.now k place.old.size place.old.difference) place.old.walk.path.items place.old.walk.number ≡ [] }
+    requires standing { Stands (exchange_plan pool.now k place.old.size place.old.difference) place.old.walk.path.items }
+    ensures outs { place.new.size ≤ k }
+    ensures ins { place.new.size ≤ length pool.now - k }
+    ensures stands { Stands (exchange_plan pool.now k place.new.size place.new.difference) place.new.walk.path.items }
+    ensures sets {
+        sets_ahead pool.now k place.new.size place.new.difference place.new.walk.path.items place.new.walk.number
+            ≡ sets_ahead pool.now k place.old.size place.old.difference place.old.walk.path.items place.old.walk.number
+    }
+    ensures trials {
+        trials_ahead pool.now k place.new.size place.new.difference place.new.walk.path.items place.new.walk.number
+            ≡ trials_ahead pool.now k place.old.size place.old.difference place.old.walk.path.items place.old.walk.number
+    }
+    ensures nearer {
+        result ≡ true → stages_ahead pool.now k place.new.size place.new.difference < stages_ahead pool.now k place.old.size place.old.difference
+    }
+    ensures ended {
+        result ≡ false
+            → (sets_ahead pool.now k place.new.size place.new.difference place.new.walk.path.items place.new.walk.number ≡ [])
+            × (trials_ahead pool.now k place.new.size place.new.difference place.new.walk.path.items place.new.walk.number ≡ 0)
+    }
+{
+    if place.difference < greatest_of(pool, k, place.size) {
+        place.difference += 1;
+        place.walk = Walk::new(0);
+        return true;
+    }
+    if place.size < k.min(pool.len() - k) {
+        place.size += 1;
+        place.difference = least_of(pool, k, place.size);
+        place.walk = Walk::new(0);
+        return true;
+    }
+    false
+}
+
+/// Goes on to the next set, whose path the walk then has, unless the budget or the search ends before it.
+fn next_set(pool: &[u16], k: usize, place: &mut Place, budget: &mut Budget) -> Step<()>
+    requires few { length pool.now ≤ LIMIT }
+    requires enough { k ≤ length pool.now }
+    requires outs { place.old.size ≤ k }
+    requires ins { place.old.size ≤ length pool.now - k }
+    requires standing { Stands (exchange_plan pool.now k place.old.size place.old.difference) place.old.walk.path.items }
+    requires within { budget.old.used ≤ budget.old.limit }
+    ensures outs { place.new.size ≤ k }
+    ensures ins { place.new.size ≤ length pool.now - k }
+    ensures stands { Stands (exchange_plan pool.now k place.new.size place.new.difference) place.new.walk.path.items }
+    ensures answer {
+        MatchStep result
+            (λ _. (sets_ahead pool.now k place.old.size place.old.difference place.old.walk.path.items place.old.walk.number
+                ≡ set_of pool.now k place.new.size place.new.walk.path.items
+                    ∷ sets_ahead pool.now k place.new.size place.new.difference place.new.walk.path.items place.new.walk.number)
+                × (length place.new.walk.path.items ≡ place.new.size + place.new.size))
+            ((sets_ahead pool.now k place.old.size place.old.difference place.old.walk.path.items place.old.walk.number ≡ [])
+                × (sets_ahead pool.now k place.new.size place.new.difference place.new.walk.path.items place.new.walk.number ≡ [])
+                × (trials_ahead pool.now k place.new.size place.new.difference place.new.walk.path.items place.new.walk.number ≡ 0))
+            ((sets_ahead pool.now k place.new.size place.new.difference place.new.walk.path.items place.new.walk.number
+                ≡ sets_ahead pool.now k place.old.size place.old.difference place.old.walk.path.items place.old.walk.number)
+                × (budget.new.used ≡ budget.new.limit)
+                × (0 < trials_ahead pool.now k place.new.size place.new.difference place.new.walk.path.items place.new.walk.number))
+    }
+    ensures steps {
+        budget.new.used + trials_ahead pool.now k place.new.size place.new.difference place.new.walk.path.items place.new.walk.number
+            ≡ budget.old.used + trials_ahead pool.now k place.old.size place.old.difference place.old.walk.path.items place.old.walk.number
+    }
+    ensures limit { budget.new.limit ≡ budget.old.limit }
+    ensures rises { budget.old.used ≤ budget.new.used }
+    ensures within { budget.new.used ≤ budget.new.limit }
+{
+    loop {
+        let stage = Stage {
+            pool,
+            k,
+            size: place.size,
+            difference: place.difference,
+        };
+        match climb_on(&stage, &mut place.walk, budget) {
+            Step::Found(()) => return Step::Found(()),
+            Step::Undecided => return Step::Undecided,
+            Step::End => {}
+        }
+        if !next_stage(pool, k, place) {
+            return Step::End;
+        }
     }
 }
