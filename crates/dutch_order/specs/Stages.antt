@@ -44,11 +44,13 @@ module _ (pool : List ℕ) (k : ℕ) where
   abbrev pub exchange_plan : ℕ → ℕ → Plan
   exchange_plan size difference = two_halves size k (length pool - k) (within_reach size difference)
 
+  -- the original numbers that were not moved out, lowest first
+  abbrev pub kept_of : List ℕ → List ℕ
+  kept_of outs = reverse (map (value_of Out) (filter (λ place. not (list_any (λ out. eqb out place) outs)) (numbers_from 0 k)))
+
   -- the set of a path: the original numbers that were not moved out, and those moved in
   abbrev pub set_of : ℕ → List ℕ → List ℕ
-  set_of size path =
-      reverse (map (value_of Out) (filter (λ place. not (list_any (eqb place) (take size path))) (numbers_from 0 k)))
-      ++ map (value_of In) (drop size path)
+  set_of size path = kept_of (take size path) ++ map (value_of In) (drop size path)
 
   -- the sets that a stage has still to find
   unfoldable pub stage_sets : ℕ → ℕ → List ℕ → ℕ → List (List ℕ)

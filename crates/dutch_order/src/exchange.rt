@@ -3,18 +3,25 @@
 // The sets are searched in stages, one for each number of exchanged players and each difference of the sums. A stage fills the
 // places of the numbers moved out, highest first, and then those of the numbers moved in, lowest first, and tries a place only while
 // the wanted difference lies between the least and the greatest that can still come. So a stage never scans all sets.
-ghost use Rattle.std.specs.Prelude.{◌≡◌, ◌+◌, ◌*◌, ◌-◌, ◌<◌, ◌≤◌, ℕ, true, false, [], ◌∷◌, length, map, take, drop};
+ghost use Rattle.std.specs.Prelude.{◌≡◌, ◌+◌, ◌*◌, ◌-◌, ◌<◌, ◌≤◌, ℕ, true, false, [], ◌∷◌, ◌++◌, length, map, take, drop};
 ghost use Rattle.std.specs.List.{AllByRecursion};
 ghost use Rattle.dutch_order.specs.Trials.{numbers_from};
-ghost use Rattle.dutch_order.specs.Stages.{least_at, greatest_at, least_difference, greatest_difference, exchange_plan, sets_ahead, trials_ahead, stages_ahead, set_of};
+ghost use Rattle.dutch_order.specs.Stages.{least_at, greatest_at, least_difference, greatest_difference, exchange_plan, sets_ahead, trials_ahead, stages_ahead, set_of, kept_of, value_of};
+ghost use Rattle.dutch_order.specs.Exchange.{exchanges};
+ghost use Rattle.std.specs.List.Sorted.{IsStrictlyIncreasing};
+ghost use Rattle.dutch_order.specs.declared.exchange.Side.TheVariants.{In};
 ghost use Rattle.dutch_order.specs.Steps.{MatchStep};
 ghost use Rattle.dutch_order.specs.Walks.{Stands};
 ghost use Rattle.dutch_order.specs.Trials.{ahead};
+
+use arrayvec::ArrayVec;
+use std::marker::Model;
 
 use crate::halves::{end_of_half, first_of_half};
 use crate::search::{LIMIT, Tree, Walk, climb_on};
 use crate::steps::{Budget, Step};
 use crate::sums::{run_of, total_of, value_at};
+use crate::transposition::Numbers;
 
 /// The two sides of an exchange: the numbers of the original set, from the highest, and the others, from the lowest.
 #[derive(Debug, Clone, Copy, PartialEq, Eq)]
@@ -244,6 +251,113 @@ fn next_set(pool: &[u16], k: usize, place: &mut Place, budget: &mut Budget) -> S
         }
         if !next_stage(pool, k, place) {
             return Step::End;
+        }
+    }
+}
+
+/// The original numbers that were not moved out, lowest first.
+fn kept(pool: &[u16], k: usize, outs: &[usize]) -> Numbers
+    requires few { length pool.now ≤ LIMIT }
+    requires enough { k ≤ length pool.now }
+    ensures items { result.items ≡ kept_of pool.now k outs.now }
+    ensures fits { length result.items ≤ k }
+{
+    let mut numbers = ArrayVec::new();
+    for position in 0..k {
+        let place = k - 1 - position;
+        if !outs.contains(&place) {
+            numbers.push(pool[position]);
+        }
+    }
+    numbers
+}
+
+/// The set that an exchange makes of the original one.
+fn exchanged(pool: &[u16], k: usize, outs: &[usize], ins: &[usize]) -> Numbers
+    requires few { length pool.now ≤ LIMIT }
+    requires enough { k ≤ length pool.now }
+    requires within { AllByRecursion (λ place. place < length pool.now - k) ins.now }
+    requires room { length ins.now ≤ length pool.now - k }
+    ensures { result.items ≡ kept_of pool.now k outs.now ++ map (value_of pool.now k In) ins.now }
+{
+    let mut numbers = kept(pool, k, outs);
+    for place in ins {
+        numbers.push(pool[k + *place]);
+    }
+    numbers
+}
+
+/// The sets of `k` numbers of a pool, in the order of exchanges between the original set, which is the first `k` numbers, and the
+/// others (C.04.3 D.2): fewer numbers exchanged first; then the smaller difference between the sum of the numbers moved in and the
+/// sum of those moved out; then those moved out compared from the highest, the higher first; then those moved in compared from the
+/// lowest, the lower first. It takes no memory. A step is one place tried for a number moved out or moved in.
+#[derive(Drop)]
+pub struct Exchanges<'a> {
+    pool: &'a [u16],
+    k: usize,
+    place: Place,
+}
+
+impl<'a> Model for Exchanges<'a> {
+    ghost use Rattle.std.specs.Prelude.{◌≤◌, ◌-◌, length};
+    ghost use Rattle.dutch_order.specs.Steps.{Ahead};
+    ghost use Rattle.dutch_order.specs.Walks.{Stands};
+    ghost use Rattle.dutch_order.specs.Stages.{exchange_plan, sets_ahead, trials_ahead};
+
+    ghost Value = { Ahead };
+
+    ghost view = { λ t. record {
+        coming = sets_ahead t.pool.now t.k t.place.size t.place.difference t.place.walk.path.items t.place.walk.number;
+        left = trials_ahead t.pool.now t.k t.place.size t.place.difference t.place.walk.path.items t.place.walk.number
+    } };
+
+    ghost invariant = { λ t.
+        (length t.pool.now ≤ 256) × (t.k ≤ length t.pool.now) × (t.place.size ≤ t.k) × (t.place.size ≤ length t.pool.now - t.k)
+            × Stands (exchange_plan t.pool.now t.k t.place.size t.place.difference) t.place.walk.path.items };
+}
+
+impl<'a> Exchanges<'a> {
+    /// The sets of `k` numbers of a pool, which ascends and has at most `LIMIT` numbers, and at least `k`.
+    pub fn new(pool: &'a [u16], k: usize) -> Exchanges<'a>
+        requires ascends { IsStrictlyIncreasing pool.now }
+        requires few { length pool.now ≤ LIMIT }
+        requires enough { k ≤ length pool.now }
+        ensures coming { result.coming ≡ exchanges pool.now k }
+        ensures nothing { k ≡ 0 → result.left ≡ 0 }
+    {
+        Exchanges {
+            pool,
+            k,
+            place: Place {
+                size: 0,
+                difference: 0,
+                walk: Walk::new(0),
+            },
+        }
+    }
+
+    /// The next set, in ascending order. `Found` gives the first of those to come, `End` is answered where none is left, and
+    /// `Undecided` where the budget is used up before the next one is found: what is to come is then as it was.
+    pub fn next(&mut self, budget: &mut Budget) -> Step<Numbers>
+        requires { budget.old.used ≤ budget.old.limit }
+        ensures answer {
+            MatchStep result
+                (λ numbers. self.old.coming ≡ numbers.items ∷ self.new.coming)
+                ((self.old.coming ≡ []) × (self.new.coming ≡ []) × (self.new.left ≡ 0))
+                ((self.new.coming ≡ self.old.coming) × (budget.new.used ≡ budget.new.limit) × (0 < self.new.left))
+        }
+        ensures steps { budget.new.used + self.new.left ≡ budget.old.used + self.old.left }
+        ensures limit { budget.new.limit ≡ budget.old.limit }
+        ensures rises { budget.old.used ≤ budget.new.used }
+        ensures within { budget.new.used ≤ budget.new.limit }
+    {
+        match next_set(self.pool, self.k, &mut self.place, budget) {
+            Step::Found(()) => {
+                let (outs, ins) = self.place.walk.path.split_at(self.place.size);
+                Step::Found(exchanged(self.pool, self.k, outs, ins))
+            }
+            Step::End => Step::End,
+            Step::Undecided => Step::Undecided,
         }
     }
 }
