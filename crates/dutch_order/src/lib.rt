@@ -9,3 +9,6 @@ pub mod search;
 pub mod steps;
 pub mod sums;
 pub mod transposition;
+
+#[cfg(test)]
+mod tests;
