@@ -1,6 +1,6 @@
 -- How exchanges are searched: stage by stage, one for each number of exchanged players and each difference of the sums.
-use Rattle.std.specs.Prelude.{ℕ, zero, suc, ◌+◌, ◌-◌, Bool, not, ◌&&◌, eqb, nat_lt, nat_le, min, List, [], ◌∷◌, ◌++◌, map, filter, reverse, take, drop, length, slice_index, if◌then◌else◌}
-use Rattle.std.specs.List.{list_any}
+use Rattle.std.specs.Prelude.{ℕ, zero, suc, ◌+◌, ◌-◌, Bool, not, ◌&&◌, nat_lt, nat_le, min, List, [], ◌∷◌, ◌++◌, map, filter, reverse, take, drop, length, slice_index, if◌then◌else◌}
+use Rattle.dutch_order.specs.Choices.{is_member}
 use Rattle.dutch_order.specs.declared.exchange.Side.{Side}
 use Rattle.dutch_order.specs.declared.exchange.Side.TheVariants.{Out, In}
 use Rattle.dutch_order.specs.Trials.{Plan, numbers_from, hits, trials, ahead}
@@ -46,7 +46,7 @@ module _ (pool : List ℕ) (k : ℕ) where
 
   -- the original numbers that were not moved out, lowest first
   abbrev pub kept_of : List ℕ → List ℕ
-  kept_of outs = reverse (map (value_of Out) (filter (λ place. not (list_any (λ out. eqb out place) outs)) (numbers_from 0 k)))
+  kept_of outs = reverse (map (value_of Out) (filter (λ place. not (is_member place outs)) (numbers_from 0 k)))
 
   -- the set of a path: the original numbers that were not moved out, and those moved in
   abbrev pub set_of : ℕ → List ℕ → List ℕ

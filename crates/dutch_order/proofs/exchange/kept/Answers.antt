@@ -1,5 +1,6 @@
 use Rattle.std.proofs.Common.{◌≡◌, ℕ, suc, ◌+◌, ◌-◌, ◌<◌, ◌≤◌, Bool, true, false, cond, eqb, not, List, [], ◌∷◌, ◌++◌, map, reverse, length, refl, sym, ◌∙◌, ap, arith, slice_index}
-use Rattle.std.specs.List.{filter, list_any}
+use Rattle.std.specs.List.{filter}
+use Rattle.dutch_order.specs.Choices.{is_member}
 use Rattle.std.proofs.lemmas.List.{reverse-append}
 use Rattle.std.proofs.lemmas.Bool.{not_from_true, not_from_false}
 use Rattle.dutch_order.specs.declared.exchange.Side.TheVariants.{Out}
@@ -28,7 +29,7 @@ pub loop-position-preserved : goal.loop-position-preserved
 unfolding so_far
 loop-position-preserved c =
     let value : ℕ → ℕ = value_of c.args.pool.now c.args.k Out in
-    let test : ℕ → Bool = λ place. not (list_any (λ out. eqb out place) c.args.outs.now) in
+    let test : ℕ → Bool = λ place. not (is_member place c.args.outs.now) in
     let position : ℕ = c.loop-position.position in
     let step = more value test c.args.k position (omega arith) in
     let number : value (c.args.k - 1 - position) ≡ slice_index c.args.pool.now position =
