@@ -216,3 +216,31 @@ module _ (pool : List ℕ) (k : ℕ) (rises : IsStrictlyIncreasing pool) (enough
         ∙ ap (λ n. length outs ∷ (n - sum_of (reverse out)) ∷ (map higher_first (reverse (reverse out)) ++ map (value_of pool k In) ins)) (sum_of-map (value_of pool k In) ins)
         ∙ ap (λ n. length outs ∷ (total (value_of pool k In) ins - n) ∷ (map higher_first (reverse (reverse out)) ++ map (value_of pool k In) ins)) (sum_of-reverse out ∙ sum_of-map (value_of pool k Out) outs)
         ∙ ap (λ xs. length outs ∷ (total (value_of pool k In) ins - total (value_of pool k Out) outs) ∷ (map higher_first xs ++ map (value_of pool k In) ins)) (reverse-reverse out)
+
+  -- the exchange of a set
+  pub exchange-of : (set : List ℕ) → IsIn set (subsets pool k) → (outs : List ℕ) × (ins : List ℕ) × Climbs 0 k outs × Climbs 0 (length pool - k) ins × (length outs ≡ length ins) × (set ≡ kept_of pool k outs ++ map (value_of pool k In) ins)
+  exchange-of set m =
+      let from = IsIn-map (map v) set (subsets (numbers_from 0 (length pool)) k) (subst (IsIn set) (ap (λ numbers. subsets numbers k) pool-is ∙ subsets-map v (numbers_from 0 (length pool)) k) m) in
+      let P : List ℕ = from.0 in
+      let climbs = subsets-climb 0 (length pool) k P from.2 in
+      let high : ℕ = length pool - k in
+      let outs : List ℕ = filter (λ i. not (is_member (k - 1 - i) P)) (numbers_from 0 k) in
+      let ins : List ℕ = filter (λ j. is_member (k + j) P) (numbers_from 0 high) in
+      let out_climbs : Climbs 0 k outs = subst (λ b. Climbs 0 b outs) (let e : 0 + k ≡ k = omega arith in e) (filter-climbs (λ i. not (is_member (k - 1 - i) P)) 0 k) in
+      let in_climbs : Climbs 0 high ins = subst (λ b. Climbs 0 b ins) (let e : 0 + high ≡ high = omega arith in e) (filter-climbs (λ j. is_member (k + j) P) 0 high) in
+      let low : low_places outs ≡ filter (λ p. is_member p P) (numbers_from 0 k) =
+        filter-numbers (low_test outs) (λ p. is_member p P) 0 k
+        (λ p from below. ap not (member-filter (λ i. not (is_member (k - 1 - i) P)) 0 k (k - 1 - p) (omega arith) (omega arith)) ∙ not_not (is_member (k - 1 - (k - 1 - p)) P) ∙ ap (λ n. is_member n P) (let e : k - 1 - (k - 1 - p) ≡ p = omega arith in e)) in
+      let up : map (λ place. k + place) ins ≡ filter (λ p. is_member p P) (numbers_from (0 + k) high) =
+        sym (filter-map (λ p. is_member p P) (λ place. k + place) (numbers_from 0 high))
+        ∙ ap (filter (λ p. is_member p P)) (numbers-shift k 0 high ∙ ap (λ a. numbers_from a high) (let e : k + 0 ≡ 0 + k = omega arith in e)) in
+      let all : places outs ins ≡ P =
+        ap (λ front. front ++ map (λ place. k + place) ins) low
+        ∙ ap (λ back. filter (λ p. is_member p P) (numbers_from 0 k) ++ back) up
+        ∙ sym (filter-append (λ p. is_member p P) (numbers_from 0 k) (numbers_from (0 + k) high))
+        ∙ ap (filter (λ p. is_member p P)) (sym (numbers-append 0 k high))
+        ∙ ap (λ n. filter (λ p. is_member p P) (numbers_from 0 n)) (let e : k + high ≡ length pool = omega arith in e)
+        ∙ climbs-filter 0 (length pool) P climbs.0 in
+      let same : length outs ≡ length ins =
+        omega (arith, ap length all, climbs.1, low-length outs out_climbs, length-append (low_places outs) (map (λ place. k + place) ins), length-map ins (λ place. k + place)) in
+      (outs, ins, out_climbs, in_climbs, same, from.1 ∙ ap (map v) (sym all) ∙ sym (set-is outs ins))
