@@ -31,7 +31,7 @@ module _ (R : ℕ → ℕ → Type 0) (none : R 0 0) (plus : (a b c d : ℕ) →
       (goes x (bound - suc (length xs)) (omega arith) (omega arith))
       (subst (λ a. R (total f (numbers_from a (length xs))) (total f xs)) (let e : bound - length xs ≡ suc (bound - suc (length xs)) = omega arith in e) (back-bound (suc x) xs climbs.2))
 
-take_front_of : (xs ys : List ℕ) (n : ℕ) → length xs ≡ n → take n (xs ++ ys) ≡ xs
+pub take_front_of : (xs ys : List ℕ) (n : ℕ) → length xs ≡ n → take n (xs ++ ys) ≡ xs
 take_front_of [] ys n e = ap (λ n. take n ys) (sym e)
 take_front_of (x ∷ xs) ys n e = ap (λ n. take n (x ∷ (xs ++ ys))) (sym e) ∙ ap (λ rest. x ∷ rest) (take_front_of xs ys (length xs) refl)
 
