@@ -67,6 +67,14 @@ pub drop_front : (xs ys : List ℕ) (n : ℕ) → length xs ≡ n → drop n (xs
 drop_front [] ys n e = ap (λ n. drop n ys) (sym e)
 drop_front (x ∷ xs) ys n e = ap (λ n. drop n (x ∷ (xs ++ ys))) (sym e) ∙ drop_front xs ys (length xs) refl
 
+-- sets of one size with one key are one set
+pub limbo_key-apart : (scores : List ℕ) (x y : List ℕ) → length x ≡ length y → limbo_key scores x ≡ limbo_key scores y → x ≡ y
+limbo_key-apart scores x y same equal =
+    let front : List ℕ → List ℕ = λ set. map (λ number. higher_first (score_of scores number)) set in
+    sym (drop_front (front x) x (length x) (length-map x (λ number. higher_first (score_of scores number))))
+    ∙ ap (drop (length x)) equal
+    ∙ drop_front (front y) y (length x) (length-map y (λ number. higher_first (score_of scores number)) ∙ sym same)
+
 module _ (scores : List ℕ) (k : ℕ) (falls : IsNonAscending scores) where
   abbrev pub sc : ℕ → ℕ
   sc place = slice_index scores place
@@ -328,13 +336,6 @@ module _ (scores : List ℕ) (k : ℕ) (falls : IsNonAscending scores) where
         subst (λ z. IsIn z (map (second_numbers k) (found plan (k + k) []))) (ap numbers_of (drop_front C A k long) ∙ sym from.1)
         (map-IsIn (second_numbers k) (C ++ A) (found plan (k + k) []) there)
 
-    pub limbo_key-apart : (x y : List ℕ) → length x ≡ length y → limbo_key scores x ≡ limbo_key scores y → x ≡ y
-    limbo_key-apart x y same equal =
-        let front : List ℕ → List ℕ = λ set. map (λ number. higher_first (score_of scores number)) set in
-        sym (drop_front (front x) x (length x) (length-map x (λ number. higher_first (score_of scores number))))
-        ∙ ap (drop (length x)) equal
-        ∙ drop_front (front y) y (length x) (length-map y (λ number. higher_first (score_of scores number)) ∙ sym same)
-
     sets_ascend : Ascends (λ set. set) (subsets (numbers_from 1 (length scores)) k)
     sets_ascend = subsets-ascend 1 (length scores) k
 
@@ -350,5 +351,5 @@ module _ (scores : List ℕ) (k : ℕ) (falls : IsNonAscending scores) where
         ∙ ascending-sorted (limbo_key scores) (map (second_numbers k) (found plan (k + k) [])) (subsets (numbers_from 1 (length scores)) k)
           (Ascends-map (limbo_key scores) (second_numbers k) (found plan (k + k) []) (found-ascends plan (k + k) []) limbo-order)
           sets_ascend
-          (λ x y m n. limbo_key-apart x y ((subsets-climb 1 (length scores) k x m).1 ∙ sym (subsets-climb 1 (length scores) k y n).1))
+          (λ x y m n. limbo_key-apart scores x y ((subsets-climb 1 (length scores) k x m).1 ∙ sym (subsets-climb 1 (length scores) k y n).1))
           found-set set-found

@@ -208,3 +208,44 @@ Ascends-head x (first ∷ tuples') p =
       subst (λ z. is_before (x ∷ first) z ≡ true) (sym from.1)
       (is_before-equal x first from.0 ∙ member_has (λ z. is_before first z ≡ true) tuples' p.0 from.0 from.2)),
     Ascends-head x tuples' p.1)
+
+-- a filter of an ascending list ascends, and has the members that pass
+AllByRecursion-filtered : (P : List ℕ → Type 0) (p : List ℕ → Bool) (xs : List (List ℕ)) → AllByRecursion P xs → AllByRecursion P (filter p xs)
+AllByRecursion-filtered P p [] all = tt
+AllByRecursion-filtered P p (x ∷ xs) all =
+    elim (p x) as (λ b. AllByRecursion P (cond b (x ∷ filter p xs) (filter p xs))) [
+      true ↦ (all.0, AllByRecursion-filtered P p xs all.1)
+    | false ↦ AllByRecursion-filtered P p xs all.1
+    ]
+
+pub Ascends-filter : (key : List ℕ → List ℕ) (p : List ℕ → Bool) (xs : List (List ℕ)) → Ascends key xs → Ascends key (filter p xs)
+Ascends-filter key p [] ascends = tt
+Ascends-filter key p (x ∷ xs) ascends =
+    elim (p x) as (λ b. Ascends key (cond b (x ∷ filter p xs) (filter p xs))) [
+      true ↦ (AllByRecursion-filtered (λ other. is_before (key x) (key other) ≡ true) p xs ascends.0, Ascends-filter key p xs ascends.1)
+    | false ↦ Ascends-filter key p xs ascends.1
+    ]
+
+pub IsIn-filter : (p : List ℕ → Bool) (c : List ℕ) (xs : List (List ℕ)) → IsIn c (filter p xs) → IsIn c xs × (p c ≡ true)
+IsIn-filter p c [] m = absurd m
+IsIn-filter p c (x ∷ xs) m =
+    elim (cases_Bool (p x)) [
+      inl passes ↦
+        elim (subst (λ b. IsIn c (cond b (x ∷ filter p xs) (filter p xs))) passes m) [
+          inl same ↦ (inl same, ap p same ∙ passes)
+        | inr later ↦ (inr (IsIn-filter p c xs later).0, (IsIn-filter p c xs later).1)
+        ]
+    | inr fails ↦
+        let later = IsIn-filter p c xs (subst (λ b. IsIn c (cond b (x ∷ filter p xs) (filter p xs))) fails m) in
+        (inr later.0, later.1)
+    ]
+
+pub filter-IsIn : (p : List ℕ → Bool) (c : List ℕ) (xs : List (List ℕ)) → IsIn c xs → p c ≡ true → IsIn c (filter p xs)
+filter-IsIn p c [] m passes = absurd m
+filter-IsIn p c (x ∷ xs) (inl same) passes =
+    subst (λ b. IsIn c (cond b (x ∷ filter p xs) (filter p xs))) (sym (sym (ap p same) ∙ passes)) (inl same)
+filter-IsIn p c (x ∷ xs) (inr m) passes =
+    elim (p x) as (λ b. IsIn c (cond b (x ∷ filter p xs) (filter p xs))) [
+      true ↦ inr (filter-IsIn p c xs m passes)
+    | false ↦ filter-IsIn p c xs m passes
+    ]

@@ -56,7 +56,7 @@ pub record Exchange (pool : List ℕ) (k size difference : ℕ) (set outs ins : 
   pub is_set : set ≡ kept_of pool k outs ++ map (value_of pool k In) ins
 
 module _ (pool : List ℕ) (k : ℕ) (rises : IsStrictlyIncreasing pool) (enough : k ≤ length pool) (small : (i : ℕ) → slice_index pool i ≤ 65535) where
-  abbrev key : List ℕ → List ℕ
+  abbrev pub key : List ℕ → List ℕ
   key = exchange_key pool k
 
   abbrev inn : ℕ → ℕ
@@ -272,11 +272,15 @@ module _ (pool : List ℕ) (k : ℕ) (rises : IsStrictlyIncreasing pool) (enough
       (Ascends-map (λ set. set) (map (v pool k rises enough)) (subsets (numbers_from 0 (length pool)) k) (subsets-ascend 0 (length pool) k)
       (λ x y m n h. is_before-map_below (v pool k rises enough) (0 + length pool) 0 (λ a b below within. v-raises pool k rises enough a b below (omega arith)) x y (subsets-climb 0 (length pool) k y n).0 h))
 
+  -- different sets have different keys
+  pub exchange_key-apart : (x y : List ℕ) → IsIn x (subsets pool k) → IsIn y (subsets pool k) → key x ≡ key y → x ≡ y
+  exchange_key-apart x y m n = Ascends-apart key (sets_of_sizes pool k (suc (most_exchanged pool k)) 0) (sizes-ascend (suc (most_exchanged pool k)) 0) x y (set-found x m) (set-found y n)
+
   pub sizes-sorted : sets_of_sizes pool k (suc (most_exchanged pool k)) 0 ≡ exchanges pool k
   sizes-sorted =
       let ascend = sizes-ascend (suc (most_exchanged pool k)) 0 in
       ascending-sorted key (sets_of_sizes pool k (suc (most_exchanged pool k)) 0) (subsets pool k) ascend pool-ascend
-      (λ x y m n. Ascends-apart key (sets_of_sizes pool k (suc (most_exchanged pool k)) 0) ascend x y (set-found x m) (set-found y n))
+      exchange_key-apart
       found-set set-found
 
   -- what a new search finds are all sets, by their keys

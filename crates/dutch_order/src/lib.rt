@@ -3,6 +3,7 @@
 
 pub mod exchange;
 pub mod halves;
+pub mod laws;
 pub mod limbo;
 pub mod rules;
 pub mod search;

@@ -1,4 +1,6 @@
 // The tables of arrangements, and the generators under limits that rise by one.
+ghost use Rattle.std.specs.Prelude.{◌≤◌};
+
 use std::alloc::Global;
 use std::test::Fail;
 
