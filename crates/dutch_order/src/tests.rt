@@ -70,7 +70,13 @@ fn drawn<L: Lists + Drop>(alloc: Global, mut lists: L, limit: u64) -> Result<(Ve
         match lists.draw(&mut budget) {
             Step::Found(list) => numbers.extend_from_slice(&list)?,
             Step::End => break,
-            Step::Undecided => budget.limit = budget.limit.saturating_add(1),
+            Step::Undecided => {
+                if budget.limit >= AMPLE {
+                    break;
+                }
+                budget.limit += 1;
+                continue;
+            }
         }
     }
     Ok((numbers, budget.used))
