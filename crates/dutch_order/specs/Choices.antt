@@ -1,0 +1,28 @@
+-- The plain lists of choices, in no order that matters: sets and tuples of the members of a list.
+use Rattle.std.specs.Prelude.{ℕ, zero, suc, Bool, true, false, not, eqb, ◌&&◌, List, [], ◌∷◌, ◌++◌, map, filter, flat_map}
+use Rattle.std.specs.List.{list_any}
+
+-- all lists of k members of a list, each list in the order in which its members stand there
+abbrev pub subsets : List ℕ → ℕ → List (List ℕ)
+subsets numbers zero = [] ∷ []
+subsets [] (suc k) = []
+subsets (x ∷ numbers) (suc k) = map (λ set. x ∷ set) (subsets numbers k) ++ subsets numbers (suc k)
+
+-- whether a number is in a list
+abbrev pub is_member : ℕ → List ℕ → Bool
+is_member x numbers = list_any (λ y. eqb y x) numbers
+
+-- a list without a number
+abbrev pub without : ℕ → List ℕ → List ℕ
+without x numbers = filter (λ y. not (eqb y x)) numbers
+
+-- all lists of k distinct members of a list of distinct numbers: any first member, and then a list of the others
+abbrev pub tuples : List ℕ → ℕ → List (List ℕ)
+tuples numbers zero = [] ∷ []
+tuples numbers (suc k) = flat_map (λ x. map (λ tuple. x ∷ tuple) (tuples (without x numbers) k)) numbers
+
+-- whether the players of two lists may meet, place by place
+abbrev pub all_meet : (ℕ → ℕ → Bool) → List ℕ → List ℕ → Bool
+all_meet meets [] seconds = true
+all_meet meets (first ∷ firsts) [] = true
+all_meet meets (first ∷ firsts) (second ∷ seconds) = meets first second && all_meet meets firsts seconds

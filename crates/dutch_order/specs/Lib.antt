@@ -1,0 +1,11 @@
+pub mod Choices
+pub mod Keys
+pub mod Trials
+pub mod Steps
+pub mod Walks
+pub mod Transposition
+pub mod Halves
+pub mod Limbo
+pub mod Exchange
+pub mod Stages
+pub mod Sides

@@ -1,0 +1,114 @@
+-- How exchanges are searched: stage by stage, one for each number of exchanged players and each difference of the sums.
+use Rattle.std.specs.Prelude.{ℕ, zero, suc, ◌+◌, ◌-◌, Bool, not, ◌&&◌, nat_lt, nat_le, min, List, [], ◌∷◌, ◌++◌, map, filter, reverse, take, drop, length, slice_index, if◌then◌else◌}
+use Rattle.dutch_order.specs.Choices.{is_member}
+use Rattle.dutch_order.specs.declared.exchange.Side.{Side}
+use Rattle.dutch_order.specs.declared.exchange.Side.TheVariants.{Out, In}
+use Rattle.dutch_order.specs.Trials.{Plan, numbers_from, hits, trials, ahead}
+use Rattle.dutch_order.specs.Halves.{two_halves}
+
+-- the sum of what a function gives over a list
+abbrev pub total : (ℕ → ℕ) → List ℕ → ℕ
+total f [] = 0
+total f (x ∷ xs) = f x + total f xs
+
+module _ (pool : List ℕ) (k : ℕ) where
+  -- a number of the original set by its place from the highest, and one of the others by its place from the lowest
+  abbrev pub value_of : Side → ℕ → ℕ
+  value_of Out place = slice_index pool (k - 1 - place)
+  value_of In place = slice_index pool (k + place)
+
+  -- the sum of so many numbers of a side, from a place on
+  abbrev pub run : Side → ℕ → ℕ → ℕ
+  run side first count = total (value_of side) (numbers_from first count)
+
+  -- the least difference of the sums that an exchange of so many can have after a path and one place more
+  abbrev pub least_at : ℕ → List ℕ → ℕ → ℕ
+  least_at size path place =
+      if nat_lt (length path) size
+      then run In 0 size - (total (value_of Out) path + value_of Out place + run Out (place + 1) (size - 1 - length path))
+      else (total (value_of In) (drop size path) + value_of In place + run In (place + 1) (size + size - 1 - length path)) - total (value_of Out) (take size path)
+
+  -- and the greatest
+  abbrev pub greatest_at : ℕ → List ℕ → ℕ → ℕ
+  greatest_at size path place =
+      if nat_lt (length path) size
+      then run In (length pool - k - size) size - (total (value_of Out) path + value_of Out place + run Out (k - (size - 1 - length path)) (size - 1 - length path))
+      else (total (value_of In) (drop size path) + value_of In place + run In (length pool - k - (size + size - 1 - length path)) (size + size - 1 - length path)) - total (value_of Out) (take size path)
+
+  -- a place fits while the wanted difference lies between them
+  abbrev pub within_reach : ℕ → ℕ → List ℕ → ℕ → Bool
+  within_reach size difference path place =
+      nat_le (least_at size path place) difference && nat_le difference (greatest_at size path place)
+
+  -- a stage fills the places of those moved out, and then those of the numbers moved in
+  abbrev pub exchange_plan : ℕ → ℕ → Plan
+  exchange_plan size difference = two_halves size k (length pool - k) (within_reach size difference)
+
+  -- the original numbers that were not moved out, lowest first
+  abbrev pub kept_of : List ℕ → List ℕ
+  kept_of outs = reverse (map (value_of Out) (filter (λ place. not (is_member place outs)) (numbers_from 0 k)))
+
+  -- the set of a path: the original numbers that were not moved out, and those moved in
+  abbrev pub set_of : ℕ → List ℕ → List ℕ
+  set_of size path = kept_of (take size path) ++ map (value_of In) (drop size path)
+
+  -- the sets that a stage has still to find
+  unfoldable pub stage_sets : ℕ → ℕ → List ℕ → ℕ → List (List ℕ)
+  stage_sets size difference path place =
+      map (set_of size) (hits (ahead (exchange_plan size difference) path place))
+
+  -- the least and the greatest difference of exchanges of so many
+  abbrev pub least_difference : ℕ → ℕ
+  least_difference size = run In 0 size - run Out 0 size
+
+  abbrev pub greatest_difference : ℕ → ℕ
+  greatest_difference size = run In (length pool - k - size) size - run Out (k - size) size
+
+  -- the sets of so many stages of a size, from a difference on
+  unfoldable pub sets_of_stages : ℕ → ℕ → ℕ → List (List ℕ)
+  sets_of_stages zero size difference = []
+  sets_of_stages (suc count) size difference =
+      stage_sets size difference [] 0 ++ sets_of_stages count size (suc difference)
+
+  unfoldable pub trials_of_stages : ℕ → ℕ → ℕ → ℕ
+  trials_of_stages zero size difference = 0
+  trials_of_stages (suc count) size difference =
+      trials (ahead (exchange_plan size difference) [] 0) + trials_of_stages count size (suc difference)
+
+  -- how many stages a size has
+  abbrev pub stages_of : ℕ → ℕ
+  stages_of size = suc (greatest_difference size - least_difference size)
+
+  -- the sets of so many sizes, from one on
+  unfoldable pub sets_of_sizes : ℕ → ℕ → List (List ℕ)
+  sets_of_sizes zero size = []
+  sets_of_sizes (suc count) size =
+      sets_of_stages (stages_of size) size (least_difference size) ++ sets_of_sizes count (suc size)
+
+  unfoldable pub trials_of_sizes : ℕ → ℕ → ℕ
+  trials_of_sizes zero size = 0
+  trials_of_sizes (suc count) size =
+      trials_of_stages (stages_of size) size (least_difference size) + trials_of_sizes count (suc size)
+
+  unfoldable pub stages_of_sizes : ℕ → ℕ → ℕ
+  stages_of_sizes zero size = 0
+  stages_of_sizes (suc count) size = stages_of size + stages_of_sizes count (suc size)
+
+  -- how many can be exchanged
+  abbrev pub most_exchanged : ℕ
+  most_exchanged = min k (length pool - k)
+
+  -- what is to come at a stage
+  abbrev pub sets_ahead : ℕ → ℕ → List ℕ → ℕ → List (List ℕ)
+  sets_ahead size difference path place =
+      stage_sets size difference path place
+      ++ (sets_of_stages (greatest_difference size - difference) size (suc difference) ++ sets_of_sizes (most_exchanged - size) (suc size))
+
+  abbrev pub trials_ahead : ℕ → ℕ → List ℕ → ℕ → ℕ
+  trials_ahead size difference path place =
+      trials (ahead (exchange_plan size difference) path place)
+      + (trials_of_stages (greatest_difference size - difference) size (suc difference) + trials_of_sizes (most_exchanged - size) (suc size))
+
+  abbrev pub stages_ahead : ℕ → ℕ → ℕ
+  stages_ahead size difference =
+      (greatest_difference size - difference) + stages_of_sizes (most_exchanged - size) (suc size)

@@ -1,0 +1,40 @@
+-- Transpositions (C.04.3 D.1): tuples in the order of their numbers.
+use Rattle.std.specs.Prelude.{ℕ, zero, suc, Bool, not, ◌&&◌, eqb, List, [], ◌∷◌, ◌++◌, map, filter, length, take, slice_index}
+use Rattle.std.specs.List.{list_any}
+use Rattle.dutch_order.specs.Choices.{tuples, all_meet}
+use Rattle.dutch_order.specs.Keys.{sorted}
+use Rattle.dutch_order.specs.Trials.{Plan}
+
+-- the key of a tuple is the tuple itself
+abbrev pub tuple_key : List ℕ → List ℕ
+tuple_key tuple = tuple
+
+-- the tuples of the pool that are as long as the first list, sorted by their numbers, whose players may meet those of the first
+-- list place by place
+abbrev pub transpositions : (ℕ → ℕ → Bool) → List ℕ → List ℕ → List (List ℕ)
+transpositions meets first pool = filter (all_meet meets first) (sorted tuple_key (tuples pool (length first)))
+
+-- the beginnings shorter than k, the empty one among them: tuples of the pool whose players may meet the first ones so far
+abbrev pub beginnings_below : (ℕ → ℕ → Bool) → List ℕ → List ℕ → ℕ → List (List ℕ)
+beginnings_below meets first pool zero = []
+beginnings_below meets first pool (suc k) =
+    beginnings_below meets first pool k ++ filter (all_meet meets (take k first)) (tuples pool k)
+
+-- the beginnings that are too short
+abbrev pub short_beginnings : (ℕ → ℕ → Bool) → List ℕ → List ℕ → List (List ℕ)
+short_beginnings meets first pool = beginnings_below meets first pool (length first)
+
+-- how transpositions are searched: at each place each place of the pool is tried, and fits if it is not taken yet and the two
+-- players may meet
+abbrev pub transposition_plan : (ℕ → ℕ → Bool) → List ℕ → List ℕ → Plan
+transposition_plan meets first pool = record {
+  places = length first;
+  width = length pool;
+  start = λ _. 0;
+  stop = λ _. length pool;
+  fits = λ path place. not (list_any (eqb place) path) && meets (slice_index first (length path)) (slice_index pool place)
+}
+
+-- the numbers at the places of a path
+abbrev pub numbers_at : List ℕ → List ℕ → List ℕ
+numbers_at pool path = map (λ place. slice_index pool place) path

@@ -1,0 +1,59 @@
+-- The model that carries a search: its events, of which some are trials and some choices found, as a list of what is still to come.
+-- It says how the generators work, and a reader of their promises may pass it by.
+use Rattle.std.specs.Prelude.{ℕ, zero, suc, ◌+◌, ◌-◌, Bool, cond, Option, Some, None, List, [], ◌∷◌, ◌++◌, length, flat_map}
+
+-- what a search fills: how many places, below which number all its numbers are, from which to which number it tries at the place
+-- after a beginning, and whether a number fits there
+pub record Plan : Type 0 where
+  pub places : ℕ
+  pub width : ℕ
+  pub start : List ℕ → ℕ
+  pub stop : List ℕ → ℕ
+  pub fits : List ℕ → ℕ → Bool
+
+-- an event of a search: a trial of a number at a place, or a whole path found
+abbrev pub Event : Type 0
+Event = Option (List ℕ)
+
+-- the paths that are found
+abbrev pub hits : List Event → List (List ℕ)
+hits [] = []
+hits (None ∷ events) = hits events
+hits (Some path ∷ events) = path ∷ hits events
+
+-- how many trials are made
+abbrev pub trials : List Event → ℕ
+trials [] = 0
+trials (None ∷ events) = trials events + 1
+trials (Some path ∷ events) = trials events
+
+-- so many numbers from a first one on
+abbrev pub numbers_from : ℕ → ℕ → List ℕ
+numbers_from first zero = []
+numbers_from first (suc count) = first ∷ numbers_from (suc first) count
+
+module _ (plan : Plan) where
+  -- the first number to try after a beginning, where so many places are open
+  abbrev pub entry : ℕ → List ℕ → ℕ
+  entry zero path = 0
+  entry (suc open_places) path = plan.start path
+
+  -- the events after a beginning, where so many places are open, from a number on
+  unfoldable pub below : ℕ → List ℕ → ℕ → List Event
+  below zero path zero = Some path ∷ []
+  below zero path (suc number) = []
+  below (suc open_places) path number =
+      flat_map
+      (λ tried. None ∷ cond (plan.fits path tried) (below open_places (path ++ tried ∷ []) (entry open_places (path ++ tried ∷ []))) [])
+      (numbers_from number (plan.stop path - number))
+
+  -- the events after all of those below a path
+  unfoldable pub after : ℕ → List ℕ → List ℕ → List Event
+  after zero begun path = []
+  after (suc open_places) begun [] = []
+  after (suc open_places) begun (number ∷ path) =
+      after open_places (begun ++ number ∷ []) path ++ below (suc open_places) begun (suc number)
+
+  -- the events to come where a path is taken and a number is the next to be tried at its end
+  unfoldable pub ahead : List ℕ → ℕ → List Event
+  ahead path number = below (plan.places - length path) path number ++ after plan.places [] path

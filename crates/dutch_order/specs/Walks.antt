@@ -1,0 +1,20 @@
+-- Where a search may stand.
+use Rattle.std.specs.Prelude.{◌≡◌, ℕ, ◌-◌, ◌<◌, ◌≤◌, List, [], ◌∷◌, ◌++◌, length}
+use Rattle.dutch_order.specs.Trials.{Plan, below}
+
+-- each number of a path, after what has begun, is below the end of the numbers that its place tries
+abbrev pub Walked : Plan → List ℕ → List ℕ → Type 0
+Walked plan begun [] = Unit {0}
+Walked plan begun (number ∷ path) = (number < plan.stop begun) × Walked plan (begun ++ number ∷ []) path
+
+-- a path is one of the search's, and fills no more than its places
+abbrev pub Stands : Plan → List ℕ → Type 0
+Stands plan path = (length path ≤ plan.places) × Walked plan [] path
+
+-- and a place is open
+abbrev pub IsOpen : Plan → List ℕ → Type 0
+IsOpen plan path = (length path < plan.places) × Walked plan [] path
+
+-- nothing is left below a path from a number on
+abbrev pub IsSpent : Plan → List ℕ → ℕ → Type 0
+IsSpent plan path number = below plan (plan.places - length path) path number ≡ []

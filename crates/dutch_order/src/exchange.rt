@@ -1,0 +1,363 @@
+// Exchanges, article D.2: sets of a pool by how far they are from the original one, specified by a sorted list of subsets.
+//
+// The sets are searched in stages, one for each number of exchanged players and each difference of the sums. A stage fills the
+// places of the numbers moved out, highest first, and then those of the numbers moved in, lowest first, and tries a place only while
+// the wanted difference lies between the least and the greatest that can still come. So a stage never scans all sets.
+ghost use Rattle.std.specs.Prelude.{◌≡◌, ◌+◌, ◌*◌, ◌-◌, ◌<◌, ◌≤◌, ℕ, true, false, [], ◌∷◌, ◌++◌, length, map, take, drop};
+ghost use Rattle.std.specs.List.{AllByRecursion};
+ghost use Rattle.dutch_order.specs.Trials.{numbers_from};
+ghost use Rattle.dutch_order.specs.Stages.{least_at, greatest_at, least_difference, greatest_difference, exchange_plan, sets_ahead, trials_ahead, stages_ahead, set_of, kept_of, value_of};
+ghost use Rattle.dutch_order.specs.Exchange.{exchanges};
+ghost use Rattle.std.specs.List.Sorted.{IsStrictlyIncreasing};
+ghost use Rattle.dutch_order.specs.declared.exchange.Side.TheVariants.{In};
+ghost use Rattle.dutch_order.specs.Steps.{MatchStep};
+ghost use Rattle.dutch_order.specs.Walks.{Stands};
+ghost use Rattle.dutch_order.specs.Trials.{ahead};
+
+use arrayvec::ArrayVec;
+use std::marker::Model;
+
+use crate::halves::{end_of_half, first_of_half};
+use crate::search::{LIMIT, Tree, Walk, climb_on};
+use crate::steps::{Budget, Step};
+use crate::sums::{run_of, total_of, value_at};
+use crate::transposition::Numbers;
+
+/// The two sides of an exchange: the numbers of the original set, from the highest, and the others, from the lowest.
+#[derive(Debug, Clone, Copy, PartialEq, Eq)]
+pub enum Side {
+    Out,
+    In,
+}
+
+/// The differences of the sums that an exchange can still have.
+#[derive(Clone, Copy)]
+struct Reach {
+    least: usize,
+    greatest: usize,
+}
+
+/// What can still come where a place is tried for a number moved out.
+fn reach_out(pool: &[u16], k: usize, size: usize, path: &[usize], place: usize) -> Reach
+    requires few { length pool.now ≤ LIMIT }
+    requires enough { k ≤ length pool.now }
+    requires outs { size ≤ k }
+    requires ins { size ≤ length pool.now - k }
+    requires opened { length path.now < size }
+    requires walked { AllByRecursion (λ place. place < k) path.now }
+    requires room { place + (size - 1 - length path.now) < k }
+    ensures least { result.least ≡ least_at pool.now k size path.now place }
+    ensures greatest { result.greatest ≡ greatest_at pool.now k size path.now place }
+{
+    let rest = size - 1 - path.len();
+    let out = total_of(pool, k, Side::Out, path) + value_at(pool, k, Side::Out, place);
+    let most_out = out + run_of(pool, k, Side::Out, place + 1, rest);
+    let least_out = out + run_of(pool, k, Side::Out, k - rest, rest);
+    let least_in = run_of(pool, k, Side::In, 0, size);
+    let most_in = run_of(pool, k, Side::In, pool.len() - k - size, size);
+    Reach {
+        least: least_in.saturating_sub(most_out),
+        greatest: most_in.saturating_sub(least_out),
+    }
+}
+
+/// What can still come where a place is tried for a number moved in.
+fn reach_in(pool: &[u16], k: usize, size: usize, path: &[usize], place: usize) -> Reach
+    requires few { length pool.now ≤ LIMIT }
+    requires enough { k ≤ length pool.now }
+    requires outs { size ≤ k }
+    requires ins { size ≤ length pool.now - k }
+    requires second { size ≤ length path.now }
+    requires opened { length path.now < size + size }
+    requires walked_out { AllByRecursion (λ place. place < k) (take size path.now) }
+    requires walked_in { AllByRecursion (λ place. place < length pool.now - k) (drop size path.now) }
+    requires room { place + (size + size - 1 - length path.now) < length pool.now - k }
+    ensures least { result.least ≡ least_at pool.now k size path.now place }
+    ensures greatest { result.greatest ≡ greatest_at pool.now k size path.now place }
+{
+    let rest = size + size - 1 - path.len();
+    let (outs, ins) = path.split_at(size);
+    let out = total_of(pool, k, Side::Out, outs);
+    let moved = total_of(pool, k, Side::In, ins) + value_at(pool, k, Side::In, place);
+    let least_in = moved + run_of(pool, k, Side::In, place + 1, rest);
+    let most_in = moved + run_of(pool, k, Side::In, pool.len() - k - rest, rest);
+    Reach {
+        least: least_in.saturating_sub(out),
+        greatest: most_in.saturating_sub(out),
+    }
+}
+
+/// One stage of the search: a number of exchanged players, and a difference of the sums.
+#[derive(Clone, Copy)]
+struct Stage<'a> {
+    pool: &'a [u16],
+    k: usize,
+    size: usize,
+    difference: usize,
+    ghost few: { length pool.now ≤ 256 },
+    ghost enough: { k ≤ length pool.now },
+    ghost outs: { size ≤ k },
+    ghost ins: { size ≤ length pool.now - k },
+}
+
+impl<'a> Tree for Stage<'a> {
+    ghost use Rattle.dutch_order.specs.Stages.{exchange_plan};
+    ghost use Rattle.std.proofs.Common.{arith};
+    ghost use Rattle.std.proofs.lemmas.Bool.Decides.{nat_tests};
+
+    ghost plan = { λ t. exchange_plan t.pool.now t.k t.size t.difference };
+
+    ghost within = { λ t path. Prim.grind (arith, nat_tests) };
+
+    fn places(&self) -> usize {
+        self.size + self.size
+    }
+
+    fn start(&self, path: &[usize]) -> usize {
+        first_of_half(self.size, path)
+    }
+
+    fn stop(&self, path: &[usize]) -> usize {
+        end_of_half(self.size, self.k, self.pool.len() - self.k, path)
+    }
+
+    fn admits(&self, path: &[usize], place: usize) -> bool {
+        let reach = if path.len() < self.size {
+            reach_out(self.pool, self.k, self.size, path, place)
+        } else {
+            reach_in(self.pool, self.k, self.size, path, place)
+        };
+        reach.least <= self.difference && self.difference <= reach.greatest
+    }
+}
+
+/// The least difference of the sums of exchanges of so many.
+fn least_of(pool: &[u16], k: usize, size: usize) -> usize
+    requires few { length pool.now ≤ LIMIT }
+    requires enough { k ≤ length pool.now }
+    requires outs { size ≤ k }
+    requires ins { size ≤ length pool.now - k }
+    ensures { result ≡ least_difference pool.now k size }
+{
+    run_of(pool, k, Side::In, 0, size).saturating_sub(run_of(pool, k, Side::Out, 0, size))
+}
+
+/// The greatest one.
+fn greatest_of(pool: &[u16], k: usize, size: usize) -> usize
+    requires few { length pool.now ≤ LIMIT }
+    requires enough { k ≤ length pool.now }
+    requires outs { size ≤ k }
+    requires ins { size ≤ length pool.now - k }
+    ensures { result ≡ greatest_difference pool.now k size }
+{
+    let most_in = run_of(pool, k, Side::In, pool.len() - k - size, size);
+    most_in.saturating_sub(run_of(pool, k, Side::Out, k - size, size))
+}
+
+/// Where a search of exchanges stands.
+#[derive(Drop)]
+struct Place {
+    size: usize,
+    difference: usize,
+    walk: Walk,
+}
+
+/// Goes on to the next stage, where there is one.
+fn next_stage(pool: &[u16], k: usize, place: &mut Place) -> bool
+    requires few { length pool.now ≤ LIMIT }
+    requires enough { k ≤ length pool.now }
+    requires outs { place.old.size ≤ k }
+    requires ins { place.old.size ≤ length pool.now - k }
+    requires spent { ahead (exchange_plan pool.now k place.old.size place.old.difference) place.old.walk.path.items place.old.walk.number ≡ [] }
+    requires standing { Stands (exchange_plan pool.now k place.old.size place.old.difference) place.old.walk.path.items }
+    ensures outs { place.new.size ≤ k }
+    ensures ins { place.new.size ≤ length pool.now - k }
+    ensures stands { Stands (exchange_plan pool.now k place.new.size place.new.difference) place.new.walk.path.items }
+    ensures sets {
+        sets_ahead pool.now k place.new.size place.new.difference place.new.walk.path.items place.new.walk.number
+            ≡ sets_ahead pool.now k place.old.size place.old.difference place.old.walk.path.items place.old.walk.number
+    }
+    ensures trials {
+        trials_ahead pool.now k place.new.size place.new.difference place.new.walk.path.items place.new.walk.number
+            ≡ trials_ahead pool.now k place.old.size place.old.difference place.old.walk.path.items place.old.walk.number
+    }
+    ensures nearer {
+        result ≡ true → stages_ahead pool.now k place.new.size place.new.difference < stages_ahead pool.now k place.old.size place.old.difference
+    }
+    ensures ended {
+        result ≡ false
+            → (sets_ahead pool.now k place.new.size place.new.difference place.new.walk.path.items place.new.walk.number ≡ [])
+            × (trials_ahead pool.now k place.new.size place.new.difference place.new.walk.path.items place.new.walk.number ≡ 0)
+    }
+{
+    if place.difference < greatest_of(pool, k, place.size) {
+        place.difference += 1;
+        place.walk = Walk::new(0);
+        return true;
+    }
+    if place.size < k.min(pool.len() - k) {
+        place.size += 1;
+        place.difference = least_of(pool, k, place.size);
+        place.walk = Walk::new(0);
+        return true;
+    }
+    false
+}
+
+/// Goes on to the next set, whose path the walk then has, unless the budget or the search ends before it.
+fn next_set(pool: &[u16], k: usize, place: &mut Place, budget: &mut Budget) -> Step<()>
+    requires few { length pool.now ≤ LIMIT }
+    requires enough { k ≤ length pool.now }
+    requires outs { place.old.size ≤ k }
+    requires ins { place.old.size ≤ length pool.now - k }
+    requires standing { Stands (exchange_plan pool.now k place.old.size place.old.difference) place.old.walk.path.items }
+    requires within { budget.old.used ≤ budget.old.limit }
+    ensures outs { place.new.size ≤ k }
+    ensures ins { place.new.size ≤ length pool.now - k }
+    ensures stands { Stands (exchange_plan pool.now k place.new.size place.new.difference) place.new.walk.path.items }
+    ensures answer {
+        MatchStep result
+            (λ _. (sets_ahead pool.now k place.old.size place.old.difference place.old.walk.path.items place.old.walk.number
+                ≡ set_of pool.now k place.new.size place.new.walk.path.items
+                    ∷ sets_ahead pool.now k place.new.size place.new.difference place.new.walk.path.items place.new.walk.number)
+                × (length place.new.walk.path.items ≡ place.new.size + place.new.size))
+            ((sets_ahead pool.now k place.old.size place.old.difference place.old.walk.path.items place.old.walk.number ≡ [])
+                × (sets_ahead pool.now k place.new.size place.new.difference place.new.walk.path.items place.new.walk.number ≡ [])
+                × (trials_ahead pool.now k place.new.size place.new.difference place.new.walk.path.items place.new.walk.number ≡ 0))
+            ((sets_ahead pool.now k place.new.size place.new.difference place.new.walk.path.items place.new.walk.number
+                ≡ sets_ahead pool.now k place.old.size place.old.difference place.old.walk.path.items place.old.walk.number)
+                × (budget.new.used ≡ budget.new.limit)
+                × (0 < trials_ahead pool.now k place.new.size place.new.difference place.new.walk.path.items place.new.walk.number))
+    }
+    ensures steps {
+        budget.new.used + trials_ahead pool.now k place.new.size place.new.difference place.new.walk.path.items place.new.walk.number
+            ≡ budget.old.used + trials_ahead pool.now k place.old.size place.old.difference place.old.walk.path.items place.old.walk.number
+    }
+    ensures limit { budget.new.limit ≡ budget.old.limit }
+    ensures rises { budget.old.used ≤ budget.new.used }
+    ensures within { budget.new.used ≤ budget.new.limit }
+{
+    loop {
+        let stage = Stage {
+            pool,
+            k,
+            size: place.size,
+            difference: place.difference,
+        };
+        match climb_on(&stage, &mut place.walk, budget) {
+            Step::Found(()) => return Step::Found(()),
+            Step::Undecided => return Step::Undecided,
+            Step::End => {}
+        }
+        if !next_stage(pool, k, place) {
+            return Step::End;
+        }
+    }
+}
+
+/// The original numbers that were not moved out, lowest first.
+fn kept(pool: &[u16], k: usize, outs: &[usize]) -> Numbers
+    requires few { length pool.now ≤ LIMIT }
+    requires enough { k ≤ length pool.now }
+    ensures items { result.items ≡ kept_of pool.now k outs.now }
+    ensures fits { length result.items ≤ k }
+{
+    let mut numbers = ArrayVec::new();
+    for position in 0..k {
+        let place = k - 1 - position;
+        if !outs.contains(&place) {
+            numbers.push(pool[position]);
+        }
+    }
+    numbers
+}
+
+/// The set that an exchange makes of the original one.
+fn exchanged(pool: &[u16], k: usize, outs: &[usize], ins: &[usize]) -> Numbers
+    requires few { length pool.now ≤ LIMIT }
+    requires enough { k ≤ length pool.now }
+    requires within { AllByRecursion (λ place. place < length pool.now - k) ins.now }
+    requires room { length ins.now ≤ length pool.now - k }
+    ensures { result.items ≡ kept_of pool.now k outs.now ++ map (value_of pool.now k In) ins.now }
+{
+    let mut numbers = kept(pool, k, outs);
+    for place in ins {
+        numbers.push(pool[k + *place]);
+    }
+    numbers
+}
+
+/// The sets of `k` numbers of a pool, in the order of exchanges between the original set, which is the first `k` numbers, and the
+/// others (C.04.3 D.2): fewer numbers exchanged first; then the smaller difference between the sum of the numbers moved in and the
+/// sum of those moved out; then those moved out compared from the highest, the higher first; then those moved in compared from the
+/// lowest, the lower first. It takes no memory. A step is one place tried for a number moved out or moved in.
+#[derive(Drop)]
+pub struct Exchanges<'a> {
+    pool: &'a [u16],
+    k: usize,
+    place: Place,
+}
+
+impl<'a> Model for Exchanges<'a> {
+    ghost use Rattle.std.specs.Prelude.{◌≤◌, ◌-◌, length};
+    ghost use Rattle.dutch_order.specs.Steps.{Ahead};
+    ghost use Rattle.dutch_order.specs.Walks.{Stands};
+    ghost use Rattle.dutch_order.specs.Stages.{exchange_plan, sets_ahead, trials_ahead};
+
+    ghost Value = { Ahead };
+
+    ghost view = { λ t. record {
+        coming = sets_ahead t.pool.now t.k t.place.size t.place.difference t.place.walk.path.items t.place.walk.number;
+        left = trials_ahead t.pool.now t.k t.place.size t.place.difference t.place.walk.path.items t.place.walk.number
+    } };
+
+    ghost invariant = { λ t.
+        (length t.pool.now ≤ 256) × (t.k ≤ length t.pool.now) × (t.place.size ≤ t.k) × (t.place.size ≤ length t.pool.now - t.k)
+            × Stands (exchange_plan t.pool.now t.k t.place.size t.place.difference) t.place.walk.path.items };
+}
+
+impl<'a> Exchanges<'a> {
+    /// The sets of `k` numbers of a pool, which ascends and has at most `LIMIT` numbers, and at least `k`.
+    pub fn new(pool: &'a [u16], k: usize) -> Exchanges<'a>
+        requires ascends { IsStrictlyIncreasing pool.now }
+        requires few { length pool.now ≤ LIMIT }
+        requires enough { k ≤ length pool.now }
+        ensures coming { result.coming ≡ exchanges pool.now k }
+        ensures nothing { k ≡ 0 → result.left ≡ 0 }
+    {
+        Exchanges {
+            pool,
+            k,
+            place: Place {
+                size: 0,
+                difference: 0,
+                walk: Walk::new(0),
+            },
+        }
+    }
+
+    /// The next set, in ascending order. `Found` gives the first of those to come, `End` is answered where none is left, and
+    /// `Undecided` where the budget is used up before the next one is found: what is to come is then as it was.
+    pub fn next(&mut self, budget: &mut Budget) -> Step<Numbers>
+        requires { budget.old.used ≤ budget.old.limit }
+        ensures answer {
+            MatchStep result
+                (λ numbers. self.old.coming ≡ numbers.items ∷ self.new.coming)
+                ((self.old.coming ≡ []) × (self.new.coming ≡ []) × (self.new.left ≡ 0))
+                ((self.new.coming ≡ self.old.coming) × (budget.new.used ≡ budget.new.limit) × (0 < self.new.left))
+        }
+        ensures steps { budget.new.used + self.new.left ≡ budget.old.used + self.old.left }
+        ensures limit { budget.new.limit ≡ budget.old.limit }
+        ensures rises { budget.old.used ≤ budget.new.used }
+        ensures within { budget.new.used ≤ budget.new.limit }
+    {
+        match next_set(self.pool, self.k, &mut self.place, budget) {
+            Step::Found(()) => {
+                let (outs, ins) = self.place.walk.path.split_at(self.place.size);
+                Step::Found(exchanged(self.pool, self.k, outs, ins))
+            }
+            Step::End => Step::End,
+            Step::Undecided => Step::Undecided,
+        }
+    }
+}

@@ -1,0 +1,174 @@
+// Exchanges of moved-down players, article D.3: sets of places by their scores and numbers, specified by a sorted list of subsets.
+ghost use Rattle.std.specs.Prelude.{◌≡◌, ◌+◌, ◌*◌, ◌<◌, ◌≤◌, ℕ, [], ◌∷◌, ◌-◌, length, map, slice_index};
+ghost use Rattle.std.specs.List.{AllByRecursion};
+ghost use Rattle.dutch_order.specs.Halves.{half_start};
+ghost use Rattle.dutch_order.specs.Limbo.{limbo_exchanges, leads, mirrors, front_with, numbers_of, IsNonAscending};
+ghost use Rattle.dutch_order.specs.Steps.{MatchStep};
+
+use arrayvec::ArrayVec;
+use std::marker::Model;
+
+use crate::halves::{end_of_half, first_of_half};
+use crate::search::{LIMIT, PLACES, Tree, Walk, climb_on};
+use crate::steps::{Budget, Step};
+use crate::transposition::Numbers;
+
+/// How many places at the front of a list have a score.
+fn front_with(scores: &[u16], score: u16, places: &[usize]) -> usize
+    requires within { AllByRecursion (λ place. place < length scores.now) places.now }
+    ensures count { result ≡ front_with scores.now score places.now }
+    ensures few { result ≤ length places.now }
+{
+    let mut count = 0;
+    for place in places {
+        if scores[*place] != score {
+            return count;
+        }
+        count += 1;
+    }
+    count
+}
+
+/// Whether a place may be the next one of a first set: it follows the last one, or is the first of its score.
+fn place_leads(scores: &[u16], k: usize, path: &[usize], place: usize) -> bool
+    requires within { AllByRecursion (λ place. place < length scores.now) path.now }
+    requires narrow { length scores.now ≤ LIMIT }
+    requires tried { place < length scores.now }
+    ensures { result ≡ leads scores.now k path.now place }
+{
+    place == first_of_half(k, path) || place == 0 || scores[place - 1] != scores[place]
+}
+
+/// Whether a place may be the next one of a set: it has the score of its place in the first set, and leaves as many of that score
+/// as must follow.
+fn place_mirrors(scores: &[u16], k: usize, path: &[usize], place: usize) -> bool
+    requires within { AllByRecursion (λ place. place < length scores.now) path.now }
+    requires second { k ≤ length path.now }
+    requires opened { length path.now < k + k }
+    requires few { k ≤ LIMIT }
+    requires narrow { length scores.now ≤ LIMIT }
+    requires tried { place + (k + k - 1 - length path.now) < length scores.now }
+    ensures { result ≡ mirrors scores.now k path.now place }
+{
+    let score = scores[path[path.len() - k]];
+    let ahead = front_with(scores, score, &path[path.len() - k + 1..k]);
+    scores[place] == score && scores[place + ahead] == score
+}
+
+/// The numbers of places, which count from 1.
+fn numbered(places: &[usize]) -> Numbers
+    requires within { AllByRecursion (λ place. place < LIMIT) places.now }
+    requires few { length places.now ≤ LIMIT }
+    ensures { result.items ≡ numbers_of places.now }
+{
+    let mut numbers = ArrayVec::new();
+    for place in places {
+        numbers.push((*place + 1) as u16);
+    }
+    numbers
+}
+
+/// Moved-down players by their scores, of whom sets of `k` are wanted.
+#[derive(Clone, Copy)]
+struct Ranked<'a> {
+    scores: &'a [u16],
+    k: usize,
+    ghost few: { k ≤ 256 },
+    ghost narrow: { length scores.now ≤ 256 },
+}
+
+impl<'a> Tree for Ranked<'a> {
+    ghost use Rattle.dutch_order.specs.Limbo.{limbo_plan};
+    ghost use Rattle.std.proofs.Common.{arith};
+    ghost use Rattle.std.proofs.lemmas.Bool.Decides.{nat_tests};
+
+    ghost plan = { λ t. limbo_plan t.scores.now t.k };
+
+    ghost within = { λ t path. Prim.grind (arith, nat_tests) };
+
+    fn places(&self) -> usize {
+        self.k + self.k
+    }
+
+    fn start(&self, path: &[usize]) -> usize {
+        first_of_half(self.k, path)
+    }
+
+    fn stop(&self, path: &[usize]) -> usize {
+        let count = self.scores.len();
+        end_of_half(self.k, count, count, path)
+    }
+
+    fn admits(&self, path: &[usize], place: usize) -> bool {
+        if path.len() < self.k {
+            place_leads(self.scores, self.k, path, place)
+        } else {
+            place_mirrors(self.scores, self.k, path, place)
+        }
+    }
+}
+
+/// The sets of `k` moved-down players who are paired, while the others wait in the Limbo, by their scores and then by their numbers
+/// (C.04.3 D.3). The players are numbered from 1. It takes no memory. A step is one place tried, for the first set with the same
+/// scores or for the set itself.
+#[derive(Drop)]
+pub struct LimboExchanges<'a> {
+    ranked: Ranked<'a>,
+    walk: Walk,
+}
+
+impl<'a> Model for LimboExchanges<'a> {
+    ghost use Rattle.std.specs.Prelude.{◌≤◌, length, map};
+    ghost use Rattle.dutch_order.specs.Steps.{Ahead};
+    ghost use Rattle.dutch_order.specs.Trials.{ahead, hits, trials};
+    ghost use Rattle.dutch_order.specs.Walks.{Stands};
+    ghost use Rattle.dutch_order.specs.Limbo.{limbo_plan, second_numbers};
+
+    ghost Value = { Ahead };
+
+    ghost view = { λ t. record {
+        coming = map (second_numbers t.ranked.k)
+            (hits (ahead (limbo_plan t.ranked.scores.now t.ranked.k) t.walk.path.items t.walk.number));
+        left = trials (ahead (limbo_plan t.ranked.scores.now t.ranked.k) t.walk.path.items t.walk.number)
+    } };
+
+    ghost invariant = { λ t. Stands (limbo_plan t.ranked.scores.now t.ranked.k) t.walk.path.items };
+}
+
+impl<'a> LimboExchanges<'a> {
+    /// The sets of `k` of the players with these scores, which do not ascend. There are at most `LIMIT` players, and at least `k`.
+    pub fn new(scores: &'a [u16], k: usize) -> LimboExchanges<'a>
+        requires descends { IsNonAscending scores.now }
+        requires few { length scores.now ≤ LIMIT }
+        requires enough { k ≤ length scores.now }
+        ensures coming { result.coming ≡ limbo_exchanges scores.now k }
+        ensures nothing { k ≡ 0 → result.left ≡ 0 }
+    {
+        LimboExchanges {
+            ranked: Ranked { scores, k },
+            walk: Walk::new(0),
+        }
+    }
+
+    /// The next set, in ascending order. `Found` gives the first of those to come, `End` is answered where none is left, and
+    /// `Undecided` where the budget is used up before the next one is found: what is to come is then as it was.
+    pub fn next(&mut self, budget: &mut Budget) -> Step<Numbers>
+        requires { budget.old.used ≤ budget.old.limit }
+        ensures answer {
+            MatchStep result
+                (λ numbers. self.old.coming ≡ numbers.items ∷ self.new.coming)
+                ((self.old.coming ≡ []) × (self.new.coming ≡ []) × (self.new.left ≡ 0))
+                ((self.new.coming ≡ self.old.coming) × (budget.new.used ≡ budget.new.limit) × (0 < self.new.left))
+        }
+        ensures steps { budget.new.used + self.new.left ≡ budget.old.used + self.old.left }
+        ensures limit { budget.new.limit ≡ budget.old.limit }
+        ensures rises { budget.old.used ≤ budget.new.used }
+        ensures within { budget.new.used ≤ budget.new.limit }
+    {
+        match climb_on(&self.ranked, &mut self.walk, budget) {
+            Step::Found(()) => Step::Found(numbered(&self.walk.path[self.ranked.k..])),
+            Step::End => Step::End,
+            Step::Undecided => Step::Undecided,
+        }
+    }
+}

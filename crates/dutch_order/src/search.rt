@@ -1,0 +1,167 @@
+// The one search of all generators: a path of numbers that is filled place by place, goes back where no number fits, and can be
+// stopped before each trial.
+ghost use Rattle.std.specs.Prelude.{◌≡◌, ◌+◌, ◌-◌, ◌<◌, ◌≤◌, ℕ, None, [], ◌∷◌, length, true, false};
+ghost use Rattle.dutch_order.specs.Trials.{Plan, entry, below, ahead, hits, trials};
+ghost use Rattle.dutch_order.specs.Steps.{MatchStep};
+ghost use Rattle.dutch_order.specs.Walks.{Stands, IsOpen, IsSpent};
+
+use arrayvec::ArrayVec;
+
+use crate::steps::{Budget, Step};
+
+/// The most numbers that a generator chooses from.
+pub const LIMIT: usize = 256;
+
+/// The most places of a search: an exchange or a set of moved-down players fills two for each number.
+pub const PLACES: usize = 512;
+
+/// What a search fills, and which numbers it tries where.
+pub trait Tree {
+    ghost plan: { Self → Plan };
+
+    /// How many places there are.
+    fn places(&self) -> usize
+        ensures { result ≡ (plan self.now).places };
+
+    /// The first number to try after a beginning.
+    fn start(&self, path: &[usize]) -> usize
+        requires { IsOpen (plan self.now) path.now }
+        ensures { result ≡ (plan self.now).start path.now };
+
+    /// The end of the numbers to try after a beginning.
+    fn stop(&self, path: &[usize]) -> usize
+        requires { IsOpen (plan self.now) path.now }
+        ensures { result ≡ (plan self.now).stop path.now };
+
+    /// Whether a number fits after a beginning.
+    fn admits(&self, path: &[usize], number: usize) -> bool
+        requires opened { IsOpen (plan self.now) path.now }
+        requires tried { number < (plan self.now).stop path.now }
+        ensures { result ≡ (plan self.now).fits path.now number };
+
+    /// Every number tried is below the width.
+    ghost within: { (tree : Self) (path : _) → (plan tree).stop path ≤ (plan tree).width };
+}
+
+/// Where a search stands: the numbers at the places filled, and the next number to try at the place after them. At a whole path
+/// the next number is 0 until the path has been handed out.
+#[derive(Drop)]
+pub struct Walk {
+    pub path: ArrayVec<usize, PLACES>,
+    pub number: usize,
+}
+
+impl Walk {
+    /// A walk that has filled no place.
+    pub fn new(number: usize) -> Walk
+        ensures path { result.path.items ≡ [] }
+        ensures number { result.number ≡ number }
+    {
+        Walk {
+            path: ArrayVec::new(),
+            number,
+        }
+    }
+}
+
+/// The first number to try after a path, 0 where the path is whole.
+fn first_number<T: Tree>(tree: &T, path: &[usize]) -> usize
+    requires { Stands (T.plan tree.now) path.now }
+    ensures { result ≡ entry (T.plan tree.now) ((T.plan tree.now).places - length path.now) path.now }
+{
+    if path.len() < tree.places() {
+        tree.start(path)
+    } else {
+        0
+    }
+}
+
+/// Makes one trial: takes the number if it fits, and else goes on to the next one.
+fn try_number<T: Tree>(tree: &T, walk: &mut Walk)
+    requires opened { IsOpen (T.plan tree.now) walk.old.path.items }
+    requires tried { walk.old.number < (T.plan tree.now).stop walk.old.path.items }
+    requires few { (T.plan tree.now).places ≤ PLACES }
+    requires narrow { (T.plan tree.now).width ≤ PLACES }
+    ensures stands { Stands (T.plan tree.now) walk.new.path.items }
+    ensures goes_on {
+        ahead (T.plan tree.now) walk.old.path.items walk.old.number
+            ≡ None ∷ ahead (T.plan tree.now) walk.new.path.items walk.new.number
+    }
+    ensures places { length walk.new.path.items ≤ length walk.old.path.items + 1 }
+{
+    if tree.admits(&walk.path, walk.number) {
+        walk.path.push(walk.number);
+        walk.number = first_number(tree, &walk.path);
+    } else {
+        walk.number += 1;
+    }
+}
+
+/// Takes the last number from a path below which nothing is left, and goes on to the next one; false where the path is empty.
+fn go_back<T: Tree>(tree: &T, walk: &mut Walk) -> bool
+    requires standing { Stands (T.plan tree.now) walk.old.path.items }
+    requires narrow { (T.plan tree.now).width ≤ PLACES }
+    requires spent { IsSpent (T.plan tree.now) walk.old.path.items walk.old.number }
+    ensures stands { Stands (T.plan tree.now) walk.new.path.items }
+    ensures same {
+        ahead (T.plan tree.now) walk.new.path.items walk.new.number
+            ≡ ahead (T.plan tree.now) walk.old.path.items walk.old.number
+    }
+    ensures shorter { result ≡ true → length walk.new.path.items < length walk.old.path.items }
+    ensures ended { result ≡ false → ahead (T.plan tree.now) walk.new.path.items walk.new.number ≡ [] }
+{
+    match walk.path.pop() {
+        Some(number) => {
+            walk.number = number + 1;
+            true
+        }
+        None => false,
+    }
+}
+
+/// Goes on to the next whole path, which the walk then has, unless the budget or the search ends before it.
+pub fn climb_on<T: Tree>(tree: &T, walk: &mut Walk, budget: &mut Budget) -> Step<()>
+    requires standing { Stands (T.plan tree.now) walk.old.path.items }
+    requires few { (T.plan tree.now).places ≤ PLACES }
+    requires narrow { (T.plan tree.now).width ≤ PLACES }
+    requires within { budget.old.used ≤ budget.old.limit }
+    ensures stands { Stands (T.plan tree.now) walk.new.path.items }
+    ensures answer {
+        MatchStep result
+            (λ _. (hits (ahead (T.plan tree.now) walk.old.path.items walk.old.number)
+                ≡ walk.new.path.items ∷ hits (ahead (T.plan tree.now) walk.new.path.items walk.new.number))
+                × (length walk.new.path.items ≡ (T.plan tree.now).places))
+            ((hits (ahead (T.plan tree.now) walk.old.path.items walk.old.number) ≡ [])
+                × (ahead (T.plan tree.now) walk.new.path.items walk.new.number ≡ []))
+            ((hits (ahead (T.plan tree.now) walk.new.path.items walk.new.number)
+                ≡ hits (ahead (T.plan tree.now) walk.old.path.items walk.old.number))
+                × (budget.new.used ≡ budget.new.limit)
+                × (0 < trials (ahead (T.plan tree.now) walk.new.path.items walk.new.number)))
+    }
+    ensures steps {
+        budget.new.used + trials (ahead (T.plan tree.now) walk.new.path.items walk.new.number)
+            ≡ budget.old.used + trials (ahead (T.plan tree.now) walk.old.path.items walk.old.number)
+    }
+    ensures limit { budget.new.limit ≡ budget.old.limit }
+    ensures rises { budget.old.used ≤ budget.new.used }
+    ensures within { budget.new.used ≤ budget.new.limit }
+{
+    loop {
+        if walk.path.len() == tree.places() {
+            if walk.number == 0 {
+                walk.number = 1;
+                return Step::Found(());
+            }
+        } else if walk.number < tree.stop(&walk.path) {
+            if budget.used == budget.limit {
+                return Step::Undecided;
+            }
+            budget.used += 1;
+            try_number(tree, walk);
+            continue;
+        }
+        if !go_back(tree, walk) {
+            return Step::End;
+        }
+    }
+}

@@ -1,0 +1,164 @@
+// The tables of arrangements, and the generators under limits that rise by one.
+ghost use Rattle.std.specs.Prelude.{◌≤◌};
+
+use std::alloc::Global;
+use std::test::Fail;
+
+use crate::exchange::Exchanges;
+use crate::limbo::LimboExchanges;
+use crate::rules::Rule;
+use crate::steps::{Budget, Step};
+use crate::transposition::{Numbers, Transpositions};
+
+/// A rule that bars one pair.
+#[derive(Drop)]
+struct Barred {
+    one: u16,
+    other: u16,
+}
+
+impl Rule for Barred {
+    ghost use Rattle.std.specs.Prelude.{not, ◌==◌, ◌&&◌, ◌||◌, true};
+    ghost use Rattle.std.proofs.Common.{rules};
+
+    ghost meets = { λ r a b. not (((a == r.one) && (b == r.other)) || ((a == r.other) && (b == r.one))) };
+
+    ghost may_be_left = { λ r a. true };
+
+    fn may_meet(&self, a: u16, b: u16) -> bool {
+        !((a == self.one && b == self.other) || (a == self.other && b == self.one))
+    }
+
+    fn last_ok(&self, _a: u16) -> bool {
+        true
+    }
+
+    ghost symmetric = { λ r a b. Prim.search rules };
+}
+
+/// A generator, whichever it is.
+trait Lists {
+    fn draw(&mut self, budget: &mut Budget) -> Step<Numbers>
+        requires { budget.old.used ≤ budget.old.limit }
+        ensures { budget.new.used ≤ budget.new.limit };
+}
+
+impl<'a> Lists for Transpositions<'a, Barred> {
+    fn draw(&mut self, budget: &mut Budget) -> Step<Numbers> {
+        self.next(budget)
+    }
+}
+
+impl<'a> Lists for Exchanges<'a> {
+    fn draw(&mut self, budget: &mut Budget) -> Step<Numbers> {
+        self.next(budget)
+    }
+}
+
+impl<'a> Lists for LimboExchanges<'a> {
+    fn draw(&mut self, budget: &mut Budget) -> Step<Numbers> {
+        self.next(budget)
+    }
+}
+
+/// The lists that a generator hands out, one after another, where its limit starts at `limit` and rises by one after each Undecided,
+/// and the steps that it used.
+fn drawn<L: Lists + Drop>(alloc: Global, mut lists: L, limit: u64) -> Result<(Vec<u16>, u64), Fail> {
+    let mut budget = Budget { limit, used: 0 };
+    let mut numbers = Vec::new(alloc);
+    for _turn in 0..100_000u32 {
+        match lists.draw(&mut budget) {
+            Step::Found(list) => numbers.extend_from_slice(&list)?,
+            Step::End => break,
+            Step::Undecided => {
+                if budget.limit >= AMPLE {
+                    break;
+                }
+                budget.limit += 1;
+                continue;
+            }
+        }
+    }
+    Ok((numbers, budget.used))
+}
+
+const AMPLE: u64 = 1_000_000;
+
+const FREE: Barred = Barred { one: 0, other: 0 };
+
+const SIX_BY_THREE: [u16; 60] = [
+    1, 2, 3, 1, 2, 4, 1, 2, 5, 1, 3, 4, 1, 2, 6, 1, 3, 5, 2, 3, 4, 1, 3, 6, 2, 3, 5, 2, 3, 6, 1, 4, 5, 1, 4, 6, 2, 4, 5, 1, 5, 6, 2,
+    4, 6, 3, 4, 5, 2, 5, 6, 3, 4, 6, 3, 5, 6, 4, 5, 6,
+];
+
+#[test]
+fn exchanges_of_six_by_three(rt: HostRuntime) -> Result<(), Fail> {
+    let (ample, used) = drawn(rt.alloc(), Exchanges::new(&[1, 2, 3, 4, 5, 6], 3), AMPLE)?;
+    assert_eq!(rt; ample.as_slice(), SIX_BY_THREE.as_slice());
+    let (raised, used_again) = drawn(rt.alloc(), Exchanges::new(&[1, 2, 3, 4, 5, 6], 3), 0)?;
+    assert_eq!(rt; raised.as_slice(), SIX_BY_THREE.as_slice());
+    assert_eq!(rt; used, used_again);
+    Ok(())
+}
+
+#[test]
+fn exchanges_of_a_pool_with_a_gap(rt: HostRuntime) -> Result<(), Fail> {
+    let expected = [1, 2, 1, 3, 2, 3, 1, 5, 2, 5, 3, 5];
+    let (ample, _) = drawn(rt.alloc(), Exchanges::new(&[1, 2, 3, 5], 2), AMPLE)?;
+    assert_eq!(rt; ample.as_slice(), expected.as_slice());
+    let (raised, _) = drawn(rt.alloc(), Exchanges::new(&[1, 2, 3, 5], 2), 0)?;
+    assert_eq!(rt; raised.as_slice(), expected.as_slice());
+    Ok(())
+}
+
+#[test]
+fn sets_of_moved_down_players(rt: HostRuntime) -> Result<(), Fail> {
+    let expected = [1, 2, 1, 3, 2, 3, 1, 4, 2, 4, 3, 4];
+    let (ample, _) = drawn(rt.alloc(), LimboExchanges::new(&[6, 6, 4, 2], 2), AMPLE)?;
+    assert_eq!(rt; ample.as_slice(), expected.as_slice());
+    let (raised, _) = drawn(rt.alloc(), LimboExchanges::new(&[6, 6, 4, 2], 2), 0)?;
+    assert_eq!(rt; raised.as_slice(), expected.as_slice());
+    Ok(())
+}
+
+#[test]
+fn transpositions_of_nine(rt: HostRuntime) -> Result<(), Fail> {
+    let pool = [3, 4, 5, 6, 7, 8, 9, 10, 11];
+    let (ample, _) = drawn(rt.alloc(), Transpositions::new(&[1, 2], &pool, &FREE), AMPLE)?;
+    assert_eq!(rt; ample.len(), 144);
+    assert_eq!(rt; &ample[..2], [3, 4].as_slice());
+    assert_eq!(rt; &ample[142..], [11, 10].as_slice());
+    let (raised, _) = drawn(rt.alloc(), Transpositions::new(&[1, 2], &pool, &FREE), 0)?;
+    assert_eq!(rt; raised.as_slice(), ample.as_slice());
+    Ok(())
+}
+
+#[test]
+fn transpositions_with_a_bar(rt: HostRuntime) -> Result<(), Fail> {
+    let barred = Barred { one: 1, other: 3 };
+    let (ample, used) = drawn(rt.alloc(), Transpositions::new(&[1, 2], &[3, 4], &barred), AMPLE)?;
+    assert_eq!(rt; ample.as_slice(), [4, 3].as_slice());
+    assert_eq!(rt; used, 4);
+    let (raised, _) = drawn(rt.alloc(), Transpositions::new(&[1, 2], &[3, 4], &barred), 0)?;
+    assert_eq!(rt; raised.as_slice(), [4, 3].as_slice());
+    let (free, all) = drawn(rt.alloc(), Transpositions::new(&[1, 2], &[3, 4], &FREE), AMPLE)?;
+    assert_eq!(rt; free.as_slice(), [3, 4, 4, 3].as_slice());
+    assert_eq!(rt; all, 6);
+    Ok(())
+}
+
+#[test]
+fn nothing_is_chosen_once(rt: HostRuntime) -> Result<(), Fail> {
+    let mut budget = Budget { limit: 0, used: 0 };
+    let mut exchanges = Exchanges::new(&[1, 2], 0);
+    assert!(rt; matches!(exchanges.next(&mut budget), Step::Found(_)));
+    assert!(rt; matches!(exchanges.next(&mut budget), Step::End));
+    let mut sets = LimboExchanges::new(&[6, 4], 0);
+    assert!(rt; matches!(sets.next(&mut budget), Step::Found(_)));
+    assert!(rt; matches!(sets.next(&mut budget), Step::End));
+    let mut transpositions = Transpositions::new(&[], &[1, 2], &FREE);
+    assert!(rt; matches!(transpositions.next(&mut budget), Step::Found(_)));
+    assert!(rt; matches!(transpositions.next(&mut budget), Step::End));
+    assert_eq!(rt; budget.used, 0);
+    Ok(())
+}
