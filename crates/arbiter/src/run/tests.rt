@@ -73,14 +73,14 @@ impl Write for Small {
 
 // What a run left.
 #[derive(Drop)]
-struct Ended {
-    status: Status,
-    out: Vec<u8>,
-    err: Vec<u8>,
+pub(super) struct Ended {
+    pub(super) status: Status,
+    pub(super) out: Vec<u8>,
+    pub(super) err: Vec<u8>,
 }
 
 // A run over a reader, with writers of some room.
-fn run_on<'a, R: Read + Drop>(
+pub(super) fn run_on<'a, R: Read + Drop>(
     alloc: Global,
     words: &'a [&'a str],
     reader: R,
@@ -103,17 +103,17 @@ fn run_on<'a, R: Read + Drop>(
 }
 
 // `check` of a text.
-fn check(alloc: Global, text: &[u8]) -> Ended {
+pub(super) fn check(alloc: Global, text: &[u8]) -> Ended {
     run_on(alloc, &["check"], text, 1000, 1000)
 }
 
 // Whether a run printed a text and did nothing else.
-fn has_printed(ended: &Ended, text: &str) -> bool {
+pub(super) fn has_printed(ended: &Ended, text: &str) -> bool {
     ended.status == Status::Done && ended.out.as_slice() == text.as_bytes() && ended.err.is_empty()
 }
 
 // Whether a run refused a report with a text and did nothing else.
-fn has_refused(ended: &Ended, text: &str) -> bool {
+pub(super) fn has_refused(ended: &Ended, text: &str) -> bool {
     ended.status == Status::Refused
         && ended.out.is_empty()
         && ended.err.as_slice() == text.as_bytes()

@@ -1,0 +1,86 @@
+// Runs over whole reports: the rules on lines and on two players, each with the text that must come, and `format`.
+use crate::run::tests::{Ended, check, has_printed, has_refused, run_on};
+use std::alloc::{AllocError, Global};
+
+// A line of a player with a points field and the cells of his rounds, each of 10 columns.
+fn line(alloc: Global, start: u8, points: &str, cells: &str) -> Result<String, AllocError> {
+    format!(in alloc; "001 {start:>4}{:72}{points:>4}{:5}{cells}\n", "", "")
+}
+
+// A report of two players and one round.
+fn two(alloc: Global, first: &str, second: &str) -> Result<String, AllocError> {
+    let mut text = line(alloc, 1, "", first)?;
+    let other = line(alloc, 2, "", second)?;
+    text.push_str(other.as_str())?;
+    Ok(text)
+}
+
+fn verdict(alloc: Global, text: &str) -> Ended {
+    check(alloc, text.as_bytes())
+}
+
+#[test]
+fn players_answer_each_other(rt: HostRuntime) -> Result<(), AllocError> {
+    let alloc = rt.alloc();
+    let one_side = two(alloc, "     2 w 1", "")?;
+    let ended = verdict(alloc, one_side.as_str());
+    assert!(rt; has_refused(&ended, "refused: player 1 round 1: not mutual\n"));
+    let draw = two(alloc, "     2 w 1", "     1 b =")?;
+    let ended = verdict(alloc, draw.as_str());
+    assert!(rt; has_refused(&ended, "refused: player 1 round 1: results\n"));
+    let colours = two(alloc, "     2 w 1", "     1 w 0")?;
+    let ended = verdict(alloc, colours.as_str());
+    assert!(rt; has_refused(&ended, "refused: player 1 round 1: colours\n"));
+    let lost = two(alloc, "     2 w 0", "     1 b 0")?;
+    let ended = verdict(alloc, lost.as_str());
+    assert!(rt; has_printed(&ended, "accepted players 2 rounds 1\n"));
+    Ok(())
+}
+
+#[test]
+fn own_opponent_and_points(rt: HostRuntime) -> Result<(), AllocError> {
+    let alloc = rt.alloc();
+    let own = line(alloc, 1, "", "     1 w 1")?;
+    let ended = verdict(alloc, own.as_str());
+    assert!(rt; has_refused(&ended, "refused: player 1 round 1: own opponent\n"));
+    let missing = line(alloc, 1, "", "     2 w 1")?;
+    let ended = verdict(alloc, missing.as_str());
+    assert!(rt; has_refused(&ended, "refused: player 1 round 1: no such opponent\n"));
+    let points = line(alloc, 1, "0.5", "")?;
+    let ended = verdict(alloc, points.as_str());
+    assert!(rt; has_refused(&ended, "refused: player 1: points\n"));
+    let mut other = String::from_str(alloc, "XXS x\n")?;
+    let bye = line(alloc, 1, "3.0", "  0000 - U")?;
+    other.push_str(bye.as_str())?;
+    let ended = verdict(alloc, other.as_str());
+    assert!(rt; has_printed(&ended, "accepted players 1 rounds 1\n"));
+    Ok(())
+}
+
+#[test]
+fn extension_lines(rt: HostRuntime) {
+    let alloc = rt.alloc();
+    let bad_first = "refused: line 1: bad extension\n";
+    let bad_second = "refused: line 2: bad extension\n";
+    assert!(rt; has_refused(&check(alloc, b"XXR 0"), bad_first));
+    assert!(rt; has_refused(&check(alloc, b"XXR 33"), "refused: too many rounds\n"));
+    assert!(rt; has_refused(&check(alloc, b"XXR 5\nXXR 5"), "refused: line 2: duplicate\n"));
+    assert!(rt; has_refused(&check(alloc, b"XXR 5\nXXR x"), bad_second));
+    assert!(rt; has_refused(&check(alloc, b"XXC white1\nxxc BLACK1"), bad_second));
+    let carried = check(alloc, b"001    1\n001    2\n001    3\n001    4\nXXZ 9\nXXP x\n");
+    assert!(rt; has_printed(&carried, "accepted players 4 rounds 0\n"));
+}
+
+#[test]
+fn format_is_canonical(rt: HostRuntime) -> Result<(), AllocError> {
+    let alloc = rt.alloc();
+    let canonical = two(alloc, "", "")?;
+    let ended = run_on(alloc, &["format"], b"001 1\r001    2".as_slice(), 1000, 1000);
+    assert!(rt; has_printed(&ended, canonical.as_str()));
+    assert_eq!(rt; ended.out.len(), 180);
+    let again = run_on(alloc, &["format"], ended.out.as_slice(), 1000, 1000);
+    assert!(rt; has_printed(&again, canonical.as_str()));
+    let refused = run_on(alloc, &["format"], b"001".as_slice(), 1000, 1000);
+    assert!(rt; has_refused(&refused, "refused: line 1: bad number\n"));
+    Ok(())
+}
