@@ -1,0 +1,7 @@
+pub mod Preferences
+pub mod Histories
+pub mod Outcomes
+pub mod Facts
+pub mod Meetings
+pub mod Colours
+pub mod SeatOf

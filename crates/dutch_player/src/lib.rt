@@ -1,0 +1,12 @@
+// What each player is before the next round: score, floats, colour preference, whom he may meet (C.04.3, articles A, C and E), seen
+// as plain facts by rank.
+#![tactic(auto)]
+
+mod colours;
+pub mod fault;
+pub mod field;
+pub mod float;
+mod history;
+mod meetings;
+pub mod preference;
+mod seat;
