@@ -1,1 +1,1 @@
-pub mod ColourLemmas
+pub mod RankLemmas

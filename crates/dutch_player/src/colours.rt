@@ -37,7 +37,6 @@ fn is_stronger(mine: Pref, played: &[Colour], theirs: Pref, their_played: &[Colo
 }
 
 // E.3: both lists have the last game first.
-#[tactic(auto, using(crate::proofs::ColourLemmas::alternated_none))]
 fn alternated(mine: &[Colour], theirs: &[Colour]) -> Option<Colour>
     ensures { result ≡ alternated mine.now theirs.now }
 {

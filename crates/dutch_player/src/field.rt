@@ -1,18 +1,24 @@
 // The present players by rank, and what the next round asks of them.
 ghost use Rattle.std.specs.Prelude.{◌≡◌, ◌<◌, ◌≤◌, ◌≤ℤ◌, pos, negsuc, length, if◌then◌else◌, ◌==◌};
 ghost use Rattle.dutch_player.specs.Preferences.{difference, last_two, preference};
-ghost use Rattle.dutch_player.specs.Facts.{seat_at};
+ghost use Rattle.dutch_player.specs.Facts.{seat_at, facts_of};
+ghost use Rattle.dutch_player.specs.Outcomes.{Gives};
 ghost use Rattle.dutch_player.specs.SeatOf.{facts_in};
 ghost use Rattle.dutch_player.specs.Meetings.{is_topscorer, may_meet};
 ghost use Rattle.dutch_player.specs.Colours.{colours};
 
 use crate::colours::{colour_of_higher, with_colour};
+use crate::fault::FieldFault;
 use crate::float::Float;
 use crate::meetings::{clash, have_met};
 use crate::preference::{difference, last_two, preference, Pref};
+use crate::present::seats_of;
+use crate::refusals::total_for;
 use crate::seat::Seat;
+use std::alloc::Global;
 use std::marker::Model;
 use trf16::cell::Colour;
+use trf16::report::Report;
 
 /// The present players by rank: higher score first, then smaller start rank (A.2). A seat is a place in that order, from 0.
 #[derive(Drop)]
@@ -37,6 +43,24 @@ impl Model for Field {
 }
 
 impl Field {
+    /// The present players of a report, as the round behind the last that was paired finds them. A total of rounds or an initial colour
+    /// that is given goes before the report's; the initial colour is white where nothing names it. Why there is no further round is
+    /// told in this order: a game without a result (by the players' lines, then by round), the first line that is not supported, a
+    /// total that is not known, a round behind the total, memory.
+    #[tactic(auto, unfolding(crate::specs::Facts::facts_of))]
+    pub fn new(alloc: Global, report: &Report<'_>, total: Option<u8>, initial: Option<Colour>) -> Result<Field, FieldFault>
+        ensures { Gives result (facts_of report.now total initial) }
+    {
+        let total = total_for(report, total)?;
+        let seats = seats_of(alloc, report)?;
+        Ok(Field {
+            seats,
+            round: report.rounds_played() + 1,
+            total,
+            initial: initial.or(report.initial()).unwrap_or(Colour::White),
+        })
+    }
+
     /// How many players are present: at most 256.
     pub fn len(&self) -> usize
         ensures value { result ≡ length self.now.seats }

@@ -1,5 +1,5 @@
 // What the rounds that were paired say of a player: score, floats, colours, opponents, the bye (C.04.3 A.2, A.4, A.6, C.1, C.2).
-ghost use Rattle.std.specs.Prelude.{◌≡◌, ◌≤◌, ◌*◌, ◌<◌, length, take, IfOk};
+ghost use Rattle.std.specs.Prelude.{◌≡◌, ◌≤◌, ◌*◌, ◌<◌, length, take, IfOk, vec_len};
 ghost use Rattle.std.specs.List.{list_any};
 ghost use Rattle.trf16.specs.Sheet.{cell_at};
 ghost use Rattle.dutch_player.specs.Histories.{score, colour_played, played, opponent_played, opponents, bars_bye, may_bye, float_between, float_by, float_in};
@@ -41,7 +41,8 @@ fn colour_played(cell: &Cell) -> Option<Colour>
 
 /// The colours of the games played, the last game first.
 pub(crate) fn played(alloc: Global, cells: &[Cell]) -> Result<Vec<Colour>, AllocError>
-    ensures { IfOk result (λ v. v.items ≡ played cells.now) }
+    ensures value { IfOk result (λ v. v.items ≡ played cells.now) }
+    ensures shorter { IfOk result (λ v. vec_len v ≤ length cells.now) }
 {
     cells.iter().rev().filter_map(|cell| colour_played(cell)).collect(alloc)
 }

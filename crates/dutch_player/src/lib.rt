@@ -9,4 +9,7 @@ pub mod float;
 mod history;
 mod meetings;
 pub mod preference;
+mod present;
+mod ranking;
+mod refusals;
 mod seat;
