@@ -5,3 +5,4 @@ pub mod Facts
 pub mod Meetings
 pub mod Colours
 pub mod SeatOf
+pub mod Laws

@@ -7,9 +7,13 @@ pub mod fault;
 pub mod field;
 pub mod float;
 mod history;
+pub mod laws;
 mod meetings;
 pub mod preference;
 mod present;
 mod ranking;
 mod refusals;
 mod seat;
+
+#[cfg(test)]
+mod tests;
