@@ -1,5 +1,5 @@
 -- What a round is paired from: the present players by rank, and how a report tells of them (C.04.3 A.2, A.7).
-use Rattle.std.specs.Prelude.{ℕ, zero, suc, ◌+◌, ◌-◌, Bool, true, false, not, ◌&&◌, ◌||◌, ◌==◌, nat_lt, if◌then◌else◌, List, [], ◌∷◌, map, filter, take, slice_index_or, Option, Some, None, option_map, Result, Ok, Err}
+use Rattle.std.specs.Prelude.{◌≡◌, ℕ, ◌+◌, ◌-◌, Bool, true, false, not, ◌&&◌, ◌||◌, ◌==◌, nat_lt, if◌then◌else◌, List, [], ◌∷◌, map, filter, take, slice_index_or, Option, Some, None, option_map, Result, Ok, Err}
 use Rattle.std.specs.Option.{ok_or, option_map_or}
 use Rattle.trf16.specs.declared.cell.Colour.{Colour}
 use Rattle.trf16.specs.declared.cell.Colour.TheVariants.{White}
@@ -53,6 +53,16 @@ placed seat (first ∷ rest) = if goes_before first seat then first ∷ placed s
 abbrev pub ranked : List SeatFacts → List SeatFacts → List SeatFacts
 ranked front [] = front
 ranked front (seat ∷ rest) = ranked (placed seat front) rest
+
+-- none of some seats goes before one
+abbrev pub NoneBefore : SeatFacts → List SeatFacts → Type 0
+NoneBefore seat [] = Unit {0}
+NoneBefore seat (other ∷ rest) = (goes_before other seat ≡ false) × NoneBefore seat rest
+
+-- A.2: no seat goes before one that stands in front of it
+abbrev pub IsRanked : List SeatFacts → Type 0
+IsRanked [] = Unit {0}
+IsRanked (seat ∷ rest) = NoneBefore seat rest × IsRanked rest
 
 -- what the rounds that were paired make of a player
 abbrev pub seat_of : Sheet → Entry → SeatFacts

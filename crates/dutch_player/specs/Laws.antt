@@ -1,16 +1,11 @@
--- What holds of every field (C.04.3 A.2, A.6, C.1, C.3, E).
-use Rattle.std.specs.Prelude.{◌≡◌, ℕ, ◌≤◌, Bool, true, false, List, [], ◌∷◌, All, Option, Some}
+-- What holds of every field (C.04.3 A.6, C.1, C.3, E).
+use Rattle.std.specs.Prelude.{◌≡◌, ℕ, Bool, true, Option, Some}
 use Rattle.dutch_player.specs.declared.preference.Kind.TheVariants.{Absolute}
 use Rattle.dutch_player.specs.declared.preference.Pref.{Pref}
 use Rattle.dutch_player.specs.Preferences.{preference}
-use Rattle.dutch_player.specs.Facts.{SeatFacts, Facts, seat_at, goes_before}
+use Rattle.dutch_player.specs.Facts.{Facts, seat_at}
 use Rattle.dutch_player.specs.Meetings.{may_meet}
 use Rattle.dutch_player.specs.Colours.{with_colour, colours}
-
--- A.2: no seat goes before one that stands in front of it
-abbrev pub IsRanked : List SeatFacts → Type 0
-IsRanked [] = Unit {0}
-IsRanked (seat ∷ rest) = All (λ other. goes_before other seat ≡ false) rest × IsRanked rest
 
 -- A.6, C.3, E.1: of two who may meet, with absolute preferences for different colours, both get what they prefer
 abbrev pub GrantsBoth : Facts → ℕ → ℕ → Type 0

@@ -32,14 +32,14 @@ pub struct Field {
 
 impl Model for Field {
     ghost use Rattle.std.specs.Prelude.{map, vec_len, ◌≤◌, ◌<◌};
-    ghost use Rattle.dutch_player.specs.Facts.{Facts};
+    ghost use Rattle.dutch_player.specs.Facts.{Facts, IsRanked};
     ghost use Rattle.dutch_player.specs.SeatOf.{facts_in};
 
     ghost Value = { Facts };
 
     ghost view = { λ f. record { seats = map facts_in f.seats.items; round = f.round; total = f.total; initial = f.initial } };
 
-    ghost invariant = { λ f. (vec_len f.seats ≤ 256) × (0 < f.round) };
+    ghost invariant = { λ f. (vec_len f.seats ≤ 256) × (0 < f.round) × IsRanked (map facts_in f.seats.items) };
 }
 
 impl Field {
