@@ -1,0 +1,65 @@
+-- Who gets which colour (C.04.3 E).
+use Rattle.std.specs.Prelude.{ℕ, ◌+◌, ◌-◌, ◌%◌, Bool, true, false, ◌&&◌, ◌||◌, ◌==◌, nat_lt, if◌then◌else◌, List, [], ◌∷◌, Option, Some, None}
+use Rattle.std.specs.Option.{option_map_or}
+use Rattle.trf16.specs.declared.cell.Colour.{Colour}
+use Rattle.trf16.specs.declared.cell.Colour.TheVariants.{White, Black}
+use Rattle.dutch_player.specs.declared.preference.Kind.{Kind}
+use Rattle.dutch_player.specs.declared.preference.Kind.TheVariants.{Absolute, Strong, Mild}
+use Rattle.dutch_player.specs.declared.preference.Pref.{Pref}
+use Rattle.dutch_player.specs.Preferences.{other, is_same, whites, blacks, preference}
+use Rattle.dutch_player.specs.Meetings.{is_absolute}
+use Rattle.dutch_player.specs.Facts.{SeatFacts, Facts, seat_at}
+
+-- absolute is stronger than strong, and strong than mild
+abbrev pub strength : Kind → ℕ
+strength Absolute = 2
+strength Strong = 1
+strength Mild = 0
+
+-- how far a colour difference is from 0
+abbrev pub distance : List Colour → ℕ
+distance played = (whites played - blacks played) + (blacks played - whites played)
+
+-- E.2: the stronger preference; of two absolute ones that of the player whose colour difference is further from 0
+abbrev pub is_stronger : Pref → List Colour → Pref → List Colour → Bool
+is_stronger mine played theirs their_played =
+    nat_lt (strength theirs.kind) (strength mine.kind)
+    || (is_absolute mine.kind && is_absolute theirs.kind && nat_lt (distance their_played) (distance played))
+
+-- E.3: where, seen from the last game back, one had white and the other black for the first time, each gets the other colour
+abbrev pub alternated : List Colour → List Colour → Option Colour
+alternated [] theirs = None
+alternated (mine ∷ before) [] = None
+alternated (mine ∷ before) (theirs ∷ their_before) = if is_same mine theirs then alternated before their_before else Some (other mine)
+
+-- E.2 to E.4: both want one colour; what the higher ranked of them gets
+abbrev pub contested : List Colour → List Colour → Pref → Pref → Colour
+contested high low wanted theirs =
+    if is_stronger wanted high theirs low then wanted.colour
+    else (if is_stronger theirs low wanted high then other wanted.colour
+    else option_map_or (λ colour. colour) (alternated high low) wanted.colour)
+
+-- E.5: nobody has a preference; with an odd start rank the higher ranked gets the initial colour
+abbrev pub by_start : Colour → ℕ → Colour
+by_start initial start = if start % 2 == 1 then initial else other initial
+
+-- E.1: both preferences are granted where they are not for one colour; else E.2 to E.4, or E.5
+abbrev pub granted : Colour → SeatFacts → SeatFacts → Option Pref → Option Pref → Colour
+granted initial high low (Some wanted) (Some theirs) = if is_same wanted.colour theirs.colour then contested high.played low.played wanted theirs else wanted.colour
+granted initial high low (Some wanted) None = wanted.colour
+granted initial high low None (Some theirs) = other theirs.colour
+granted initial high low None None = by_start initial high.start
+
+-- E: the colour that the higher ranked of two gets
+abbrev pub colour_of_higher : Facts → ℕ → ℕ → Colour
+colour_of_higher facts high low =
+    granted facts.initial (seat_at facts high) (seat_at facts low) (preference (seat_at facts high).played) (preference (seat_at facts low).played)
+
+-- who has white, and who has black, where the first gets a colour
+abbrev pub with_colour : ℕ → ℕ → Colour → ℕ × ℕ
+with_colour a b White = (a, b)
+with_colour a b Black = (b, a)
+
+-- E: the seat with white and the seat with black, of two in any order; the smaller seat ranks higher
+abbrev pub colours : Facts → ℕ → ℕ → ℕ × ℕ
+colours facts a b = if nat_lt a b then with_colour a b (colour_of_higher facts a b) else with_colour b a (colour_of_higher facts b a)

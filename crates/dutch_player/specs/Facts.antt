@@ -1,0 +1,132 @@
+-- What a round is paired from: the present players by rank, and how a report tells of them (C.04.3 A.2, A.7).
+use Rattle.std.specs.Prelude.{◌≡◌, ℕ, ◌+◌, ◌-◌, Bool, true, false, not, ◌&&◌, ◌||◌, ◌==◌, nat_lt, if◌then◌else◌, List, [], ◌∷◌, map, filter, take, slice_index_or, Option, Some, None, option_map, Result, Ok, Err}
+use Rattle.std.specs.Option.{ok_or, option_map_or}
+use Rattle.trf16.specs.declared.cell.Colour.{Colour}
+use Rattle.trf16.specs.declared.cell.Colour.TheVariants.{White}
+use Rattle.trf16.specs.declared.cell.Cell.{Cell}
+use Rattle.trf16.specs.declared.cell.Cell.TheVariants.{Unfinished as UnfinishedCell}
+use Rattle.trf16.specs.declared.kind.Kind.TheVariants.{Xxa, Xxs, Xxp, Rank}
+use Rattle.trf16.specs.Sheet.{Entry, Sheet, rounds_played}
+use Rattle.trf16.specs.Absence.{absent, first_of}
+use Rattle.dutch_player.specs.declared.float.Float.{Float}
+use Rattle.dutch_player.specs.declared.fault.FieldFault.{FieldFault}
+use Rattle.dutch_player.specs.declared.fault.FieldFault.TheVariants.{Unfinished, Unsupported, RoundsUnknown, RoundsOver}
+use Rattle.dutch_player.specs.Histories.{score, played, opponents, may_bye, float_in}
+use Rattle.dutch_player.specs.Outcomes.{◌>>=◌}
+
+-- a present player: start rank, score in half points, the colours of his games (the last game first), the start ranks of those whom
+-- he has met, his floats in the last round and in the one before it, and whether he may have the bye
+pub record SeatFacts : Type 0 where
+  pub start : ℕ
+  pub score : ℕ
+  pub played : List Colour
+  pub opponents : List ℕ
+  pub latest : Option Float
+  pub earlier : Option Float
+  pub may_bye : Bool
+
+-- the present players by rank, the number of the round that is to be paired, the total of rounds, and the initial colour
+pub record Facts : Type 0 where
+  pub seats : List SeatFacts
+  pub round : ℕ
+  pub total : ℕ
+  pub initial : Colour
+
+-- what stands behind the last seat
+abbrev pub no_seat : SeatFacts
+no_seat = record { start = 0; score = 0; played = []; opponents = []; latest = None; earlier = None; may_bye = false }
+
+-- a seat is a place in the order of ranks, from 0
+abbrev pub seat_at : Facts → ℕ → SeatFacts
+seat_at facts seat = slice_index_or facts.seats seat no_seat
+
+-- A.2: who has the better rank: the higher score, then the smaller start rank
+abbrev pub goes_before : SeatFacts → SeatFacts → Bool
+goes_before a b = nat_lt b.score a.score || ((a.score == b.score) && nat_lt a.start b.start)
+
+-- a seat among others by rank, behind all that go before it
+abbrev pub placed : SeatFacts → List SeatFacts → List SeatFacts
+placed seat [] = seat ∷ []
+placed seat (first ∷ rest) = if goes_before first seat then first ∷ placed seat rest else seat ∷ first ∷ rest
+
+-- A.2: seats by rank, where those in front have been ranked already
+abbrev pub ranked : List SeatFacts → List SeatFacts → List SeatFacts
+ranked front [] = front
+ranked front (seat ∷ rest) = ranked (placed seat front) rest
+
+-- none of some seats goes before one
+abbrev pub NoneBefore : SeatFacts → List SeatFacts → Type 0
+NoneBefore seat [] = Unit {0}
+NoneBefore seat (other ∷ rest) = (goes_before other seat ≡ false) × NoneBefore seat rest
+
+-- A.2: no seat goes before one that stands in front of it
+abbrev pub IsRanked : List SeatFacts → Type 0
+IsRanked [] = Unit {0}
+IsRanked (seat ∷ rest) = NoneBefore seat rest × IsRanked rest
+
+-- what the rounds that were paired make of a player
+abbrev pub seat_of : Sheet → Entry → SeatFacts
+seat_of sheet entry =
+    let rounds = rounds_played sheet in
+    let cells = take rounds entry.cells in
+    record {
+      start = entry.start;
+      score = score cells;
+      played = played cells;
+      opponents = opponents cells;
+      latest = float_in sheet cells rounds;
+      earlier = float_in sheet cells (rounds - 1);
+      may_bye = may_bye cells }
+
+-- the seats of those who are not absent from the next round, in the order of their lines
+abbrev pub seats_of : Sheet → List Entry → List SeatFacts
+seats_of sheet [] = []
+seats_of sheet (entry ∷ rest) = if absent sheet entry.start then seats_of sheet rest else seat_of sheet entry ∷ seats_of sheet rest
+
+-- the initial colour: the one that is asked for, else the report's, else white (our own choice)
+abbrev pub initial_of : Sheet → Option Colour → Colour
+initial_of sheet (Some colour) = colour
+initial_of sheet None = option_map_or (λ colour. colour) sheet.initial White
+
+-- the total of rounds: the one that is asked for, else the report's
+abbrev pub total_of : Sheet → Option ℕ → Option ℕ
+total_of sheet (Some total) = Some total
+total_of sheet None = sheet.total
+
+abbrev pub is_unfinished : Cell → Bool
+is_unfinished (UnfinishedCell opponent colour) = true
+is_unfinished _ = false
+
+-- the first round, of which the first is numbered n, with a game that has no result; such a round was paired
+abbrev pub first_unfinished : ℕ → List Cell → Option ℕ
+first_unfinished n [] = None
+first_unfinished n (cell ∷ rest) = if is_unfinished cell then Some n else first_unfinished (n + 1) rest
+
+-- the first game without a result, by the order of the players' lines and then by round
+abbrev pub unfinished : List Entry → Option (ℕ × ℕ)
+unfinished [] = None
+unfinished (entry ∷ rest) = option_map_or (λ round. Some (entry.start, round)) (first_unfinished 1 entry.cells) (unfinished rest)
+
+-- the first line that changes what is paired, by points, pairings, or the ranking
+abbrev pub unsupported : Sheet → Option ℕ
+unsupported sheet = first_of (Xxa ∷ Xxs ∷ Xxp ∷ Rank ∷ []) sheet
+
+-- a fault, where its cause stands
+abbrev pub refused : Option FieldFault → Result (Unit {0}) FieldFault
+refused None = Ok tt
+refused (Some fault) = Err fault
+
+-- the total of rounds, where a further round can be paired: each game has a result, every line is supported, the total is known,
+-- and not all rounds are played; else the first of these that fails
+unfoldable pub total_for : Sheet → Option ℕ → Result ℕ FieldFault
+total_for sheet asked = do
+  _ ← refused (option_map (λ at'. Unfinished at'.0 at'.1) (unfinished sheet.players))
+  _ ← refused (option_map (λ line. Unsupported line) (unsupported sheet))
+  total ← ok_or (total_of sheet asked) RoundsUnknown
+  if nat_lt total (rounds_played sheet + 1) then Err RoundsOver else Ok total
+
+-- what the next round is paired from, or why it cannot be
+unfoldable pub facts_of : Sheet → Option ℕ → Option Colour → Result Facts FieldFault
+facts_of sheet asked initial = do
+  total ← total_for sheet asked
+  Ok (record { seats = ranked [] (seats_of sheet sheet.players); round = rounds_played sheet + 1; total = total; initial = initial_of sheet initial })

@@ -1,0 +1,57 @@
+-- What the rounds that were paired say of a player: score (C.04.3 A.2), floats (A.4), colours (A.6), opponents (C.1), the bye (C.2).
+use Rattle.std.specs.Prelude.{ℕ, ◌-◌, Bool, true, false, not, ◌==◌, nat_lt, if◌then◌else◌, List, [], ◌∷◌, reverse, take, Option, Some, None, sum_by}
+use Rattle.std.specs.List.{filter_map, list_any}
+use Rattle.trf16.specs.declared.cell.Colour.{Colour}
+use Rattle.trf16.specs.declared.cell.Bye.TheVariants.{Half, Full, Allocated, Zero}
+use Rattle.trf16.specs.declared.cell.Cell.{Cell}
+use Rattle.trf16.specs.declared.cell.Cell.TheVariants.{Blank, Bye, Game, Forfeit, Unfinished}
+use Rattle.trf16.specs.Sheet.{Sheet, half_points, points_upto, cell_at}
+use Rattle.dutch_player.specs.declared.float.Float.{Float}
+use Rattle.dutch_player.specs.declared.float.Float.TheVariants.{Up, Down}
+
+-- A.2: the score in half points
+abbrev pub score : List Cell → ℕ
+score cells = sum_by half_points cells
+
+-- the colour of a game that was played; that of a forfeit is none
+abbrev pub colour_played : Cell → Option Colour
+colour_played (Game opponent colour rated got) = Some colour
+colour_played _ = None
+
+-- A.6: the colours of the games played, the last game first
+abbrev pub played : List Cell → List Colour
+played cells = filter_map colour_played (reverse cells)
+
+-- the opponent of a game that was played; a forfeit is no meeting
+abbrev pub opponent_played : Cell → Option ℕ
+opponent_played (Game opponent colour rated got) = Some opponent
+opponent_played _ = None
+
+-- C.1: the start ranks of those whom a player has met
+abbrev pub opponents : List Cell → List ℕ
+opponents cells = filter_map opponent_played cells
+
+-- a pairing-allocated bye, a forfeit win, or (our own choice) a requested bye of a full point
+abbrev pub bars_bye : Cell → Bool
+bars_bye (Bye Full) = true
+bars_bye (Bye Allocated) = true
+bars_bye (Forfeit opponent colour won) = won
+bars_bye _ = false
+
+-- C.2: whether a player may have the pairing-allocated bye
+abbrev pub may_bye : List Cell → Bool
+may_bye cells = not (list_any bars_bye cells)
+
+-- A.4: down where a player's score is above his opponent's, up where it is below
+abbrev pub float_between : ℕ → ℕ → Option Float
+float_between mine theirs = if nat_lt theirs mine then Some Down else (if nat_lt mine theirs then Some Up else None)
+
+-- A.4: the float of a round with some rounds before it, by the scores as they stood then. Who does not play a game has a
+-- downfloat, also in rounds that he missed before a late entry (our own choice)
+abbrev pub float_by : Sheet → List Cell → ℕ → Cell → Option Float
+float_by sheet cells before (Game opponent colour rated got) = float_between (score (take before cells)) (points_upto sheet opponent before)
+float_by sheet cells before _ = Some Down
+
+-- A.4: the float of a round; before round 1 there is none
+abbrev pub float_in : Sheet → List Cell → ℕ → Option Float
+float_in sheet cells round = if round == 0 then None else float_by sheet cells (round - 1) (cell_at cells round)

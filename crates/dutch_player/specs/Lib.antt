@@ -1,0 +1,8 @@
+pub mod Preferences
+pub mod Histories
+pub mod Outcomes
+pub mod Facts
+pub mod Meetings
+pub mod Colours
+pub mod SeatOf
+pub mod Laws

@@ -1,0 +1,38 @@
+-- Who may meet whom (C.04.3 A.7, C.1, C.3).
+use Rattle.std.specs.Prelude.{ℕ, ◌-◌, Bool, true, false, not, ◌&&◌, ◌||◌, ◌==◌, nat_lt, Option, Some, None}
+use Rattle.std.specs.List.{list_any}
+use Rattle.dutch_player.specs.declared.preference.Kind.{Kind}
+use Rattle.dutch_player.specs.declared.preference.Kind.TheVariants.{Absolute, Strong, Mild}
+use Rattle.dutch_player.specs.declared.preference.Pref.{Pref}
+use Rattle.dutch_player.specs.Preferences.{is_same, preference}
+use Rattle.dutch_player.specs.Facts.{SeatFacts, Facts, seat_at}
+
+-- A.7: before the last round, who has more than half of the points that could be had: over R half points after R rounds
+abbrev pub is_topscorer : Facts → SeatFacts → Bool
+is_topscorer facts a = (facts.round == facts.total) && nat_lt (facts.round - 1) a.score
+
+-- a game of the one names the other
+abbrev pub has_met : SeatFacts → SeatFacts → Bool
+has_met a b = list_any (λ start. start == b.start) a.opponents
+
+-- C.1: the two have played a game with each other
+abbrev pub have_met : SeatFacts → SeatFacts → Bool
+have_met a b = has_met a b || has_met b a
+
+abbrev pub is_absolute : Kind → Bool
+is_absolute Absolute = true
+is_absolute Strong = false
+is_absolute Mild = false
+
+-- both preferences are absolute, and for one colour
+abbrev pub clash : Option Pref → Option Pref → Bool
+clash (Some a) (Some b) = is_absolute a.kind && is_absolute b.kind && is_same a.colour b.colour
+clash _ _ = false
+
+-- C.3: two who are no topscorers do not meet where their absolute preferences are for one colour
+abbrev pub colours_allow : Facts → SeatFacts → SeatFacts → Bool
+colours_allow facts a b = is_topscorer facts a || is_topscorer facts b || not (clash (preference a.played) (preference b.played))
+
+-- C.1 and C.3
+abbrev pub may_meet : Facts → ℕ → ℕ → Bool
+may_meet facts a b = not (have_met (seat_at facts a) (seat_at facts b)) && colours_allow facts (seat_at facts a) (seat_at facts b)

@@ -1,0 +1,20 @@
+-- What making a field gives, step after step, and what the call answers of it.
+use Rattle.std.specs.Prelude.{◌≡◌, Result, Ok, Err}
+use Rattle.dutch_player.specs.declared.fault.FieldFault.{FieldFault}
+use Rattle.dutch_player.specs.declared.fault.FieldFault.TheVariants.{OutOfMemory}
+
+-- what the next step gives, unless a step before met a fault
+infixl 10 ◌>>=◌
+abbrev pub ◌>>=◌ : {A B : Type 0} → Result A FieldFault → (A → Result B FieldFault) → Result B FieldFault
+(Ok x) >>= f = f x
+(Err fault) >>= f = Err fault
+
+-- the fault that a call answers is the one that the definition gives, or memory was refused
+abbrev pub Fails : {Y : Type 0} → FieldFault → Result Y FieldFault → Type 0
+Fails OutOfMemory given = Unit {0}
+Fails fault given = given ≡ Err fault
+
+-- what a call answers is what the definition gives, or memory was refused
+abbrev pub Gives : {X : Type 0} → Result X FieldFault → Result X FieldFault → Type 0
+Gives (Ok x) given = given ≡ Ok x
+Gives (Err fault) given = Fails fault given

@@ -1,0 +1,68 @@
+-- Colour preferences (C.04.3 A.6), from the colours of a player's games, the last game first.
+use Rattle.std.specs.Prelude.{ℕ, ◌+◌, Bool, true, false, nat_lt, if◌then◌else◌, List, [], ◌∷◌, Option, Some, None, option_map, count_by, ℤ, pos, ◌-ℤ◌}
+use Rattle.trf16.specs.declared.cell.Colour.{Colour}
+use Rattle.trf16.specs.declared.cell.Colour.TheVariants.{White, Black}
+use Rattle.dutch_player.specs.declared.preference.Kind.{Kind}
+use Rattle.dutch_player.specs.declared.preference.Kind.TheVariants.{Absolute, Strong, Mild}
+use Rattle.dutch_player.specs.declared.preference.Pref.{Pref}
+
+-- the colour that the opponent of a player with this one has
+abbrev pub other : Colour → Colour
+other White = Black
+other Black = White
+
+abbrev pub is_white : Colour → Bool
+is_white White = true
+is_white Black = false
+
+abbrev pub is_black : Colour → Bool
+is_black White = false
+is_black Black = true
+
+abbrev pub is_same : Colour → Colour → Bool
+is_same White c = is_white c
+is_same Black c = is_black c
+
+-- how many games were played with white, and with black
+abbrev pub whites : List Colour → ℕ
+whites played = count_by is_white played
+
+abbrev pub blacks : List Colour → ℕ
+blacks played = count_by is_black played
+
+-- the colour difference: games with white minus games with black
+abbrev pub difference : List Colour → ℤ
+difference played = pos (whites played) -ℤ pos (blacks played)
+
+-- the colour of the last two games, where there are two and both have it
+abbrev pub last_two : List Colour → Option Colour
+last_two [] = None
+last_two (last ∷ []) = None
+last_two (last ∷ before ∷ rest) = if is_same last before then Some last else None
+
+-- a kind of preference for a colour
+abbrev pub for : Kind → Colour → Pref
+for kind colour = record { kind = kind; colour = colour }
+
+-- mild: with a difference of 0, to alternate the colour of the last game; without games there is no preference
+abbrev pub mild : List Colour → Option Pref
+mild [] = None
+mild (last ∷ rest) = Some (for Mild (other last))
+
+-- strong: a difference of 1 either way; else it is mild
+abbrev pub strong_or_mild : List Colour → Option Pref
+strong_or_mild played =
+    if nat_lt (blacks played) (whites played) then Some (for Strong Black)
+    else (if nat_lt (whites played) (blacks played) then Some (for Strong White) else mild played)
+
+-- absolute for the colour that the last two games did not have; else it is strong or mild
+abbrev pub after_last_two : List Colour → Option Colour → Option Pref
+after_last_two played (Some colour) = Some (for Absolute (other colour))
+after_last_two played None = strong_or_mild played
+
+-- the preference: absolute for black with a difference over +1, for white with one under -1, or else by the last two games. Where
+-- the two causes disagree the difference decides (our own choice: A.6 does not say)
+abbrev pub preference : List Colour → Option Pref
+preference played =
+    if nat_lt (blacks played + 1) (whites played) then Some (for Absolute Black)
+    else (if nat_lt (whites played + 1) (blacks played) then Some (for Absolute White) else after_last_two played (last_two played))

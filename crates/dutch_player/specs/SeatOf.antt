@@ -1,0 +1,6 @@
+-- What a present player is, wherever his lists lie in memory.
+use Rattle.dutch_player.specs.declared.seat.Seat.{Seat}
+use Rattle.dutch_player.specs.Facts.{SeatFacts}
+
+abbrev pub facts_in : Seat → SeatFacts
+facts_in s = record { start = s.start; score = s.score; played = s.played.items; opponents = s.opponents.items; latest = s.latest; earlier = s.earlier; may_bye = s.may_bye }

@@ -1,0 +1,173 @@
+// The present players by rank, and what the next round asks of them.
+ghost use Rattle.std.specs.Prelude.{◌≡◌, ◌<◌, ◌≤◌, ◌≤ℤ◌, pos, negsuc, length, if◌then◌else◌, ◌==◌};
+ghost use Rattle.dutch_player.specs.Preferences.{difference, last_two, preference};
+ghost use Rattle.dutch_player.specs.Facts.{seat_at, facts_of};
+ghost use Rattle.dutch_player.specs.Outcomes.{Gives};
+ghost use Rattle.dutch_player.specs.SeatOf.{facts_in};
+ghost use Rattle.dutch_player.specs.Meetings.{is_topscorer, may_meet};
+ghost use Rattle.dutch_player.specs.Colours.{colours};
+
+use crate::colours::{colour_of_higher, with_colour};
+use crate::fault::FieldFault;
+use crate::float::Float;
+use crate::meetings::{clash, have_met};
+use crate::preference::{difference, last_two, preference, Pref};
+use crate::present::seats_of;
+use crate::refusals::total_for;
+use crate::seat::Seat;
+use std::alloc::Global;
+use std::marker::Model;
+use trf16::cell::Colour;
+use trf16::report::Report;
+
+/// The present players by rank: higher score first, then smaller start rank (A.2). A seat is a place in that order, from 0.
+#[derive(Drop)]
+pub struct Field {
+    pub(crate) seats: Vec<Seat>,
+    // the number of the round that is to be paired
+    pub(crate) round: u8,
+    pub(crate) total: u8,
+    pub(crate) initial: Colour,
+}
+
+impl Model for Field {
+    ghost use Rattle.std.specs.Prelude.{map, vec_len, ◌≤◌, ◌<◌};
+    ghost use Rattle.dutch_player.specs.Facts.{Facts, IsRanked};
+    ghost use Rattle.dutch_player.specs.SeatOf.{facts_in};
+
+    ghost Value = { Facts };
+
+    ghost view = { λ f. record { seats = map facts_in f.seats.items; round = f.round; total = f.total; initial = f.initial } };
+
+    ghost invariant = { λ f. (vec_len f.seats ≤ 256) × (0 < f.round) × IsRanked (map facts_in f.seats.items) };
+}
+
+impl Field {
+    /// The present players of a report, as the round behind the last that was paired finds them. A total of rounds or an initial colour
+    /// that is given goes before the report's; the initial colour is white where nothing names it. Why there is no further round is
+    /// told in this order: a game without a result (by the players' lines, then by round), the first line that is not supported, a
+    /// total that is not known, a round behind the total, memory.
+    #[tactic(auto, unfolding(crate::specs::Facts::facts_of))]
+    pub fn new(alloc: Global, report: &Report<'_>, total: Option<u8>, initial: Option<Colour>) -> Result<Field, FieldFault>
+        ensures { Gives result (facts_of report.now total initial) }
+    {
+        let total = total_for(report, total)?;
+        let seats = seats_of(alloc, report)?;
+        Ok(Field {
+            seats,
+            round: report.rounds_played() + 1,
+            total,
+            initial: initial.or(report.initial()).unwrap_or(Colour::White),
+        })
+    }
+
+    /// How many players are present: at most 256.
+    pub fn len(&self) -> usize
+        ensures value { result ≡ length self.now.seats }
+        ensures few { result ≤ 256 }
+    {
+        self.seats.len()
+    }
+
+    fn seat(&self, seat: u16) -> &Seat
+        requires { seat < length self.now.seats }
+        ensures { facts_in result.now ≡ seat_at self.now seat }
+    {
+        &self.seats[usize::from(seat)]
+    }
+
+    /// The start rank, 1 to 9999.
+    pub fn start_rank(&self, seat: u16) -> u16
+        requires { seat < length self.now.seats }
+        ensures { result ≡ (seat_at self.now seat).start }
+    {
+        self.seat(seat).start
+    }
+
+    /// The score in half points (A.2): at most 64.
+    pub fn score(&self, seat: u16) -> u16
+        requires { seat < length self.now.seats }
+        ensures value { result ≡ (seat_at self.now seat).score }
+        ensures few { result ≤ 64 }
+    {
+        self.seat(seat).score
+    }
+
+    /// The float (A.4) in the last round that was paired (1) or in the one before it (2).
+    pub fn float(&self, seat: u16, back: u8) -> Option<Float>
+        requires inside { seat < length self.now.seats }
+        requires one { 1 ≤ back }
+        requires two { back ≤ 2 }
+        ensures { result ≡ (if back == 1 then (seat_at self.now seat).latest else (seat_at self.now seat).earlier) }
+    {
+        let seat = self.seat(seat);
+        if back == 1 { seat.latest } else { seat.earlier }
+    }
+
+    /// The colour difference (A.6): games with white minus games with black, from -32 to 32.
+    pub fn difference(&self, seat: u16) -> i16
+        requires { seat < length self.now.seats }
+        ensures value { result ≡ difference (seat_at self.now seat).played }
+        ensures low { negsuc 31 ≤ℤ result }
+        ensures high { result ≤ℤ pos 32 }
+    {
+        difference(&self.seat(seat).played)
+    }
+
+    /// The colour of the last two games, where there are two and both have it (A.6).
+    pub fn last_two(&self, seat: u16) -> Option<Colour>
+        requires { seat < length self.now.seats }
+        ensures { result ≡ last_two (seat_at self.now seat).played }
+    {
+        last_two(&self.seat(seat).played)
+    }
+
+    /// The colour preference (A.6); none for a player without games.
+    pub fn preference(&self, seat: u16) -> Option<Pref>
+        requires { seat < length self.now.seats }
+        ensures { result ≡ preference (seat_at self.now seat).played }
+    {
+        preference(&self.seat(seat).played)
+    }
+
+    /// Whether the player is a topscorer (A.7): more than half of the points that could be had, and only the last round is left.
+    pub fn topscorer(&self, seat: u16) -> bool
+        requires { seat < length self.now.seats }
+        ensures { result ≡ is_topscorer self.now (seat_at self.now seat) }
+    {
+        self.round == self.total && u16::from(self.round) - 1 < self.seat(seat).score
+    }
+
+    /// Whether two players may meet (C.1, C.3).
+    pub fn may_meet(&self, a: u16, b: u16) -> bool
+        requires first { a < length self.now.seats }
+        requires second { b < length self.now.seats }
+        ensures { result ≡ may_meet self.now a b }
+    {
+        if have_met(self.seat(a), self.seat(b)) {
+            return false;
+        }
+        self.topscorer(a) || self.topscorer(b) || !clash(self.preference(a), self.preference(b))
+    }
+
+    /// Whether the player may have the pairing-allocated bye (C.2).
+    pub fn may_bye(&self, seat: u16) -> bool
+        requires { seat < length self.now.seats }
+        ensures { result ≡ (seat_at self.now seat).may_bye }
+    {
+        self.seat(seat).may_bye
+    }
+
+    /// The seat that has white and the seat that has black (E), of two players in any order.
+    pub fn colours(&self, a: u16, b: u16) -> (u16, u16)
+        requires first { a < length self.now.seats }
+        requires second { b < length self.now.seats }
+        ensures { result ≡ colours self.now a b }
+    {
+        if a < b {
+            with_colour(a, b, colour_of_higher(self.initial, self.seat(a), self.seat(b)))
+        } else {
+            with_colour(b, a, colour_of_higher(self.initial, self.seat(b), self.seat(a)))
+        }
+    }
+}

@@ -1,0 +1,10 @@
+// Floats: who met somebody of another score (C.04.3 A.4).
+
+/// A float of a player in a round.
+#[derive(Debug, Clone, Copy, PartialEq, Eq)]
+pub enum Float {
+    /// He met an opponent with a higher score.
+    Up,
+    /// He met an opponent with a lower score, or did not play.
+    Down,
+}

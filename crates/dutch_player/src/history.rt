@@ -1,0 +1,127 @@
+// What the rounds that were paired say of a player: score, floats, colours, opponents, the bye (C.04.3 A.2, A.4, A.6, C.1, C.2).
+ghost use Rattle.std.specs.Prelude.{◌≡◌, ◌≤◌, ◌*◌, ◌<◌, length, take, IfOk, vec_len};
+ghost use Rattle.std.specs.List.{list_any};
+ghost use Rattle.trf16.specs.Sheet.{cell_at};
+ghost use Rattle.dutch_player.specs.Histories.{score, colour_played, played, opponent_played, opponents, bars_bye, may_bye, float_between, float_by, float_in};
+
+use crate::float::Float;
+use std::alloc::{AllocError, Global};
+use trf16::cell::{Bye, Cell, Colour};
+use trf16::report::Report;
+
+/// The cells of the first rounds.
+pub(crate) fn front(cells: &[Cell], rounds: u8) -> &[Cell]
+    ensures value { result.now ≡ take rounds cells.now }
+    ensures shorter { length result.now ≤ length cells.now }
+{
+    cells.split_at(cells.len().min(usize::from(rounds))).0
+}
+
+/// The half points of some rounds.
+pub(crate) fn score(cells: &[Cell]) -> u16
+    requires { length cells.now ≤ 32 }
+    ensures value { result ≡ score cells.now }
+    ensures few { result ≤ 64 }
+{
+    let mut sum = 0;
+    for cell in cells {
+        sum += cell.half_points();
+    }
+    sum
+}
+
+fn colour_played(cell: &Cell) -> Option<Colour>
+    ensures { result ≡ colour_played cell.now }
+{
+    match cell {
+        Cell::Game { colour, .. } => Some(*colour),
+        _ => None,
+    }
+}
+
+/// The colours of the games played, the last game first.
+pub(crate) fn played(alloc: Global, cells: &[Cell]) -> Result<Vec<Colour>, AllocError>
+    ensures value { IfOk result (λ v. v.items ≡ played cells.now) }
+    ensures shorter { IfOk result (λ v. vec_len v ≤ length cells.now) }
+{
+    cells.iter().rev().filter_map(|cell| colour_played(cell)).collect(alloc)
+}
+
+fn opponent_played(cell: &Cell) -> Option<u16>
+    ensures { result ≡ opponent_played cell.now }
+{
+    match cell {
+        Cell::Game { opponent, .. } => Some(*opponent),
+        _ => None,
+    }
+}
+
+/// The start ranks of those whom the player has met.
+pub(crate) fn opponents(alloc: Global, cells: &[Cell]) -> Result<Vec<u16>, AllocError>
+    ensures { IfOk result (λ v. v.items ≡ opponents cells.now) }
+{
+    cells.iter().filter_map(|cell| opponent_played(cell)).collect(alloc)
+}
+
+fn bars_bye(cell: &Cell) -> bool
+    ensures { result ≡ bars_bye cell.now }
+{
+    match cell {
+        Cell::Bye(Bye::Full | Bye::Allocated) => true,
+        Cell::Forfeit { won, .. } => *won,
+        _ => false,
+    }
+}
+
+fn has_bar(cells: &[Cell]) -> bool
+    ensures { result ≡ list_any bars_bye cells.now }
+{
+    cells.iter().any(|cell| bars_bye(cell))
+}
+
+/// Whether the player may have the pairing-allocated bye.
+pub(crate) fn may_bye(cells: &[Cell]) -> bool
+    ensures { result ≡ may_bye cells.now }
+{
+    !has_bar(cells)
+}
+
+fn float_between(mine: u16, theirs: u16) -> Option<Float>
+    ensures { result ≡ float_between mine theirs }
+{
+    if theirs < mine {
+        return Some(Float::Down);
+    }
+    if mine < theirs { Some(Float::Up) } else { None }
+}
+
+fn cell_at(cells: &[Cell], round: u8) -> Cell
+    requires { 0 < round }
+    ensures { result ≡ cell_at cells.now round }
+{
+    cells
+        .get(usize::from(round) - 1)
+        .copied()
+        .unwrap_or(Cell::Blank)
+}
+
+fn float_by(report: &Report<'_>, cells: &[Cell], before: u8, cell: &Cell) -> Option<Float>
+    requires { length cells.now ≤ 32 }
+    ensures { result ≡ float_by report.now cells.now before cell.now }
+{
+    match cell {
+        Cell::Game { opponent, .. } => float_between(score(front(cells, before)), report.points(*opponent, before)),
+        _ => Some(Float::Down),
+    }
+}
+
+/// The float of a round; before round 1 there is none.
+pub(crate) fn float_in(report: &Report<'_>, cells: &[Cell], round: u8) -> Option<Float>
+    requires { length cells.now ≤ 32 }
+    ensures { result ≡ float_in report.now cells.now round }
+{
+    if round == 0 {
+        return None;
+    }
+    float_by(report, cells, round - 1, &cell_at(cells, round))
+}

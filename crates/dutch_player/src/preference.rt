@@ -1,0 +1,163 @@
+// Colour preferences, from the colours of a player's games, the last game first (C.04.3 A.6).
+ghost use Rattle.std.specs.Prelude.{◌≡◌, ◌≤◌, ◌-ℤ◌, ◌≤ℤ◌, pos, negsuc, length, count_by};
+ghost use Rattle.dutch_player.specs.Preferences.{other, is_white, is_black, is_same, whites, blacks, difference, last_two, mild, strong_or_mild, preference};
+
+use trf16::cell::Colour;
+
+/// How strong a colour preference is.
+#[derive(Debug, Clone, Copy, PartialEq, Eq)]
+pub enum Kind {
+    /// The player must not get the other colour.
+    Absolute,
+    /// A colour difference of one.
+    Strong,
+    /// To alternate.
+    Mild,
+}
+
+/// A colour preference: a kind, and the colour that the player is to get.
+#[derive(Debug, Clone, Copy, PartialEq, Eq)]
+pub struct Pref {
+    pub kind: Kind,
+    pub colour: Colour,
+}
+
+/// The colour of the opponent.
+pub(crate) fn other(colour: Colour) -> Colour
+    ensures { result ≡ other colour }
+{
+    match colour {
+        Colour::White => Colour::Black,
+        Colour::Black => Colour::White,
+    }
+}
+
+fn is_white(colour: &Colour) -> bool
+    ensures { result ≡ is_white colour.now }
+{
+    match colour {
+        Colour::White => true,
+        Colour::Black => false,
+    }
+}
+
+fn is_black(colour: &Colour) -> bool
+    ensures { result ≡ is_black colour.now }
+{
+    match colour {
+        Colour::White => false,
+        Colour::Black => true,
+    }
+}
+
+/// Whether two colours are one.
+pub(crate) fn is_same(mine: Colour, theirs: Colour) -> bool
+    ensures { result ≡ is_same mine theirs }
+{
+    match mine {
+        Colour::White => is_white(&theirs),
+        Colour::Black => is_black(&theirs),
+    }
+}
+
+/// How many games were played with white.
+pub(crate) fn whites(played: &[Colour]) -> usize
+    ensures value { result ≡ whites played.now }
+    ensures within { result ≤ length played.now }
+{
+    played.iter().filter(|colour| is_white(*colour)).count()
+}
+
+/// How many games were played with black.
+pub(crate) fn blacks(played: &[Colour]) -> usize
+    ensures value { result ≡ blacks played.now }
+    ensures within { result ≤ length played.now }
+{
+    played.iter().filter(|colour| is_black(*colour)).count()
+}
+
+/// Games with white minus games with black.
+pub(crate) fn difference(played: &[Colour]) -> i16
+    requires { length played.now ≤ 32 }
+    ensures value { result ≡ difference played.now }
+    ensures low { negsuc 31 ≤ℤ result }
+    ensures high { result ≤ℤ pos 32 }
+{
+    whites(played) as i16 - blacks(played) as i16
+}
+
+/// The colour of the last two games, where there are two and both have it.
+pub(crate) fn last_two(played: &[Colour]) -> Option<Colour>
+    ensures { result ≡ last_two played.now }
+{
+    match played {
+        [last, before, ..] => {
+            if is_same(*last, *before) {
+                Some(*last)
+            } else {
+                None
+            }
+        }
+        _ => None,
+    }
+}
+
+// Mild: to alternate the colour of the last game.
+fn mild(played: &[Colour]) -> Option<Pref>
+    ensures { result ≡ mild played.now }
+{
+    match played {
+        [last, ..] => Some(Pref {
+            kind: Kind::Mild,
+            colour: other(*last),
+        }),
+        _ => None,
+    }
+}
+
+// Strong, or mild where the difference is 0.
+fn strong_or_mild(played: &[Colour]) -> Option<Pref>
+    ensures { result ≡ strong_or_mild played.now }
+{
+    let (whites, blacks) = (whites(played), blacks(played));
+    if blacks < whites {
+        return Some(Pref {
+            kind: Kind::Strong,
+            colour: Colour::Black,
+        });
+    }
+    if whites < blacks {
+        return Some(Pref {
+            kind: Kind::Strong,
+            colour: Colour::White,
+        });
+    }
+    mild(played)
+}
+
+/// The colour preference of a player with these games.
+pub(crate) fn preference(played: &[Colour]) -> Option<Pref>
+    requires { length played.now ≤ 32 }
+    ensures { result ≡ preference played.now }
+{
+    let (whites, blacks) = (whites(played), blacks(played));
+    if blacks + 1 < whites {
+        return Some(Pref {
+            kind: Kind::Absolute,
+            colour: Colour::Black,
+        });
+    }
+    if whites + 1 < blacks {
+        return Some(Pref {
+            kind: Kind::Absolute,
+            colour: Colour::White,
+        });
+    }
+    match last_two(played) {
+        Some(colour) => Some(Pref {
+            kind: Kind::Absolute,
+            colour: other(colour),
+        }),
+        None => strong_or_mild(played),
+    }
+}

@@ -1,0 +1,47 @@
+// The present players of a report, by rank.
+ghost use Rattle.std.specs.Prelude.{◌≡◌, ◌≤◌, [], map, IfOk, vec_len};
+ghost use Rattle.trf16.specs.Sheet.{entry_of, rounds_played};
+ghost use Rattle.dutch_player.specs.SeatOf.{facts_in};
+ghost use Rattle.dutch_player.specs.Facts.{seat_of, seats_of, ranked};
+
+use crate::history::{float_in, front, may_bye, opponents, played, score};
+use crate::ranking::insert_by_rank;
+use crate::seat::Seat;
+use std::alloc::{AllocError, Global};
+use trf16::player::Player;
+use trf16::report::Report;
+
+// What the rounds that were paired make of a player.
+fn seat_of(alloc: Global, report: &Report<'_>, player: &Player<'_>, rounds: u8) -> Result<Seat, AllocError>
+    requires { rounds ≡ rounds_played report.now }
+    ensures { IfOk result (λ seat. facts_in seat ≡ seat_of report.now (entry_of player.now)) }
+{
+    let cells = front(&player.cells, rounds);
+    let played = played(alloc, cells)?;
+    let opponents = opponents(alloc, cells)?;
+    Ok(Seat {
+        start: player.start,
+        score: score(cells),
+        played,
+        opponents,
+        latest: float_in(report, cells, rounds),
+        earlier: float_in(report, cells, rounds.saturating_sub(1)),
+        may_bye: may_bye(cells),
+    })
+}
+
+/// The seats of the present players, by rank.
+pub(crate) fn seats_of(alloc: Global, report: &Report<'_>) -> Result<Vec<Seat>, AllocError>
+    ensures value { IfOk result (λ seats. map facts_in seats.items ≡ ranked [] (seats_of report.now report.now.players)) }
+    ensures few { IfOk result (λ seats. vec_len seats ≤ 256) }
+{
+    let rounds = report.rounds_played();
+    let mut seats = Vec::new(alloc);
+    for player in report.players() {
+        if !report.absent(player.start) {
+            let seat = seat_of(alloc, report, player, rounds)?;
+            insert_by_rank(&mut seats, seat)?;
+        }
+    }
+    Ok(seats)
+}

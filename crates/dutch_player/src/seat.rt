@@ -1,0 +1,23 @@
+// A present player, and his rank among others (C.04.3 A.2).
+ghost use Rattle.std.specs.Prelude.{◌≡◌, ◌≤◌, vec_len};
+
+use crate::float::Float;
+use trf16::cell::Colour;
+
+/// What the rounds that were paired make of a player.
+#[derive(Drop)]
+pub(crate) struct Seat {
+    pub(crate) start: u16,
+    // in half points
+    pub(crate) score: u16,
+    // of the games played, the last game first
+    pub(crate) played: Vec<Colour>,
+    // start ranks of those whom he has met
+    pub(crate) opponents: Vec<u16>,
+    // in the last round, and in the one before it
+    pub(crate) latest: Option<Float>,
+    pub(crate) earlier: Option<Float>,
+    pub(crate) may_bye: bool,
+    ghost few_points: { score ≤ 64 },
+    ghost few_games: { vec_len played ≤ 32 },
+}
