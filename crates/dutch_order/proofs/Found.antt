@@ -2,19 +2,19 @@
 use Rattle.std.proofs.Common.{◌≡◌, ℕ, zero, suc, ◌+◌, ◌-◌, ◌*◌, ◌<◌, ◌≤◌, Bool, true, false, cond, List, [], ◌∷◌, ◌++◌, map, length, refl, sym, ◌∙◌, ap, arith, length-append, Option, Some, None}
 use Rattle.std.specs.List.{filter, flat_map}
 use Rattle.std.proofs.lemmas.List.{append-nil}
-use Rattle.dutch_order.specs.Trials.{Plan, Event, hits, trials, numbers_from, entry, below, after, ahead}
+use Rattle.dutch_order.specs.Trials.{Plan, Event, Tried, Hit, hits, trials, numbers_from, entry, below, after, ahead}
 use Rattle.dutch_order.proofs.Lists.{flat_map-same}
 use Rattle.dutch_order.proofs.Moves.{after-nil}
 
 pub hits-append : (xs ys : List Event) → hits (xs ++ ys) ≡ hits xs ++ hits ys
 hits-append [] ys = refl
-hits-append (None ∷ xs) ys = hits-append xs ys
-hits-append (Some path ∷ xs) ys = ap (λ rest. path ∷ rest) (hits-append xs ys)
+hits-append (Tried beyond ∷ xs) ys = hits-append xs ys
+hits-append (Hit path ∷ xs) ys = ap (λ rest. path ∷ rest) (hits-append xs ys)
 
 pub trials-append : (xs ys : List Event) → trials (xs ++ ys) ≡ trials xs + trials ys
 trials-append [] ys = omega arith
-trials-append (None ∷ xs) ys = omega (arith, trials-append xs ys)
-trials-append (Some path ∷ xs) ys = trials-append xs ys
+trials-append (Tried beyond ∷ xs) ys = omega (arith, trials-append xs ys)
+trials-append (Hit path ∷ xs) ys = trials-append xs ys
 
 pub hits-flat_map : (f : ℕ → List Event) (xs : List ℕ) → hits (flat_map f xs) ≡ flat_map (λ x. hits (f x)) xs
 hits-flat_map f [] = refl
@@ -24,14 +24,14 @@ hits-flat_map f (x ∷ xs) = hits-append (f x) (flat_map f xs) ∙ ap (λ rest. 
 abbrev pub found : Plan → ℕ → List ℕ → List (List ℕ)
 found plan open_places path = hits (below plan open_places path (entry plan open_places path))
 
-hits-cond : (b : Bool) (events : List Event) → hits (None ∷ cond b events []) ≡ cond b (hits events) []
-hits-cond true events = refl
-hits-cond false events = refl
+hits-cond : (beyond : Option ℕ) (b : Bool) (events : List Event) → hits (Tried beyond ∷ cond b events []) ≡ cond b (hits events) []
+hits-cond beyond true events = refl
+hits-cond beyond false events = refl
 
 -- what the trial of one number brings
 tried_at : Plan → ℕ → List ℕ → ℕ → List Event
 tried_at plan open_places path tried =
-    None ∷ cond (plan.fits path tried) (below plan open_places (path ++ tried ∷ []) (entry plan open_places (path ++ tried ∷ []))) []
+    Tried (plan.beyond path tried) ∷ cond (plan.fits path tried) (below plan open_places (path ++ tried ∷ []) (entry plan open_places (path ++ tried ∷ []))) []
 
 -- the whole paths below a path are those below each number that fits
 pub found-suc : (plan : Plan) (open_places : ℕ) (path : List ℕ) → found plan (suc open_places) path ≡ flat_map (λ tried. cond (plan.fits path tried) (found plan open_places (path ++ tried ∷ [])) []) (numbers_from (plan.start path) (plan.stop path - plan.start path))
@@ -39,7 +39,7 @@ unfolding below tried_at
 found-suc plan open_places path =
     hits-flat_map (tried_at plan open_places path) (numbers_from (plan.start path) (plan.stop path - plan.start path))
     ∙ flat_map-same (λ tried. hits (tried_at plan open_places path tried)) (λ tried. cond (plan.fits path tried) (found plan open_places (path ++ tried ∷ [])) []) (numbers_from (plan.start path) (plan.stop path - plan.start path))
-    (λ tried. hits-cond (plan.fits path tried) (below plan open_places (path ++ tried ∷ []) (entry plan open_places (path ++ tried ∷ []))))
+    (λ tried. hits-cond (plan.beyond path tried) (plan.fits path tried) (below plan open_places (path ++ tried ∷ []) (entry plan open_places (path ++ tried ∷ []))))
 
 pub found-zero : (plan : Plan) (path : List ℕ) → found plan zero path ≡ path ∷ []
 unfolding below
@@ -54,9 +54,9 @@ ahead-new plan =
     ∙ ap (λ events. below plan plan.places [] (entry plan plan.places []) ++ events) (after-nil plan plan.places [])
     ∙ append-nil (below plan plan.places [] (entry plan plan.places []))
 
-deeper-one : (width : ℕ) (fits : Bool) (deep flat : List Event) (paths : List (List ℕ)) → trials deep ≡ trials flat + width * length paths → trials (None ∷ cond fits deep []) ≡ trials (None ∷ cond fits flat []) + width * length (cond fits paths [])
-deeper-one width true deep flat paths same = omega (arith, same)
-deeper-one width false deep flat paths same = omega arith
+deeper-one : (beyond : Option ℕ) (width : ℕ) (fits : Bool) (deep flat : List Event) (paths : List (List ℕ)) → trials deep ≡ trials flat + width * length paths → trials (Tried beyond ∷ cond fits deep []) ≡ trials (Tried beyond ∷ cond fits flat []) + width * length (cond fits paths [])
+deeper-one beyond width true deep flat paths same = omega (arith, same)
+deeper-one beyond width false deep flat paths same = omega arith
 
 spread : (w a b : ℕ) → w * a + w * b ≡ w * (a + b)
 spread w a b = omega arith
@@ -74,7 +74,7 @@ deeper-sum plan width open_places path each (x ∷ numbers) =
     (trials-append (tried_at plan (suc open_places) path x) (flat_map (tried_at plan (suc open_places) path) numbers))
     (trials-append (tried_at plan open_places path x) (flat_map (tried_at plan open_places path) numbers))
     (length-append (cond (plan.fits path x) (found plan open_places (path ++ x ∷ [])) []) (flat_map (λ tried. cond (plan.fits path tried) (found plan open_places (path ++ tried ∷ [])) []) numbers))
-    (deeper-one width (plan.fits path x) (below plan (suc open_places) (path ++ x ∷ []) (entry plan (suc open_places) (path ++ x ∷ []))) (below plan open_places (path ++ x ∷ []) (entry plan open_places (path ++ x ∷ []))) (found plan open_places (path ++ x ∷ [])) (each x))
+    (deeper-one (plan.beyond path x) width (plan.fits path x) (below plan (suc open_places) (path ++ x ∷ []) (entry plan (suc open_places) (path ++ x ∷ []))) (below plan open_places (path ++ x ∷ []) (entry plan open_places (path ++ x ∷ []))) (found plan open_places (path ++ x ∷ [])) (each x))
     (deeper-sum plan width open_places path each numbers)
 
 -- where each place has the same numbers to try, one place more costs a trial of each of them for each path found
@@ -95,7 +95,7 @@ module _ (plan : Plan) (width : ℕ) (starts : (path : List ℕ) → plan.start 
   unfolding tried_at below
   trials-flat path first zero = refl
   trials-flat path first (suc count) =
-      elim (plan.fits path first) as (λ fit. trials (None ∷ (cond fit (Some (path ++ first ∷ []) ∷ []) [] ++ flat_map (tried_at plan 0 path) (numbers_from (suc first) count))) ≡ suc count) [
+      elim (plan.fits path first) as (λ fit. trials (Tried (plan.beyond path first) ∷ (cond fit (Hit (path ++ first ∷ []) ∷ []) [] ++ flat_map (tried_at plan 0 path) (numbers_from (suc first) count))) ≡ suc count) [
         true ↦ omega (arith, trials-flat path (suc first) count)
       | false ↦ omega (arith, trials-flat path (suc first) count)
       ]

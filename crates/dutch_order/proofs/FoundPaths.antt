@@ -14,7 +14,7 @@ numbers-in x first zero m = absurd m
 numbers-in x first (suc count) (inl same) = (omega arith, omega arith)
 numbers-in x first (suc count) (inr m) = let rest = numbers-in x (suc first) count m in (omega arith, omega arith)
 
-in-numbers : (x first count : ℕ) → first ≤ x → x < first + count → IsIn x (numbers_from first count)
+pub in-numbers : (x first count : ℕ) → first ≤ x → x < first + count → IsIn x (numbers_from first count)
 in-numbers x first zero from below = absurd (omega arith)
 in-numbers x first (suc count) from below =
     elim (cases_eq x first) [

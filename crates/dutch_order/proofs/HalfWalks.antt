@@ -1,5 +1,5 @@
 -- The paths of a search of two halves.
-use Rattle.std.proofs.Common.{◌≡◌, ℕ, zero, suc, ◌+◌, ◌-◌, ◌<◌, ◌≤◌, Bool, true, false, ◌||◌, ◌==◌, nat_lt, cond, List, [], ◌∷◌, ◌++◌, length, get_or, refl, sym, ◌∙◌, ap, append_assoc, arith, length-append, subst, if◌then◌else◌, zero-add, take, drop}
+use Rattle.std.proofs.Common.{◌≡◌, ℕ, zero, suc, ◌+◌, ◌-◌, ◌<◌, ◌≤◌, Bool, true, false, ◌||◌, ◌==◌, nat_lt, cond, List, [], ◌∷◌, ◌++◌, length, get_or, refl, sym, ◌∙◌, ap, append_assoc, arith, length-append, subst, if◌then◌else◌, zero-add, take, drop, Option}
 use Rattle.std.specs.List.{AllByRecursion}
 use Rattle.dutch_order.specs.Walks.{Walked}
 use Rattle.std.proofs.lemmas.List.{append-nil}
@@ -128,10 +128,10 @@ pub record Halved (fits : List ℕ → ℕ → Bool) (half first_count second_co
   pub front_length : length front ≡ half
   pub back_length : length back ≡ half
 
-module _ (half first_count second_count : ℕ) (fits : List ℕ → ℕ → Bool) where
-  pub halves-split : (path : List ℕ) → Admitted (two_halves half first_count second_count fits) (half + half) [] path → (front : List ℕ) × (back : List ℕ) × (path ≡ front ++ back) × Halved fits half first_count second_count front back
+module _ (half first_count second_count : ℕ) (fits : List ℕ → ℕ → Bool) (beyond : List ℕ → ℕ → Option ℕ) where
+  pub halves-split : (path : List ℕ) → Admitted (two_halves half first_count second_count fits beyond) (half + half) [] path → (front : List ℕ) × (back : List ℕ) × (path ≡ front ++ back) × Halved fits half first_count second_count front back
   halves-split path admitted =
-      let plan : Plan = two_halves half first_count second_count fits in
+      let plan : Plan = two_halves half first_count second_count fits beyond in
       let parts = Admitted-split plan half half (half + half) [] path refl admitted in
       let one = half-climbs plan 0 half first_count (λ begun x later more. start-on half begun x (λ e. omega arith)) (λ begun later more. stop-first half first_count second_count begun more) half [] parts.0 0 (omega arith) (omega arith) (λ more. refl) parts.3 in
       let two = half-climbs plan half (half + half) second_count (λ begun x later more. start-on half begun x (λ e. omega arith)) (λ begun later more. stop-second half first_count second_count begun later) half parts.0 parts.1 0 (omega (arith, one.2)) (omega (arith, one.2)) (λ more. start-second half parts.0 one.2) parts.4 in
@@ -139,29 +139,29 @@ module _ (half first_count second_count : ℕ) (fits : List ℕ → ℕ → Bool
         front_climbs = one.0; back_climbs = two.0; front_fits = one.1; back_fits = two.1; front_length = one.2; back_length = two.2
       })
 
-  pub halves-join : (front back : List ℕ) → Halved fits half first_count second_count front back → Admitted (two_halves half first_count second_count fits) (half + half) [] (front ++ back)
+  pub halves-join : (front back : List ℕ) → Halved fits half first_count second_count front back → Admitted (two_halves half first_count second_count fits beyond) (half + half) [] (front ++ back)
   halves-join front back halved =
-      let plan : Plan = two_halves half first_count second_count fits in
+      let plan : Plan = two_halves half first_count second_count fits beyond in
       Admitted-join plan half half (half + half) [] front back refl
       (half-admitted plan 0 half first_count (λ begun x later more. start-on half begun x (λ e. omega arith)) (λ begun later more. stop-first half first_count second_count begun more) half [] front 0 (omega arith) (omega arith) (λ more. refl) halved.front_climbs halved.front_fits halved.front_length)
       (half-admitted plan half (half + half) second_count (λ begun x later more. start-on half begun x (λ e. omega arith)) (λ begun later more. stop-second half first_count second_count begun later) half front back 0 (omega (arith, halved.front_length)) (omega (arith, halved.front_length)) (λ more. start-second half front halved.front_length) halved.back_climbs halved.back_fits halved.back_length)
 
 -- the two halves of a path that a search has walked are below their counts
-module _ (half first_count second_count : ℕ) (fits : List ℕ → ℕ → Bool) where
-  pub Walked-second : (begun path : List ℕ) → half ≤ length begun → Walked (two_halves half first_count second_count fits) begun path → AllByRecursion (λ place. place < second_count) path
+module _ (half first_count second_count : ℕ) (fits : List ℕ → ℕ → Bool) (beyond : List ℕ → ℕ → Option ℕ) where
+  pub Walked-second : (begun path : List ℕ) → half ≤ length begun → Walked (two_halves half first_count second_count fits beyond) begun path → AllByRecursion (λ place. place < second_count) path
   Walked-second begun [] later walked = tt
   Walked-second begun (x ∷ path) later walked =
       (omega (arith, walked.0, stop-second half first_count second_count begun later),
       Walked-second (begun ++ x ∷ []) path (omega (arith, length-append begun (x ∷ []))) walked.1)
 
-  pub Walked-first : (m : ℕ) (begun path : List ℕ) → length begun + m ≡ half → Walked (two_halves half first_count second_count fits) begun path → AllByRecursion (λ place. place < first_count) (take m path) × AllByRecursion (λ place. place < second_count) (drop m path)
+  pub Walked-first : (m : ℕ) (begun path : List ℕ) → length begun + m ≡ half → Walked (two_halves half first_count second_count fits beyond) begun path → AllByRecursion (λ place. place < first_count) (take m path) × AllByRecursion (λ place. place < second_count) (drop m path)
   Walked-first zero begun path whole walked = (tt, Walked-second begun path (omega arith) walked)
   Walked-first (suc m) begun [] whole walked = (tt, tt)
   Walked-first (suc m) begun (x ∷ path) whole walked =
       let rest = Walked-first m (begun ++ x ∷ []) path (omega (arith, whole, length-append begun (x ∷ []))) walked.1 in
       ((omega (arith, walked.0, stop-first half first_count second_count begun (omega arith)), rest.0), rest.1)
 
-  pub Walked-halves : (path : List ℕ) → Walked (two_halves half first_count second_count fits) [] path → AllByRecursion (λ place. place < first_count) (take half path) × AllByRecursion (λ place. place < second_count) (drop half path)
+  pub Walked-halves : (path : List ℕ) → Walked (two_halves half first_count second_count fits beyond) [] path → AllByRecursion (λ place. place < first_count) (take half path) × AllByRecursion (λ place. place < second_count) (drop half path)
   Walked-halves path walked = Walked-first half [] path (omega arith) walked
 
 pub take_short : (n : ℕ) (xs : List ℕ) → length xs ≤ n → take n xs ≡ xs

@@ -1,5 +1,5 @@
 -- The search of sets of moved-down players finds all sets, by their keys.
-use Rattle.std.proofs.Common.{◌≡◌, ℕ, zero, suc, ◌+◌, ◌-◌, ◌<◌, ◌≤◌, Bool, true, false, not, ◌&&◌, ◌||◌, eqb, ◌==◌, nat_lt, cond, List, [], ◌∷◌, ◌++◌, map, length, get_or, drop, take, refl, sym, ◌∙◌, ap, append_assoc, arith, length-append, subst, ◌⊎◌, inl, inr, slice_index, if◌then◌else◌, zero-add}
+use Rattle.std.proofs.Common.{◌≡◌, ℕ, zero, suc, ◌+◌, ◌-◌, ◌<◌, ◌≤◌, Bool, true, false, not, ◌&&◌, ◌||◌, eqb, ◌==◌, nat_lt, cond, List, [], ◌∷◌, ◌++◌, map, length, get_or, drop, take, refl, sym, ◌∙◌, ap, append_assoc, arith, length-append, subst, ◌⊎◌, inl, inr, slice_index, if◌then◌else◌, zero-add, None}
 use Rattle.std.specs.List.{slice_range}
 use Rattle.std.proofs.lemmas.List.{append-nil, length-map, get_or_past}
 use Rattle.std.proofs.lemmas.Simd.{map-map}
@@ -272,8 +272,8 @@ module _ (scores : List ℕ) (k : ℕ) (falls : IsNonAscending scores) where
     limbo-order p q m n h =
         let found_p = found-admitted plan (k + k) [] p m in
         let found_q = found-admitted plan (k + k) [] q n in
-        let halves_p = halves-split k (length scores) (length scores) fits found_p.0 found_p.2 in
-        let halves_q = halves-split k (length scores) (length scores) fits found_q.0 found_q.2 in
+        let halves_p = halves-split k (length scores) (length scores) fits (λ path place. None) found_p.0 found_p.2 in
+        let halves_q = halves-split k (length scores) (length scores) fits (λ path place. None) found_q.0 found_q.2 in
         let C : List ℕ = halves_p.0 in let A : List ℕ = halves_p.1 in
         let D : List ℕ = halves_q.0 in let B : List ℕ = halves_q.1 in
         let p_is : p ≡ C ++ A = found_p.1 ∙ halves_p.2 in
@@ -311,7 +311,7 @@ module _ (scores : List ℕ) (k : ℕ) (falls : IsNonAscending scores) where
     found-set set m =
         let from = IsIn-map (second_numbers k) set (found plan (k + k) []) m in
         let path = found-admitted plan (k + k) [] from.0 from.2 in
-        let halves = halves-split k (length scores) (length scores) fits path.0 path.2 in
+        let halves = halves-split k (length scores) (length scores) fits (λ path place. None) path.0 path.2 in
         let is : set ≡ numbers_of halves.1 = from.1 ∙ ap (second_numbers k) (path.1 ∙ halves.2) ∙ ap numbers_of (drop_front halves.0 halves.1 k halves.3.front_length) in
         subst (IsIn set) (sym all_sets)
         (subst (λ z. IsIn z (map numbers_of (subsets (numbers_from 0 (length scores)) k))) (sym is)
@@ -332,7 +332,7 @@ module _ (scores : List ℕ) (k : ℕ) (falls : IsNonAscending scores) where
           back_fits = subst (λ c. AllFit fits c A) (append-nil C) (second-fits [] C [] A 0 long refl (sym front.3) within);
           front_length = long; back_length = climbs.1
         } in
-        let there : IsIn (C ++ A) (found plan (k + k) []) = admitted-found plan (k + k) [] (C ++ A) (halves-join k (length scores) (length scores) fits C A halved) in
+        let there : IsIn (C ++ A) (found plan (k + k) []) = admitted-found plan (k + k) [] (C ++ A) (halves-join k (length scores) (length scores) fits (λ path place. None) C A halved) in
         subst (λ z. IsIn z (map (second_numbers k) (found plan (k + k) []))) (ap numbers_of (drop_front C A k long) ∙ sym from.1)
         (map-IsIn (second_numbers k) (C ++ A) (found plan (k + k) []) there)
 

@@ -2,7 +2,7 @@
 use Rattle.std.proofs.Common.{◌≡◌, ℕ, zero, suc, ◌+◌, ◌-◌, ◌<◌, ◌≤◌, Bool, true, false, cond, List, [], ◌∷◌, ◌++◌, length, refl, sym, ◌∙◌, ap, append_assoc, arith, length-append, Option, Some, None, subst, take, drop}
 use Rattle.std.specs.List.{flat_map, AllByRecursion}
 use Rattle.std.proofs.lemmas.List.{append-nil}
-use Rattle.dutch_order.specs.Trials.{Plan, Event, numbers_from, entry, below, after, ahead, trials}
+use Rattle.dutch_order.specs.Trials.{Plan, Event, Tried, Hit, numbers_from, entry, below, after, ahead, trials}
 use Rattle.dutch_order.specs.Walks.{Walked}
 
 -- nothing follows the empty path
@@ -22,7 +22,7 @@ numbers_from-none number stop h =
 -- what the trial of one number brings
 brings : Plan → ℕ → List ℕ → ℕ → List Event
 brings plan open_places path tried =
-    None ∷ cond (plan.fits path tried) (below plan open_places (path ++ tried ∷ []) (entry plan open_places (path ++ tried ∷ []))) []
+    Tried (plan.beyond path tried) ∷ cond (plan.fits path tried) (below plan open_places (path ++ tried ∷ []) (entry plan open_places (path ++ tried ∷ []))) []
 
 below-step : (plan : Plan) (open_places : ℕ) (path : List ℕ) (number : ℕ) → number < plan.stop path → below plan (suc open_places) path number ≡ brings plan open_places path number ++ below plan (suc open_places) path (suc number)
 unfolding below brings
@@ -77,14 +77,14 @@ module _ (plan : Plan) (path : List ℕ) (opened : length path < plan.places) wh
       (sym one_open)
 
   -- a number that does not fit is passed
-  pub ahead-pass : (number : ℕ) → number < plan.stop path → plan.fits path number ≡ false → ahead plan path number ≡ None ∷ ahead plan path (number + 1)
+  pub ahead-pass : (number : ℕ) → number < plan.stop path → plan.fits path number ≡ false → ahead plan path number ≡ Tried (plan.beyond path number) ∷ ahead plan path (number + 1)
   unfolding brings
   ahead-pass number tried barred =
       ahead-step number tried
       ∙ ap
-      (λ fit. (None ∷ cond fit (below plan (plan.places - suc (length path)) (path ++ number ∷ []) (entry plan (plan.places - suc (length path)) (path ++ number ∷ []))) []) ++ ahead plan path (suc number))
+      (λ fit. (Tried (plan.beyond path number) ∷ cond fit (below plan (plan.places - suc (length path)) (path ++ number ∷ []) (entry plan (plan.places - suc (length path)) (path ++ number ∷ []))) []) ++ ahead plan path (suc number))
       barred
-      ∙ ap (λ next. None ∷ ahead plan path next) (omega arith)
+      ∙ ap (λ next. Tried (plan.beyond path number) ∷ ahead plan path next) (omega arith)
 
   -- a place that is still tried has a trial ahead
   pub trials-positive : (number : ℕ) → number < plan.stop path → 0 < trials (ahead plan path number)
@@ -99,23 +99,23 @@ module _ (plan : Plan) (path : List ℕ) (opened : length path < plan.places) wh
       ∙ ap (λ events. below plan (plan.places - suc (length path)) (path ++ number ∷ []) next ++ events) (after-push plan plan.places [] path number opened)
 
   -- a number that fits is taken
-  pub ahead-take : (number : ℕ) → number < plan.stop path → plan.fits path number ≡ true → ahead plan path number ≡ None ∷ ahead plan (path ++ number ∷ []) (entry plan (plan.places - suc (length path)) (path ++ number ∷ []))
+  pub ahead-take : (number : ℕ) → number < plan.stop path → plan.fits path number ≡ true → ahead plan path number ≡ Tried (plan.beyond path number) ∷ ahead plan (path ++ number ∷ []) (entry plan (plan.places - suc (length path)) (path ++ number ∷ []))
   unfolding brings
   ahead-take number tried fit =
       ahead-step number tried
       ∙ ap
-      (λ fits'. (None ∷ cond fits' (below plan (plan.places - suc (length path)) (path ++ number ∷ []) (entry plan (plan.places - suc (length path)) (path ++ number ∷ []))) []) ++ ahead plan path (suc number))
+      (λ fits'. (Tried (plan.beyond path number) ∷ cond fits' (below plan (plan.places - suc (length path)) (path ++ number ∷ []) (entry plan (plan.places - suc (length path)) (path ++ number ∷ []))) []) ++ ahead plan path (suc number))
       fit
-      ∙ ap (λ events. None ∷ events) (sym (ahead-push number (entry plan (plan.places - suc (length path)) (path ++ number ∷ []))))
+      ∙ ap (λ events. Tried (plan.beyond path number) ∷ events) (sym (ahead-push number (entry plan (plan.places - suc (length path)) (path ++ number ∷ []))))
 
   -- the same, at the path and the number that the code has then
-  pub ahead-taken : (number : ℕ) (longer : List ℕ) (next : ℕ) → number < plan.stop path → plan.fits path number ≡ true → longer ≡ path ++ number ∷ [] → next ≡ entry plan (plan.places - length longer) longer → ahead plan path number ≡ None ∷ ahead plan longer next
+  pub ahead-taken : (number : ℕ) (longer : List ℕ) (next : ℕ) → number < plan.stop path → plan.fits path number ≡ true → longer ≡ path ++ number ∷ [] → next ≡ entry plan (plan.places - length longer) longer → ahead plan path number ≡ Tried (plan.beyond path number) ∷ ahead plan longer next
   ahead-taken number longer next tried fit is_longer is_next =
       let left : plan.places - suc (length path) ≡ plan.places - length longer = omega (arith, length-append path (number ∷ []), ap length is_longer) in
       ahead-take number tried fit
-      ∙ ap (λ path'. None ∷ ahead plan path' (entry plan (plan.places - suc (length path)) path')) (sym is_longer)
-      ∙ ap (λ open_places. None ∷ ahead plan longer (entry plan open_places longer)) left
-      ∙ ap (λ number'. None ∷ ahead plan longer number') (sym is_next)
+      ∙ ap (λ path'. Tried (plan.beyond path number) ∷ ahead plan path' (entry plan (plan.places - suc (length path)) path')) (sym is_longer)
+      ∙ ap (λ open_places. Tried (plan.beyond path number) ∷ ahead plan longer (entry plan open_places longer)) left
+      ∙ ap (λ number'. Tried (plan.beyond path number) ∷ ahead plan longer number') (sym is_next)
 
   -- where nothing is left below a path, its last number is passed
   pub ahead-back : (number next : ℕ) → below plan (plan.places - suc (length path)) (path ++ number ∷ []) next ≡ [] → ahead plan (path ++ number ∷ []) next ≡ ahead plan path (number + 1)
@@ -125,12 +125,12 @@ module _ (plan : Plan) (path : List ℕ) (opened : length path < plan.places) wh
       ∙ ap (ahead plan path) (omega arith)
 
 -- a whole path is found once
-pub ahead-found : (plan : Plan) (path : List ℕ) → length path ≡ plan.places → ahead plan path 0 ≡ Some path ∷ ahead plan path 1
+pub ahead-found : (plan : Plan) (path : List ℕ) → length path ≡ plan.places → ahead plan path 0 ≡ Hit path ∷ ahead plan path 1
 unfolding ahead below
 ahead-found plan path whole =
     let none : plan.places - length path ≡ 0 = omega arith in
     ap (λ left. below plan left path 0 ++ after plan plan.places [] path) none
-    ∙ ap (λ left. Some path ∷ (below plan left path 1 ++ after plan plan.places [] path)) (sym none)
+    ∙ ap (λ left. Hit path ∷ (below plan left path 1 ++ after plan plan.places [] path)) (sym none)
 
 pub spent-place : (plan : Plan) (path : List ℕ) (number : ℕ) → length path < plan.places → plan.stop path ≤ number → below plan (plan.places - length path) path number ≡ []
 spent-place plan path number opened passed =
@@ -166,7 +166,7 @@ ahead-ended plan [] after_pop number same empty none =
 ahead-ended plan (first ∷ path) after_pop number same empty none = absurd (omega arith)
 
 -- a whole path that was not handed out yet
-pub ahead-whole : (plan : Plan) (path : List ℕ) (number : ℕ) → length path ≡ plan.places → number ≡ 0 → ahead plan path number ≡ Some path ∷ ahead plan path 1
+pub ahead-whole : (plan : Plan) (path : List ℕ) (number : ℕ) → length path ≡ plan.places → number ≡ 0 → ahead plan path number ≡ Hit path ∷ ahead plan path 1
 ahead-whole plan path number whole fresh = ap (ahead plan path) fresh ∙ ahead-found plan path whole
 
 -- a path that goes on, and one that loses its last number

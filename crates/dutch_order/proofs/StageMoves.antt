@@ -1,9 +1,111 @@
 -- What is to come of exchanges, from one stage to the next.
-use Rattle.std.proofs.Common.{◌≡◌, ℕ, zero, suc, ◌+◌, ◌-◌, ◌<◌, ◌≤◌, min, List, [], ◌∷◌, ◌++◌, map, length, refl, sym, ◌∙◌, ap, append_assoc, arith}
-use Rattle.dutch_order.specs.Trials.{ahead, hits, trials}
-use Rattle.dutch_order.specs.Stages.{exchange_plan, set_of, stage_sets, sets_of_stages, sets_of_sizes, trials_of_stages, trials_of_sizes, stages_of, stages_of_sizes, least_difference, greatest_difference, most_exchanged, sets_ahead, trials_ahead, stages_ahead}
+use Rattle.std.proofs.Common.{◌≡◌, ℕ, zero, suc, ◌+◌, ◌-◌, ◌<◌, ◌≤◌, Bool, true, false, ◌&&◌, nat_lt, nat_le, min, List, [], ◌∷◌, ◌++◌, map, length, refl, sym, ◌∙◌, ap, append_assoc, arith, Option, Some, None, ◌⊎◌, inl, inr, subst, if◌then◌else◌}
+use Rattle.std.proofs.lemmas.Bool.{eq-eqb, ne_eqb, eqb-true, cases_Bool, and_parts, and_from, ltb-true, leb-true, lt-ltb, le-leb}
+use Rattle.dutch_order.specs.Trials.{ahead, hits, trials, lower, lowest}
+use Rattle.dutch_order.specs.Stages.{exchange_plan, set_of, stage_sets, sets_of_stages, sets_of_sizes, trials_of_stages, trials_of_sizes, stages_of, stages_of_sizes, least_difference, greatest_difference, most_exchanged, sets_ahead, trials_ahead, stages_ahead, is_next, following}
 
-module _ (pool : List ℕ) (k size difference : ℕ) (path : List ℕ) (place : ℕ) (spent : ahead (exchange_plan pool k size difference) path place ≡ []) where
+pub lower-none : (o : Option ℕ) → lower o None ≡ o
+lower-none None = refl
+lower-none (Some x) = refl
+
+pub is_next-some : (difference : ℕ) (next : Option ℕ) → is_next difference next ≡ true → next ≡ Some difference
+is_next-some difference None h = cc
+is_next-some difference (Some next) h = ap Some (eqb-true next difference h)
+
+-- what follows
+pub following-some : (difference greatest n : ℕ) (beyond : Option ℕ) → following difference greatest beyond ≡ Some n → (beyond ≡ Some n) × (difference < n) × (n ≤ greatest)
+following-some difference greatest n None h = cc
+following-some difference greatest n (Some next) h =
+    elim (cases_Bool (nat_lt difference next && nat_le next greatest)) [
+      inl is_it ↦
+        let same : Some next ≡ Some n = sym (ap (λ b. if b then Some next else None) is_it) ∙ h in
+        let equal : next ≡ n = cc in
+        let parts = and_parts (nat_lt difference next) (nat_le next greatest) is_it in
+        let low : difference < next = ltb-true difference next parts.0 in
+        let high : next ≤ greatest = leb-true next greatest parts.1 in
+        (ap Some equal, omega arith, omega arith)
+    | inr is_not ↦ (let none : None ≡ Some n = sym (ap (λ b. if b then Some next else None) is_not) ∙ h in cc)
+    ]
+
+pub following-none : (difference greatest n : ℕ) (beyond : Option ℕ) → following difference greatest beyond ≡ None → beyond ≡ Some n → difference < n → n ≤ greatest → ⊥
+following-none difference greatest n beyond h is low high =
+    let yes : (nat_lt difference n && nat_le n greatest) ≡ true = and_from (nat_lt difference n) (nat_le n greatest) (lt-ltb difference n low) (le-leb n greatest high) in
+    let none : Some n ≡ None = sym (ap (λ b. if b then Some n else None) yes) ∙ sym (ap (following difference greatest) is) ∙ h in
+    cc
+
+zero_plus : (n : ℕ) → 0 + n ≡ n
+zero_plus n = omega arith
+
+plus_assoc : (a b c : ℕ) → a + (b + c) ≡ (a + b) + c
+plus_assoc a b c = omega arith
+
+module _ (pool : List ℕ) (k size : ℕ) where
+  -- the stages before the next one are passed over
+  sets-skip : (gap count difference : ℕ) → sets_of_stages pool k (gap + suc count) size difference (Some (difference + gap)) ≡ stage_sets pool k size (difference + gap) [] 0 ++ sets_of_stages pool k count size (suc (difference + gap)) (lowest (ahead (exchange_plan pool k size (difference + gap)) [] 0))
+  unfolding sets_of_stages
+  sets-skip zero count difference =
+      let here : difference + 0 ≡ difference = omega arith in
+      ap (λ n. sets_of_stages pool k n size difference (Some (difference + 0))) (let e : 0 + suc count ≡ suc count = omega arith in e)
+      ∙ ap (λ b. if b then (stage_sets pool k size difference [] 0 ++ sets_of_stages pool k count size (suc difference) (lowest (ahead (exchange_plan pool k size difference) [] 0))) else sets_of_stages pool k count size (suc difference) (Some (difference + 0))) (eq-eqb (difference + 0) difference here)
+      ∙ ap (λ d. stage_sets pool k size d [] 0 ++ sets_of_stages pool k count size (suc d) (lowest (ahead (exchange_plan pool k size d) [] 0))) (sym here)
+  sets-skip (suc gap) count difference =
+      let moved : difference + suc gap ≡ suc difference + gap = omega arith in
+      ap (λ n. sets_of_stages pool k n size difference (Some (difference + suc gap))) (let e : suc gap + suc count ≡ suc (gap + suc count) = omega arith in e)
+      ∙ ap (λ b. if b then (stage_sets pool k size difference [] 0 ++ sets_of_stages pool k (gap + suc count) size (suc difference) (lowest (ahead (exchange_plan pool k size difference) [] 0))) else sets_of_stages pool k (gap + suc count) size (suc difference) (Some (difference + suc gap))) (ne_eqb (difference + suc gap) difference (λ e. omega arith))
+      ∙ ap (λ d. sets_of_stages pool k (gap + suc count) size (suc difference) (Some d)) moved
+      ∙ sets-skip gap count (suc difference)
+      ∙ ap (λ d. stage_sets pool k size d [] 0 ++ sets_of_stages pool k count size (suc d) (lowest (ahead (exchange_plan pool k size d) [] 0))) (sym moved)
+
+  trials-skip : (gap count difference : ℕ) → trials_of_stages pool k (gap + suc count) size difference (Some (difference + gap)) ≡ trials (ahead (exchange_plan pool k size (difference + gap)) [] 0) + trials_of_stages pool k count size (suc (difference + gap)) (lowest (ahead (exchange_plan pool k size (difference + gap)) [] 0))
+  unfolding trials_of_stages
+  trials-skip zero count difference =
+      let here : difference + 0 ≡ difference = omega arith in
+      ap (λ n. trials_of_stages pool k n size difference (Some (difference + 0))) (let e : 0 + suc count ≡ suc count = omega arith in e)
+      ∙ ap (λ b. if b then (trials (ahead (exchange_plan pool k size difference) [] 0) + trials_of_stages pool k count size (suc difference) (lowest (ahead (exchange_plan pool k size difference) [] 0))) else trials_of_stages pool k count size (suc difference) (Some (difference + 0))) (eq-eqb (difference + 0) difference here)
+      ∙ ap (λ d. trials (ahead (exchange_plan pool k size d) [] 0) + trials_of_stages pool k count size (suc d) (lowest (ahead (exchange_plan pool k size d) [] 0))) (sym here)
+  trials-skip (suc gap) count difference =
+      let moved : difference + suc gap ≡ suc difference + gap = omega arith in
+      ap (λ n. trials_of_stages pool k n size difference (Some (difference + suc gap))) (let e : suc gap + suc count ≡ suc (gap + suc count) = omega arith in e)
+      ∙ ap (λ b. if b then (trials (ahead (exchange_plan pool k size difference) [] 0) + trials_of_stages pool k (gap + suc count) size (suc difference) (lowest (ahead (exchange_plan pool k size difference) [] 0))) else trials_of_stages pool k (gap + suc count) size (suc difference) (Some (difference + suc gap))) (ne_eqb (difference + suc gap) difference (λ e. omega arith))
+      ∙ ap (λ d. trials_of_stages pool k (gap + suc count) size (suc difference) (Some d)) moved
+      ∙ trials-skip gap count (suc difference)
+      ∙ ap (λ d. trials (ahead (exchange_plan pool k size d) [] 0) + trials_of_stages pool k count size (suc d) (lowest (ahead (exchange_plan pool k size d) [] 0))) (sym moved)
+
+  -- without a next stage nothing comes
+  sets-without : (count difference : ℕ) (next : Option ℕ) → ((n : ℕ) → next ≡ Some n → difference ≤ n → n < difference + count → ⊥) → sets_of_stages pool k count size difference next ≡ []
+  unfolding sets_of_stages
+  sets-without zero difference next none = refl
+  sets-without (suc count) difference next none =
+      elim (cases_Bool (is_next difference next)) [
+        inl is_it ↦ absurd (none difference (is_next-some difference next is_it) (omega arith) (omega arith))
+      | inr is_not ↦
+          ap (λ b. if b then (stage_sets pool k size difference [] 0 ++ sets_of_stages pool k count size (suc difference) (lowest (ahead (exchange_plan pool k size difference) [] 0))) else sets_of_stages pool k count size (suc difference) next) is_not
+          ∙ sets-without count (suc difference) next (λ n is low high. none n is (omega arith) (omega arith))
+      ]
+
+  trials-without : (count difference : ℕ) (next : Option ℕ) → ((n : ℕ) → next ≡ Some n → difference ≤ n → n < difference + count → ⊥) → trials_of_stages pool k count size difference next ≡ 0
+  unfolding trials_of_stages
+  trials-without zero difference next none = refl
+  trials-without (suc count) difference next none =
+      elim (cases_Bool (is_next difference next)) [
+        inl is_it ↦ absurd (none difference (is_next-some difference next is_it) (omega arith) (omega arith))
+      | inr is_not ↦
+          ap (λ b. if b then (trials (ahead (exchange_plan pool k size difference) [] 0) + trials_of_stages pool k count size (suc difference) (lowest (ahead (exchange_plan pool k size difference) [] 0))) else trials_of_stages pool k count size (suc difference) next) is_not
+          ∙ trials-without count (suc difference) next (λ n is low high. none n is (omega arith) (omega arith))
+      ]
+
+  -- the stages of a size begin with the first one
+  pub sets-first : (count difference : ℕ) → sets_of_stages pool k (suc count) size difference (Some difference) ≡ stage_sets pool k size difference [] 0 ++ sets_of_stages pool k count size (suc difference) (lowest (ahead (exchange_plan pool k size difference) [] 0))
+  unfolding sets_of_stages
+  sets-first count difference =
+      ap (λ b. if b then (stage_sets pool k size difference [] 0 ++ sets_of_stages pool k count size (suc difference) (lowest (ahead (exchange_plan pool k size difference) [] 0))) else sets_of_stages pool k count size (suc difference) (Some difference)) (eq-eqb difference difference refl)
+
+  pub trials-first : (count difference : ℕ) → trials_of_stages pool k (suc count) size difference (Some difference) ≡ trials (ahead (exchange_plan pool k size difference) [] 0) + trials_of_stages pool k count size (suc difference) (lowest (ahead (exchange_plan pool k size difference) [] 0))
+  unfolding trials_of_stages
+  trials-first count difference =
+      ap (λ b. if b then (trials (ahead (exchange_plan pool k size difference) [] 0) + trials_of_stages pool k count size (suc difference) (lowest (ahead (exchange_plan pool k size difference) [] 0))) else trials_of_stages pool k count size (suc difference) (Some difference)) (eq-eqb difference difference refl)
+
+module _ (pool : List ℕ) (k size difference : ℕ) (path : List ℕ) (place : ℕ) (beyond : Option ℕ) (spent : ahead (exchange_plan pool k size difference) path place ≡ []) where
   none_here : stage_sets pool k size difference path place ≡ []
   unfolding stage_sets
   none_here = ap (λ events. map (set_of pool k size) (hits events)) spent
@@ -11,61 +113,96 @@ module _ (pool : List ℕ) (k size difference : ℕ) (path : List ℕ) (place : 
   no_trials : trials (ahead (exchange_plan pool k size difference) path place) ≡ 0
   no_trials = ap trials spent
 
-  module _ (more : difference < greatest_difference pool k size) where
-    one_more : greatest_difference pool k size - difference ≡ suc (greatest_difference pool k size - suc difference)
-    one_more = omega arith
+  next_is : lower beyond (lowest (ahead (exchange_plan pool k size difference) path place)) ≡ beyond
+  next_is = ap (λ events. lower beyond (lowest events)) spent ∙ lower-none beyond
 
-    pub sets-next : sets_ahead pool k size (suc difference) [] 0 ≡ sets_ahead pool k size difference path place
-    unfolding sets_of_stages
+  larger_sizes : List (List ℕ)
+  larger_sizes = sets_of_sizes pool k (most_exchanged pool k - size) (suc size)
+
+  sets-spent : sets_ahead pool k size difference path place beyond ≡ sets_of_stages pool k (greatest_difference pool k size - difference) size (suc difference) beyond ++ larger_sizes
+  unfolding larger_sizes
+  sets-spent =
+      ap (λ here. here ++ (sets_of_stages pool k (greatest_difference pool k size - difference) size (suc difference) (lower beyond (lowest (ahead (exchange_plan pool k size difference) path place))) ++ larger_sizes)) none_here
+      ∙ ap (λ next. sets_of_stages pool k (greatest_difference pool k size - difference) size (suc difference) next ++ larger_sizes) next_is
+
+  trials-spent : trials_ahead pool k size difference path place beyond ≡ trials_of_stages pool k (greatest_difference pool k size - difference) size (suc difference) beyond + trials_of_sizes pool k (most_exchanged pool k - size) (suc size)
+  trials-spent =
+      ap (λ n. n + (trials_of_stages pool k (greatest_difference pool k size - difference) size (suc difference) (lower beyond (lowest (ahead (exchange_plan pool k size difference) path place))) + trials_of_sizes pool k (most_exchanged pool k - size) (suc size))) no_trials
+      ∙ zero_plus _
+      ∙ ap (λ next. trials_of_stages pool k (greatest_difference pool k size - difference) size (suc difference) next + trials_of_sizes pool k (most_exchanged pool k - size) (suc size)) next_is
+
+  module _ (n : ℕ) (follows : following difference (greatest_difference pool k size) beyond ≡ Some n) where
+    parts : (beyond ≡ Some n) × (difference < n) × (n ≤ greatest_difference pool k size)
+    parts = following-some difference (greatest_difference pool k size) n beyond follows
+
+    above : suc difference + (n - suc difference) ≡ n
+    above = omega (arith, parts.1)
+
+    counts : greatest_difference pool k size - difference ≡ (n - suc difference) + suc (greatest_difference pool k size - n)
+    counts = omega (arith, parts.1, parts.2)
+
+    pub sets-next : sets_ahead pool k size n [] 0 None ≡ sets_ahead pool k size difference path place beyond
+    unfolding larger_sizes
     sets-next =
-        sym (append_assoc (stage_sets pool k size (suc difference) [] 0) (sets_of_stages pool k (greatest_difference pool k size - suc difference) size (suc (suc difference))) (sets_of_sizes pool k (most_exchanged pool k - size) (suc size)))
-        ∙ ap (λ count. sets_of_stages pool k count size (suc difference) ++ sets_of_sizes pool k (most_exchanged pool k - size) (suc size)) (sym one_more)
-        ∙ ap (λ here. here ++ (sets_of_stages pool k (greatest_difference pool k size - difference) size (suc difference) ++ sets_of_sizes pool k (most_exchanged pool k - size) (suc size))) (sym none_here)
+        sym (append_assoc (stage_sets pool k size n [] 0) (sets_of_stages pool k (greatest_difference pool k size - n) size (suc n) (lowest (ahead (exchange_plan pool k size n) [] 0))) larger_sizes)
+        ∙ sym
+        (sets-spent
+        ∙ ap (λ next. sets_of_stages pool k (greatest_difference pool k size - difference) size (suc difference) next ++ larger_sizes) parts.0
+        ∙ ap (λ count. sets_of_stages pool k count size (suc difference) (Some n) ++ larger_sizes) counts
+        ∙ ap (λ d. sets_of_stages pool k ((n - suc difference) + suc (greatest_difference pool k size - n)) size (suc difference) (Some d) ++ larger_sizes) (sym above)
+        ∙ ap (λ sets. sets ++ larger_sizes) (sets-skip pool k size (n - suc difference) (greatest_difference pool k size - n) (suc difference))
+        ∙ ap (λ d. (stage_sets pool k size d [] 0 ++ sets_of_stages pool k (greatest_difference pool k size - n) size (suc d) (lowest (ahead (exchange_plan pool k size d) [] 0))) ++ larger_sizes) above)
 
-    trials_one_more : trials_of_stages pool k (greatest_difference pool k size - difference) size (suc difference) ≡ trials (ahead (exchange_plan pool k size (suc difference)) [] 0) + trials_of_stages pool k (greatest_difference pool k size - suc difference) size (suc (suc difference))
-    unfolding trials_of_stages
-    trials_one_more = ap (λ count. trials_of_stages pool k count size (suc difference)) one_more
+    pub trials-next : trials_ahead pool k size n [] 0 None ≡ trials_ahead pool k size difference path place beyond
+    trials-next =
+        plus_assoc (trials (ahead (exchange_plan pool k size n) [] 0)) (trials_of_stages pool k (greatest_difference pool k size - n) size (suc n) (lowest (ahead (exchange_plan pool k size n) [] 0))) (trials_of_sizes pool k (most_exchanged pool k - size) (suc size))
+        ∙ sym
+        (trials-spent
+        ∙ ap (λ next. trials_of_stages pool k (greatest_difference pool k size - difference) size (suc difference) next + trials_of_sizes pool k (most_exchanged pool k - size) (suc size)) parts.0
+        ∙ ap (λ count. trials_of_stages pool k count size (suc difference) (Some n) + trials_of_sizes pool k (most_exchanged pool k - size) (suc size)) counts
+        ∙ ap (λ d. trials_of_stages pool k ((n - suc difference) + suc (greatest_difference pool k size - n)) size (suc difference) (Some d) + trials_of_sizes pool k (most_exchanged pool k - size) (suc size)) (sym above)
+        ∙ ap (λ t. t + trials_of_sizes pool k (most_exchanged pool k - size) (suc size)) (trials-skip pool k size (n - suc difference) (greatest_difference pool k size - n) (suc difference))
+        ∙ ap (λ d. (trials (ahead (exchange_plan pool k size d) [] 0) + trials_of_stages pool k (greatest_difference pool k size - n) size (suc d) (lowest (ahead (exchange_plan pool k size d) [] 0))) + trials_of_sizes pool k (most_exchanged pool k - size) (suc size)) above)
 
-    pub trials-next : trials_ahead pool k size (suc difference) [] 0 ≡ trials_ahead pool k size difference path place
-    trials-next = omega (arith, no_trials, trials_one_more)
+    pub stages-next : stages_ahead pool k size n < stages_ahead pool k size difference
+    stages-next = omega (arith, parts.1, parts.2)
 
-    pub stages-next : stages_ahead pool k size (suc difference) < stages_ahead pool k size difference
-    stages-next = omega arith
-
-  module _ (last : greatest_difference pool k size ≤ difference) where
-    none_more : greatest_difference pool k size - difference ≡ 0
-    none_more = omega arith
-
-    no_sets : sets_of_stages pool k (greatest_difference pool k size - difference) size (suc difference) ≡ []
-    unfolding sets_of_stages
-    no_sets = ap (λ count. sets_of_stages pool k count size (suc difference)) none_more
-
-    no_stage_trials : trials_of_stages pool k (greatest_difference pool k size - difference) size (suc difference) ≡ 0
-    unfolding trials_of_stages
-    no_stage_trials = ap (λ count. trials_of_stages pool k count size (suc difference)) none_more
-
-    sets_left : sets_ahead pool k size difference path place ≡ sets_of_sizes pool k (most_exchanged pool k - size) (suc size)
+  module _ (last : following difference (greatest_difference pool k size) beyond ≡ None) where
+    sets_left : sets_ahead pool k size difference path place beyond ≡ sets_of_sizes pool k (most_exchanged pool k - size) (suc size)
+    unfolding larger_sizes
     sets_left =
-        ap (λ here. here ++ (sets_of_stages pool k (greatest_difference pool k size - difference) size (suc difference) ++ sets_of_sizes pool k (most_exchanged pool k - size) (suc size))) none_here
-        ∙ ap (λ stages. stages ++ sets_of_sizes pool k (most_exchanged pool k - size) (suc size)) no_sets
+        sets-spent
+        ∙ ap (λ sets. sets ++ larger_sizes) (sets-without pool k size (greatest_difference pool k size - difference) (suc difference) beyond (λ n is low high. following-none difference (greatest_difference pool k size) n beyond last is (omega arith) (omega arith)))
+
+    trials_left : trials_ahead pool k size difference path place beyond ≡ trials_of_sizes pool k (most_exchanged pool k - size) (suc size)
+    trials_left =
+        trials-spent
+        ∙ ap (λ t. t + trials_of_sizes pool k (most_exchanged pool k - size) (suc size)) (trials-without pool k size (greatest_difference pool k size - difference) (suc difference) beyond (λ n is low high. following-none difference (greatest_difference pool k size) n beyond last is (omega arith) (omega arith)))
+        ∙ zero_plus _
 
     module _ (larger : size < most_exchanged pool k) where
       size_more : most_exchanged pool k - size ≡ suc (most_exchanged pool k - suc size)
       size_more = omega arith
 
-      pub sets-larger : sets_ahead pool k (suc size) (least_difference pool k (suc size)) [] 0 ≡ sets_ahead pool k size difference path place
-      unfolding sets_of_stages sets_of_sizes
+      pub sets-larger : sets_ahead pool k (suc size) (least_difference pool k (suc size)) [] 0 None ≡ sets_ahead pool k size difference path place beyond
+      unfolding sets_of_sizes
       sets-larger =
-          sym (append_assoc (stage_sets pool k (suc size) (least_difference pool k (suc size)) [] 0) (sets_of_stages pool k (greatest_difference pool k (suc size) - least_difference pool k (suc size)) (suc size) (suc (least_difference pool k (suc size)))) (sets_of_sizes pool k (most_exchanged pool k - suc size) (suc (suc size))))
+          let L : ℕ = least_difference pool k (suc size) in
+          let G : ℕ = greatest_difference pool k (suc size) in
+          sym (append_assoc (stage_sets pool k (suc size) L [] 0) (sets_of_stages pool k (G - L) (suc size) (suc L) (lowest (ahead (exchange_plan pool k (suc size) L) [] 0))) (sets_of_sizes pool k (most_exchanged pool k - suc size) (suc (suc size))))
+          ∙ ap (λ sets. sets ++ sets_of_sizes pool k (most_exchanged pool k - suc size) (suc (suc size))) (sym (sets-first pool k (suc size) (G - L) L))
           ∙ ap (λ count. sets_of_sizes pool k count (suc size)) (sym size_more)
           ∙ sym sets_left
 
-      trials_size_more : trials_of_sizes pool k (most_exchanged pool k - size) (suc size) ≡ (trials (ahead (exchange_plan pool k (suc size) (least_difference pool k (suc size))) [] 0) + trials_of_stages pool k (greatest_difference pool k (suc size) - least_difference pool k (suc size)) (suc size) (suc (least_difference pool k (suc size)))) + trials_of_sizes pool k (most_exchanged pool k - suc size) (suc (suc size))
-      unfolding trials_of_stages trials_of_sizes
-      trials_size_more = ap (λ count. trials_of_sizes pool k count (suc size)) size_more
-
-      pub trials-larger : trials_ahead pool k (suc size) (least_difference pool k (suc size)) [] 0 ≡ trials_ahead pool k size difference path place
-      trials-larger = omega (arith, no_trials, no_stage_trials, trials_size_more)
+      pub trials-larger : trials_ahead pool k (suc size) (least_difference pool k (suc size)) [] 0 None ≡ trials_ahead pool k size difference path place beyond
+      unfolding trials_of_sizes
+      trials-larger =
+          let L : ℕ = least_difference pool k (suc size) in
+          let G : ℕ = greatest_difference pool k (suc size) in
+          plus_assoc (trials (ahead (exchange_plan pool k (suc size) L) [] 0)) (trials_of_stages pool k (G - L) (suc size) (suc L) (lowest (ahead (exchange_plan pool k (suc size) L) [] 0))) (trials_of_sizes pool k (most_exchanged pool k - suc size) (suc (suc size)))
+          ∙ ap (λ t. t + trials_of_sizes pool k (most_exchanged pool k - suc size) (suc (suc size))) (sym (trials-first pool k (suc size) (G - L) L))
+          ∙ ap (λ count. trials_of_sizes pool k count (suc size)) (sym size_more)
+          ∙ sym trials_left
 
       stages_size_more : stages_of_sizes pool k (most_exchanged pool k - size) (suc size) ≡ suc (greatest_difference pool k (suc size) - least_difference pool k (suc size)) + stages_of_sizes pool k (most_exchanged pool k - suc size) (suc (suc size))
       unfolding stages_of_sizes
@@ -75,39 +212,43 @@ module _ (pool : List ℕ) (k size difference : ℕ) (path : List ℕ) (place : 
       stages-larger = omega (arith, stages_size_more)
 
     module _ (largest : most_exchanged pool k ≤ size) where
-      pub sets-none : sets_ahead pool k size difference path place ≡ []
+      pub sets-none : sets_ahead pool k size difference path place beyond ≡ []
       unfolding sets_of_sizes
       sets-none = sets_left ∙ ap (λ count. sets_of_sizes pool k count (suc size)) (let e : most_exchanged pool k - size ≡ 0 = omega arith in e)
 
-      no_size_trials : trials_of_sizes pool k (most_exchanged pool k - size) (suc size) ≡ 0
+      pub trials-none : trials_ahead pool k size difference path place beyond ≡ 0
       unfolding trials_of_sizes
-      no_size_trials = ap (λ count. trials_of_sizes pool k count (suc size)) (let e : most_exchanged pool k - size ≡ 0 = omega arith in e)
+      trials-none = trials_left ∙ ap (λ count. trials_of_sizes pool k count (suc size)) (let e : most_exchanged pool k - size ≡ 0 = omega arith in e)
 
-      pub trials-none : trials_ahead pool k size difference path place ≡ 0
-      trials-none = omega (arith, no_trials, no_stage_trials, no_size_trials)
-
-module _ (pool : List ℕ) (k size difference : ℕ) (path path' : List ℕ) (place place' : ℕ) where
-  pub sets-by_hits : hits (ahead (exchange_plan pool k size difference) path place) ≡ hits (ahead (exchange_plan pool k size difference) path' place') → sets_ahead pool k size difference path place ≡ sets_ahead pool k size difference path' place'
+module _ (pool : List ℕ) (k size difference : ℕ) (path path' : List ℕ) (place place' : ℕ) (beyond beyond' : Option ℕ) (next : lower beyond (lowest (ahead (exchange_plan pool k size difference) path place)) ≡ lower beyond' (lowest (ahead (exchange_plan pool k size difference) path' place'))) where
+  pub sets-by_hits : hits (ahead (exchange_plan pool k size difference) path place) ≡ hits (ahead (exchange_plan pool k size difference) path' place') → sets_ahead pool k size difference path place beyond ≡ sets_ahead pool k size difference path' place' beyond'
   unfolding stage_sets
   sets-by_hits same =
-      ap (λ paths. map (set_of pool k size) paths ++ (sets_of_stages pool k (greatest_difference pool k size - difference) size (suc difference) ++ sets_of_sizes pool k (most_exchanged pool k - size) (suc size))) same
+      ap (λ paths. map (set_of pool k size) paths ++ (sets_of_stages pool k (greatest_difference pool k size - difference) size (suc difference) (lower beyond (lowest (ahead (exchange_plan pool k size difference) path place))) ++ sets_of_sizes pool k (most_exchanged pool k - size) (suc size))) same
+      ∙ ap (λ o. stage_sets pool k size difference path' place' ++ (sets_of_stages pool k (greatest_difference pool k size - difference) size (suc difference) o ++ sets_of_sizes pool k (most_exchanged pool k - size) (suc size))) next
 
-  pub sets-found : hits (ahead (exchange_plan pool k size difference) path place) ≡ path' ∷ hits (ahead (exchange_plan pool k size difference) path' place') → sets_ahead pool k size difference path place ≡ set_of pool k size path' ∷ sets_ahead pool k size difference path' place'
+  pub sets-found : hits (ahead (exchange_plan pool k size difference) path place) ≡ path' ∷ hits (ahead (exchange_plan pool k size difference) path' place') → sets_ahead pool k size difference path place beyond ≡ set_of pool k size path' ∷ sets_ahead pool k size difference path' place' beyond'
   unfolding stage_sets
   sets-found same =
-      ap (λ paths. map (set_of pool k size) paths ++ (sets_of_stages pool k (greatest_difference pool k size - difference) size (suc difference) ++ sets_of_sizes pool k (most_exchanged pool k - size) (suc size))) same
+      ap (λ paths. map (set_of pool k size) paths ++ (sets_of_stages pool k (greatest_difference pool k size - difference) size (suc difference) (lower beyond (lowest (ahead (exchange_plan pool k size difference) path place))) ++ sets_of_sizes pool k (most_exchanged pool k - size) (suc size))) same
+      ∙ ap (λ o. set_of pool k size path' ∷ (stage_sets pool k size difference path' place' ++ (sets_of_stages pool k (greatest_difference pool k size - difference) size (suc difference) o ++ sets_of_sizes pool k (most_exchanged pool k - size) (suc size)))) next
+
+  pub trials-after : trials_of_stages pool k (greatest_difference pool k size - difference) size (suc difference) (lower beyond (lowest (ahead (exchange_plan pool k size difference) path place))) ≡ trials_of_stages pool k (greatest_difference pool k size - difference) size (suc difference) (lower beyond' (lowest (ahead (exchange_plan pool k size difference) path' place')))
+  trials-after = ap (trials_of_stages pool k (greatest_difference pool k size - difference) size (suc difference)) next
 
 -- at the numbers that the code has
-pub sets-at_new : (pool : List ℕ) (k size size' difference difference' : ℕ) (path : List ℕ) (place : ℕ) → path ≡ [] → place ≡ 0 → size ≡ size' → difference ≡ difference' → sets_ahead pool k size difference path place ≡ sets_ahead pool k size' difference' [] 0
-sets-at_new pool k size size' difference difference' path place no_path none same_size same =
-    ap (λ path. sets_ahead pool k size difference path place) no_path
-    ∙ ap (λ place. sets_ahead pool k size difference [] place) none
-    ∙ ap (λ size. sets_ahead pool k size difference [] 0) same_size
-    ∙ ap (λ difference. sets_ahead pool k size' difference [] 0) same
+pub sets-at_new : (pool : List ℕ) (k size size' difference difference' : ℕ) (path : List ℕ) (place : ℕ) (beyond : Option ℕ) → path ≡ [] → place ≡ 0 → beyond ≡ None → size ≡ size' → difference ≡ difference' → sets_ahead pool k size difference path place beyond ≡ sets_ahead pool k size' difference' [] 0 None
+sets-at_new pool k size size' difference difference' path place beyond no_path none nothing same_size same =
+    ap (λ path. sets_ahead pool k size difference path place beyond) no_path
+    ∙ ap (λ place. sets_ahead pool k size difference [] place beyond) none
+    ∙ ap (λ beyond. sets_ahead pool k size difference [] 0 beyond) nothing
+    ∙ ap (λ size. sets_ahead pool k size difference [] 0 None) same_size
+    ∙ ap (λ difference. sets_ahead pool k size' difference [] 0 None) same
 
-pub trials-at_new : (pool : List ℕ) (k size size' difference difference' : ℕ) (path : List ℕ) (place : ℕ) → path ≡ [] → place ≡ 0 → size ≡ size' → difference ≡ difference' → trials_ahead pool k size difference path place ≡ trials_ahead pool k size' difference' [] 0
-trials-at_new pool k size size' difference difference' path place no_path none same_size same =
-    ap (λ path. trials_ahead pool k size difference path place) no_path
-    ∙ ap (λ place. trials_ahead pool k size difference [] place) none
-    ∙ ap (λ size. trials_ahead pool k size difference [] 0) same_size
-    ∙ ap (λ difference. trials_ahead pool k size' difference [] 0) same
+pub trials-at_new : (pool : List ℕ) (k size size' difference difference' : ℕ) (path : List ℕ) (place : ℕ) (beyond : Option ℕ) → path ≡ [] → place ≡ 0 → beyond ≡ None → size ≡ size' → difference ≡ difference' → trials_ahead pool k size difference path place beyond ≡ trials_ahead pool k size' difference' [] 0 None
+trials-at_new pool k size size' difference difference' path place beyond no_path none nothing same_size same =
+    ap (λ path. trials_ahead pool k size difference path place beyond) no_path
+    ∙ ap (λ place. trials_ahead pool k size difference [] place beyond) none
+    ∙ ap (λ beyond. trials_ahead pool k size difference [] 0 beyond) nothing
+    ∙ ap (λ size. trials_ahead pool k size difference [] 0 None) same_size
+    ∙ ap (λ difference. trials_ahead pool k size' difference [] 0 None) same

@@ -1,22 +1,24 @@
 -- The stages of exchanges find all sets, by their keys.
-use Rattle.std.proofs.Common.{◌≡◌, ℕ, zero, suc, ◌+◌, ◌-◌, ◌<◌, ◌≤◌, Bool, true, false, min, List, [], ◌∷◌, ◌++◌, map, length, take, drop, refl, sym, ◌∙◌, ap, append_assoc, arith, length-append, subst, ◌⊎◌, inl, inr, slice_index, zero-add}
+use Rattle.std.proofs.Common.{◌≡◌, ℕ, zero, suc, ◌+◌, ◌-◌, ◌<◌, ◌≤◌, Bool, true, false, min, List, [], ◌∷◌, ◌++◌, map, length, take, drop, refl, sym, ◌∙◌, ap, append_assoc, arith, length-append, subst, ◌⊎◌, inl, inr, slice_index, zero-add, Option, Some, None, cond, nat_lt, nat_le, ◌&&◌, if◌then◌else◌}
 use Rattle.std.specs.List.Sorted.{IsStrictlyIncreasing}
 use Rattle.std.proofs.lemmas.List.{append-nil, length-map}
 use Rattle.std.proofs.lemmas.Simd.{map-map}
-use Rattle.std.proofs.lemmas.Bool.{true≢false, cases_eq}
+use Rattle.std.proofs.lemmas.Bool.{true≢false, cases_eq, cases_Bool, and_parts, and_cases, leb-true, leb-false, lt-ltb, ltb-true, eq-eqb, ne_eqb}
 use Rattle.dutch_order.specs.declared.exchange.Side.TheVariants.{Out, In}
-use Rattle.dutch_order.specs.Trials.{Plan, numbers_from, entry, ahead, hits}
+use Rattle.dutch_order.specs.Trials.{Plan, Event, Tried, Hit, numbers_from, entry, below, ahead, hits, lower, lowest}
+use Rattle.std.specs.List.{flat_map}
 use Rattle.dutch_order.specs.Choices.{subsets}
 use Rattle.dutch_order.specs.Keys.{is_before, sorted, IsIn, Ascends, higher_first}
 use Rattle.dutch_order.specs.Exchange.{exchange_key, exchanges}
-use Rattle.dutch_order.specs.Stages.{total, value_of, run, within_reach, exchange_plan, kept_of, set_of, stage_sets, sets_of_stages, sets_of_sizes, stages_of, least_difference, greatest_difference, most_exchanged, sets_ahead}
-use Rattle.dutch_order.proofs.HalfWalks.{Climbs, AllFit, Halved, halves-split, halves-join, Climbs-room}
+use Rattle.dutch_order.specs.Stages.{total, value_of, run, within_reach, beyond_reach, exchange_plan, kept_of, set_of, stage_sets, sets_of_stages, sets_of_sizes, stages_of, least_difference, greatest_difference, most_exchanged, sets_ahead, is_next, least_at, greatest_at}
+use Rattle.dutch_order.proofs.HalfWalks.{Climbs, AllFit, Admitted, Halved, halves-split, halves-join, Climbs-room}
 use Rattle.dutch_order.proofs.Orders.{is_before-lower, is_before-equal, is_before-cases, is_before-irreflexive, IsIn-map, map-IsIn, IsIn-append, IsIn-front, IsIn-back, Ascends-append, member_has}
 use Rattle.dutch_order.proofs.Found.{found, ahead-new}
-use Rattle.dutch_order.proofs.FoundPaths.{found-admitted, admitted-found, found-ascends, is_before-begun}
+use Rattle.dutch_order.proofs.FoundPaths.{in-numbers, found-admitted, admitted-found, found-ascends, is_before-begun}
 use Rattle.dutch_order.proofs.LimboSets.{is_before-split, is_before-join, drop_front}
 use Rattle.dutch_order.proofs.Sets.{subsets-climb, subsets-map, subsets-ascend, ascending-sorted, Ascends-map}
 use Rattle.dutch_order.proofs.ExchangeSets.{v, v-raises, pool-is, set-is, set-in_pool, places, exchange_key-is, exchange-of}
+use Rattle.dutch_order.proofs.StageMoves.{sets-first}
 use Rattle.dutch_order.proofs.Reach.{out-falls, inn-raises, difference-least, difference-greatest, outs-fit, ins-fit, ins-exact, take_front_of}
 
 -- a map that raises the numbers below a bound keeps the order of lists of them
@@ -45,6 +47,23 @@ Ascends-apart key (z ∷ xs) p x y (inr m) (inl e') same =
     let first : is_before (key z) (key x) ≡ true = member_has (λ w. is_before (key z) (key w) ≡ true) xs p.0 x m in
     absurd (true≢false (sym first ∙ ap (λ k. is_before k (key x)) (ap key (sym e') ∙ sym same) ∙ is_before-irreflexive (key x)))
 Ascends-apart key (z ∷ xs) p x y (inr m) (inr n) same = Ascends-apart key xs p.1 x y m n same
+
+barred_over : (least greatest first : ℕ) → (nat_le least first && nat_le first greatest) ≡ false → first ≤ greatest → first < least
+barred_over least greatest first barred high =
+    elim (and_cases (nat_le least first) (nat_le first greatest) barred) [
+      inl over ↦ leb-false least first over
+    | inr under ↦ absurd (omega (arith, leb-false first greatest under, high))
+    ]
+
+lower-assoc : (a b c : Option ℕ) → lower (lower a b) c ≡ lower a (lower b c)
+lower-assoc None b c = refl
+lower-assoc (Some x) None c = refl
+lower-assoc (Some x) (Some y) None = refl
+lower-assoc (Some x) (Some y) (Some z) = ap Some (omega arith)
+
+stages-cases : (c : Bool) (here later other : List (List ℕ)) (set : List ℕ) → IsIn set (if c then here ++ later else other) → ((c ≡ true) × IsIn set here) ⊎ (((c ≡ true) × IsIn set later) ⊎ ((c ≡ false) × IsIn set other))
+stages-cases true here later other set m = elim (IsIn-append set here later m) [ inl front ↦ inl (refl, front) | inr back ↦ inr (inl (refl, back)) ]
+stages-cases false here later other set m = inr (inr (refl, m))
 
 -- an exchange of so many with a difference
 pub record Exchange (pool : List ℕ) (k size difference : ℕ) (set outs ins : List ℕ) : Type 0 where
@@ -89,7 +108,7 @@ module _ (pool : List ℕ) (k : ℕ) (rises : IsStrictlyIncreasing pool) (enough
   path-exchange : (size difference : ℕ) → (size ≡ 0 → difference ≡ 0) → (path : List ℕ) → IsIn path (found (exchange_plan pool k size difference) (size + size) []) → (outs : List ℕ) × (ins : List ℕ) × (path ≡ outs ++ ins) × Exchange pool k size difference (set_of pool k size path) outs ins
   path-exchange size difference none path m =
       let found' = found-admitted (exchange_plan pool k size difference) (size + size) [] path m in
-      let halves = halves-split size k (length pool - k) (within_reach pool k size difference) found'.0 found'.2 in
+      let halves = halves-split size k (length pool - k) (within_reach pool k size difference) (beyond_reach pool k size difference) found'.0 found'.2 in
       let outs : List ℕ = halves.0 in
       let ins : List ℕ = halves.1 in
       let is : path ≡ outs ++ ins = found'.1 ∙ halves.2 in
@@ -111,19 +130,22 @@ module _ (pool : List ℕ) (k : ℕ) (rises : IsStrictlyIncreasing pool) (enough
       let path = path-exchange size difference none from.0 from.2 in
       (path.0, path.1, subst (λ s. Exchange pool k size difference s path.0 path.1) (sym from.1) path.3)
 
-  exchange-stage : (size difference : ℕ) (set outs ins : List ℕ) → Exchange pool k size difference set outs ins → IsIn set (stage_sets pool k size difference [] 0)
-  exchange-stage size difference set outs ins e =
-      let halved : Halved (within_reach pool k size difference) size k (length pool - k) outs ins = record {
+  exchange-admitted : (size difference : ℕ) (set outs ins : List ℕ) → Exchange pool k size difference set outs ins → Admitted (exchange_plan pool k size difference) (size + size) [] (outs ++ ins)
+  exchange-admitted size difference set outs ins e =
+      halves-join size k (length pool - k) (within_reach pool k size difference) (beyond_reach pool k size difference) outs ins (record {
         front_climbs = e.outs_climb; back_climbs = e.ins_climb;
         front_fits = outs-fit pool k rises enough size difference [] outs ins 0 (zero-add (length outs) ∙ e.outs_size) e.ins_size e.outs_climb e.ins_climb (sym e.differs);
         back_fits = subst (λ path. AllFit (within_reach pool k size difference) path ins) (append-nil outs)
           (ins-fit pool k rises enough size difference outs e.outs_size [] ins 0 (zero-add (length ins) ∙ e.ins_size) e.ins_climb (sym e.differs));
         front_length = e.outs_size; back_length = e.ins_size
-      } in
+      })
+
+  exchange-stage : (size difference : ℕ) (set outs ins : List ℕ) → Exchange pool k size difference set outs ins → IsIn set (stage_sets pool k size difference [] 0)
+  exchange-stage size difference set outs ins e =
       subst (IsIn set) (sym (stage-is size difference))
       (subst (λ s. IsIn s (map (set_of pool k size) (found (exchange_plan pool k size difference) (size + size) []))) (path-set size outs ins e.outs_size ∙ sym e.is_set)
       (map-IsIn (set_of pool k size) (outs ++ ins) (found (exchange_plan pool k size difference) (size + size) [])
-      (admitted-found (exchange_plan pool k size difference) (size + size) [] (outs ++ ins) (halves-join size k (length pool - k) (within_reach pool k size difference) outs ins halved))))
+      (admitted-found (exchange_plan pool k size difference) (size + size) [] (outs ++ ins) (exchange-admitted size difference set outs ins e))))
 
   key-at : (size difference : ℕ) (set outs ins : List ℕ) → Exchange pool k size difference set outs ins → key set ≡ size ∷ difference ∷ (map (λ i. higher_first (out i)) outs ++ map inn ins)
   key-at size difference set outs ins e =
@@ -163,68 +185,226 @@ module _ (pool : List ℕ) (k : ℕ) (rises : IsStrictlyIncreasing pool) (enough
       subst (Ascends key) (sym (stage-is size difference))
       (Ascends-map key (set_of pool k size) (found (exchange_plan pool k size difference) (size + size) []) (found-ascends (exchange_plan pool k size difference) (size + size) []) (stage-order size difference none))
 
-  stages-in : (count size first : ℕ) (set : List ℕ) → IsIn set (sets_of_stages pool k count size first) → (difference : ℕ) × (first ≤ difference) × (difference < first + count) × IsIn set (stage_sets pool k size difference [] 0)
-  unfolding sets_of_stages
-  stages-in zero size first set m = absurd m
-  stages-in (suc count) size first set m =
-      elim (IsIn-append set (stage_sets pool k size first [] 0) (sets_of_stages pool k count size (suc first)) m) [
-        inl here ↦ (first, omega arith, omega arith, here)
-      | inr later ↦ let rest = stages-in count size (suc first) set later in (rest.0, omega (arith, rest.1), omega (arith, rest.2), rest.3)
+  ascends-if : (c : Bool) (xs ys : List (List ℕ)) → Ascends key xs → Ascends key ys → Ascends key (if c then xs else ys)
+  ascends-if true xs ys p q = p
+  ascends-if false xs ys p q = q
+
+  -- a known number that is at most a difference
+  AtMost : ℕ → Option ℕ → Type 0
+  AtMost difference o = (n : ℕ) × (o ≡ Some n) × (n ≤ difference)
+
+  at_most : (difference n : ℕ) (o : Option ℕ) → o ≡ Some n → n ≤ difference → AtMost difference o
+  unfolding AtMost
+  at_most difference n o is low = (n, is, low)
+
+  lower-left : (difference : ℕ) (a b : Option ℕ) → AtMost difference a → AtMost difference (lower a b)
+  unfolding AtMost
+  lower-left difference None b most = cc
+  lower-left difference (Some x) None most = most
+  lower-left difference (Some x) (Some y) most = let e : x ≡ most.0 = (let h = most.1 in cc) in (min x y, refl, omega (arith, most.2))
+
+  lower-right : (difference : ℕ) (a b : Option ℕ) → AtMost difference b → AtMost difference (lower a b)
+  unfolding AtMost
+  lower-right difference None b most = most
+  lower-right difference (Some x) None most = cc
+  lower-right difference (Some x) (Some y) most = let e : y ≡ most.0 = (let h = most.1 in cc) in (min x y, refl, omega (arith, most.2))
+
+  lowest-append : (xs ys : List Event) → lowest (xs ++ ys) ≡ lower (lowest xs) (lowest ys)
+  lowest-append [] ys = refl
+  lowest-append (Tried o ∷ xs) ys = ap (lower o) (lowest-append xs ys) ∙ sym (lower-assoc o (lowest xs) (lowest ys))
+  lowest-append (Hit path ∷ xs) ys = lowest-append xs ys
+
+  lowest-flat_map : (difference : ℕ) (f : ℕ → List Event) (x : ℕ) (xs : List ℕ) → IsIn x xs → AtMost difference (lowest (f x)) → AtMost difference (lowest (flat_map f xs))
+  lowest-flat_map difference f x [] m most = absurd m
+  lowest-flat_map difference f x (y ∷ xs) (inl same) most =
+      subst (AtMost difference) (sym (lowest-append (f y) (flat_map f xs))) (lower-left difference (lowest (f y)) (lowest (flat_map f xs)) (subst (λ z. AtMost difference (lowest (f z))) same most))
+  lowest-flat_map difference f x (y ∷ xs) (inr m) most =
+      subst (AtMost difference) (sym (lowest-append (f y) (flat_map f xs))) (lower-right difference (lowest (f y)) (lowest (flat_map f xs)) (lowest-flat_map difference f x xs m most))
+
+  -- what the trial of a number brings, at the plan of a stage
+  abbrev brought : ℕ → ℕ → ℕ → List ℕ → ℕ → List Event
+  brought size first open_places path tried =
+      Tried (beyond_reach pool k size first path tried)
+      ∷ cond (within_reach pool k size first path tried) (below (exchange_plan pool k size first) open_places (path ++ tried ∷ []) (entry (exchange_plan pool k size first) open_places (path ++ tried ∷ []))) []
+
+  module _ (size first difference : ℕ) (less : first < difference) where
+    abbrev now : Plan
+    now = exchange_plan pool k size first
+
+    -- a path of a later stage is one of this stage too, or something lies beyond it here that is no more than the later difference
+    noted : (open_places : ℕ) (begun path : List ℕ) → Admitted (exchange_plan pool k size difference) open_places begun path → Admitted now open_places begun path ⊎ AtMost difference (lowest (below now open_places begun (entry now open_places begun)))
+    unfolding below
+    noted zero begun path admitted = inl admitted
+    noted (suc open_places) begun [] admitted = absurd admitted
+    noted (suc open_places) begun (i ∷ path) admitted =
+        let tests = and_parts (nat_le (least_at pool k size begun i) difference) (nat_le difference (greatest_at pool k size begun i)) admitted.2 in
+        let low : least_at pool k size begun i ≤ difference = leb-true (least_at pool k size begun i) difference tests.0 in
+        let high : difference ≤ greatest_at pool k size begun i = leb-true difference (greatest_at pool k size begun i) tests.1 in
+        let among : IsIn i (numbers_from (now.start begun) (now.stop begun - now.start begun)) = in-numbers i (now.start begun) (now.stop begun - now.start begun) admitted.0 (omega (arith, admitted.0, admitted.1)) in
+        elim (cases_Bool (now.fits begun i)) [
+          inl fit ↦ elim (noted open_places (begun ++ i ∷ []) path admitted.3) [
+            inl here ↦ inl (admitted.0, admitted.1, fit, here)
+          | inr deeper ↦
+              inr (lowest-flat_map difference (brought size first open_places begun) i (numbers_from (now.start begun) (now.stop begun - now.start begun)) among
+              (lower-right difference (now.beyond begun i) (lowest (cond (now.fits begun i) (below now open_places (begun ++ i ∷ []) (entry now open_places (begun ++ i ∷ []))) []))
+              (subst (λ b. AtMost difference (lowest (cond b (below now open_places (begun ++ i ∷ []) (entry now open_places (begun ++ i ∷ []))) []))) (sym fit) deeper)))
+          ]
+        | inr barred ↦
+            let over : first < least_at pool k size begun i = barred_over (least_at pool k size begun i) (greatest_at pool k size begun i) first barred (omega arith) in
+            let told : now.beyond begun i ≡ Some (least_at pool k size begun i) = ap (λ b. if b then Some (least_at pool k size begun i) else None) (lt-ltb first (least_at pool k size begun i) over) in
+            inr (lowest-flat_map difference (brought size first open_places begun) i (numbers_from (now.start begun) (now.stop begun - now.start begun)) among
+            (lower-left difference (now.beyond begun i) (lowest (cond (now.fits begun i) (below now open_places (begun ++ i ∷ []) (entry now open_places (begun ++ i ∷ []))) [])) (at_most difference (least_at pool k size begun i) (now.beyond begun i) told low)))
+        ]
+
+  -- whatever lies beyond the trials of a stage is more than its difference
+  above_lower : (first n : ℕ) (a b : Option ℕ) → ((m : ℕ) → a ≡ Some m → first < m) → ((m : ℕ) → b ≡ Some m → first < m) → lower a b ≡ Some n → first < n
+  above_lower first n None b p q is = q n is
+  above_lower first n (Some x) None p q is = p n is
+  above_lower first n (Some x) (Some y) p q is =
+      let e : min x y ≡ n = cc in omega (arith, p x refl, q y refl)
+
+  above_append : (first : ℕ) (xs ys : List Event) → ((m : ℕ) → lowest xs ≡ Some m → first < m) → ((m : ℕ) → lowest ys ≡ Some m → first < m) → (n : ℕ) → lowest (xs ++ ys) ≡ Some n → first < n
+  above_append first xs ys p q n is = above_lower first n (lowest xs) (lowest ys) p q (sym (lowest-append xs ys) ∙ is)
+
+  beyond_above : (size first : ℕ) (path : List ℕ) (place n : ℕ) → beyond_reach pool k size first path place ≡ Some n → first < n
+  beyond_above size first path place n is =
+      elim (cases_Bool (nat_lt first (least_at pool k size path place))) [
+        inl over ↦
+          let same : Some (least_at pool k size path place) ≡ Some n = sym (ap (λ b. if b then Some (least_at pool k size path place) else None) over) ∙ is in
+          let equal : least_at pool k size path place ≡ n = cc in
+          omega (arith, ltb-true first (least_at pool k size path place) over)
+      | inr under ↦ (let none : None ≡ Some n = sym (ap (λ b. if b then Some (least_at pool k size path place) else None) under) ∙ is in cc)
       ]
 
-  in-stages : (count size first difference : ℕ) (set : List ℕ) → first ≤ difference → difference < first + count → IsIn set (stage_sets pool k size difference [] 0) → IsIn set (sets_of_stages pool k count size first)
-  unfolding sets_of_stages
-  in-stages zero size first difference set from below m = absurd (omega arith)
-  in-stages (suc count) size first difference set from below m =
-      elim (cases_eq difference first) [
-        inl same ↦ IsIn-front set (stage_sets pool k size first [] 0) (sets_of_stages pool k count size (suc first)) (subst (λ d. IsIn set (stage_sets pool k size d [] 0)) same m)
-      | inr other ↦ IsIn-back set (stage_sets pool k size first [] 0) (sets_of_stages pool k count size (suc first)) (in-stages count size (suc first) difference set (omega (arith, other)) (omega arith) m)
+  cond_above : (first : ℕ) (c : Bool) (events : List Event) → ((m : ℕ) → lowest events ≡ Some m → first < m) → (n : ℕ) → lowest (cond c events []) ≡ Some n → first < n
+  cond_above first true events each n is = each n is
+  cond_above first false events each n is = cc
+
+  tried_above : (size first open_places : ℕ) (path : List ℕ) → ((tried m : ℕ) → lowest (below (exchange_plan pool k size first) open_places (path ++ tried ∷ []) (entry (exchange_plan pool k size first) open_places (path ++ tried ∷ []))) ≡ Some m → first < m) → (numbers : List ℕ) (n : ℕ) → lowest (flat_map (brought size first open_places path) numbers) ≡ Some n → first < n
+  tried_above size first open_places path each [] n is = cc
+  tried_above size first open_places path each (x ∷ numbers) n is =
+      above_append first (brought size first open_places path x) (flat_map (brought size first open_places path) numbers)
+      (λ m told. above_lower first m (beyond_reach pool k size first path x) (lowest (cond (within_reach pool k size first path x) (below (exchange_plan pool k size first) open_places (path ++ x ∷ []) (entry (exchange_plan pool k size first) open_places (path ++ x ∷ []))) []))
+        (beyond_above size first path x)
+        (cond_above first (within_reach pool k size first path x) (below (exchange_plan pool k size first) open_places (path ++ x ∷ []) (entry (exchange_plan pool k size first) open_places (path ++ x ∷ []))) (each x)) told)
+      (tried_above size first open_places path each numbers) n is
+
+  below_above : (size first open_places : ℕ) (path : List ℕ) (number n : ℕ) → lowest (below (exchange_plan pool k size first) open_places path number) ≡ Some n → first < n
+  unfolding below
+  below_above size first zero path zero n is = cc
+  below_above size first zero path (suc number) n is = cc
+  below_above size first (suc open_places) path number n is =
+      tried_above size first open_places path (λ tried m told. below_above size first open_places (path ++ tried ∷ []) (entry (exchange_plan pool k size first) open_places (path ++ tried ∷ [])) m told)
+      (numbers_from number ((exchange_plan pool k size first).stop path - number)) n is
+
+  ahead-is : (size first : ℕ) → ahead (exchange_plan pool k size first) [] 0 ≡ below (exchange_plan pool k size first) (size + size) [] (entry (exchange_plan pool k size first) (size + size) [])
+  ahead-is size first =
+      ap (ahead (exchange_plan pool k size first) []) (sym (starts_at_none size first (size + size))) ∙ ahead-new (exchange_plan pool k size first)
+
+  next_above : (size first n : ℕ) → lowest (ahead (exchange_plan pool k size first) [] 0) ≡ Some n → first < n
+  next_above size first n is =
+      below_above size first (size + size) [] (entry (exchange_plan pool k size first) (size + size) []) n (ap lowest (sym (ahead-is size first)) ∙ is)
+
+  -- a stage notes a difference that is no more than that of any later exchange
+  next_reaches : (size first difference : ℕ) (set outs ins : List ℕ) → Exchange pool k size difference set outs ins → first < difference → AtMost difference (lowest (ahead (exchange_plan pool k size first) [] 0))
+  next_reaches size first difference set outs ins e less =
+      let none : size ≡ 0 → first ≡ 0 = λ empty. absurd (omega (arith, less, e.differs, no_difference outs ins (e.outs_size ∙ empty) (e.ins_size ∙ empty))) in
+      elim (noted size first difference less (size + size) [] (outs ++ ins) (exchange-admitted size difference set outs ins e)) [
+        inl here ↦
+          let there : IsIn set (stage_sets pool k size first [] 0) =
+            subst (IsIn set) (sym (stage-is size first))
+            (subst (λ s. IsIn s (map (set_of pool k size) (found (exchange_plan pool k size first) (size + size) []))) (path-set size outs ins e.outs_size ∙ sym e.is_set)
+            (map-IsIn (set_of pool k size) (outs ++ ins) (found (exchange_plan pool k size first) (size + size) []) (admitted-found (exchange_plan pool k size first) (size + size) [] (outs ++ ins) here))) in
+          let other = stage-exchange size first none set there in
+          let keys : size ∷ first ∷ (map (λ i. higher_first (out i)) other.0 ++ map inn other.1) ≡ size ∷ difference ∷ (map (λ i. higher_first (out i)) outs ++ map inn ins) =
+            sym (key-at size first set other.0 other.1 other.2) ∙ key-at size difference set outs ins e in
+          let same : first ≡ difference = cc in
+          absurd (omega (arith, less, same))
+      | inr most ↦ subst (λ events. AtMost difference (lowest events)) (sym (ahead-is size first)) most
       ]
 
-  stages-ascend : (count size first : ℕ) → ((difference : ℕ) → first ≤ difference → difference < first + count → size ≡ 0 → difference ≡ 0) → Ascends key (sets_of_stages pool k count size first)
+  stages-in : (count size first : ℕ) (next : Option ℕ) (set : List ℕ) → IsIn set (sets_of_stages pool k count size first next) → (difference : ℕ) × (first ≤ difference) × (difference < first + count) × IsIn set (stage_sets pool k size difference [] 0)
   unfolding sets_of_stages
-  stages-ascend zero size first none = tt
-  stages-ascend (suc count) size first none =
-      Ascends-append key (stage_sets pool k size first [] 0) (sets_of_stages pool k count size (suc first))
+  stages-in zero size first next set m = absurd m
+  stages-in (suc count) size first next set m =
+      elim (stages-cases (is_next first next) (stage_sets pool k size first [] 0) (sets_of_stages pool k count size (suc first) (lowest (ahead (exchange_plan pool k size first) [] 0))) (sets_of_stages pool k count size (suc first) next) set m) [
+        inl here ↦ (first, omega arith, omega arith, here.1)
+      | inr (inl later) ↦ let rest = stages-in count size (suc first) (lowest (ahead (exchange_plan pool k size first) [] 0)) set later.1 in (rest.0, omega (arith, rest.1), omega (arith, rest.2), rest.3)
+      | inr (inr later) ↦ let rest = stages-in count size (suc first) next set later.1 in (rest.0, omega (arith, rest.1), omega (arith, rest.2), rest.3)
+      ]
+
+  in-stages : (count size first difference n : ℕ) (next : Option ℕ) (set outs ins : List ℕ) → Exchange pool k size difference set outs ins → next ≡ Some n → first ≤ n → n ≤ difference → difference < first + count → IsIn set (sets_of_stages pool k count size first next)
+  unfolding sets_of_stages AtMost
+  in-stages zero size first difference n next set outs ins e is from to below' = absurd (omega arith)
+  in-stages (suc count) size first difference n next set outs ins e is from to below' =
+      let here : List (List ℕ) = stage_sets pool k size first [] 0 in
+      let found_next : Option ℕ = lowest (ahead (exchange_plan pool k size first) [] 0) in
+      elim (cases_eq n first) [
+        inl same ↦
+          let yes' : is_next first next ≡ true = ap (is_next first) is ∙ eq-eqb n first same in
+          subst (λ c. IsIn set (if c then (here ++ sets_of_stages pool k count size (suc first) found_next) else sets_of_stages pool k count size (suc first) next)) (sym yes')
+          (elim (cases_eq difference first) [
+            inl now' ↦ IsIn-front set here (sets_of_stages pool k count size (suc first) found_next) (subst (λ d. IsIn set (stage_sets pool k size d [] 0)) now' (exchange-stage size difference set outs ins e))
+          | inr later ↦
+              let less : first < difference = omega (arith, same, later) in
+              let most = next_reaches size first difference set outs ins e less in
+              IsIn-back set here (sets_of_stages pool k count size (suc first) found_next)
+              (in-stages count size (suc first) difference most.0 found_next set outs ins e most.1 (next_above size first most.0 most.1) most.2 (omega arith))
+          ])
+      | inr other ↦
+          let no' : is_next first next ≡ false = ap (is_next first) is ∙ ne_eqb n first other in
+          subst (λ c. IsIn set (if c then (here ++ sets_of_stages pool k count size (suc first) found_next) else sets_of_stages pool k count size (suc first) next)) (sym no')
+          (in-stages count size (suc first) difference n next set outs ins e is (omega (arith, other)) to (omega arith))
+      ]
+
+  stages-ascend : (count size first : ℕ) (next : Option ℕ) → ((difference : ℕ) → first ≤ difference → difference < first + count → size ≡ 0 → difference ≡ 0) → Ascends key (sets_of_stages pool k count size first next)
+  unfolding sets_of_stages
+  stages-ascend zero size first next none = tt
+  stages-ascend (suc count) size first next none =
+      let found_next : Option ℕ = lowest (ahead (exchange_plan pool k size first) [] 0) in
+      let more : (difference : ℕ) → suc first ≤ difference → difference < suc first + count → size ≡ 0 → difference ≡ 0 = λ difference from below'. none difference (omega arith) (omega arith) in
+      ascends-if (is_next first next) (stage_sets pool k size first [] 0 ++ sets_of_stages pool k count size (suc first) found_next) (sets_of_stages pool k count size (suc first) next)
+      (Ascends-append key (stage_sets pool k size first [] 0) (sets_of_stages pool k count size (suc first) found_next)
       (stage-ascends size first (none first (omega arith) (omega arith)))
-      (stages-ascend count size (suc first) (λ difference from below. none difference (omega arith) (omega arith)))
+      (stages-ascend count size (suc first) found_next more)
       (λ x y m n.
         let here = stage-exchange size first (none first (omega arith) (omega arith)) x m in
-        let later = stages-in count size (suc first) y n in
+        let later = stages-in count size (suc first) found_next y n in
         let there = stage-exchange size later.0 (none later.0 (omega (arith, later.1)) (omega (arith, later.2))) y later.3 in
         let one : List ℕ = map (λ i. higher_first (out i)) here.0 ++ map inn here.1 in
         let two : List ℕ = map (λ i. higher_first (out i)) there.0 ++ map inn there.1 in
         subst (λ z. is_before z (key y) ≡ true) (sym (key-at size first x here.0 here.1 here.2))
         (subst (λ z. is_before (size ∷ first ∷ one) z ≡ true) (sym (key-at size later.0 y there.0 there.1 there.2))
-        (is_before-equal size (first ∷ one) (later.0 ∷ two) ∙ is_before-lower first later.0 one two (omega (arith, later.1)))))
+        (is_before-equal size (first ∷ one) (later.0 ∷ two) ∙ is_before-lower first later.0 one two (omega (arith, later.1))))))
+      (stages-ascend count size (suc first) next more)
 
   -- where nothing is exchanged, nothing differs
   none_at : (size difference : ℕ) → least_difference pool k size ≤ difference → difference < least_difference pool k size + stages_of pool k size → size ≡ 0 → difference ≡ 0
   none_at zero difference from below none = omega arith
   none_at (suc size) difference from below none = absurd (omega arith)
 
-  sizes-in : (count first : ℕ) (set : List ℕ) → IsIn set (sets_of_sizes pool k count first) → (size : ℕ) × (first ≤ size) × (size < first + count) × IsIn set (sets_of_stages pool k (stages_of pool k size) size (least_difference pool k size))
+  sizes-in : (count first : ℕ) (set : List ℕ) → IsIn set (sets_of_sizes pool k count first) → (size : ℕ) × (first ≤ size) × (size < first + count) × IsIn set (sets_of_stages pool k (stages_of pool k size) size (least_difference pool k size) (Some (least_difference pool k size)))
   unfolding sets_of_sizes
   sizes-in zero first set m = absurd m
   sizes-in (suc count) first set m =
-      elim (IsIn-append set (sets_of_stages pool k (stages_of pool k first) first (least_difference pool k first)) (sets_of_sizes pool k count (suc first)) m) [
+      elim (IsIn-append set (sets_of_stages pool k (stages_of pool k first) first (least_difference pool k first) (Some (least_difference pool k first))) (sets_of_sizes pool k count (suc first)) m) [
         inl here ↦ (first, omega arith, omega arith, here)
       | inr later ↦ let rest = sizes-in count (suc first) set later in (rest.0, omega (arith, rest.1), omega (arith, rest.2), rest.3)
       ]
 
-  in-sizes : (count first size : ℕ) (set : List ℕ) → first ≤ size → size < first + count → IsIn set (sets_of_stages pool k (stages_of pool k size) size (least_difference pool k size)) → IsIn set (sets_of_sizes pool k count first)
+  in-sizes : (count first size : ℕ) (set : List ℕ) → first ≤ size → size < first + count → IsIn set (sets_of_stages pool k (stages_of pool k size) size (least_difference pool k size) (Some (least_difference pool k size))) → IsIn set (sets_of_sizes pool k count first)
   unfolding sets_of_sizes
   in-sizes zero first size set from below m = absurd (omega arith)
   in-sizes (suc count) first size set from below m =
       elim (cases_eq size first) [
-        inl same ↦ IsIn-front set (sets_of_stages pool k (stages_of pool k first) first (least_difference pool k first)) (sets_of_sizes pool k count (suc first)) (subst (λ s. IsIn set (sets_of_stages pool k (stages_of pool k s) s (least_difference pool k s))) same m)
-      | inr other ↦ IsIn-back set (sets_of_stages pool k (stages_of pool k first) first (least_difference pool k first)) (sets_of_sizes pool k count (suc first)) (in-sizes count (suc first) size set (omega (arith, other)) (omega arith) m)
+        inl same ↦ IsIn-front set (sets_of_stages pool k (stages_of pool k first) first (least_difference pool k first) (Some (least_difference pool k first))) (sets_of_sizes pool k count (suc first)) (subst (λ s. IsIn set (sets_of_stages pool k (stages_of pool k s) s (least_difference pool k s) (Some (least_difference pool k s)))) same m)
+      | inr other ↦ IsIn-back set (sets_of_stages pool k (stages_of pool k first) first (least_difference pool k first) (Some (least_difference pool k first))) (sets_of_sizes pool k count (suc first)) (in-sizes count (suc first) size set (omega (arith, other)) (omega arith) m)
       ]
 
   size-exchange : (count first : ℕ) (set : List ℕ) → IsIn set (sets_of_sizes pool k count first) → (size : ℕ) × (difference : ℕ) × (outs : List ℕ) × (ins : List ℕ) × (first ≤ size) × Exchange pool k size difference set outs ins
   size-exchange count first set m =
       let size = sizes-in count first set m in
-      let stage = stages-in (stages_of pool k size.0) size.0 (least_difference pool k size.0) set size.3 in
+      let stage = stages-in (stages_of pool k size.0) size.0 (least_difference pool k size.0) (Some (least_difference pool k size.0)) set size.3 in
       let e = stage-exchange size.0 stage.0 (none_at size.0 stage.0 stage.1 stage.2) set stage.3 in
       (size.0, stage.0, e.0, e.1, size.1, e.2)
 
@@ -232,11 +412,11 @@ module _ (pool : List ℕ) (k : ℕ) (rises : IsStrictlyIncreasing pool) (enough
   unfolding sets_of_sizes
   sizes-ascend zero first = tt
   sizes-ascend (suc count) first =
-      Ascends-append key (sets_of_stages pool k (stages_of pool k first) first (least_difference pool k first)) (sets_of_sizes pool k count (suc first))
-      (stages-ascend (stages_of pool k first) first (least_difference pool k first) (none_at first))
+      Ascends-append key (sets_of_stages pool k (stages_of pool k first) first (least_difference pool k first) (Some (least_difference pool k first))) (sets_of_sizes pool k count (suc first))
+      (stages-ascend (stages_of pool k first) first (least_difference pool k first) (Some (least_difference pool k first)) (none_at first))
       (sizes-ascend count (suc first))
       (λ x y m n.
-        let stage = stages-in (stages_of pool k first) first (least_difference pool k first) x m in
+        let stage = stages-in (stages_of pool k first) first (least_difference pool k first) (Some (least_difference pool k first)) x m in
         let here = stage-exchange first stage.0 (none_at first stage.0 stage.1 stage.2) x stage.3 in
         let there = size-exchange count (suc first) y n in
         subst (λ z. is_before z (key y) ≡ true) (sym (key-at first stage.0 x here.0 here.1 here.2))
@@ -261,10 +441,9 @@ module _ (pool : List ℕ) (k : ℕ) (rises : IsStrictlyIncreasing pool) (enough
       let out_room : 0 + length outs ≤ k = Climbs-length 0 k outs (omega arith) e.2 in
       let in_room : 0 + length ins ≤ length pool - k = Climbs-length 0 (length pool - k) ins (omega arith) e.3 in
       in-sizes (suc (most_exchanged pool k)) 0 size set (omega arith) (omega (arith, e.4))
-      (in-stages (stages_of pool k size) size (least_difference pool k size) difference set least (omega arith)
-      (exchange-stage size difference set outs ins (record {
+      (in-stages (stages_of pool k size) size (least_difference pool k size) difference (least_difference pool k size) (Some (least_difference pool k size)) set outs ins (record {
         outs_climb = e.2; ins_climb = e.3; outs_size = refl; ins_size = sym e.4; differs = refl; is_set = e.5
-      })))
+      }) refl (omega arith) least (omega arith))
 
   pub pool-ascend : Ascends (λ set. set) (subsets pool k)
   pool-ascend =
@@ -284,9 +463,10 @@ module _ (pool : List ℕ) (k : ℕ) (rises : IsStrictlyIncreasing pool) (enough
       found-set set-found
 
   -- what a new search finds are all sets, by their keys
-  pub exchanges-found : sets_ahead pool k 0 0 [] 0 ≡ exchanges pool k
-  unfolding sets_of_sizes sets_of_stages
+  pub exchanges-found : sets_ahead pool k 0 0 [] 0 None ≡ exchanges pool k
+  unfolding sets_of_sizes
   exchanges-found =
-      sym (append_assoc (stage_sets pool k 0 0 [] 0) (sets_of_stages pool k (greatest_difference pool k 0 - 0) 0 1) (sets_of_sizes pool k (most_exchanged pool k - 0) 1))
-      ∙ ap (λ count. (stage_sets pool k 0 0 [] 0 ++ sets_of_stages pool k (greatest_difference pool k 0 - 0) 0 1) ++ sets_of_sizes pool k count 1) (let e : most_exchanged pool k - 0 ≡ most_exchanged pool k = omega arith in e)
+      sym (append_assoc (stage_sets pool k 0 0 [] 0) (sets_of_stages pool k (greatest_difference pool k 0 - 0) 0 1 (lowest (ahead (exchange_plan pool k 0 0) [] 0))) (sets_of_sizes pool k (most_exchanged pool k - 0) 1))
+      ∙ ap (λ count. (stage_sets pool k 0 0 [] 0 ++ sets_of_stages pool k (greatest_difference pool k 0 - 0) 0 1 (lowest (ahead (exchange_plan pool k 0 0) [] 0))) ++ sets_of_sizes pool k count 1) (let e : most_exchanged pool k - 0 ≡ most_exchanged pool k = omega arith in e)
+      ∙ ap (λ sets. sets ++ sets_of_sizes pool k (most_exchanged pool k) 1) (sym (sets-first pool k 0 (greatest_difference pool k 0 - 0) 0))
       ∙ sizes-sorted

@@ -1,5 +1,5 @@
 -- How the searches of sets walk: one ascending half of places after another.
-use Rattle.std.specs.Prelude.{ℕ, ◌+◌, ◌-◌, Bool, ◌||◌, ◌==◌, nat_lt, List, length, slice_index, if◌then◌else◌}
+use Rattle.std.specs.Prelude.{ℕ, ◌+◌, ◌-◌, Bool, ◌||◌, ◌==◌, nat_lt, List, length, slice_index, if◌then◌else◌, Option}
 use Rattle.dutch_order.specs.Trials.{Plan}
 
 -- a half begins at 0, and goes on above the last number
@@ -13,11 +13,12 @@ half_stop half first_count second_count path =
     if nat_lt (length path) half then first_count - (half - 1 - length path) else second_count - (half + half - 1 - length path)
 
 -- two ascending lists of so many places each, below two counts
-abbrev pub two_halves : ℕ → ℕ → ℕ → (List ℕ → ℕ → Bool) → Plan
-two_halves half first_count second_count fits = record {
+abbrev pub two_halves : ℕ → ℕ → ℕ → (List ℕ → ℕ → Bool) → (List ℕ → ℕ → Option ℕ) → Plan
+two_halves half first_count second_count fits beyond = record {
   places = half + half;
   width = first_count + second_count;
   start = half_start half;
   stop = half_stop half first_count second_count;
-  fits = fits
+  fits = fits;
+  beyond = beyond
 }

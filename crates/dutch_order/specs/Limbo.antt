@@ -1,5 +1,5 @@
 -- Exchanges of moved-down players (C.04.3 D.3): sets of places of the bracket, by their scores and then by their numbers.
-use Rattle.std.specs.Prelude.{ℕ, ◌+◌, ◌-◌, ◌<◌, ◌≤◌, Bool, ◌&&◌, ◌||◌, not, ◌==◌, nat_lt, List, [], ◌∷◌, ◌++◌, map, drop, length, slice_index, slice_range, if◌then◌else◌}
+use Rattle.std.specs.Prelude.{ℕ, ◌+◌, ◌-◌, ◌<◌, ◌≤◌, Bool, ◌&&◌, ◌||◌, not, ◌==◌, nat_lt, List, [], ◌∷◌, ◌++◌, map, drop, length, slice_index, slice_range, if◌then◌else◌, None}
 use Rattle.dutch_order.specs.Choices.{subsets}
 use Rattle.dutch_order.specs.Keys.{sorted, higher_first}
 use Rattle.dutch_order.specs.Trials.{Plan, numbers_from}
@@ -47,6 +47,7 @@ abbrev pub limbo_plan : List ℕ → ℕ → Plan
 limbo_plan scores k =
     two_halves k (length scores) (length scores)
     (λ path place. if nat_lt (length path) k then leads scores k path place else mirrors scores k path place)
+    (λ path place. None)
 
 -- the numbers of places, which count from 1
 abbrev pub numbers_of : List ℕ → List ℕ

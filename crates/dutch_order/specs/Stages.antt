@@ -1,15 +1,26 @@
 -- How exchanges are searched: stage by stage, one for each number of exchanged players and each difference of the sums.
-use Rattle.std.specs.Prelude.{ℕ, zero, suc, ◌+◌, ◌-◌, Bool, not, ◌&&◌, nat_lt, nat_le, min, List, [], ◌∷◌, ◌++◌, map, filter, reverse, take, drop, length, slice_index, if◌then◌else◌}
+use Rattle.std.specs.Prelude.{ℕ, zero, suc, ◌+◌, ◌-◌, Bool, true, false, not, ◌&&◌, ◌==◌, nat_lt, nat_le, min, List, [], ◌∷◌, ◌++◌, map, filter, reverse, take, drop, length, slice_index, if◌then◌else◌, Option, Some, None}
 use Rattle.dutch_order.specs.Choices.{is_member}
 use Rattle.dutch_order.specs.declared.exchange.Side.{Side}
 use Rattle.dutch_order.specs.declared.exchange.Side.TheVariants.{Out, In}
-use Rattle.dutch_order.specs.Trials.{Plan, numbers_from, hits, trials, ahead}
+use Rattle.dutch_order.specs.Trials.{Plan, numbers_from, hits, trials, lower, lowest, ahead}
 use Rattle.dutch_order.specs.Halves.{two_halves}
 
 -- the sum of what a function gives over a list
 abbrev pub total : (ℕ → ℕ) → List ℕ → ℕ
 total f [] = 0
 total f (x ∷ xs) = f x + total f xs
+
+-- whether a difference is the next one
+abbrev pub is_next : ℕ → Option ℕ → Bool
+is_next difference None = false
+is_next difference (Some next) = next == difference
+
+-- the next difference after one, up to a greatest one
+abbrev pub following : ℕ → ℕ → Option ℕ → Option ℕ
+following difference greatest None = None
+following difference greatest (Some next) =
+    if nat_lt difference next && nat_le next greatest then Some next else None
 
 module _ (pool : List ℕ) (k : ℕ) where
   -- a number of the original set by its place from the highest, and one of the others by its place from the lowest
@@ -40,9 +51,14 @@ module _ (pool : List ℕ) (k : ℕ) where
   within_reach size difference path place =
       nat_le (least_at size path place) difference && nat_le difference (greatest_at size path place)
 
+  -- what a place that cannot reach the wanted difference gives at least, where that is more
+  abbrev pub beyond_reach : ℕ → ℕ → List ℕ → ℕ → Option ℕ
+  beyond_reach size difference path place =
+      if nat_lt difference (least_at size path place) then Some (least_at size path place) else None
+
   -- a stage fills the places of those moved out, and then those of the numbers moved in
   abbrev pub exchange_plan : ℕ → ℕ → Plan
-  exchange_plan size difference = two_halves size k (length pool - k) (within_reach size difference)
+  exchange_plan size difference = two_halves size k (length pool - k) (within_reach size difference) (beyond_reach size difference)
 
   -- the original numbers that were not moved out, lowest first
   abbrev pub kept_of : List ℕ → List ℕ
@@ -64,16 +80,20 @@ module _ (pool : List ℕ) (k : ℕ) where
   abbrev pub greatest_difference : ℕ → ℕ
   greatest_difference size = run In (length pool - k - size) size - run Out (k - size) size
 
-  -- the sets of so many stages of a size, from a difference on
-  unfoldable pub sets_of_stages : ℕ → ℕ → ℕ → List (List ℕ)
-  sets_of_stages zero size difference = []
-  sets_of_stages (suc count) size difference =
-      stage_sets size difference [] 0 ++ sets_of_stages count size (suc difference)
+  -- the sets of so many stages of a size, from a difference on, where the next stage that finds any is known
+  unfoldable pub sets_of_stages : ℕ → ℕ → ℕ → Option ℕ → List (List ℕ)
+  sets_of_stages zero size difference next = []
+  sets_of_stages (suc count) size difference next =
+      if is_next difference next
+      then stage_sets size difference [] 0 ++ sets_of_stages count size (suc difference) (lowest (ahead (exchange_plan size difference) [] 0))
+      else sets_of_stages count size (suc difference) next
 
-  unfoldable pub trials_of_stages : ℕ → ℕ → ℕ → ℕ
-  trials_of_stages zero size difference = 0
-  trials_of_stages (suc count) size difference =
-      trials (ahead (exchange_plan size difference) [] 0) + trials_of_stages count size (suc difference)
+  unfoldable pub trials_of_stages : ℕ → ℕ → ℕ → Option ℕ → ℕ
+  trials_of_stages zero size difference next = 0
+  trials_of_stages (suc count) size difference next =
+      if is_next difference next
+      then trials (ahead (exchange_plan size difference) [] 0) + trials_of_stages count size (suc difference) (lowest (ahead (exchange_plan size difference) [] 0))
+      else trials_of_stages count size (suc difference) next
 
   -- how many stages a size has
   abbrev pub stages_of : ℕ → ℕ
@@ -83,12 +103,12 @@ module _ (pool : List ℕ) (k : ℕ) where
   unfoldable pub sets_of_sizes : ℕ → ℕ → List (List ℕ)
   sets_of_sizes zero size = []
   sets_of_sizes (suc count) size =
-      sets_of_stages (stages_of size) size (least_difference size) ++ sets_of_sizes count (suc size)
+      sets_of_stages (stages_of size) size (least_difference size) (Some (least_difference size)) ++ sets_of_sizes count (suc size)
 
   unfoldable pub trials_of_sizes : ℕ → ℕ → ℕ
   trials_of_sizes zero size = 0
   trials_of_sizes (suc count) size =
-      trials_of_stages (stages_of size) size (least_difference size) + trials_of_sizes count (suc size)
+      trials_of_stages (stages_of size) size (least_difference size) (Some (least_difference size)) + trials_of_sizes count (suc size)
 
   unfoldable pub stages_of_sizes : ℕ → ℕ → ℕ
   stages_of_sizes zero size = 0
@@ -98,16 +118,18 @@ module _ (pool : List ℕ) (k : ℕ) where
   abbrev pub most_exchanged : ℕ
   most_exchanged = min k (length pool - k)
 
-  -- what is to come at a stage
-  abbrev pub sets_ahead : ℕ → ℕ → List ℕ → ℕ → List (List ℕ)
-  sets_ahead size difference path place =
+  -- what is to come at a stage, where it is known what lies beyond the trials made in it
+  abbrev pub sets_ahead : ℕ → ℕ → List ℕ → ℕ → Option ℕ → List (List ℕ)
+  sets_ahead size difference path place beyond =
       stage_sets size difference path place
-      ++ (sets_of_stages (greatest_difference size - difference) size (suc difference) ++ sets_of_sizes (most_exchanged - size) (suc size))
+      ++ (sets_of_stages (greatest_difference size - difference) size (suc difference) (lower beyond (lowest (ahead (exchange_plan size difference) path place)))
+      ++ sets_of_sizes (most_exchanged - size) (suc size))
 
-  abbrev pub trials_ahead : ℕ → ℕ → List ℕ → ℕ → ℕ
-  trials_ahead size difference path place =
+  abbrev pub trials_ahead : ℕ → ℕ → List ℕ → ℕ → Option ℕ → ℕ
+  trials_ahead size difference path place beyond =
       trials (ahead (exchange_plan size difference) path place)
-      + (trials_of_stages (greatest_difference size - difference) size (suc difference) + trials_of_sizes (most_exchanged - size) (suc size))
+      + (trials_of_stages (greatest_difference size - difference) size (suc difference) (lower beyond (lowest (ahead (exchange_plan size difference) path place)))
+      + trials_of_sizes (most_exchanged - size) (suc size))
 
   abbrev pub stages_ahead : ℕ → ℕ → ℕ
   stages_ahead size difference =

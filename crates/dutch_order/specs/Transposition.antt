@@ -1,5 +1,5 @@
 -- Transpositions (C.04.3 D.1): tuples in the order of their numbers.
-use Rattle.std.specs.Prelude.{ℕ, zero, suc, Bool, not, ◌&&◌, eqb, List, [], ◌∷◌, ◌++◌, map, filter, length, take, slice_index}
+use Rattle.std.specs.Prelude.{ℕ, zero, suc, Bool, not, ◌&&◌, eqb, List, [], ◌∷◌, ◌++◌, map, filter, length, take, slice_index, None}
 use Rattle.std.specs.List.{list_any}
 use Rattle.dutch_order.specs.Choices.{tuples, all_meet}
 use Rattle.dutch_order.specs.Keys.{sorted}
@@ -32,7 +32,8 @@ transposition_plan meets first pool = record {
   width = length pool;
   start = λ _. 0;
   stop = λ _. length pool;
-  fits = λ path place. not (list_any (eqb place) path) && meets (slice_index first (length path)) (slice_index pool place)
+  fits = λ path place. not (list_any (eqb place) path) && meets (slice_index first (length path)) (slice_index pool place);
+  beyond = λ path place. None
 }
 
 -- the numbers at the places of a path

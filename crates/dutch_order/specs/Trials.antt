@@ -1,31 +1,45 @@
 -- The model that carries a search: its events, of which some are trials and some choices found, as a list of what is still to come.
 -- It says how the generators work, and a reader of their promises may pass it by.
-use Rattle.std.specs.Prelude.{ℕ, zero, suc, ◌+◌, ◌-◌, Bool, cond, Option, Some, None, List, [], ◌∷◌, ◌++◌, length, flat_map}
+use Rattle.std.specs.Prelude.{ℕ, zero, suc, ◌+◌, ◌-◌, min, Bool, cond, Option, Some, None, List, [], ◌∷◌, ◌++◌, length, flat_map}
 
 -- what a search fills: how many places, below which number all its numbers are, from which to which number it tries at the place
--- after a beginning, and whether a number fits there
+-- after a beginning, whether a number fits there, and what a number that does not fit would have given at least, where that is known
 pub record Plan : Type 0 where
   pub places : ℕ
   pub width : ℕ
   pub start : List ℕ → ℕ
   pub stop : List ℕ → ℕ
   pub fits : List ℕ → ℕ → Bool
+  pub beyond : List ℕ → ℕ → Option ℕ
 
--- an event of a search: a trial of a number at a place, or a whole path found
-abbrev pub Event : Type 0
-Event = Option (List ℕ)
+-- an event of a search: a trial of a number at a place, with what lies beyond it, or a whole path found
+pub data Event : Type 0 where
+  Tried : Option ℕ → Event
+  Hit : List ℕ → Event
 
 -- the paths that are found
 abbrev pub hits : List Event → List (List ℕ)
 hits [] = []
-hits (None ∷ events) = hits events
-hits (Some path ∷ events) = path ∷ hits events
+hits (Tried beyond ∷ events) = hits events
+hits (Hit path ∷ events) = path ∷ hits events
 
 -- how many trials are made
 abbrev pub trials : List Event → ℕ
 trials [] = 0
-trials (None ∷ events) = trials events + 1
-trials (Some path ∷ events) = trials events
+trials (Tried beyond ∷ events) = trials events + 1
+trials (Hit path ∷ events) = trials events
+
+-- the lower of two numbers, of which there may be none
+abbrev pub lower : Option ℕ → Option ℕ → Option ℕ
+lower None other = other
+lower (Some x) None = Some x
+lower (Some x) (Some y) = Some (min x y)
+
+-- the lowest number that lies beyond a trial
+abbrev pub lowest : List Event → Option ℕ
+lowest [] = None
+lowest (Tried beyond ∷ events) = lower beyond (lowest events)
+lowest (Hit path ∷ events) = lowest events
 
 -- so many numbers from a first one on
 abbrev pub numbers_from : ℕ → ℕ → List ℕ
@@ -40,11 +54,11 @@ module _ (plan : Plan) where
 
   -- the events after a beginning, where so many places are open, from a number on
   unfoldable pub below : ℕ → List ℕ → ℕ → List Event
-  below zero path zero = Some path ∷ []
+  below zero path zero = Hit path ∷ []
   below zero path (suc number) = []
   below (suc open_places) path number =
       flat_map
-      (λ tried. None ∷ cond (plan.fits path tried) (below open_places (path ++ tried ∷ []) (entry open_places (path ++ tried ∷ []))) [])
+      (λ tried. Tried (plan.beyond path tried) ∷ cond (plan.fits path tried) (below open_places (path ++ tried ∷ []) (entry open_places (path ++ tried ∷ []))) [])
       (numbers_from number (plan.stop path - number))
 
   -- the events after all of those below a path

@@ -1,17 +1,19 @@
 // Exchanges, article D.2: sets of a pool by how far they are from the original one, specified by a sorted list of subsets.
 //
 // The sets are searched in stages, one for each number of exchanged players and each difference of the sums. A stage fills the
-// places of the numbers moved out, highest first, and then those of the numbers moved in, lowest first, and tries a place only while
-// the wanted difference lies between the least and the greatest that can still come. So a stage never scans all sets.
+// places of the numbers moved out, highest first, and then those of the numbers moved in, lowest first, and goes on from a place only
+// while the wanted difference lies between the least and the greatest that can still come. So a stage never scans all sets. Where
+// the least is more than what is wanted, it is noted: the lowest one noted is the difference of the next stage, so no stage is
+// searched that has no set, however far apart the numbers of the pool are.
 ghost use Rattle.std.specs.Prelude.{◌≡◌, ◌+◌, ◌*◌, ◌-◌, ◌<◌, ◌≤◌, ℕ, true, false, [], ◌∷◌, ◌++◌, length, map, take, drop};
 ghost use Rattle.std.specs.List.{AllByRecursion};
 ghost use Rattle.dutch_order.specs.Trials.{numbers_from};
-ghost use Rattle.dutch_order.specs.Stages.{least_at, greatest_at, least_difference, greatest_difference, exchange_plan, sets_ahead, trials_ahead, stages_ahead, set_of, kept_of, value_of};
+ghost use Rattle.dutch_order.specs.Stages.{least_at, greatest_at, least_difference, greatest_difference, exchange_plan, sets_ahead, trials_ahead, stages_ahead, set_of, kept_of, value_of, following};
 ghost use Rattle.dutch_order.specs.Exchange.{exchanges};
 ghost use Rattle.std.specs.List.Sorted.{IsStrictlyIncreasing};
 ghost use Rattle.dutch_order.specs.declared.exchange.Side.TheVariants.{In};
 ghost use Rattle.dutch_order.specs.Steps.{MatchStep};
-ghost use Rattle.dutch_order.specs.Walks.{Stands};
+ghost use Rattle.dutch_order.specs.Walks.{Stands, IsOpen};
 ghost use Rattle.dutch_order.specs.Trials.{ahead};
 
 use arrayvec::ArrayVec;
@@ -100,6 +102,20 @@ struct Stage<'a> {
     ghost ins: { size ≤ length pool.now - k },
 }
 
+/// What can still come where a place is tried in a stage.
+fn reach_of(stage: &Stage<'_>, path: &[usize], place: usize) -> Reach
+    requires opened { IsOpen (exchange_plan stage.now.pool.now stage.now.k stage.now.size stage.now.difference) path.now }
+    requires tried { place < (exchange_plan stage.now.pool.now stage.now.k stage.now.size stage.now.difference).stop path.now }
+    ensures least { result.least ≡ least_at stage.now.pool.now stage.now.k stage.now.size path.now place }
+    ensures greatest { result.greatest ≡ greatest_at stage.now.pool.now stage.now.k stage.now.size path.now place }
+{
+    if path.len() < stage.size {
+        reach_out(stage.pool, stage.k, stage.size, path, place)
+    } else {
+        reach_in(stage.pool, stage.k, stage.size, path, place)
+    }
+}
+
 impl<'a> Tree for Stage<'a> {
     ghost use Rattle.dutch_order.specs.Stages.{exchange_plan};
     ghost use Rattle.std.proofs.Common.{arith};
@@ -122,12 +138,17 @@ impl<'a> Tree for Stage<'a> {
     }
 
     fn admits(&self, path: &[usize], place: usize) -> bool {
-        let reach = if path.len() < self.size {
-            reach_out(self.pool, self.k, self.size, path, place)
-        } else {
-            reach_in(self.pool, self.k, self.size, path, place)
-        };
+        let reach = reach_of(self, path, place);
         reach.least <= self.difference && self.difference <= reach.greatest
+    }
+
+    fn beyond(&self, path: &[usize], place: usize) -> Option<usize> {
+        let reach = reach_of(self, path, place);
+        if self.difference < reach.least {
+            Some(reach.least)
+        } else {
+            None
+        }
     }
 }
 
@@ -154,6 +175,16 @@ fn greatest_of(pool: &[u16], k: usize, size: usize) -> usize
     most_in.saturating_sub(run_of(pool, k, Side::Out, k - size, size))
 }
 
+/// The next difference after one, up to a greatest one.
+fn following_of(difference: usize, greatest: usize, beyond: Option<usize>) -> Option<usize>
+    ensures { result ≡ following difference greatest beyond }
+{
+    match beyond {
+        Some(next) if difference < next && next <= greatest => Some(next),
+        _ => None,
+    }
+}
+
 /// Where a search of exchanges stands.
 #[derive(Drop)]
 struct Place {
@@ -174,24 +205,24 @@ fn next_stage(pool: &[u16], k: usize, place: &mut Place) -> bool
     ensures ins { place.new.size ≤ length pool.now - k }
     ensures stands { Stands (exchange_plan pool.now k place.new.size place.new.difference) place.new.walk.path.items }
     ensures sets {
-        sets_ahead pool.now k place.new.size place.new.difference place.new.walk.path.items place.new.walk.number
-            ≡ sets_ahead pool.now k place.old.size place.old.difference place.old.walk.path.items place.old.walk.number
+        sets_ahead pool.now k place.new.size place.new.difference place.new.walk.path.items place.new.walk.number place.new.walk.beyond
+            ≡ sets_ahead pool.now k place.old.size place.old.difference place.old.walk.path.items place.old.walk.number place.old.walk.beyond
     }
     ensures trials {
-        trials_ahead pool.now k place.new.size place.new.difference place.new.walk.path.items place.new.walk.number
-            ≡ trials_ahead pool.now k place.old.size place.old.difference place.old.walk.path.items place.old.walk.number
+        trials_ahead pool.now k place.new.size place.new.difference place.new.walk.path.items place.new.walk.number place.new.walk.beyond
+            ≡ trials_ahead pool.now k place.old.size place.old.difference place.old.walk.path.items place.old.walk.number place.old.walk.beyond
     }
     ensures nearer {
         result ≡ true → stages_ahead pool.now k place.new.size place.new.difference < stages_ahead pool.now k place.old.size place.old.difference
     }
     ensures ended {
         result ≡ false
-            → (sets_ahead pool.now k place.new.size place.new.difference place.new.walk.path.items place.new.walk.number ≡ [])
-            × (trials_ahead pool.now k place.new.size place.new.difference place.new.walk.path.items place.new.walk.number ≡ 0)
+            → (sets_ahead pool.now k place.new.size place.new.difference place.new.walk.path.items place.new.walk.number place.new.walk.beyond ≡ [])
+            × (trials_ahead pool.now k place.new.size place.new.difference place.new.walk.path.items place.new.walk.number place.new.walk.beyond ≡ 0)
     }
 {
-    if place.difference < greatest_of(pool, k, place.size) {
-        place.difference += 1;
+    if let Some(next) = following_of(place.difference, greatest_of(pool, k, place.size), place.walk.beyond) {
+        place.difference = next;
         place.walk = Walk::new(0);
         return true;
     }
@@ -217,21 +248,21 @@ fn next_set(pool: &[u16], k: usize, place: &mut Place, budget: &mut Budget) -> S
     ensures stands { Stands (exchange_plan pool.now k place.new.size place.new.difference) place.new.walk.path.items }
     ensures answer {
         MatchStep result
-            (λ _. (sets_ahead pool.now k place.old.size place.old.difference place.old.walk.path.items place.old.walk.number
+            (λ _. (sets_ahead pool.now k place.old.size place.old.difference place.old.walk.path.items place.old.walk.number place.old.walk.beyond
                 ≡ set_of pool.now k place.new.size place.new.walk.path.items
-                    ∷ sets_ahead pool.now k place.new.size place.new.difference place.new.walk.path.items place.new.walk.number)
+                    ∷ sets_ahead pool.now k place.new.size place.new.difference place.new.walk.path.items place.new.walk.number place.new.walk.beyond)
                 × (length place.new.walk.path.items ≡ place.new.size + place.new.size))
-            ((sets_ahead pool.now k place.old.size place.old.difference place.old.walk.path.items place.old.walk.number ≡ [])
-                × (sets_ahead pool.now k place.new.size place.new.difference place.new.walk.path.items place.new.walk.number ≡ [])
-                × (trials_ahead pool.now k place.new.size place.new.difference place.new.walk.path.items place.new.walk.number ≡ 0))
-            ((sets_ahead pool.now k place.new.size place.new.difference place.new.walk.path.items place.new.walk.number
-                ≡ sets_ahead pool.now k place.old.size place.old.difference place.old.walk.path.items place.old.walk.number)
+            ((sets_ahead pool.now k place.old.size place.old.difference place.old.walk.path.items place.old.walk.number place.old.walk.beyond ≡ [])
+                × (sets_ahead pool.now k place.new.size place.new.difference place.new.walk.path.items place.new.walk.number place.new.walk.beyond ≡ [])
+                × (trials_ahead pool.now k place.new.size place.new.difference place.new.walk.path.items place.new.walk.number place.new.walk.beyond ≡ 0))
+            ((sets_ahead pool.now k place.new.size place.new.difference place.new.walk.path.items place.new.walk.number place.new.walk.beyond
+                ≡ sets_ahead pool.now k place.old.size place.old.difference place.old.walk.path.items place.old.walk.number place.old.walk.beyond)
                 × (budget.new.used ≡ budget.new.limit)
-                × (0 < trials_ahead pool.now k place.new.size place.new.difference place.new.walk.path.items place.new.walk.number))
+                × (0 < trials_ahead pool.now k place.new.size place.new.difference place.new.walk.path.items place.new.walk.number place.new.walk.beyond))
     }
     ensures steps {
-        budget.new.used + trials_ahead pool.now k place.new.size place.new.difference place.new.walk.path.items place.new.walk.number
-            ≡ budget.old.used + trials_ahead pool.now k place.old.size place.old.difference place.old.walk.path.items place.old.walk.number
+        budget.new.used + trials_ahead pool.now k place.new.size place.new.difference place.new.walk.path.items place.new.walk.number place.new.walk.beyond
+            ≡ budget.old.used + trials_ahead pool.now k place.old.size place.old.difference place.old.walk.path.items place.old.walk.number place.old.walk.beyond
     }
     ensures limit { budget.new.limit ≡ budget.old.limit }
     ensures rises { budget.old.used ≤ budget.new.used }
@@ -307,8 +338,8 @@ impl<'a> Model for Exchanges<'a> {
     ghost Value = { Ahead };
 
     ghost view = { λ t. record {
-        coming = sets_ahead t.pool.now t.k t.place.size t.place.difference t.place.walk.path.items t.place.walk.number;
-        left = trials_ahead t.pool.now t.k t.place.size t.place.difference t.place.walk.path.items t.place.walk.number
+        coming = sets_ahead t.pool.now t.k t.place.size t.place.difference t.place.walk.path.items t.place.walk.number t.place.walk.beyond;
+        left = trials_ahead t.pool.now t.k t.place.size t.place.difference t.place.walk.path.items t.place.walk.number t.place.walk.beyond
     } };
 
     ghost invariant = { λ t.

@@ -99,6 +99,10 @@ impl<'a> Tree for Ranked<'a> {
         end_of_half(self.k, count, count, path)
     }
 
+    fn beyond(&self, _path: &[usize], _place: usize) -> Option<usize> {
+        None
+    }
+
     fn admits(&self, path: &[usize], place: usize) -> bool {
         if path.len() < self.k {
             place_leads(self.scores, self.k, path, place)

@@ -1,7 +1,7 @@
 // The one search of all generators: a path of numbers that is filled place by place, goes back where no number fits, and can be
 // stopped before each trial.
 ghost use Rattle.std.specs.Prelude.{◌≡◌, ◌+◌, ◌-◌, ◌<◌, ◌≤◌, ℕ, None, [], ◌∷◌, length, true, false};
-ghost use Rattle.dutch_order.specs.Trials.{Plan, entry, below, ahead, hits, trials};
+ghost use Rattle.dutch_order.specs.Trials.{Plan, Tried, entry, below, ahead, hits, trials, lower, lowest};
 ghost use Rattle.dutch_order.specs.Steps.{MatchStep};
 ghost use Rattle.dutch_order.specs.Walks.{Stands, IsOpen, IsSpent};
 
@@ -39,16 +39,23 @@ pub trait Tree {
         requires tried { number < (plan self.now).stop path.now }
         ensures { result ≡ (plan self.now).fits path.now number };
 
+    /// What a number that does not fit would have given at least, where that is known.
+    fn beyond(&self, path: &[usize], number: usize) -> Option<usize>
+        requires opened { IsOpen (plan self.now) path.now }
+        requires tried { number < (plan self.now).stop path.now }
+        ensures { result ≡ (plan self.now).beyond path.now number };
+
     /// Every number tried is below the width.
     ghost within: { (tree : Self) (path : _) → (plan tree).stop path ≤ (plan tree).width };
 }
 
 /// Where a search stands: the numbers at the places filled, and the next number to try at the place after them. At a whole path
-/// the next number is 0 until the path has been handed out.
+/// the next number is 0 until the path has been handed out. And the least that lies beyond the numbers that were tried.
 #[derive(Drop)]
 pub struct Walk {
     pub path: ArrayVec<usize, PLACES>,
     pub number: usize,
+    pub beyond: Option<usize>,
 }
 
 impl Walk {
@@ -56,10 +63,12 @@ impl Walk {
     pub fn new(number: usize) -> Walk
         ensures path { result.path.items ≡ [] }
         ensures number { result.number ≡ number }
+        ensures beyond { result.beyond ≡ None }
     {
         Walk {
             path: ArrayVec::new(),
             number,
+            beyond: None,
         }
     }
 }
@@ -76,6 +85,17 @@ fn first_number<T: Tree>(tree: &T, path: &[usize]) -> usize
     }
 }
 
+/// The lower of two numbers, of which there may be none.
+fn lower_of(one: Option<usize>, other: Option<usize>) -> Option<usize>
+    ensures { result ≡ lower one other }
+{
+    match (one, other) {
+        (None, _) => other,
+        (Some(_), None) => one,
+        (Some(x), Some(y)) => Some(x.min(y)),
+    }
+}
+
 /// Makes one trial: takes the number if it fits, and else goes on to the next one.
 fn try_number<T: Tree>(tree: &T, walk: &mut Walk)
     requires opened { IsOpen (T.plan tree.now) walk.old.path.items }
@@ -85,10 +105,13 @@ fn try_number<T: Tree>(tree: &T, walk: &mut Walk)
     ensures stands { Stands (T.plan tree.now) walk.new.path.items }
     ensures goes_on {
         ahead (T.plan tree.now) walk.old.path.items walk.old.number
-            ≡ None ∷ ahead (T.plan tree.now) walk.new.path.items walk.new.number
+            ≡ Tried ((T.plan tree.now).beyond walk.old.path.items walk.old.number)
+                ∷ ahead (T.plan tree.now) walk.new.path.items walk.new.number
     }
+    ensures beyond { walk.new.beyond ≡ lower walk.old.beyond ((T.plan tree.now).beyond walk.old.path.items walk.old.number) }
     ensures places { length walk.new.path.items ≤ length walk.old.path.items + 1 }
 {
+    walk.beyond = lower_of(walk.beyond, tree.beyond(&walk.path, walk.number));
     if tree.admits(&walk.path, walk.number) {
         walk.path.push(walk.number);
         walk.number = first_number(tree, &walk.path);
@@ -107,6 +130,7 @@ fn go_back<T: Tree>(tree: &T, walk: &mut Walk) -> bool
         ahead (T.plan tree.now) walk.new.path.items walk.new.number
             ≡ ahead (T.plan tree.now) walk.old.path.items walk.old.number
     }
+    ensures beyond { walk.new.beyond ≡ walk.old.beyond }
     ensures shorter { result ≡ true → length walk.new.path.items < length walk.old.path.items }
     ensures ended { result ≡ false → ahead (T.plan tree.now) walk.new.path.items walk.new.number ≡ [] }
 {
@@ -141,6 +165,10 @@ pub fn climb_on<T: Tree>(tree: &T, walk: &mut Walk, budget: &mut Budget) -> Step
     ensures steps {
         budget.new.used + trials (ahead (T.plan tree.now) walk.new.path.items walk.new.number)
             ≡ budget.old.used + trials (ahead (T.plan tree.now) walk.old.path.items walk.old.number)
+    }
+    ensures beyond {
+        lower walk.new.beyond (lowest (ahead (T.plan tree.now) walk.new.path.items walk.new.number))
+            ≡ lower walk.old.beyond (lowest (ahead (T.plan tree.now) walk.old.path.items walk.old.number))
     }
     ensures limit { budget.new.limit ≡ budget.old.limit }
     ensures rises { budget.old.used ≤ budget.new.used }

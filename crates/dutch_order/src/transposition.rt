@@ -55,6 +55,10 @@ impl<'a, R: Rule> Tree for Opponents<'a, R> {
         self.pool.len()
     }
 
+    fn beyond(&self, _path: &[usize], _number: usize) -> Option<usize> {
+        None
+    }
+
     fn admits(&self, path: &[usize], number: usize) -> bool {
         !path.contains(&number) && self.rule.may_meet(self.first[path.len()], self.pool[number])
     }

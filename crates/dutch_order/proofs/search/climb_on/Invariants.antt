@@ -1,5 +1,5 @@
 use Rattle.std.proofs.Common.{◌≡◌, ◌+◌, ◌-◌, ◌*◌, ◌≤◌, ◌<◌, ◌∷◌, [], length}
-use Rattle.dutch_order.specs.Trials.{ahead, hits, trials}
+use Rattle.dutch_order.specs.Trials.{ahead, hits, trials, lower, lowest}
 use Rattle.dutch_order.specs.Walks.{Stands}
 use Rattle.dutch_order.proofs.search.climb_on.Given as goal
 
@@ -8,6 +8,7 @@ invariant-loop-walk g l = record {
   stands : Stands (g.T.Tree.plan l.tree) l.walk.path.items;
   hits : hits (ahead (g.T.Tree.plan l.tree) l.walk.path.items l.walk.number) ≡ hits (ahead (g.T.Tree.plan l.tree) l.initial.walk.path.items l.initial.walk.number);
   trials : l.budget.used + trials (ahead (g.T.Tree.plan l.tree) l.walk.path.items l.walk.number) ≡ l.initial.budget.used + trials (ahead (g.T.Tree.plan l.tree) l.initial.walk.path.items l.initial.walk.number);
+  beyond : lower l.walk.beyond (lowest (ahead (g.T.Tree.plan l.tree) l.walk.path.items l.walk.number)) ≡ lower l.initial.walk.beyond (lowest (ahead (g.T.Tree.plan l.tree) l.initial.walk.path.items l.initial.walk.number));
   within : l.budget.used ≤ l.budget.limit;
   limit : l.budget.limit ≡ l.initial.budget.limit;
   rises : l.initial.budget.used ≤ l.budget.used

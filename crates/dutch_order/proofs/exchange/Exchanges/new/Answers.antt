@@ -8,7 +8,7 @@ use Rattle.dutch_order.proofs.exchange.Exchanges.new.Goals as goal
 
 pub returns-clause-coming : goal.returns-clause-coming
 returns-clause-coming c =
-    sets-at_new c.args.pool.now c.args.k 0 0 0 0 c.new.result.path.items c.new.result.number c.new.ensures.path c.new.ensures.number refl refl
+    sets-at_new c.args.pool.now c.args.k 0 0 0 0 c.new.result.path.items c.new.result.number c.new.result.beyond c.new.ensures.path c.new.ensures.number c.new.ensures.beyond refl refl
     ∙ exchanges-found c.args.pool.now c.args.k c.requires.ascends c.requires.enough (λ i. omega (arith, c.type_inv.pool i))
 
 pub returns-clause-nothing : goal.returns-clause-nothing
@@ -17,5 +17,5 @@ returns-clause-nothing c none =
     let here = trials-nothing (exchange_plan c.args.pool.now c.args.k 0 0) refl in
     let sizes : trials_of_sizes c.args.pool.now c.args.k (most_exchanged c.args.pool.now c.args.k - 0) 1 ≡ 0 =
       ap (λ count. trials_of_sizes c.args.pool.now c.args.k count 1) (let e : most_exchanged c.args.pool.now c.args.k - 0 ≡ 0 = omega (arith, none) in e) in
-    trials-at_new c.args.pool.now c.args.k 0 0 0 0 c.new.result.path.items c.new.result.number c.new.ensures.path c.new.ensures.number refl refl
+    trials-at_new c.args.pool.now c.args.k 0 0 0 0 c.new.result.path.items c.new.result.number c.new.result.beyond c.new.ensures.path c.new.ensures.number c.new.ensures.beyond refl refl
     ∙ omega (arith, here, sizes)
