@@ -4,8 +4,8 @@ ghost use Rattle.trf16.specs.Verdict.{verdict};
 ghost use Rattle.arbiter.specs.Commands.{check_answer};
 ghost use Rattle.arbiter.specs.Replies.{answer_of};
 
-use crate::reply::{Reply, Status, Text};
 use crate::refusal::refused;
+use crate::reply::{Reply, Status, Text};
 use crate::texts;
 use std::alloc::{AllocError, Global};
 use trf16::fault::Fault;

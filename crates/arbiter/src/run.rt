@@ -95,7 +95,6 @@ fn out_of_memory() -> Reply
 }
 
 #[cfg(test)]
-mod tests;
-
-#[cfg(test)]
 mod report_tests;
+#[cfg(test)]
+mod tests;

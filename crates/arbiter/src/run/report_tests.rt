@@ -64,10 +64,18 @@ fn extension_lines(rt: HostRuntime) {
     let bad_second = "refused: line 2: bad extension\n";
     assert!(rt; has_refused(&check(alloc, b"XXR 0"), bad_first));
     assert!(rt; has_refused(&check(alloc, b"XXR 33"), "refused: too many rounds\n"));
-    assert!(rt; has_refused(&check(alloc, b"XXR 5\nXXR 5"), "refused: line 2: duplicate\n"));
+    assert!(rt;
+        has_refused(
+            &check(alloc, b"XXR 5\nXXR 5"),
+            "refused: line 2: duplicate\n"
+        )
+    );
     assert!(rt; has_refused(&check(alloc, b"XXR 5\nXXR x"), bad_second));
     assert!(rt; has_refused(&check(alloc, b"XXC white1\nxxc BLACK1"), bad_second));
-    let carried = check(alloc, b"001    1\n001    2\n001    3\n001    4\nXXZ 9\nXXP x\n");
+    let carried = check(
+        alloc,
+        b"001    1\n001    2\n001    3\n001    4\nXXZ 9\nXXP x\n",
+    );
     assert!(rt; has_printed(&carried, "accepted players 4 rounds 0\n"));
 }
 
@@ -75,7 +83,13 @@ fn extension_lines(rt: HostRuntime) {
 fn format_is_canonical(rt: HostRuntime) -> Result<(), AllocError> {
     let alloc = rt.alloc();
     let canonical = two(alloc, "", "")?;
-    let ended = run_on(alloc, &["format"], b"001 1\r001    2".as_slice(), 1000, 1000);
+    let ended = run_on(
+        alloc,
+        &["format"],
+        b"001 1\r001    2".as_slice(),
+        1000,
+        1000,
+    );
     assert!(rt; has_printed(&ended, canonical.as_str()));
     assert_eq!(rt; ended.out.len(), 180);
     let again = run_on(alloc, &["format"], ended.out.as_slice(), 1000, 1000);
