@@ -1,4 +1,4 @@
-use Rattle.std.proofs.Common.{◌≡◌, ◌≤◌, ◌+◌, length}
+use Rattle.std.proofs.Common.{◌≡◌, ◌+◌, length}
 use Rattle.trf16.specs.Lines.{columns}
 use Rattle.trf16.proofs.columns.column_count.Given as goal
 
