@@ -1,8 +1,8 @@
 -- The sets that exchanges make, their keys, and the exchange of each set.
-use Rattle.std.proofs.Common.{◌≡◌, ℕ, zero, suc, ◌+◌, ◌-◌, ◌<◌, ◌≤◌, Bool, true, false, not, ◌&&◌, ◌||◌, eqb, cond, List, [], ◌∷◌, ◌++◌, map, reverse, length, get_or, take, refl, sym, ◌∙◌, ap, append_assoc, arith, length-append, subst, ◌⊎◌, inl, inr, slice_index}
-use Rattle.std.specs.List.{filter, list_any}
+use Rattle.std.proofs.Common.{◌≡◌, ℕ, zero, suc, ◌+◌, ◌-◌, ◌<◌, ◌≤◌, Bool, true, false, not, ◌||◌, eqb, cond, List, [], ◌∷◌, ◌++◌, map, reverse, length, take, refl, sym, ◌∙◌, ap, arith, length-append, subst, inl, inr, slice_index}
+use Rattle.std.specs.List.{filter}
 use Rattle.std.specs.List.Sorted.{IsStrictlyIncreasing}
-use Rattle.std.proofs.lemmas.List.{append-nil, map-append, reverse-append, reverse-reverse, length-reverse, length-map, length-take-le, get_or-take}
+use Rattle.std.proofs.lemmas.List.{map-append, reverse-append, reverse-reverse, length-reverse, length-map, length-take-le, get_or-take}
 use Rattle.std.proofs.lemmas.List.Elements.{filter-append}
 use Rattle.std.proofs.lemmas.List.Folds.{list_any-append}
 use Rattle.std.proofs.lemmas.List.Kept.{AllPairs-from_increasing}
@@ -13,7 +13,7 @@ use Rattle.dutch_order.specs.Trials.{numbers_from}
 use Rattle.dutch_order.specs.Choices.{is_member, subsets}
 use Rattle.dutch_order.specs.Keys.{IsIn, higher_first}
 use Rattle.dutch_order.specs.Exchange.{moved_out, moved_in, exchange_key, sum_of}
-use Rattle.dutch_order.specs.Stages.{total, value_of, kept_of, set_of}
+use Rattle.dutch_order.specs.Stages.{total, value_of, kept_of}
 use Rattle.dutch_order.proofs.Lists.{map-numbers_from}
 use Rattle.dutch_order.proofs.HalfWalks.{Climbs}
 use Rattle.dutch_order.proofs.Orders.{IsIn-map, map-IsIn}
@@ -27,9 +27,11 @@ Climbs-append low middle bound (x ∷ xs) ys h h' p q =
 
 pub Climbs-shift : (by low bound : ℕ) (xs : List ℕ) → Climbs low bound xs → Climbs (by + low) (by + bound) (map (λ x. by + x) xs)
 Climbs-shift by low bound [] p = tt
-Climbs-shift by low bound (x ∷ xs) p =
-    (omega (arith, p.0), omega (arith, p.1),
-    subst (λ l. Climbs l (by + bound) (map (λ x. by + x) xs)) (let e : by + suc x ≡ suc (by + x) = omega arith in e) (Climbs-shift by (suc x) bound xs p.2))
+Climbs-shift by low bound (x ∷ xs) p = (
+  omega (arith, p.0),
+  omega (arith, p.1),
+  subst (λ l. Climbs l (by + bound) (map (λ x. by + x) xs)) (let e : by + suc x ≡ suc (by + x) = omega arith in e) (Climbs-shift by (suc x) bound xs p.2),
+)
 
 filter-true : (t : ℕ → Bool) (low bound : ℕ) (xs : List ℕ) → Climbs low bound xs → ((x : ℕ) → low ≤ x → x < bound → t x ≡ true) → filter t xs ≡ xs
 filter-true t low bound [] climbs each = refl
@@ -75,9 +77,9 @@ numbers-member : (p first count : ℕ) → first ≤ p → p < first + count →
 numbers-member p first zero from below = absurd (omega arith)
 numbers-member p first (suc count) from below =
     elim (cases_order p first) [
-      inl same ↦ or_left (eqb first p) (is_member p (numbers_from (suc first) count)) (eq-eqb first p (sym same))
-    | inr (inl lower) ↦ absurd (omega (arith, lower))
-    | inr (inr higher) ↦ or_right (eqb first p) (is_member p (numbers_from (suc first) count)) (numbers-member p (suc first) count (omega (arith, higher)) (omega arith))
+      | inl same ↦ or_left (eqb first p) (is_member p (numbers_from (suc first) count)) (eq-eqb first p (sym same))
+      | inr (inl lower) ↦ absurd (omega (arith, lower))
+      | inr (inr higher) ↦ or_right (eqb first p) (is_member p (numbers_from (suc first) count)) (numbers-member p (suc first) count (omega (arith, higher)) (omega arith))
     ]
 
 module _ (pool : List ℕ) (k : ℕ) (rises : IsStrictlyIncreasing pool) (enough : k ≤ length pool) where
@@ -90,9 +92,9 @@ module _ (pool : List ℕ) (k : ℕ) (rises : IsStrictlyIncreasing pool) (enough
   reads_apart : (i j : ℕ) → i < length pool → j < length pool → eqb (v i) (v j) ≡ eqb i j
   reads_apart i j low high =
       elim (cases_order i j) [
-        inl same ↦ eq-eqb (v i) (v j) (ap v same) ∙ sym (eq-eqb i j same)
-      | inr (inl below) ↦ ne_eqb (v i) (v j) (λ e. omega (arith, v-raises i j below high)) ∙ sym (ne_eqb i j (λ e. omega (arith, below)))
-      | inr (inr above) ↦ ne_eqb (v i) (v j) (λ e. omega (arith, v-raises j i above low)) ∙ sym (ne_eqb i j (λ e. omega (arith, above)))
+        | inl same ↦ eq-eqb (v i) (v j) (ap v same) ∙ sym (eq-eqb i j same)
+        | inr (inl below) ↦ ne_eqb (v i) (v j) (λ e. omega (arith, v-raises i j below high)) ∙ sym (ne_eqb i j (λ e. omega (arith, below)))
+        | inr (inr above) ↦ ne_eqb (v i) (v j) (λ e. omega (arith, v-raises j i above low)) ∙ sym (ne_eqb i j (λ e. omega (arith, above)))
       ]
 
   member-value : (p low : ℕ) (xs : List ℕ) → p < length pool → Climbs low (length pool) xs → is_member (v p) (map v xs) ≡ is_member p xs
@@ -148,9 +150,9 @@ module _ (pool : List ℕ) (k : ℕ) (rises : IsStrictlyIncreasing pool) (enough
   low-length : (outs : List ℕ) → Climbs 0 k outs → length (low_places outs) + length outs ≡ k
   low-length outs climbs =
       let kept_length : length (low_places outs) ≡ length (filter (λ place. not (is_member place outs)) (numbers_from 0 k)) =
-        sym (length-map (low_places outs) v) ∙ ap length (sym (kept-is outs))
-        ∙ length-reverse (map (value_of pool k Out) (filter (λ place. not (is_member place outs)) (numbers_from 0 k)))
-        ∙ length-map (filter (λ place. not (is_member place outs)) (numbers_from 0 k)) (value_of pool k Out) in
+      sym (length-map (low_places outs) v) ∙ ap length (sym (kept-is outs))
+      ∙ length-reverse (map (value_of pool k Out) (filter (λ place. not (is_member place outs)) (numbers_from 0 k)))
+      ∙ length-map (filter (λ place. not (is_member place outs)) (numbers_from 0 k)) (value_of pool k Out) in
       let moved : length (filter (λ place. is_member place outs) (numbers_from 0 k)) ≡ length outs = ap length (outs-again outs climbs) in
       omega (arith, kept_length, moved, filter-length (λ place. is_member place outs) (numbers_from 0 k), length-numbers 0 k)
 
@@ -182,12 +184,12 @@ module _ (pool : List ℕ) (k : ℕ) (rises : IsStrictlyIncreasing pool) (enough
         ap (filter (λ x. not (is_member x set))) front-is
         ∙ filter-map (λ x. not (is_member x set)) v (numbers_from 0 k)
         ∙ ap (map v)
-          (filter-numbers (λ p. not (is_member (v p) set)) (λ p. is_member (k - 1 - p) outs) 0 k
-          (λ p from below. ap not (member-value p 0 (places outs ins) (omega arith) (places-climb outs ins in_climbs) ∙ member-low p (omega arith)) ∙ not_not (is_member (k - 1 - p) outs)))
+        (filter-numbers (λ p. not (is_member (v p) set)) (λ p. is_member (k - 1 - p) outs) 0 k
+        (λ p from below. ap not (member-value p 0 (places outs ins) (omega arith) (places-climb outs ins in_climbs) ∙ member-low p (omega arith)) ∙ not_not (is_member (k - 1 - p) outs)))
         ∙ sym (mirror-filter k v (λ p. is_member (k - 1 - p) outs))
         ∙ ap (λ xs. reverse (map (value_of pool k Out) xs))
-          (filter-numbers (λ i. is_member (k - 1 - (k - 1 - i)) outs) (λ i. is_member i outs) 0 k (λ i from below. ap (λ n. is_member n outs) (let e : k - 1 - (k - 1 - i) ≡ i = omega arith in e))
-          ∙ outs-again outs out_climbs)
+        (filter-numbers (λ i. is_member (k - 1 - (k - 1 - i)) outs) (λ i. is_member i outs) 0 k (λ i from below. ap (λ n. is_member n outs) (let e : k - 1 - (k - 1 - i) ≡ i = omega arith in e))
+        ∙ outs-again outs out_climbs)
 
     front-member : (p : ℕ) → p < length pool → is_member (v p) (take k pool) ≡ is_member p (numbers_from 0 k)
     front-member p within =
@@ -198,12 +200,12 @@ module _ (pool : List ℕ) (k : ℕ) (rises : IsStrictlyIncreasing pool) (enough
     moved_in-is =
         filter-map (λ x. not (is_member x (take k pool))) v (places outs ins)
         ∙ ap (map v)
-          (filter-append (λ p. not (is_member (v p) (take k pool))) (low_places outs) (map (λ place. k + place) ins)
-          ∙ ap (λ front. front ++ filter (λ p. not (is_member (v p) (take k pool))) (map (λ place. k + place) ins))
-            (filter-false (λ p. not (is_member (v p) (take k pool))) 0 k (low_places outs) (low-climbs outs)
-            (λ p from below. ap not (front-member p (omega arith) ∙ numbers-member p 0 k (omega arith) (omega arith))))
-          ∙ filter-true (λ p. not (is_member (v p) (take k pool))) k (length pool) (map (λ place. k + place) ins) (high-climbs ins in_climbs)
-            (λ p from below. ap not (front-member p below ∙ numbers-no_member p 0 k (omega arith))))
+        (filter-append (λ p. not (is_member (v p) (take k pool))) (low_places outs) (map (λ place. k + place) ins)
+        ∙ ap (λ front. front ++ filter (λ p. not (is_member (v p) (take k pool))) (map (λ place. k + place) ins))
+        (filter-false (λ p. not (is_member (v p) (take k pool))) 0 k (low_places outs) (low-climbs outs)
+        (λ p from below. ap not (front-member p (omega arith) ∙ numbers-member p 0 k (omega arith) (omega arith))))
+        ∙ filter-true (λ p. not (is_member (v p) (take k pool))) k (length pool) (map (λ place. k + place) ins) (high-climbs ins in_climbs)
+        (λ p from below. ap not (front-member p below ∙ numbers-no_member p 0 k (omega arith))))
         ∙ map-map v (λ place. k + place) ins
 
     -- the key of an exchange's set
@@ -229,18 +231,18 @@ module _ (pool : List ℕ) (k : ℕ) (rises : IsStrictlyIncreasing pool) (enough
       let out_climbs : Climbs 0 k outs = subst (λ b. Climbs 0 b outs) (let e : 0 + k ≡ k = omega arith in e) (filter-climbs (λ i. not (is_member (k - 1 - i) P)) 0 k) in
       let in_climbs : Climbs 0 high ins = subst (λ b. Climbs 0 b ins) (let e : 0 + high ≡ high = omega arith in e) (filter-climbs (λ j. is_member (k + j) P) 0 high) in
       let low : low_places outs ≡ filter (λ p. is_member p P) (numbers_from 0 k) =
-        filter-numbers (low_test outs) (λ p. is_member p P) 0 k
-        (λ p from below. ap not (member-filter (λ i. not (is_member (k - 1 - i) P)) 0 k (k - 1 - p) (omega arith) (omega arith)) ∙ not_not (is_member (k - 1 - (k - 1 - p)) P) ∙ ap (λ n. is_member n P) (let e : k - 1 - (k - 1 - p) ≡ p = omega arith in e)) in
+      filter-numbers (low_test outs) (λ p. is_member p P) 0 k
+      (λ p from below. ap not (member-filter (λ i. not (is_member (k - 1 - i) P)) 0 k (k - 1 - p) (omega arith) (omega arith)) ∙ not_not (is_member (k - 1 - (k - 1 - p)) P) ∙ ap (λ n. is_member n P) (let e : k - 1 - (k - 1 - p) ≡ p = omega arith in e)) in
       let up : map (λ place. k + place) ins ≡ filter (λ p. is_member p P) (numbers_from (0 + k) high) =
-        sym (filter-map (λ p. is_member p P) (λ place. k + place) (numbers_from 0 high))
-        ∙ ap (filter (λ p. is_member p P)) (numbers-shift k 0 high ∙ ap (λ a. numbers_from a high) (let e : k + 0 ≡ 0 + k = omega arith in e)) in
+      sym (filter-map (λ p. is_member p P) (λ place. k + place) (numbers_from 0 high))
+      ∙ ap (filter (λ p. is_member p P)) (numbers-shift k 0 high ∙ ap (λ a. numbers_from a high) (let e : k + 0 ≡ 0 + k = omega arith in e)) in
       let all : places outs ins ≡ P =
-        ap (λ front. front ++ map (λ place. k + place) ins) low
-        ∙ ap (λ back. filter (λ p. is_member p P) (numbers_from 0 k) ++ back) up
-        ∙ sym (filter-append (λ p. is_member p P) (numbers_from 0 k) (numbers_from (0 + k) high))
-        ∙ ap (filter (λ p. is_member p P)) (sym (numbers-append 0 k high))
-        ∙ ap (λ n. filter (λ p. is_member p P) (numbers_from 0 n)) (let e : k + high ≡ length pool = omega arith in e)
-        ∙ climbs-filter 0 (length pool) P climbs.0 in
+      ap (λ front. front ++ map (λ place. k + place) ins) low
+      ∙ ap (λ back. filter (λ p. is_member p P) (numbers_from 0 k) ++ back) up
+      ∙ sym (filter-append (λ p. is_member p P) (numbers_from 0 k) (numbers_from (0 + k) high))
+      ∙ ap (filter (λ p. is_member p P)) (sym (numbers-append 0 k high))
+      ∙ ap (λ n. filter (λ p. is_member p P) (numbers_from 0 n)) (let e : k + high ≡ length pool = omega arith in e)
+      ∙ climbs-filter 0 (length pool) P climbs.0 in
       let same : length outs ≡ length ins =
-        omega (arith, ap length all, climbs.1, low-length outs out_climbs, length-append (low_places outs) (map (λ place. k + place) ins), length-map ins (λ place. k + place)) in
+      omega (arith, ap length all, climbs.1, low-length outs out_climbs, length-append (low_places outs) (map (λ place. k + place) ins), length-map ins (λ place. k + place)) in
       (outs, ins, out_climbs, in_climbs, same, from.1 ∙ ap (map v) (sym all) ∙ sym (set-is outs ins))

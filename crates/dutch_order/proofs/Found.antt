@@ -1,6 +1,6 @@
 -- What a search finds below a path, and how many trials it makes there.
-use Rattle.std.proofs.Common.{◌≡◌, ℕ, zero, suc, ◌+◌, ◌-◌, ◌*◌, ◌<◌, ◌≤◌, Bool, true, false, cond, List, [], ◌∷◌, ◌++◌, map, length, refl, sym, ◌∙◌, ap, arith, length-append, Option, Some, None}
-use Rattle.std.specs.List.{filter, flat_map}
+use Rattle.std.proofs.Common.{◌≡◌, ℕ, zero, suc, ◌+◌, ◌-◌, ◌*◌, Bool, true, false, cond, List, [], ◌∷◌, ◌++◌, length, refl, sym, ◌∙◌, ap, arith, length-append, Option}
+use Rattle.std.specs.List.{flat_map}
 use Rattle.std.proofs.lemmas.List.{append-nil}
 use Rattle.dutch_order.specs.Trials.{Plan, Event, Tried, Hit, hits, trials, numbers_from, entry, below, after, ahead}
 use Rattle.dutch_order.proofs.Lists.{flat_map-same}
@@ -96,8 +96,8 @@ module _ (plan : Plan) (width : ℕ) (starts : (path : List ℕ) → plan.start 
   trials-flat path first zero = refl
   trials-flat path first (suc count) =
       elim (plan.fits path first) as (λ fit. trials (Tried (plan.beyond path first) ∷ (cond fit (Hit (path ++ first ∷ []) ∷ []) [] ++ flat_map (tried_at plan 0 path) (numbers_from (suc first) count))) ≡ suc count) [
-        true ↦ omega (arith, trials-flat path (suc first) count)
-      | false ↦ omega (arith, trials-flat path (suc first) count)
+        | true ↦ omega (arith, trials-flat path (suc first) count)
+        | false ↦ omega (arith, trials-flat path (suc first) count)
       ]
 
   trials-deeper : (open_places : ℕ) (path : List ℕ) → trials (below plan (suc open_places) path (entry plan (suc open_places) path)) ≡ trials (below plan open_places path (entry plan open_places path)) + width * length (found plan open_places path)

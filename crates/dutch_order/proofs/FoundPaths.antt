@@ -1,6 +1,6 @@
 -- What a search finds are the paths that it admits, in ascending order.
-use Rattle.std.proofs.Common.{◌≡◌, ℕ, zero, suc, ◌+◌, ◌-◌, ◌<◌, ◌≤◌, Bool, true, false, cond, List, [], ◌∷◌, ◌++◌, length, refl, sym, ◌∙◌, ap, append_assoc, arith, length-append, subst, ◌⊎◌, inl, inr}
-use Rattle.std.specs.List.{flat_map, AllByRecursion}
+use Rattle.std.proofs.Common.{◌≡◌, ℕ, zero, suc, ◌+◌, ◌-◌, ◌<◌, ◌≤◌, Bool, true, false, cond, List, [], ◌∷◌, ◌++◌, refl, sym, ◌∙◌, ap, append_assoc, arith, subst, inl, inr}
+use Rattle.std.specs.List.{flat_map}
 use Rattle.std.proofs.lemmas.List.{append-nil}
 use Rattle.std.proofs.lemmas.Bool.{cases_eq}
 use Rattle.dutch_order.specs.Trials.{Plan, numbers_from}
@@ -18,8 +18,8 @@ pub in-numbers : (x first count : ℕ) → first ≤ x → x < first + count →
 in-numbers x first zero from below = absurd (omega arith)
 in-numbers x first (suc count) from below =
     elim (cases_eq x first) [
-      inl same ↦ inl same
-    | inr other ↦ inr (in-numbers x (suc first) count (let h : first < x = omega (arith, other) in omega arith) (omega arith))
+      | inl same ↦ inl same
+      | inr other ↦ inr (in-numbers x (suc first) count (let h : first < x = omega (arith, other) in omega arith) (omega arith))
     ]
 
 in-cond : (b : Bool) (c : List ℕ) (paths : List (List ℕ)) → IsIn c (cond b paths []) → (b ≡ true) × IsIn c paths
@@ -33,8 +33,8 @@ cond-in b c paths e m = subst (λ b. IsIn c (cond b paths [])) (sym e) m
 pub found-admitted : (plan : Plan) (open_places : ℕ) (begun c : List ℕ) → IsIn c (found plan open_places begun) → (path : List ℕ) × (c ≡ begun ++ path) × Admitted plan open_places begun path
 found-admitted plan zero begun c m =
     elim (subst (IsIn c) (found-zero plan begun) m) [
-      inl same ↦ ([], same ∙ sym (append-nil begun), refl)
-    | inr none ↦ absurd none
+      | inl same ↦ ([], same ∙ sym (append-nil begun), refl)
+      | inr none ↦ absurd none
     ]
 found-admitted plan (suc open_places) begun c m =
     let at = IsIn-flat_map (λ tried. cond (plan.fits begun tried) (found plan open_places (begun ++ tried ∷ [])) []) c (numbers_from (plan.start begun) (plan.stop begun - plan.start begun)) (subst (IsIn c) (found-suc plan open_places begun) m) in
@@ -72,13 +72,13 @@ ascends_from plan open_places begun each first (suc count) =
     (Ascends-cond (plan.fits begun first) (found plan open_places (begun ++ first ∷ [])) (each first))
     (ascends_from plan open_places begun each (suc first) count)
     (λ a b m n.
-      let here = found-admitted plan open_places (begun ++ first ∷ []) a (in-cond (plan.fits begun first) a (found plan open_places (begun ++ first ∷ [])) m).1 in
-      let later = IsIn-flat_map (λ tried. cond (plan.fits begun tried) (found plan open_places (begun ++ tried ∷ [])) []) b (numbers_from (suc first) count) n in
-      let there = found-admitted plan open_places (begun ++ later.0 ∷ []) b (in-cond (plan.fits begun later.0) b (found plan open_places (begun ++ later.0 ∷ [])) later.2).1 in
-      let above : first < later.0 = omega (arith, (numbers-in later.0 (suc first) count later.1).0) in
-      subst (λ z. is_before z b ≡ true) (sym (here.1 ∙ append_assoc begun (first ∷ []) here.0))
-      (subst (λ z. is_before (begun ++ first ∷ here.0) z ≡ true) (sym (there.1 ∙ append_assoc begun (later.0 ∷ []) there.0))
-      (is_before-begun begun (first ∷ here.0) (later.0 ∷ there.0) ∙ is_before-lower first later.0 here.0 there.0 above)))
+    let here = found-admitted plan open_places (begun ++ first ∷ []) a (in-cond (plan.fits begun first) a (found plan open_places (begun ++ first ∷ [])) m).1 in
+    let later = IsIn-flat_map (λ tried. cond (plan.fits begun tried) (found plan open_places (begun ++ tried ∷ [])) []) b (numbers_from (suc first) count) n in
+    let there = found-admitted plan open_places (begun ++ later.0 ∷ []) b (in-cond (plan.fits begun later.0) b (found plan open_places (begun ++ later.0 ∷ [])) later.2).1 in
+    let above : first < later.0 = omega (arith, (numbers-in later.0 (suc first) count later.1).0) in
+    subst (λ z. is_before z b ≡ true) (sym (here.1 ∙ append_assoc begun (first ∷ []) here.0))
+    (subst (λ z. is_before (begun ++ first ∷ here.0) z ≡ true) (sym (there.1 ∙ append_assoc begun (later.0 ∷ []) there.0))
+    (is_before-begun begun (first ∷ here.0) (later.0 ∷ there.0) ∙ is_before-lower first later.0 here.0 there.0 above)))
 
 pub found-ascends : (plan : Plan) (open_places : ℕ) (begun : List ℕ) → Ascends (λ path. path) (found plan open_places begun)
 found-ascends plan zero begun = subst (Ascends (λ path. path)) (sym (found-zero plan begun)) (tt, tt)

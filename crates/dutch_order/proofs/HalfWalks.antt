@@ -1,5 +1,5 @@
 -- The paths of a search of two halves.
-use Rattle.std.proofs.Common.{◌≡◌, ℕ, zero, suc, ◌+◌, ◌-◌, ◌<◌, ◌≤◌, Bool, true, false, ◌||◌, ◌==◌, nat_lt, cond, List, [], ◌∷◌, ◌++◌, length, get_or, refl, sym, ◌∙◌, ap, append_assoc, arith, length-append, subst, if◌then◌else◌, zero-add, take, drop, Option}
+use Rattle.std.proofs.Common.{◌≡◌, ℕ, zero, suc, ◌+◌, ◌-◌, ◌<◌, ◌≤◌, Bool, true, false, ◌||◌, ◌==◌, nat_lt, List, [], ◌∷◌, ◌++◌, length, get_or, refl, sym, ◌∙◌, ap, append_assoc, arith, length-append, subst, if◌then◌else◌, take, drop, Option}
 use Rattle.std.specs.List.{AllByRecursion}
 use Rattle.dutch_order.specs.Walks.{Walked}
 use Rattle.std.proofs.lemmas.List.{append-nil}
@@ -51,7 +51,7 @@ module _ (plan : Plan) (first last count : ℕ) (starts : (begun : List ℕ) (x 
   half-climbs (suc m) begun [] low whole later start admitted = absurd admitted
   half-climbs (suc m) begun (x ∷ path) low whole later start admitted =
       let rest = half-climbs m (begun ++ x ∷ []) path (suc x) (omega (arith, length-append begun (x ∷ []))) (omega (arith, length-append begun (x ∷ [])))
-        (λ more. starts begun x later (omega arith)) admitted.3 in
+      (λ more. starts begun x later (omega arith)) admitted.3 in
       let from : low ≤ x = omega (arith, start (omega arith), admitted.0) in
       let below : x < count = omega (arith, stops begun later (omega arith), admitted.1) in
       ((from, below, rest.0), (admitted.2, rest.1), ap suc rest.2)
@@ -63,9 +63,13 @@ module _ (plan : Plan) (first last count : ℕ) (starts : (begun : List ℕ) (x 
   half-admitted (suc m) begun (x ∷ path) low whole later start climbs fit same =
       let shorter : length path ≡ m = omega arith in
       let from : plan.start begun ≤ x = omega (arith, start (omega arith), climbs.0) in
-      let below : x < plan.stop begun = omega (arith, stops begun later (omega arith), Climbs-room low count path x climbs) in
-      (from, below, fit.0, half-admitted m (begun ++ x ∷ []) path (suc x) (omega (arith, length-append begun (x ∷ []))) (omega (arith, length-append begun (x ∷ [])))
-        (λ more. starts begun x later (omega arith)) climbs.2 fit.1 shorter)
+      let below : x < plan.stop begun = omega (arith, stops begun later (omega arith), Climbs-room low count path x climbs) in (
+        from,
+        below,
+        fit.0,
+        half-admitted m (begun ++ x ∷ []) path (suc x) (omega (arith, length-append begun (x ∷ []))) (omega (arith, length-append begun (x ∷ [])))
+            (λ more. starts begun x later (omega arith)) climbs.2 fit.1 shorter,
+      )
 
 -- a path that is admitted at so many and more places, in two parts
 pub Admitted-split : (plan : Plan) (m n total : ℕ) (begun path : List ℕ) → total ≡ m + n → Admitted plan total begun path → (front : List ℕ) × (back : List ℕ) × (path ≡ front ++ back) × Admitted plan m begun front × Admitted plan n (begun ++ front) back
@@ -75,9 +79,13 @@ Admitted-split plan zero n total begun path whole admitted =
 Admitted-split plan (suc m) n zero begun path whole admitted = absurd (omega arith)
 Admitted-split plan (suc m) n (suc total) begun [] whole admitted = absurd admitted
 Admitted-split plan (suc m) n (suc total) begun (x ∷ path) whole admitted =
-    let rest = Admitted-split plan m n total (begun ++ x ∷ []) path (omega arith) admitted.3 in
-    (x ∷ rest.0, rest.1, ap (λ xs. x ∷ xs) rest.2, (admitted.0, admitted.1, admitted.2, rest.3),
-    subst (λ b. Admitted plan n b rest.1) (append_assoc begun (x ∷ []) rest.0) rest.4)
+    let rest = Admitted-split plan m n total (begun ++ x ∷ []) path (omega arith) admitted.3 in (
+      x ∷ rest.0,
+      rest.1,
+      ap (λ xs. x ∷ xs) rest.2,
+      (admitted.0, admitted.1, admitted.2, rest.3),
+      subst (λ b. Admitted plan n b rest.1) (append_assoc begun (x ∷ []) rest.0) rest.4,
+    )
 
 pub Admitted-join : (plan : Plan) (m n total : ℕ) (begun front back : List ℕ) → total ≡ m + n → Admitted plan m begun front → Admitted plan n (begun ++ front) back → Admitted plan total begun (front ++ back)
 Admitted-join plan zero n total begun front back whole p q =
@@ -87,9 +95,13 @@ Admitted-join plan zero n total begun front back whole p q =
     (subst (λ b. Admitted plan n b back) (ap (λ xs. begun ++ xs) p ∙ append-nil begun) q))
 Admitted-join plan (suc m) n zero begun front back whole p q = absurd (omega arith)
 Admitted-join plan (suc m) n (suc total) begun [] back whole p q = absurd p
-Admitted-join plan (suc m) n (suc total) begun (x ∷ front) back whole p q =
-    (p.0, p.1, p.2, Admitted-join plan m n total (begun ++ x ∷ []) front back (omega arith) p.3
-    (subst (λ b. Admitted plan n b back) (sym (append_assoc begun (x ∷ []) front)) q))
+Admitted-join plan (suc m) n (suc total) begun (x ∷ front) back whole p q = (
+  p.0,
+  p.1,
+  p.2,
+  Admitted-join plan m n total (begun ++ x ∷ []) front back (omega arith) p.3
+      (subst (λ b. Admitted plan n b back) (sym (append_assoc begun (x ∷ []) front)) q),
+)
 
 get_or-last : (begun : List ℕ) (x : ℕ) → get_or (begun ++ x ∷ []) (length begun) 0 ≡ x
 get_or-last [] x = refl
@@ -134,10 +146,19 @@ module _ (half first_count second_count : ℕ) (fits : List ℕ → ℕ → Bool
       let plan : Plan = two_halves half first_count second_count fits beyond in
       let parts = Admitted-split plan half half (half + half) [] path refl admitted in
       let one = half-climbs plan 0 half first_count (λ begun x later more. start-on half begun x (λ e. omega arith)) (λ begun later more. stop-first half first_count second_count begun more) half [] parts.0 0 (omega arith) (omega arith) (λ more. refl) parts.3 in
-      let two = half-climbs plan half (half + half) second_count (λ begun x later more. start-on half begun x (λ e. omega arith)) (λ begun later more. stop-second half first_count second_count begun later) half parts.0 parts.1 0 (omega (arith, one.2)) (omega (arith, one.2)) (λ more. start-second half parts.0 one.2) parts.4 in
-      (parts.0, parts.1, parts.2, record {
-        front_climbs = one.0; back_climbs = two.0; front_fits = one.1; back_fits = two.1; front_length = one.2; back_length = two.2
-      })
+      let two = half-climbs plan half (half + half) second_count (λ begun x later more. start-on half begun x (λ e. omega arith)) (λ begun later more. stop-second half first_count second_count begun later) half parts.0 parts.1 0 (omega (arith, one.2)) (omega (arith, one.2)) (λ more. start-second half parts.0 one.2) parts.4 in (
+        parts.0,
+        parts.1,
+        parts.2,
+        record {
+          front_climbs = one.0;
+          back_climbs = two.0;
+          front_fits = one.1;
+          back_fits = two.1;
+          front_length = one.2;
+          back_length = two.2;
+        },
+      )
 
   pub halves-join : (front back : List ℕ) → Halved fits half first_count second_count front back → Admitted (two_halves half first_count second_count fits beyond) (half + half) [] (front ++ back)
   halves-join front back halved =
@@ -150,9 +171,10 @@ module _ (half first_count second_count : ℕ) (fits : List ℕ → ℕ → Bool
 module _ (half first_count second_count : ℕ) (fits : List ℕ → ℕ → Bool) (beyond : List ℕ → ℕ → Option ℕ) where
   pub Walked-second : (begun path : List ℕ) → half ≤ length begun → Walked (two_halves half first_count second_count fits beyond) begun path → AllByRecursion (λ place. place < second_count) path
   Walked-second begun [] later walked = tt
-  Walked-second begun (x ∷ path) later walked =
-      (omega (arith, walked.0, stop-second half first_count second_count begun later),
-      Walked-second (begun ++ x ∷ []) path (omega (arith, length-append begun (x ∷ []))) walked.1)
+  Walked-second begun (x ∷ path) later walked = (
+    omega (arith, walked.0, stop-second half first_count second_count begun later),
+    Walked-second (begun ++ x ∷ []) path (omega (arith, length-append begun (x ∷ []))) walked.1,
+  )
 
   pub Walked-first : (m : ℕ) (begun path : List ℕ) → length begun + m ≡ half → Walked (two_halves half first_count second_count fits beyond) begun path → AllByRecursion (λ place. place < first_count) (take m path) × AllByRecursion (λ place. place < second_count) (drop m path)
   Walked-first zero begun path whole walked = (tt, Walked-second begun path (omega arith) walked)

@@ -1,20 +1,20 @@
 -- The search of sets of moved-down players finds all sets, by their keys.
-use Rattle.std.proofs.Common.{◌≡◌, ℕ, zero, suc, ◌+◌, ◌-◌, ◌<◌, ◌≤◌, Bool, true, false, not, ◌&&◌, ◌||◌, eqb, ◌==◌, nat_lt, cond, List, [], ◌∷◌, ◌++◌, map, length, get_or, drop, take, refl, sym, ◌∙◌, ap, append_assoc, arith, length-append, subst, ◌⊎◌, inl, inr, slice_index, if◌then◌else◌, zero-add, None}
+use Rattle.std.proofs.Common.{◌≡◌, ℕ, zero, suc, ◌+◌, ◌-◌, ◌<◌, ◌≤◌, Bool, true, not, ◌&&◌, ◌||◌, ◌==◌, nat_lt, List, [], ◌∷◌, ◌++◌, map, length, get_or, drop, take, refl, sym, ◌∙◌, ap, append_assoc, arith, length-append, subst, ◌⊎◌, inl, inr, slice_index, if◌then◌else◌, zero-add, None}
 use Rattle.std.specs.List.{slice_range}
 use Rattle.std.proofs.lemmas.List.{append-nil, length-map, get_or_past}
 use Rattle.std.proofs.lemmas.Simd.{map-map}
 use Rattle.std.proofs.lemmas.Bool.{cases_eq, true≢false, cases_Bool, eqb-true, eq-eqb, ne_eqb, and_parts, and_from, or_cases, or_left, or_right, lt-ltb, le-ltb, eqb-false, cases_lt, not_from_false, not-true}
-use Rattle.dutch_order.specs.Trials.{Plan, numbers_from, entry, ahead, hits, trials}
+use Rattle.dutch_order.specs.Trials.{Plan, numbers_from, entry, ahead, hits}
 use Rattle.dutch_order.specs.Choices.{subsets}
-use Rattle.dutch_order.specs.Keys.{is_before, sorted, IsIn, Ascends, higher_first}
-use Rattle.dutch_order.specs.Halves.{half_start, two_halves}
-use Rattle.dutch_order.specs.Limbo.{limbo_key, limbo_exchanges, limbo_plan, leads, mirrors, front_with, same_ahead, score_of, IsNonAscending, numbers_of, second_numbers}
+use Rattle.dutch_order.specs.Keys.{is_before, IsIn, Ascends, higher_first}
+use Rattle.dutch_order.specs.Halves.{half_start}
+use Rattle.dutch_order.specs.Limbo.{limbo_key, limbo_exchanges, limbo_plan, leads, mirrors, front_with, score_of, IsNonAscending, numbers_of, second_numbers}
 use Rattle.dutch_order.proofs.Lists.{map-same}
-use Rattle.dutch_order.proofs.HalfWalks.{Climbs, AllFit, Halved, halves-split, halves-join, start-on, Climbs-room}
+use Rattle.dutch_order.proofs.HalfWalks.{Climbs, AllFit, Halved, halves-split, halves-join, start-on}
 use Rattle.dutch_order.proofs.Orders.{is_before-lower, is_before-equal, is_before-cases, IsIn-map, map-IsIn}
 use Rattle.dutch_order.proofs.Found.{found, ahead-new}
 use Rattle.dutch_order.proofs.FoundPaths.{found-admitted, admitted-found, found-ascends, is_before-begun}
-use Rattle.dutch_order.proofs.Sets.{Climbs-lower, subsets-climb, climbs-subset, subsets-map, subsets-ascend, ascending-sorted, Ascends-map}
+use Rattle.dutch_order.proofs.Sets.{subsets-climb, climbs-subset, subsets-map, subsets-ascend, ascending-sorted, Ascends-map}
 
 -- two lists of one length, with something behind each
 pub is_before-split : (xs ys us vs : List ℕ) → length xs ≡ length ys → is_before (xs ++ us) (ys ++ vs) ≡ true → ((xs ≡ ys) × (is_before us vs ≡ true)) ⊎ (is_before xs ys ≡ true)
@@ -23,10 +23,10 @@ is_before-split [] (y ∷ ys) us vs same h = absurd (omega arith)
 is_before-split (x ∷ xs) [] us vs same h = absurd (omega arith)
 is_before-split (x ∷ xs) (y ∷ ys) us vs same h =
     elim (is_before-cases x y (xs ++ us) (ys ++ vs) h) [
-      inl lower ↦ inr (is_before-lower x y xs ys lower)
-    | inr rest ↦ elim (is_before-split xs ys us vs (omega arith) rest.1) [
-        inl equal ↦ inl (ap (λ z. z ∷ xs) rest.0 ∙ ap (λ zs. y ∷ zs) equal.0, equal.1)
-      | inr first ↦ inr (subst (λ z. is_before (x ∷ xs) (z ∷ ys) ≡ true) rest.0 (is_before-equal x xs ys ∙ first))
+      | inl lower ↦ inr (is_before-lower x y xs ys lower)
+      | inr rest ↦ elim (is_before-split xs ys us vs (omega arith) rest.1) [
+        | inl equal ↦ inl (ap (λ z. z ∷ xs) rest.0 ∙ ap (λ zs. y ∷ zs) equal.0, equal.1)
+        | inr first ↦ inr (subst (λ z. is_before (x ∷ xs) (z ∷ ys) ≡ true) rest.0 (is_before-equal x xs ys ∙ first))
       ]
     ]
 
@@ -36,8 +36,8 @@ is_before-join [] (y ∷ ys) us vs same h = absurd (omega arith)
 is_before-join (x ∷ xs) [] us vs same h = absurd (omega arith)
 is_before-join (x ∷ xs) (y ∷ ys) us vs same h =
     elim (is_before-cases x y xs ys h) [
-      inl lower ↦ is_before-lower x y (xs ++ us) (ys ++ vs) lower
-    | inr rest ↦ subst (λ z. is_before (x ∷ (xs ++ us)) (z ∷ (ys ++ vs)) ≡ true) rest.0 (is_before-equal x (xs ++ us) (ys ++ vs) ∙ is_before-join xs ys us vs (omega arith) rest.1)
+      | inl lower ↦ is_before-lower x y (xs ++ us) (ys ++ vs) lower
+      | inr rest ↦ subst (λ z. is_before (x ∷ (xs ++ us)) (z ∷ (ys ++ vs)) ≡ true) rest.0 (is_before-equal x (xs ++ us) (ys ++ vs) ∙ is_before-join xs ys us vs (omega arith) rest.1)
     ]
 
 -- a map that raises numbers keeps their order
@@ -47,8 +47,8 @@ is_before-map f raises [] (y ∷ ys) h = refl
 is_before-map f raises (x ∷ xs) [] h = h
 is_before-map f raises (x ∷ xs) (y ∷ ys) h =
     elim (is_before-cases x y xs ys h) [
-      inl lower ↦ is_before-lower (f x) (f y) (map f xs) (map f ys) (raises x y lower)
-    | inr rest ↦ subst (λ z. is_before (f x ∷ map f xs) (f z ∷ map f ys) ≡ true) rest.0 (is_before-equal (f x) (map f xs) (map f ys) ∙ is_before-map f raises xs ys rest.1)
+      | inl lower ↦ is_before-lower (f x) (f y) (map f xs) (map f ys) (raises x y lower)
+      | inr rest ↦ subst (λ z. is_before (f x ∷ map f xs) (f z ∷ map f ys) ≡ true) rest.0 (is_before-equal (f x) (map f xs) (map f ys) ∙ is_before-map f raises xs ys rest.1)
     ]
 
 get_at : (xs ys zs : List ℕ) (c n : ℕ) → n ≡ length xs → get_or ((xs ++ c ∷ ys) ++ zs) n 0 ≡ c
@@ -86,8 +86,8 @@ module _ (scores : List ℕ) (k : ℕ) (falls : IsNonAscending scores) where
   step : (i : ℕ) → sc (i + 1) ≤ sc i
   step i =
       elim (cases_lt (i + 1) (length scores)) [
-        inl inside ↦ falls i inside
-      | inr past ↦ omega (arith, get_or_past scores (i + 1) 0 past)
+        | inl inside ↦ falls i inside
+        | inr past ↦ omega (arith, get_or_past scores (i + 1) 0 past)
       ]
 
   no_higher : (d i j : ℕ) → j ≡ i + d → sc j ≤ sc i
@@ -104,15 +104,15 @@ module _ (scores : List ℕ) (k : ℕ) (falls : IsNonAscending scores) where
   tight count place [] climbs = ap (slice_index scores) (omega arith)
   tight count place (x ∷ places) climbs =
       elim (cases_Bool (sc x == sc place)) [
-        inl same ↦
-          let equal : sc x ≡ sc place = eqb-true (sc x) (sc place) same in
-          let n : ℕ = front_with scores (sc place) places in
-          let later : sc (x + n) ≡ sc place = subst (λ s. sc (x + front_with scores s places) ≡ s) equal (tight count x places climbs.2) in
-          let above : suc place ≤ x = climbs.0 in
-          let low : sc (place + (1 + n)) ≤ sc place = no_higher_at place (place + (1 + n)) (omega arith) in
-          let high : sc (x + n) ≤ sc (place + (1 + n)) = no_higher_at (place + (1 + n)) (x + n) (omega arith) in
-          ap (λ b. sc (place + (if b then 1 + n else 0))) same ∙ omega arith
-      | inr other ↦ ap (λ b. sc (place + (if b then 1 + front_with scores (sc place) places else 0))) other ∙ ap (slice_index scores) (omega arith)
+        | inl same ↦
+            let equal : sc x ≡ sc place = eqb-true (sc x) (sc place) same in
+            let n : ℕ = front_with scores (sc place) places in
+            let later : sc (x + n) ≡ sc place = subst (λ s. sc (x + front_with scores s places) ≡ s) equal (tight count x places climbs.2) in
+            let above : suc place ≤ x = climbs.0 in
+            let low : sc (place + (1 + n)) ≤ sc place = no_higher_at place (place + (1 + n)) (omega arith) in
+            let high : sc (x + n) ≤ sc (place + (1 + n)) = no_higher_at (place + (1 + n)) (x + n) (omega arith) in
+            ap (λ b. sc (place + (if b then 1 + n else 0))) same ∙ omega arith
+        | inr other ↦ ap (λ b. sc (place + (if b then 1 + front_with scores (sc place) places else 0))) other ∙ ap (slice_index scores) (omega arith)
       ]
 
   front_with-same : (score : ℕ) (xs ys : List ℕ) → map sc xs ≡ map sc ys → front_with scores score xs ≡ front_with scores score ys
@@ -139,10 +139,10 @@ module _ (scores : List ℕ) (k : ℕ) (falls : IsNonAscending scores) where
       let j : length path - k ≡ length before = omega (arith, length-append (before ++ c ∷ later) set) in
       let here : get_or path (length path - k) 0 ≡ c = get_at before later set c (length path - k) j in
       let rest : slice_range path (length path - k + 1) k ≡ later =
-        ap (λ n. take (k - n) (drop n path)) (let e : length path - k + 1 ≡ suc (length before) = omega (arith, j) in e)
-        ∙ ap (take (k - suc (length before))) (drop_at before later set c)
-        ∙ ap (λ n. take n (later ++ set)) (let e : k - suc (length before) ≡ length later = omega (arith, whole, length-append before (c ∷ later)) in e)
-        ∙ take_front later set in
+      ap (λ n. take (k - n) (drop n path)) (let e : length path - k + 1 ≡ suc (length before) = omega (arith, j) in e)
+      ∙ ap (take (k - suc (length before))) (drop_at before later set c)
+      ∙ ap (λ n. take n (later ++ set)) (let e : k - suc (length before) ≡ length later = omega (arith, whole, length-append before (c ∷ later)) in e)
+      ∙ take_front later set in
       ap (λ d. (sc place == sc d) && (sc (place + front_with scores (sc d) (slice_range path (length path - k + 1) k)) == sc d)) here
       ∙ ap (λ l. (sc place == sc c) && (sc (place + front_with scores (sc c) l) == sc c)) rest
 
@@ -159,12 +159,12 @@ module _ (scores : List ℕ) (k : ℕ) (falls : IsNonAscending scores) where
   second-scores before (c ∷ later) set (a ∷ places) whole same long fit =
       let path : List ℕ = (before ++ c ∷ later) ++ set in
       let asked : ((sc a == sc c) && (sc (a + front_with scores (sc c) later) == sc c)) ≡ true =
-        sym (fits-second path a (omega (arith, whole, length-append (before ++ c ∷ later) set)) ∙ mirrors-at before later set c a whole same) ∙ fit.0 in
+      sym (fits-second path a (omega (arith, whole, length-append (before ++ c ∷ later) set)) ∙ mirrors-at before later set c a whole same) ∙ fit.0 in
       let here : sc a ≡ sc c = eqb-true (sc a) (sc c) (and_parts (sc a == sc c) (sc (a + front_with scores (sc c) later) == sc c) asked).0 in
       let rest : map sc places ≡ map sc later =
-        second-scores (before ++ c ∷ []) later (set ++ a ∷ []) places (ap length (append_assoc before (c ∷ []) later) ∙ whole)
-        (omega (arith, same, length-append set (a ∷ []), length-append before (c ∷ []))) (omega arith)
-        (subst (λ p. AllFit fits p places) (regroup before later set c a) fit.1) in
+      second-scores (before ++ c ∷ []) later (set ++ a ∷ []) places (ap length (append_assoc before (c ∷ []) later) ∙ whole)
+      (omega (arith, same, length-append set (a ∷ []), length-append before (c ∷ []))) (omega arith)
+      (subst (λ p. AllFit fits p places) (regroup before later set c a) fit.1) in
       ap (λ s. s ∷ map sc places) here ∙ ap (λ ss. sc c ∷ ss) rest
 
   second-fits : (before later set places : List ℕ) (low : ℕ) → length (before ++ later) ≡ k → length set ≡ length before → map sc places ≡ map sc later → Climbs low (length scores) places → AllFit fits ((before ++ later) ++ set) places
@@ -176,12 +176,13 @@ module _ (scores : List ℕ) (k : ℕ) (falls : IsNonAscending scores) where
       let here : sc a ≡ sc c = cc in
       let rest : map sc places ≡ map sc later = cc in
       let room : sc (a + front_with scores (sc c) later) ≡ sc c =
-        ap (λ n. sc (a + n)) (sym (front_with-same (sc c) places later rest)) ∙ subst (λ s. sc (a + front_with scores s places) ≡ s) here (tight (length scores) a places climbs.2) in
-      (fits-second path a (omega (arith, whole, length-append (before ++ c ∷ later) set)) ∙ mirrors-at before later set c a whole same
-      ∙ and_from (sc a == sc c) (sc (a + front_with scores (sc c) later) == sc c) (eq-eqb (sc a) (sc c) here) (eq-eqb (sc (a + front_with scores (sc c) later)) (sc c) room),
-      subst (λ p. AllFit fits p places) (sym (regroup before later set c a))
-      (second-fits (before ++ c ∷ []) later (set ++ a ∷ []) places (suc a) (ap length (append_assoc before (c ∷ []) later) ∙ whole)
-      (omega (arith, same, length-append set (a ∷ []), length-append before (c ∷ []))) rest climbs.2))
+      ap (λ n. sc (a + n)) (sym (front_with-same (sc c) places later rest)) ∙ subst (λ s. sc (a + front_with scores s places) ≡ s) here (tight (length scores) a places climbs.2) in (
+        fits-second path a (omega (arith, whole, length-append (before ++ c ∷ later) set)) ∙ mirrors-at before later set c a whole same
+            ∙ and_from (sc a == sc c) (sc (a + front_with scores (sc c) later) == sc c) (eq-eqb (sc a) (sc c) here) (eq-eqb (sc (a + front_with scores (sc c) later)) (sc c) room),
+        subst (λ p. AllFit fits p places) (sym (regroup before later set c a))
+            (second-fits (before ++ c ∷ []) later (set ++ a ∷ []) places (suc a) (ap length (append_assoc before (c ∷ []) later) ∙ whole)
+            (omega (arith, same, length-append set (a ∷ []), length-append before (c ∷ []))) rest climbs.2),
+      )
 
   -- the first place with a score, above one with another
   first_of : (d i a : ℕ) → a ≡ i + suc d → (sc i ≡ sc a → ⊥) → (c : ℕ) × (i < c) × (c ≤ a) × (sc c ≡ sc a) × (sc (c - 1) ≡ sc c → ⊥)
@@ -190,25 +191,33 @@ module _ (scores : List ℕ) (k : ℕ) (falls : IsNonAscending scores) where
       (a, omega arith, omega arith, refl, λ same. apart (sym before ∙ same))
   first_of (suc d) i a e apart =
       elim (cases_eq (sc (suc i)) (sc a)) [
-        inl equal ↦
-          let before : sc (suc i - 1) ≡ sc i = ap (slice_index scores) (omega arith) in
-          (suc i, omega arith, omega arith, equal, λ same. apart (sym before ∙ same ∙ equal))
-      | inr other ↦
-          let rest = first_of d (suc i) a (omega arith) other in
-          (rest.0, omega (arith, rest.1), rest.2, rest.3, rest.4)
+        | inl equal ↦
+            let before : sc (suc i - 1) ≡ sc i = ap (slice_index scores) (omega arith) in
+            (suc i, omega arith, omega arith, equal, λ same. apart (sym before ∙ same ∙ equal))
+        | inr other ↦
+            let rest = first_of d (suc i) a (omega arith) other in
+            (rest.0, omega (arith, rest.1), rest.2, rest.3, rest.4)
       ]
 
   leads-from : (begun : List ℕ) (s a : ℕ) → half_start k begun ≡ s → s ≤ a → (c : ℕ) × (s ≤ c) × (c ≤ a) × (sc c ≡ sc a) × (leads scores k begun c ≡ true)
   leads-from begun s a start h =
       elim (cases_eq (sc s) (sc a)) [
-        inl equal ↦
-          (s, omega arith, h, equal,
-          or_left ((s == half_start k begun) || (s == 0)) (not (sc (s - 1) == sc s)) (or_left (s == half_start k begun) (s == 0) (eq-eqb s (half_start k begun) (sym start))))
-      | inr other ↦
-          let apart : s ≡ a → ⊥ = λ e. other (ap (slice_index scores) e) in
-          let found = first_of (a - s - 1) s a (omega (arith, apart)) other in
-          (found.0, omega (arith, found.1), found.2, found.3,
-          or_right ((found.0 == half_start k begun) || (found.0 == 0)) (not (sc (found.0 - 1) == sc found.0)) (not_from_false (sc (found.0 - 1) == sc found.0) (ne_eqb (sc (found.0 - 1)) (sc found.0) found.4)))
+        | inl equal ↦ (
+          s,
+          omega arith,
+          h,
+          equal,
+          or_left ((s == half_start k begun) || (s == 0)) (not (sc (s - 1) == sc s)) (or_left (s == half_start k begun) (s == 0) (eq-eqb s (half_start k begun) (sym start))),
+        )
+        | inr other ↦
+            let apart : s ≡ a → ⊥ = λ e. other (ap (slice_index scores) e) in
+            let found = first_of (a - s - 1) s a (omega (arith, apart)) other in (
+              found.0,
+              omega (arith, found.1),
+              found.2,
+              found.3,
+              or_right ((found.0 == half_start k begun) || (found.0 == 0)) (not (sc (found.0 - 1) == sc found.0)) (not_from_false (sc (found.0 - 1) == sc found.0) (ne_eqb (sc (found.0 - 1)) (sc found.0) found.4)),
+            )
       ]
 
   -- each set has a first set with the same scores
@@ -217,12 +226,13 @@ module _ (scores : List ℕ) (k : ℕ) (falls : IsNonAscending scores) where
   first_set begun (a ∷ places) s low whole start h climbs =
       let c = leads-from begun s a (start (omega arith)) (omega (arith, climbs.0)) in
       let rest = first_set (begun ++ c.0 ∷ []) places (suc c.0) (suc a) (omega (arith, whole, length-append begun (c.0 ∷ [])))
-        (λ more. start-on k begun c.0 (λ e. omega arith)) (omega (arith, c.2)) climbs.2 in
-      (c.0 ∷ rest.0,
-      (c.1, omega (arith, c.2, climbs.1), rest.1),
-      (fits-first begun c.0 (omega arith) ∙ c.4, rest.2),
-      ap (λ x. x ∷ map sc rest.0) c.3 ∙ ap (λ xs. sc a ∷ xs) rest.3,
-      ap suc rest.4)
+      (λ more. start-on k begun c.0 (λ e. omega arith)) (omega (arith, c.2)) climbs.2 in (
+        c.0 ∷ rest.0,
+        (c.1, omega (arith, c.2, climbs.1), rest.1),
+        (fits-first begun c.0 (omega arith) ∙ c.4, rest.2),
+        ap (λ x. x ∷ map sc rest.0) c.3 ∙ ap (λ xs. sc a ∷ xs) rest.3,
+        ap suc rest.4,
+      )
 
   module _ (small : (i : ℕ) → sc i ≤ 65535) where
     abbrev weight : ℕ → ℕ
@@ -232,15 +242,15 @@ module _ (scores : List ℕ) (k : ℕ) (falls : IsNonAscending scores) where
     leads-lower : (begun : List ℕ) (s x y : ℕ) → half_start k begun ≡ s → s ≤ x → x < y → leads scores k begun y ≡ true → weight x < weight y
     leads-lower begun s x y start low below leading =
         elim (or_cases ((y == half_start k begun) || (y == 0)) (not (sc (y - 1) == sc y)) leading) [
-          inl early ↦ elim (or_cases (y == half_start k begun) (y == 0) early) [
-            inl first ↦ absurd (omega (arith, eqb-true y (half_start k begun) first, start))
-          | inr none ↦ absurd (omega (arith, eqb-true y 0 none))
+          | inl early ↦ elim (or_cases (y == half_start k begun) (y == 0) early) [
+            | inl first ↦ absurd (omega (arith, eqb-true y (half_start k begun) first, start))
+            | inr none ↦ absurd (omega (arith, eqb-true y 0 none))
           ]
-        | inr apart ↦
-            let differ : sc (y - 1) ≡ sc y → ⊥ = eqb-false (sc (y - 1)) (sc y) (not-true (sc (y - 1) == sc y) apart) in
-            let up : sc y ≤ sc (y - 1) = no_higher_at (y - 1) y (omega arith) in
-            let over : sc (y - 1) ≤ sc x = no_higher_at x (y - 1) (omega arith) in
-            omega (arith, differ, up, over, small x, small y)
+          | inr apart ↦
+              let differ : sc (y - 1) ≡ sc y → ⊥ = eqb-false (sc (y - 1)) (sc y) (not-true (sc (y - 1) == sc y) apart) in
+              let up : sc y ≤ sc (y - 1) = no_higher_at (y - 1) y (omega arith) in
+              let over : sc (y - 1) ≤ sc x = no_higher_at x (y - 1) (omega arith) in
+              omega (arith, differ, up, over, small x, small y)
         ]
 
     leads-order : (begun xs ys : List ℕ) (s : ℕ) → (0 < length xs → half_start k begun ≡ s) → length begun + length xs ≡ k → length xs ≡ length ys → Climbs s (length scores) xs → AllFit fits begun xs → AllFit fits begun ys → is_before xs ys ≡ true → is_before (map weight xs) (map weight ys) ≡ true
@@ -249,14 +259,14 @@ module _ (scores : List ℕ) (k : ℕ) (falls : IsNonAscending scores) where
     leads-order begun (x ∷ xs) [] s start whole same climbs p q h = h
     leads-order begun (x ∷ xs) (y ∷ ys) s start whole same climbs p q h =
         elim (is_before-cases x y xs ys h) [
-          inl lower ↦
-            is_before-lower (weight x) (weight y) (map weight xs) (map weight ys)
-            (leads-lower begun s x y (start (omega arith)) climbs.0 lower (sym (fits-first begun y (omega arith)) ∙ q.0))
-        | inr rest ↦
-            let later : AllFit fits (begun ++ x ∷ []) ys = subst (λ z. AllFit fits (begun ++ z ∷ []) ys) (sym rest.0) q.1 in
-            subst (λ z. is_before (weight x ∷ map weight xs) (weight z ∷ map weight ys) ≡ true) rest.0
-            (is_before-equal (weight x) (map weight xs) (map weight ys)
-            ∙ leads-order (begun ++ x ∷ []) xs ys (suc x) (λ more. start-on k begun x (λ e. omega arith)) (omega (arith, whole, length-append begun (x ∷ []))) (omega arith) climbs.2 p.1 later rest.1)
+          | inl lower ↦
+              is_before-lower (weight x) (weight y) (map weight xs) (map weight ys)
+              (leads-lower begun s x y (start (omega arith)) climbs.0 lower (sym (fits-first begun y (omega arith)) ∙ q.0))
+          | inr rest ↦
+              let later : AllFit fits (begun ++ x ∷ []) ys = subst (λ z. AllFit fits (begun ++ z ∷ []) ys) (sym rest.0) q.1 in
+              subst (λ z. is_before (weight x ∷ map weight xs) (weight z ∷ map weight ys) ≡ true) rest.0
+              (is_before-equal (weight x) (map weight xs) (map weight ys)
+              ∙ leads-order (begun ++ x ∷ []) xs ys (suc x) (λ more. start-on k begun x (λ e. omega arith)) (omega (arith, whole, length-append begun (x ∷ []))) (omega arith) climbs.2 p.1 later rest.1)
         ]
 
     -- the front of the key of a set
@@ -291,12 +301,12 @@ module _ (scores : List ℕ) (k : ℕ) (falls : IsNonAscending scores) where
         subst (λ z. is_before z (limbo_key scores (second_numbers k q)) ≡ true) (sym key_p)
         (subst (λ z. is_before (map weight C ++ numbers_of A) z ≡ true) (sym key_q)
         (elim cases [
-          inl equal ↦
-            subst (λ z. is_before (map weight C ++ numbers_of A) (map weight z ++ numbers_of B) ≡ true) equal.0
-            (is_before-begun (map weight C) (numbers_of A) (numbers_of B) ∙ is_before-map (λ place. place + 1) (λ x y below. omega arith) A B equal.1)
-        | inr first ↦
-            is_before-join (map weight C) (map weight D) (numbers_of A) (numbers_of B) (length-map C weight ∙ same ∙ sym (length-map D weight))
-            (leads-order [] C D 0 (λ more. refl) (zero-add (length C) ∙ halves_p.3.front_length) same halves_p.3.front_climbs halves_p.3.front_fits halves_q.3.front_fits first)
+          | inl equal ↦
+              subst (λ z. is_before (map weight C ++ numbers_of A) (map weight z ++ numbers_of B) ≡ true) equal.0
+              (is_before-begun (map weight C) (numbers_of A) (numbers_of B) ∙ is_before-map (λ place. place + 1) (λ x y below. omega arith) A B equal.1)
+          | inr first ↦
+              is_before-join (map weight C) (map weight D) (numbers_of A) (numbers_of B) (length-map C weight ∙ same ∙ sym (length-map D weight))
+              (leads-order [] C D 0 (λ more. refl) (zero-add (length C) ∙ halves_p.3.front_length) same halves_p.3.front_climbs halves_p.3.front_fits halves_q.3.front_fits first)
         ]))
 
     places_up : (first count : ℕ) → map (λ place. place + 1) (numbers_from first count) ≡ numbers_from (suc first) count
@@ -328,9 +338,12 @@ module _ (scores : List ℕ) (k : ℕ) (falls : IsNonAscending scores) where
         let C : List ℕ = front.0 in
         let long : length C ≡ k = front.4 ∙ climbs.1 in
         let halved : Halved fits k (length scores) (length scores) C A = record {
-          front_climbs = front.1; back_climbs = within; front_fits = front.2;
+          front_climbs = front.1;
+          back_climbs = within;
+          front_fits = front.2;
           back_fits = subst (λ c. AllFit fits c A) (append-nil C) (second-fits [] C [] A 0 long refl (sym front.3) within);
-          front_length = long; back_length = climbs.1
+          front_length = long;
+          back_length = climbs.1;
         } in
         let there : IsIn (C ++ A) (found plan (k + k) []) = admitted-found plan (k + k) [] (C ++ A) (halves-join k (length scores) (length scores) fits (λ path place. None) C A halved) in
         subst (λ z. IsIn z (map (second_numbers k) (found plan (k + k) []))) (ap numbers_of (drop_front C A k long) ∙ sym from.1)
@@ -349,7 +362,7 @@ module _ (scores : List ℕ) (k : ℕ) (falls : IsNonAscending scores) where
         ap (λ number. map (second_numbers k) (hits (ahead plan [] number))) (sym (starts_at_none (k + k)))
         ∙ ap (λ events. map (second_numbers k) (hits events)) (ahead-new plan)
         ∙ ascending-sorted (limbo_key scores) (map (second_numbers k) (found plan (k + k) [])) (subsets (numbers_from 1 (length scores)) k)
-          (Ascends-map (limbo_key scores) (second_numbers k) (found plan (k + k) []) (found-ascends plan (k + k) []) limbo-order)
-          sets_ascend
-          (λ x y m n. limbo_key-apart scores x y ((subsets-climb 1 (length scores) k x m).1 ∙ sym (subsets-climb 1 (length scores) k y n).1))
-          found-set set-found
+        (Ascends-map (limbo_key scores) (second_numbers k) (found plan (k + k) []) (found-ascends plan (k + k) []) limbo-order)
+        sets_ascend
+        (λ x y m n. limbo_key-apart scores x y ((subsets-climb 1 (length scores) k x m).1 ∙ sym (subsets-climb 1 (length scores) k y n).1))
+        found-set set-found

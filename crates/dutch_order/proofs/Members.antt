@@ -1,6 +1,6 @@
 -- Lists of rising places and the tests of which places are in them.
-use Rattle.std.proofs.Common.{◌≡◌, ℕ, zero, suc, ◌+◌, ◌-◌, ◌<◌, ◌≤◌, Bool, true, false, not, ◌&&◌, ◌||◌, eqb, cond, List, [], ◌∷◌, ◌++◌, map, reverse, length, refl, sym, ◌∙◌, ap, append_assoc, arith, length-append, subst, ◌⊎◌, inl, inr}
-use Rattle.std.specs.List.{filter, AllByRecursion}
+use Rattle.std.proofs.Common.{◌≡◌, ℕ, zero, suc, ◌+◌, ◌-◌, ◌<◌, ◌≤◌, Bool, true, false, not, ◌&&◌, ◌||◌, eqb, cond, List, [], ◌∷◌, ◌++◌, map, reverse, length, refl, sym, ◌∙◌, ap, arith, subst, inl, inr}
+use Rattle.std.specs.List.{filter}
 use Rattle.std.proofs.lemmas.List.{append-nil, map-append, reverse-append}
 use Rattle.std.proofs.lemmas.List.Elements.{filter-append}
 use Rattle.std.proofs.lemmas.Bool.{cases_order, eq-eqb, ne_eqb, or_from}
@@ -25,8 +25,8 @@ filter-climbs q first (suc count) =
     let bound : suc first + count ≡ first + suc count = omega arith in
     let rest : Climbs (suc first) (first + suc count) (filter q (numbers_from (suc first) count)) = subst (λ b. Climbs (suc first) b (filter q (numbers_from (suc first) count))) bound (filter-climbs q (suc first) count) in
     elim (q first) as (λ b. Climbs first (first + suc count) (cond b (first ∷ filter q (numbers_from (suc first) count)) (filter q (numbers_from (suc first) count)))) [
-      true ↦ (omega arith, omega arith, rest)
-    | false ↦ Climbs-lower first (suc first) (first + suc count) (filter q (numbers_from (suc first) count)) (omega arith) rest
+      | true ↦ (omega arith, omega arith, rest)
+      | false ↦ Climbs-lower first (suc first) (first + suc count) (filter q (numbers_from (suc first) count)) (omega arith) rest
     ]
 
 and_on : (b : Bool) → ((b && true) || false) ≡ b
@@ -44,14 +44,14 @@ member-filter q first (suc count) i from below =
     let rest : List ℕ = filter q (numbers_from (suc first) count) in
     member-cond i first (q first) rest
     ∙ elim (cases_order i first) [
-      inl same ↦
-        ap (λ b. (q first && b) || is_member i rest) (eq-eqb first i (sym same))
-        ∙ ap (λ b. (q first && true) || b) (member-none i (suc first) (suc first + count) rest (filter-climbs q (suc first) count) (omega (arith, same)))
-        ∙ and_on (q first) ∙ ap q (sym same)
-    | inr (inl lower) ↦ absurd (omega (arith, lower))
-    | inr (inr higher) ↦
-        ap (λ b. (q first && b) || is_member i rest) (ne_eqb first i (λ e. omega (arith, higher)))
-        ∙ and_off (q first) (is_member i rest) ∙ member-filter q (suc first) count i (omega (arith, higher)) (omega arith)
+      | inl same ↦
+          ap (λ b. (q first && b) || is_member i rest) (eq-eqb first i (sym same))
+          ∙ ap (λ b. (q first && true) || b) (member-none i (suc first) (suc first + count) rest (filter-climbs q (suc first) count) (omega (arith, same)))
+          ∙ and_on (q first) ∙ ap q (sym same)
+      | inr (inl lower) ↦ absurd (omega (arith, lower))
+      | inr (inr higher) ↦
+          ap (λ b. (q first && b) || is_member i rest) (ne_eqb first i (λ e. omega (arith, higher)))
+          ∙ and_off (q first) (is_member i rest) ∙ member-filter q (suc first) count i (omega (arith, higher)) (omega arith)
     ]
 
 -- two tests that agree on some numbers pass the same ones
@@ -73,17 +73,17 @@ climbs-filter first (suc count) [] climbs = filter-none first (suc count)
 climbs-filter first (suc count) (x ∷ xs) climbs =
     let bound : first + suc count ≡ suc first + count = omega arith in
     elim (cases_order x first) [
-      inl same ↦
-        ap (λ b. cond (b || is_member first xs) (first ∷ filter (λ i. is_member i (x ∷ xs)) (numbers_from (suc first) count)) (filter (λ i. is_member i (x ∷ xs)) (numbers_from (suc first) count))) (eq-eqb x first same)
-        ∙ ap (λ rest. first ∷ rest)
+      | inl same ↦
+          ap (λ b. cond (b || is_member first xs) (first ∷ filter (λ i. is_member i (x ∷ xs)) (numbers_from (suc first) count)) (filter (λ i. is_member i (x ∷ xs)) (numbers_from (suc first) count))) (eq-eqb x first same)
+          ∙ ap (λ rest. first ∷ rest)
           (filter-numbers (λ i. is_member i (x ∷ xs)) (λ i. is_member i xs) (suc first) count (λ i from below. ap (λ b. b || is_member i xs) (ne_eqb x i (λ e. omega (arith, same))))
           ∙ climbs-filter (suc first) count xs (subst (λ y. Climbs (suc y) (suc first + count) xs) same (subst (λ b. Climbs (suc x) b xs) bound climbs.2)))
-        ∙ ap (λ y. y ∷ xs) (sym same)
-    | inr (inl lower) ↦ absurd (omega (arith, lower, climbs.0))
-    | inr (inr higher) ↦
-        ap (λ b. cond b (first ∷ filter (λ i. is_member i (x ∷ xs)) (numbers_from (suc first) count)) (filter (λ i. is_member i (x ∷ xs)) (numbers_from (suc first) count)))
-        (member-none first (suc first) (first + suc count) (x ∷ xs) (omega (arith, higher), climbs.1, climbs.2) (omega arith))
-        ∙ climbs-filter (suc first) count (x ∷ xs) (omega (arith, higher), omega (arith, climbs.1), subst (λ b. Climbs (suc x) b xs) bound climbs.2)
+          ∙ ap (λ y. y ∷ xs) (sym same)
+      | inr (inl lower) ↦ absurd (omega (arith, lower, climbs.0))
+      | inr (inr higher) ↦
+          ap (λ b. cond b (first ∷ filter (λ i. is_member i (x ∷ xs)) (numbers_from (suc first) count)) (filter (λ i. is_member i (x ∷ xs)) (numbers_from (suc first) count)))
+          (member-none first (suc first) (first + suc count) (x ∷ xs) (omega (arith, higher), climbs.1, climbs.2) (omega arith))
+          ∙ climbs-filter (suc first) count (x ∷ xs) (omega (arith, higher), omega (arith, climbs.1), subst (λ b. Climbs (suc x) b xs) bound climbs.2)
     ]
 
 -- a test and its opposite share out a list
@@ -91,8 +91,8 @@ pub filter-length : (q : ℕ → Bool) (xs : List ℕ) → length (filter q xs) 
 filter-length q [] = omega arith
 filter-length q (x ∷ xs) =
     elim (q x) as (λ b. length (cond b (x ∷ filter q xs) (filter q xs)) + length (cond (not b) (x ∷ filter (λ x. not (q x)) xs) (filter (λ x. not (q x)) xs)) ≡ suc (length xs)) [
-      true ↦ omega (arith, filter-length q xs)
-    | false ↦ omega (arith, filter-length q xs)
+      | true ↦ omega (arith, filter-length q xs)
+      | false ↦ omega (arith, filter-length q xs)
     ]
 
 pub length-numbers : (first count : ℕ) → length (numbers_from first count) ≡ count
@@ -134,8 +134,8 @@ module _ (k : ℕ) (value : ℕ → ℕ) (q : ℕ → Bool) where
       ap (λ a. reverse (map (λ i. value (k - 1 - i)) (filter (λ i. q (k - 1 - i)) ((k - suc m) ∷ numbers_from a m)))) (let e : suc (k - suc m) ≡ k - m = omega arith in e)
       ∙ ap (λ n. reverse (map (λ i. value (k - 1 - i)) (cond (q n) ((k - suc m) ∷ rest) rest))) last
       ∙ elim (q m) as (λ b. reverse (map (λ i. value (k - 1 - i)) (cond b ((k - suc m) ∷ rest) rest)) ≡ reverse (map (λ i. value (k - 1 - i)) rest) ++ map value (cond b (m ∷ []) [])) [
-        true ↦ reverse-append (value (k - 1 - (k - suc m)) ∷ []) (map (λ i. value (k - 1 - i)) rest) ∙ ap (λ n. reverse (map (λ i. value (k - 1 - i)) rest) ++ value n ∷ []) last
-      | false ↦ sym (append-nil (reverse (map (λ i. value (k - 1 - i)) rest)))
+        | true ↦ reverse-append (value (k - 1 - (k - suc m)) ∷ []) (map (λ i. value (k - 1 - i)) rest) ∙ ap (λ n. reverse (map (λ i. value (k - 1 - i)) rest) ++ value n ∷ []) last
+        | false ↦ sym (append-nil (reverse (map (λ i. value (k - 1 - i)) rest)))
       ]
       ∙ ap (λ front. front ++ map value (filter q (m ∷ []))) (mirror_from m (omega arith))
       ∙ sym (map-append value (filter q (numbers_from 0 m)) (filter q (m ∷ [])))

@@ -1,5 +1,5 @@
 -- What is ahead of a search after each of its moves.
-use Rattle.std.proofs.Common.{◌≡◌, ℕ, zero, suc, ◌+◌, ◌-◌, ◌<◌, ◌≤◌, Bool, true, false, cond, List, [], ◌∷◌, ◌++◌, length, refl, sym, ◌∙◌, ap, append_assoc, arith, length-append, Option, Some, None, subst, take, drop}
+use Rattle.std.proofs.Common.{◌≡◌, ℕ, zero, suc, ◌+◌, ◌-◌, ◌<◌, ◌≤◌, true, false, cond, List, [], ◌∷◌, ◌++◌, length, refl, sym, ◌∙◌, ap, append_assoc, arith, length-append, subst, take, drop}
 use Rattle.std.specs.List.{flat_map, AllByRecursion}
 use Rattle.std.proofs.lemmas.List.{append-nil}
 use Rattle.dutch_order.specs.Trials.{Plan, Event, Tried, Hit, numbers_from, entry, below, after, ahead, trials}
@@ -155,9 +155,9 @@ pub ahead-gone_back : (plan : Plan) (path shorter : List ℕ) (number next : ℕ
 ahead-gone_back plan path shorter number next is_longer few none =
     let P : List ℕ → Type 0 = λ path'. length path' ≤ plan.places → below plan (plan.places - length path') path' next ≡ [] → ahead plan shorter (number + 1) ≡ ahead plan path' next in
     let at_longer : P (shorter ++ number ∷ []) = λ few' none'.
-        let opened : length shorter < plan.places = omega (arith, length-append shorter (number ∷ [])) in
-        let left : plan.places - length (shorter ++ number ∷ []) ≡ plan.places - suc (length shorter) = omega (arith, length-append shorter (number ∷ [])) in
-        sym (ahead-back plan shorter opened number next (ap (λ open_places. below plan open_places (shorter ++ number ∷ []) next) (sym left) ∙ none')) in
+    let opened : length shorter < plan.places = omega (arith, length-append shorter (number ∷ [])) in
+    let left : plan.places - length (shorter ++ number ∷ []) ≡ plan.places - suc (length shorter) = omega (arith, length-append shorter (number ∷ [])) in
+    sym (ahead-back plan shorter opened number next (ap (λ open_places. below plan open_places (shorter ++ number ∷ []) next) (sym left) ∙ none')) in
     subst P (sym is_longer) at_longer few none
 
 pub ahead-ended : (plan : Plan) (path after_pop : List ℕ) (number : ℕ) → after_pop ≡ path → length path ≡ 0 → below plan (plan.places - length path) path number ≡ [] → ahead plan after_pop number ≡ []
@@ -172,9 +172,11 @@ ahead-whole plan path number whole fresh = ap (ahead plan path) fresh ∙ ahead-
 -- a path that goes on, and one that loses its last number
 pub Walked-push : (plan : Plan) (begun path : List ℕ) (number : ℕ) → Walked plan begun path → number < plan.stop (begun ++ path) → Walked plan begun (path ++ number ∷ [])
 Walked-push plan begun [] number walked low = (subst (λ path. number < plan.stop path) (append-nil begun) low, tt)
-Walked-push plan begun (first ∷ path) number walked low =
-    (walked.0, Walked-push plan (begun ++ first ∷ []) path number walked.1
-    (subst (λ path'. number < plan.stop path') (sym (append_assoc begun (first ∷ []) path)) low))
+Walked-push plan begun (first ∷ path) number walked low = (
+  walked.0,
+  Walked-push plan (begun ++ first ∷ []) path number walked.1
+      (subst (λ path'. number < plan.stop path') (sym (append_assoc begun (first ∷ []) path)) low),
+)
 
 pub Walked-pop : (plan : Plan) (begun path : List ℕ) (number : ℕ) → Walked plan begun (path ++ number ∷ []) → Walked plan begun path × (number < plan.stop (begun ++ path))
 Walked-pop plan begun [] number walked = (tt, subst (λ path. number < plan.stop path) (sym (append-nil begun)) walked.0)

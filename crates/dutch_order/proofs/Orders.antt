@@ -1,10 +1,10 @@
 -- The order of keys, and lists that ascend by a key.
-use Rattle.std.proofs.Common.{◌≡◌, ℕ, zero, suc, ◌+◌, ◌<◌, ◌≤◌, Bool, true, false, ◌&&◌, ◌||◌, eqb, ltb, cond, List, [], ◌∷◌, ◌++◌, map, length, refl, sym, ◌∙◌, ap, arith, ◌⊎◌, inl, inr, subst}
+use Rattle.std.proofs.Common.{◌≡◌, ℕ, suc, ◌<◌, Bool, true, false, ◌&&◌, ◌||◌, eqb, ltb, cond, List, [], ◌∷◌, ◌++◌, map, refl, sym, ◌∙◌, ap, arith, ◌⊎◌, inl, inr, subst}
 use Rattle.std.specs.List.{filter, flat_map, AllByRecursion, AllPairs}
 use Rattle.std.specs.List.Sorted.{IsStrictlyIncreasing}
 use Rattle.std.proofs.lemmas.List.Kept.{AllPairs-from_increasing}
 use Rattle.std.proofs.lemmas.List.Elements.{recursion_from_All}
-use Rattle.std.proofs.lemmas.Bool.{ltb-true, lt-ltb, le-ltb, eq-eqb, eqb-true, ne_eqb, or_cases, and_parts, or_left, or_right, and_from, cases_order, true≢false, cases_Bool}
+use Rattle.std.proofs.lemmas.Bool.{ltb-true, lt-ltb, le-ltb, eq-eqb, eqb-true, or_cases, and_parts, or_left, cases_order, true≢false, cases_Bool}
 use Rattle.dutch_order.specs.Keys.{is_before, put, sorted, IsIn, Ascends}
 
 -- lower numbers go first
@@ -19,8 +19,8 @@ is_before-equal x xs ys =
 pub is_before-cases : (x y : ℕ) (xs ys : List ℕ) → is_before (x ∷ xs) (y ∷ ys) ≡ true → (x < y) ⊎ ((x ≡ y) × (is_before xs ys ≡ true))
 is_before-cases x y xs ys h =
     elim (or_cases (ltb x y) (eqb x y && is_before xs ys) h) [
-      inl lower ↦ inl (ltb-true x y lower)
-    | inr rest ↦ inr (eqb-true x y (and_parts (eqb x y) (is_before xs ys) rest).0, (and_parts (eqb x y) (is_before xs ys) rest).1)
+      | inl lower ↦ inl (ltb-true x y lower)
+      | inr rest ↦ inr (eqb-true x y (and_parts (eqb x y) (is_before xs ys) rest).0, (and_parts (eqb x y) (is_before xs ys) rest).1)
     ]
 
 pub is_before-irreflexive : (xs : List ℕ) → is_before xs xs ≡ false
@@ -35,23 +35,23 @@ is_before-transitive (x ∷ xs) [] zs p q = absurd (true≢false (sym p))
 is_before-transitive (x ∷ xs) (y ∷ ys) [] p q = absurd (true≢false (sym q))
 is_before-transitive (x ∷ xs) (y ∷ ys) (z ∷ zs) p q =
     elim (is_before-cases x y xs ys p) [
-      inl lower ↦ elim (is_before-cases y z ys zs q) [
-        inl lower' ↦ is_before-lower x z xs zs (omega arith)
-      | inr same ↦ is_before-lower x z xs zs (let e : y ≡ z = same.0 in omega arith)
+      | inl lower ↦ elim (is_before-cases y z ys zs q) [
+        | inl lower' ↦ is_before-lower x z xs zs (omega arith)
+        | inr same ↦ is_before-lower x z xs zs (let e : y ≡ z = same.0 in omega arith)
       ]
-    | inr same ↦ elim (is_before-cases y z ys zs q) [
-        inl lower' ↦ is_before-lower x z xs zs (let e : x ≡ y = same.0 in omega arith)
-      | inr same' ↦
-        let P : ℕ → Type 0 = λ n. is_before (x ∷ xs) (n ∷ zs) ≡ true in
-        subst P (same.0 ∙ same'.0) (is_before-equal x xs zs ∙ is_before-transitive xs ys zs same.1 same'.1)
+      | inr same ↦ elim (is_before-cases y z ys zs q) [
+        | inl lower' ↦ is_before-lower x z xs zs (let e : x ≡ y = same.0 in omega arith)
+        | inr same' ↦
+            let P : ℕ → Type 0 = λ n. is_before (x ∷ xs) (n ∷ zs) ≡ true in
+            subst P (same.0 ∙ same'.0) (is_before-equal x xs zs ∙ is_before-transitive xs ys zs same.1 same'.1)
       ]
     ]
 
 pub is_before-asymmetric : (xs ys : List ℕ) → is_before xs ys ≡ true → is_before ys xs ≡ false
 is_before-asymmetric xs ys p =
     elim (cases_Bool (is_before ys xs)) [
-      inl back ↦ absurd (true≢false (sym (is_before-transitive xs ys xs p back) ∙ is_before-irreflexive xs))
-    | inr none ↦ none
+      | inl back ↦ absurd (true≢false (sym (is_before-transitive xs ys xs p back) ∙ is_before-irreflexive xs))
+      | inr none ↦ none
     ]
 
 pub is_before-total : (xs ys : List ℕ) → (xs ≡ ys) ⊎ ((is_before xs ys ≡ true) ⊎ (is_before ys xs ≡ true))
@@ -60,16 +60,16 @@ is_before-total [] (y ∷ ys) = inr (inl refl)
 is_before-total (x ∷ xs) [] = inr (inr refl)
 is_before-total (x ∷ xs) (y ∷ ys) =
     elim (cases_order x y) [
-      inl same ↦
-        let P : ℕ → Type 0 = λ n. ((x ∷ xs) ≡ (n ∷ ys)) ⊎ ((is_before (x ∷ xs) (n ∷ ys) ≡ true) ⊎ (is_before (n ∷ ys) (x ∷ xs) ≡ true)) in
-        subst P same
-        (elim (is_before-total xs ys) [
-          inl equal ↦ inl (ap (λ rest. x ∷ rest) equal)
-        | inr (inl first) ↦ inr (inl (is_before-equal x xs ys ∙ first))
-        | inr (inr second) ↦ inr (inr (is_before-equal x ys xs ∙ second))
-        ])
-    | inr (inl lower) ↦ inr (inl (is_before-lower x y xs ys lower))
-    | inr (inr higher) ↦ inr (inr (is_before-lower y x ys xs higher))
+      | inl same ↦
+          let P : ℕ → Type 0 = λ n. ((x ∷ xs) ≡ (n ∷ ys)) ⊎ ((is_before (x ∷ xs) (n ∷ ys) ≡ true) ⊎ (is_before (n ∷ ys) (x ∷ xs) ≡ true)) in
+          subst P same
+          (elim (is_before-total xs ys) [
+            | inl equal ↦ inl (ap (λ rest. x ∷ rest) equal)
+            | inr (inl first) ↦ inr (inl (is_before-equal x xs ys ∙ first))
+            | inr (inr second) ↦ inr (inr (is_before-equal x ys xs ∙ second))
+          ])
+      | inr (inl lower) ↦ inr (inl (is_before-lower x y xs ys lower))
+      | inr (inr higher) ↦ inr (inr (is_before-lower y x ys xs higher))
     ]
 
 -- members
@@ -110,8 +110,8 @@ pub IsIn-flat_map : {X Y : Type 0} (f : X → List Y) (y : Y) (xs : List X) → 
 IsIn-flat_map f y [] m = absurd m
 IsIn-flat_map f y (x ∷ xs) m =
     elim (IsIn-append y (f x) (flat_map f xs) m) [
-      inl here ↦ (x, inl refl, here)
-    | inr later ↦ let found = IsIn-flat_map f y xs later in (found.0, inr found.1, found.2)
+      | inl here ↦ (x, inl refl, here)
+      | inr later ↦ let found = IsIn-flat_map f y xs later in (found.0, inr found.1, found.2)
     ]
 
 pub flat_map-IsIn : {X Y : Type 0} (f : X → List Y) (y : Y) (x : X) (xs : List X) → IsIn x xs → IsIn y (f x) → IsIn y (flat_map f xs)
@@ -123,12 +123,14 @@ flat_map-IsIn f y x (z ∷ xs) (inr m) n = IsIn-back y (f z) (flat_map f xs) (fl
 -- ascending lists
 pub Ascends-append : (key : List ℕ → List ℕ) (xs ys : List (List ℕ)) → Ascends key xs → Ascends key ys → ((x y : List ℕ) → IsIn x xs → IsIn y ys → is_before (key x) (key y) ≡ true) → Ascends key (xs ++ ys)
 Ascends-append key [] ys p q across = q
-Ascends-append key (x ∷ xs) ys p q across =
-    (all_members (λ other. is_before (key x) (key other) ≡ true) (xs ++ ys)
-    (λ other m. elim (IsIn-append other xs ys m) [
-      inl front ↦ member_has (λ z. is_before (key x) (key z) ≡ true) xs p.0 other front
-    | inr back ↦ across x other (inl refl) back
-    ]), Ascends-append key xs ys p.1 q (λ y z m n. across y z (inr m) n))
+Ascends-append key (x ∷ xs) ys p q across = (
+  all_members (λ other. is_before (key x) (key other) ≡ true) (xs ++ ys)
+      (λ other m. elim (IsIn-append other xs ys m) [
+        | inl front ↦ member_has (λ z. is_before (key x) (key z) ≡ true) xs p.0 other front
+        | inr back ↦ across x other (inl refl) back
+      ]),
+  Ascends-append key xs ys p.1 q (λ y z m n. across y z (inr m) n),
+)
 
 -- a list that ascends is sorted
 put-first : (key : List ℕ → List ℕ) (x : List ℕ) (xs : List (List ℕ)) → AllByRecursion (λ other. is_before (key x) (key other) ≡ true) xs → put key x xs ≡ x ∷ xs
@@ -175,9 +177,10 @@ Rises (x ∷ xs) = AllByRecursion (λ y. x < y) xs × Rises xs
 
 pub Rises-from_pairs : (xs : List ℕ) → AllPairs (λ x y. x < y) xs → Rises xs
 Rises-from_pairs [] pairs = tt
-Rises-from_pairs (x ∷ xs) pairs =
-    (recursion_from_All (λ y. x < y) xs (λ k d low. pairs 0 (suc k) d (omega arith) (omega arith)),
-    Rises-from_pairs xs (λ i j d before within. pairs (suc i) (suc j) d (omega arith) (omega arith)))
+Rises-from_pairs (x ∷ xs) pairs = (
+  recursion_from_All (λ y. x < y) xs (λ k d low. pairs 0 (suc k) d (omega arith) (omega arith)),
+  Rises-from_pairs xs (λ i j d before within. pairs (suc i) (suc j) d (omega arith) (omega arith)),
+)
 
 pub Rises-from : (xs : List ℕ) → IsStrictlyIncreasing xs → Rises xs
 Rises-from xs h = Rises-from_pairs xs (AllPairs-from_increasing xs h)
@@ -186,58 +189,59 @@ AllByRecursion-filter : (P : ℕ → Type 0) (p : ℕ → Bool) (xs : List ℕ) 
 AllByRecursion-filter P p [] all = tt
 AllByRecursion-filter P p (x ∷ xs) all =
     elim (p x) as (λ b. AllByRecursion P (cond b (x ∷ filter p xs) (filter p xs))) [
-      true ↦ (all.0, AllByRecursion-filter P p xs all.1)
-    | false ↦ AllByRecursion-filter P p xs all.1
+      | true ↦ (all.0, AllByRecursion-filter P p xs all.1)
+      | false ↦ AllByRecursion-filter P p xs all.1
     ]
 
 pub Rises-filter : (p : ℕ → Bool) (xs : List ℕ) → Rises xs → Rises (filter p xs)
 Rises-filter p [] rises = tt
 Rises-filter p (x ∷ xs) rises =
     elim (p x) as (λ b. Rises (cond b (x ∷ filter p xs) (filter p xs))) [
-      true ↦ (AllByRecursion-filter (λ y. x < y) p xs rises.0, Rises-filter p xs rises.1)
-    | false ↦ Rises-filter p xs rises.1
+      | true ↦ (AllByRecursion-filter (λ y. x < y) p xs rises.0, Rises-filter p xs rises.1)
+      | false ↦ Rises-filter p xs rises.1
     ]
 
 -- one number before each of a list of tuples keeps their order
 pub Ascends-head : (x : ℕ) (tuples' : List (List ℕ)) → Ascends (λ tuple. tuple) tuples' → Ascends (λ tuple. tuple) (map (λ tuple. x ∷ tuple) tuples')
 Ascends-head x [] p = tt
-Ascends-head x (first ∷ tuples') p =
-    (all_members (λ other. is_before (x ∷ first) other ≡ true) (map (λ tuple. x ∷ tuple) tuples')
-    (λ other m.
+Ascends-head x (first ∷ tuples') p = (
+  all_members (λ other. is_before (x ∷ first) other ≡ true) (map (λ tuple. x ∷ tuple) tuples')
+      (λ other m.
       let from = IsIn-map (λ tuple. x ∷ tuple) other tuples' m in
       subst (λ z. is_before (x ∷ first) z ≡ true) (sym from.1)
       (is_before-equal x first from.0 ∙ member_has (λ z. is_before first z ≡ true) tuples' p.0 from.0 from.2)),
-    Ascends-head x tuples' p.1)
+  Ascends-head x tuples' p.1,
+)
 
 -- a filter of an ascending list ascends, and has the members that pass
 AllByRecursion-filtered : (P : List ℕ → Type 0) (p : List ℕ → Bool) (xs : List (List ℕ)) → AllByRecursion P xs → AllByRecursion P (filter p xs)
 AllByRecursion-filtered P p [] all = tt
 AllByRecursion-filtered P p (x ∷ xs) all =
     elim (p x) as (λ b. AllByRecursion P (cond b (x ∷ filter p xs) (filter p xs))) [
-      true ↦ (all.0, AllByRecursion-filtered P p xs all.1)
-    | false ↦ AllByRecursion-filtered P p xs all.1
+      | true ↦ (all.0, AllByRecursion-filtered P p xs all.1)
+      | false ↦ AllByRecursion-filtered P p xs all.1
     ]
 
 pub Ascends-filter : (key : List ℕ → List ℕ) (p : List ℕ → Bool) (xs : List (List ℕ)) → Ascends key xs → Ascends key (filter p xs)
 Ascends-filter key p [] ascends = tt
 Ascends-filter key p (x ∷ xs) ascends =
     elim (p x) as (λ b. Ascends key (cond b (x ∷ filter p xs) (filter p xs))) [
-      true ↦ (AllByRecursion-filtered (λ other. is_before (key x) (key other) ≡ true) p xs ascends.0, Ascends-filter key p xs ascends.1)
-    | false ↦ Ascends-filter key p xs ascends.1
+      | true ↦ (AllByRecursion-filtered (λ other. is_before (key x) (key other) ≡ true) p xs ascends.0, Ascends-filter key p xs ascends.1)
+      | false ↦ Ascends-filter key p xs ascends.1
     ]
 
 pub IsIn-filter : (p : List ℕ → Bool) (c : List ℕ) (xs : List (List ℕ)) → IsIn c (filter p xs) → IsIn c xs × (p c ≡ true)
 IsIn-filter p c [] m = absurd m
 IsIn-filter p c (x ∷ xs) m =
     elim (cases_Bool (p x)) [
-      inl passes ↦
-        elim (subst (λ b. IsIn c (cond b (x ∷ filter p xs) (filter p xs))) passes m) [
-          inl same ↦ (inl same, ap p same ∙ passes)
-        | inr later ↦ (inr (IsIn-filter p c xs later).0, (IsIn-filter p c xs later).1)
-        ]
-    | inr fails ↦
-        let later = IsIn-filter p c xs (subst (λ b. IsIn c (cond b (x ∷ filter p xs) (filter p xs))) fails m) in
-        (inr later.0, later.1)
+      | inl passes ↦
+          elim (subst (λ b. IsIn c (cond b (x ∷ filter p xs) (filter p xs))) passes m) [
+            | inl same ↦ (inl same, ap p same ∙ passes)
+            | inr later ↦ (inr (IsIn-filter p c xs later).0, (IsIn-filter p c xs later).1)
+          ]
+      | inr fails ↦
+          let later = IsIn-filter p c xs (subst (λ b. IsIn c (cond b (x ∷ filter p xs) (filter p xs))) fails m) in
+          (inr later.0, later.1)
     ]
 
 pub filter-IsIn : (p : List ℕ → Bool) (c : List ℕ) (xs : List (List ℕ)) → IsIn c xs → p c ≡ true → IsIn c (filter p xs)
@@ -246,6 +250,6 @@ filter-IsIn p c (x ∷ xs) (inl same) passes =
     subst (λ b. IsIn c (cond b (x ∷ filter p xs) (filter p xs))) (sym (sym (ap p same) ∙ passes)) (inl same)
 filter-IsIn p c (x ∷ xs) (inr m) passes =
     elim (p x) as (λ b. IsIn c (cond b (x ∷ filter p xs) (filter p xs))) [
-      true ↦ inr (filter-IsIn p c xs m passes)
-    | false ↦ filter-IsIn p c xs m passes
+      | true ↦ inr (filter-IsIn p c xs m passes)
+      | false ↦ filter-IsIn p c xs m passes
     ]

@@ -1,7 +1,6 @@
 -- Which beginnings of exchanges can reach a difference of the sums.
-use Rattle.std.proofs.Common.{◌≡◌, ℕ, zero, suc, ◌+◌, ◌-◌, ◌<◌, ◌≤◌, Bool, true, false, ◌&&◌, nat_lt, nat_le, List, [], ◌∷◌, ◌++◌, length, take, drop, refl, sym, ◌∙◌, ap, append_assoc, arith, length-append, subst, slice_index, if◌then◌else◌, ◌⊎◌, inl, inr}
+use Rattle.std.proofs.Common.{◌≡◌, ℕ, suc, ◌+◌, ◌-◌, ◌<◌, ◌≤◌, Bool, true, nat_lt, nat_le, List, [], ◌∷◌, ◌++◌, length, take, drop, refl, sym, ◌∙◌, ap, append_assoc, arith, length-append, subst, if◌then◌else◌, inl, inr}
 use Rattle.std.specs.List.Sorted.{IsStrictlyIncreasing}
-use Rattle.std.proofs.lemmas.List.{append-nil}
 use Rattle.std.proofs.lemmas.List.Kept.{AllPairs-from_increasing}
 use Rattle.std.proofs.lemmas.Bool.{lt-ltb, le-ltb, le-leb, leb-true, and_from, and_parts, cases_lt}
 use Rattle.dutch_order.specs.declared.exchange.Side.TheVariants.{Out, In}
@@ -100,17 +99,18 @@ module _ (pool : List ℕ) (k : ℕ) (rises : IsStrictlyIncreasing pool) (enough
         let least_in : run pool k In 0 size ≤ total inn ins = subst (λ n. run pool k In 0 n ≤ total inn ins) same (inn_least 0 ins q) in
         let most_in : total inn ins ≤ run pool k In (length pool - k - size) size = subst (λ n. total inn ins ≤ run pool k In (length pool - k - n) n) same (inn_most 0 ins q) in
         let most_out : total out outs ≤ run pool k Out (c + 1) (size - 1 - length begun) =
-          subst (λ n. total out outs ≤ run pool k Out (c + 1) n) (sym rest) (out_most (c + 1) outs (subst (λ l. Climbs l k outs) (let e : suc c ≡ c + 1 = omega arith in e) p.2)) in
+        subst (λ n. total out outs ≤ run pool k Out (c + 1) n) (sym rest) (out_most (c + 1) outs (subst (λ l. Climbs l k outs) (let e : suc c ≡ c + 1 = omega arith in e) p.2)) in
         let least_out : run pool k Out (k - (size - 1 - length begun)) (size - 1 - length begun) ≤ total out outs =
-          subst (λ n. run pool k Out (k - n) n ≤ total out outs) (sym rest) (out_least (suc c) outs p.2) in
-        (reached (run pool k In 0 size - (total out begun + out c + run pool k Out (c + 1) (size - 1 - length begun)))
-          (run pool k In (length pool - k - size) size - (total out begun + out c + run pool k Out (k - (size - 1 - length begun)) (size - 1 - length begun)))
-          begun c
-          (ap (λ b. if b then (run pool k In 0 size - (total out begun + out c + run pool k Out (c + 1) (size - 1 - length begun))) else ((total inn (drop size begun) + inn c + run pool k In (c + 1) (size + size - 1 - length begun)) - total out (take size begun))) short)
-          (ap (λ b. if b then (run pool k In (length pool - k - size) size - (total out begun + out c + run pool k Out (k - (size - 1 - length begun)) (size - 1 - length begun))) else ((total inn (drop size begun) + inn c + run pool k In (length pool - k - (size + size - 1 - length begun)) (size + size - 1 - length begun)) - total out (take size begun))) short)
-          (omega arith) (omega arith),
-        outs-fit (begun ++ c ∷ []) outs ins (suc c) (omega (arith, length-append begun (c ∷ []))) same p.2 q
-        (is ∙ ap (λ xs. total inn ins - total out xs) (sym (append_assoc begun (c ∷ []) outs))))
+        subst (λ n. run pool k Out (k - n) n ≤ total out outs) (sym rest) (out_least (suc c) outs p.2) in (
+          reached (run pool k In 0 size - (total out begun + out c + run pool k Out (c + 1) (size - 1 - length begun)))
+              (run pool k In (length pool - k - size) size - (total out begun + out c + run pool k Out (k - (size - 1 - length begun)) (size - 1 - length begun)))
+              begun c
+              (ap (λ b. if b then (run pool k In 0 size - (total out begun + out c + run pool k Out (c + 1) (size - 1 - length begun))) else ((total inn (drop size begun) + inn c + run pool k In (c + 1) (size + size - 1 - length begun)) - total out (take size begun))) short)
+              (ap (λ b. if b then (run pool k In (length pool - k - size) size - (total out begun + out c + run pool k Out (k - (size - 1 - length begun)) (size - 1 - length begun))) else ((total inn (drop size begun) + inn c + run pool k In (length pool - k - (size + size - 1 - length begun)) (size + size - 1 - length begun)) - total out (take size begun))) short)
+              (omega arith) (omega arith),
+          outs-fit (begun ++ c ∷ []) outs ins (suc c) (omega (arith, length-append begun (c ∷ []))) same p.2 q
+              (is ∙ ap (λ xs. total inn ins - total out xs) (sym (append_assoc begun (c ∷ []) outs))),
+        )
 
     module _ (outs : List ℕ) (out_size : length outs ≡ size) where
       least-second : (begun : List ℕ) (a : ℕ) → least_at pool k size (outs ++ begun) a ≡ (total inn begun + inn a + run pool k In (a + 1) (size + size - 1 - length (outs ++ begun))) - total out outs
@@ -133,14 +133,15 @@ module _ (pool : List ℕ) (k : ℕ) (rises : IsStrictlyIncreasing pool) (enough
           let rest : n ≡ length ins = omega (arith, length-append outs begun) in
           let sum : total inn (begun ++ a ∷ ins) ≡ total inn begun + (inn a + total inn ins) = total-append inn begun (a ∷ ins) in
           let least : run pool k In (a + 1) n ≤ total inn ins =
-            subst (λ n. run pool k In (a + 1) n ≤ total inn ins) (sym rest) (inn_least (a + 1) ins (subst (λ l. Climbs l (length pool - k) ins) (let e : suc a ≡ a + 1 = omega arith in e) p.2)) in
+          subst (λ n. run pool k In (a + 1) n ≤ total inn ins) (sym rest) (inn_least (a + 1) ins (subst (λ l. Climbs l (length pool - k) ins) (let e : suc a ≡ a + 1 = omega arith in e) p.2)) in
           let most : total inn ins ≤ run pool k In (length pool - k - n) n =
-            subst (λ n. total inn ins ≤ run pool k In (length pool - k - n) n) (sym rest) (inn_most (suc a) ins p.2) in
-          (reached ((total inn begun + inn a + run pool k In (a + 1) n) - total out outs) ((total inn begun + inn a + run pool k In (length pool - k - n) n) - total out outs)
-            (outs ++ begun) a (least-second begun a) (greatest-second begun a) (omega arith) (omega arith),
-          subst (λ path. AllFit fits path ins) (sym (append_assoc outs begun (a ∷ [])))
-          (ins-fit (begun ++ a ∷ []) ins (suc a) (omega (arith, length-append begun (a ∷ []))) p.2
-          (is ∙ ap (λ xs. total inn xs - total out outs) (sym (append_assoc begun (a ∷ []) ins)))))
+          subst (λ n. total inn ins ≤ run pool k In (length pool - k - n) n) (sym rest) (inn_most (suc a) ins p.2) in (
+            reached ((total inn begun + inn a + run pool k In (a + 1) n) - total out outs) ((total inn begun + inn a + run pool k In (length pool - k - n) n) - total out outs)
+                (outs ++ begun) a (least-second begun a) (greatest-second begun a) (omega arith) (omega arith),
+            subst (λ path. AllFit fits path ins) (sym (append_assoc outs begun (a ∷ [])))
+                (ins-fit (begun ++ a ∷ []) ins (suc a) (omega (arith, length-append begun (a ∷ []))) p.2
+                (is ∙ ap (λ xs. total inn xs - total out outs) (sym (append_assoc begun (a ∷ []) ins)))),
+          )
 
       -- where all places fit, the difference is the wanted one
       pub ins-exact : (begun ins : List ℕ) → length begun + length ins ≡ size → 0 < length ins → AllFit fits (outs ++ begun) ins → total inn (begun ++ ins) - total out outs ≡ difference
@@ -160,4 +161,4 @@ module _ (pool : List ℕ) (k : ℕ) (rises : IsStrictlyIncreasing pool) (enough
       ins-exact begun (a ∷ b ∷ ins) whole more fit =
           ap (λ xs. total inn xs - total out outs) (sym (append_assoc begun (a ∷ []) (b ∷ ins)))
           ∙ ins-exact (begun ++ a ∷ []) (b ∷ ins) (omega (arith, length-append begun (a ∷ []))) (omega arith)
-            (subst (λ path. AllFit fits path (b ∷ ins)) (append_assoc outs begun (a ∷ [])) fit.1)
+          (subst (λ path. AllFit fits path (b ∷ ins)) (append_assoc outs begun (a ∷ [])) fit.1)

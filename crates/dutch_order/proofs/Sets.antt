@@ -1,13 +1,11 @@
 -- Sets as lists of places, and lists that are sorted by their keys.
-use Rattle.std.proofs.Common.{◌≡◌, ℕ, zero, suc, ◌+◌, ◌-◌, ◌<◌, ◌≤◌, Bool, true, false, cond, List, [], ◌∷◌, ◌++◌, map, length, refl, sym, ◌∙◌, ap, arith, subst, ◌⊎◌, inl, inr}
-use Rattle.std.specs.List.{AllByRecursion}
+use Rattle.std.proofs.Common.{◌≡◌, ℕ, zero, suc, ◌+◌, ◌<◌, ◌≤◌, true, false, cond, List, [], ◌∷◌, ◌++◌, map, length, refl, sym, ◌∙◌, ap, arith, subst, ◌⊎◌, inl, inr}
 use Rattle.std.proofs.lemmas.List.{map-append}
 use Rattle.std.proofs.lemmas.Simd.{map-map}
 use Rattle.std.proofs.lemmas.Bool.{cases_eq, true≢false, cases_Bool}
 use Rattle.dutch_order.specs.Trials.{numbers_from}
 use Rattle.dutch_order.specs.Choices.{subsets}
 use Rattle.dutch_order.specs.Keys.{is_before, put, sorted, IsIn, Ascends}
-use Rattle.dutch_order.proofs.Lists.{map-same}
 use Rattle.dutch_order.proofs.HalfWalks.{Climbs}
 use Rattle.dutch_order.proofs.Orders.{all_members, member_has, IsIn-append, IsIn-front, IsIn-back, IsIn-map, map-IsIn, Ascends-append, Ascends-head, Ascends-unique, is_before-total, is_before-transitive, is_before-irreflexive, is_before-lower}
 
@@ -23,14 +21,15 @@ subsets-climb first zero (suc k) set m = absurd m
 subsets-climb first (suc count) (suc k) set m =
     let bound : suc first + count ≡ first + suc count = omega arith in
     elim (IsIn-append set (map (λ set. first ∷ set) (subsets (numbers_from (suc first) count) k)) (subsets (numbers_from (suc first) count) (suc k)) m) [
-      inl with ↦
-        let from = IsIn-map (λ set. first ∷ set) set (subsets (numbers_from (suc first) count) k) with in
-        let rest = subsets-climb (suc first) count k from.0 from.2 in
-        (subst (Climbs first (first + suc count)) (sym from.1) (omega arith, omega arith, subst (λ b. Climbs (suc first) b from.0) bound rest.0),
-        ap length from.1 ∙ ap suc rest.1)
-    | inr without ↦
-        let rest = subsets-climb (suc first) count (suc k) set without in
-        (Climbs-lower first (suc first) (first + suc count) set (omega arith) (subst (λ b. Climbs (suc first) b set) bound rest.0), rest.1)
+      | inl with ↦
+          let from = IsIn-map (λ set. first ∷ set) set (subsets (numbers_from (suc first) count) k) with in
+          let rest = subsets-climb (suc first) count k from.0 from.2 in (
+            subst (Climbs first (first + suc count)) (sym from.1) (omega arith, omega arith, subst (λ b. Climbs (suc first) b from.0) bound rest.0),
+            ap length from.1 ∙ ap suc rest.1,
+          )
+      | inr without ↦
+          let rest = subsets-climb (suc first) count (suc k) set without in
+          (Climbs-lower first (suc first) (first + suc count) set (omega arith) (subst (λ b. Climbs (suc first) b set) bound rest.0), rest.1)
     ]
 
 pub climbs-subset : (first count k : ℕ) (set : List ℕ) → Climbs first (first + count) set → length set ≡ k → IsIn set (subsets (numbers_from first count) k)
@@ -42,16 +41,16 @@ climbs-subset first (suc count) (suc k) [] climbs same = absurd (omega arith)
 climbs-subset first (suc count) (suc k) (x ∷ set) climbs same =
     let bound : first + suc count ≡ suc first + count = omega arith in
     elim (cases_eq x first) [
-      inl equal ↦
-        IsIn-front (x ∷ set) (map (λ set. first ∷ set) (subsets (numbers_from (suc first) count) k)) (subsets (numbers_from (suc first) count) (suc k))
-        (subst (λ y. IsIn (y ∷ set) (map (λ set. first ∷ set) (subsets (numbers_from (suc first) count) k))) (sym equal)
-        (map-IsIn (λ set. first ∷ set) set (subsets (numbers_from (suc first) count) k)
-        (climbs-subset (suc first) count k set
-        (subst (λ y. Climbs (suc y) (suc first + count) set) equal (subst (λ b. Climbs (suc x) b set) bound climbs.2)) (omega arith))))
-    | inr other ↦
-        let above : suc first ≤ x = (let h : first ≤ x = climbs.0 in let h' : (x ≡ first → ⊥) = other in omega (arith, h, h')) in
-        IsIn-back (x ∷ set) (map (λ set. first ∷ set) (subsets (numbers_from (suc first) count) k)) (subsets (numbers_from (suc first) count) (suc k))
-        (climbs-subset (suc first) count (suc k) (x ∷ set) (above, omega (arith, climbs.1), subst (λ b. Climbs (suc x) b set) bound climbs.2) same)
+      | inl equal ↦
+          IsIn-front (x ∷ set) (map (λ set. first ∷ set) (subsets (numbers_from (suc first) count) k)) (subsets (numbers_from (suc first) count) (suc k))
+          (subst (λ y. IsIn (y ∷ set) (map (λ set. first ∷ set) (subsets (numbers_from (suc first) count) k))) (sym equal)
+          (map-IsIn (λ set. first ∷ set) set (subsets (numbers_from (suc first) count) k)
+          (climbs-subset (suc first) count k set
+          (subst (λ y. Climbs (suc y) (suc first + count) set) equal (subst (λ b. Climbs (suc x) b set) bound climbs.2)) (omega arith))))
+      | inr other ↦
+          let above : suc first ≤ x = (let h : first ≤ x = climbs.0 in let h' : (x ≡ first → ⊥) = other in omega (arith, h, h')) in
+          IsIn-back (x ∷ set) (map (λ set. first ∷ set) (subsets (numbers_from (suc first) count) k)) (subsets (numbers_from (suc first) count) (suc k))
+          (climbs-subset (suc first) count (suc k) (x ∷ set) (above, omega (arith, climbs.1), subst (λ b. Climbs (suc x) b set) bound climbs.2) same)
     ]
 
 -- sets of values are the values of sets of places
@@ -90,16 +89,16 @@ put-in : (key : List ℕ → List ℕ) (c x : List ℕ) (xs : List (List ℕ)) �
 put-in key c x [] = λ m. m
 put-in key c x (y ∷ ys) =
     elim (is_before (key y) (key x)) as (λ b. IsIn c (cond b (y ∷ put key x ys) (x ∷ y ∷ ys)) → (c ≡ x) ⊎ IsIn c (y ∷ ys)) [
-      true ↦ put-in-later c x y (put key x ys) ys (put-in key c x ys)
-    | false ↦ (λ m. m)
+      | true ↦ put-in-later c x y (put key x ys) ys (put-in key c x ys)
+      | false ↦ (λ m. m)
     ]
 
 in-put : (key : List ℕ → List ℕ) (c x : List ℕ) (xs : List (List ℕ)) → (c ≡ x) ⊎ IsIn c xs → IsIn c (put key x xs)
 in-put key c x [] m = m
 in-put key c x (y ∷ ys) m =
     elim (is_before (key y) (key x)) as (λ b. IsIn c (cond b (y ∷ put key x ys) (x ∷ y ∷ ys))) [
-      true ↦ elim m [ inl same ↦ inr (in-put key c x ys (inl same)) | inr n ↦ elim n [ inl same ↦ inl same | inr later ↦ inr (in-put key c x ys (inr later)) ] ]
-    | false ↦ m
+      | true ↦ elim m [ inl same ↦ inr (in-put key c x ys (inl same)) | inr n ↦ elim n [ inl same ↦ inl same | inr later ↦ inr (in-put key c x ys (inr later)) ] ]
+      | false ↦ m
     ]
 
 pub sorted-in : (key : List ℕ → List ℕ) (c : List ℕ) (xs : List (List ℕ)) → IsIn c (sorted key xs) → IsIn c xs
@@ -115,32 +114,34 @@ in-sorted key c (x ∷ xs) (inr m) = in-put key c x (sorted key xs) (inr (in-sor
 before_or : (key : List ℕ → List ℕ) (x y : List ℕ) → (key x ≡ key y → ⊥) → is_before (key y) (key x) ≡ false → is_before (key x) (key y) ≡ true
 before_or key x y apart after =
     elim (is_before-total (key x) (key y)) [
-      inl same ↦ absurd (apart same)
-    | inr (inl first) ↦ first
-    | inr (inr second) ↦ absurd (true≢false (sym second ∙ after))
+      | inl same ↦ absurd (apart same)
+      | inr (inl first) ↦ first
+      | inr (inr second) ↦ absurd (true≢false (sym second ∙ after))
     ]
 
 put-ascends : (key : List ℕ → List ℕ) (x : List ℕ) (xs : List (List ℕ)) → Ascends key xs → ((y : List ℕ) → IsIn y xs → key x ≡ key y → ⊥) → Ascends key (put key x xs)
 put-ascends key x [] p apart = (tt, tt)
 put-ascends key x (y ∷ ys) p apart =
     elim (cases_Bool (is_before (key y) (key x))) [
-      inl before ↦
-        subst (λ b. Ascends key (cond b (y ∷ put key x ys) (x ∷ y ∷ ys))) (sym before)
-        (all_members (λ z. is_before (key y) (key z) ≡ true) (put key x ys)
-        (λ z m. elim (put-in key z x ys m) [
-          inl same ↦ subst (λ w. is_before (key y) (key w) ≡ true) (sym same) before
-        | inr n ↦ member_has (λ z. is_before (key y) (key z) ≡ true) ys p.0 z n
-        ]),
-        put-ascends key x ys p.1 (λ z m. apart z (inr m)))
-    | inr after ↦
-        let first : is_before (key x) (key y) ≡ true = before_or key x y (apart y (inl refl)) after in
-        subst (λ b. Ascends key (cond b (y ∷ put key x ys) (x ∷ y ∷ ys))) (sym after)
-        (all_members (λ z. is_before (key x) (key z) ≡ true) (y ∷ ys)
-        (λ z m. elim m [
-          inl same ↦ subst (λ w. is_before (key x) (key w) ≡ true) (sym same) first
-        | inr n ↦ is_before-transitive (key x) (key y) (key z) first (member_has (λ z. is_before (key y) (key z) ≡ true) ys p.0 z n)
-        ]),
-        p)
+      | inl before ↦
+          subst (λ b. Ascends key (cond b (y ∷ put key x ys) (x ∷ y ∷ ys))) (sym before) (
+            all_members (λ z. is_before (key y) (key z) ≡ true) (put key x ys)
+                (λ z m. elim (put-in key z x ys m) [
+                  | inl same ↦ subst (λ w. is_before (key y) (key w) ≡ true) (sym same) before
+                  | inr n ↦ member_has (λ z. is_before (key y) (key z) ≡ true) ys p.0 z n
+                ]),
+            put-ascends key x ys p.1 (λ z m. apart z (inr m)),
+          )
+      | inr after ↦
+          let first : is_before (key x) (key y) ≡ true = before_or key x y (apart y (inl refl)) after in
+          subst (λ b. Ascends key (cond b (y ∷ put key x ys) (x ∷ y ∷ ys))) (sym after) (
+            all_members (λ z. is_before (key x) (key z) ≡ true) (y ∷ ys)
+                (λ z m. elim m [
+                  | inl same ↦ subst (λ w. is_before (key x) (key w) ≡ true) (sym same) first
+                  | inr n ↦ is_before-transitive (key x) (key y) (key z) first (member_has (λ z. is_before (key y) (key z) ≡ true) ys p.0 z n)
+                ]),
+            p,
+          )
     ]
 
 -- sorting a list of different choices with different keys makes it ascend
@@ -149,9 +150,9 @@ sorted-ascends key [] p apart = tt
 sorted-ascends key (x ∷ xs) p apart =
     put-ascends key x (sorted key xs) (sorted-ascends key xs p.1 (λ y z m n. apart y z (inr m) (inr n)))
     (λ y m same.
-      let in_xs : IsIn y xs = sorted-in key y xs m in
-      let equal : x ≡ y = apart x y (inl refl) (inr in_xs) same in
-      true≢false (sym (member_has (λ z. is_before x z ≡ true) xs p.0 y in_xs) ∙ sym (ap (λ z. is_before x z) equal) ∙ is_before-irreflexive x))
+    let in_xs : IsIn y xs = sorted-in key y xs m in
+    let equal : x ≡ y = apart x y (inl refl) (inr in_xs) same in
+    true≢false (sym (member_has (λ z. is_before x z ≡ true) xs p.0 y in_xs) ∙ sym (ap (λ z. is_before x z) equal) ∙ is_before-irreflexive x))
 
 -- a list that ascends by a key and has the members of another, whose keys differ, is that other one, sorted
 pub ascending-sorted : (key : List ℕ → List ℕ) (ys xs : List (List ℕ)) → Ascends key ys → Ascends (λ x. x) xs → ((x y : List ℕ) → IsIn x xs → IsIn y xs → key x ≡ key y → x ≡ y) → ((c : List ℕ) → IsIn c ys → IsIn c xs) → ((c : List ℕ) → IsIn c xs → IsIn c ys) → ys ≡ sorted key xs
@@ -162,10 +163,11 @@ ascending-sorted key ys xs p q apart there back =
 -- a map that keeps the order of its members
 pub Ascends-map : (key : List ℕ → List ℕ) (f : List ℕ → List ℕ) (xs : List (List ℕ)) → Ascends (λ x. x) xs → ((x y : List ℕ) → IsIn x xs → IsIn y xs → is_before x y ≡ true → is_before (key (f x)) (key (f y)) ≡ true) → Ascends key (map f xs)
 Ascends-map key f [] p keeps = tt
-Ascends-map key f (x ∷ xs) p keeps =
-    (all_members (λ z. is_before (key (f x)) (key z) ≡ true) (map f xs)
-    (λ z m.
+Ascends-map key f (x ∷ xs) p keeps = (
+  all_members (λ z. is_before (key (f x)) (key z) ≡ true) (map f xs)
+      (λ z m.
       let from = IsIn-map f z xs m in
       subst (λ w. is_before (key (f x)) (key w) ≡ true) (sym from.1)
       (keeps x from.0 (inl refl) (inr from.2) (member_has (λ z. is_before x z ≡ true) xs p.0 from.0 from.2))),
-    Ascends-map key f xs p.1 (λ y z m n. keeps y z (inr m) (inr n)))
+  Ascends-map key f xs p.1 (λ y z m n. keeps y z (inr m) (inr n)),
+)

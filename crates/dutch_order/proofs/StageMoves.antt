@@ -1,8 +1,8 @@
 -- What is to come of exchanges, from one stage to the next.
-use Rattle.std.proofs.Common.{◌≡◌, ℕ, zero, suc, ◌+◌, ◌-◌, ◌<◌, ◌≤◌, Bool, true, false, ◌&&◌, nat_lt, nat_le, min, List, [], ◌∷◌, ◌++◌, map, length, refl, sym, ◌∙◌, ap, append_assoc, arith, Option, Some, None, ◌⊎◌, inl, inr, subst, if◌then◌else◌}
+use Rattle.std.proofs.Common.{◌≡◌, ℕ, zero, suc, ◌+◌, ◌-◌, ◌<◌, ◌≤◌, true, ◌&&◌, nat_lt, nat_le, List, [], ◌∷◌, ◌++◌, map, refl, sym, ◌∙◌, ap, append_assoc, arith, Option, Some, None, inl, inr, if◌then◌else◌}
 use Rattle.std.proofs.lemmas.Bool.{eq-eqb, ne_eqb, eqb-true, cases_Bool, and_parts, and_from, ltb-true, leb-true, lt-ltb, le-leb}
 use Rattle.dutch_order.specs.Trials.{ahead, hits, trials, lower, lowest}
-use Rattle.dutch_order.specs.Stages.{exchange_plan, set_of, stage_sets, sets_of_stages, sets_of_sizes, trials_of_stages, trials_of_sizes, stages_of, stages_of_sizes, least_difference, greatest_difference, most_exchanged, sets_ahead, trials_ahead, stages_ahead, is_next, following}
+use Rattle.dutch_order.specs.Stages.{exchange_plan, set_of, stage_sets, sets_of_stages, sets_of_sizes, trials_of_stages, trials_of_sizes, stages_of_sizes, least_difference, greatest_difference, most_exchanged, sets_ahead, trials_ahead, stages_ahead, is_next, following}
 
 pub lower-none : (o : Option ℕ) → lower o None ≡ o
 lower-none None = refl
@@ -17,14 +17,14 @@ pub following-some : (difference greatest n : ℕ) (beyond : Option ℕ) → fol
 following-some difference greatest n None h = cc
 following-some difference greatest n (Some next) h =
     elim (cases_Bool (nat_lt difference next && nat_le next greatest)) [
-      inl is_it ↦
-        let same : Some next ≡ Some n = sym (ap (λ b. if b then Some next else None) is_it) ∙ h in
-        let equal : next ≡ n = cc in
-        let parts = and_parts (nat_lt difference next) (nat_le next greatest) is_it in
-        let low : difference < next = ltb-true difference next parts.0 in
-        let high : next ≤ greatest = leb-true next greatest parts.1 in
-        (ap Some equal, omega arith, omega arith)
-    | inr is_not ↦ (let none : None ≡ Some n = sym (ap (λ b. if b then Some next else None) is_not) ∙ h in cc)
+      | inl is_it ↦
+          let same : Some next ≡ Some n = sym (ap (λ b. if b then Some next else None) is_it) ∙ h in
+          let equal : next ≡ n = cc in
+          let parts = and_parts (nat_lt difference next) (nat_le next greatest) is_it in
+          let low : difference < next = ltb-true difference next parts.0 in
+          let high : next ≤ greatest = leb-true next greatest parts.1 in
+          (ap Some equal, omega arith, omega arith)
+      | inr is_not ↦ (let none : None ≡ Some n = sym (ap (λ b. if b then Some next else None) is_not) ∙ h in cc)
     ]
 
 pub following-none : (difference greatest n : ℕ) (beyond : Option ℕ) → following difference greatest beyond ≡ None → beyond ≡ Some n → difference < n → n ≤ greatest → ⊥
@@ -77,10 +77,10 @@ module _ (pool : List ℕ) (k size : ℕ) where
   sets-without zero difference next none = refl
   sets-without (suc count) difference next none =
       elim (cases_Bool (is_next difference next)) [
-        inl is_it ↦ absurd (none difference (is_next-some difference next is_it) (omega arith) (omega arith))
-      | inr is_not ↦
-          ap (λ b. if b then (stage_sets pool k size difference [] 0 ++ sets_of_stages pool k count size (suc difference) (lowest (ahead (exchange_plan pool k size difference) [] 0))) else sets_of_stages pool k count size (suc difference) next) is_not
-          ∙ sets-without count (suc difference) next (λ n is low high. none n is (omega arith) (omega arith))
+        | inl is_it ↦ absurd (none difference (is_next-some difference next is_it) (omega arith) (omega arith))
+        | inr is_not ↦
+            ap (λ b. if b then (stage_sets pool k size difference [] 0 ++ sets_of_stages pool k count size (suc difference) (lowest (ahead (exchange_plan pool k size difference) [] 0))) else sets_of_stages pool k count size (suc difference) next) is_not
+            ∙ sets-without count (suc difference) next (λ n is low high. none n is (omega arith) (omega arith))
       ]
 
   trials-without : (count difference : ℕ) (next : Option ℕ) → ((n : ℕ) → next ≡ Some n → difference ≤ n → n < difference + count → ⊥) → trials_of_stages pool k count size difference next ≡ 0
@@ -88,10 +88,10 @@ module _ (pool : List ℕ) (k size : ℕ) where
   trials-without zero difference next none = refl
   trials-without (suc count) difference next none =
       elim (cases_Bool (is_next difference next)) [
-        inl is_it ↦ absurd (none difference (is_next-some difference next is_it) (omega arith) (omega arith))
-      | inr is_not ↦
-          ap (λ b. if b then (trials (ahead (exchange_plan pool k size difference) [] 0) + trials_of_stages pool k count size (suc difference) (lowest (ahead (exchange_plan pool k size difference) [] 0))) else trials_of_stages pool k count size (suc difference) next) is_not
-          ∙ trials-without count (suc difference) next (λ n is low high. none n is (omega arith) (omega arith))
+        | inl is_it ↦ absurd (none difference (is_next-some difference next is_it) (omega arith) (omega arith))
+        | inr is_not ↦
+            ap (λ b. if b then (trials (ahead (exchange_plan pool k size difference) [] 0) + trials_of_stages pool k count size (suc difference) (lowest (ahead (exchange_plan pool k size difference) [] 0))) else trials_of_stages pool k count size (suc difference) next) is_not
+            ∙ trials-without count (suc difference) next (λ n is low high. none n is (omega arith) (omega arith))
       ]
 
   -- the stages of a size begin with the first one

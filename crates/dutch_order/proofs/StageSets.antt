@@ -1,5 +1,5 @@
 -- The stages of exchanges find all sets, by their keys.
-use Rattle.std.proofs.Common.{◌≡◌, ℕ, zero, suc, ◌+◌, ◌-◌, ◌<◌, ◌≤◌, Bool, true, false, min, List, [], ◌∷◌, ◌++◌, map, length, take, drop, refl, sym, ◌∙◌, ap, append_assoc, arith, length-append, subst, ◌⊎◌, inl, inr, slice_index, zero-add, Option, Some, None, cond, nat_lt, nat_le, ◌&&◌, if◌then◌else◌}
+use Rattle.std.proofs.Common.{◌≡◌, ℕ, zero, suc, ◌+◌, ◌-◌, ◌<◌, ◌≤◌, Bool, true, false, min, List, [], ◌∷◌, ◌++◌, map, length, drop, refl, sym, ◌∙◌, ap, append_assoc, arith, subst, ◌⊎◌, inl, inr, slice_index, zero-add, Option, Some, None, cond, nat_lt, nat_le, ◌&&◌, if◌then◌else◌}
 use Rattle.std.specs.List.Sorted.{IsStrictlyIncreasing}
 use Rattle.std.proofs.lemmas.List.{append-nil, length-map}
 use Rattle.std.proofs.lemmas.Simd.{map-map}
@@ -8,16 +8,16 @@ use Rattle.dutch_order.specs.declared.exchange.Side.TheVariants.{Out, In}
 use Rattle.dutch_order.specs.Trials.{Plan, Event, Tried, Hit, numbers_from, entry, below, ahead, hits, lower, lowest}
 use Rattle.std.specs.List.{flat_map}
 use Rattle.dutch_order.specs.Choices.{subsets}
-use Rattle.dutch_order.specs.Keys.{is_before, sorted, IsIn, Ascends, higher_first}
+use Rattle.dutch_order.specs.Keys.{is_before, IsIn, Ascends, higher_first}
 use Rattle.dutch_order.specs.Exchange.{exchange_key, exchanges}
-use Rattle.dutch_order.specs.Stages.{total, value_of, run, within_reach, beyond_reach, exchange_plan, kept_of, set_of, stage_sets, sets_of_stages, sets_of_sizes, stages_of, least_difference, greatest_difference, most_exchanged, sets_ahead, is_next, least_at, greatest_at}
-use Rattle.dutch_order.proofs.HalfWalks.{Climbs, AllFit, Admitted, Halved, halves-split, halves-join, Climbs-room}
+use Rattle.dutch_order.specs.Stages.{total, value_of, within_reach, beyond_reach, exchange_plan, kept_of, set_of, stage_sets, sets_of_stages, sets_of_sizes, stages_of, least_difference, greatest_difference, most_exchanged, sets_ahead, is_next, least_at, greatest_at}
+use Rattle.dutch_order.proofs.HalfWalks.{Climbs, AllFit, Admitted, halves-split, halves-join, Climbs-room}
 use Rattle.dutch_order.proofs.Orders.{is_before-lower, is_before-equal, is_before-cases, is_before-irreflexive, IsIn-map, map-IsIn, IsIn-append, IsIn-front, IsIn-back, Ascends-append, member_has}
 use Rattle.dutch_order.proofs.Found.{found, ahead-new}
 use Rattle.dutch_order.proofs.FoundPaths.{in-numbers, found-admitted, admitted-found, found-ascends, is_before-begun}
 use Rattle.dutch_order.proofs.LimboSets.{is_before-split, is_before-join, drop_front}
 use Rattle.dutch_order.proofs.Sets.{subsets-climb, subsets-map, subsets-ascend, ascending-sorted, Ascends-map}
-use Rattle.dutch_order.proofs.ExchangeSets.{v, v-raises, pool-is, set-is, set-in_pool, places, exchange_key-is, exchange-of}
+use Rattle.dutch_order.proofs.ExchangeSets.{v, v-raises, pool-is, set-is, set-in_pool, exchange_key-is, exchange-of}
 use Rattle.dutch_order.proofs.StageMoves.{sets-first}
 use Rattle.dutch_order.proofs.Reach.{out-falls, inn-raises, difference-least, difference-greatest, outs-fit, ins-fit, ins-exact, take_front_of}
 
@@ -28,8 +28,8 @@ is_before-map_below f bound low raises [] (y ∷ ys) climbs h = refl
 is_before-map_below f bound low raises (x ∷ xs) [] climbs h = h
 is_before-map_below f bound low raises (x ∷ xs) (y ∷ ys) climbs h =
     elim (is_before-cases x y xs ys h) [
-      inl lower ↦ is_before-lower (f x) (f y) (map f xs) (map f ys) (raises x y lower climbs.1)
-    | inr rest ↦ subst (λ z. is_before (f x ∷ map f xs) (f z ∷ map f ys) ≡ true) rest.0 (is_before-equal (f x) (map f xs) (map f ys) ∙ is_before-map_below f bound (suc y) raises xs ys climbs.2 rest.1)
+      | inl lower ↦ is_before-lower (f x) (f y) (map f xs) (map f ys) (raises x y lower climbs.1)
+      | inr rest ↦ subst (λ z. is_before (f x ∷ map f xs) (f z ∷ map f ys) ≡ true) rest.0 (is_before-equal (f x) (map f xs) (map f ys) ∙ is_before-map_below f bound (suc y) raises xs ys climbs.2 rest.1)
     ]
 
 pub Climbs-length : (low bound : ℕ) (xs : List ℕ) → low ≤ bound → Climbs low bound xs → low + length xs ≤ bound
@@ -51,8 +51,8 @@ Ascends-apart key (z ∷ xs) p x y (inr m) (inr n) same = Ascends-apart key xs p
 barred_over : (least greatest first : ℕ) → (nat_le least first && nat_le first greatest) ≡ false → first ≤ greatest → first < least
 barred_over least greatest first barred high =
     elim (and_cases (nat_le least first) (nat_le first greatest) barred) [
-      inl over ↦ leb-false least first over
-    | inr under ↦ absurd (omega (arith, leb-false first greatest under, high))
+      | inl over ↦ leb-false least first over
+      | inr under ↦ absurd (omega (arith, leb-false first greatest under, high))
     ]
 
 lower-assoc : (a b c : Option ℕ) → lower (lower a b) c ≡ lower a (lower b c)
@@ -113,16 +113,24 @@ module _ (pool : List ℕ) (k : ℕ) (rises : IsStrictlyIncreasing pool) (enough
       let ins : List ℕ = halves.1 in
       let is : path ≡ outs ++ ins = found'.1 ∙ halves.2 in
       let exact : total inn ins - total out outs ≡ difference =
-        elim (cases_eq size 0) [
-          inl empty ↦ no_difference outs ins (halves.3.front_length ∙ empty) (halves.3.back_length ∙ empty) ∙ sym (none empty)
+      elim (cases_eq size 0) [
+        | inl empty ↦ no_difference outs ins (halves.3.front_length ∙ empty) (halves.3.back_length ∙ empty) ∙ sym (none empty)
         | inr some ↦
             ins-exact pool k rises enough size difference outs halves.3.front_length [] ins (zero-add (length ins) ∙ halves.3.back_length) (omega (arith, some, halves.3.back_length))
             (subst (λ path. AllFit (within_reach pool k size difference) path ins) (sym (append-nil outs)) halves.3.back_fits)
-        ] in
-      (outs, ins, is, record {
-        outs_climb = halves.3.front_climbs; ins_climb = halves.3.back_climbs; outs_size = halves.3.front_length; ins_size = halves.3.back_length;
-        differs = exact; is_set = ap (set_of pool k size) is ∙ path-set size outs ins halves.3.front_length
-      })
+      ] in (
+        outs,
+        ins,
+        is,
+        record {
+          outs_climb = halves.3.front_climbs;
+          ins_climb = halves.3.back_climbs;
+          outs_size = halves.3.front_length;
+          ins_size = halves.3.back_length;
+          differs = exact;
+          is_set = ap (set_of pool k size) is ∙ path-set size outs ins halves.3.front_length;
+        },
+      )
 
   stage-exchange : (size difference : ℕ) → (size ≡ 0 → difference ≡ 0) → (set : List ℕ) → IsIn set (stage_sets pool k size difference [] 0) → (outs : List ℕ) × (ins : List ℕ) × Exchange pool k size difference set outs ins
   stage-exchange size difference none set m =
@@ -133,11 +141,13 @@ module _ (pool : List ℕ) (k : ℕ) (rises : IsStrictlyIncreasing pool) (enough
   exchange-admitted : (size difference : ℕ) (set outs ins : List ℕ) → Exchange pool k size difference set outs ins → Admitted (exchange_plan pool k size difference) (size + size) [] (outs ++ ins)
   exchange-admitted size difference set outs ins e =
       halves-join size k (length pool - k) (within_reach pool k size difference) (beyond_reach pool k size difference) outs ins (record {
-        front_climbs = e.outs_climb; back_climbs = e.ins_climb;
+        front_climbs = e.outs_climb;
+        back_climbs = e.ins_climb;
         front_fits = outs-fit pool k rises enough size difference [] outs ins 0 (zero-add (length outs) ∙ e.outs_size) e.ins_size e.outs_climb e.ins_climb (sym e.differs);
         back_fits = subst (λ path. AllFit (within_reach pool k size difference) path ins) (append-nil outs)
-          (ins-fit pool k rises enough size difference outs e.outs_size [] ins 0 (zero-add (length ins) ∙ e.ins_size) e.ins_climb (sym e.differs));
-        front_length = e.outs_size; back_length = e.ins_size
+            (ins-fit pool k rises enough size difference outs e.outs_size [] ins 0 (zero-add (length ins) ∙ e.ins_size) e.ins_climb (sym e.differs));
+        front_length = e.outs_size;
+        back_length = e.ins_size;
       })
 
   exchange-stage : (size difference : ℕ) (set outs ins : List ℕ) → Exchange pool k size difference set outs ins → IsIn set (stage_sets pool k size difference [] 0)
@@ -167,14 +177,14 @@ module _ (pool : List ℕ) (k : ℕ) (rises : IsStrictlyIncreasing pool) (enough
       let weight : ℕ → ℕ = λ i. higher_first (out i) in
       let cases = is_before-split C D A B same (subst (λ z. is_before (C ++ A) z ≡ true) two.2 (subst (λ z. is_before z q ≡ true) one.2 h)) in
       let tails : is_before (map weight C ++ map inn A) (map weight D ++ map inn B) ≡ true =
-        elim cases [
-          inl equal ↦
+      elim cases [
+        | inl equal ↦
             subst (λ z. is_before (map weight C ++ map inn A) (map weight z ++ map inn B) ≡ true) equal.0
             (is_before-begun (map weight C) (map inn A) (map inn B) ∙ is_before-map_below inn (length pool - k) 0 (inn-raises pool k rises enough) A B two.3.ins_climb equal.1)
         | inr first ↦
             is_before-join (map weight C) (map weight D) (map inn A) (map inn B) (length-map C weight ∙ same ∙ sym (length-map D weight))
             (is_before-map_below weight k 0 (λ x y below within. omega (arith, out-falls pool k rises enough x y below within, small (k - 1 - x), small (k - 1 - y))) C D two.3.outs_climb first)
-        ] in
+      ] in
       subst (λ z. is_before z (key (set_of pool k size q)) ≡ true) (sym key_p)
       (subst (λ z. is_before (size ∷ difference ∷ (map weight C ++ map inn A)) z ≡ true) (sym key_q)
       (is_before-equal size (difference ∷ (map weight C ++ map inn A)) (difference ∷ (map weight D ++ map inn B))
@@ -242,18 +252,18 @@ module _ (pool : List ℕ) (k : ℕ) (rises : IsStrictlyIncreasing pool) (enough
         let high : difference ≤ greatest_at pool k size begun i = leb-true difference (greatest_at pool k size begun i) tests.1 in
         let among : IsIn i (numbers_from (now.start begun) (now.stop begun - now.start begun)) = in-numbers i (now.start begun) (now.stop begun - now.start begun) admitted.0 (omega (arith, admitted.0, admitted.1)) in
         elim (cases_Bool (now.fits begun i)) [
-          inl fit ↦ elim (noted open_places (begun ++ i ∷ []) path admitted.3) [
-            inl here ↦ inl (admitted.0, admitted.1, fit, here)
-          | inr deeper ↦
-              inr (lowest-flat_map difference (brought size first open_places begun) i (numbers_from (now.start begun) (now.stop begun - now.start begun)) among
-              (lower-right difference (now.beyond begun i) (lowest (cond (now.fits begun i) (below now open_places (begun ++ i ∷ []) (entry now open_places (begun ++ i ∷ []))) []))
-              (subst (λ b. AtMost difference (lowest (cond b (below now open_places (begun ++ i ∷ []) (entry now open_places (begun ++ i ∷ []))) []))) (sym fit) deeper)))
+          | inl fit ↦ elim (noted open_places (begun ++ i ∷ []) path admitted.3) [
+            | inl here ↦ inl (admitted.0, admitted.1, fit, here)
+            | inr deeper ↦
+                inr (lowest-flat_map difference (brought size first open_places begun) i (numbers_from (now.start begun) (now.stop begun - now.start begun)) among
+                (lower-right difference (now.beyond begun i) (lowest (cond (now.fits begun i) (below now open_places (begun ++ i ∷ []) (entry now open_places (begun ++ i ∷ []))) []))
+                (subst (λ b. AtMost difference (lowest (cond b (below now open_places (begun ++ i ∷ []) (entry now open_places (begun ++ i ∷ []))) []))) (sym fit) deeper)))
           ]
-        | inr barred ↦
-            let over : first < least_at pool k size begun i = barred_over (least_at pool k size begun i) (greatest_at pool k size begun i) first barred (omega arith) in
-            let told : now.beyond begun i ≡ Some (least_at pool k size begun i) = ap (λ b. if b then Some (least_at pool k size begun i) else None) (lt-ltb first (least_at pool k size begun i) over) in
-            inr (lowest-flat_map difference (brought size first open_places begun) i (numbers_from (now.start begun) (now.stop begun - now.start begun)) among
-            (lower-left difference (now.beyond begun i) (lowest (cond (now.fits begun i) (below now open_places (begun ++ i ∷ []) (entry now open_places (begun ++ i ∷ []))) [])) (at_most difference (least_at pool k size begun i) (now.beyond begun i) told low)))
+          | inr barred ↦
+              let over : first < least_at pool k size begun i = barred_over (least_at pool k size begun i) (greatest_at pool k size begun i) first barred (omega arith) in
+              let told : now.beyond begun i ≡ Some (least_at pool k size begun i) = ap (λ b. if b then Some (least_at pool k size begun i) else None) (lt-ltb first (least_at pool k size begun i) over) in
+              inr (lowest-flat_map difference (brought size first open_places begun) i (numbers_from (now.start begun) (now.stop begun - now.start begun)) among
+              (lower-left difference (now.beyond begun i) (lowest (cond (now.fits begun i) (below now open_places (begun ++ i ∷ []) (entry now open_places (begun ++ i ∷ []))) [])) (at_most difference (least_at pool k size begun i) (now.beyond begun i) told low)))
         ]
 
   -- whatever lies beyond the trials of a stage is more than its difference
@@ -269,11 +279,11 @@ module _ (pool : List ℕ) (k : ℕ) (rises : IsStrictlyIncreasing pool) (enough
   beyond_above : (size first : ℕ) (path : List ℕ) (place n : ℕ) → beyond_reach pool k size first path place ≡ Some n → first < n
   beyond_above size first path place n is =
       elim (cases_Bool (nat_lt first (least_at pool k size path place))) [
-        inl over ↦
-          let same : Some (least_at pool k size path place) ≡ Some n = sym (ap (λ b. if b then Some (least_at pool k size path place) else None) over) ∙ is in
-          let equal : least_at pool k size path place ≡ n = cc in
-          omega (arith, ltb-true first (least_at pool k size path place) over)
-      | inr under ↦ (let none : None ≡ Some n = sym (ap (λ b. if b then Some (least_at pool k size path place) else None) under) ∙ is in cc)
+        | inl over ↦
+            let same : Some (least_at pool k size path place) ≡ Some n = sym (ap (λ b. if b then Some (least_at pool k size path place) else None) over) ∙ is in
+            let equal : least_at pool k size path place ≡ n = cc in
+            omega (arith, ltb-true first (least_at pool k size path place) over)
+        | inr under ↦ (let none : None ≡ Some n = sym (ap (λ b. if b then Some (least_at pool k size path place) else None) under) ∙ is in cc)
       ]
 
   cond_above : (first : ℕ) (c : Bool) (events : List Event) → ((m : ℕ) → lowest events ≡ Some m → first < m) → (n : ℕ) → lowest (cond c events []) ≡ Some n → first < n
@@ -285,8 +295,8 @@ module _ (pool : List ℕ) (k : ℕ) (rises : IsStrictlyIncreasing pool) (enough
   tried_above size first open_places path each (x ∷ numbers) n is =
       above_append first (brought size first open_places path x) (flat_map (brought size first open_places path) numbers)
       (λ m told. above_lower first m (beyond_reach pool k size first path x) (lowest (cond (within_reach pool k size first path x) (below (exchange_plan pool k size first) open_places (path ++ x ∷ []) (entry (exchange_plan pool k size first) open_places (path ++ x ∷ []))) []))
-        (beyond_above size first path x)
-        (cond_above first (within_reach pool k size first path x) (below (exchange_plan pool k size first) open_places (path ++ x ∷ []) (entry (exchange_plan pool k size first) open_places (path ++ x ∷ []))) (each x)) told)
+      (beyond_above size first path x)
+      (cond_above first (within_reach pool k size first path x) (below (exchange_plan pool k size first) open_places (path ++ x ∷ []) (entry (exchange_plan pool k size first) open_places (path ++ x ∷ []))) (each x)) told)
       (tried_above size first open_places path each numbers) n is
 
   below_above : (size first open_places : ℕ) (path : List ℕ) (number n : ℕ) → lowest (below (exchange_plan pool k size first) open_places path number) ≡ Some n → first < n
@@ -310,17 +320,17 @@ module _ (pool : List ℕ) (k : ℕ) (rises : IsStrictlyIncreasing pool) (enough
   next_reaches size first difference set outs ins e less =
       let none : size ≡ 0 → first ≡ 0 = λ empty. absurd (omega (arith, less, e.differs, no_difference outs ins (e.outs_size ∙ empty) (e.ins_size ∙ empty))) in
       elim (noted size first difference less (size + size) [] (outs ++ ins) (exchange-admitted size difference set outs ins e)) [
-        inl here ↦
-          let there : IsIn set (stage_sets pool k size first [] 0) =
+        | inl here ↦
+            let there : IsIn set (stage_sets pool k size first [] 0) =
             subst (IsIn set) (sym (stage-is size first))
             (subst (λ s. IsIn s (map (set_of pool k size) (found (exchange_plan pool k size first) (size + size) []))) (path-set size outs ins e.outs_size ∙ sym e.is_set)
             (map-IsIn (set_of pool k size) (outs ++ ins) (found (exchange_plan pool k size first) (size + size) []) (admitted-found (exchange_plan pool k size first) (size + size) [] (outs ++ ins) here))) in
-          let other = stage-exchange size first none set there in
-          let keys : size ∷ first ∷ (map (λ i. higher_first (out i)) other.0 ++ map inn other.1) ≡ size ∷ difference ∷ (map (λ i. higher_first (out i)) outs ++ map inn ins) =
+            let other = stage-exchange size first none set there in
+            let keys : size ∷ first ∷ (map (λ i. higher_first (out i)) other.0 ++ map inn other.1) ≡ size ∷ difference ∷ (map (λ i. higher_first (out i)) outs ++ map inn ins) =
             sym (key-at size first set other.0 other.1 other.2) ∙ key-at size difference set outs ins e in
-          let same : first ≡ difference = cc in
-          absurd (omega (arith, less, same))
-      | inr most ↦ subst (λ events. AtMost difference (lowest events)) (sym (ahead-is size first)) most
+            let same : first ≡ difference = cc in
+            absurd (omega (arith, less, same))
+        | inr most ↦ subst (λ events. AtMost difference (lowest events)) (sym (ahead-is size first)) most
       ]
 
   stages-in : (count size first : ℕ) (next : Option ℕ) (set : List ℕ) → IsIn set (sets_of_stages pool k count size first next) → (difference : ℕ) × (first ≤ difference) × (difference < first + count) × IsIn set (stage_sets pool k size difference [] 0)
@@ -328,9 +338,9 @@ module _ (pool : List ℕ) (k : ℕ) (rises : IsStrictlyIncreasing pool) (enough
   stages-in zero size first next set m = absurd m
   stages-in (suc count) size first next set m =
       elim (stages-cases (is_next first next) (stage_sets pool k size first [] 0) (sets_of_stages pool k count size (suc first) (lowest (ahead (exchange_plan pool k size first) [] 0))) (sets_of_stages pool k count size (suc first) next) set m) [
-        inl here ↦ (first, omega arith, omega arith, here.1)
-      | inr (inl later) ↦ let rest = stages-in count size (suc first) (lowest (ahead (exchange_plan pool k size first) [] 0)) set later.1 in (rest.0, omega (arith, rest.1), omega (arith, rest.2), rest.3)
-      | inr (inr later) ↦ let rest = stages-in count size (suc first) next set later.1 in (rest.0, omega (arith, rest.1), omega (arith, rest.2), rest.3)
+        | inl here ↦ (first, omega arith, omega arith, here.1)
+        | inr (inl later) ↦ let rest = stages-in count size (suc first) (lowest (ahead (exchange_plan pool k size first) [] 0)) set later.1 in (rest.0, omega (arith, rest.1), omega (arith, rest.2), rest.3)
+        | inr (inr later) ↦ let rest = stages-in count size (suc first) next set later.1 in (rest.0, omega (arith, rest.1), omega (arith, rest.2), rest.3)
       ]
 
   in-stages : (count size first difference n : ℕ) (next : Option ℕ) (set outs ins : List ℕ) → Exchange pool k size difference set outs ins → next ≡ Some n → first ≤ n → n ≤ difference → difference < first + count → IsIn set (sets_of_stages pool k count size first next)
@@ -340,21 +350,21 @@ module _ (pool : List ℕ) (k : ℕ) (rises : IsStrictlyIncreasing pool) (enough
       let here : List (List ℕ) = stage_sets pool k size first [] 0 in
       let found_next : Option ℕ = lowest (ahead (exchange_plan pool k size first) [] 0) in
       elim (cases_eq n first) [
-        inl same ↦
-          let yes' : is_next first next ≡ true = ap (is_next first) is ∙ eq-eqb n first same in
-          subst (λ c. IsIn set (if c then (here ++ sets_of_stages pool k count size (suc first) found_next) else sets_of_stages pool k count size (suc first) next)) (sym yes')
-          (elim (cases_eq difference first) [
-            inl now' ↦ IsIn-front set here (sets_of_stages pool k count size (suc first) found_next) (subst (λ d. IsIn set (stage_sets pool k size d [] 0)) now' (exchange-stage size difference set outs ins e))
-          | inr later ↦
-              let less : first < difference = omega (arith, same, later) in
-              let most = next_reaches size first difference set outs ins e less in
-              IsIn-back set here (sets_of_stages pool k count size (suc first) found_next)
-              (in-stages count size (suc first) difference most.0 found_next set outs ins e most.1 (next_above size first most.0 most.1) most.2 (omega arith))
-          ])
-      | inr other ↦
-          let no' : is_next first next ≡ false = ap (is_next first) is ∙ ne_eqb n first other in
-          subst (λ c. IsIn set (if c then (here ++ sets_of_stages pool k count size (suc first) found_next) else sets_of_stages pool k count size (suc first) next)) (sym no')
-          (in-stages count size (suc first) difference n next set outs ins e is (omega (arith, other)) to (omega arith))
+        | inl same ↦
+            let yes' : is_next first next ≡ true = ap (is_next first) is ∙ eq-eqb n first same in
+            subst (λ c. IsIn set (if c then (here ++ sets_of_stages pool k count size (suc first) found_next) else sets_of_stages pool k count size (suc first) next)) (sym yes')
+            (elim (cases_eq difference first) [
+              | inl now' ↦ IsIn-front set here (sets_of_stages pool k count size (suc first) found_next) (subst (λ d. IsIn set (stage_sets pool k size d [] 0)) now' (exchange-stage size difference set outs ins e))
+              | inr later ↦
+                  let less : first < difference = omega (arith, same, later) in
+                  let most = next_reaches size first difference set outs ins e less in
+                  IsIn-back set here (sets_of_stages pool k count size (suc first) found_next)
+                  (in-stages count size (suc first) difference most.0 found_next set outs ins e most.1 (next_above size first most.0 most.1) most.2 (omega arith))
+            ])
+        | inr other ↦
+            let no' : is_next first next ≡ false = ap (is_next first) is ∙ ne_eqb n first other in
+            subst (λ c. IsIn set (if c then (here ++ sets_of_stages pool k count size (suc first) found_next) else sets_of_stages pool k count size (suc first) next)) (sym no')
+            (in-stages count size (suc first) difference n next set outs ins e is (omega (arith, other)) to (omega arith))
       ]
 
   stages-ascend : (count size first : ℕ) (next : Option ℕ) → ((difference : ℕ) → first ≤ difference → difference < first + count → size ≡ 0 → difference ≡ 0) → Ascends key (sets_of_stages pool k count size first next)
@@ -368,14 +378,14 @@ module _ (pool : List ℕ) (k : ℕ) (rises : IsStrictlyIncreasing pool) (enough
       (stage-ascends size first (none first (omega arith) (omega arith)))
       (stages-ascend count size (suc first) found_next more)
       (λ x y m n.
-        let here = stage-exchange size first (none first (omega arith) (omega arith)) x m in
-        let later = stages-in count size (suc first) found_next y n in
-        let there = stage-exchange size later.0 (none later.0 (omega (arith, later.1)) (omega (arith, later.2))) y later.3 in
-        let one : List ℕ = map (λ i. higher_first (out i)) here.0 ++ map inn here.1 in
-        let two : List ℕ = map (λ i. higher_first (out i)) there.0 ++ map inn there.1 in
-        subst (λ z. is_before z (key y) ≡ true) (sym (key-at size first x here.0 here.1 here.2))
-        (subst (λ z. is_before (size ∷ first ∷ one) z ≡ true) (sym (key-at size later.0 y there.0 there.1 there.2))
-        (is_before-equal size (first ∷ one) (later.0 ∷ two) ∙ is_before-lower first later.0 one two (omega (arith, later.1))))))
+      let here = stage-exchange size first (none first (omega arith) (omega arith)) x m in
+      let later = stages-in count size (suc first) found_next y n in
+      let there = stage-exchange size later.0 (none later.0 (omega (arith, later.1)) (omega (arith, later.2))) y later.3 in
+      let one : List ℕ = map (λ i. higher_first (out i)) here.0 ++ map inn here.1 in
+      let two : List ℕ = map (λ i. higher_first (out i)) there.0 ++ map inn there.1 in
+      subst (λ z. is_before z (key y) ≡ true) (sym (key-at size first x here.0 here.1 here.2))
+      (subst (λ z. is_before (size ∷ first ∷ one) z ≡ true) (sym (key-at size later.0 y there.0 there.1 there.2))
+      (is_before-equal size (first ∷ one) (later.0 ∷ two) ∙ is_before-lower first later.0 one two (omega (arith, later.1))))))
       (stages-ascend count size (suc first) next more)
 
   -- where nothing is exchanged, nothing differs
@@ -388,8 +398,8 @@ module _ (pool : List ℕ) (k : ℕ) (rises : IsStrictlyIncreasing pool) (enough
   sizes-in zero first set m = absurd m
   sizes-in (suc count) first set m =
       elim (IsIn-append set (sets_of_stages pool k (stages_of pool k first) first (least_difference pool k first) (Some (least_difference pool k first))) (sets_of_sizes pool k count (suc first)) m) [
-        inl here ↦ (first, omega arith, omega arith, here)
-      | inr later ↦ let rest = sizes-in count (suc first) set later in (rest.0, omega (arith, rest.1), omega (arith, rest.2), rest.3)
+        | inl here ↦ (first, omega arith, omega arith, here)
+        | inr later ↦ let rest = sizes-in count (suc first) set later in (rest.0, omega (arith, rest.1), omega (arith, rest.2), rest.3)
       ]
 
   in-sizes : (count first size : ℕ) (set : List ℕ) → first ≤ size → size < first + count → IsIn set (sets_of_stages pool k (stages_of pool k size) size (least_difference pool k size) (Some (least_difference pool k size))) → IsIn set (sets_of_sizes pool k count first)
@@ -397,8 +407,8 @@ module _ (pool : List ℕ) (k : ℕ) (rises : IsStrictlyIncreasing pool) (enough
   in-sizes zero first size set from below m = absurd (omega arith)
   in-sizes (suc count) first size set from below m =
       elim (cases_eq size first) [
-        inl same ↦ IsIn-front set (sets_of_stages pool k (stages_of pool k first) first (least_difference pool k first) (Some (least_difference pool k first))) (sets_of_sizes pool k count (suc first)) (subst (λ s. IsIn set (sets_of_stages pool k (stages_of pool k s) s (least_difference pool k s) (Some (least_difference pool k s)))) same m)
-      | inr other ↦ IsIn-back set (sets_of_stages pool k (stages_of pool k first) first (least_difference pool k first) (Some (least_difference pool k first))) (sets_of_sizes pool k count (suc first)) (in-sizes count (suc first) size set (omega (arith, other)) (omega arith) m)
+        | inl same ↦ IsIn-front set (sets_of_stages pool k (stages_of pool k first) first (least_difference pool k first) (Some (least_difference pool k first))) (sets_of_sizes pool k count (suc first)) (subst (λ s. IsIn set (sets_of_stages pool k (stages_of pool k s) s (least_difference pool k s) (Some (least_difference pool k s)))) same m)
+        | inr other ↦ IsIn-back set (sets_of_stages pool k (stages_of pool k first) first (least_difference pool k first) (Some (least_difference pool k first))) (sets_of_sizes pool k count (suc first)) (in-sizes count (suc first) size set (omega (arith, other)) (omega arith) m)
       ]
 
   size-exchange : (count first : ℕ) (set : List ℕ) → IsIn set (sets_of_sizes pool k count first) → (size : ℕ) × (difference : ℕ) × (outs : List ℕ) × (ins : List ℕ) × (first ≤ size) × Exchange pool k size difference set outs ins
@@ -416,12 +426,12 @@ module _ (pool : List ℕ) (k : ℕ) (rises : IsStrictlyIncreasing pool) (enough
       (stages-ascend (stages_of pool k first) first (least_difference pool k first) (Some (least_difference pool k first)) (none_at first))
       (sizes-ascend count (suc first))
       (λ x y m n.
-        let stage = stages-in (stages_of pool k first) first (least_difference pool k first) (Some (least_difference pool k first)) x m in
-        let here = stage-exchange first stage.0 (none_at first stage.0 stage.1 stage.2) x stage.3 in
-        let there = size-exchange count (suc first) y n in
-        subst (λ z. is_before z (key y) ≡ true) (sym (key-at first stage.0 x here.0 here.1 here.2))
-        (subst (λ z. is_before (first ∷ stage.0 ∷ (map (λ i. higher_first (out i)) here.0 ++ map inn here.1)) z ≡ true) (sym (key-at there.0 there.1 y there.2 there.3 there.5))
-        (is_before-lower first there.0 (stage.0 ∷ (map (λ i. higher_first (out i)) here.0 ++ map inn here.1)) (there.1 ∷ (map (λ i. higher_first (out i)) there.2 ++ map inn there.3)) (omega (arith, there.4)))))
+      let stage = stages-in (stages_of pool k first) first (least_difference pool k first) (Some (least_difference pool k first)) x m in
+      let here = stage-exchange first stage.0 (none_at first stage.0 stage.1 stage.2) x stage.3 in
+      let there = size-exchange count (suc first) y n in
+      subst (λ z. is_before z (key y) ≡ true) (sym (key-at first stage.0 x here.0 here.1 here.2))
+      (subst (λ z. is_before (first ∷ stage.0 ∷ (map (λ i. higher_first (out i)) here.0 ++ map inn here.1)) z ≡ true) (sym (key-at there.0 there.1 y there.2 there.3 there.5))
+      (is_before-lower first there.0 (stage.0 ∷ (map (λ i. higher_first (out i)) here.0 ++ map inn here.1)) (there.1 ∷ (map (λ i. higher_first (out i)) there.2 ++ map inn there.3)) (omega (arith, there.4)))))
 
   found-set : (set : List ℕ) → IsIn set (sets_of_sizes pool k (suc (most_exchanged pool k)) 0) → IsIn set (subsets pool k)
   found-set set m =
@@ -442,7 +452,12 @@ module _ (pool : List ℕ) (k : ℕ) (rises : IsStrictlyIncreasing pool) (enough
       let in_room : 0 + length ins ≤ length pool - k = Climbs-length 0 (length pool - k) ins (omega arith) e.3 in
       in-sizes (suc (most_exchanged pool k)) 0 size set (omega arith) (omega (arith, e.4))
       (in-stages (stages_of pool k size) size (least_difference pool k size) difference (least_difference pool k size) (Some (least_difference pool k size)) set outs ins (record {
-        outs_climb = e.2; ins_climb = e.3; outs_size = refl; ins_size = sym e.4; differs = refl; is_set = e.5
+        outs_climb = e.2;
+        ins_climb = e.3;
+        outs_size = refl;
+        ins_size = sym e.4;
+        differs = refl;
+        is_set = e.5;
       }) refl (omega arith) least (omega arith))
 
   pub pool-ascend : Ascends (λ set. set) (subsets pool k)

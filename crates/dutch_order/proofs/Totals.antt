@@ -1,5 +1,5 @@
 -- Sums over places, step by step.
-use Rattle.std.proofs.Common.{◌≡◌, ℕ, zero, suc, ◌+◌, ◌-◌, ◌<◌, ◌≤◌, List, [], ◌∷◌, ◌++◌, length, refl, sym, ◌∙◌, ap, arith}
+use Rattle.std.proofs.Common.{◌≡◌, ℕ, suc, ◌+◌, ◌-◌, ◌<◌, ◌∙◌, ap, arith}
 use Rattle.dutch_order.specs.Trials.{numbers_from}
 use Rattle.dutch_order.specs.Stages.{total}
 

@@ -1,7 +1,7 @@
 -- The search of transpositions finds the tuples that may meet, in the order of their numbers.
-use Rattle.std.proofs.Common.{◌≡◌, ℕ, zero, suc, ◌+◌, ◌-◌, ◌*◌, ◌<◌, ◌≤◌, Bool, true, false, not, ◌&&◌, ◌||◌, eqb, cond, List, [], ◌∷◌, ◌++◌, map, length, get_or, take, drop, refl, sym, ◌∙◌, ap, arith, length-append, append_assoc, ◌⊎◌, inl, inr, slice_index, subst}
+use Rattle.std.proofs.Common.{◌≡◌, ℕ, zero, suc, ◌+◌, ◌-◌, ◌*◌, ◌<◌, ◌≤◌, Bool, true, false, not, ◌&&◌, ◌||◌, eqb, cond, List, [], ◌∷◌, ◌++◌, map, length, take, drop, refl, sym, ◌∙◌, ap, arith, length-append, append_assoc, inl, inr, slice_index, subst}
 use Rattle.std.proofs.lemmas.List.{length-map}
-use Rattle.std.specs.List.{filter, flat_map, list_any, AllByRecursion, AllPairs}
+use Rattle.std.specs.List.{filter, flat_map, list_any, AllByRecursion}
 use Rattle.std.specs.List.Sorted.{IsStrictlyIncreasing}
 use Rattle.std.proofs.Math.Seq.{drop-cons, take-length}
 use Rattle.std.proofs.lemmas.Simd.{map-map}
@@ -12,8 +12,8 @@ use Rattle.std.proofs.lemmas.Bool.{ne_eqb, eq-eqb, cases_order}
 use Rattle.dutch_order.specs.Trials.{Plan, numbers_from, entry, ahead, hits, trials}
 use Rattle.dutch_order.specs.Choices.{tuples, without, all_meet}
 use Rattle.dutch_order.specs.Transposition.{transposition_plan, numbers_at, transpositions, short_beginnings, beginnings_below}
-use Rattle.dutch_order.proofs.Lists.{map-flat_map, filter-flat_map, flat_map-filter, flat_map-same, flat_map-below, map-numbers_from, map-cond, map-same, filter-same, filter-filter, filter-all}
-use Rattle.dutch_order.specs.Keys.{is_before, sorted, Ascends, IsIn}
+use Rattle.dutch_order.proofs.Lists.{map-flat_map, filter-flat_map, flat_map-filter, flat_map-below, map-numbers_from, map-same, filter-same, filter-filter, filter-all}
+use Rattle.dutch_order.specs.Keys.{is_before, Ascends}
 use Rattle.dutch_order.proofs.Found.{found, found-zero, found-suc, ahead-new, short_paths, trials-short}
 use Rattle.dutch_order.proofs.Orders.{Rises, Rises-from, Rises-filter, Ascends-append, Ascends-head, IsIn-map, IsIn-flat_map, member_has, is_before-lower, sorted-ascending}
 
@@ -23,8 +23,8 @@ filter-head meets first firsts x [] = elim (meets first x) as (λ b. ◌≡◌ {
 filter-head meets first firsts x (tuple ∷ tuples') =
     ap (λ rest. cond (meets first x && all_meet meets firsts tuple) ((x ∷ tuple) ∷ rest) rest) (filter-head meets first firsts x tuples')
     ∙ elim (meets first x) as (λ b. cond (b && all_meet meets firsts tuple) ((x ∷ tuple) ∷ cond b (map (λ tuple. x ∷ tuple) (filter (all_meet meets firsts) tuples')) []) (cond b (map (λ tuple. x ∷ tuple) (filter (all_meet meets firsts) tuples')) []) ≡ cond b (map (λ tuple. x ∷ tuple) (filter (all_meet meets firsts) (tuple ∷ tuples'))) []) [
-      true ↦ elim (all_meet meets firsts tuple) as (λ b. cond b ((x ∷ tuple) ∷ map (λ tuple. x ∷ tuple) (filter (all_meet meets firsts) tuples')) (map (λ tuple. x ∷ tuple) (filter (all_meet meets firsts) tuples')) ≡ map (λ tuple. x ∷ tuple) (cond b (tuple ∷ filter (all_meet meets firsts) tuples') (filter (all_meet meets firsts) tuples'))) [ true ↦ refl | false ↦ refl ]
-    | false ↦ refl
+      | true ↦ elim (all_meet meets firsts tuple) as (λ b. cond b ((x ∷ tuple) ∷ map (λ tuple. x ∷ tuple) (filter (all_meet meets firsts) tuples')) (map (λ tuple. x ∷ tuple) (filter (all_meet meets firsts) tuples')) ≡ map (λ tuple. x ∷ tuple) (cond b (tuple ∷ filter (all_meet meets firsts) tuples') (filter (all_meet meets firsts) tuples'))) [ true ↦ refl | false ↦ refl ]
+      | false ↦ refl
     ]
 
 -- where a number fits, what is found below it comes out under both tests
@@ -41,12 +41,12 @@ tuples-ascend_from k all each (x ∷ xs) rises =
     (Ascends-head x (tuples (without x all) k) (each x))
     (tuples-ascend_from k all each xs rises.1)
     (λ a b m n.
-      let here = IsIn-map (λ tuple. x ∷ tuple) a (tuples (without x all) k) m in
-      let later = IsIn-flat_map (λ y. map (λ tuple. y ∷ tuple) (tuples (without y all) k)) b xs n in
-      let there = IsIn-map (λ tuple. later.0 ∷ tuple) b (tuples (without later.0 all) k) later.2 in
-      subst (λ z. is_before z b ≡ true) (sym here.1)
-      (subst (λ z. is_before (x ∷ here.0) z ≡ true) (sym there.1)
-      (is_before-lower x later.0 here.0 there.0 (member_has (λ y. x < y) xs rises.0 later.0 later.1))))
+    let here = IsIn-map (λ tuple. x ∷ tuple) a (tuples (without x all) k) m in
+    let later = IsIn-flat_map (λ y. map (λ tuple. y ∷ tuple) (tuples (without y all) k)) b xs n in
+    let there = IsIn-map (λ tuple. later.0 ∷ tuple) b (tuples (without later.0 all) k) later.2 in
+    subst (λ z. is_before z b ≡ true) (sym here.1)
+    (subst (λ z. is_before (x ∷ here.0) z ≡ true) (sym there.1)
+    (is_before-lower x later.0 here.0 there.0 (member_has (λ y. x < y) xs rises.0 later.0 later.1))))
 
 -- the tuples of a rising list ascend
 pub tuples-ascend : (k : ℕ) (numbers : List ℕ) → Rises numbers → Ascends (λ tuple. tuple) (tuples numbers k)
@@ -69,13 +69,13 @@ module _ (meets : ℕ → ℕ → Bool) (first pool : List ℕ) (rises : IsStric
   reads_apart : (i j : ℕ) → i < length pool → j < length pool → eqb i j ≡ eqb (slice_index pool i) (slice_index pool j)
   reads_apart i j low high =
       elim (cases_order i j) [
-        inl same ↦ eq-eqb i j same ∙ sym (eq-eqb (slice_index pool i) (slice_index pool j) (ap (slice_index pool) same))
-      | inr (inl below) ↦
-        let lower : slice_index pool i < slice_index pool j = AllPairs-from_increasing pool rises i j 0 below high in
-        ne_eqb i j (λ e. omega arith) ∙ sym (ne_eqb (slice_index pool i) (slice_index pool j) (λ e. omega arith))
-      | inr (inr above) ↦
-        let lower : slice_index pool j < slice_index pool i = AllPairs-from_increasing pool rises j i 0 above low in
-        ne_eqb i j (λ e. omega arith) ∙ sym (ne_eqb (slice_index pool i) (slice_index pool j) (λ e. omega arith))
+        | inl same ↦ eq-eqb i j same ∙ sym (eq-eqb (slice_index pool i) (slice_index pool j) (ap (slice_index pool) same))
+        | inr (inl below) ↦
+            let lower : slice_index pool i < slice_index pool j = AllPairs-from_increasing pool rises i j 0 below high in
+            ne_eqb i j (λ e. omega arith) ∙ sym (ne_eqb (slice_index pool i) (slice_index pool j) (λ e. omega arith))
+        | inr (inr above) ↦
+            let lower : slice_index pool j < slice_index pool i = AllPairs-from_increasing pool rises j i 0 above low in
+            ne_eqb i j (λ e. omega arith) ∙ sym (ne_eqb (slice_index pool i) (slice_index pool j) (λ e. omega arith))
       ]
 
   -- a place is taken if its number is
@@ -98,9 +98,9 @@ module _ (meets : ℕ → ℕ → Bool) (first pool : List ℕ) (rises : IsStric
   free-push i path =
       filter-same (free (path ++ i ∷ [])) (λ x. free path x && not (eqb x (slice_index pool i))) pool
       (λ x.
-        ap (λ numbers. not (list_any (eqb x) numbers)) (map-append (λ place. slice_index pool place) path (i ∷ []))
-        ∙ ap not (list_any-append (eqb x) (numbers_at pool path) (slice_index pool i ∷ []))
-        ∙ or_not (list_any (eqb x) (numbers_at pool path)) (eqb x (slice_index pool i)))
+      ap (λ numbers. not (list_any (eqb x) numbers)) (map-append (λ place. slice_index pool place) path (i ∷ []))
+      ∙ ap not (list_any-append (eqb x) (numbers_at pool path) (slice_index pool i ∷ []))
+      ∙ or_not (list_any (eqb x) (numbers_at pool path)) (eqb x (slice_index pool i)))
       ∙ sym (filter-filter (λ x. not (eqb x (slice_index pool i))) (free path) pool)
 
   -- what the search finds below a path, as numbers
@@ -121,19 +121,19 @@ module _ (meets : ℕ → ℕ → Bool) (first pool : List ℕ) (rises : IsStric
       let B : ℕ → List (List ℕ) = λ x. cond (free path x) (G x) [] in
       let A : ℕ → List (List ℕ) = λ i. cond (plan.fits path i) (found plan open_places (path ++ i ∷ [])) [] in
       let deeper : (i : ℕ) → i < length pool → map (numbers_at pool) (found plan open_places (path ++ i ∷ [])) ≡ map put_on (passing (value i)) =
-        λ i low.
-          tuples-found open_places (path ++ i ∷ []) (within-push i path low within) (omega (arith, length-append path (i ∷ [])))
-          ∙ ap (λ l. map (λ tuple. numbers_at pool (path ++ i ∷ []) ++ tuple) (filter (all_meet meets (take open_places (drop l first))) (tuples (filter (free (path ++ i ∷ [])) pool) open_places))) (let e : length (path ++ i ∷ []) ≡ suc n = omega (arith, length-append path (i ∷ [])) in e)
-          ∙ ap (λ l. map (λ tuple. numbers_at pool (path ++ i ∷ []) ++ tuple) (filter (all_meet meets rest) (tuples l open_places))) (free-push i path)
-          ∙ map-same (λ tuple. numbers_at pool (path ++ i ∷ []) ++ tuple) (λ tuple. numbers_at pool path ++ value i ∷ tuple) (filter (all_meet meets rest) (tuples (without (value i) (filter (free path) pool)) open_places))
-            (λ tuple. ap (λ front. front ++ tuple) (map-append value path (i ∷ [])) ∙ append_assoc (numbers_at pool path) (value i ∷ []) tuple)
-          ∙ sym (map-map put_on (λ tuple. value i ∷ tuple) (filter (all_meet meets rest) (tuples (without (value i) (filter (free path) pool)) open_places))) in
+      λ i low.
+      tuples-found open_places (path ++ i ∷ []) (within-push i path low within) (omega (arith, length-append path (i ∷ [])))
+      ∙ ap (λ l. map (λ tuple. numbers_at pool (path ++ i ∷ []) ++ tuple) (filter (all_meet meets (take open_places (drop l first))) (tuples (filter (free (path ++ i ∷ [])) pool) open_places))) (let e : length (path ++ i ∷ []) ≡ suc n = omega (arith, length-append path (i ∷ [])) in e)
+      ∙ ap (λ l. map (λ tuple. numbers_at pool (path ++ i ∷ []) ++ tuple) (filter (all_meet meets rest) (tuples l open_places))) (free-push i path)
+      ∙ map-same (λ tuple. numbers_at pool (path ++ i ∷ []) ++ tuple) (λ tuple. numbers_at pool path ++ value i ∷ tuple) (filter (all_meet meets rest) (tuples (without (value i) (filter (free path) pool)) open_places))
+      (λ tuple. ap (λ front. front ++ tuple) (map-append value path (i ∷ [])) ∙ append_assoc (numbers_at pool path) (value i ∷ []) tuple)
+      ∙ sym (map-map put_on (λ tuple. value i ∷ tuple) (filter (all_meet meets rest) (tuples (without (value i) (filter (free path) pool)) open_places))) in
       let each : (i : ℕ) → i < length pool → map (numbers_at pool) (A i) ≡ B (value i) =
-        λ i low.
-          ap (λ b. map (numbers_at pool) (cond (not b && meets (slice_index first n) (value i)) (found plan open_places (path ++ i ∷ [])) [])) (taken i path low within)
-          ∙ both_tests (free path (value i)) (meets (slice_index first n) (value i)) (numbers_at pool) (found plan open_places (path ++ i ∷ [])) (passing (value i)) put_on (deeper i low)
-          ∙ ap (λ numbers. cond (free path (value i)) (map put_on numbers) [])
-            (sym (ap (λ firsts. filter (all_meet meets firsts) (grown (value i))) heads ∙ filter-head meets (slice_index first n) rest (value i) (tuples (without (value i) (filter (free path) pool)) open_places))) in
+      λ i low.
+      ap (λ b. map (numbers_at pool) (cond (not b && meets (slice_index first n) (value i)) (found plan open_places (path ++ i ∷ [])) [])) (taken i path low within)
+      ∙ both_tests (free path (value i)) (meets (slice_index first n) (value i)) (numbers_at pool) (found plan open_places (path ++ i ∷ [])) (passing (value i)) put_on (deeper i low)
+      ∙ ap (λ numbers. cond (free path (value i)) (map put_on numbers) [])
+      (sym (ap (λ firsts. filter (all_meet meets firsts) (grown (value i))) heads ∙ filter-head meets (slice_index first n) rest (value i) (tuples (without (value i) (filter (free path) pool)) open_places))) in
       ap (map (numbers_at pool)) (found-suc plan open_places path)
       ∙ ap (λ count. map (numbers_at pool) (flat_map A (numbers_from 0 count))) (let e : length pool - 0 ≡ length pool = omega arith in e)
       ∙ map-flat_map (numbers_at pool) A (numbers_from 0 (length pool))

@@ -1,5 +1,5 @@
 -- The plain lists of choices, in no order that matters: sets and tuples of the members of a list.
-use Rattle.std.specs.Prelude.{ℕ, zero, suc, Bool, true, false, not, eqb, ◌&&◌, List, [], ◌∷◌, ◌++◌, map, filter, flat_map}
+use Rattle.std.specs.Prelude.{ℕ, zero, suc, Bool, true, not, eqb, ◌&&◌, List, [], ◌∷◌, ◌++◌, map, filter, flat_map}
 use Rattle.std.specs.List.{list_any}
 
 -- all lists of k members of a list, each list in the order in which its members stand there

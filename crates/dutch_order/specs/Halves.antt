@@ -20,5 +20,5 @@ two_halves half first_count second_count fits beyond = record {
   start = half_start half;
   stop = half_stop half first_count second_count;
   fits = fits;
-  beyond = beyond
+  beyond = beyond;
 }

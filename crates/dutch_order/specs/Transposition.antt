@@ -1,5 +1,5 @@
 -- Transpositions (C.04.3 D.1): tuples in the order of their numbers.
-use Rattle.std.specs.Prelude.{ℕ, zero, suc, Bool, not, ◌&&◌, eqb, List, [], ◌∷◌, ◌++◌, map, filter, length, take, slice_index, None}
+use Rattle.std.specs.Prelude.{ℕ, zero, suc, Bool, not, ◌&&◌, eqb, List, [], ◌++◌, map, filter, length, take, slice_index, None}
 use Rattle.std.specs.List.{list_any}
 use Rattle.dutch_order.specs.Choices.{tuples, all_meet}
 use Rattle.dutch_order.specs.Keys.{sorted}
@@ -33,7 +33,7 @@ transposition_plan meets first pool = record {
   start = λ _. 0;
   stop = λ _. length pool;
   fits = λ path place. not (list_any (eqb place) path) && meets (slice_index first (length path)) (slice_index pool place);
-  beyond = λ path place. None
+  beyond = λ path place. None;
 }
 
 -- the numbers at the places of a path

@@ -16,14 +16,13 @@ ghost use Rattle.dutch_order.specs.Steps.{MatchStep};
 ghost use Rattle.dutch_order.specs.Walks.{Stands, IsOpen};
 ghost use Rattle.dutch_order.specs.Trials.{ahead};
 
-use arrayvec::ArrayVec;
-use std::marker::Model;
-
 use crate::halves::{end_of_half, first_of_half};
 use crate::search::{LIMIT, Tree, Walk, climb_on};
 use crate::steps::{Budget, Step};
 use crate::sums::{run_of, total_of, value_at};
 use crate::transposition::Numbers;
+use arrayvec::ArrayVec;
+use std::marker::Model;
 
 /// The two sides of an exchange: the numbers of the original set, from the highest, and the others, from the lowest.
 #[derive(Debug, Clone, Copy, PartialEq, Eq)]
@@ -204,24 +203,20 @@ fn next_stage(pool: &[u16], k: usize, place: &mut Place) -> bool
     ensures outs { place.new.size ≤ k }
     ensures ins { place.new.size ≤ length pool.now - k }
     ensures stands { Stands (exchange_plan pool.now k place.new.size place.new.difference) place.new.walk.path.items }
-    ensures sets {
-        sets_ahead pool.now k place.new.size place.new.difference place.new.walk.path.items place.new.walk.number place.new.walk.beyond
-            ≡ sets_ahead pool.now k place.old.size place.old.difference place.old.walk.path.items place.old.walk.number place.old.walk.beyond
-    }
-    ensures trials {
-        trials_ahead pool.now k place.new.size place.new.difference place.new.walk.path.items place.new.walk.number place.new.walk.beyond
-            ≡ trials_ahead pool.now k place.old.size place.old.difference place.old.walk.path.items place.old.walk.number place.old.walk.beyond
-    }
-    ensures nearer {
-        result ≡ true → stages_ahead pool.now k place.new.size place.new.difference < stages_ahead pool.now k place.old.size place.old.difference
-    }
-    ensures ended {
-        result ≡ false
-            → (sets_ahead pool.now k place.new.size place.new.difference place.new.walk.path.items place.new.walk.number place.new.walk.beyond ≡ [])
-            × (trials_ahead pool.now k place.new.size place.new.difference place.new.walk.path.items place.new.walk.number place.new.walk.beyond ≡ 0)
-    }
+    ensures sets { sets_ahead pool.now k place.new.size place.new.difference place.new.walk.path.items place.new.walk.number place.new.walk.beyond
+        ≡ sets_ahead pool.now k place.old.size place.old.difference place.old.walk.path.items place.old.walk.number place.old.walk.beyond }
+    ensures trials { trials_ahead pool.now k place.new.size place.new.difference place.new.walk.path.items place.new.walk.number place.new.walk.beyond
+        ≡ trials_ahead pool.now k place.old.size place.old.difference place.old.walk.path.items place.old.walk.number place.old.walk.beyond }
+    ensures nearer { result ≡ true → stages_ahead pool.now k place.new.size place.new.difference < stages_ahead pool.now k place.old.size place.old.difference }
+    ensures ended { result ≡ false
+        → (sets_ahead pool.now k place.new.size place.new.difference place.new.walk.path.items place.new.walk.number place.new.walk.beyond ≡ [])
+        × (trials_ahead pool.now k place.new.size place.new.difference place.new.walk.path.items place.new.walk.number place.new.walk.beyond ≡ 0) }
 {
-    if let Some(next) = following_of(place.difference, greatest_of(pool, k, place.size), place.walk.beyond) {
+    if let Some(next) = following_of(
+        place.difference,
+        greatest_of(pool, k, place.size),
+        place.walk.beyond,
+    ) {
         place.difference = next;
         place.walk = Walk::new(0);
         return true;
@@ -246,24 +241,20 @@ fn next_set(pool: &[u16], k: usize, place: &mut Place, budget: &mut Budget) -> S
     ensures outs { place.new.size ≤ k }
     ensures ins { place.new.size ≤ length pool.now - k }
     ensures stands { Stands (exchange_plan pool.now k place.new.size place.new.difference) place.new.walk.path.items }
-    ensures answer {
-        MatchStep result
-            (λ _. (sets_ahead pool.now k place.old.size place.old.difference place.old.walk.path.items place.old.walk.number place.old.walk.beyond
-                ≡ set_of pool.now k place.new.size place.new.walk.path.items
-                    ∷ sets_ahead pool.now k place.new.size place.new.difference place.new.walk.path.items place.new.walk.number place.new.walk.beyond)
-                × (length place.new.walk.path.items ≡ place.new.size + place.new.size))
-            ((sets_ahead pool.now k place.old.size place.old.difference place.old.walk.path.items place.old.walk.number place.old.walk.beyond ≡ [])
-                × (sets_ahead pool.now k place.new.size place.new.difference place.new.walk.path.items place.new.walk.number place.new.walk.beyond ≡ [])
-                × (trials_ahead pool.now k place.new.size place.new.difference place.new.walk.path.items place.new.walk.number place.new.walk.beyond ≡ 0))
-            ((sets_ahead pool.now k place.new.size place.new.difference place.new.walk.path.items place.new.walk.number place.new.walk.beyond
-                ≡ sets_ahead pool.now k place.old.size place.old.difference place.old.walk.path.items place.old.walk.number place.old.walk.beyond)
-                × (budget.new.used ≡ budget.new.limit)
-                × (0 < trials_ahead pool.now k place.new.size place.new.difference place.new.walk.path.items place.new.walk.number place.new.walk.beyond))
-    }
-    ensures steps {
-        budget.new.used + trials_ahead pool.now k place.new.size place.new.difference place.new.walk.path.items place.new.walk.number place.new.walk.beyond
-            ≡ budget.old.used + trials_ahead pool.now k place.old.size place.old.difference place.old.walk.path.items place.old.walk.number place.old.walk.beyond
-    }
+    ensures answer { MatchStep result
+        (λ _. (sets_ahead pool.now k place.old.size place.old.difference place.old.walk.path.items place.old.walk.number place.old.walk.beyond
+        ≡ set_of pool.now k place.new.size place.new.walk.path.items
+        ∷ sets_ahead pool.now k place.new.size place.new.difference place.new.walk.path.items place.new.walk.number place.new.walk.beyond)
+        × (length place.new.walk.path.items ≡ place.new.size + place.new.size))
+        ((sets_ahead pool.now k place.old.size place.old.difference place.old.walk.path.items place.old.walk.number place.old.walk.beyond ≡ [])
+        × (sets_ahead pool.now k place.new.size place.new.difference place.new.walk.path.items place.new.walk.number place.new.walk.beyond ≡ [])
+        × (trials_ahead pool.now k place.new.size place.new.difference place.new.walk.path.items place.new.walk.number place.new.walk.beyond ≡ 0))
+        ((sets_ahead pool.now k place.new.size place.new.difference place.new.walk.path.items place.new.walk.number place.new.walk.beyond
+        ≡ sets_ahead pool.now k place.old.size place.old.difference place.old.walk.path.items place.old.walk.number place.old.walk.beyond)
+        × (budget.new.used ≡ budget.new.limit)
+        × (0 < trials_ahead pool.now k place.new.size place.new.difference place.new.walk.path.items place.new.walk.number place.new.walk.beyond)) }
+    ensures steps { budget.new.used + trials_ahead pool.now k place.new.size place.new.difference place.new.walk.path.items place.new.walk.number place.new.walk.beyond
+        ≡ budget.old.used + trials_ahead pool.now k place.old.size place.old.difference place.old.walk.path.items place.old.walk.number place.old.walk.beyond }
     ensures limit { budget.new.limit ≡ budget.old.limit }
     ensures rises { budget.old.used ≤ budget.new.used }
     ensures within { budget.new.used ≤ budget.new.limit }
@@ -338,13 +329,13 @@ impl<'a> Model for Exchanges<'a> {
     ghost Value = { Ahead };
 
     ghost view = { λ t. record {
-        coming = sets_ahead t.pool.now t.k t.place.size t.place.difference t.place.walk.path.items t.place.walk.number t.place.walk.beyond;
-        left = trials_ahead t.pool.now t.k t.place.size t.place.difference t.place.walk.path.items t.place.walk.number t.place.walk.beyond
+      coming = sets_ahead t.pool.now t.k t.place.size t.place.difference t.place.walk.path.items t.place.walk.number t.place.walk.beyond;
+      left = trials_ahead t.pool.now t.k t.place.size t.place.difference t.place.walk.path.items t.place.walk.number t.place.walk.beyond;
     } };
 
     ghost invariant = { λ t.
         (length t.pool.now ≤ 256) × (t.k ≤ length t.pool.now) × (t.place.size ≤ t.k) × (t.place.size ≤ length t.pool.now - t.k)
-            × Stands (exchange_plan t.pool.now t.k t.place.size t.place.difference) t.place.walk.path.items };
+        × Stands (exchange_plan t.pool.now t.k t.place.size t.place.difference) t.place.walk.path.items };
 }
 
 impl<'a> Exchanges<'a> {
@@ -371,12 +362,10 @@ impl<'a> Exchanges<'a> {
     /// `Undecided` where the budget is used up before the next one is found: what is to come is then as it was.
     pub fn next(&mut self, budget: &mut Budget) -> Step<Numbers>
         requires { budget.old.used ≤ budget.old.limit }
-        ensures answer {
-            MatchStep result
-                (λ numbers. self.old.coming ≡ numbers.items ∷ self.new.coming)
-                ((self.old.coming ≡ []) × (self.new.coming ≡ []) × (self.new.left ≡ 0))
-                ((self.new.coming ≡ self.old.coming) × (budget.new.used ≡ budget.new.limit) × (0 < self.new.left))
-        }
+        ensures answer { MatchStep result
+            (λ numbers. self.old.coming ≡ numbers.items ∷ self.new.coming)
+            ((self.old.coming ≡ []) × (self.new.coming ≡ []) × (self.new.left ≡ 0))
+            ((self.new.coming ≡ self.old.coming) × (budget.new.used ≡ budget.new.limit) × (0 < self.new.left)) }
         ensures steps { budget.new.used + self.new.left ≡ budget.old.used + self.old.left }
         ensures limit { budget.new.limit ≡ budget.old.limit }
         ensures rises { budget.old.used ≤ budget.new.used }

@@ -13,49 +13,31 @@ pub fn keys_are_ordered()
     ensures irreflexive { (a : List ℕ) → is_before a a ≡ false }
     ensures transitive { (a b c : List ℕ) → is_before a b ≡ true → is_before b c ≡ true → is_before a c ≡ true }
     ensures total { (a b : List ℕ) → (a ≡ b) ⊎ ((is_before a b ≡ true) ⊎ (is_before b a ≡ true)) }
-{
-}
+{}
 
 /// Different choices have different keys, so each order of choices is strict and total too.
 pub fn keys_differ()
     ensures of_tuples { (a b : List ℕ) → tuple_key a ≡ tuple_key b → a ≡ b }
-    ensures of_exchanges {
-        (pool : List ℕ) (k : ℕ) (a b : List ℕ) → IsStrictlyIncreasing pool → ((i : ℕ) → slice_index pool i ≤ 65535) → k ≤ length pool
-            → IsIn a (subsets pool k) → IsIn b (subsets pool k) → exchange_key pool k a ≡ exchange_key pool k b → a ≡ b
-    }
-    ensures of_limbo_exchanges {
-        (scores : List ℕ) (k : ℕ) (a b : List ℕ)
-            → IsIn a (subsets (numbers_from 1 (length scores)) k) → IsIn b (subsets (numbers_from 1 (length scores)) k)
-            → limbo_key scores a ≡ limbo_key scores b → a ≡ b
-    }
-{
-}
+    ensures of_exchanges { (pool : List ℕ) (k : ℕ) (a b : List ℕ) → IsStrictlyIncreasing pool → ((i : ℕ) → slice_index pool i ≤ 65535) → k ≤ length pool
+        → IsIn a (subsets pool k) → IsIn b (subsets pool k) → exchange_key pool k a ≡ exchange_key pool k b → a ≡ b }
+    ensures of_limbo_exchanges { (scores : List ℕ) (k : ℕ) (a b : List ℕ)
+        → IsIn a (subsets (numbers_from 1 (length scores)) k) → IsIn b (subsets (numbers_from 1 (length scores)) k)
+        → limbo_key scores a ≡ limbo_key scores b → a ≡ b }
+{}
 
 /// Each list of choices ascends by its key.
 pub fn choices_ascend()
-    ensures transpositions {
-        (meets : ℕ → ℕ → Bool) (first pool : List ℕ) → IsStrictlyIncreasing pool → Ascends tuple_key (transpositions meets first pool)
-    }
-    ensures exchanges {
-        (pool : List ℕ) (k : ℕ) → IsStrictlyIncreasing pool → ((i : ℕ) → slice_index pool i ≤ 65535) → k ≤ length pool
-            → Ascends (exchange_key pool k) (exchanges pool k)
-    }
+    ensures transpositions { (meets : ℕ → ℕ → Bool) (first pool : List ℕ) → IsStrictlyIncreasing pool → Ascends tuple_key (transpositions meets first pool) }
+    ensures exchanges { (pool : List ℕ) (k : ℕ) → IsStrictlyIncreasing pool → ((i : ℕ) → slice_index pool i ≤ 65535) → k ≤ length pool
+        → Ascends (exchange_key pool k) (exchanges pool k) }
     ensures limbo_exchanges { (scores : List ℕ) (k : ℕ) → Ascends (limbo_key scores) (limbo_exchanges scores k) }
-{
-}
+{}
 
 /// Each list of choices has exactly the members of the plain list of tuples or subsets: of tuples those whose players may meet.
 pub fn choices_are_all()
-    ensures transpositions {
-        (meets : ℕ → ℕ → Bool) (first pool tuple : List ℕ)
-            → IsIn tuple (transpositions meets first pool) ↔ (IsIn tuple (tuples pool (length first)) × (all_meet meets first tuple ≡ true))
-    }
-    ensures exchanges {
-        (pool : List ℕ) (k : ℕ) (set : List ℕ) → IsIn set (exchanges pool k) ↔ IsIn set (subsets pool k)
-    }
-    ensures limbo_exchanges {
-        (scores : List ℕ) (k : ℕ) (set : List ℕ)
-            → IsIn set (limbo_exchanges scores k) ↔ IsIn set (subsets (numbers_from 1 (length scores)) k)
-    }
-{
-}
+    ensures transpositions { (meets : ℕ → ℕ → Bool) (first pool tuple : List ℕ)
+        → IsIn tuple (transpositions meets first pool) ↔ (IsIn tuple (tuples pool (length first)) × (all_meet meets first tuple ≡ true)) }
+    ensures exchanges { (pool : List ℕ) (k : ℕ) (set : List ℕ) → IsIn set (exchanges pool k) ↔ IsIn set (subsets pool k) }
+    ensures limbo_exchanges { (scores : List ℕ) (k : ℕ) (set : List ℕ)
+        → IsIn set (limbo_exchanges scores k) ↔ IsIn set (subsets (numbers_from 1 (length scores)) k) }
+{}

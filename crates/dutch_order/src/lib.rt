@@ -9,7 +9,6 @@ pub mod rules;
 pub mod search;
 pub mod steps;
 pub mod sums;
-pub mod transposition;
-
 #[cfg(test)]
 mod tests;
+pub mod transposition;

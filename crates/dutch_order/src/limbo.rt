@@ -5,13 +5,12 @@ ghost use Rattle.dutch_order.specs.Halves.{half_start};
 ghost use Rattle.dutch_order.specs.Limbo.{limbo_exchanges, leads, mirrors, front_with, numbers_of, IsNonAscending};
 ghost use Rattle.dutch_order.specs.Steps.{MatchStep};
 
-use arrayvec::ArrayVec;
-use std::marker::Model;
-
 use crate::halves::{end_of_half, first_of_half};
 use crate::search::{LIMIT, PLACES, Tree, Walk, climb_on};
 use crate::steps::{Budget, Step};
 use crate::transposition::Numbers;
+use arrayvec::ArrayVec;
+use std::marker::Model;
 
 /// How many places at the front of a list have a score.
 fn front_with(scores: &[u16], score: u16, places: &[usize]) -> usize
@@ -131,9 +130,9 @@ impl<'a> Model for LimboExchanges<'a> {
     ghost Value = { Ahead };
 
     ghost view = { λ t. record {
-        coming = map (second_numbers t.ranked.k)
-            (hits (ahead (limbo_plan t.ranked.scores.now t.ranked.k) t.walk.path.items t.walk.number));
-        left = trials (ahead (limbo_plan t.ranked.scores.now t.ranked.k) t.walk.path.items t.walk.number)
+      coming = map (second_numbers t.ranked.k)
+          (hits (ahead (limbo_plan t.ranked.scores.now t.ranked.k) t.walk.path.items t.walk.number));
+      left = trials (ahead (limbo_plan t.ranked.scores.now t.ranked.k) t.walk.path.items t.walk.number);
     } };
 
     ghost invariant = { λ t. Stands (limbo_plan t.ranked.scores.now t.ranked.k) t.walk.path.items };
@@ -158,12 +157,10 @@ impl<'a> LimboExchanges<'a> {
     /// `Undecided` where the budget is used up before the next one is found: what is to come is then as it was.
     pub fn next(&mut self, budget: &mut Budget) -> Step<Numbers>
         requires { budget.old.used ≤ budget.old.limit }
-        ensures answer {
-            MatchStep result
-                (λ numbers. self.old.coming ≡ numbers.items ∷ self.new.coming)
-                ((self.old.coming ≡ []) × (self.new.coming ≡ []) × (self.new.left ≡ 0))
-                ((self.new.coming ≡ self.old.coming) × (budget.new.used ≡ budget.new.limit) × (0 < self.new.left))
-        }
+        ensures answer { MatchStep result
+            (λ numbers. self.old.coming ≡ numbers.items ∷ self.new.coming)
+            ((self.old.coming ≡ []) × (self.new.coming ≡ []) × (self.new.left ≡ 0))
+            ((self.new.coming ≡ self.old.coming) × (budget.new.used ≡ budget.new.limit) × (0 < self.new.left)) }
         ensures steps { budget.new.used + self.new.left ≡ budget.old.used + self.old.left }
         ensures limit { budget.new.limit ≡ budget.old.limit }
         ensures rises { budget.old.used ≤ budget.new.used }

@@ -5,9 +5,8 @@ ghost use Rattle.dutch_order.specs.Trials.{Plan, Tried, entry, below, ahead, hit
 ghost use Rattle.dutch_order.specs.Steps.{MatchStep};
 ghost use Rattle.dutch_order.specs.Walks.{Stands, IsOpen, IsSpent};
 
-use arrayvec::ArrayVec;
-
 use crate::steps::{Budget, Step};
+use arrayvec::ArrayVec;
 
 /// The most numbers that a generator chooses from.
 pub const LIMIT: usize = 256;
@@ -103,11 +102,9 @@ fn try_number<T: Tree>(tree: &T, walk: &mut Walk)
     requires few { (T.plan tree.now).places ≤ PLACES }
     requires narrow { (T.plan tree.now).width ≤ PLACES }
     ensures stands { Stands (T.plan tree.now) walk.new.path.items }
-    ensures goes_on {
-        ahead (T.plan tree.now) walk.old.path.items walk.old.number
-            ≡ Tried ((T.plan tree.now).beyond walk.old.path.items walk.old.number)
-                ∷ ahead (T.plan tree.now) walk.new.path.items walk.new.number
-    }
+    ensures goes_on { ahead (T.plan tree.now) walk.old.path.items walk.old.number
+        ≡ Tried ((T.plan tree.now).beyond walk.old.path.items walk.old.number)
+        ∷ ahead (T.plan tree.now) walk.new.path.items walk.new.number }
     ensures beyond { walk.new.beyond ≡ lower walk.old.beyond ((T.plan tree.now).beyond walk.old.path.items walk.old.number) }
     ensures places { length walk.new.path.items ≤ length walk.old.path.items + 1 }
 {
@@ -126,10 +123,8 @@ fn go_back<T: Tree>(tree: &T, walk: &mut Walk) -> bool
     requires narrow { (T.plan tree.now).width ≤ PLACES }
     requires spent { IsSpent (T.plan tree.now) walk.old.path.items walk.old.number }
     ensures stands { Stands (T.plan tree.now) walk.new.path.items }
-    ensures same {
-        ahead (T.plan tree.now) walk.new.path.items walk.new.number
-            ≡ ahead (T.plan tree.now) walk.old.path.items walk.old.number
-    }
+    ensures same { ahead (T.plan tree.now) walk.new.path.items walk.new.number
+        ≡ ahead (T.plan tree.now) walk.old.path.items walk.old.number }
     ensures beyond { walk.new.beyond ≡ walk.old.beyond }
     ensures shorter { result ≡ true → length walk.new.path.items < length walk.old.path.items }
     ensures ended { result ≡ false → ahead (T.plan tree.now) walk.new.path.items walk.new.number ≡ [] }
@@ -150,26 +145,20 @@ pub fn climb_on<T: Tree>(tree: &T, walk: &mut Walk, budget: &mut Budget) -> Step
     requires narrow { (T.plan tree.now).width ≤ PLACES }
     requires within { budget.old.used ≤ budget.old.limit }
     ensures stands { Stands (T.plan tree.now) walk.new.path.items }
-    ensures answer {
-        MatchStep result
-            (λ _. (hits (ahead (T.plan tree.now) walk.old.path.items walk.old.number)
-                ≡ walk.new.path.items ∷ hits (ahead (T.plan tree.now) walk.new.path.items walk.new.number))
-                × (length walk.new.path.items ≡ (T.plan tree.now).places))
-            ((hits (ahead (T.plan tree.now) walk.old.path.items walk.old.number) ≡ [])
-                × (ahead (T.plan tree.now) walk.new.path.items walk.new.number ≡ []))
-            ((hits (ahead (T.plan tree.now) walk.new.path.items walk.new.number)
-                ≡ hits (ahead (T.plan tree.now) walk.old.path.items walk.old.number))
-                × (budget.new.used ≡ budget.new.limit)
-                × (0 < trials (ahead (T.plan tree.now) walk.new.path.items walk.new.number)))
-    }
-    ensures steps {
-        budget.new.used + trials (ahead (T.plan tree.now) walk.new.path.items walk.new.number)
-            ≡ budget.old.used + trials (ahead (T.plan tree.now) walk.old.path.items walk.old.number)
-    }
-    ensures beyond {
-        lower walk.new.beyond (lowest (ahead (T.plan tree.now) walk.new.path.items walk.new.number))
-            ≡ lower walk.old.beyond (lowest (ahead (T.plan tree.now) walk.old.path.items walk.old.number))
-    }
+    ensures answer { MatchStep result
+        (λ _. (hits (ahead (T.plan tree.now) walk.old.path.items walk.old.number)
+        ≡ walk.new.path.items ∷ hits (ahead (T.plan tree.now) walk.new.path.items walk.new.number))
+        × (length walk.new.path.items ≡ (T.plan tree.now).places))
+        ((hits (ahead (T.plan tree.now) walk.old.path.items walk.old.number) ≡ [])
+        × (ahead (T.plan tree.now) walk.new.path.items walk.new.number ≡ []))
+        ((hits (ahead (T.plan tree.now) walk.new.path.items walk.new.number)
+        ≡ hits (ahead (T.plan tree.now) walk.old.path.items walk.old.number))
+        × (budget.new.used ≡ budget.new.limit)
+        × (0 < trials (ahead (T.plan tree.now) walk.new.path.items walk.new.number))) }
+    ensures steps { budget.new.used + trials (ahead (T.plan tree.now) walk.new.path.items walk.new.number)
+        ≡ budget.old.used + trials (ahead (T.plan tree.now) walk.old.path.items walk.old.number) }
+    ensures beyond { lower walk.new.beyond (lowest (ahead (T.plan tree.now) walk.new.path.items walk.new.number))
+        ≡ lower walk.old.beyond (lowest (ahead (T.plan tree.now) walk.old.path.items walk.old.number)) }
     ensures limit { budget.new.limit ≡ budget.old.limit }
     ensures rises { budget.old.used ≤ budget.new.used }
     ensures within { budget.new.used ≤ budget.new.limit }

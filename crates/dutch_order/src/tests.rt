@@ -1,14 +1,13 @@
 // The tables of arrangements, and the generators under limits that rise by one.
 ghost use Rattle.std.specs.Prelude.{◌≤◌};
 
-use std::alloc::Global;
-use std::test::Fail;
-
 use crate::exchange::Exchanges;
 use crate::limbo::LimboExchanges;
 use crate::rules::Rule;
 use crate::steps::{Budget, Step};
 use crate::transposition::{Numbers, Transpositions};
+use std::alloc::Global;
+use std::test::Fail;
 
 /// A rule that bars one pair.
 #[derive(Drop)]
@@ -63,7 +62,11 @@ impl<'a> Lists for LimboExchanges<'a> {
 
 /// The lists that a generator hands out, one after another, where its limit starts at `limit` and rises by one after each Undecided,
 /// and the steps that it used.
-fn drawn<L: Lists + Drop>(alloc: Global, mut lists: L, limit: u64) -> Result<(Vec<u16>, u64), Fail> {
+fn drawn<L: Lists + Drop>(
+    alloc: Global,
+    mut lists: L,
+    limit: u64,
+) -> Result<(Vec<u16>, u64), Fail> {
     let mut budget = Budget { limit, used: 0 };
     let mut numbers = Vec::new(alloc);
     for _turn in 0..100_000u32 {
@@ -87,8 +90,8 @@ const AMPLE: u64 = 1_000_000;
 const FREE: Barred = Barred { one: 0, other: 0 };
 
 const SIX_BY_THREE: [u16; 60] = [
-    1, 2, 3, 1, 2, 4, 1, 2, 5, 1, 3, 4, 1, 2, 6, 1, 3, 5, 2, 3, 4, 1, 3, 6, 2, 3, 5, 2, 3, 6, 1, 4, 5, 1, 4, 6, 2, 4, 5, 1, 5, 6, 2,
-    4, 6, 3, 4, 5, 2, 5, 6, 3, 4, 6, 3, 5, 6, 4, 5, 6,
+    1, 2, 3, 1, 2, 4, 1, 2, 5, 1, 3, 4, 1, 2, 6, 1, 3, 5, 2, 3, 4, 1, 3, 6, 2, 3, 5, 2, 3, 6, 1, 4,
+    5, 1, 4, 6, 2, 4, 5, 1, 5, 6, 2, 4, 6, 3, 4, 5, 2, 5, 6, 3, 4, 6, 3, 5, 6, 4, 5, 6,
 ];
 
 #[test]
@@ -124,7 +127,11 @@ fn sets_of_moved_down_players(rt: HostRuntime) -> Result<(), Fail> {
 #[test]
 fn transpositions_of_nine(rt: HostRuntime) -> Result<(), Fail> {
     let pool = [3, 4, 5, 6, 7, 8, 9, 10, 11];
-    let (ample, _) = drawn(rt.alloc(), Transpositions::new(&[1, 2], &pool, &FREE), AMPLE)?;
+    let (ample, _) = drawn(
+        rt.alloc(),
+        Transpositions::new(&[1, 2], &pool, &FREE),
+        AMPLE,
+    )?;
     assert_eq!(rt; ample.len(), 144);
     assert_eq!(rt; &ample[..2], [3, 4].as_slice());
     assert_eq!(rt; &ample[142..], [11, 10].as_slice());
@@ -136,12 +143,24 @@ fn transpositions_of_nine(rt: HostRuntime) -> Result<(), Fail> {
 #[test]
 fn transpositions_with_a_bar(rt: HostRuntime) -> Result<(), Fail> {
     let barred = Barred { one: 1, other: 3 };
-    let (ample, used) = drawn(rt.alloc(), Transpositions::new(&[1, 2], &[3, 4], &barred), AMPLE)?;
+    let (ample, used) = drawn(
+        rt.alloc(),
+        Transpositions::new(&[1, 2], &[3, 4], &barred),
+        AMPLE,
+    )?;
     assert_eq!(rt; ample.as_slice(), [4, 3].as_slice());
     assert_eq!(rt; used, 4);
-    let (raised, _) = drawn(rt.alloc(), Transpositions::new(&[1, 2], &[3, 4], &barred), 0)?;
+    let (raised, _) = drawn(
+        rt.alloc(),
+        Transpositions::new(&[1, 2], &[3, 4], &barred),
+        0,
+    )?;
     assert_eq!(rt; raised.as_slice(), [4, 3].as_slice());
-    let (free, all) = drawn(rt.alloc(), Transpositions::new(&[1, 2], &[3, 4], &FREE), AMPLE)?;
+    let (free, all) = drawn(
+        rt.alloc(),
+        Transpositions::new(&[1, 2], &[3, 4], &FREE),
+        AMPLE,
+    )?;
     assert_eq!(rt; free.as_slice(), [3, 4, 4, 3].as_slice());
     assert_eq!(rt; all, 6);
     Ok(())

@@ -5,12 +5,11 @@ ghost use Rattle.std.specs.List.Sorted.{IsStrictlyIncreasing};
 ghost use Rattle.dutch_order.specs.Transposition.{transpositions, short_beginnings, transposition_plan, numbers_at};
 ghost use Rattle.dutch_order.specs.Steps.{MatchStep};
 
-use arrayvec::ArrayVec;
-use std::marker::Model;
-
 use crate::rules::Rule;
 use crate::search::{LIMIT, Tree, Walk, climb_on};
 use crate::steps::{Budget, Step};
+use arrayvec::ArrayVec;
+use std::marker::Model;
 
 /// Numbers that a generator hands out.
 pub type Numbers = ArrayVec<u16, LIMIT>;
@@ -60,7 +59,10 @@ impl<'a, R: Rule> Tree for Opponents<'a, R> {
     }
 
     fn admits(&self, path: &[usize], number: usize) -> bool {
-        !path.contains(&number) && self.rule.may_meet(self.first[path.len()], self.pool[number])
+        !path.contains(&number)
+            && self
+                .rule
+                .may_meet(self.first[path.len()], self.pool[number])
     }
 }
 
@@ -83,14 +85,14 @@ impl<'a, R: Rule> Model for Transpositions<'a, R> {
     ghost Value = { Ahead };
 
     ghost view = { λ t. record {
-        coming = map (numbers_at t.opponents.pool.now)
-            (hits (ahead (transposition_plan (R.meets t.opponents.rule.now) t.opponents.first.now t.opponents.pool.now) t.walk.path.items t.walk.number));
-        left = trials (ahead (transposition_plan (R.meets t.opponents.rule.now) t.opponents.first.now t.opponents.pool.now) t.walk.path.items t.walk.number)
+      coming = map (numbers_at t.opponents.pool.now)
+          (hits (ahead (transposition_plan (R.meets t.opponents.rule.now) t.opponents.first.now t.opponents.pool.now) t.walk.path.items t.walk.number));
+      left = trials (ahead (transposition_plan (R.meets t.opponents.rule.now) t.opponents.first.now t.opponents.pool.now) t.walk.path.items t.walk.number);
     } };
 
     ghost invariant = { λ t.
         (length t.opponents.first.now ≤ 256) × (length t.opponents.pool.now ≤ 256)
-            × Stands (transposition_plan (R.meets t.opponents.rule.now) t.opponents.first.now t.opponents.pool.now) t.walk.path.items };
+        × Stands (transposition_plan (R.meets t.opponents.rule.now) t.opponents.first.now t.opponents.pool.now) t.walk.path.items };
 }
 
 impl<'a, R: Rule> Transpositions<'a, R> {
@@ -112,12 +114,10 @@ impl<'a, R: Rule> Transpositions<'a, R> {
     /// budget is used up before the next one is found: what is to come is then as it was.
     pub fn next(&mut self, budget: &mut Budget) -> Step<Numbers>
         requires { budget.old.used ≤ budget.old.limit }
-        ensures answer {
-            MatchStep result
-                (λ numbers. self.old.coming ≡ numbers.items ∷ self.new.coming)
-                ((self.old.coming ≡ []) × (self.new.coming ≡ []) × (self.new.left ≡ 0))
-                ((self.new.coming ≡ self.old.coming) × (budget.new.used ≡ budget.new.limit) × (0 < self.new.left))
-        }
+        ensures answer { MatchStep result
+            (λ numbers. self.old.coming ≡ numbers.items ∷ self.new.coming)
+            ((self.old.coming ≡ []) × (self.new.coming ≡ []) × (self.new.left ≡ 0))
+            ((self.new.coming ≡ self.old.coming) × (budget.new.used ≡ budget.new.limit) × (0 < self.new.left)) }
         ensures steps { budget.new.used + self.new.left ≡ budget.old.used + self.old.left }
         ensures limit { budget.new.limit ≡ budget.old.limit }
         ensures rises { budget.old.used ≤ budget.new.used }

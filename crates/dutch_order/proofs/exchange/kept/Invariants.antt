@@ -1,4 +1,4 @@
-use Rattle.std.proofs.Common.{◌≡◌, ◌-◌, ◌≤◌, eqb, not, map, reverse, length}
+use Rattle.std.proofs.Common.{◌≡◌, ◌-◌, ◌≤◌, not, map, reverse, length}
 use Rattle.std.specs.List.{filter}
 use Rattle.dutch_order.specs.Choices.{is_member}
 use Rattle.dutch_order.specs.declared.exchange.Side.TheVariants.{Out}
@@ -9,5 +9,5 @@ use Rattle.dutch_order.proofs.exchange.kept.Given as goal
 abbrev pub invariant-loop-position : goal.invariant-loop-position
 invariant-loop-position l = record {
   items : l.numbers.items ≡ reverse (map (value_of l.pool l.k Out) (filter (λ place. not (is_member place l.outs)) (numbers_from (l.k - l.position) l.position)));
-  fits : length l.numbers.items ≤ l.position
+  fits : length l.numbers.items ≤ l.position;
 }

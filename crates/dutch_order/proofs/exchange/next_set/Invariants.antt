@@ -9,12 +9,12 @@ invariant-loop-place l = record {
   ins : l.place.size ≤ length l.pool - l.k;
   stands : Stands (exchange_plan l.pool l.k l.place.size l.place.difference) l.place.walk.path.items;
   sets : sets_ahead l.pool l.k l.place.size l.place.difference l.place.walk.path.items l.place.walk.number l.place.walk.beyond
-    ≡ sets_ahead l.pool l.k l.initial.place.size l.initial.place.difference l.initial.place.walk.path.items l.initial.place.walk.number l.initial.place.walk.beyond;
+      ≡ sets_ahead l.pool l.k l.initial.place.size l.initial.place.difference l.initial.place.walk.path.items l.initial.place.walk.number l.initial.place.walk.beyond;
   steps : l.budget.used + trials_ahead l.pool l.k l.place.size l.place.difference l.place.walk.path.items l.place.walk.number l.place.walk.beyond
-    ≡ l.initial.budget.used + trials_ahead l.pool l.k l.initial.place.size l.initial.place.difference l.initial.place.walk.path.items l.initial.place.walk.number l.initial.place.walk.beyond;
+      ≡ l.initial.budget.used + trials_ahead l.pool l.k l.initial.place.size l.initial.place.difference l.initial.place.walk.path.items l.initial.place.walk.number l.initial.place.walk.beyond;
   limit : l.budget.limit ≡ l.initial.budget.limit;
   rises : l.initial.budget.used ≤ l.budget.used;
-  within : l.budget.used ≤ l.budget.limit
+  within : l.budget.used ≤ l.budget.limit;
 }
 
 abbrev pub decreases-loop-place : goal.decreases-loop-place

@@ -1,5 +1,5 @@
-use Rattle.std.proofs.Common.{◌≡◌, ◌+◌, ◌-◌, ◌<◌, ◌≤◌, ℕ, suc, ◌∙◌, ap, refl, subst, sym, arith, rules, length, min}
-use Rattle.dutch_order.specs.Stages.{most_exchanged, greatest_difference, least_difference, stages_ahead}
+use Rattle.std.proofs.Common.{◌≡◌, ◌+◌, ◌<◌, ℕ, suc, ◌∙◌, ap, refl, subst, sym, arith, rules}
+use Rattle.dutch_order.specs.Stages.{least_difference, stages_ahead}
 use Rattle.dutch_order.proofs.StageMoves.{sets-next, trials-next, sets-larger, trials-larger, stages-larger, sets-none, trials-none, sets-at_new, trials-at_new}
 use Rattle.dutch_order.proofs.exchange.next_stage.Goals as goal
 
@@ -38,13 +38,14 @@ pub returns-then-place-min-clause-nearer : goal.returns-then-place-min-clause-ne
 returns-then-place-min-clause-nearer c _ =
     let p = c.args.place.now in
     let larger : stages_ahead c.args.pool.now c.args.k (suc p.size) (least_difference c.args.pool.now c.args.k (suc p.size)) < stages_ahead c.args.pool.now c.args.k p.size p.difference =
-      stages-larger c.args.pool.now c.args.k p.size p.difference p.walk.path.items p.walk.number p.walk.beyond c.requires.spent (search rules) (search rules) in
+    stages-larger c.args.pool.now c.args.k p.size p.difference p.walk.path.items p.walk.number p.walk.beyond c.requires.spent (search rules) (search rules) in
     subst (λ size. stages_ahead c.args.pool.now c.args.k size c.least_of-place.result < stages_ahead c.args.pool.now c.args.k p.size p.difference) (sym (one_up p.size))
     (subst (λ d. stages_ahead c.args.pool.now c.args.k (suc p.size) d < stages_ahead c.args.pool.now c.args.k p.size p.difference)
     (sym (c.least_of-place.ensures ∙ ap (least_difference c.args.pool.now c.args.k) (one_up p.size))) larger)
 
 pub returns-clause-ended : goal.returns-clause-ended
 returns-clause-ended c _ =
-    let p = c.args.place.now in
-    (sets-none c.args.pool.now c.args.k p.size p.difference p.walk.path.items p.walk.number p.walk.beyond c.requires.spent (search rules) (search rules),
-    trials-none c.args.pool.now c.args.k p.size p.difference p.walk.path.items p.walk.number p.walk.beyond c.requires.spent (search rules) (search rules))
+    let p = c.args.place.now in (
+      sets-none c.args.pool.now c.args.k p.size p.difference p.walk.path.items p.walk.number p.walk.beyond c.requires.spent (search rules) (search rules),
+      trials-none c.args.pool.now c.args.k p.size p.difference p.walk.path.items p.walk.number p.walk.beyond c.requires.spent (search rules) (search rules),
+    )

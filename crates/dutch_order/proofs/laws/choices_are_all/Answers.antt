@@ -10,10 +10,11 @@ use Rattle.dutch_order.proofs.laws.choices_are_all.Goals as goal
 
 pub returns-clause-transpositions : goal.returns-clause-transpositions
 returns-clause-transpositions c =
-    λ meets first pool tuple.
-    ((λ m. let found = IsIn-filter (all_meet meets first) tuple (sorted (λ t. t) (tuples pool (length first))) m in
-      (sorted-in (λ t. t) tuple (tuples pool (length first)) found.0, found.1)),
-    (λ m. filter-IsIn (all_meet meets first) tuple (sorted (λ t. t) (tuples pool (length first))) (in-sorted (λ t. t) tuple (tuples pool (length first)) m.0) m.1))
+    λ meets first pool tuple. (
+      (λ m. let found = IsIn-filter (all_meet meets first) tuple (sorted (λ t. t) (tuples pool (length first))) m in
+          (sorted-in (λ t. t) tuple (tuples pool (length first)) found.0, found.1)),
+      (λ m. filter-IsIn (all_meet meets first) tuple (sorted (λ t. t) (tuples pool (length first))) (in-sorted (λ t. t) tuple (tuples pool (length first)) m.0) m.1),
+    )
 
 pub returns-clause-exchanges : goal.returns-clause-exchanges
 returns-clause-exchanges c =

@@ -5,5 +5,5 @@ use Rattle.dutch_order.proofs.limbo.front_with.Given as goal
 abbrev pub invariant-loop-place : goal.invariant-loop-place
 invariant-loop-place l = record {
   at_place : l.count ≡ l.place-index;
-  so_far : front_with l.scores l.score l.places ≡ l.count + front_with l.scores l.score (drop l.place-index l.places)
+  so_far : front_with l.scores l.score l.places ≡ l.count + front_with l.scores l.score (drop l.place-index l.places);
 }

@@ -1,5 +1,5 @@
-use Rattle.std.proofs.Common.{◌≡◌, ◌∷◌, ◌∙◌, ◌+◌, sym, ap, arith, rules, ◌≤◌, ◌<◌}
-use Rattle.dutch_order.specs.Trials.{ahead, hits, trials, lower, lowest}
+use Rattle.std.proofs.Common.{◌∙◌, ◌+◌, sym, ap, arith, rules}
+use Rattle.dutch_order.specs.Trials.{hits, trials, lower, lowest}
 use Rattle.dutch_order.proofs.Moves.{ahead-whole, trials-positive, spent-place, spent-whole}
 use Rattle.dutch_order.proofs.search.climb_on.Goals as goal
 use Rattle.dutch_order.proofs.search.climb_on.Goals.{then-len-places+else-walk-eq0, else-len-places+else-walk-stop}
@@ -21,8 +21,8 @@ returns-then-budget-clause-answer g c =
 pub go_back-requires-clause-spent : goal.go_back-requires-clause-spent
 go_back-requires-clause-spent g c =
     elim c.if-len-places.branch [
-      then-len-places+else-walk-eq0 w ↦ spent-whole (g.T.Tree.plan c.args.tree.now) c.loop-walk.walk.path.items c.loop-walk.walk.number (search rules) (omega arith)
-    | else-len-places+else-walk-stop w ↦ spent-place (g.T.Tree.plan c.args.tree.now) c.loop-walk.walk.path.items c.loop-walk.walk.number (omega arith) (search rules)
+      | then-len-places+else-walk-eq0 w ↦ spent-whole (g.T.Tree.plan c.args.tree.now) c.loop-walk.walk.path.items c.loop-walk.walk.number (search rules) (omega arith)
+      | else-len-places+else-walk-stop w ↦ spent-place (g.T.Tree.plan c.args.tree.now) c.loop-walk.walk.path.items c.loop-walk.walk.number (omega arith) (search rules)
     ]
 
 pub returns-then-walk-eq0-clause-beyond : goal.returns-then-walk-eq0-clause-beyond

@@ -1,4 +1,4 @@
-use Rattle.std.proofs.Common.{◌≡◌, ◌+◌, ◌-◌, ◌*◌, ◌≤◌, ◌<◌, ◌∷◌, [], length}
+use Rattle.std.proofs.Common.{◌≡◌, ◌+◌, ◌-◌, ◌*◌, ◌≤◌, length}
 use Rattle.dutch_order.specs.Trials.{ahead, hits, trials, lower, lowest}
 use Rattle.dutch_order.specs.Walks.{Stands}
 use Rattle.dutch_order.proofs.search.climb_on.Given as goal
@@ -11,7 +11,7 @@ invariant-loop-walk g l = record {
   beyond : lower l.walk.beyond (lowest (ahead (g.T.Tree.plan l.tree) l.walk.path.items l.walk.number)) ≡ lower l.initial.walk.beyond (lowest (ahead (g.T.Tree.plan l.tree) l.initial.walk.path.items l.initial.walk.number));
   within : l.budget.used ≤ l.budget.limit;
   limit : l.budget.limit ≡ l.initial.budget.limit;
-  rises : l.initial.budget.used ≤ l.budget.used
+  rises : l.initial.budget.used ≤ l.budget.used;
 }
 
 abbrev pub decreases-loop-walk : goal.decreases-loop-walk

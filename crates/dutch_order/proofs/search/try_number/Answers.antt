@@ -1,6 +1,5 @@
-use Rattle.std.proofs.Common.{◌≡◌, ◌∷◌, sym, ◌∙◌, ap, arith, rules, length, subst, ◌≤◌, true, false}
-use Rattle.dutch_order.specs.Trials.{ahead, entry}
-use Rattle.dutch_order.specs.Walks.{Walked, Stands}
+use Rattle.std.proofs.Common.{sym, arith, rules, length, subst, ◌≤◌}
+use Rattle.dutch_order.specs.Walks.{Stands}
 use Rattle.dutch_order.proofs.Moves.{ahead-taken, ahead-pass, Walked-longer}
 use Rattle.dutch_order.proofs.search.try_number.Goals as goal
 
@@ -14,13 +13,17 @@ returns-else-admits-clause-goes_on g c =
     ahead-pass (g.T.Tree.plan c.args.tree.now) c.args.walk.now.path.items c.requires.opened.0 c.args.walk.now.number c.requires.tried (search rules)
 
 pub returns-then-admits-clause-stands : goal.returns-then-admits-clause-stands
-returns-then-admits-clause-stands g c =
-    (omega (arith, c.push.ensures.len), Walked-longer (g.T.Tree.plan c.args.tree.now) c.args.walk.now.path.items c.push.new.self.items c.args.walk.now.number
-    c.push.ensures.items c.requires.opened.1 c.requires.tried)
+returns-then-admits-clause-stands g c = (
+  omega (arith, c.push.ensures.len),
+  Walked-longer (g.T.Tree.plan c.args.tree.now) c.args.walk.now.path.items c.push.new.self.items c.args.walk.now.number
+      c.push.ensures.items c.requires.opened.1 c.requires.tried,
+)
 
 pub first_number-walk-requires : goal.first_number-walk-requires
 first_number-walk-requires g c =
     subst (Stands (g.T.Tree.plan c.args.tree.now)) (sym c.deref-then-admits.ensures.0)
-    (let few : length c.push.new.self.items ≤ (g.T.Tree.plan c.args.tree.now).places = omega (arith, c.push.ensures.len) in
-    (few, Walked-longer (g.T.Tree.plan c.args.tree.now) c.args.walk.now.path.items c.push.new.self.items c.args.walk.now.number
-    c.push.ensures.items c.requires.opened.1 c.requires.tried))
+    (let few : length c.push.new.self.items ≤ (g.T.Tree.plan c.args.tree.now).places = omega (arith, c.push.ensures.len) in (
+      few,
+      Walked-longer (g.T.Tree.plan c.args.tree.now) c.args.walk.now.path.items c.push.new.self.items c.args.walk.now.number
+          c.push.ensures.items c.requires.opened.1 c.requires.tried,
+    ))

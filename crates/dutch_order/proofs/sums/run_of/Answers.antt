@@ -1,6 +1,5 @@
-use Rattle.std.proofs.Common.{◌≡◌, ◌+◌, ◌-◌, sym, ◌∙◌, ap, arith}
-use Rattle.dutch_order.specs.Trials.{numbers_from}
-use Rattle.dutch_order.specs.Stages.{value_of, total, run}
+use Rattle.std.proofs.Common.{◌+◌, arith}
+use Rattle.dutch_order.specs.Stages.{value_of}
 use Rattle.dutch_order.proofs.Totals.{total-step}
 use Rattle.dutch_order.proofs.sums.run_of.Goals as goal
 
@@ -9,5 +8,5 @@ loop-place-preserved c =
     let step = total-step (value_of c.args.pool.now c.args.k c.args.side) c.loop-place.place (c.args.first + c.args.count) (omega arith) in
     record {
       small = omega (arith, c.value_at-sum.ensures.small);
-      so_far = omega (arith, step, c.value_at-sum.ensures.value, c.loop-place.invariant.so_far)
+      so_far = omega (arith, step, c.value_at-sum.ensures.value, c.loop-place.invariant.so_far);
     }

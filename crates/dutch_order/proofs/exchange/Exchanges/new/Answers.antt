@@ -1,8 +1,7 @@
-use Rattle.std.proofs.Common.{◌≡◌, ◌+◌, ◌≤◌, ◌∙◌, ap, refl, arith, [], slice_index, min, ℕ, length, ◌-◌}
-use Rattle.dutch_order.specs.Trials.{ahead, trials}
-use Rattle.dutch_order.specs.Stages.{exchange_plan, sets_ahead, trials_ahead, trials_of_stages, trials_of_sizes, most_exchanged, greatest_difference}
+use Rattle.std.proofs.Common.{◌≡◌, ◌∙◌, ap, refl, arith, ◌-◌}
+use Rattle.dutch_order.specs.Stages.{exchange_plan, trials_of_stages, trials_of_sizes, most_exchanged}
 use Rattle.dutch_order.proofs.StageSets.{exchanges-found}
-use Rattle.dutch_order.proofs.StageMoves.{sets-at_new, trials-at_new, trials-none}
+use Rattle.dutch_order.proofs.StageMoves.{sets-at_new, trials-at_new}
 use Rattle.dutch_order.proofs.Moves.{trials-nothing}
 use Rattle.dutch_order.proofs.exchange.Exchanges.new.Goals as goal
 
@@ -16,6 +15,6 @@ unfolding trials_of_stages trials_of_sizes
 returns-clause-nothing c none =
     let here = trials-nothing (exchange_plan c.args.pool.now c.args.k 0 0) refl in
     let sizes : trials_of_sizes c.args.pool.now c.args.k (most_exchanged c.args.pool.now c.args.k - 0) 1 ≡ 0 =
-      ap (λ count. trials_of_sizes c.args.pool.now c.args.k count 1) (let e : most_exchanged c.args.pool.now c.args.k - 0 ≡ 0 = omega (arith, none) in e) in
+    ap (λ count. trials_of_sizes c.args.pool.now c.args.k count 1) (let e : most_exchanged c.args.pool.now c.args.k - 0 ≡ 0 = omega (arith, none) in e) in
     trials-at_new c.args.pool.now c.args.k 0 0 0 0 c.new.result.path.items c.new.result.number c.new.result.beyond c.new.ensures.path c.new.ensures.number c.new.ensures.beyond refl refl
     ∙ omega (arith, here, sizes)

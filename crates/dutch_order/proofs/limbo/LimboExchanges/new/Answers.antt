@@ -1,4 +1,4 @@
-use Rattle.std.proofs.Common.{◌≡◌, ◌+◌, ◌<◌, ◌≤◌, ◌∙◌, ap, map, arith, slice_index, get_or, []}
+use Rattle.std.proofs.Common.{◌∙◌, ap, map, arith, []}
 use Rattle.dutch_order.specs.Trials.{ahead, hits, trials}
 use Rattle.dutch_order.specs.Limbo.{limbo_plan, second_numbers}
 use Rattle.dutch_order.proofs.LimboSets.{limbo-found}

@@ -1,4 +1,4 @@
-use Rattle.std.proofs.Common.{length, [], ◌<◌, arith}
+use Rattle.std.proofs.Common.{length, [], arith}
 use Rattle.dutch_order.specs.Limbo.{limbo_plan}
 use Rattle.dutch_order.proofs.HalfWalks.{half_stop-one}
 use Rattle.dutch_order.proofs.Moves.{Walked-below}

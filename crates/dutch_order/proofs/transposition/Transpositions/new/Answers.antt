@@ -1,4 +1,4 @@
-use Rattle.std.proofs.Common.{◌≡◌, ◌∙◌, ap, map}
+use Rattle.std.proofs.Common.{◌∙◌, ap, map}
 use Rattle.dutch_order.specs.Trials.{ahead, hits, trials}
 use Rattle.dutch_order.specs.Transposition.{transposition_plan, numbers_at}
 use Rattle.dutch_order.proofs.TupleSearch.{transpositions-found, transpositions-trials}
