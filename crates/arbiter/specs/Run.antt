@@ -1,5 +1,5 @@
 -- A run: what is answered to the words and to the bytes of the source, and how the answer is written.
-use Rattle.std.specs.Prelude.{◌≡◌, ◌⊎◌, ◌+◌, ◌<◌, ◌≤◌, ℕ, Bool, true, false, List, Option, None, Some}
+use Rattle.std.specs.Prelude.{◌≡◌, ◌⊎◌, ◌+◌, ◌≤◌, ℕ, Bool, true, false, List, Option, None, Some}
 use Rattle.arbiter.specs.Devices.{Reading, IsKept, IsUnread}
 use Rattle.trf16.specs.Output.{Use, HasFailed, HasNotFailed, HasText, HasPart}
 use Rattle.arbiter.specs.Commands.{Answer, Answers, is_output, out_of_memory, read_fault}
