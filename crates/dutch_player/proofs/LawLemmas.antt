@@ -1,10 +1,8 @@
 -- The laws of meetings and of colours, by cases.
-use Rattle.std.proofs.Common.{◌≡◌, ◌≢◌, ℕ, Bool, true, false, cond, inl, inr, not, ◌&&◌, ◌||◌, ◌==◌, nat_lt, ◌+◌, ◌≤◌, ◌<◌, List, [], ◌∷◌, Option, Some, None, refl, sym, ap, ◌∙◌, arith}
+use Rattle.std.proofs.Common.{◌≡◌, ◌≢◌, ℕ, Bool, true, false, cond, inl, inr, not, ◌&&◌, ◌||◌, ◌≤◌, ◌<◌, Option, Some, None, refl, sym, ap, ◌∙◌, arith}
 use Rattle.std.proofs.lemmas.Bool.{lt-ltb, le-ltb, cases_lt}
 use Rattle.trf16.specs.declared.cell.Colour.{Colour}
 use Rattle.trf16.specs.declared.cell.Colour.TheVariants.{White, Black}
-use Rattle.dutch_player.specs.declared.preference.Kind.{Kind}
-use Rattle.dutch_player.specs.declared.preference.Kind.TheVariants.{Absolute, Strong, Mild}
 use Rattle.dutch_player.specs.declared.preference.Pref.{Pref}
 use Rattle.dutch_player.specs.Preferences.{is_same, other, preference}
 use Rattle.dutch_player.specs.Facts.{SeatFacts, Facts, seat_at}
@@ -65,7 +63,7 @@ pub colours_sym : (facts : Facts) (a b : ℕ) → a ≢ b → colours facts a b 
 colours_sym facts a b differ = elim (cases_lt a b) [
   | inl lt ↦ colours-less facts a b lt ∙ sym (colours-more facts b a (omega arith))
   | inr le ↦ colours-more facts a b le ∙ sym (colours-less facts b a (omega arith))
-  ]
+]
 
 differ-same : (c d : Colour) → (c ≡ d → ⊥) → is_same c d ≡ false
 differ-same White White differ = absurd (differ refl)
@@ -98,9 +96,9 @@ swapped a b p q differ = with_other a b p.colour ∙ ap (with_colour b a) (sym (
 pub grants_both : (facts : Facts) (a b : ℕ) → a ≢ b → GrantsBoth facts a b
 grants_both facts a b apart p q legal e f k l differ = elim (cases_lt a b) [
   | inl lt ↦
-    (let one : colours facts a b ≡ with_colour a b p.colour = colours-less facts a b lt ∙ ranked-both facts a b p q e f differ in
-    (one, one ∙ swapped a b p q differ))
+      (let one : colours facts a b ≡ with_colour a b p.colour = colours-less facts a b lt ∙ ranked-both facts a b p q e f differ in
+      (one, one ∙ swapped a b p q differ))
   | inr le ↦
-    (let one : colours facts a b ≡ with_colour b a q.colour = colours-more facts a b le ∙ ranked-both facts b a q p f e (λ same. differ (sym same)) in
-    (one ∙ sym (swapped a b p q differ), one))
-  ]
+      (let one : colours facts a b ≡ with_colour b a q.colour = colours-more facts a b le ∙ ranked-both facts b a q p f e (λ same. differ (sym same)) in
+      (one ∙ sym (swapped a b p q differ), one))
+]

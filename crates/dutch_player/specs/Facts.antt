@@ -1,5 +1,5 @@
 -- What a round is paired from: the present players by rank, and how a report tells of them (C.04.3 A.2, A.7).
-use Rattle.std.specs.Prelude.{◌≡◌, ℕ, ◌+◌, ◌-◌, Bool, true, false, not, ◌&&◌, ◌||◌, ◌==◌, nat_lt, if◌then◌else◌, List, [], ◌∷◌, map, filter, take, slice_index_or, Option, Some, None, option_map, Result, Ok, Err}
+use Rattle.std.specs.Prelude.{◌≡◌, ℕ, ◌+◌, ◌-◌, Bool, true, false, ◌&&◌, ◌||◌, ◌==◌, nat_lt, if◌then◌else◌, List, [], ◌∷◌, take, slice_index_or, Option, Some, None, option_map, Result, Ok, Err}
 use Rattle.std.specs.Option.{ok_or, option_map_or}
 use Rattle.trf16.specs.declared.cell.Colour.{Colour}
 use Rattle.trf16.specs.declared.cell.Colour.TheVariants.{White}
@@ -76,7 +76,8 @@ seat_of sheet entry =
       opponents = opponents cells;
       latest = float_in sheet cells rounds;
       earlier = float_in sheet cells (rounds - 1);
-      may_bye = may_bye cells }
+      may_bye = may_bye cells;
+    }
 
 -- the seats of those who are not absent from the next round, in the order of their lines
 abbrev pub seats_of : Sheet → List Entry → List SeatFacts

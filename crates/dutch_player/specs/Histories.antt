@@ -1,10 +1,10 @@
 -- What the rounds that were paired say of a player: score (C.04.3 A.2), floats (A.4), colours (A.6), opponents (C.1), the bye (C.2).
-use Rattle.std.specs.Prelude.{ℕ, ◌-◌, Bool, true, false, not, ◌==◌, nat_lt, if◌then◌else◌, List, [], ◌∷◌, reverse, take, Option, Some, None, sum_by}
+use Rattle.std.specs.Prelude.{ℕ, ◌-◌, Bool, true, false, not, ◌==◌, nat_lt, if◌then◌else◌, List, reverse, take, Option, Some, None, sum_by}
 use Rattle.std.specs.List.{filter_map, list_any}
 use Rattle.trf16.specs.declared.cell.Colour.{Colour}
-use Rattle.trf16.specs.declared.cell.Bye.TheVariants.{Half, Full, Allocated, Zero}
+use Rattle.trf16.specs.declared.cell.Bye.TheVariants.{Full, Allocated}
 use Rattle.trf16.specs.declared.cell.Cell.{Cell}
-use Rattle.trf16.specs.declared.cell.Cell.TheVariants.{Blank, Bye, Game, Forfeit, Unfinished}
+use Rattle.trf16.specs.declared.cell.Cell.TheVariants.{Bye, Game, Forfeit}
 use Rattle.trf16.specs.Sheet.{Sheet, half_points, points_upto, cell_at}
 use Rattle.dutch_player.specs.declared.float.Float.{Float}
 use Rattle.dutch_player.specs.declared.float.Float.TheVariants.{Up, Down}

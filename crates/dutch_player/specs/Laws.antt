@@ -1,5 +1,5 @@
 -- What holds of every field (C.04.3 A.6, C.1, C.3, E).
-use Rattle.std.specs.Prelude.{◌≡◌, ℕ, Bool, true, Option, Some}
+use Rattle.std.specs.Prelude.{◌≡◌, ℕ, true, Some}
 use Rattle.dutch_player.specs.declared.preference.Kind.TheVariants.{Absolute}
 use Rattle.dutch_player.specs.declared.preference.Pref.{Pref}
 use Rattle.dutch_player.specs.Preferences.{preference}

@@ -1,5 +1,5 @@
 -- Who may meet whom (C.04.3 A.7, C.1, C.3).
-use Rattle.std.specs.Prelude.{ℕ, ◌-◌, Bool, true, false, not, ◌&&◌, ◌||◌, ◌==◌, nat_lt, Option, Some, None}
+use Rattle.std.specs.Prelude.{ℕ, ◌-◌, Bool, true, false, not, ◌&&◌, ◌||◌, ◌==◌, nat_lt, Option, Some}
 use Rattle.std.specs.List.{list_any}
 use Rattle.dutch_player.specs.declared.preference.Kind.{Kind}
 use Rattle.dutch_player.specs.declared.preference.Kind.TheVariants.{Absolute, Strong, Mild}

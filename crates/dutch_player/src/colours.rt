@@ -5,7 +5,7 @@ ghost use Rattle.dutch_player.specs.SeatOf.{facts_in};
 ghost use Rattle.dutch_player.specs.Colours.{strength, distance, is_stronger, alternated, contested, by_start, granted, with_colour};
 
 use crate::meetings::is_absolute;
-use crate::preference::{blacks, is_same, other, preference, whites, Kind, Pref};
+use crate::preference::{Kind, Pref, blacks, is_same, other, preference, whites};
 use crate::seat::Seat;
 use trf16::cell::Colour;
 
@@ -70,10 +70,20 @@ fn contested(high: &[Colour], low: &[Colour], wanted: Pref, theirs: Pref) -> Col
 fn by_start(initial: Colour, start: u16) -> Colour
     ensures { result ≡ by_start initial start }
 {
-    if start % 2 == 1 { initial } else { other(initial) }
+    if start % 2 == 1 {
+        initial
+    } else {
+        other(initial)
+    }
 }
 
-fn granted(initial: Colour, high: &Seat, low: &Seat, wanted: Option<Pref>, theirs: Option<Pref>) -> Colour
+fn granted(
+    initial: Colour,
+    high: &Seat,
+    low: &Seat,
+    wanted: Option<Pref>,
+    theirs: Option<Pref>,
+) -> Colour
     ensures { result ≡ granted initial (facts_in high.now) (facts_in low.now) wanted theirs }
 {
     match (wanted, theirs) {
@@ -94,7 +104,13 @@ fn granted(initial: Colour, high: &Seat, low: &Seat, wanted: Option<Pref>, their
 pub(crate) fn colour_of_higher(initial: Colour, high: &Seat, low: &Seat) -> Colour
     ensures { result ≡ granted initial (facts_in high.now) (facts_in low.now) (preference (facts_in high.now).played) (preference (facts_in low.now).played) }
 {
-    granted(initial, high, low, preference(&high.played), preference(&low.played))
+    granted(
+        initial,
+        high,
+        low,
+        preference(&high.played),
+        preference(&low.played),
+    )
 }
 
 /// Who has white and who has black, where the first gets a colour.

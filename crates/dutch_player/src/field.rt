@@ -11,7 +11,7 @@ use crate::colours::{colour_of_higher, with_colour};
 use crate::fault::FieldFault;
 use crate::float::Float;
 use crate::meetings::{clash, have_met};
-use crate::preference::{difference, last_two, preference, Pref};
+use crate::preference::{Pref, difference, last_two, preference};
 use crate::present::seats_of;
 use crate::refusals::total_for;
 use crate::seat::Seat;
@@ -48,7 +48,12 @@ impl Field {
     /// told in this order: a game without a result (by the players' lines, then by round), the first line that is not supported, a
     /// total that is not known, a round behind the total, memory.
     #[tactic(auto, unfolding(crate::specs::Facts::facts_of))]
-    pub fn new(alloc: Global, report: &Report<'_>, total: Option<u8>, initial: Option<Colour>) -> Result<Field, FieldFault>
+    pub fn new(
+        alloc: Global,
+        report: &Report<'_>,
+        total: Option<u8>,
+        initial: Option<Colour>,
+    ) -> Result<Field, FieldFault>
         ensures { Gives result (facts_of report.now total initial) }
     {
         let total = total_for(report, total)?;
@@ -165,9 +170,17 @@ impl Field {
         ensures { result ≡ colours self.now a b }
     {
         if a < b {
-            with_colour(a, b, colour_of_higher(self.initial, self.seat(a), self.seat(b)))
+            with_colour(
+                a,
+                b,
+                colour_of_higher(self.initial, self.seat(a), self.seat(b)),
+            )
         } else {
-            with_colour(b, a, colour_of_higher(self.initial, self.seat(b), self.seat(a)))
+            with_colour(
+                b,
+                a,
+                colour_of_higher(self.initial, self.seat(b), self.seat(a)),
+            )
         }
     }
 }

@@ -44,7 +44,11 @@ pub(crate) fn played(alloc: Global, cells: &[Cell]) -> Result<Vec<Colour>, Alloc
     ensures value { IfOk result (λ v. v.items ≡ played cells.now) }
     ensures shorter { IfOk result (λ v. vec_len v ≤ length cells.now) }
 {
-    cells.iter().rev().filter_map(|cell| colour_played(cell)).collect(alloc)
+    cells
+        .iter()
+        .rev()
+        .filter_map(|cell| colour_played(cell))
+        .collect(alloc)
 }
 
 fn opponent_played(cell: &Cell) -> Option<u16>
@@ -60,7 +64,10 @@ fn opponent_played(cell: &Cell) -> Option<u16>
 pub(crate) fn opponents(alloc: Global, cells: &[Cell]) -> Result<Vec<u16>, AllocError>
     ensures { IfOk result (λ v. v.items ≡ opponents cells.now) }
 {
-    cells.iter().filter_map(|cell| opponent_played(cell)).collect(alloc)
+    cells
+        .iter()
+        .filter_map(|cell| opponent_played(cell))
+        .collect(alloc)
 }
 
 fn bars_bye(cell: &Cell) -> bool
@@ -110,7 +117,10 @@ fn float_by(report: &Report<'_>, cells: &[Cell], before: u8, cell: &Cell) -> Opt
     ensures { result ≡ float_by report.now cells.now before cell.now }
 {
     match cell {
-        Cell::Game { opponent, .. } => float_between(score(front(cells, before)), report.points(*opponent, before)),
+        Cell::Game { opponent, .. } => float_between(
+            score(front(cells, before)),
+            report.points(*opponent, before),
+        ),
         _ => Some(Float::Down),
     }
 }

@@ -11,24 +11,21 @@ use crate::field::Field;
 #[tactic(auto, using(crate::proofs::LawLemmas::meeting_sym))]
 pub fn meeting_is_symmetric(field: &Field, a: u16, b: u16)
     ensures { may_meet field.now a b ≡ may_meet field.now b a }
-{
-}
+{}
 
 /// The colours of two do not depend on the order in which they are named.
 #[tactic(auto, using(crate::proofs::LawLemmas::colours_sym))]
 pub fn colours_are_symmetric(field: &Field, a: u16, b: u16)
     requires { a ≢ b }
     ensures { colours field.now a b ≡ colours field.now b a }
-{
-}
+{}
 
 /// Of two who may meet, with absolute preferences for different colours, both get what they prefer.
 #[tactic(auto, using(crate::proofs::LawLemmas::grants_both))]
 pub fn absolute_preferences_are_granted(field: &Field, a: u16, b: u16)
     requires { a ≢ b }
     ensures { GrantsBoth field.now a b }
-{
-}
+{}
 
 /// Of two seats the one in front has no smaller score, and the other does not go before it (A.2).
 #[tactic(auto, using(crate::proofs::RankLemmas::ranked_at, crate::proofs::RankLemmas::scores_fall))]

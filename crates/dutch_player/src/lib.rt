@@ -14,6 +14,5 @@ mod present;
 mod ranking;
 mod refusals;
 mod seat;
-
 #[cfg(test)]
 mod tests;

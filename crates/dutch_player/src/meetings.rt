@@ -4,7 +4,7 @@ ghost use Rattle.std.specs.List.{list_any};
 ghost use Rattle.dutch_player.specs.SeatOf.{facts_in};
 ghost use Rattle.dutch_player.specs.Meetings.{has_met, have_met, is_absolute, clash};
 
-use crate::preference::{is_same, Kind, Pref};
+use crate::preference::{Kind, Pref, is_same};
 use crate::seat::Seat;
 
 fn names(opponents: &[u16], start: u16) -> bool
@@ -40,7 +40,9 @@ pub(crate) fn clash(a: Option<Pref>, b: Option<Pref>) -> bool
     ensures { result ≡ clash a b }
 {
     match (a, b) {
-        (Some(a), Some(b)) => is_absolute(a.kind) && is_absolute(b.kind) && is_same(a.colour, b.colour),
+        (Some(a), Some(b)) => is_absolute(a.kind)
+            && is_absolute(b.kind)
+            && is_same(a.colour, b.colour),
         _ => false,
     }
 }

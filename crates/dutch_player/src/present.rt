@@ -12,7 +12,12 @@ use trf16::player::Player;
 use trf16::report::Report;
 
 // What the rounds that were paired make of a player.
-fn seat_of(alloc: Global, report: &Report<'_>, player: &Player<'_>, rounds: u8) -> Result<Seat, AllocError>
+fn seat_of(
+    alloc: Global,
+    report: &Report<'_>,
+    player: &Player<'_>,
+    rounds: u8,
+) -> Result<Seat, AllocError>
     requires { rounds ≡ rounds_played report.now }
     ensures { IfOk result (λ seat. facts_in seat ≡ seat_of report.now (entry_of player.now)) }
 {

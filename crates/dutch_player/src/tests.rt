@@ -12,17 +12,20 @@ const ABSOLUTE_WHITE: Option<Pref> = Some(Pref {
     kind: Kind::Absolute,
     colour: Colour::White,
 });
+
 const ABSOLUTE_BLACK: Option<Pref> = Some(Pref {
     kind: Kind::Absolute,
     colour: Colour::Black,
 });
+
 const MILD_WHITE: Option<Pref> = Some(Pref {
     kind: Kind::Mild,
     colour: Colour::White,
 });
 
 // Columns 9 to 91 of a player's line, without a name and without points.
-const BLANK: &str = "                                                                                   ";
+const BLANK: &str =
+    "                                                                                   ";
 
 // Each line is what stands in front of column 9, and what stands from column 92 on.
 fn text_of(alloc: Global, lines: &[(&str, &str)]) -> Result<String, AllocError> {
@@ -42,13 +45,22 @@ fn a_difference_of_two_is_absolute(rt: HostRuntime) -> Result<(), Fail> {
     let text = text_of(
         alloc,
         &[
-            ("001    1", "   2 w =     3 w =     4 w =     5 w =     6 b =     7 b ="),
+            (
+                "001    1",
+                "   2 w =     3 w =     4 w =     5 w =     6 b =     7 b =",
+            ),
             ("001    2", "   1 b ="),
             ("001    3", "             1 b ="),
             ("001    4", "                       1 b ="),
             ("001    5", "                                 1 b ="),
-            ("001    6", "                                           1 w ="),
-            ("001    7", "                                                     1 w ="),
+            (
+                "001    6",
+                "                                           1 w =",
+            ),
+            (
+                "001    7",
+                "                                                     1 w =",
+            ),
         ],
     )?;
     let report = trf16::read(alloc, text.as_bytes())?;
@@ -58,7 +70,11 @@ fn a_difference_of_two_is_absolute(rt: HostRuntime) -> Result<(), Fail> {
     assert_eq!(rt; field.score(0), 6);
     assert_eq!(rt; field.difference(0), 2);
     assert_eq!(rt; field.last_two(0), Some(Colour::Black));
-    assert_eq!(rt; field.preference(0), ABSOLUTE_BLACK, "the difference decides");
+    assert_eq!(rt;
+        field.preference(0),
+        ABSOLUTE_BLACK,
+        "the difference decides"
+    );
     Ok(())
 }
 
@@ -191,7 +207,17 @@ fn a_forfeit_is_no_game(rt: HostRuntime) -> Result<(), Fail> {
 #[test]
 fn without_games_the_start_rank_decides(rt: HostRuntime) -> Result<(), Fail> {
     let alloc = rt.alloc();
-    let text = text_of(alloc, &[("XXR 5", ""), ("XXC black1", ""), ("001    1", ""), ("001    2", ""), ("001    3", ""), ("001    4", "")])?;
+    let text = text_of(
+        alloc,
+        &[
+            ("XXR 5", ""),
+            ("XXC black1", ""),
+            ("001    1", ""),
+            ("001    2", ""),
+            ("001    3", ""),
+            ("001    4", ""),
+        ],
+    )?;
     let report = trf16::read(alloc, text.as_bytes())?;
     let field = Field::new(alloc, &report, None, Some(Colour::White))?;
     assert_eq!(rt; field.len(), 4);
@@ -206,10 +232,23 @@ fn without_games_the_start_rank_decides(rt: HostRuntime) -> Result<(), Fail> {
 #[test]
 fn refusals_come_in_their_order(rt: HostRuntime) -> Result<(), Fail> {
     let alloc = rt.alloc();
-    let text = text_of(alloc, &[("001    1", "   2 w"), ("001    2", "   1 b"), ("XXS x", "")])?;
+    let text = text_of(
+        alloc,
+        &[
+            ("001    1", "   2 w"),
+            ("001    2", "   1 b"),
+            ("XXS x", ""),
+        ],
+    )?;
     let report = trf16::read(alloc, text.as_bytes())?;
     let fault = Field::new(alloc, &report, None, None).err();
-    assert_eq!(rt; fault, Some(FieldFault::Unfinished { player: 1, round: 1 }));
+    assert_eq!(rt;
+        fault,
+        Some(FieldFault::Unfinished {
+            player: 1,
+            round: 1
+        })
+    );
     let text = text_of(alloc, &[("001    1", ""), ("001    2", ""), ("XXS x", "")])?;
     let report = trf16::read(alloc, text.as_bytes())?;
     let fault = Field::new(alloc, &report, None, None).err();
