@@ -1,13 +1,14 @@
 #!/bin/sh
-# Measures the generators: runs the small program of this folder over the crates of the repository, in a folder of its own. Steps are
-# exact; the times are those of a trial build, which is not optimised.
+# Measures the generators: runs the small program generators.rattle over the crate dutch_order, in a folder of its own. Steps are exact; the
+# times are those of a trial build, which is not optimised. (The program is no crate of the repository, so it does not end in .rt.)
 set -e
 here=$(cd "$(dirname "$0")" && pwd)
 work=$(mktemp -d)
 trap 'rm -rf "$work"' EXIT
 mkdir "$work/crates"
 cp -r "$here/../crates/dutch_order" "$work/crates/dutch_order"
-cp -r "$here/generators" "$work/crates/generators"
+mkdir -p "$work/crates/generators/src"
+cp "$here/generators.rattle" "$work/crates/generators/src/main.rt"
 printf 'dutch_order: arrayvec\ngenerators: dutch_order\n' > "$work/crates.txt"
 cd "$work/crates/generators"
 rt try
