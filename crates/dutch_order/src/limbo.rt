@@ -1,4 +1,5 @@
 // Exchanges of moved-down players, article D.3: sets of places by their scores and numbers, specified by a sorted list of subsets.
+ghost use Rattle.dutch_order.specs.declared.search.TheConstants.{LIMIT};
 ghost use Rattle.std.specs.Prelude.{◌≡◌, ◌+◌, ◌*◌, ◌<◌, ◌≤◌, ℕ, [], ◌∷◌, ◌-◌, length, map, slice_index};
 ghost use Rattle.std.specs.List.{AllByRecursion};
 ghost use Rattle.dutch_order.specs.Halves.{half_start};
@@ -72,8 +73,8 @@ fn numbered(places: &[usize]) -> Numbers
 struct Ranked<'a> {
     scores: &'a [u16],
     k: usize,
-    ghost few: { k ≤ 256 },
-    ghost narrow: { length scores.now ≤ 256 },
+    ghost few: { k ≤ LIMIT },
+    ghost narrow: { length scores.now ≤ LIMIT },
 }
 
 impl<'a> Tree for Ranked<'a> {
@@ -121,6 +122,7 @@ pub struct LimboExchanges<'a> {
 }
 
 impl<'a> Model for LimboExchanges<'a> {
+    ghost use Rattle.dutch_order.specs.declared.search.TheConstants.{LIMIT};
     ghost use Rattle.std.specs.Prelude.{◌≤◌, length, map};
     ghost use Rattle.dutch_order.specs.Steps.{Ahead};
     ghost use Rattle.dutch_order.specs.Trials.{ahead, hits, trials};

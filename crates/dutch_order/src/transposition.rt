@@ -76,6 +76,7 @@ pub struct Transpositions<'a, R: Rule> {
 }
 
 impl<'a, R: Rule> Model for Transpositions<'a, R> {
+    ghost use Rattle.dutch_order.specs.declared.search.TheConstants.{LIMIT};
     ghost use Rattle.std.specs.Prelude.{◌≤◌, length, map};
     ghost use Rattle.dutch_order.specs.Steps.{Ahead};
     ghost use Rattle.dutch_order.specs.Trials.{ahead, hits, trials};
@@ -91,7 +92,7 @@ impl<'a, R: Rule> Model for Transpositions<'a, R> {
     } };
 
     ghost invariant = { λ t.
-        (length t.opponents.first.now ≤ 256) × (length t.opponents.pool.now ≤ 256)
+        (length t.opponents.first.now ≤ LIMIT) × (length t.opponents.pool.now ≤ LIMIT)
         × Stands (transposition_plan (R.meets t.opponents.rule.now) t.opponents.first.now t.opponents.pool.now) t.walk.path.items };
 }
 
