@@ -3,7 +3,8 @@ ghost use Rattle.dutch_order.specs.declared.search.TheConstants.{LIMIT};
 ghost use Rattle.std.specs.Prelude.{◌≡◌, ◌+◌, ◌*◌, ◌<◌, ◌≤◌, ℕ, [], ◌∷◌, ◌-◌, length, map, slice_index};
 ghost use Rattle.std.specs.List.{AllByRecursion};
 ghost use Rattle.dutch_order.specs.Halves.{half_start};
-ghost use Rattle.dutch_order.specs.Limbo.{limbo_exchanges, leads, mirrors, front_with, numbers_of, IsNonAscending};
+ghost use Rattle.dutch_order.specs.Limbo.{limbo_exchanges, IsNonAscending};
+ghost use Rattle.dutch_order.specs.LimboSearch.{leads, mirrors, front_with, numbers_of};
 ghost use Rattle.dutch_order.specs.Steps.{MatchStep};
 
 use crate::halves::{end_of_half, first_of_half};
@@ -78,7 +79,7 @@ struct Ranked<'a> {
 }
 
 impl<'a> Tree for Ranked<'a> {
-    ghost use Rattle.dutch_order.specs.Limbo.{limbo_plan};
+    ghost use Rattle.dutch_order.specs.LimboSearch.{limbo_plan};
     ghost use Rattle.std.proofs.Common.{arith};
     ghost use Rattle.std.proofs.lemmas.Bool.Decides.{nat_tests};
 
@@ -127,7 +128,7 @@ impl<'a> Model for LimboExchanges<'a> {
     ghost use Rattle.dutch_order.specs.Steps.{Ahead};
     ghost use Rattle.dutch_order.specs.Trials.{ahead, hits, trials};
     ghost use Rattle.dutch_order.specs.Walks.{Stands};
-    ghost use Rattle.dutch_order.specs.Limbo.{limbo_plan, second_numbers};
+    ghost use Rattle.dutch_order.specs.LimboSearch.{limbo_plan, second_numbers};
 
     ghost Value = { Ahead };
 
