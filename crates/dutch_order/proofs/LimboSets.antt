@@ -8,7 +8,8 @@ use Rattle.dutch_order.specs.Trials.{Plan, numbers_from, entry, ahead, hits}
 use Rattle.dutch_order.specs.Choices.{subsets}
 use Rattle.dutch_order.specs.Keys.{is_before, IsIn, Ascends, higher_first}
 use Rattle.dutch_order.specs.Halves.{half_start}
-use Rattle.dutch_order.specs.Limbo.{limbo_key, limbo_exchanges, limbo_plan, leads, mirrors, front_with, score_of, IsNonAscending, numbers_of, second_numbers}
+use Rattle.dutch_order.specs.Limbo.{limbo_key, limbo_exchanges, score_of, IsNonAscending}
+use Rattle.dutch_order.specs.LimboSearch.{limbo_plan, leads, mirrors, front_with, numbers_of, second_numbers}
 use Rattle.dutch_order.proofs.Lists.{map-same}
 use Rattle.dutch_order.proofs.HalfWalks.{Climbs, AllFit, Halved, halves-split, halves-join, start-on}
 use Rattle.dutch_order.proofs.Orders.{is_before-lower, is_before-equal, is_before-cases, IsIn-map, map-IsIn}

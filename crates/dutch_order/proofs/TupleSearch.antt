@@ -11,7 +11,8 @@ use Rattle.std.proofs.lemmas.List.Kept.{AllPairs-from_increasing}
 use Rattle.std.proofs.lemmas.Bool.{ne_eqb, eq-eqb, cases_order}
 use Rattle.dutch_order.specs.Trials.{Plan, numbers_from, entry, ahead, hits, trials}
 use Rattle.dutch_order.specs.Choices.{tuples, without, all_meet}
-use Rattle.dutch_order.specs.Transposition.{transposition_plan, numbers_at, transpositions, short_beginnings, beginnings_below}
+use Rattle.dutch_order.specs.Transposition.{transpositions, short_beginnings, beginnings_below}
+use Rattle.dutch_order.specs.TranspositionSearch.{transposition_plan, numbers_at}
 use Rattle.dutch_order.proofs.Lists.{map-flat_map, filter-flat_map, flat_map-filter, flat_map-below, map-numbers_from, map-same, filter-same, filter-filter, filter-all}
 use Rattle.dutch_order.specs.Keys.{is_before, Ascends}
 use Rattle.dutch_order.proofs.Found.{found, found-zero, found-suc, ahead-new, short_paths, trials-short}

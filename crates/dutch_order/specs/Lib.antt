@@ -9,3 +9,5 @@ pub mod Limbo
 pub mod Exchange
 pub mod Stages
 pub mod Sides
+pub mod TranspositionSearch
+pub mod LimboSearch

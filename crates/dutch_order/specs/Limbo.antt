@@ -1,9 +1,8 @@
 -- Exchanges of moved-down players (C.04.3 D.3): sets of places of the bracket, by their scores and then by their numbers.
-use Rattle.std.specs.Prelude.{ℕ, ◌+◌, ◌-◌, ◌<◌, ◌≤◌, Bool, ◌&&◌, ◌||◌, not, ◌==◌, nat_lt, List, [], ◌∷◌, ◌++◌, map, drop, length, slice_index, slice_range, if◌then◌else◌, None}
+use Rattle.std.specs.Prelude.{ℕ, ◌+◌, ◌-◌, ◌<◌, ◌≤◌, List, ◌++◌, map, length, slice_index}
 use Rattle.dutch_order.specs.Choices.{subsets}
 use Rattle.dutch_order.specs.Keys.{sorted, higher_first}
-use Rattle.dutch_order.specs.Trials.{Plan, numbers_from}
-use Rattle.dutch_order.specs.Halves.{half_start, two_halves}
+use Rattle.dutch_order.specs.Trials.{numbers_from}
 
 -- the score of a player by his number, which counts from 1
 abbrev pub score_of : List ℕ → ℕ → ℕ
@@ -20,39 +19,3 @@ limbo_exchanges scores k = sorted (limbo_key scores) (subsets (numbers_from 1 (l
 -- scores that do not ascend
 abbrev pub IsNonAscending : List ℕ → Type 0
 IsNonAscending scores = (i : ℕ) → i + 1 < length scores → slice_index scores (i + 1) ≤ slice_index scores i
-
--- how they are searched: first the places of the first set with the same scores, then those of the set. A place of the first set
--- follows the last one, or is the first of its score
-abbrev pub leads : List ℕ → ℕ → List ℕ → ℕ → Bool
-leads scores k path place = (place == half_start k path) || (place == 0) || not (slice_index scores (place - 1) == slice_index scores place)
-
--- how many places at the front of a list have a score
-abbrev pub front_with : List ℕ → ℕ → List ℕ → ℕ
-front_with scores score [] = 0
-front_with scores score (place ∷ places) =
-    if slice_index scores place == score then 1 + front_with scores score places else 0
-
--- how many of the places that follow in the first set have a score
-abbrev pub same_ahead : List ℕ → ℕ → ℕ → List ℕ → ℕ
-same_ahead scores k score path = front_with scores score (slice_range path (length path - k + 1) k)
-
--- a place of the set has the score of its place in the first set, and leaves as many of that score as must follow
-abbrev pub mirrors : List ℕ → ℕ → List ℕ → ℕ → Bool
-mirrors scores k path place =
-    (slice_index scores place == slice_index scores (slice_index path (length path - k)))
-    && (slice_index scores (place + same_ahead scores k (slice_index scores (slice_index path (length path - k))) path)
-    == slice_index scores (slice_index path (length path - k)))
-
-abbrev pub limbo_plan : List ℕ → ℕ → Plan
-limbo_plan scores k =
-    two_halves k (length scores) (length scores)
-    (λ path place. if nat_lt (length path) k then leads scores k path place else mirrors scores k path place)
-    (λ path place. None)
-
--- the numbers of places, which count from 1
-abbrev pub numbers_of : List ℕ → List ℕ
-numbers_of places = map (λ place. place + 1) places
-
--- the set that a path has found
-abbrev pub second_numbers : ℕ → List ℕ → List ℕ
-second_numbers k path = numbers_of (drop k path)

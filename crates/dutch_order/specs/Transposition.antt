@@ -1,9 +1,7 @@
 -- Transpositions (C.04.3 D.1): tuples in the order of their numbers.
-use Rattle.std.specs.Prelude.{ℕ, zero, suc, Bool, not, ◌&&◌, eqb, List, [], ◌++◌, map, filter, length, take, slice_index, None}
-use Rattle.std.specs.List.{list_any}
+use Rattle.std.specs.Prelude.{ℕ, zero, suc, Bool, List, [], ◌++◌, filter, length, take}
 use Rattle.dutch_order.specs.Choices.{tuples, all_meet}
 use Rattle.dutch_order.specs.Keys.{sorted}
-use Rattle.dutch_order.specs.Trials.{Plan}
 
 -- the key of a tuple is the tuple itself
 abbrev pub tuple_key : List ℕ → List ℕ
@@ -23,19 +21,3 @@ beginnings_below meets first pool (suc k) =
 -- the beginnings that are too short
 abbrev pub short_beginnings : (ℕ → ℕ → Bool) → List ℕ → List ℕ → List (List ℕ)
 short_beginnings meets first pool = beginnings_below meets first pool (length first)
-
--- how transpositions are searched: at each place each place of the pool is tried, and fits if it is not taken yet and the two
--- players may meet
-abbrev pub transposition_plan : (ℕ → ℕ → Bool) → List ℕ → List ℕ → Plan
-transposition_plan meets first pool = record {
-  places = length first;
-  width = length pool;
-  start = λ _. 0;
-  stop = λ _. length pool;
-  fits = λ path place. not (list_any (eqb place) path) && meets (slice_index first (length path)) (slice_index pool place);
-  beyond = λ path place. None;
-}
-
--- the numbers at the places of a path
-abbrev pub numbers_at : List ℕ → List ℕ → List ℕ
-numbers_at pool path = map (λ place. slice_index pool place) path

@@ -5,6 +5,7 @@
 // while the wanted difference lies between the least and the greatest that can still come. So a stage never scans all sets. Where
 // the least is more than what is wanted, it is noted: the lowest one noted is the difference of the next stage, so no stage is
 // searched that has no set, however far apart the numbers of the pool are.
+ghost use Rattle.dutch_order.specs.declared.search.TheConstants.{LIMIT};
 ghost use Rattle.std.specs.Prelude.{◌≡◌, ◌+◌, ◌*◌, ◌-◌, ◌<◌, ◌≤◌, ℕ, true, false, [], ◌∷◌, ◌++◌, length, map, take, drop};
 ghost use Rattle.std.specs.List.{AllByRecursion};
 ghost use Rattle.dutch_order.specs.Trials.{numbers_from};
@@ -95,7 +96,7 @@ struct Stage<'a> {
     k: usize,
     size: usize,
     difference: usize,
-    ghost few: { length pool.now ≤ 256 },
+    ghost few: { length pool.now ≤ LIMIT },
     ghost enough: { k ≤ length pool.now },
     ghost outs: { size ≤ k },
     ghost ins: { size ≤ length pool.now - k },
@@ -321,6 +322,7 @@ pub struct Exchanges<'a> {
 }
 
 impl<'a> Model for Exchanges<'a> {
+    ghost use Rattle.dutch_order.specs.declared.search.TheConstants.{LIMIT};
     ghost use Rattle.std.specs.Prelude.{◌≤◌, ◌-◌, length};
     ghost use Rattle.dutch_order.specs.Steps.{Ahead};
     ghost use Rattle.dutch_order.specs.Walks.{Stands};
@@ -334,7 +336,7 @@ impl<'a> Model for Exchanges<'a> {
     } };
 
     ghost invariant = { λ t.
-        (length t.pool.now ≤ 256) × (t.k ≤ length t.pool.now) × (t.place.size ≤ t.k) × (t.place.size ≤ length t.pool.now - t.k)
+        (length t.pool.now ≤ LIMIT) × (t.k ≤ length t.pool.now) × (t.place.size ≤ t.k) × (t.place.size ≤ length t.pool.now - t.k)
         × Stands (exchange_plan t.pool.now t.k t.place.size t.place.difference) t.place.walk.path.items };
 }
 

@@ -1,8 +1,10 @@
 // Exchanges of moved-down players, article D.3: sets of places by their scores and numbers, specified by a sorted list of subsets.
+ghost use Rattle.dutch_order.specs.declared.search.TheConstants.{LIMIT};
 ghost use Rattle.std.specs.Prelude.{◌≡◌, ◌+◌, ◌*◌, ◌<◌, ◌≤◌, ℕ, [], ◌∷◌, ◌-◌, length, map, slice_index};
 ghost use Rattle.std.specs.List.{AllByRecursion};
 ghost use Rattle.dutch_order.specs.Halves.{half_start};
-ghost use Rattle.dutch_order.specs.Limbo.{limbo_exchanges, leads, mirrors, front_with, numbers_of, IsNonAscending};
+ghost use Rattle.dutch_order.specs.Limbo.{limbo_exchanges, IsNonAscending};
+ghost use Rattle.dutch_order.specs.LimboSearch.{leads, mirrors, front_with, numbers_of};
 ghost use Rattle.dutch_order.specs.Steps.{MatchStep};
 
 use crate::halves::{end_of_half, first_of_half};
@@ -72,12 +74,12 @@ fn numbered(places: &[usize]) -> Numbers
 struct Ranked<'a> {
     scores: &'a [u16],
     k: usize,
-    ghost few: { k ≤ 256 },
-    ghost narrow: { length scores.now ≤ 256 },
+    ghost few: { k ≤ LIMIT },
+    ghost narrow: { length scores.now ≤ LIMIT },
 }
 
 impl<'a> Tree for Ranked<'a> {
-    ghost use Rattle.dutch_order.specs.Limbo.{limbo_plan};
+    ghost use Rattle.dutch_order.specs.LimboSearch.{limbo_plan};
     ghost use Rattle.std.proofs.Common.{arith};
     ghost use Rattle.std.proofs.lemmas.Bool.Decides.{nat_tests};
 
@@ -121,11 +123,12 @@ pub struct LimboExchanges<'a> {
 }
 
 impl<'a> Model for LimboExchanges<'a> {
+    ghost use Rattle.dutch_order.specs.declared.search.TheConstants.{LIMIT};
     ghost use Rattle.std.specs.Prelude.{◌≤◌, length, map};
     ghost use Rattle.dutch_order.specs.Steps.{Ahead};
     ghost use Rattle.dutch_order.specs.Trials.{ahead, hits, trials};
     ghost use Rattle.dutch_order.specs.Walks.{Stands};
-    ghost use Rattle.dutch_order.specs.Limbo.{limbo_plan, second_numbers};
+    ghost use Rattle.dutch_order.specs.LimboSearch.{limbo_plan, second_numbers};
 
     ghost Value = { Ahead };
 

@@ -12,7 +12,7 @@ use arrayvec::ArrayVec;
 pub const LIMIT: usize = 256;
 
 /// The most places of a search: an exchange or a set of moved-down players fills two for each number.
-pub const PLACES: usize = 512;
+pub const PLACES: usize = 2 * LIMIT;
 
 /// What a search fills, and which numbers it tries where.
 pub trait Tree {

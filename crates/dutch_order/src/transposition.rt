@@ -2,7 +2,8 @@
 ghost use Rattle.std.specs.Prelude.{◌≡◌, ◌+◌, ◌*◌, ◌<◌, ◌≤◌, ℕ, [], ◌∷◌, length, map};
 ghost use Rattle.std.specs.List.{AllByRecursion};
 ghost use Rattle.std.specs.List.Sorted.{IsStrictlyIncreasing};
-ghost use Rattle.dutch_order.specs.Transposition.{transpositions, short_beginnings, transposition_plan, numbers_at};
+ghost use Rattle.dutch_order.specs.Transposition.{transpositions, short_beginnings};
+ghost use Rattle.dutch_order.specs.TranspositionSearch.{transposition_plan, numbers_at};
 ghost use Rattle.dutch_order.specs.Steps.{MatchStep};
 
 use crate::rules::Rule;
@@ -76,11 +77,12 @@ pub struct Transpositions<'a, R: Rule> {
 }
 
 impl<'a, R: Rule> Model for Transpositions<'a, R> {
+    ghost use Rattle.dutch_order.specs.declared.search.TheConstants.{LIMIT};
     ghost use Rattle.std.specs.Prelude.{◌≤◌, length, map};
     ghost use Rattle.dutch_order.specs.Steps.{Ahead};
     ghost use Rattle.dutch_order.specs.Trials.{ahead, hits, trials};
     ghost use Rattle.dutch_order.specs.Walks.{Stands};
-    ghost use Rattle.dutch_order.specs.Transposition.{transposition_plan, numbers_at};
+    ghost use Rattle.dutch_order.specs.TranspositionSearch.{transposition_plan, numbers_at};
 
     ghost Value = { Ahead };
 
@@ -91,7 +93,7 @@ impl<'a, R: Rule> Model for Transpositions<'a, R> {
     } };
 
     ghost invariant = { λ t.
-        (length t.opponents.first.now ≤ 256) × (length t.opponents.pool.now ≤ 256)
+        (length t.opponents.first.now ≤ LIMIT) × (length t.opponents.pool.now ≤ LIMIT)
         × Stands (transposition_plan (R.meets t.opponents.rule.now) t.opponents.first.now t.opponents.pool.now) t.walk.path.items };
 }
 

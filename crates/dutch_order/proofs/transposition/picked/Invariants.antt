@@ -1,5 +1,5 @@
 use Rattle.std.proofs.Common.{◌≡◌, take}
-use Rattle.dutch_order.specs.Transposition.{numbers_at}
+use Rattle.dutch_order.specs.TranspositionSearch.{numbers_at}
 use Rattle.dutch_order.proofs.transposition.picked.Given as goal
 
 abbrev pub invariant-loop-place : goal.invariant-loop-place

@@ -1,6 +1,6 @@
 use Rattle.std.proofs.Common.{◌∙◌, ap, map, arith, []}
 use Rattle.dutch_order.specs.Trials.{ahead, hits, trials}
-use Rattle.dutch_order.specs.Limbo.{limbo_plan, second_numbers}
+use Rattle.dutch_order.specs.LimboSearch.{limbo_plan, second_numbers}
 use Rattle.dutch_order.proofs.LimboSets.{limbo-found}
 use Rattle.dutch_order.proofs.Moves.{trials-nothing}
 use Rattle.dutch_order.proofs.limbo.LimboExchanges.new.Goals as goal

@@ -1,6 +1,6 @@
 use Rattle.std.proofs.Common.{◌∙◌, ap, map}
 use Rattle.dutch_order.specs.Trials.{ahead, hits, trials}
-use Rattle.dutch_order.specs.Transposition.{transposition_plan, numbers_at}
+use Rattle.dutch_order.specs.TranspositionSearch.{transposition_plan, numbers_at}
 use Rattle.dutch_order.proofs.TupleSearch.{transpositions-found, transpositions-trials}
 use Rattle.dutch_order.proofs.transposition.Transpositions.new.Goals as goal
 

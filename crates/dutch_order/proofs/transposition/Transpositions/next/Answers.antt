@@ -1,6 +1,6 @@
 use Rattle.std.proofs.Common.{◌<◌, sym, subst, arith, length, []}
 use Rattle.std.specs.List.{AllByRecursion}
-use Rattle.dutch_order.specs.Transposition.{transposition_plan}
+use Rattle.dutch_order.specs.TranspositionSearch.{transposition_plan}
 use Rattle.dutch_order.proofs.Moves.{Walked-below}
 use Rattle.dutch_order.proofs.transposition.Transpositions.next.Goals as goal
 
