@@ -16,3 +16,6 @@ pub mod WrittenPlayers
 pub mod WrittenReport
 pub mod OutputLemmas
 pub mod WritingLemmas
+pub mod RoundLemmas
+pub mod PairedRound
+pub mod BoardLemmas

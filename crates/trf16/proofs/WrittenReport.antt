@@ -1,23 +1,24 @@
--- The canonical text of a report that was read reads back as that report.
+-- The canonical text of a report that was read reads back as that report, also where the points and cells of its players were changed.
 --
 -- The lines that were read have a copy, line by line: a line that is carried is its own copy, and that of a player's line is the
 -- text of the player. `Copies` says what the copy keeps: it reads on to the same report, as the same start ranks stand in front of
 -- each line; the same lines are carried; none is too long; it is UTF-8 where the lines are; and the canonical text falls into it.
+-- The players may be turned into others on the way, by a change that keeps their start ranks, lines and carried columns (`Turns`).
 -- The rules on two players, the sums and the sizes speak of the report alone, so they hold again. They are used once: a points
 -- field that is accepted is below 100 points, and only such a field fits into its four columns (`small_points`).
 -- A new field of a player's line wants: what its reading tells (`was_player`), its columns (`written_player`), and that the
 -- reading finds it there (`IsPlayer`, in both directions).
 use Rattle.std.proofs.Common.{◌≡◌, ℕ, ◌+◌, ◌*◌, ◌<◌, ◌≤◌, Bool, true, false, ◌&&◌, ◌||◌, ◌==◌, nat_lt, cond, List, [], ◌∷◌, ◌++◌, length, take, map, refl, sym, ap, ◌∙◌, append_assoc, arith, subst, inl, inr, Option, Some, None, Result, Ok, Err}
 use Rattle.std.specs.Prelude.{codes, sum_by, is_some}
-use Rattle.std.specs.List.{list_all}
+use Rattle.std.specs.List.{list_all, list_any}
 use Rattle.std.specs.Option.{option_map_or, ok_or}
 use Rattle.std.specs.Str.{is_utf8}
 use Rattle.std.proofs.lemmas.Bool.{and_parts, or_parts, or_cases, eqb-true, ltb-true, le-ltb}
-use Rattle.std.proofs.lemmas.List.{append-nil}
+use Rattle.std.proofs.lemmas.List.{append-nil, map-append, map-id, length-map}
 use Rattle.std.proofs.lemmas.List.Sums.{sum_by-cons, sum_by-take-le}
 use Rattle.trf16.specs.Lines.{columns, lines, without_marks}
 use Rattle.trf16.specs.Extensions.{is_kind, words_of, rounds_in, colour_in, are_start_ranks}
-use Rattle.trf16.specs.Sheet.{Entry, Sheet, with_player, half_points, rounds_played}
+use Rattle.trf16.specs.Sheet.{Entry, Sheet, with_player, known, half_points, rounds_played}
 use Rattle.trf16.specs.Outcomes.{◌>>=◌}
 use Rattle.trf16.specs.Answering.{cells_fit, points_fit, player_fits, players_fit, has_other_points}
 use Rattle.trf16.specs.Verdict.{player_at, is_player, is_too_long, rounds_onto, colour_onto, absence_onto, player_onto, line_onto, lines_onto, carried_line, without_players, has_too_many_rounds, names_too_many_rounds, sized, report_of, verdict}
@@ -32,11 +33,28 @@ use Rattle.trf16.specs.declared.fault.Fault.TheVariants.{BadExtension, Duplicate
 use Rattle.trf16.proofs.WrittenRounds.{then_ok, same_ok}
 use Rattle.trf16.proofs.WrittenText.{is_inside, are_inside, are_utf8, lines-line, lines-inside, utf8_lines, has_mark, no_mark, without_marks-no_mark, line-no_mark}
 use Rattle.trf16.proofs.WrittenFields.{are_small}
-use Rattle.trf16.proofs.WrittenPlayers.{IsPlayer, player_is, was_player, written_player}
+use Rattle.trf16.proofs.WrittenPlayers.{IsPlayer, IsSoundEntry, player_is, was_player, written_player}
 
 -- what a fault would be
 not_ok : {A : Type 0} (fault : Fault) (y : A) → ◌≡◌ {A = Result A Fault} (Err fault) (Ok y) → ⊥
 not_ok fault y e = cc
+
+-- a change of players that leaves their start ranks, lines and carried columns, and whom the reading can find again
+pub record Turns (utf8 : Bool) (turn : Entry → Entry) : Type 0 where
+  pub start : (entry : Entry) → (turn entry).start ≡ entry.start
+  pub line : (entry : Entry) → (turn entry).line ≡ entry.line
+  pub left : (entry : Entry) → (turn entry).left ≡ entry.left
+  pub right : (entry : Entry) → (turn entry).right ≡ entry.right
+  pub sound : (entry : Entry) → IsSoundEntry utf8 entry → IsSoundEntry utf8 (turn entry)
+
+-- a report whose players are changed
+abbrev pub turned : (Entry → Entry) → Sheet → Sheet
+turned turn sheet = record sheet { players = map turn sheet.players }
+
+pub known-turned : (utf8 : Bool) (turn : Entry → Entry) (entries : List Entry) (start : ℕ) → Turns utf8 turn
+    → list_any (λ (entry : Entry). entry.start == start) (map turn entries) ≡ list_any (λ (entry : Entry). entry.start == start) entries
+known-turned utf8 turn [] start t = refl
+known-turned utf8 turn (entry ∷ entries) start t = rw (t.start entry, known-turned utf8 turn entries start t) refl
 
 -- what a line changes where it is no player's
 record Keeps (sheet next : Sheet) : Type 0 where
@@ -82,6 +100,50 @@ line_keeps sheet n line next other e =
     by false false true e = absence_keep sheet n line next e
     by false false false e = keeps_from sheet sheet next e (record { utf8 = refl; carried = refl; players = refl })
 
+-- the same change where the players are others
+rounds_turn : (turn : Entry → Entry) (sheet : Sheet) (n : ℕ) (line : List (List ℕ)) (next : Sheet) → rounds_onto sheet n line ≡ Ok next
+    → rounds_onto (turned turn sheet) n line ≡ Ok (turned turn next)
+unfolding rounds_onto
+rounds_turn turn sheet n line next e =
+    let s = then_ok (ok_or (rounds_in (words_of line)) (BadExtension n)) (λ rounds. cond (is_some sheet.total) (Err (Duplicate n)) (Ok (record sheet { total = Some rounds }))) next e in
+    rw s.1 (by (is_some sheet.total) s.0 s.2)
+  where
+    by : (b : Bool) (rounds : ℕ) → ◌≡◌ {A = Result Sheet Fault} (cond b (Err (Duplicate n)) (Ok (record sheet { total = Some rounds }))) (Ok next)
+        → ◌≡◌ {A = Result Sheet Fault} (cond b (Err (Duplicate n)) (Ok (record (turned turn sheet) { total = Some rounds }))) (Ok (turned turn next))
+    by true rounds e = absurd (not_ok (Duplicate n) next e)
+    by false rounds e = ap (λ (made : Sheet). Ok (turned turn made)) (same_ok (record sheet { total = Some rounds }) next e)
+
+colour_turn : (turn : Entry → Entry) (sheet : Sheet) (n : ℕ) (line : List (List ℕ)) (next : Sheet) → colour_onto sheet n line ≡ Ok next
+    → colour_onto (turned turn sheet) n line ≡ Ok (turned turn next)
+unfolding colour_onto
+colour_turn turn sheet n line next e =
+    let s = then_ok (ok_or (colour_in sheet.initial (words_of line)) (BadExtension n)) (λ initial. Ok (record sheet { initial = initial })) next e in
+    rw s.1 (ap (λ (made : Sheet). Ok (turned turn made)) (same_ok (record sheet { initial = s.0 }) next s.2))
+
+absence_turn : (turn : Entry → Entry) (sheet : Sheet) (n : ℕ) (line : List (List ℕ)) (next : Sheet) → absence_onto sheet n line ≡ Ok next
+    → absence_onto (turned turn sheet) n line ≡ Ok (turned turn next)
+unfolding absence_onto
+absence_turn turn sheet n line next e = by (are_start_ranks (words_of line)) e
+  where
+    by : (b : Bool) → ◌≡◌ {A = Result Sheet Fault} (cond b (Ok sheet) (Err (BadExtension n))) (Ok next)
+        → ◌≡◌ {A = Result Sheet Fault} (cond b (Ok (turned turn sheet)) (Err (BadExtension n))) (Ok (turned turn next))
+    by true e = ap (λ (made : Sheet). Ok (turned turn made)) (same_ok sheet next e)
+    by false e = absurd (not_ok (BadExtension n) next e)
+
+line_turns : (turn : Entry → Entry) (sheet : Sheet) (n : ℕ) (line : List (List ℕ)) (next : Sheet) → is_player line ≡ false → line_onto sheet n line ≡ Ok next
+    → line_onto (turned turn sheet) n line ≡ Ok (turned turn next)
+unfolding line_onto
+line_turns turn sheet n line next other e =
+    rw other (by (is_kind (codes "XXR") line) (is_kind (codes "XXC") line) (is_kind (codes "XXZ") line) (rw other at e))
+  where
+    by : (r c z : Bool) → cond r (rounds_onto sheet n line) (cond c (colour_onto sheet n line) (cond z (absence_onto sheet n line) (Ok sheet))) ≡ Ok next
+        → cond r (rounds_onto (turned turn sheet) n line) (cond c (colour_onto (turned turn sheet) n line) (cond z (absence_onto (turned turn sheet) n line) (Ok (turned turn sheet))))
+        ≡ Ok (turned turn next)
+    by true c z e = rounds_turn turn sheet n line next e
+    by false true z e = colour_turn turn sheet n line next e
+    by false false true e = absence_turn turn sheet n line next e
+    by false false false e = ap (λ (made : Sheet). Ok (turned turn made)) (same_ok sheet next e)
+
 -- what a player's line adds
 record Adds (sheet : Sheet) (n : ℕ) (line : List (List ℕ)) (next : Sheet) : Type 0 where
   entry : Entry
@@ -103,19 +165,23 @@ abbrev are_all_small : List Entry → Type 0
 are_all_small [] = Unit {0}
 are_all_small (entry ∷ entries) = are_small entry.points × are_all_small entries
 
-abbrev are_all_few : List Entry → Type 0
-are_all_few [] = Unit {0}
-are_all_few (entry ∷ entries) = (length entry.cells ≤ 32) × are_all_few entries
+abbrev pub are_all_sound : Bool → List Entry → Type 0
+are_all_sound utf8 [] = Unit {0}
+are_all_sound utf8 (entry ∷ entries) = IsSoundEntry utf8 entry × are_all_sound utf8 entries
 
--- lines that read as others do, and are those of the canonical text
-record Copies (utf8 : Bool) (sheet final : Sheet) (n : ℕ) (all : List (List ℕ)) (entries : List Entry) : Type 0 where
+turned_sound : (utf8 : Bool) (turn : Entry → Entry) (entries : List Entry) → Turns utf8 turn → are_all_sound utf8 entries → are_all_sound utf8 (map turn entries)
+turned_sound utf8 turn [] t sound = tt
+turned_sound utf8 turn (entry ∷ entries) t sound = (t.sound entry sound.0, turned_sound utf8 turn entries t sound.1)
+
+-- lines that read as others do, but for the players, who are changed, and are those of the canonical text
+record Copies (utf8 : Bool) (turn : Entry → Entry) (sheet final : Sheet) (n : ℕ) (all : List (List ℕ)) (entries : List Entry) : Type 0 where
   copy : List (List ℕ)
-  read : lines_onto sheet n copy ≡ Ok final
+  read : lines_onto (turned turn sheet) n copy ≡ Ok (turned turn final)
   carried : map (carried_line utf8) copy ≡ map (carried_line utf8) all
   short : has_too_many_rounds utf8 copy ≡ false
   same : are_utf8 copy ≡ are_utf8 all
-  text : lines (lines_text utf8 (map (carried_line utf8) all) entries) ≡ copy
-  unmarked : (bytes : List ℕ) → lines bytes ≡ all → has_mark bytes ≡ false → has_mark (lines_text utf8 (map (carried_line utf8) all) entries) ≡ false
+  text : lines (lines_text utf8 (map (carried_line utf8) all) (map turn entries)) ≡ copy
+  unmarked : (bytes : List ℕ) → lines bytes ≡ all → has_mark bytes ≡ false → has_mark (lines_text utf8 (map (carried_line utf8) all) (map turn entries)) ≡ false
 
 -- what some lines add, and that they can be copied
 record WereRead (utf8 : Bool) (sheet final : Sheet) (n : ℕ) (all : List (List ℕ)) : Type 0 where
@@ -123,8 +189,8 @@ record WereRead (utf8 : Bool) (sheet final : Sheet) (n : ℕ) (all : List (List 
   utf8_is : final.utf8 ≡ utf8
   carried : final.carried ≡ sheet.carried
   players : final.players ≡ sheet.players ++ entries
-  few : are_all_few entries
-  copied : are_all_small entries → Copies utf8 sheet final n all entries
+  sound : are_all_sound utf8 entries
+  copied : (turn : Entry → Entry) → Turns utf8 turn → are_all_small (map turn entries) → Copies utf8 turn sheet final n all entries
 
 end_read : (utf8 : Bool) (sheet final : Sheet) (n : ℕ) → sheet.utf8 ≡ utf8 → lines_onto sheet n [] ≡ Ok final → WereRead utf8 sheet final n []
 unfolding lines_onto
@@ -135,8 +201,16 @@ end_read utf8 sheet final n u e =
       utf8_is = ap (λ (s : Sheet). s.utf8) (sym same) ∙ u;
       carried = ap (λ (s : Sheet). s.carried) (sym same);
       players = ap (λ (s : Sheet). s.players) (sym same) ∙ sym (append-nil sheet.players);
-      few = tt;
-      copied = λ small. record { copy = []; read = e; carried = refl; short = refl; same = refl; text = refl; unmarked = λ bytes b h. refl };
+      sound = tt;
+      copied = λ turn t small. record {
+        copy = [];
+        read = ap (λ (s : Sheet). Ok (turned turn s)) same;
+        carried = refl;
+        short = refl;
+        same = refl;
+        text = refl;
+        unmarked = λ bytes b h. refl;
+      };
     }
 
 first_onto : (sheet final : Sheet) (n : ℕ) (line : List ℕ) (rest : List (List ℕ)) → lines_onto sheet n (line ∷ rest) ≡ Ok final
@@ -159,17 +233,19 @@ carried_read utf8 sheet next final n line rest u inside other e later =
       utf8_is = later.utf8_is;
       carried = later.carried ∙ keeps.carried;
       players = later.players ∙ ap (λ (ps : List Entry). ps ++ later.entries) keeps.players;
-      few = later.few;
-      copied = λ small.
-          let c = later.copied small in
+      sound = later.sound;
+      copied = λ turn t small.
+          let c = later.copied turn t small in
+          let again : line_onto (turned turn sheet) n (columns sheet.utf8 line) ≡ Ok (turned turn next) =
+          line_turns turn sheet n (columns sheet.utf8 line) next (rw u other) e in
           record {
             copy = line ∷ c.copy;
-            read = onto_from sheet next final n line c.copy e c.read;
+            read = onto_from (turned turn sheet) (turned turn next) (turned turn final) n line c.copy again c.read;
             carried = ap (λ (ls : List (Option (List ℕ))). carried_line utf8 line ∷ ls) c.carried;
             short = rw other c.short;
             same = ap (λ b. is_utf8 line && b) c.same;
-            text = rw other (lines-line line (lines_text utf8 (map (carried_line utf8) rest) later.entries) inside ∙ ap (λ (ls : List (List ℕ)). line ∷ ls) c.text);
-            unmarked = λ bytes b h. rw other (line-no_mark bytes line rest (lines_text utf8 (map (carried_line utf8) rest) later.entries) b h);
+            text = rw other (lines-line line (lines_text utf8 (map (carried_line utf8) rest) (map turn later.entries)) inside ∙ ap (λ (ls : List (List ℕ)). line ∷ ls) c.text);
+            unmarked = λ bytes b h. rw other (line-no_mark bytes line rest (lines_text utf8 (map (carried_line utf8) rest) (map turn later.entries)) b h);
           };
     }
 
@@ -186,22 +262,26 @@ player_read utf8 sheet next final n line rest u inside named short e later =
       utf8_is = later.utf8_is;
       carried = later.carried ∙ ap (λ (s : Sheet). s.carried) (sym adds.next_is);
       players = later.players ∙ ap (λ (s : Sheet). s.players ++ later.entries) (sym adds.next_is) ∙ append_assoc sheet.players (entry ∷ []) later.entries;
-      few = (was.sound.few, later.few);
-      copied = λ small.
-          let c = later.copied small.1 in
-          let w = written_player sheet utf8 entry was.sound small.0 player.fresh in
-          let text = player_text utf8 entry in
-          let again : line_onto sheet n (columns sheet.utf8 text) ≡ Ok next =
-          ap (λ b. line_onto sheet n (columns b text)) u
-          ∙ line_from sheet n (columns utf8 text) entry w.named (ap (λ k. player_at sheet k (columns utf8 text)) player.numbered ∙ w.read)
-          ∙ ap (λ (s : Sheet). Ok s) adds.next_is in
+      sound = (was.sound, later.sound);
+      copied = λ turn t small.
+          let c = later.copied turn t small.1 in
+          let fresh : known (turned turn sheet) (turn entry).start ≡ false =
+          known-turned utf8 turn sheet.players (turn entry).start t ∙ ap (known sheet) (t.start entry) ∙ player.fresh in
+          let w = written_player (turned turn sheet) utf8 (turn entry) (t.sound entry was.sound) small.0 fresh in
+          let text = player_text utf8 (turn entry) in
+          let again : line_onto (turned turn sheet) n (columns sheet.utf8 text) ≡ Ok (turned turn next) =
+          ap (λ b. line_onto (turned turn sheet) n (columns b text)) u
+          ∙ line_from (turned turn sheet) n (columns utf8 text) (turn entry) w.named
+          (ap (λ k. player_at (turned turn sheet) k (columns utf8 text)) (player.numbered ∙ sym (t.line entry)) ∙ w.read)
+          ∙ ap (λ (ps : List Entry). Ok (record sheet { players = ps })) (sym (map-append turn sheet.players (entry ∷ [])))
+          ∙ ap (λ (s : Sheet). Ok (turned turn s)) adds.next_is in
           record {
             copy = text ∷ c.copy;
-            read = onto_from sheet next final n text c.copy again c.read;
+            read = onto_from (turned turn sheet) (turned turn next) (turned turn final) n text c.copy again c.read;
             carried = rw (named, w.named, c.carried) refl;
             short = rw (w.named, w.short) c.short;
-            same = rw (w.same, was.same, c.same) refl;
-            text = rw named (lines-line text (lines_text utf8 (map (carried_line utf8) rest) later.entries) w.inside ∙ ap (λ (ls : List (List ℕ)). text ∷ ls) c.text);
+            same = rw (w.same, was.same, c.same, t.left entry, t.right entry) refl;
+            text = rw named (lines-line text (lines_text utf8 (map (carried_line utf8) rest) (map turn later.entries)) w.inside ∙ ap (λ (ls : List (List ℕ)). text ∷ ls) c.text);
             unmarked = λ bytes b h. rw named refl;
           };
     }
@@ -288,13 +368,13 @@ small_points sheet entry y few e = by entry.points e
         decide points ((points == sum_by half_points (take (rounds_played sheet) entry.cells)) || (points == sum_by half_points entry.cells) || (has_other_points sheet && nat_lt points 200))
         (tests points) e
 
-all_small : (sheet : Sheet) (entries : List Entry) (y : Unit {0}) → are_all_few entries → players_fit sheet entries ≡ Ok y → are_all_small entries
+all_small : (utf8 : Bool) (sheet : Sheet) (entries : List Entry) (y : Unit {0}) → are_all_sound utf8 entries → players_fit sheet entries ≡ Ok y → are_all_small entries
 unfolding players_fit player_fits
-all_small sheet [] y few e = tt
-all_small sheet (entry ∷ entries) y few e =
+all_small utf8 sheet [] y sound e = tt
+all_small utf8 sheet (entry ∷ entries) y sound e =
     let outer = then_ok (player_fits sheet entry) (λ _. players_fit sheet entries) y e in
     let inner = then_ok (cells_fit sheet entry.start 1 entry.cells) (λ _. points_fit sheet entry) outer.0 outer.1 in
-    (small_points sheet entry outer.0 few.0 inner.2, all_small sheet entries y few.1 outer.2)
+    (small_points sheet entry outer.0 sound.0.few inner.2, all_small utf8 sheet entries y sound.1 outer.2)
 
 -- the whole
 
@@ -313,6 +393,19 @@ sized_is sheet next long e = by (nat_lt 256 (length sheet.players)) (length shee
     by false none false true e = absurd (not_ok (TooMany Rounds) next e)
     by false true false false e = absurd (not_ok NoPlayers next e)
     by false false false false e = record { same = same_ok sheet next e; short = refl }
+
+sized_turn : (turn : Entry → Entry) (sheet : Sheet) (long : Bool) → sized sheet long ≡ Ok sheet → sized (turned turn sheet) long ≡ Ok (turned turn sheet)
+unfolding sized
+sized_turn turn sheet long e = rw (length-map sheet.players turn) (by (nat_lt 256 (length sheet.players)) (length sheet.players == 0) long (names_too_many_rounds sheet) e)
+  where
+    by : (many none long named : Bool)
+        → ◌≡◌ {A = Result Sheet Fault} (cond many (Err (TooMany Players)) (cond (long || named) (Err (TooMany Rounds)) (cond none (Err NoPlayers) (Ok sheet)))) (Ok sheet)
+        → ◌≡◌ {A = Result Sheet Fault} (cond many (Err (TooMany Players)) (cond (long || named) (Err (TooMany Rounds)) (cond none (Err NoPlayers) (Ok (turned turn sheet))))) (Ok (turned turn sheet))
+    by true none long named e = absurd (not_ok (TooMany Players) sheet e)
+    by false none true named e = absurd (not_ok (TooMany Rounds) sheet e)
+    by false none false true e = absurd (not_ok (TooMany Rounds) sheet e)
+    by false true false false e = absurd (not_ok NoPlayers sheet e)
+    by false false false false e = refl
 
 -- what a report that was read is
 record IsReport (utf8 : Bool) (all : List (List ℕ)) (report : Sheet) : Type 0 where
@@ -352,26 +445,30 @@ text_by : (b utf8 : Bool) (ls carried : List (Option (List ℕ))) (ps players : 
     → lines_text b ls ps ≡ lines_text utf8 carried players
 text_by b utf8 ls carried ps players e e' e2 = rw (e, e', e2) refl
 
-text_is : (utf8 : Bool) (bytes : List ℕ) (report : Sheet) → has_mark bytes ≡ false → IsReport utf8 (lines bytes) report → IsText utf8 (lines bytes) bytes report
-text_is utf8 bytes report unmarked r =
+text_is : (utf8 : Bool) (bytes : List ℕ) (report : Sheet) (turn : Entry → Entry) → has_mark bytes ≡ false → IsReport utf8 (lines bytes) report → Turns report.utf8 turn
+    → players_fit (turned turn report) (map turn report.players) ≡ Ok tt → IsText utf8 (lines bytes) bytes (turned turn report)
+text_is utf8 bytes report turn unmarked r turns fit =
     let all = lines bytes in
     let w = were_read utf8 (without_players utf8 all) report 1 all refl (lines-inside bytes) r.short r.read in
-    let small : are_all_small w.entries = all_small report w.entries tt w.few (subst (λ (ps : List Entry). players_fit report ps ≡ Ok tt) w.players r.fit) in
-    let c = w.copied small in
-    let text : written report ≡ lines_text utf8 (map (carried_line utf8) all) w.entries =
-    text_by report.utf8 utf8 report.carried (map (carried_line utf8) all) report.players w.entries w.utf8_is w.carried w.players in
-    let copy : lines (written report) ≡ c.copy = ap lines text ∙ c.text in
+    let t : Turns utf8 turn = subst (λ b. Turns b turn) w.utf8_is turns in
+    let small : are_all_small (map turn w.entries) =
+    all_small utf8 (turned turn report) (map turn w.entries) tt (turned_sound utf8 turn w.entries t w.sound)
+    (subst (λ (ps : List Entry). players_fit (turned turn report) (map turn ps) ≡ Ok tt) w.players fit) in
+    let c = w.copied turn t small in
+    let text : written (turned turn report) ≡ lines_text utf8 (map (carried_line utf8) all) (map turn w.entries) =
+    text_by report.utf8 utf8 report.carried (map (carried_line utf8) all) (map turn report.players) (map turn w.entries) w.utf8_is w.carried (ap (map turn) w.players) in
+    let copy : lines (written (turned turn report)) ≡ c.copy = ap lines text ∙ c.text in
     let empty : without_players utf8 c.copy ≡ without_players utf8 all = rw c.carried refl in
-    let again : IsReport utf8 c.copy report = record {
+    let again : IsReport utf8 c.copy (turned turn report) = record {
       read = ap (λ (s : Sheet). lines_onto s 1 c.copy) empty ∙ c.read;
-      size = ap (sized report) (c.short ∙ sym r.short) ∙ r.size;
+      size = ap (sized (turned turn report)) (c.short ∙ sym r.short) ∙ sized_turn turn report (has_too_many_rounds utf8 all) r.size;
       short = c.short;
-      fit = r.fit;
+      fit = fit;
     } in
     record {
       unmarked = ap has_mark text ∙ c.unmarked bytes refl unmarked;
-      same = utf8_lines (written report) ∙ ap are_utf8 copy ∙ c.same;
-      read = ap (report_of utf8) copy ∙ report_from utf8 c.copy report again;
+      same = utf8_lines (written (turned turn report)) ∙ ap are_utf8 copy ∙ c.same;
+      read = ap (report_of utf8) copy ∙ report_from utf8 c.copy (turned turn report) again;
     }
 
 verdict_is : (bytes : List ℕ) (report : Sheet) → verdict bytes ≡ Ok report → report_of (is_utf8 (without_marks bytes)) (lines (without_marks bytes)) ≡ Ok report
@@ -387,10 +484,39 @@ verdict_from : (bytes : List ℕ) (report : Sheet) → length bytes ≤ 1048576 
 unfolding verdict
 verdict_from bytes report few same e = rw (le-ltb 1048576 (length bytes) few, same) e
 
-pub round_trip : (bytes : List ℕ) (report : Sheet) → verdict bytes ≡ Ok report → length (written report) ≤ 1048576 → verdict (written report) ≡ Ok report
-round_trip bytes report e few =
+-- what the players of a report that was read are
+pub were_sound : (bytes : List ℕ) (report : Sheet) → verdict bytes ≡ Ok report → are_all_sound report.utf8 report.players
+were_sound bytes report e =
+    let body = without_marks bytes in
+    let utf8 = is_utf8 body in
+    let r = report_is utf8 (lines body) report (verdict_is bytes report e) in
+    let w = were_read utf8 (without_players utf8 (lines body)) report 1 (lines body) refl (lines-inside body) r.short r.read in
+    subst (λ b. are_all_sound b report.players) (sym w.utf8_is) (subst (are_all_sound utf8) (sym w.players) w.sound)
+
+pub were_fit : (bytes : List ℕ) (report : Sheet) → verdict bytes ≡ Ok report → players_fit report report.players ≡ Ok tt
+were_fit bytes report e =
+    let body = without_marks bytes in
+    (report_is (is_utf8 body) (lines body) report (verdict_is bytes report e)).fit
+
+-- the text of a report that was read and whose players were changed
+pub written_again : (bytes : List ℕ) (report : Sheet) (turn : Entry → Entry) → verdict bytes ≡ Ok report → Turns report.utf8 turn
+    → players_fit (turned turn report) (map turn report.players) ≡ Ok tt → length (written (turned turn report)) ≤ 1048576
+    → verdict (written (turned turn report)) ≡ Ok (turned turn report)
+written_again bytes report turn e turns fit few =
     let body = without_marks bytes in
     let r = report_is (is_utf8 body) (lines body) report (verdict_is bytes report e) in
-    let t = text_is (is_utf8 body) body report (without_marks-no_mark bytes) r in
-    let same : is_utf8 (written report) ≡ is_utf8 body = t.same ∙ sym (utf8_lines body) in
-    verdict_from (written report) report few (no_mark (written report) t.unmarked) (ap (λ b. report_of b (lines (written report))) same ∙ t.read)
+    let t = text_is (is_utf8 body) body report turn (without_marks-no_mark bytes) r turns fit in
+    let same : is_utf8 (written (turned turn report)) ≡ is_utf8 body = t.same ∙ sym (utf8_lines body) in
+    verdict_from (written (turned turn report)) (turned turn report) few (no_mark (written (turned turn report)) t.unmarked)
+    (ap (λ b. report_of b (lines (written (turned turn report)))) same ∙ t.read)
+
+unchanged : (utf8 : Bool) → Turns utf8 (λ entry. entry)
+unchanged utf8 = record { start = λ entry. refl; line = λ entry. refl; left = λ entry. refl; right = λ entry. refl; sound = λ entry sound. sound }
+
+pub round_trip : (bytes : List ℕ) (report : Sheet) → verdict bytes ≡ Ok report → length (written report) ≤ 1048576 → verdict (written report) ≡ Ok report
+round_trip bytes report e few =
+    let same : turned (λ entry. entry) report ≡ report = ap (λ (ps : List Entry). record report { players = ps }) (map-id report.players) in
+    let fit : players_fit (turned (λ entry. entry) report) (map (λ entry. entry) report.players) ≡ Ok tt =
+    subst (λ (s : Sheet). players_fit s s.players ≡ Ok tt) (sym same) (were_fit bytes report e) in
+    subst (λ (s : Sheet). verdict (written s) ≡ Ok s) same
+    (written_again bytes report (λ entry. entry) e (unchanged report.utf8) fit (subst (λ (s : Sheet). length (written s) ≤ 1048576) (sym same) few))

@@ -11,4 +11,5 @@ pub mod Verdict
 pub mod Meetings
 pub mod Absence
 pub mod Written
+pub mod Round
 pub mod Steps

@@ -1,7 +1,9 @@
 -- What the inner functions cut off a text, or put of it, one step at a time.
-use Rattle.std.specs.Prelude.{◌≡◌, ℕ, ◌<◌, ◌≤◌, Bool, ◌&&◌, ◌==◌, if◌then◌else◌, List, [], ◌∷◌, ◌++◌, length, take, drop, slice_index, Option, Some, None}
+use Rattle.std.specs.Prelude.{◌≡◌, ℕ, ◌<◌, ◌≤◌, Bool, true, not, ◌&&◌, ◌==◌, nat_eq, if◌then◌else◌, List, [], ◌∷◌, ◌++◌, length, take, drop, slice_index, Option, Some, None}
 use Rattle.trf16.specs.Lines.{columns, joined}
-use Rattle.trf16.specs.Sheet.{Entry}
+use Rattle.std.specs.List.{list_any}
+use Rattle.trf16.specs.Sheet.{Entry, Sheet, known}
+use Rattle.trf16.specs.Absence.{absent}
 use Rattle.trf16.specs.Written.{player_text}
 
 -- what stands behind the end of a line that ends in front
@@ -31,3 +33,12 @@ abbrev pub players_behind : Option (List ℕ) → List Entry → List Entry
 players_behind (Some line) players = players
 players_behind None [] = []
 players_behind None (entry ∷ players) = players
+
+-- a start rank is that of a player who is present, and none of some others
+abbrev pub is_free : Sheet → List ℕ → ℕ → Bool
+is_free sheet others start = known sheet start && (not (absent sheet start) && not (list_any (nat_eq start) others))
+
+-- each of some start ranks is that of a player who is present, and none of those behind it
+abbrev pub are_free : Sheet → List ℕ → Bool
+are_free sheet [] = true
+are_free sheet (start ∷ rest) = is_free sheet rest start && are_free sheet rest

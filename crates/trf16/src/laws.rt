@@ -10,6 +10,7 @@ ghost use Rattle.trf16.specs.Fields.{words, number_in, points_in};
 ghost use Rattle.trf16.specs.Sheet.{Sheet};
 ghost use Rattle.trf16.specs.Verdict.{verdict};
 ghost use Rattle.trf16.specs.Written.{right_in_four, points_text, cell_text, written};
+ghost use Rattle.trf16.specs.Round.{CanBePaired, with_round};
 ghost use Rattle.trf16.specs.declared.cell.Cell.{Cell};
 
 /// A number of one to four digits that is written at the right of four columns reads back as itself.
@@ -44,4 +45,11 @@ pub fn law_lines()
 /// The canonical text of a report that was read reads back as that report, unless it is too long.
 pub fn law_round_trip()
     ensures { (bytes : List ℕ) → (report : Sheet) → verdict bytes ≡ Ok report → length (written report) ≤ 1048576 → verdict (written report) ≡ Ok report }
+{}
+
+/// The canonical text of a report that was read, and whose next round some boards then are, reads back as that report, unless it is
+/// too long.
+pub fn law_round_trip_with_round()
+    ensures { (bytes : List ℕ) → (report : Sheet) → (boards : List (ℕ × ℕ)) → verdict bytes ≡ Ok report → CanBePaired boards report → 0 < length boards
+        → length (written (with_round boards report)) ≤ 1048576 → verdict (written (with_round boards report)) ≡ Ok (with_round boards report) }
 {}

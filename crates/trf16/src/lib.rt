@@ -19,6 +19,7 @@ pub mod player;
 mod queries;
 mod reading;
 pub mod report;
+mod round;
 mod writing;
 
 pub use reading::read;

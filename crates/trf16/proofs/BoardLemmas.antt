@@ -1,0 +1,106 @@
+-- Whom the boards of a round name, as loops look at them, and that nobody is named twice.
+use Rattle.std.proofs.Common.{◌≡◌, ℕ, zero, suc, ◌+◌, ◌<◌, ◌≤◌, Bool, true, false, not, ◌&&◌, ◌||◌, nat_eq, List, [], ◌∷◌, length, get_or, drop, refl, sym, ap, ◌∙◌, arith, subst}
+use Rattle.std.specs.Prelude.{All}
+use Rattle.std.specs.List.{IsDistinct, AllByRecursion, list_any}
+use Rattle.std.proofs.lemmas.Bool.{and_parts, eqb-true, true≢false}
+use Rattle.std.proofs.lemmas.Bool.Decides.{nat_tests}
+use Rattle.std.proofs.lemmas.List.{drop_more, drop_all}
+use Rattle.std.proofs.lemmas.Map.Keys.{IsDistinct-head, IsDistinct-tail, IsDistinct-cons}
+use Rattle.trf16.specs.Sheet.{Sheet, known, rounds_played}
+use Rattle.trf16.specs.Absence.{absent}
+use Rattle.trf16.specs.Steps.{is_free, are_free}
+use Rattle.trf16.specs.Round.{CanBePaired, named_by}
+
+pub eq-self : (n : ℕ) → nat_eq n n ≡ true
+eq-self n = grind (arith, nat_tests)
+
+pub eq-sym : (a b : ℕ) → nat_eq a b ≡ nat_eq b a
+eq-sym a b = grind (arith, nat_tests)
+
+pub all_from : (P : ℕ → Type 0) (xs : List ℕ) → All P xs → AllByRecursion P xs
+all_from P [] all = tt
+all_from P (x ∷ xs) all = (all 0 x (omega arith), all_from P xs (λ k d lt. all (suc k) d (omega arith)))
+
+pub all_to : (P : ℕ → Type 0) (xs : List ℕ) → AllByRecursion P xs → All P xs
+all_to P [] all k d lt = absurd (omega arith)
+all_to P (x ∷ xs) all zero d lt = all.0
+all_to P (x ∷ xs) all (suc k) d lt = all_to P xs all.1 k d (omega arith)
+
+pub all_in : (P : ℕ → Type 0) (xs : List ℕ) (n : ℕ) → AllByRecursion P xs → list_any (nat_eq n) xs ≡ true → P n
+all_in P [] n all is = absurd (true≢false (sym is))
+all_in P (x ∷ xs) n all is = by (nat_eq n x) refl is (all_in P xs n all.1)
+  where
+    by : (here : Bool) → nat_eq n x ≡ here → (here || list_any (nat_eq n) xs) ≡ true → (list_any (nat_eq n) xs ≡ true → P n) → P n
+    by true e is later = subst P (sym (eqb-true n x e)) all.0
+    by false e is later = later is
+
+none_of : (n : ℕ) (xs : List ℕ) → list_any (nat_eq n) xs ≡ false → AllByRecursion (λ x. nat_eq n x ≡ false) xs
+none_of n [] none = tt
+none_of n (x ∷ xs) none = by (nat_eq n x) refl none (none_of n xs)
+  where
+    by : (here : Bool) → nat_eq n x ≡ here → (here || list_any (nat_eq n) xs) ≡ false → (list_any (nat_eq n) xs ≡ false → AllByRecursion (λ x. nat_eq n x ≡ false) xs)
+        → AllByRecursion (λ x. nat_eq n x ≡ false) (x ∷ xs)
+    by true e none later = absurd (true≢false none)
+    by false e none later = (e, later none)
+
+none_from_all : (n : ℕ) (xs : List ℕ) → AllByRecursion (λ x. nat_eq n x ≡ false) xs → list_any (nat_eq n) xs ≡ false
+none_from_all n [] all = refl
+none_from_all n (x ∷ xs) all = rw all.0 (none_from_all n xs all.1)
+
+-- who is free
+
+record AreFree (sheet : Sheet) (starts : List ℕ) : Type 0 where
+  players : AllByRecursion (λ start. known sheet start ≡ true) starts
+  present : AllByRecursion (λ start. absent sheet start ≡ false) starts
+  once : IsDistinct nat_eq starts
+
+not_false : (b : Bool) → not b ≡ true → b ≡ false
+not_false true e = absurd (true≢false (sym e))
+not_false false e = refl
+
+are : (sheet : Sheet) (starts : List ℕ) → are_free sheet starts ≡ true → AreFree sheet starts
+unfolding IsDistinct
+are sheet [] free = record { players = tt; present = tt; once = tt }
+are sheet (start ∷ rest) free =
+    let both = and_parts (is_free sheet rest start) (are_free sheet rest) free in
+    let mine = and_parts (known sheet start) (not (absent sheet start) && not (list_any (nat_eq start) rest)) both.0 in
+    let here = and_parts (not (absent sheet start)) (not (list_any (nat_eq start) rest)) mine.1 in
+    let others = are sheet rest both.1 in
+    record {
+      players = (mine.0, others.players);
+      present = (not_false (absent sheet start) here.0, others.present);
+      once = IsDistinct-cons nat_eq start rest (none_of start rest (not_false (list_any (nat_eq start) rest) here.1)) others.once;
+    }
+
+free : (sheet : Sheet) (starts : List ℕ) → AllByRecursion (λ start. known sheet start ≡ true) starts → AllByRecursion (λ start. absent sheet start ≡ false) starts
+    → IsDistinct nat_eq starts → are_free sheet starts ≡ true
+free sheet [] players present once = refl
+free sheet (start ∷ rest) players present once =
+    let alone = none_from_all start rest (IsDistinct-head nat_eq start rest once) in
+    rw (players.0, present.0, alone) (free sheet rest players.1 present.1 (IsDistinct-tail nat_eq start rest once))
+
+pub paired_from : (boards : List (ℕ × ℕ)) (sheet : Sheet) → rounds_played sheet < 32 → are_free sheet (named_by boards) ≡ true → CanBePaired boards sheet
+paired_from boards sheet within all =
+    let a = are sheet (named_by boards) all in
+    record {
+      players = all_to (λ start. known sheet start ≡ true) (named_by boards) a.players;
+      present = all_to (λ start. absent sheet start ≡ false) (named_by boards) a.present;
+      once = a.once;
+      within = within;
+    }
+
+pub paired_free : (boards : List (ℕ × ℕ)) (sheet : Sheet) → CanBePaired boards sheet → are_free sheet (named_by boards) ≡ true
+paired_free boards sheet can =
+    free sheet (named_by boards) (all_from (λ start. known sheet start ≡ true) (named_by boards) can.players)
+    (all_from (λ start. absent sheet start ≡ false) (named_by boards) can.present) can.once
+
+pub not_free : (boards : List (ℕ × ℕ)) (sheet : Sheet) (i : ℕ) (d : ℕ × ℕ) (later : List (ℕ × ℕ)) (mine : Bool) → i < length boards → later ≡ drop (i + 1) boards
+    → are_free sheet (named_by (drop i boards)) ≡ are_free sheet (named_by boards)
+    → (mine && are_free sheet (named_by later)) ≡ are_free sheet (named_by (get_or boards i d ∷ later)) → mine ≡ false → CanBePaired boards sheet → false ≡ true
+not_free boards sheet i d later mine lt rest all here is can =
+    let same : drop i boards ≡ get_or boards i d ∷ later = drop_more boards i d lt ∙ ap (λ (bs : List (ℕ × ℕ)). get_or boards i d ∷ bs) (sym rest) in
+    sym (ap (λ b. b && are_free sheet (named_by later)) is) ∙ here ∙ ap (λ (bs : List (ℕ × ℕ)). are_free sheet (named_by bs)) (sym same) ∙ all ∙ paired_free boards sheet can
+
+pub free_end : (boards : List (ℕ × ℕ)) (sheet : Sheet) (i : ℕ) → length boards ≤ i → are_free sheet (named_by (drop i boards)) ≡ are_free sheet (named_by boards)
+    → are_free sheet (named_by boards) ≡ true
+free_end boards sheet i le all = sym all ∙ ap (λ (bs : List (ℕ × ℕ)). are_free sheet (named_by bs)) (drop_all i boards le)

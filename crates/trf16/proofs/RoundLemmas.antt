@@ -1,0 +1,112 @@
+-- The boards and the cells of the next round, as loops look at them.
+use Rattle.std.proofs.Common.{◌≡◌, ℕ, zero, suc, ◌+◌, ◌<◌, ◌≤◌, false, nat_eq, List, [], ◌∷◌, ◌++◌, length, set, drop, get_or, map, Some, None, refl, sym, ap, ◌∙◌, subst, append_assoc, arith}
+use Rattle.std.specs.List.{IsDistinct, AllByRecursion, list_any}
+use Rattle.std.specs.Map.{keys_of, lookup}
+use Rattle.std.specs.Option.{option_map_or}
+use Rattle.std.proofs.lemmas.Bool.Decides.{nat_tests}
+use Rattle.std.proofs.lemmas.List.{drop_more, drop_all, append-nil, map-append, length-map}
+use Rattle.std.proofs.lemmas.Map.Keys.{IsDistinct-head, IsDistinct-tail}
+use Rattle.std.proofs.lemmas.Map.Made.{is_some-lookup}
+use Rattle.indexmap.specs.IndexMap.{IndexMap, insert_entry}
+use Rattle.indexmap.proofs.CallerLemmas.{insert_entry-new}
+use Rattle.trf16.specs.Sheet.{Entry, entry_of}
+use Rattle.trf16.specs.Round.{cell_on, cell_by, with_cell, entry_with}
+use Rattle.trf16.specs.declared.player.Player.{Player}
+use Rattle.trf16.specs.declared.cell.Cell.{Cell}
+use Rattle.trf16.specs.declared.cell.Cell.TheVariants.{Blank}
+use Rattle.trf16.proofs.ReportLemmas.{none_from, keyed-push}
+
+pub cell_by-more : (boards : List (ℕ × ℕ)) (start i : ℕ) (d : ℕ × ℕ) → i < length boards
+    → cell_by (drop i boards) start ≡ option_map_or (λ cell. Some cell) (cell_on (get_or boards i d) start) (cell_by (drop (i + 1) boards) start)
+cell_by-more boards start i d lt = rw (drop_more boards i d lt) refl
+
+pub cell_by-end : (boards : List (ℕ × ℕ)) (start i : ℕ) → length boards ≤ i → cell_by (drop i boards) start ≡ None
+cell_by-end boards start i le = rw (drop_all i boards le) refl
+
+-- a blank cell behind the last makes no difference
+pub with_cell-blank : (before : ℕ) (cell : Cell) (cells : List Cell) → length cells ≤ before → with_cell before cell (cells ++ Blank ∷ []) ≡ with_cell before cell cells
+with_cell-blank zero cell [] le = refl
+with_cell-blank zero cell (first ∷ rest) le = absurd (omega arith)
+with_cell-blank (suc before) cell [] le = refl
+with_cell-blank (suc before) cell (first ∷ rest) le = ap (λ (cs : List Cell). first ∷ cs) (with_cell-blank before cell rest (omega arith))
+
+-- a cell that is there already is replaced
+pub with_cell-set : (before : ℕ) (cell : Cell) (cells : List Cell) → before < length cells → with_cell before cell cells ≡ set cells before cell
+with_cell-set before cell [] lt = absurd (omega arith)
+with_cell-set zero cell (first ∷ rest) lt = refl
+with_cell-set (suc before) cell (first ∷ rest) lt = ap (λ (cs : List Cell). first ∷ cs) (with_cell-set before cell rest (omega arith))
+
+-- the players so far, each with his cell of the next round; with the rest they are all players
+pub record ArePaired (boards : List (ℕ × ℕ)) (before : ℕ) (done : List (ℕ × Player)) (rest all : List Entry) : Type 0 where
+  pub keyed : keys_of done ≡ map (λ e. e.1.start) done
+  pub whole : map (λ e. entry_of e.1) done ++ map (entry_with boards before) rest ≡ map (entry_with boards before) all
+
+abbrev starts_of : List Entry → List ℕ
+starts_of entries = map (λ (e : Entry). e.start) entries
+
+pub starts-entries : (es : List (ℕ × Player)) → map (λ e. e.1.start) es ≡ starts_of (map (λ e. entry_of e.1) es)
+starts-entries [] = refl
+starts-entries (e ∷ es) = ap (λ (starts : List ℕ). e.1.start ∷ starts) (starts-entries es)
+
+starts-with : (boards : List (ℕ × ℕ)) (before : ℕ) (entries : List Entry) → starts_of (map (entry_with boards before) entries) ≡ starts_of entries
+starts-with boards before [] = refl
+starts-with boards before (entry ∷ entries) = ap (λ (starts : List ℕ). entry.start ∷ starts) (starts-with boards before entries)
+
+all_at : (P : ℕ → Type 0) (ks : List ℕ) (k : ℕ) (rest : List ℕ) → AllByRecursion P (ks ++ k ∷ rest) → P k
+all_at P [] k rest all = all.0
+all_at P (x ∷ ks) k rest all = all_at P ks k rest all.1
+
+eq-sym : (a b : ℕ) → nat_eq a b ≡ nat_eq b a
+eq-sym a b = grind (arith, nat_tests)
+
+-- a number behind distinct ones is none of them
+fresh : (ks : List ℕ) (k : ℕ) (rest : List ℕ) → IsDistinct nat_eq (ks ++ k ∷ rest) → list_any (nat_eq k) ks ≡ false
+fresh [] k rest distinct = refl
+fresh (x ∷ ks) k rest distinct =
+    let apart : nat_eq x k ≡ false = all_at (λ y. nat_eq x y ≡ false) ks k rest (IsDistinct-head nat_eq x (ks ++ k ∷ rest) distinct) in
+    rw (eq-sym k x, apart) (fresh ks k rest (IsDistinct-tail nat_eq x (ks ++ k ∷ rest) distinct))
+
+pub paired-absent : (boards : List (ℕ × ℕ)) (before : ℕ) (done : List (ℕ × Player)) (entry : Entry) (rest all : List Entry)
+    → ArePaired boards before done (entry ∷ rest) all → IsDistinct nat_eq (starts_of all) → lookup (nat_eq entry.start) done ≡ None
+paired-absent boards before done entry rest all paired distinct =
+    let entries = map (λ (e : ℕ × Player). entry_of e.1) done in
+    let whole : starts_of entries ++ entry.start ∷ starts_of (map (entry_with boards before) rest) ≡ starts_of all =
+    sym (map-append (λ (e : Entry). e.start) entries (map (entry_with boards before) (entry ∷ rest))) ∙ ap starts_of paired.whole ∙ starts-with boards before all in
+    let none : list_any (nat_eq entry.start) (starts_of entries) ≡ false =
+    fresh (starts_of entries) entry.start (starts_of (map (entry_with boards before) rest)) (subst (IsDistinct nat_eq) (sym whole) distinct) in
+    none_from (lookup (nat_eq entry.start) done)
+    (is_some-lookup (nat_eq entry.start) done ∙ ap (list_any (nat_eq entry.start)) (paired.keyed ∙ starts-entries done) ∙ none)
+
+pub paired-more : (boards : List (ℕ × ℕ)) (before : ℕ) (done : List (ℕ × Player)) (entry : Entry) (rest all : List Entry) (player : Player)
+    → entry_of player ≡ entry_with boards before entry → ArePaired boards before done (entry ∷ rest) all
+    → ArePaired boards before (done ++ (entry.start, player) ∷ []) rest all
+paired-more boards before done entry rest all player same paired =
+    let start : player.start ≡ entry.start = ap (λ (e : Entry). e.start) same in
+    let entries = map (λ (e : ℕ × Player). entry_of e.1) done in
+    let others = map (entry_with boards before) rest in
+    record {
+      keyed = subst (λ s. keys_of (done ++ (s, player) ∷ []) ≡ map (λ e. e.1.start) (done ++ (s, player) ∷ [])) start (keyed-push done player paired.keyed);
+      whole = ap (λ (es : List Entry). es ++ others) (map-append (λ (e : ℕ × Player). entry_of e.1) done ((entry.start, player) ∷ []))
+          ∙ append_assoc entries (entry_of player ∷ []) others ∙ ap (λ (e : Entry). entries ++ e ∷ others) same ∙ paired.whole;
+    }
+
+-- one more player, as the loop inserts him
+pub paired-insert : {S : Type 0} (boards : List (ℕ × ℕ)) (before : ℕ) (done : IndexMap ℕ Player S) (entry : Entry) (coming rest all : List Entry) (player : Player) (new : List (ℕ × Player))
+    → coming ≡ entry ∷ rest → ArePaired boards before done.entries coming all → entry_of player ≡ entry_with boards before entry
+    → new ≡ insert_entry nat_eq done.entries entry.start player → IsDistinct nat_eq (starts_of all) → ArePaired boards before new rest all
+paired-insert boards before done entry coming rest all player new steps paired same inserted distinct =
+    let here : ArePaired boards before done.entries (entry ∷ rest) all = subst (λ (es : List Entry). ArePaired boards before done.entries es all) steps paired in
+    subst (λ (es : List (ℕ × Player)). ArePaired boards before es rest all)
+    (sym (inserted ∙ insert_entry-new nat_eq done entry.start player (paired-absent boards before done.entries entry rest all here distinct)))
+    (paired-more boards before done.entries entry rest all player same here)
+
+pub paired-end : (boards : List (ℕ × ℕ)) (before : ℕ) (done : List (ℕ × Player)) (rest all : List Entry) → rest ≡ [] → ArePaired boards before done rest all
+    → map (λ e. entry_of e.1) done ≡ map (entry_with boards before) all
+paired-end boards before done rest all nothing paired =
+    let entries = map (λ (e : ℕ × Player). entry_of e.1) done in
+    sym (append-nil entries) ∙ ap (λ (es : List Entry). entries ++ map (entry_with boards before) es) (sym nothing) ∙ paired.whole
+
+pub paired-length : (boards : List (ℕ × ℕ)) (before : ℕ) (done : List (ℕ × Player)) (all : List Entry)
+    → map (λ e. entry_of e.1) done ≡ map (entry_with boards before) all → length done ≡ length all
+paired-length boards before done all same =
+    sym (length-map done (λ (e : ℕ × Player). entry_of e.1)) ∙ ap (λ (es : List Entry). length es) same ∙ length-map all (entry_with boards before)

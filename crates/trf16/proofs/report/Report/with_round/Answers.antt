@@ -1,0 +1,52 @@
+use Rattle.std.proofs.Common.{◌≡◌, ℕ, ◌≤◌, List, map, length, nat_eq, subst, sym, ap, ◌∙◌, arith}
+use Rattle.std.proofs.lemmas.List.{length-map}
+use Rattle.std.specs.List.{IsDistinct}
+use Rattle.trf16.specs.declared.player.Player.{Player}
+use Rattle.trf16.specs.Lines.{lines}
+use Rattle.trf16.specs.Verdict.{carried_line}
+use Rattle.trf16.specs.Sheet.{Entry, Sheet, entry_of, rounds_played}
+use Rattle.trf16.specs.Round.{entry_with, with_round}
+use Rattle.trf16.proofs.RoundLemmas.{paired-insert, paired-end, paired-length, starts-entries}
+use Rattle.trf16.proofs.report.Report.with_round.Goals as goal
+
+pub loop-player-preserved-in_ok-insert : goal.loop-player-preserved-in_ok-insert
+loop-player-preserved-in_ok-insert c =
+    paired-insert c.args.boards.now c.rounds_played-before.result c.loop-player.players (entry_of c.in-Some.player.now) (map entry_of c.loop-player.player-iterator)
+    (map entry_of c.next.new.self) c.args.self.now.players c.in_ok-paired.paired c.insert.new.self.entries (ap (map entry_of) c.in-Some.ensures.steps)
+    c.loop-player.invariant c.in_ok-paired.ensures c.in_ok-insert.ensures.entries
+    (subst (λ (sheet : Sheet). IsDistinct nat_eq (map (λ (e : Entry). e.start) sheet.players)) c.self.view_is
+    (subst (IsDistinct nat_eq) (c.self.invariant.0 ∙ starts-entries c.self.inside.players.entries) c.len.ensures.unique))
+
+pub loop-player-preserved : goal.loop-player-preserved
+loop-player-preserved c =
+    paired-insert c.args.boards.now c.rounds_played-before.result c.loop-player.players (entry_of c.in-Some.player.now) (map entry_of c.loop-player.player-iterator)
+    (map entry_of c.next.new.self) c.args.self.now.players c.in_ok-paired.paired c.insert.new.self.entries (ap (map entry_of) c.in-Some.ensures.steps)
+    c.loop-player.invariant c.in_ok-paired.ensures c.in_ok-insert.ensures.entries
+    (subst (λ (sheet : Sheet). IsDistinct nat_eq (map (λ (e : Entry). e.start) sheet.players)) c.self.view_is
+    (subst (IsDistinct nat_eq) (c.self.invariant.0 ∙ starts-entries c.self.inside.players.entries) c.len.ensures.unique))
+
+pub invariant_of-result : goal.invariant_of-result
+invariant_of-result c =
+    let done = c.loop-player.players.entries in
+    let all = c.args.self.now.players in
+    let same = paired-end c.args.boards.now c.rounds_played-before.result done (map entry_of c.loop-player.player-iterator) all
+    (ap (map entry_of) c.in-None.ensures.steps.0) c.loop-player.invariant in
+    let size : length done ≡ length c.self.inside.players.entries =
+    paired-length c.args.boards.now c.rounds_played-before.result done all same ∙ ap (λ (sheet : Sheet). length sheet.players) (sym c.self.view_is)
+    ∙ length-map c.self.inside.players.entries (λ (e : ℕ × Player). entry_of e.1) in
+    let few : length c.self.inside.players.entries ≤ 256 = c.self.invariant.1 in
+    (c.loop-player.invariant.keyed, omega arith, c.self.invariant.2)
+
+pub returns : goal.returns
+returns c =
+    let boards = c.args.boards.now in
+    let before = c.rounds_played-before.result in
+    let sheet = c.args.self.now in
+    let utf8 = c.self.inside.utf8 in
+    let made : List Entry → Sheet = λ players.
+    record { utf8 = utf8; carried = map (carried_line utf8) (lines c.self.inside.text.now); players = players; total = c.self.inside.total; initial = c.self.inside.initial } in
+    let same = paired-end boards before c.loop-player.players.entries (map entry_of c.loop-player.player-iterator) sheet.players
+    (ap (map entry_of) c.in-None.ensures.steps.0) c.loop-player.invariant in
+    ap made (same ∙ ap (λ n. map (entry_with boards n) sheet.players) c.rounds_played-before.ensures.value
+    ∙ ap (λ (s : Sheet). map (entry_with boards (rounds_played s)) s.players) (sym c.self.view_is))
+    ∙ ap (with_round boards) c.self.view_is

@@ -1,0 +1,205 @@
+// Pairing the next round of a report: who meets whom in it, and the points so far.
+ghost use Rattle.std.specs.Prelude.{◌≡◌, ◌+◌, ◌<◌, ◌≤◌, ◌&&◌, ◌↔◌, ◌∷◌, [], nat_eq, IfOk, IsTrue, length, map, option_map, sum_by, take};
+ghost use Rattle.std.specs.List.{list_any};
+ghost use Rattle.trf16.specs.Sheet.{entry_of, half_points, rounds_played};
+ghost use Rattle.trf16.specs.Steps.{is_free, are_free};
+ghost use Rattle.trf16.specs.Round.{CanBePaired, named_by, cell_on, cell_by, with_cell, cells_with, entry_with, with_round};
+
+use crate::answering::{front, sum_of};
+use crate::cell::{Bye, Cell, Colour};
+use crate::player::Player;
+use crate::report::Report;
+use indexmap::IndexMap;
+use std::alloc::{AllocError, Global};
+
+// What a board gives a player, if it names him.
+fn cell_on(board: (u16, u16), start: u16) -> Option<Cell>
+    ensures { result ≡ cell_on board start }
+{
+    let (white, black) = board;
+    if white == start && black == 0 {
+        return Some(Cell::Bye(Bye::Allocated));
+    }
+    if white == start {
+        return Some(Cell::Unfinished {
+            opponent: black,
+            colour: Colour::White,
+        });
+    }
+    if black == start {
+        return Some(Cell::Unfinished {
+            opponent: white,
+            colour: Colour::Black,
+        });
+    }
+    None
+}
+
+// What the first board that names a player gives him.
+fn cell_by(boards: &[(u16, u16)], start: u16) -> Option<Cell>
+    ensures { result ≡ cell_by boards.now start }
+{
+    for board in boards {
+        if let Some(cell) = cell_on(*board, start) {
+            return Some(cell);
+        }
+    }
+    None
+}
+
+// The same cells, with that of the round behind the first `before` set.
+fn with_cell(alloc: Global, cells: &[Cell], before: u8, cell: Cell) -> Result<Vec<Cell>, AllocError>
+    requires few { length cells.now ≤ 32 }
+    requires within { before < 32 }
+    ensures set { IfOk result (λ set. set.items ≡ with_cell before cell cells.now) }
+    ensures few { IfOk result (λ set. length set.items ≤ 32) }
+{
+    let mut set = Vec::from_slice(alloc, cells)?;
+    let place = usize::from(before);
+    while set.len() <= place {
+        set.push(Cell::Blank)?;
+    }
+    set[place] = cell;
+    Ok(set)
+}
+
+// The cells of a player, where `before` rounds were paired and the boards are the next.
+fn cells_with(
+    alloc: Global,
+    boards: &[(u16, u16)],
+    before: u8,
+    player: &Player<'_>,
+) -> Result<Vec<Cell>, AllocError>
+    requires within { before < 32 }
+    ensures cells { IfOk result (λ cells. cells.items ≡ cells_with boards.now before (entry_of player.now)) }
+    ensures few { IfOk result (λ cells. length cells.items ≤ 32) }
+{
+    match cell_by(boards, player.start) {
+        Some(cell) => with_cell(alloc, &player.cells, before, cell),
+        None => Vec::from_slice(alloc, &player.cells),
+    }
+}
+
+// A points field that is not blank becomes the sum of the first rounds.
+fn points_with(points: Option<u16>, cells: &[Cell], rounds: u8) -> Option<u16>
+    requires { length cells.now ≤ 32 }
+    ensures { result ≡ option_map (λ _. sum_by half_points (take rounds cells.now)) points }
+{
+    match points {
+        Some(_) => Some(sum_of(front(cells, rounds))),
+        None => None,
+    }
+}
+
+// A player with his cell of the next round and his points.
+fn player_with<'a>(
+    alloc: Global,
+    boards: &[(u16, u16)],
+    before: u8,
+    player: &Player<'a>,
+) -> Result<Player<'a>, AllocError>
+    requires { before < 32 }
+    ensures { IfOk result (λ paired. entry_of paired ≡ entry_with boards.now before (entry_of player.now)) }
+{
+    let cells = cells_with(alloc, boards, before, player)?;
+    Ok(Player {
+        start: player.start,
+        line: player.line,
+        points: points_with(player.points, &cells, before + 1),
+        left: player.left,
+        right: player.right,
+        cells,
+    })
+}
+
+// Whether a board names a player.
+fn is_naming(board: (u16, u16), start: u16) -> bool
+    ensures { result ≡ list_any (nat_eq start) (named_by (board ∷ [])) }
+{
+    let (white, black) = board;
+    if start == white {
+        return true;
+    }
+    black != 0 && start == black
+}
+
+// Whether some boards name a player.
+fn are_naming(boards: &[(u16, u16)], start: u16) -> bool
+    ensures { result ≡ list_any (nat_eq start) (named_by boards.now) }
+{
+    for board in boards {
+        if is_naming(*board, start) {
+            return true;
+        }
+    }
+    false
+}
+
+impl<'a> Report<'a> {
+    // Whether a start rank is that of a player who is present, and whom no later board names.
+    fn is_free(&self, start: u16, later: &[(u16, u16)]) -> bool
+        ensures { result ≡ is_free self.now (named_by later.now) start }
+    {
+        if !self.knows(start) || self.absent(start) {
+            return false;
+        }
+        !are_naming(later, start)
+    }
+
+    // The same of both players of a board.
+    fn are_free(&self, board: (u16, u16), later: &[(u16, u16)]) -> bool
+        ensures { (result && are_free self.now (named_by later.now)) ≡ are_free self.now (named_by (board ∷ later.now)) }
+    {
+        let (white, black) = board;
+        if !self.is_free(white, later) {
+            return false;
+        }
+        if black == 0 {
+            return true;
+        }
+        white != black && self.is_free(black, later)
+    }
+
+    /// Whether some boards can be the next round: whoever they name is a player of the report, is present, and is named once; and no
+    /// round comes behind the 32nd. It takes time in step with the text for each player named.
+    pub fn can_be_paired(&self, boards: &[(u16, u16)]) -> bool
+        ensures { IsTrue result ↔ CanBePaired boards.now self.now }
+    {
+        if 32 <= self.rounds_played() {
+            return false;
+        }
+        for (i, board) in boards.iter().enumerate() {
+            if !self.are_free(*board, boards.split_at(i + 1).1) {
+                return false;
+            }
+        }
+        true
+    }
+
+    /// The report with its next round paired. A board is white and black in start ranks; where black is 0, white has the
+    /// pairing-allocated bye. Each points field that is not blank becomes the sum over the rounds up to the next.
+    ///
+    /// # Errors
+    /// Memory was refused.
+    pub fn with_round(&self, alloc: Global, boards: &[(u16, u16)]) -> Result<Report<'a>, AllocError>
+        requires { CanBePaired boards.now self.now }
+        ensures { IfOk result (λ report. report ≡ with_round boards.now self.now) }
+    {
+        let before = self.rounds_played();
+        let mut players = IndexMap::with_capacity(alloc, self.players.len())?;
+        for player in self.players() {
+            let paired = player_with(alloc, boards, before, player)?;
+            players.insert(player.start, paired)?;
+        }
+        Ok(Report {
+            utf8: self.utf8,
+            text: self.text,
+            players,
+            total: self.total,
+            initial: self.initial,
+        })
+    }
+}
+
+#[cfg(test)]
+mod tests;
