@@ -1,5 +1,5 @@
 // Laws of the rules, which hold of every field.
-ghost use Rattle.std.specs.Prelude.{◌≡◌, ◌<◌, ◌≤◌, ◌≢◌, false, length};
+ghost use Rattle.std.specs.Prelude.{◌≡◌, ◌<◌, ◌≤◌, ◌≢◌, ℕ, false, length};
 ghost use Rattle.dutch_player.specs.Meetings.{may_meet};
 ghost use Rattle.dutch_player.specs.Colours.{colours};
 ghost use Rattle.dutch_player.specs.Facts.{seat_at, goes_before};
@@ -34,6 +34,15 @@ pub fn seats_are_ranked(field: &Field, a: u16, b: u16)
     requires inside { b < length field.now.seats }
     ensures scores { (seat_at field.now b).score ≤ (seat_at field.now a).score }
     ensures ranks { goes_before (seat_at field.now b) (seat_at field.now a) ≡ false }
+{
+    let _ = &field.seats;
+}
+
+/// Scores do not ascend along the seats of a field, of which there are at most 256 (A.2).
+#[tactic(auto, using(crate::proofs::RankLemmas::scores_fall))]
+pub fn scores_do_not_ascend(field: &Field)
+    ensures scores { (a b : ℕ) → a < b → b < length field.now.seats → (seat_at field.now b).score ≤ (seat_at field.now a).score }
+    ensures few { length field.now.seats ≤ 256 }
 {
     let _ = &field.seats;
 }
