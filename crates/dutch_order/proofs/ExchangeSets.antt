@@ -13,7 +13,7 @@ use Rattle.dutch_order.specs.Trials.{numbers_from}
 use Rattle.dutch_order.specs.Choices.{is_member, subsets}
 use Rattle.dutch_order.specs.Keys.{IsIn, higher_first}
 use Rattle.dutch_order.specs.Exchange.{moved_out, moved_in, exchange_key, sum_of}
-use Rattle.dutch_order.specs.Stages.{total, value_of, kept_of}
+use Rattle.dutch_order.specs.Stages.{total, value_of, kept_of, out_places, in_places}
 use Rattle.dutch_order.proofs.Lists.{map-numbers_from}
 use Rattle.dutch_order.proofs.HalfWalks.{Climbs}
 use Rattle.dutch_order.proofs.Orders.{IsIn-map, map-IsIn}
@@ -246,3 +246,43 @@ module _ (pool : List ℕ) (k : ℕ) (rises : IsStrictlyIncreasing pool) (enough
       let same : length outs ≡ length ins =
       omega (arith, ap length all, climbs.1, low-length outs out_climbs, length-append (low_places outs) (map (λ place. k + place) ins), length-map ins (λ place. k + place)) in
       (outs, ins, out_climbs, in_climbs, same, from.1 ∙ ap (map v) (sym all) ∙ sym (set-is outs ins))
+
+  -- the exchange of a set is found by its places
+  member-above : (i low bound : ℕ) (xs : List ℕ) → Climbs low bound xs → bound ≤ i → is_member i xs ≡ false
+  member-above i low bound [] climbs h = refl
+  member-above i low bound (x ∷ xs) climbs h =
+      or_from (eqb x i) (is_member i xs) (ne_eqb x i (λ e. omega (arith, climbs.1))) (member-above i (suc x) bound xs climbs.2 h)
+
+  member-shift : (j : ℕ) (xs : List ℕ) → is_member (k + j) (map (λ place. k + place) xs) ≡ is_member j xs
+  member-shift j [] = refl
+  member-shift j (x ∷ xs) =
+      ap (λ b. b || is_member (k + j) (map (λ place. k + place) xs))
+      (elim (cases_order x j) [
+        | inl same ↦ eq-eqb (k + x) (k + j) (ap (λ n. k + n) same) ∙ sym (eq-eqb x j same)
+        | inr (inl below) ↦ ne_eqb (k + x) (k + j) (λ e. omega (arith, below)) ∙ sym (ne_eqb x j (λ e. omega (arith, below)))
+        | inr (inr above) ↦ ne_eqb (k + x) (k + j) (λ e. omega (arith, above)) ∙ sym (ne_eqb x j (λ e. omega (arith, above)))
+      ])
+      ∙ ap (λ b. eqb x j || b) (member-shift j xs)
+
+  pub places-of_exchange : (set outs ins : List ℕ) → Climbs 0 k outs → Climbs 0 (length pool - k) ins → set ≡ kept_of pool k outs ++ map (value_of pool k In) ins → (out_places pool k set ≡ outs) × (in_places pool k set ≡ ins)
+  places-of_exchange set outs ins out_climbs in_climbs made =
+      let high : ℕ = length pool - k in
+      let is : set ≡ map v (places outs ins) = made ∙ set-is outs ins in
+      let climbs = places-climb outs ins in_climbs in
+      let out_same : (i : ℕ) → 0 ≤ i → i < 0 + k → not (is_member (v (k - 1 - i)) set) ≡ is_member i outs =
+      λ i from below.
+      ap (λ s. not (is_member (v (k - 1 - i)) s)) is
+      ∙ ap not (member-value (k - 1 - i) 0 (places outs ins) (omega arith) climbs ∙ member-low outs ins out_climbs in_climbs (k - 1 - i) (omega arith))
+      ∙ not_not (is_member (k - 1 - (k - 1 - i)) outs)
+      ∙ ap (λ n. is_member n outs) (let e : k - 1 - (k - 1 - i) ≡ i = omega arith in e) in
+      let in_same : (j : ℕ) → 0 ≤ j → j < 0 + high → is_member (v (k + j)) set ≡ is_member j ins =
+      λ j from below.
+      ap (is_member (v (k + j))) is
+      ∙ member-value (k + j) 0 (places outs ins) (omega arith) climbs
+      ∙ list_any-append (λ y. eqb y (k + j)) (low_places outs) (map (λ place. k + place) ins)
+      ∙ ap (λ b. b || is_member (k + j) (map (λ place. k + place) ins)) (member-above (k + j) 0 k (low_places outs) (low-climbs outs) (omega arith))
+      ∙ member-shift j ins in (
+        filter-numbers (λ i. not (is_member (v (k - 1 - i)) set)) (λ i. is_member i outs) 0 k out_same ∙ outs-again outs out_climbs,
+        filter-numbers (λ j. is_member (v (k + j)) set) (λ j. is_member j ins) 0 high in_same
+            ∙ climbs-filter 0 high ins (subst (λ b. Climbs 0 b ins) (let e : high ≡ 0 + high = omega arith in e) in_climbs),
+      )

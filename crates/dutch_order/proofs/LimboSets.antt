@@ -1,21 +1,25 @@
 -- The search of sets of moved-down players finds all sets, by their keys.
 use Rattle.std.proofs.Common.{◌≡◌, ℕ, zero, suc, ◌+◌, ◌-◌, ◌<◌, ◌≤◌, Bool, true, not, ◌&&◌, ◌||◌, ◌==◌, nat_lt, List, [], ◌∷◌, ◌++◌, map, length, get_or, drop, take, refl, sym, ◌∙◌, ap, append_assoc, arith, length-append, subst, ◌⊎◌, inl, inr, slice_index, if◌then◌else◌, zero-add, None}
-use Rattle.std.specs.List.{slice_range}
+use Rattle.std.specs.List.{slice_range, AllByRecursion}
 use Rattle.std.proofs.lemmas.List.{append-nil, length-map, get_or_past}
 use Rattle.std.proofs.lemmas.Simd.{map-map}
-use Rattle.std.proofs.lemmas.Bool.{cases_eq, true≢false, cases_Bool, eqb-true, eq-eqb, ne_eqb, and_parts, and_from, or_cases, or_left, or_right, lt-ltb, le-ltb, eqb-false, cases_lt, not_from_false, not-true}
-use Rattle.dutch_order.specs.Trials.{Plan, numbers_from, entry, ahead, hits}
-use Rattle.dutch_order.specs.Choices.{subsets}
+use Rattle.std.proofs.lemmas.Bool.{true≢false, cases_Bool, eqb-true, eq-eqb, ne_eqb, and_parts, and_from, or_cases, or_left, or_right, lt-ltb, le-ltb, eqb-false, cases_lt, not_from_false, not-true}
+use Rattle.std.specs.List.{filter}
+use Rattle.dutch_order.specs.Trials.{Plan, numbers_from, entry, ahead, hits, trials}
+use Rattle.dutch_order.specs.Hints.{hinted, first_hint}
+use Rattle.dutch_order.specs.Choices.{subsets, from_on}
 use Rattle.dutch_order.specs.Keys.{is_before, IsIn, Ascends, higher_first}
 use Rattle.dutch_order.specs.Halves.{half_start}
 use Rattle.dutch_order.specs.Limbo.{limbo_key, limbo_exchanges, score_of, IsNonAscending}
-use Rattle.dutch_order.specs.LimboSearch.{limbo_plan, leads, mirrors, front_with, numbers_of, second_numbers}
+use Rattle.dutch_order.specs.LimboSearch.{limbo_plan, leads, mirrors, front_with, numbers_of, second_numbers, leader, leaders, places_of, limbo_path}
 use Rattle.dutch_order.proofs.Lists.{map-same}
-use Rattle.dutch_order.proofs.HalfWalks.{Climbs, AllFit, Halved, halves-split, halves-join, start-on}
+use Rattle.dutch_order.proofs.HalfWalks.{Climbs, AllFit, Admitted, Halved, halves-split, halves-join, start-on}
 use Rattle.dutch_order.proofs.Orders.{is_before-lower, is_before-equal, is_before-cases, IsIn-map, map-IsIn}
 use Rattle.dutch_order.proofs.Found.{found, ahead-new}
 use Rattle.dutch_order.proofs.FoundPaths.{found-admitted, admitted-found, found-ascends, is_before-begun}
-use Rattle.dutch_order.proofs.Sets.{subsets-climb, climbs-subset, subsets-map, subsets-ascend, ascending-sorted, Ascends-map}
+use Rattle.dutch_order.proofs.Sets.{subsets-climb, climbs-subset, subsets-map, subsets-ascend, ascending-sorted, in-sorted, Ascends-map}
+use Rattle.dutch_order.proofs.FromOn.{is_late, from_on-filter, map-late, order-same, admitted-length, admitted-reaches}
+use Rattle.dutch_order.proofs.Hinted.{hinted-hits}
 
 -- two lists of one length, with something behind each
 pub is_before-split : (xs ys us vs : List ℕ) → length xs ≡ length ys → is_before (xs ++ us) (ys ++ vs) ≡ true → ((xs ≡ ys) × (is_before us vs ≡ true)) ⊎ (is_before xs ys ≡ true)
@@ -185,54 +189,60 @@ module _ (scores : List ℕ) (k : ℕ) (falls : IsNonAscending scores) where
             (omega (arith, same, length-append set (a ∷ []), length-append before (c ∷ []))) rest climbs.2),
       )
 
-  -- the first place with a score, above one with another
-  first_of : (d i a : ℕ) → a ≡ i + suc d → (sc i ≡ sc a → ⊥) → (c : ℕ) × (i < c) × (c ≤ a) × (sc c ≡ sc a) × (sc (c - 1) ≡ sc c → ⊥)
-  first_of zero i a e apart =
-      let before : sc (a - 1) ≡ sc i = ap (slice_index scores) (omega arith) in
-      (a, omega arith, omega arith, refl, λ same. apart (sym before ∙ same))
-  first_of (suc d) i a e apart =
-      elim (cases_eq (sc (suc i)) (sc a)) [
+  -- the first place with the score of a place, from one on
+  leader-is : (count i a : ℕ) → a ≡ i + count → (i ≤ leader scores a i count) × (leader scores a i count ≤ a) × (sc (leader scores a i count) ≡ sc a) × ((leader scores a i count ≡ i) ⊎ (sc (leader scores a i count - 1) ≡ sc (leader scores a i count) → ⊥))
+  leader-is zero i a e = (omega arith, omega arith, refl, inl (omega arith))
+  leader-is (suc count) i a e =
+      let P : ℕ → Type 0 = λ c. (i ≤ c) × (c ≤ a) × (sc c ≡ sc a) × ((c ≡ i) ⊎ (sc (c - 1) ≡ sc c → ⊥)) in
+      elim (cases_Bool (sc i == sc a)) [
         | inl equal ↦
-            let before : sc (suc i - 1) ≡ sc i = ap (slice_index scores) (omega arith) in
-            (suc i, omega arith, omega arith, equal, λ same. apart (sym before ∙ same ∙ equal))
+            let is : leader scores a i (suc count) ≡ i = ap (λ b. if b then i else leader scores a (suc i) count) equal in
+            let here : P i = (omega arith, omega arith, eqb-true (sc i) (sc a) equal, inl refl) in
+            subst P (sym is) here
         | inr other ↦
-            let rest = first_of d (suc i) a (omega arith) other in
-            (rest.0, omega (arith, rest.1), rest.2, rest.3, rest.4)
+            let is : leader scores a i (suc count) ≡ leader scores a (suc i) count = ap (λ b. if b then i else leader scores a (suc i) count) other in
+            let rest = leader-is count (suc i) a (omega arith) in
+            let c : ℕ = leader scores a (suc i) count in
+            let apart : sc (c - 1) ≡ sc c → ⊥ =
+            elim rest.3 [
+              | inl next ↦ (λ same.
+                  let before : sc (c - 1) ≡ sc i = ap (slice_index scores) (omega (arith, next)) in
+                  eqb-false (sc i) (sc a) other (sym before ∙ same ∙ rest.2))
+              | inr differ ↦ differ
+            ] in
+            let there : P c = (omega (arith, rest.0), rest.1, rest.2, inr apart) in
+            subst P (sym is) there
       ]
 
-  leads-from : (begun : List ℕ) (s a : ℕ) → half_start k begun ≡ s → s ≤ a → (c : ℕ) × (s ≤ c) × (c ≤ a) × (sc c ≡ sc a) × (leads scores k begun c ≡ true)
+  leads-from : (begun : List ℕ) (s a : ℕ) → half_start k begun ≡ s → s ≤ a → (s ≤ leader scores a s (a - s)) × (leader scores a s (a - s) ≤ a) × (sc (leader scores a s (a - s)) ≡ sc a) × (leads scores k begun (leader scores a s (a - s)) ≡ true)
   leads-from begun s a start h =
-      elim (cases_eq (sc s) (sc a)) [
-        | inl equal ↦ (
-          s,
-          omega arith,
-          h,
-          equal,
-          or_left ((s == half_start k begun) || (s == 0)) (not (sc (s - 1) == sc s)) (or_left (s == half_start k begun) (s == 0) (eq-eqb s (half_start k begun) (sym start))),
-        )
-        | inr other ↦
-            let apart : s ≡ a → ⊥ = λ e. other (ap (slice_index scores) e) in
-            let found = first_of (a - s - 1) s a (omega (arith, apart)) other in (
-              found.0,
-              omega (arith, found.1),
-              found.2,
-              found.3,
-              or_right ((found.0 == half_start k begun) || (found.0 == 0)) (not (sc (found.0 - 1) == sc found.0)) (not_from_false (sc (found.0 - 1) == sc found.0) (ne_eqb (sc (found.0 - 1)) (sc found.0) found.4)),
-            )
-      ]
+      let c : ℕ = leader scores a s (a - s) in
+      let is = leader-is (a - s) s a (omega arith) in (
+        is.0,
+        is.1,
+        is.2,
+        elim is.3 [
+          | inl first ↦
+              or_left ((c == half_start k begun) || (c == 0)) (not (sc (c - 1) == sc c))
+              (or_left (c == half_start k begun) (c == 0) (eq-eqb c (half_start k begun) (first ∙ sym start)))
+          | inr apart ↦
+              or_right ((c == half_start k begun) || (c == 0)) (not (sc (c - 1) == sc c))
+              (not_from_false (sc (c - 1) == sc c) (ne_eqb (sc (c - 1)) (sc c) apart))
+        ],
+      )
 
   -- each set has a first set with the same scores
-  first_set : (begun places : List ℕ) (s low : ℕ) → length begun + length places ≡ k → (0 < length places → half_start k begun ≡ s) → s ≤ low → Climbs low (length scores) places → (leaders : List ℕ) × Climbs s (length scores) leaders × AllFit fits begun leaders × (map sc leaders ≡ map sc places) × (length leaders ≡ length places)
-  first_set begun [] s low whole start h climbs = ([], tt, tt, refl, refl)
+  first_set : (begun places : List ℕ) (s low : ℕ) → length begun + length places ≡ k → (0 < length places → half_start k begun ≡ s) → s ≤ low → Climbs low (length scores) places → Climbs s (length scores) (leaders scores s places) × AllFit fits begun (leaders scores s places) × (map sc (leaders scores s places) ≡ map sc places) × (length (leaders scores s places) ≡ length places)
+  first_set begun [] s low whole start h climbs = (tt, tt, refl, refl)
   first_set begun (a ∷ places) s low whole start h climbs =
-      let c = leads-from begun s a (start (omega arith)) (omega (arith, climbs.0)) in
-      let rest = first_set (begun ++ c.0 ∷ []) places (suc c.0) (suc a) (omega (arith, whole, length-append begun (c.0 ∷ [])))
-      (λ more. start-on k begun c.0 (λ e. omega arith)) (omega (arith, c.2)) climbs.2 in (
-        c.0 ∷ rest.0,
-        (c.1, omega (arith, c.2, climbs.1), rest.1),
-        (fits-first begun c.0 (omega arith) ∙ c.4, rest.2),
-        ap (λ x. x ∷ map sc rest.0) c.3 ∙ ap (λ xs. sc a ∷ xs) rest.3,
-        ap suc rest.4,
+      let c : ℕ = leader scores a s (a - s) in
+      let is = leads-from begun s a (start (omega arith)) (omega (arith, climbs.0)) in
+      let rest = first_set (begun ++ c ∷ []) places (suc c) (suc a) (omega (arith, whole, length-append begun (c ∷ [])))
+      (λ more. start-on k begun c (λ e. omega arith)) (omega (arith, is.1)) climbs.2 in (
+        (is.0, omega (arith, is.1, climbs.1), rest.0),
+        (fits-first begun c (omega arith) ∙ is.3, rest.1),
+        ap (λ x. x ∷ map sc (leaders scores (suc c) places)) is.2 ∙ ap (λ xs. sc a ∷ xs) rest.2,
+        ap suc rest.3,
       )
 
   module _ (small : (i : ℕ) → sc i ≤ 65535) where
@@ -329,26 +339,44 @@ module _ (scores : List ℕ) (k : ℕ) (falls : IsNonAscending scores) where
         (map-IsIn numbers_of halves.1 (subsets (numbers_from 0 (length scores)) k)
         (climbs-subset 0 (length scores) k halves.1 (subst (λ b. Climbs 0 b halves.1) (let e : length scores ≡ 0 + length scores = omega arith in e) halves.3.back_climbs) halves.3.back_length)))
 
+    places-again : (places : List ℕ) → places_of (numbers_of places) ≡ places
+    places-again [] = refl
+    places-again (x ∷ places) = ap (λ y. y ∷ places_of (numbers_of places)) (let e : x + 1 - 1 ≡ x = omega arith in e) ∙ ap (λ ys. x ∷ ys) (places-again places)
+
+    -- each set has its places, which climb
+    pub set-places : (set : List ℕ) → IsIn set (subsets (numbers_from 1 (length scores)) k) → Climbs 0 (length scores) (places_of set) × (length (places_of set) ≡ k) × (set ≡ numbers_of (places_of set))
+    set-places set m =
+        let from = IsIn-map numbers_of set (subsets (numbers_from 0 (length scores)) k) (subst (IsIn set) all_sets m) in
+        let climbs = subsets-climb 0 (length scores) k from.0 from.2 in
+        let same : places_of set ≡ from.0 = ap places_of from.1 ∙ places-again from.0 in (
+          subst (Climbs 0 (length scores)) (sym same) (subst (λ b. Climbs 0 b from.0) (let e : 0 + length scores ≡ length scores = omega arith in e) climbs.0),
+          ap length same ∙ climbs.1,
+          from.1 ∙ ap numbers_of (sym same),
+        )
+
+    -- and a path that finds it
+    path-found : (set : List ℕ) → IsIn set (subsets (numbers_from 1 (length scores)) k) → Admitted plan (k + k) [] (limbo_path scores set) × (second_numbers k (limbo_path scores set) ≡ set)
+    path-found set m =
+        let A : List ℕ = places_of set in
+        let C : List ℕ = leaders scores 0 A in
+        let is = set-places set m in
+        let front = first_set [] A 0 0 (omega (arith, is.1)) (λ more. refl) (omega arith) is.0 in
+        let long : length C ≡ k = front.3 ∙ is.1 in
+        let halved : Halved fits k (length scores) (length scores) C A = record {
+          front_climbs = front.0;
+          back_climbs = is.0;
+          front_fits = front.1;
+          back_fits = subst (λ c. AllFit fits c A) (append-nil C) (second-fits [] C [] A 0 long refl (sym front.2) is.0);
+          front_length = long;
+          back_length = is.1;
+        } in
+        (halves-join k (length scores) (length scores) fits (λ path place. None) C A halved, ap numbers_of (drop_front C A k long) ∙ sym is.2)
+
     set-found : (set : List ℕ) → IsIn set (subsets (numbers_from 1 (length scores)) k) → IsIn set (map (second_numbers k) (found plan (k + k) []))
     set-found set m =
-        let from = IsIn-map numbers_of set (subsets (numbers_from 0 (length scores)) k) (subst (IsIn set) all_sets m) in
-        let A : List ℕ = from.0 in
-        let climbs = subsets-climb 0 (length scores) k A from.2 in
-        let within : Climbs 0 (length scores) A = subst (λ b. Climbs 0 b A) (let e : 0 + length scores ≡ length scores = omega arith in e) climbs.0 in
-        let front = first_set [] A 0 0 (omega (arith, climbs.1)) (λ more. refl) (omega arith) within in
-        let C : List ℕ = front.0 in
-        let long : length C ≡ k = front.4 ∙ climbs.1 in
-        let halved : Halved fits k (length scores) (length scores) C A = record {
-          front_climbs = front.1;
-          back_climbs = within;
-          front_fits = front.2;
-          back_fits = subst (λ c. AllFit fits c A) (append-nil C) (second-fits [] C [] A 0 long refl (sym front.3) within);
-          front_length = long;
-          back_length = climbs.1;
-        } in
-        let there : IsIn (C ++ A) (found plan (k + k) []) = admitted-found plan (k + k) [] (C ++ A) (halves-join k (length scores) (length scores) fits (λ path place. None) C A halved) in
-        subst (λ z. IsIn z (map (second_numbers k) (found plan (k + k) []))) (ap numbers_of (drop_front C A k long) ∙ sym from.1)
-        (map-IsIn (second_numbers k) (C ++ A) (found plan (k + k) []) there)
+        let path = path-found set m in
+        subst (λ z. IsIn z (map (second_numbers k) (found plan (k + k) []))) path.1
+        (map-IsIn (second_numbers k) (limbo_path scores set) (found plan (k + k) []) (admitted-found plan (k + k) [] (limbo_path scores set) path.0))
 
     sets_ascend : Ascends (λ set. set) (subsets (numbers_from 1 (length scores)) k)
     sets_ascend = subsets-ascend 1 (length scores) k
@@ -357,13 +385,57 @@ module _ (scores : List ℕ) (k : ℕ) (falls : IsNonAscending scores) where
     starts_at_none zero = refl
     starts_at_none (suc open_places) = refl
 
+    found-ascend : Ascends (limbo_key scores) (map (second_numbers k) (found plan (k + k) []))
+    found-ascend = Ascends-map (limbo_key scores) (second_numbers k) (found plan (k + k) []) (found-ascends plan (k + k) []) limbo-order
+
+    found-all : map (second_numbers k) (found plan (k + k) []) ≡ limbo_exchanges scores k
+    found-all =
+        ascending-sorted (limbo_key scores) (map (second_numbers k) (found plan (k + k) [])) (subsets (numbers_from 1 (length scores)) k)
+        found-ascend
+        sets_ascend
+        (λ x y m n. limbo_key-apart scores x y ((subsets-climb 1 (length scores) k x m).1 ∙ sym (subsets-climb 1 (length scores) k y n).1))
+        found-set set-found
+
     -- what a new search finds are all sets, by their keys
     pub limbo-found : map (second_numbers k) (hits (ahead plan [] 0)) ≡ limbo_exchanges scores k
     limbo-found =
         ap (λ number. map (second_numbers k) (hits (ahead plan [] number))) (sym (starts_at_none (k + k)))
         ∙ ap (λ events. map (second_numbers k) (hits events)) (ahead-new plan)
-        ∙ ascending-sorted (limbo_key scores) (map (second_numbers k) (found plan (k + k) [])) (subsets (numbers_from 1 (length scores)) k)
-        (Ascends-map (limbo_key scores) (second_numbers k) (found plan (k + k) []) (found-ascends plan (k + k) []) limbo-order)
-        sets_ascend
-        (λ x y m n. limbo_key-apart scores x y ((subsets-climb 1 (length scores) k x m).1 ∙ sym (subsets-climb 1 (length scores) k y n).1))
-        found-set set-found
+        ∙ found-all
+
+    -- and one that begins at a set finds those from it on
+    pub limbo-from : (set : List ℕ) → IsIn set (subsets (numbers_from 1 (length scores)) k) → map (second_numbers k) (hits (ahead (hinted (limbo_path scores set) plan) [] (first_hint (limbo_path scores set)))) ≡ from_on set (limbo_exchanges scores k)
+    limbo-from set m =
+        let hint : List ℕ = limbo_path scores set in
+        let path = path-found set m in
+        let here : IsIn hint (found plan (k + k) []) = admitted-found plan (k + k) [] hint path.0 in
+        ap (map (second_numbers k)) (hinted-hits plan hint (sym (admitted-length plan (k + k) [] hint path.0)) (admitted-reaches plan (k + k) [] hint path.0))
+        ∙ map-late (limbo_key scores) (second_numbers k) hint (found plan (k + k) []) (λ p n. order-same (limbo_key scores) (second_numbers k) (found plan (k + k) []) limbo-order p hint n here)
+        ∙ ap (λ t. filter (is_late (limbo_key scores) t) (map (second_numbers k) (found plan (k + k) []))) path.1
+        ∙ ap (filter (is_late (limbo_key scores) set)) found-all
+        ∙ sym
+        (from_on-filter (limbo_key scores) set (limbo_exchanges scores k) (subst (Ascends (limbo_key scores)) found-all found-ascend)
+        (in-sorted (limbo_key scores) set (subsets (numbers_from 1 (length scores)) k) m))
+
+-- what is to come, at the lists and numbers that the code has
+pub limbo-at : (scores scores' : List ℕ) (k : ℕ) (hint hint' path : List ℕ) (number number' : ℕ) → scores ≡ scores' → hint ≡ hint' → path ≡ [] → number ≡ number' → map (second_numbers k) (hits (ahead (hinted hint (limbo_plan scores k)) path number)) ≡ map (second_numbers k) (hits (ahead (hinted hint' (limbo_plan scores' k)) [] number'))
+limbo-at scores scores' k hint hint' path number number' same_scores same_hint none same_number =
+    ap (λ scores. map (second_numbers k) (hits (ahead (hinted hint (limbo_plan scores k)) path number))) same_scores
+    ∙ ap (λ hint. map (second_numbers k) (hits (ahead (hinted hint (limbo_plan scores' k)) path number))) same_hint
+    ∙ ap (λ path. map (second_numbers k) (hits (ahead (hinted hint' (limbo_plan scores' k)) path number))) none
+    ∙ ap (λ number. map (second_numbers k) (hits (ahead (hinted hint' (limbo_plan scores' k)) [] number))) same_number
+
+pub limbo-trials-at : (scores scores' : List ℕ) (k : ℕ) (hint hint' path : List ℕ) (number number' : ℕ) → scores ≡ scores' → hint ≡ hint' → path ≡ [] → number ≡ number' → trials (ahead (hinted hint (limbo_plan scores k)) path number) ≡ trials (ahead (hinted hint' (limbo_plan scores' k)) [] number')
+limbo-trials-at scores scores' k hint hint' path number number' same_scores same_hint none same_number =
+    ap (λ scores. trials (ahead (hinted hint (limbo_plan scores k)) path number)) same_scores
+    ∙ ap (λ hint. trials (ahead (hinted hint (limbo_plan scores' k)) path number)) same_hint
+    ∙ ap (λ path. trials (ahead (hinted hint' (limbo_plan scores' k)) path number)) none
+    ∙ ap (λ number. trials (ahead (hinted hint' (limbo_plan scores' k)) [] number)) same_number
+
+pub leaders-length : (scores : List ℕ) (first : ℕ) (places : List ℕ) → length (leaders scores first places) ≡ length places
+leaders-length scores first [] = refl
+leaders-length scores first (place ∷ places) = ap suc (leaders-length scores (suc (leader scores place first (place - first))) places)
+
+pub climbs-within : (low bound : ℕ) (xs : List ℕ) → Climbs low bound xs → AllByRecursion (λ x. x < bound) xs
+climbs-within low bound [] climbs = tt
+climbs-within low bound (x ∷ xs) climbs = (climbs.1, climbs-within (suc x) bound xs climbs.2)

@@ -1,6 +1,6 @@
 -- Lists of rising places and the tests of which places are in them.
 use Rattle.std.proofs.Common.{◌≡◌, ℕ, zero, suc, ◌+◌, ◌-◌, ◌<◌, ◌≤◌, Bool, true, false, not, ◌&&◌, ◌||◌, eqb, cond, List, [], ◌∷◌, ◌++◌, map, reverse, length, refl, sym, ◌∙◌, ap, arith, subst, inl, inr}
-use Rattle.std.specs.List.{filter}
+use Rattle.std.specs.List.{filter, AllByRecursion}
 use Rattle.std.proofs.lemmas.List.{append-nil, map-append, reverse-append}
 use Rattle.std.proofs.lemmas.List.Elements.{filter-append}
 use Rattle.std.proofs.lemmas.Bool.{cases_order, eq-eqb, ne_eqb, or_from}
@@ -147,3 +147,21 @@ module _ (k : ℕ) (value : ℕ → ℕ) (q : ℕ → Bool) where
   pub mirror-filter : reverse (map (λ i. value (k - 1 - i)) (filter (λ i. q (k - 1 - i)) (numbers_from 0 k))) ≡ map value (filter q (numbers_from 0 k))
   unfolding down
   mirror-filter = ap (λ a. down k (numbers_from a k)) (let e : 0 ≡ k - k = omega arith in e) ∙ mirror_from k (omega arith)
+
+-- one number more that passes, and one that does not
+pub filter-more : (q : ℕ → Bool) (n : ℕ) → q n ≡ true → filter q (numbers_from 0 (n + 1)) ≡ filter q (numbers_from 0 n) ++ n ∷ []
+filter-more q n passes =
+    ap (filter q) (numbers-append 0 n 1) ∙ filter-append q (numbers_from 0 n) (numbers_from (0 + n) 1)
+    ∙ ap (λ i. filter q (numbers_from 0 n) ++ filter q (i ∷ [])) (let e : 0 + n ≡ n = omega arith in e)
+    ∙ ap (λ b. filter q (numbers_from 0 n) ++ cond b (n ∷ []) []) passes
+
+pub filter-no_more : (q : ℕ → Bool) (n : ℕ) → q n ≡ false → filter q (numbers_from 0 (n + 1)) ≡ filter q (numbers_from 0 n)
+filter-no_more q n fails =
+    ap (filter q) (numbers-append 0 n 1) ∙ filter-append q (numbers_from 0 n) (numbers_from (0 + n) 1)
+    ∙ ap (λ i. filter q (numbers_from 0 n) ++ filter q (i ∷ [])) (let e : 0 + n ≡ n = omega arith in e)
+    ∙ ap (λ b. filter q (numbers_from 0 n) ++ cond b (n ∷ []) []) fails
+    ∙ append-nil (filter q (numbers_from 0 n))
+
+pub within-push : (bound n : ℕ) (xs : List ℕ) → n < bound → AllByRecursion (λ x. x < bound) xs → AllByRecursion (λ x. x < bound) (xs ++ n ∷ [])
+within-push bound n [] low all = (low, tt)
+within-push bound n (x ∷ xs) low all = (all.0, within-push bound n xs low all.1)

@@ -2,7 +2,8 @@
 use Rattle.std.proofs.Common.{◌≡◌, ℕ, zero, suc, ◌+◌, ◌-◌, ◌<◌, ◌≤◌, true, ◌&&◌, nat_lt, nat_le, List, [], ◌∷◌, ◌++◌, map, refl, sym, ◌∙◌, ap, append_assoc, arith, Option, Some, None, inl, inr, if◌then◌else◌}
 use Rattle.std.proofs.lemmas.Bool.{eq-eqb, ne_eqb, eqb-true, cases_Bool, and_parts, and_from, ltb-true, leb-true, lt-ltb, le-leb}
 use Rattle.dutch_order.specs.Trials.{ahead, hits, trials, lower, lowest}
-use Rattle.dutch_order.specs.Stages.{exchange_plan, set_of, stage_sets, sets_of_stages, sets_of_sizes, trials_of_stages, trials_of_sizes, stages_of_sizes, least_difference, greatest_difference, most_exchanged, sets_ahead, trials_ahead, stages_ahead, is_next, following}
+use Rattle.dutch_order.specs.Hints.{hinted}
+use Rattle.dutch_order.specs.Stages.{exchange_plan, set_of, stage_sets, stage_left, sets_of_stages, sets_of_sizes, trials_of_stages, trials_of_sizes, stages_of_sizes, least_difference, greatest_difference, most_exchanged, sets_ahead, trials_ahead, stages_ahead, is_next, following}
 
 pub lower-none : (o : Option ℕ) → lower o None ≡ o
 lower-none None = refl
@@ -105,29 +106,29 @@ module _ (pool : List ℕ) (k size : ℕ) where
   trials-first count difference =
       ap (λ b. if b then (trials (ahead (exchange_plan pool k size difference) [] 0) + trials_of_stages pool k count size (suc difference) (lowest (ahead (exchange_plan pool k size difference) [] 0))) else trials_of_stages pool k count size (suc difference) (Some difference)) (eq-eqb difference difference refl)
 
-module _ (pool : List ℕ) (k size difference : ℕ) (path : List ℕ) (place : ℕ) (beyond : Option ℕ) (spent : ahead (exchange_plan pool k size difference) path place ≡ []) where
-  none_here : stage_sets pool k size difference path place ≡ []
-  unfolding stage_sets
+module _ (pool : List ℕ) (k : ℕ) (hint : List ℕ) (size difference : ℕ) (path : List ℕ) (place : ℕ) (beyond : Option ℕ) (spent : ahead (hinted hint (exchange_plan pool k size difference)) path place ≡ []) where
+  none_here : stage_left pool k hint size difference path place ≡ []
+  unfolding stage_left
   none_here = ap (λ events. map (set_of pool k size) (hits events)) spent
 
-  no_trials : trials (ahead (exchange_plan pool k size difference) path place) ≡ 0
+  no_trials : trials (ahead (hinted hint (exchange_plan pool k size difference)) path place) ≡ 0
   no_trials = ap trials spent
 
-  next_is : lower beyond (lowest (ahead (exchange_plan pool k size difference) path place)) ≡ beyond
+  next_is : lower beyond (lowest (ahead (hinted hint (exchange_plan pool k size difference)) path place)) ≡ beyond
   next_is = ap (λ events. lower beyond (lowest events)) spent ∙ lower-none beyond
 
   larger_sizes : List (List ℕ)
   larger_sizes = sets_of_sizes pool k (most_exchanged pool k - size) (suc size)
 
-  sets-spent : sets_ahead pool k size difference path place beyond ≡ sets_of_stages pool k (greatest_difference pool k size - difference) size (suc difference) beyond ++ larger_sizes
+  sets-spent : sets_ahead pool k hint size difference path place beyond ≡ sets_of_stages pool k (greatest_difference pool k size - difference) size (suc difference) beyond ++ larger_sizes
   unfolding larger_sizes
   sets-spent =
-      ap (λ here. here ++ (sets_of_stages pool k (greatest_difference pool k size - difference) size (suc difference) (lower beyond (lowest (ahead (exchange_plan pool k size difference) path place))) ++ larger_sizes)) none_here
+      ap (λ here. here ++ (sets_of_stages pool k (greatest_difference pool k size - difference) size (suc difference) (lower beyond (lowest (ahead (hinted hint (exchange_plan pool k size difference)) path place))) ++ larger_sizes)) none_here
       ∙ ap (λ next. sets_of_stages pool k (greatest_difference pool k size - difference) size (suc difference) next ++ larger_sizes) next_is
 
-  trials-spent : trials_ahead pool k size difference path place beyond ≡ trials_of_stages pool k (greatest_difference pool k size - difference) size (suc difference) beyond + trials_of_sizes pool k (most_exchanged pool k - size) (suc size)
+  trials-spent : trials_ahead pool k hint size difference path place beyond ≡ trials_of_stages pool k (greatest_difference pool k size - difference) size (suc difference) beyond + trials_of_sizes pool k (most_exchanged pool k - size) (suc size)
   trials-spent =
-      ap (λ n. n + (trials_of_stages pool k (greatest_difference pool k size - difference) size (suc difference) (lower beyond (lowest (ahead (exchange_plan pool k size difference) path place))) + trials_of_sizes pool k (most_exchanged pool k - size) (suc size))) no_trials
+      ap (λ n. n + (trials_of_stages pool k (greatest_difference pool k size - difference) size (suc difference) (lower beyond (lowest (ahead (hinted hint (exchange_plan pool k size difference)) path place))) + trials_of_sizes pool k (most_exchanged pool k - size) (suc size))) no_trials
       ∙ zero_plus _
       ∙ ap (λ next. trials_of_stages pool k (greatest_difference pool k size - difference) size (suc difference) next + trials_of_sizes pool k (most_exchanged pool k - size) (suc size)) next_is
 
@@ -141,8 +142,8 @@ module _ (pool : List ℕ) (k size difference : ℕ) (path : List ℕ) (place : 
     counts : greatest_difference pool k size - difference ≡ (n - suc difference) + suc (greatest_difference pool k size - n)
     counts = omega (arith, parts.1, parts.2)
 
-    pub sets-next : sets_ahead pool k size n [] 0 None ≡ sets_ahead pool k size difference path place beyond
-    unfolding larger_sizes
+    pub sets-next : sets_ahead pool k [] size n [] 0 None ≡ sets_ahead pool k hint size difference path place beyond
+    unfolding larger_sizes stage_left stage_sets
     sets-next =
         sym (append_assoc (stage_sets pool k size n [] 0) (sets_of_stages pool k (greatest_difference pool k size - n) size (suc n) (lowest (ahead (exchange_plan pool k size n) [] 0))) larger_sizes)
         ∙ sym
@@ -153,7 +154,7 @@ module _ (pool : List ℕ) (k size difference : ℕ) (path : List ℕ) (place : 
         ∙ ap (λ sets. sets ++ larger_sizes) (sets-skip pool k size (n - suc difference) (greatest_difference pool k size - n) (suc difference))
         ∙ ap (λ d. (stage_sets pool k size d [] 0 ++ sets_of_stages pool k (greatest_difference pool k size - n) size (suc d) (lowest (ahead (exchange_plan pool k size d) [] 0))) ++ larger_sizes) above)
 
-    pub trials-next : trials_ahead pool k size n [] 0 None ≡ trials_ahead pool k size difference path place beyond
+    pub trials-next : trials_ahead pool k [] size n [] 0 None ≡ trials_ahead pool k hint size difference path place beyond
     trials-next =
         plus_assoc (trials (ahead (exchange_plan pool k size n) [] 0)) (trials_of_stages pool k (greatest_difference pool k size - n) size (suc n) (lowest (ahead (exchange_plan pool k size n) [] 0))) (trials_of_sizes pool k (most_exchanged pool k - size) (suc size))
         ∙ sym
@@ -168,13 +169,13 @@ module _ (pool : List ℕ) (k size difference : ℕ) (path : List ℕ) (place : 
     stages-next = omega (arith, parts.1, parts.2)
 
   module _ (last : following difference (greatest_difference pool k size) beyond ≡ None) where
-    sets_left : sets_ahead pool k size difference path place beyond ≡ sets_of_sizes pool k (most_exchanged pool k - size) (suc size)
+    sets_left : sets_ahead pool k hint size difference path place beyond ≡ sets_of_sizes pool k (most_exchanged pool k - size) (suc size)
     unfolding larger_sizes
     sets_left =
         sets-spent
         ∙ ap (λ sets. sets ++ larger_sizes) (sets-without pool k size (greatest_difference pool k size - difference) (suc difference) beyond (λ n is low high. following-none difference (greatest_difference pool k size) n beyond last is (omega arith) (omega arith)))
 
-    trials_left : trials_ahead pool k size difference path place beyond ≡ trials_of_sizes pool k (most_exchanged pool k - size) (suc size)
+    trials_left : trials_ahead pool k hint size difference path place beyond ≡ trials_of_sizes pool k (most_exchanged pool k - size) (suc size)
     trials_left =
         trials-spent
         ∙ ap (λ t. t + trials_of_sizes pool k (most_exchanged pool k - size) (suc size)) (trials-without pool k size (greatest_difference pool k size - difference) (suc difference) beyond (λ n is low high. following-none difference (greatest_difference pool k size) n beyond last is (omega arith) (omega arith)))
@@ -184,8 +185,8 @@ module _ (pool : List ℕ) (k size difference : ℕ) (path : List ℕ) (place : 
       size_more : most_exchanged pool k - size ≡ suc (most_exchanged pool k - suc size)
       size_more = omega arith
 
-      pub sets-larger : sets_ahead pool k (suc size) (least_difference pool k (suc size)) [] 0 None ≡ sets_ahead pool k size difference path place beyond
-      unfolding sets_of_sizes
+      pub sets-larger : sets_ahead pool k [] (suc size) (least_difference pool k (suc size)) [] 0 None ≡ sets_ahead pool k hint size difference path place beyond
+      unfolding sets_of_sizes stage_left stage_sets
       sets-larger =
           let L : ℕ = least_difference pool k (suc size) in
           let G : ℕ = greatest_difference pool k (suc size) in
@@ -194,7 +195,7 @@ module _ (pool : List ℕ) (k size difference : ℕ) (path : List ℕ) (place : 
           ∙ ap (λ count. sets_of_sizes pool k count (suc size)) (sym size_more)
           ∙ sym sets_left
 
-      pub trials-larger : trials_ahead pool k (suc size) (least_difference pool k (suc size)) [] 0 None ≡ trials_ahead pool k size difference path place beyond
+      pub trials-larger : trials_ahead pool k [] (suc size) (least_difference pool k (suc size)) [] 0 None ≡ trials_ahead pool k hint size difference path place beyond
       unfolding trials_of_sizes
       trials-larger =
           let L : ℕ = least_difference pool k (suc size) in
@@ -212,43 +213,47 @@ module _ (pool : List ℕ) (k size difference : ℕ) (path : List ℕ) (place : 
       stages-larger = omega (arith, stages_size_more)
 
     module _ (largest : most_exchanged pool k ≤ size) where
-      pub sets-none : sets_ahead pool k size difference path place beyond ≡ []
+      pub sets-none : sets_ahead pool k hint size difference path place beyond ≡ []
       unfolding sets_of_sizes
       sets-none = sets_left ∙ ap (λ count. sets_of_sizes pool k count (suc size)) (let e : most_exchanged pool k - size ≡ 0 = omega arith in e)
 
-      pub trials-none : trials_ahead pool k size difference path place beyond ≡ 0
+      pub trials-none : trials_ahead pool k hint size difference path place beyond ≡ 0
       unfolding trials_of_sizes
       trials-none = trials_left ∙ ap (λ count. trials_of_sizes pool k count (suc size)) (let e : most_exchanged pool k - size ≡ 0 = omega arith in e)
 
-module _ (pool : List ℕ) (k size difference : ℕ) (path path' : List ℕ) (place place' : ℕ) (beyond beyond' : Option ℕ) (next : lower beyond (lowest (ahead (exchange_plan pool k size difference) path place)) ≡ lower beyond' (lowest (ahead (exchange_plan pool k size difference) path' place'))) where
-  pub sets-by_hits : hits (ahead (exchange_plan pool k size difference) path place) ≡ hits (ahead (exchange_plan pool k size difference) path' place') → sets_ahead pool k size difference path place beyond ≡ sets_ahead pool k size difference path' place' beyond'
-  unfolding stage_sets
+module _ (pool : List ℕ) (k : ℕ) (hint : List ℕ) (size difference : ℕ) (path path' : List ℕ) (place place' : ℕ) (beyond beyond' : Option ℕ) (next : lower beyond (lowest (ahead (hinted hint (exchange_plan pool k size difference)) path place)) ≡ lower beyond' (lowest (ahead (hinted hint (exchange_plan pool k size difference)) path' place'))) where
+  pub sets-by_hits : hits (ahead (hinted hint (exchange_plan pool k size difference)) path place) ≡ hits (ahead (hinted hint (exchange_plan pool k size difference)) path' place') → sets_ahead pool k hint size difference path place beyond ≡ sets_ahead pool k hint size difference path' place' beyond'
+  unfolding stage_left
   sets-by_hits same =
-      ap (λ paths. map (set_of pool k size) paths ++ (sets_of_stages pool k (greatest_difference pool k size - difference) size (suc difference) (lower beyond (lowest (ahead (exchange_plan pool k size difference) path place))) ++ sets_of_sizes pool k (most_exchanged pool k - size) (suc size))) same
-      ∙ ap (λ o. stage_sets pool k size difference path' place' ++ (sets_of_stages pool k (greatest_difference pool k size - difference) size (suc difference) o ++ sets_of_sizes pool k (most_exchanged pool k - size) (suc size))) next
+      ap (λ paths. map (set_of pool k size) paths ++ (sets_of_stages pool k (greatest_difference pool k size - difference) size (suc difference) (lower beyond (lowest (ahead (hinted hint (exchange_plan pool k size difference)) path place))) ++ sets_of_sizes pool k (most_exchanged pool k - size) (suc size))) same
+      ∙ ap (λ o. stage_left pool k hint size difference path' place' ++ (sets_of_stages pool k (greatest_difference pool k size - difference) size (suc difference) o ++ sets_of_sizes pool k (most_exchanged pool k - size) (suc size))) next
 
-  pub sets-found : hits (ahead (exchange_plan pool k size difference) path place) ≡ path' ∷ hits (ahead (exchange_plan pool k size difference) path' place') → sets_ahead pool k size difference path place beyond ≡ set_of pool k size path' ∷ sets_ahead pool k size difference path' place' beyond'
-  unfolding stage_sets
+  pub sets-found : hits (ahead (hinted hint (exchange_plan pool k size difference)) path place) ≡ path' ∷ hits (ahead (hinted hint (exchange_plan pool k size difference)) path' place') → sets_ahead pool k hint size difference path place beyond ≡ set_of pool k size path' ∷ sets_ahead pool k hint size difference path' place' beyond'
+  unfolding stage_left
   sets-found same =
-      ap (λ paths. map (set_of pool k size) paths ++ (sets_of_stages pool k (greatest_difference pool k size - difference) size (suc difference) (lower beyond (lowest (ahead (exchange_plan pool k size difference) path place))) ++ sets_of_sizes pool k (most_exchanged pool k - size) (suc size))) same
-      ∙ ap (λ o. set_of pool k size path' ∷ (stage_sets pool k size difference path' place' ++ (sets_of_stages pool k (greatest_difference pool k size - difference) size (suc difference) o ++ sets_of_sizes pool k (most_exchanged pool k - size) (suc size)))) next
+      ap (λ paths. map (set_of pool k size) paths ++ (sets_of_stages pool k (greatest_difference pool k size - difference) size (suc difference) (lower beyond (lowest (ahead (hinted hint (exchange_plan pool k size difference)) path place))) ++ sets_of_sizes pool k (most_exchanged pool k - size) (suc size))) same
+      ∙ ap (λ o. set_of pool k size path' ∷ (stage_left pool k hint size difference path' place' ++ (sets_of_stages pool k (greatest_difference pool k size - difference) size (suc difference) o ++ sets_of_sizes pool k (most_exchanged pool k - size) (suc size)))) next
 
-  pub trials-after : trials_of_stages pool k (greatest_difference pool k size - difference) size (suc difference) (lower beyond (lowest (ahead (exchange_plan pool k size difference) path place))) ≡ trials_of_stages pool k (greatest_difference pool k size - difference) size (suc difference) (lower beyond' (lowest (ahead (exchange_plan pool k size difference) path' place')))
+  pub trials-after : trials_of_stages pool k (greatest_difference pool k size - difference) size (suc difference) (lower beyond (lowest (ahead (hinted hint (exchange_plan pool k size difference)) path place))) ≡ trials_of_stages pool k (greatest_difference pool k size - difference) size (suc difference) (lower beyond' (lowest (ahead (hinted hint (exchange_plan pool k size difference)) path' place')))
   trials-after = ap (trials_of_stages pool k (greatest_difference pool k size - difference) size (suc difference)) next
 
 -- at the numbers that the code has
-pub sets-at_new : (pool : List ℕ) (k size size' difference difference' : ℕ) (path : List ℕ) (place : ℕ) (beyond : Option ℕ) → path ≡ [] → place ≡ 0 → beyond ≡ None → size ≡ size' → difference ≡ difference' → sets_ahead pool k size difference path place beyond ≡ sets_ahead pool k size' difference' [] 0 None
-sets-at_new pool k size size' difference difference' path place beyond no_path none nothing same_size same =
-    ap (λ path. sets_ahead pool k size difference path place beyond) no_path
-    ∙ ap (λ place. sets_ahead pool k size difference [] place beyond) none
-    ∙ ap (λ beyond. sets_ahead pool k size difference [] 0 beyond) nothing
-    ∙ ap (λ size. sets_ahead pool k size difference [] 0 None) same_size
-    ∙ ap (λ difference. sets_ahead pool k size' difference [] 0 None) same
+pub sets-at : (pool pool' : List ℕ) (k : ℕ) (hint hint' : List ℕ) (size size' difference difference' : ℕ) (path : List ℕ) (place place' : ℕ) (beyond beyond' : Option ℕ) → pool ≡ pool' → hint ≡ hint' → path ≡ [] → place ≡ place' → beyond ≡ beyond' → size ≡ size' → difference ≡ difference' → sets_ahead pool k hint size difference path place beyond ≡ sets_ahead pool' k hint' size' difference' [] place' beyond'
+sets-at pool pool' k hint hint' size size' difference difference' path place place' beyond beyond' same_pool same_hint no_path same_place same_beyond same_size same =
+    ap (λ pool. sets_ahead pool k hint size difference path place beyond) same_pool
+    ∙ ap (λ hint. sets_ahead pool' k hint size difference path place beyond) same_hint
+    ∙ ap (λ path. sets_ahead pool' k hint' size difference path place beyond) no_path
+    ∙ ap (λ place. sets_ahead pool' k hint' size difference [] place beyond) same_place
+    ∙ ap (λ beyond. sets_ahead pool' k hint' size difference [] place' beyond) same_beyond
+    ∙ ap (λ size. sets_ahead pool' k hint' size difference [] place' beyond') same_size
+    ∙ ap (λ difference. sets_ahead pool' k hint' size' difference [] place' beyond') same
 
-pub trials-at_new : (pool : List ℕ) (k size size' difference difference' : ℕ) (path : List ℕ) (place : ℕ) (beyond : Option ℕ) → path ≡ [] → place ≡ 0 → beyond ≡ None → size ≡ size' → difference ≡ difference' → trials_ahead pool k size difference path place beyond ≡ trials_ahead pool k size' difference' [] 0 None
-trials-at_new pool k size size' difference difference' path place beyond no_path none nothing same_size same =
-    ap (λ path. trials_ahead pool k size difference path place beyond) no_path
-    ∙ ap (λ place. trials_ahead pool k size difference [] place beyond) none
-    ∙ ap (λ beyond. trials_ahead pool k size difference [] 0 beyond) nothing
-    ∙ ap (λ size. trials_ahead pool k size difference [] 0 None) same_size
-    ∙ ap (λ difference. trials_ahead pool k size' difference [] 0 None) same
+pub trials-at : (pool pool' : List ℕ) (k : ℕ) (hint hint' : List ℕ) (size size' difference difference' : ℕ) (path : List ℕ) (place place' : ℕ) (beyond beyond' : Option ℕ) → pool ≡ pool' → hint ≡ hint' → path ≡ [] → place ≡ place' → beyond ≡ beyond' → size ≡ size' → difference ≡ difference' → trials_ahead pool k hint size difference path place beyond ≡ trials_ahead pool' k hint' size' difference' [] place' beyond'
+trials-at pool pool' k hint hint' size size' difference difference' path place place' beyond beyond' same_pool same_hint no_path same_place same_beyond same_size same =
+    ap (λ pool. trials_ahead pool k hint size difference path place beyond) same_pool
+    ∙ ap (λ hint. trials_ahead pool' k hint size difference path place beyond) same_hint
+    ∙ ap (λ path. trials_ahead pool' k hint' size difference path place beyond) no_path
+    ∙ ap (λ place. trials_ahead pool' k hint' size difference [] place beyond) same_place
+    ∙ ap (λ beyond. trials_ahead pool' k hint' size difference [] place' beyond) same_beyond
+    ∙ ap (λ size. trials_ahead pool' k hint' size difference [] place' beyond') same_size
+    ∙ ap (λ difference. trials_ahead pool' k hint' size' difference [] place' beyond') same

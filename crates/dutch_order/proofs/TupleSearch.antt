@@ -1,5 +1,5 @@
 -- The search of transpositions finds the tuples that may meet, in the order of their numbers.
-use Rattle.std.proofs.Common.{◌≡◌, ℕ, zero, suc, ◌+◌, ◌-◌, ◌*◌, ◌<◌, ◌≤◌, Bool, true, false, not, ◌&&◌, ◌||◌, eqb, cond, List, [], ◌∷◌, ◌++◌, map, length, take, drop, refl, sym, ◌∙◌, ap, arith, length-append, append_assoc, inl, inr, slice_index, subst}
+use Rattle.std.proofs.Common.{◌≡◌, ℕ, zero, suc, ◌+◌, ◌-◌, ◌*◌, ◌<◌, ◌≤◌, Bool, true, false, not, ◌&&◌, ◌||◌, ◌==◌, eqb, ltb, if◌then◌else◌, cond, List, [], ◌∷◌, ◌++◌, map, length, take, drop, refl, sym, ◌∙◌, ap, arith, length-append, append_assoc, inl, inr, slice_index, subst}
 use Rattle.std.proofs.lemmas.List.{length-map}
 use Rattle.std.specs.List.{filter, flat_map, list_any, AllByRecursion}
 use Rattle.std.specs.List.Sorted.{IsStrictlyIncreasing}
@@ -8,13 +8,18 @@ use Rattle.std.proofs.lemmas.Simd.{map-map}
 use Rattle.std.proofs.lemmas.List.{append-nil, map-append}
 use Rattle.std.proofs.lemmas.List.Folds.{flat_map-map, list_any-append}
 use Rattle.std.proofs.lemmas.List.Kept.{AllPairs-from_increasing}
-use Rattle.std.proofs.lemmas.Bool.{ne_eqb, eq-eqb, cases_order}
+use Rattle.std.proofs.lemmas.Bool.{ne_eqb, eq-eqb, eqb-true, lt-ltb, le-ltb, cases_order, cases_Bool, true≢false}
 use Rattle.dutch_order.specs.Trials.{Plan, numbers_from, entry, ahead, hits, trials}
-use Rattle.dutch_order.specs.Choices.{tuples, without, all_meet}
+use Rattle.dutch_order.specs.Choices.{tuples, without, all_meet, from_on}
 use Rattle.dutch_order.specs.Transposition.{transpositions, short_beginnings, beginnings_below}
-use Rattle.dutch_order.specs.TranspositionSearch.{transposition_plan, numbers_at}
+use Rattle.dutch_order.specs.TranspositionSearch.{transposition_plan, numbers_at, place_in, places_in}
+use Rattle.dutch_order.specs.Hints.{hinted, first_hint}
 use Rattle.dutch_order.proofs.Lists.{map-flat_map, filter-flat_map, flat_map-filter, flat_map-below, map-numbers_from, map-same, filter-same, filter-filter, filter-all}
-use Rattle.dutch_order.specs.Keys.{is_before, Ascends}
+use Rattle.dutch_order.specs.Keys.{is_before, sorted, IsIn, Ascends}
+use Rattle.dutch_order.proofs.HalfWalks.{Admitted}
+use Rattle.dutch_order.proofs.FoundPaths.{found-admitted}
+use Rattle.dutch_order.proofs.FromOn.{is_late, from_on-filter, map-late}
+use Rattle.dutch_order.proofs.Hinted.{Reaches, hinted-hits}
 use Rattle.dutch_order.proofs.Found.{found, found-zero, found-suc, ahead-new, short_paths, trials-short}
 use Rattle.dutch_order.proofs.Orders.{Rises, Rises-from, Rises-filter, Ascends-append, Ascends-head, IsIn-map, IsIn-flat_map, member_has, is_before-lower, sorted-ascending}
 
@@ -156,13 +161,131 @@ module _ (meets : ℕ → ℕ → Bool) (first pool : List ℕ) (rises : IsStric
       ∙ ap (λ l. map (λ tuple. tuple) (filter (all_meet meets (take open_places first)) (tuples l open_places))) (filter-all pool)
       ∙ map-self (filter (all_meet meets (take open_places first)) (tuples pool open_places))
 
+  sorted-tuples : sorted (λ tuple. tuple) (tuples pool (length first)) ≡ tuples pool (length first)
+  sorted-tuples = sorted-ascending (λ tuple. tuple) (tuples pool (length first)) (tuples-ascend (length first) pool (Rises-from pool rises))
+
+  found-all : map (numbers_at pool) (found plan (length first) []) ≡ transpositions meets first pool
+  found-all =
+      found-new (length first) (omega arith)
+      ∙ ap (λ firsts. filter (all_meet meets firsts) (tuples pool (length first))) (take-length first)
+      ∙ ap (filter (all_meet meets first)) (sym sorted-tuples)
+
   pub transpositions-found : map (numbers_at pool) (hits (ahead plan [] 0)) ≡ transpositions meets first pool
   transpositions-found =
       ap (λ number. map (numbers_at pool) (hits (ahead plan [] number))) (sym (starts_at_none (length first)))
       ∙ ap (λ events. map (numbers_at pool) (hits events)) (ahead-new plan)
-      ∙ found-new (length first) (omega arith)
-      ∙ ap (λ firsts. filter (all_meet meets firsts) (tuples pool (length first))) (take-length first)
-      ∙ ap (filter (all_meet meets first)) (sym (sorted-ascending (λ tuple. tuple) (tuples pool (length first)) (tuples-ascend (length first) pool (Rises-from pool rises))))
+      ∙ found-all
+
+  -- a number of the pool is at its place
+  value-at : (pool' : List ℕ) (x : ℕ) → IsIn x pool' → (place_in pool' x < length pool') × (slice_index pool' (place_in pool' x) ≡ x)
+  value-at [] x m = absurd m
+  value-at (y ∷ pool') x m =
+      elim (cases_Bool (y == x)) [
+        | inl same ↦ (
+          subst (λ b. (if b then 0 else 1 + place_in pool' x) < suc (length pool')) (sym same) (omega arith),
+          ap (λ b. slice_index (y ∷ pool') (if b then 0 else 1 + place_in pool' x)) same ∙ eqb-true y x same,
+        )
+        | inr apart ↦
+            let later : IsIn x pool' = elim m [ inl same ↦ absurd (true≢false (sym (eq-eqb y x (sym same)) ∙ apart)) | inr m ↦ m ] in
+            let rest = value-at pool' x later in (
+              subst (λ b. (if b then 0 else 1 + place_in pool' x) < suc (length pool')) (sym apart) (omega (arith, rest.0)),
+              ap (λ b. slice_index (y ∷ pool') (if b then 0 else 1 + place_in pool' x)) apart
+                  ∙ ap (slice_index (y ∷ pool')) (let e : 1 + place_in pool' x ≡ suc (place_in pool' x) = omega arith in e) ∙ rest.1,
+            )
+      ]
+
+  members-without : (y : ℕ) (numbers tuple : List ℕ) → AllByRecursion (λ x. IsIn x (without y numbers)) tuple → AllByRecursion (λ x. IsIn x numbers) tuple
+  members-without y numbers [] all = tt
+  members-without y numbers (x ∷ tuple) all = (in-filter (λ z. not (eqb z y)) x numbers all.0, members-without y numbers tuple all.1)
+    where
+      in-filter : (p : ℕ → Bool) (x : ℕ) (xs : List ℕ) → IsIn x (filter p xs) → IsIn x xs
+      in-filter p x [] m = m
+      in-filter p x (z ∷ xs) m =
+          elim (p z) as (λ b. IsIn x (cond b (z ∷ filter p xs) (filter p xs)) → IsIn x (z ∷ xs)) [
+            | true ↦ (λ m. elim m [ inl same ↦ inl same | inr later ↦ inr (in-filter p x xs later) ])
+            | false ↦ (λ m. inr (in-filter p x xs m))
+          ] m
+
+  -- a tuple has so many members of its list
+  pub tuple-members : (k : ℕ) (numbers tuple : List ℕ) → IsIn tuple (tuples numbers k) → (length tuple ≡ k) × AllByRecursion (λ x. IsIn x numbers) tuple
+  tuple-members zero numbers tuple (inl same) = (ap length same, subst (AllByRecursion (λ x. IsIn x numbers)) (sym same) tt)
+  tuple-members zero numbers tuple (inr none) = absurd none
+  tuple-members (suc k) numbers tuple m =
+      let head = IsIn-flat_map (λ x. map (λ tuple. x ∷ tuple) (tuples (without x numbers) k)) tuple numbers m in
+      let tail = IsIn-map (λ tuple. head.0 ∷ tuple) tuple (tuples (without head.0 numbers) k) head.2 in
+      let rest = tuple-members k (without head.0 numbers) tail.0 tail.2 in (
+        ap length tail.1 ∙ ap suc rest.0,
+        subst (AllByRecursion (λ x. IsIn x numbers)) (sym tail.1) (head.1, members-without head.0 numbers tail.0 rest.1),
+      )
+
+  places-back : (tuple : List ℕ) → AllByRecursion (λ x. IsIn x pool) tuple → AllByRecursion (λ place. place < length pool) (places_in pool tuple) × (numbers_at pool (places_in pool tuple) ≡ tuple)
+  places-back [] all = (tt, refl)
+  places-back (x ∷ tuple) all =
+      let here = value-at pool x all.0 in
+      let rest = places-back tuple all.1 in
+      ((here.0, rest.0), ap (λ y. y ∷ numbers_at pool (places_in pool tuple)) here.1 ∙ ap (λ ys. x ∷ ys) rest.1)
+
+  reads_before : (i j : ℕ) → i < length pool → j < length pool → ltb i j ≡ ltb (slice_index pool i) (slice_index pool j)
+  reads_before i j low high =
+      elim (cases_order i j) [
+        | inl same ↦ le-ltb i j (omega arith) ∙ sym (le-ltb (slice_index pool i) (slice_index pool j) (let e = ap (slice_index pool) same in omega arith))
+        | inr (inl below) ↦
+            let lower : slice_index pool i < slice_index pool j = AllPairs-from_increasing pool rises i j 0 below high in
+            lt-ltb i j below ∙ sym (lt-ltb (slice_index pool i) (slice_index pool j) lower)
+        | inr (inr above) ↦
+            let lower : slice_index pool j < slice_index pool i = AllPairs-from_increasing pool rises j i 0 above low in
+            le-ltb i j (omega arith) ∙ sym (le-ltb (slice_index pool i) (slice_index pool j) (omega arith))
+      ]
+
+  -- paths and their numbers have one order
+  before-numbers : (p q : List ℕ) → AllByRecursion (λ place. place < length pool) p → AllByRecursion (λ place. place < length pool) q → is_before p q ≡ is_before (numbers_at pool p) (numbers_at pool q)
+  before-numbers [] [] p-in q-in = refl
+  before-numbers [] (j ∷ q) p-in q-in = refl
+  before-numbers (i ∷ p) [] p-in q-in = refl
+  before-numbers (i ∷ p) (j ∷ q) p-in q-in =
+      ap (λ b. b || (eqb i j && is_before p q)) (reads_before i j p-in.0 q-in.0)
+      ∙ ap (λ b. ltb (slice_index pool i) (slice_index pool j) || (b && is_before p q)) (reads_apart i j p-in.0 q-in.0)
+      ∙ ap (λ b. ltb (slice_index pool i) (slice_index pool j) || (eqb (slice_index pool i) (slice_index pool j) && b)) (before-numbers p q p-in.1 q-in.1)
+
+  admitted-within : (open_places : ℕ) (begun path : List ℕ) → Admitted plan open_places begun path → AllByRecursion (λ place. place < length pool) path
+  admitted-within zero begun path admitted = subst (AllByRecursion (λ place. place < length pool)) (sym admitted) tt
+  admitted-within (suc open_places) begun [] admitted = absurd admitted
+  admitted-within (suc open_places) begun (i ∷ path) admitted = (admitted.1, admitted-within open_places (begun ++ i ∷ []) path admitted.3)
+
+  reaches-all : (begun path : List ℕ) → Reaches plan begun path
+  reaches-all begun [] = tt
+  reaches-all begun (i ∷ path) = (omega arith, reaches-all (begun ++ i ∷ []) path)
+
+  and_turned : (a b : Bool) → (a && b) ≡ (b && a)
+  and_turned true true = refl
+  and_turned true false = refl
+  and_turned false true = refl
+  and_turned false false = refl
+
+  -- a search that begins at a tuple finds those from it on, of which the players may meet
+  pub transpositions-from : (tuple : List ℕ) → IsIn tuple (tuples pool (length first)) → map (numbers_at pool) (hits (ahead (hinted (places_in pool tuple) plan) [] (first_hint (places_in pool tuple)))) ≡ filter (all_meet meets first) (from_on tuple (sorted (λ tuple. tuple) (tuples pool (length first))))
+  transpositions-from tuple m =
+      let hint : List ℕ = places_in pool tuple in
+      let known = tuple-members (length first) pool tuple m in
+      let back = places-back tuple known.1 in
+      let whole : length first ≡ length hint = sym (length-map tuple (place_in pool) ∙ known.0) in
+      let all : List (List ℕ) = sorted (λ tuple. tuple) (tuples pool (length first)) in
+      let late : List ℕ → List ℕ → Bool = is_late (λ tuple. tuple) in
+      ap (map (numbers_at pool)) (hinted-hits plan hint whole (reaches-all [] hint))
+      ∙ map-late (λ tuple. tuple) (numbers_at pool) hint (found plan (length first) [])
+      (λ p n.
+      let one = found-admitted plan (length first) [] p n in
+      before-numbers p hint (subst (AllByRecursion (λ place. place < length pool)) (sym one.1) (admitted-within (length first) [] one.0 one.2)) back.0)
+      ∙ ap (λ t. filter (late t) (map (numbers_at pool) (found plan (length first) []))) back.1
+      ∙ ap (filter (late tuple)) found-all
+      ∙ filter-filter (late tuple) (all_meet meets first) all
+      ∙ filter-same (λ t. all_meet meets first t && late tuple t) (λ t. late tuple t && all_meet meets first t) all (λ t. and_turned (all_meet meets first t) (late tuple t))
+      ∙ sym (filter-filter (all_meet meets first) (late tuple) all)
+      ∙ ap (filter (all_meet meets first))
+      (sym
+      (from_on-filter (λ tuple. tuple) tuple all
+      (subst (Ascends (λ tuple. tuple)) (sym sorted-tuples) (tuples-ascend (length first) pool (Rises-from pool rises)))
+      (subst (IsIn tuple) (sym sorted-tuples) m)))
 
   short-length : (k : ℕ) → k ≤ length first → length (short_paths plan (length pool) (λ path. refl) (λ path. refl) k []) ≡ length (beginnings_below meets first pool k)
   short-length zero room = refl
@@ -178,3 +301,20 @@ module _ (meets : ℕ → ℕ → Bool) (first pool : List ℕ) (rises : IsStric
       ∙ ap trials (ahead-new plan)
       ∙ trials-short plan (length pool) (λ path. refl) (λ path. refl) (length first) []
       ∙ ap (λ n. length pool * n) (short-length (length first) (omega arith))
+
+-- what is to come, at the lists and numbers that the code has
+pub tuples-at : (meets : ℕ → ℕ → Bool) (first first' pool pool' hint hint' path : List ℕ) (number number' : ℕ) → first ≡ first' → pool ≡ pool' → hint ≡ hint' → path ≡ [] → number ≡ number' → map (numbers_at pool) (hits (ahead (hinted hint (transposition_plan meets first pool)) path number)) ≡ map (numbers_at pool') (hits (ahead (hinted hint' (transposition_plan meets first' pool')) [] number'))
+tuples-at meets first first' pool pool' hint hint' path number number' same_first same_pool same_hint none same_number =
+    ap (λ first. map (numbers_at pool) (hits (ahead (hinted hint (transposition_plan meets first pool)) path number))) same_first
+    ∙ ap (λ pool. map (numbers_at pool) (hits (ahead (hinted hint (transposition_plan meets first' pool)) path number))) same_pool
+    ∙ ap (λ hint. map (numbers_at pool') (hits (ahead (hinted hint (transposition_plan meets first' pool')) path number))) same_hint
+    ∙ ap (λ path. map (numbers_at pool') (hits (ahead (hinted hint' (transposition_plan meets first' pool')) path number))) none
+    ∙ ap (λ number. map (numbers_at pool') (hits (ahead (hinted hint' (transposition_plan meets first' pool')) [] number))) same_number
+
+pub tuple-trials-at : (meets : ℕ → ℕ → Bool) (first first' pool pool' hint hint' path : List ℕ) (number number' : ℕ) → first ≡ first' → pool ≡ pool' → hint ≡ hint' → path ≡ [] → number ≡ number' → trials (ahead (hinted hint (transposition_plan meets first pool)) path number) ≡ trials (ahead (hinted hint' (transposition_plan meets first' pool')) [] number')
+tuple-trials-at meets first first' pool pool' hint hint' path number number' same_first same_pool same_hint none same_number =
+    ap (λ first. trials (ahead (hinted hint (transposition_plan meets first pool)) path number)) same_first
+    ∙ ap (λ pool. trials (ahead (hinted hint (transposition_plan meets first' pool)) path number)) same_pool
+    ∙ ap (λ hint. trials (ahead (hinted hint (transposition_plan meets first' pool')) path number)) same_hint
+    ∙ ap (λ path. trials (ahead (hinted hint' (transposition_plan meets first' pool')) path number)) none
+    ∙ ap (λ number. trials (ahead (hinted hint' (transposition_plan meets first' pool')) [] number)) same_number

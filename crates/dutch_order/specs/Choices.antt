@@ -1,5 +1,5 @@
 -- The plain lists of choices, in no order that matters: sets and tuples of the members of a list.
-use Rattle.std.specs.Prelude.{ℕ, zero, suc, Bool, true, not, eqb, ◌&&◌, List, [], ◌∷◌, ◌++◌, map, filter, flat_map}
+use Rattle.std.specs.Prelude.{ℕ, zero, suc, Bool, true, false, not, eqb, ◌&&◌, List, [], ◌∷◌, ◌++◌, map, filter, flat_map, if◌then◌else◌}
 use Rattle.std.specs.List.{list_any}
 
 -- all lists of k members of a list, each list in the order in which its members stand there
@@ -26,3 +26,15 @@ abbrev pub all_meet : (ℕ → ℕ → Bool) → List ℕ → List ℕ → Bool
 all_meet meets [] seconds = true
 all_meet meets (first ∷ firsts) [] = true
 all_meet meets (first ∷ firsts) (second ∷ seconds) = meets first second && all_meet meets firsts seconds
+
+-- whether two choices are the same
+abbrev pub is_same : List ℕ → List ℕ → Bool
+is_same [] [] = true
+is_same [] (y ∷ ys) = false
+is_same (x ∷ xs) [] = false
+is_same (x ∷ xs) (y ∷ ys) = eqb x y && is_same xs ys
+
+-- the choices from a given one on
+abbrev pub from_on : List ℕ → List (List ℕ) → List (List ℕ)
+from_on choice [] = []
+from_on choice (other ∷ others) = if is_same other choice then other ∷ others else from_on choice others

@@ -3,6 +3,7 @@ pub mod Keys
 pub mod Trials
 pub mod Steps
 pub mod Walks
+pub mod Hints
 pub mod Transposition
 pub mod Halves
 pub mod Limbo
@@ -11,3 +12,9 @@ pub mod Stages
 pub mod Sides
 pub mod TranspositionSearch
 pub mod LimboSearch
+pub mod Arrangements
+pub mod Draws
+pub mod Levels
+pub mod Listings
+pub mod Cursors
+pub mod CursorLists

@@ -1,5 +1,5 @@
 -- How sets of moved-down players are searched: a model that carries the search, and which a reader of the promises may pass by.
-use Rattle.std.specs.Prelude.{ℕ, ◌+◌, ◌-◌, Bool, ◌&&◌, ◌||◌, not, ◌==◌, nat_lt, List, [], ◌∷◌, map, drop, length, slice_index, slice_range, if◌then◌else◌, None}
+use Rattle.std.specs.Prelude.{ℕ, zero, suc, ◌+◌, ◌-◌, Bool, ◌&&◌, ◌||◌, not, ◌==◌, nat_lt, List, [], ◌∷◌, ◌++◌, map, drop, length, slice_index, slice_range, if◌then◌else◌, None}
 use Rattle.dutch_order.specs.Trials.{Plan}
 use Rattle.dutch_order.specs.Halves.{half_start, two_halves}
 
@@ -38,3 +38,23 @@ numbers_of places = map (λ place. place + 1) places
 -- the set that a path has found
 abbrev pub second_numbers : ℕ → List ℕ → List ℕ
 second_numbers k path = numbers_of (drop k path)
+
+-- the first place that has the score of a place, of so many before it from one on, or else that place
+abbrev pub leader : List ℕ → ℕ → ℕ → ℕ → ℕ
+leader scores place first zero = place
+leader scores place first (suc count) =
+    if slice_index scores first == slice_index scores place then first else leader scores place (suc first) count
+
+-- the first set with the scores of a set of places, from a place on
+abbrev pub leaders : List ℕ → ℕ → List ℕ → List ℕ
+leaders scores first [] = []
+leaders scores first (place ∷ places) =
+    leader scores place first (place - first) ∷ leaders scores (suc (leader scores place first (place - first))) places
+
+-- the places of numbers, which count from 1
+abbrev pub places_of : List ℕ → List ℕ
+places_of numbers = map (λ number. number - 1) numbers
+
+-- the path that finds a set
+abbrev pub limbo_path : List ℕ → List ℕ → List ℕ
+limbo_path scores set = leaders scores 0 (places_of set) ++ places_of set

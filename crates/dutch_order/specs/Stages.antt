@@ -5,6 +5,7 @@ use Rattle.dutch_order.specs.declared.exchange.Side.{Side}
 use Rattle.dutch_order.specs.declared.exchange.Side.TheVariants.{Out, In}
 use Rattle.dutch_order.specs.Trials.{Plan, numbers_from, hits, trials, lower, lowest, ahead}
 use Rattle.dutch_order.specs.Halves.{two_halves}
+use Rattle.dutch_order.specs.Hints.{hinted}
 
 -- the sum of what a function gives over a list
 abbrev pub total : (ℕ → ℕ) → List ℕ → ℕ
@@ -73,6 +74,25 @@ module _ (pool : List ℕ) (k : ℕ) where
   stage_sets size difference path place =
       map (set_of size) (hits (ahead (exchange_plan size difference) path place))
 
+  -- the same where the stage begins at a path
+  unfoldable pub stage_left : List ℕ → ℕ → ℕ → List ℕ → ℕ → List (List ℕ)
+  stage_left hint size difference path place =
+      map (set_of size) (hits (ahead (hinted hint (exchange_plan size difference)) path place))
+
+  -- the places of the numbers that a set has moved out, and of those that it has moved in
+  abbrev pub out_places : List ℕ → List ℕ
+  out_places set = filter (λ place. not (is_member (value_of Out place) set)) (numbers_from 0 k)
+
+  abbrev pub in_places : List ℕ → List ℕ
+  in_places set = filter (λ place. is_member (value_of In place) set) (numbers_from 0 (length pool - k))
+
+  -- the path that finds a set, and the difference of its sums
+  abbrev pub exchange_path : List ℕ → List ℕ
+  exchange_path set = out_places set ++ in_places set
+
+  abbrev pub exchange_difference : List ℕ → ℕ
+  exchange_difference set = total (value_of In) (in_places set) - total (value_of Out) (out_places set)
+
   -- the least and the greatest difference of exchanges of so many
   abbrev pub least_difference : ℕ → ℕ
   least_difference size = run In 0 size - run Out 0 size
@@ -118,17 +138,17 @@ module _ (pool : List ℕ) (k : ℕ) where
   abbrev pub most_exchanged : ℕ
   most_exchanged = min k (length pool - k)
 
-  -- what is to come at a stage, where it is known what lies beyond the trials made in it
-  abbrev pub sets_ahead : ℕ → ℕ → List ℕ → ℕ → Option ℕ → List (List ℕ)
-  sets_ahead size difference path place beyond =
-      stage_sets size difference path place
-      ++ (sets_of_stages (greatest_difference size - difference) size (suc difference) (lower beyond (lowest (ahead (exchange_plan size difference) path place)))
+  -- what is to come at a stage that began at a path, where it is known what lies beyond the trials made in it
+  abbrev pub sets_ahead : List ℕ → ℕ → ℕ → List ℕ → ℕ → Option ℕ → List (List ℕ)
+  sets_ahead hint size difference path place beyond =
+      stage_left hint size difference path place
+      ++ (sets_of_stages (greatest_difference size - difference) size (suc difference) (lower beyond (lowest (ahead (hinted hint (exchange_plan size difference)) path place)))
       ++ sets_of_sizes (most_exchanged - size) (suc size))
 
-  abbrev pub trials_ahead : ℕ → ℕ → List ℕ → ℕ → Option ℕ → ℕ
-  trials_ahead size difference path place beyond =
-      trials (ahead (exchange_plan size difference) path place)
-      + (trials_of_stages (greatest_difference size - difference) size (suc difference) (lower beyond (lowest (ahead (exchange_plan size difference) path place)))
+  abbrev pub trials_ahead : List ℕ → ℕ → ℕ → List ℕ → ℕ → Option ℕ → ℕ
+  trials_ahead hint size difference path place beyond =
+      trials (ahead (hinted hint (exchange_plan size difference)) path place)
+      + (trials_of_stages (greatest_difference size - difference) size (suc difference) (lower beyond (lowest (ahead (hinted hint (exchange_plan size difference)) path place)))
       + trials_of_sizes (most_exchanged - size) (suc size))
 
   abbrev pub stages_ahead : ℕ → ℕ → ℕ

@@ -1,5 +1,5 @@
 -- How transpositions are searched: a model that carries the search, and which a reader of the promises may pass by.
-use Rattle.std.specs.Prelude.{ℕ, Bool, not, ◌&&◌, eqb, List, map, length, slice_index, None}
+use Rattle.std.specs.Prelude.{ℕ, ◌+◌, Bool, not, ◌&&◌, ◌==◌, eqb, List, [], ◌∷◌, map, length, slice_index, if◌then◌else◌, None}
 use Rattle.std.specs.List.{list_any}
 use Rattle.dutch_order.specs.Trials.{Plan}
 
@@ -18,3 +18,11 @@ transposition_plan meets first pool = record {
 -- the numbers at the places of a path
 abbrev pub numbers_at : List ℕ → List ℕ → List ℕ
 numbers_at pool path = map (λ place. slice_index pool place) path
+
+-- the place of a number in a pool, and those of the numbers of a list
+abbrev pub place_in : List ℕ → ℕ → ℕ
+place_in [] number = 0
+place_in (x ∷ pool) number = if x == number then 0 else 1 + place_in pool number
+
+abbrev pub places_in : List ℕ → List ℕ → List ℕ
+places_in pool numbers = map (place_in pool) numbers

@@ -5,23 +5,29 @@
 // while the wanted difference lies between the least and the greatest that can still come. So a stage never scans all sets. Where
 // the least is more than what is wanted, it is noted: the lowest one noted is the difference of the next stage, so no stage is
 // searched that has no set, however far apart the numbers of the pool are.
+//
+// A search that begins at a set begins in that set's stage, at the set's own path, and then tries the very next difference, since
+// what lies beyond the paths before the set was not seen.
 ghost use Rattle.dutch_order.specs.declared.search.TheConstants.{LIMIT};
-ghost use Rattle.std.specs.Prelude.{◌≡◌, ◌+◌, ◌*◌, ◌-◌, ◌<◌, ◌≤◌, ℕ, true, false, [], ◌∷◌, ◌++◌, length, map, take, drop};
+ghost use Rattle.std.specs.Prelude.{◌≡◌, ◌+◌, ◌*◌, ◌-◌, ◌<◌, ◌≤◌, ℕ, suc, true, false, Some, [], ◌∷◌, ◌++◌, length, map, take, drop};
 ghost use Rattle.std.specs.List.{AllByRecursion};
 ghost use Rattle.dutch_order.specs.Trials.{numbers_from};
-ghost use Rattle.dutch_order.specs.Stages.{least_at, greatest_at, least_difference, greatest_difference, exchange_plan, sets_ahead, trials_ahead, stages_ahead, set_of, kept_of, value_of, following};
+ghost use Rattle.dutch_order.specs.Stages.{least_at, greatest_at, least_difference, greatest_difference, exchange_plan, sets_ahead, trials_ahead, stages_ahead, set_of, kept_of, value_of, following, out_places, in_places, exchange_path, exchange_difference};
 ghost use Rattle.dutch_order.specs.Exchange.{exchanges};
+ghost use Rattle.dutch_order.specs.Choices.{subsets, from_on};
+ghost use Rattle.dutch_order.specs.Keys.{IsIn};
 ghost use Rattle.std.specs.List.Sorted.{IsStrictlyIncreasing};
 ghost use Rattle.dutch_order.specs.declared.exchange.Side.TheVariants.{In};
 ghost use Rattle.dutch_order.specs.Steps.{MatchStep};
 ghost use Rattle.dutch_order.specs.Walks.{Stands, IsOpen};
 ghost use Rattle.dutch_order.specs.Trials.{ahead};
+ghost use Rattle.dutch_order.specs.Hints.{hinted, first_hint};
 
 use crate::halves::{end_of_half, first_of_half};
-use crate::search::{LIMIT, Tree, Walk, climb_on};
+use crate::search::{Hinted, LIMIT, Path, Tree, Walk, climb_on, first_hint, put_behind};
 use crate::steps::{Budget, Step};
 use crate::sums::{run_of, total_of, value_at};
-use crate::transposition::Numbers;
+use crate::transposition::{Numbers, copied};
 use arrayvec::ArrayVec;
 use std::marker::Model;
 
@@ -185,12 +191,74 @@ fn following_of(difference: usize, greatest: usize, beyond: Option<usize>) -> Op
     }
 }
 
-/// Where a search of exchanges stands.
+/// Where a search of exchanges stands, and the path at which its stage began, if it was not new.
 #[derive(Drop)]
 struct Place {
     size: usize,
     difference: usize,
+    hint: Path,
     walk: Walk,
+}
+
+/// The places of the numbers that a set has moved out, from the highest.
+fn out_places(pool: &[u16], k: usize, set: &[u16]) -> Path
+    requires few { length pool.now ≤ LIMIT }
+    requires enough { k ≤ length pool.now }
+    ensures places { result.items ≡ out_places pool.now k set.now }
+    ensures within { AllByRecursion (λ place. place < k) result.items }
+    ensures fits { length result.items ≤ k }
+{
+    let mut places = ArrayVec::new();
+    for place in 0..k {
+        if !set.contains(&pool[k - 1 - place]) {
+            places.push(place);
+        }
+    }
+    places
+}
+
+/// The places of the numbers that a set has moved in, from the lowest.
+fn in_places(pool: &[u16], k: usize, set: &[u16]) -> Path
+    requires few { length pool.now ≤ LIMIT }
+    requires enough { k ≤ length pool.now }
+    ensures places { result.items ≡ in_places pool.now k set.now }
+    ensures within { AllByRecursion (λ place. place < length pool.now - k) result.items }
+    ensures fits { length result.items ≤ length pool.now - k }
+{
+    let mut places = ArrayVec::new();
+    for place in 0..pool.len() - k {
+        if set.contains(&pool[k + place]) {
+            places.push(place);
+        }
+    }
+    places
+}
+
+/// Where a search stands that begins at a set: in the set's stage, and no difference above the set's is passed over.
+fn place_of(pool: &[u16], k: usize, set: &[u16]) -> Place
+    requires few { length pool.now ≤ LIMIT }
+    requires enough { k ≤ length pool.now }
+    ensures size { result.size ≡ length (out_places pool.now k set.now) }
+    ensures difference { result.difference ≡ exchange_difference pool.now k set.now }
+    ensures hint { result.hint.items ≡ exchange_path pool.now k set.now }
+    ensures path { result.walk.path.items ≡ [] }
+    ensures number { result.walk.number ≡ first_hint (exchange_path pool.now k set.now) }
+    ensures beyond { result.walk.beyond ≡ Some (suc (exchange_difference pool.now k set.now)) }
+{
+    let mut hint = out_places(pool, k, set);
+    let ins = in_places(pool, k, set);
+    let size = hint.len();
+    let out = total_of(pool, k, Side::Out, &hint);
+    let difference = total_of(pool, k, Side::In, &ins).saturating_sub(out);
+    put_behind(&mut hint, &ins);
+    let mut walk = Walk::new(first_hint(&hint));
+    walk.beyond = Some(difference + 1);
+    Place {
+        size,
+        difference,
+        hint,
+        walk,
+    }
 }
 
 /// Goes on to the next stage, where there is one.
@@ -199,19 +267,19 @@ fn next_stage(pool: &[u16], k: usize, place: &mut Place) -> bool
     requires enough { k ≤ length pool.now }
     requires outs { place.old.size ≤ k }
     requires ins { place.old.size ≤ length pool.now - k }
-    requires spent { ahead (exchange_plan pool.now k place.old.size place.old.difference) place.old.walk.path.items place.old.walk.number ≡ [] }
-    requires standing { Stands (exchange_plan pool.now k place.old.size place.old.difference) place.old.walk.path.items }
+    requires spent { ahead (hinted place.old.hint.items (exchange_plan pool.now k place.old.size place.old.difference)) place.old.walk.path.items place.old.walk.number ≡ [] }
+    requires standing { Stands (hinted place.old.hint.items (exchange_plan pool.now k place.old.size place.old.difference)) place.old.walk.path.items }
     ensures outs { place.new.size ≤ k }
     ensures ins { place.new.size ≤ length pool.now - k }
-    ensures stands { Stands (exchange_plan pool.now k place.new.size place.new.difference) place.new.walk.path.items }
-    ensures sets { sets_ahead pool.now k place.new.size place.new.difference place.new.walk.path.items place.new.walk.number place.new.walk.beyond
-        ≡ sets_ahead pool.now k place.old.size place.old.difference place.old.walk.path.items place.old.walk.number place.old.walk.beyond }
-    ensures trials { trials_ahead pool.now k place.new.size place.new.difference place.new.walk.path.items place.new.walk.number place.new.walk.beyond
-        ≡ trials_ahead pool.now k place.old.size place.old.difference place.old.walk.path.items place.old.walk.number place.old.walk.beyond }
+    ensures stands { Stands (hinted place.new.hint.items (exchange_plan pool.now k place.new.size place.new.difference)) place.new.walk.path.items }
+    ensures sets { sets_ahead pool.now k place.new.hint.items place.new.size place.new.difference place.new.walk.path.items place.new.walk.number place.new.walk.beyond
+        ≡ sets_ahead pool.now k place.old.hint.items place.old.size place.old.difference place.old.walk.path.items place.old.walk.number place.old.walk.beyond }
+    ensures trials { trials_ahead pool.now k place.new.hint.items place.new.size place.new.difference place.new.walk.path.items place.new.walk.number place.new.walk.beyond
+        ≡ trials_ahead pool.now k place.old.hint.items place.old.size place.old.difference place.old.walk.path.items place.old.walk.number place.old.walk.beyond }
     ensures nearer { result ≡ true → stages_ahead pool.now k place.new.size place.new.difference < stages_ahead pool.now k place.old.size place.old.difference }
     ensures ended { result ≡ false
-        → (sets_ahead pool.now k place.new.size place.new.difference place.new.walk.path.items place.new.walk.number place.new.walk.beyond ≡ [])
-        × (trials_ahead pool.now k place.new.size place.new.difference place.new.walk.path.items place.new.walk.number place.new.walk.beyond ≡ 0) }
+        → (sets_ahead pool.now k place.new.hint.items place.new.size place.new.difference place.new.walk.path.items place.new.walk.number place.new.walk.beyond ≡ [])
+        × (trials_ahead pool.now k place.new.hint.items place.new.size place.new.difference place.new.walk.path.items place.new.walk.number place.new.walk.beyond ≡ 0) }
 {
     if let Some(next) = following_of(
         place.difference,
@@ -219,12 +287,14 @@ fn next_stage(pool: &[u16], k: usize, place: &mut Place) -> bool
         place.walk.beyond,
     ) {
         place.difference = next;
+        place.hint.clear();
         place.walk = Walk::new(0);
         return true;
     }
     if place.size < k.min(pool.len() - k) {
         place.size += 1;
         place.difference = least_of(pool, k, place.size);
+        place.hint.clear();
         place.walk = Walk::new(0);
         return true;
     }
@@ -237,37 +307,40 @@ fn next_set(pool: &[u16], k: usize, place: &mut Place, budget: &mut Budget) -> S
     requires enough { k ≤ length pool.now }
     requires outs { place.old.size ≤ k }
     requires ins { place.old.size ≤ length pool.now - k }
-    requires standing { Stands (exchange_plan pool.now k place.old.size place.old.difference) place.old.walk.path.items }
+    requires standing { Stands (hinted place.old.hint.items (exchange_plan pool.now k place.old.size place.old.difference)) place.old.walk.path.items }
     requires within { budget.old.used ≤ budget.old.limit }
     ensures outs { place.new.size ≤ k }
     ensures ins { place.new.size ≤ length pool.now - k }
-    ensures stands { Stands (exchange_plan pool.now k place.new.size place.new.difference) place.new.walk.path.items }
+    ensures stands { Stands (hinted place.new.hint.items (exchange_plan pool.now k place.new.size place.new.difference)) place.new.walk.path.items }
     ensures answer { MatchStep result
-        (λ _. (sets_ahead pool.now k place.old.size place.old.difference place.old.walk.path.items place.old.walk.number place.old.walk.beyond
+        (λ _. (sets_ahead pool.now k place.old.hint.items place.old.size place.old.difference place.old.walk.path.items place.old.walk.number place.old.walk.beyond
         ≡ set_of pool.now k place.new.size place.new.walk.path.items
-        ∷ sets_ahead pool.now k place.new.size place.new.difference place.new.walk.path.items place.new.walk.number place.new.walk.beyond)
+        ∷ sets_ahead pool.now k place.new.hint.items place.new.size place.new.difference place.new.walk.path.items place.new.walk.number place.new.walk.beyond)
         × (length place.new.walk.path.items ≡ place.new.size + place.new.size))
-        ((sets_ahead pool.now k place.old.size place.old.difference place.old.walk.path.items place.old.walk.number place.old.walk.beyond ≡ [])
-        × (sets_ahead pool.now k place.new.size place.new.difference place.new.walk.path.items place.new.walk.number place.new.walk.beyond ≡ [])
-        × (trials_ahead pool.now k place.new.size place.new.difference place.new.walk.path.items place.new.walk.number place.new.walk.beyond ≡ 0))
-        ((sets_ahead pool.now k place.new.size place.new.difference place.new.walk.path.items place.new.walk.number place.new.walk.beyond
-        ≡ sets_ahead pool.now k place.old.size place.old.difference place.old.walk.path.items place.old.walk.number place.old.walk.beyond)
+        ((sets_ahead pool.now k place.old.hint.items place.old.size place.old.difference place.old.walk.path.items place.old.walk.number place.old.walk.beyond ≡ [])
+        × (sets_ahead pool.now k place.new.hint.items place.new.size place.new.difference place.new.walk.path.items place.new.walk.number place.new.walk.beyond ≡ [])
+        × (trials_ahead pool.now k place.new.hint.items place.new.size place.new.difference place.new.walk.path.items place.new.walk.number place.new.walk.beyond ≡ 0))
+        ((sets_ahead pool.now k place.new.hint.items place.new.size place.new.difference place.new.walk.path.items place.new.walk.number place.new.walk.beyond
+        ≡ sets_ahead pool.now k place.old.hint.items place.old.size place.old.difference place.old.walk.path.items place.old.walk.number place.old.walk.beyond)
         × (budget.new.used ≡ budget.new.limit)
-        × (0 < trials_ahead pool.now k place.new.size place.new.difference place.new.walk.path.items place.new.walk.number place.new.walk.beyond)) }
-    ensures steps { budget.new.used + trials_ahead pool.now k place.new.size place.new.difference place.new.walk.path.items place.new.walk.number place.new.walk.beyond
-        ≡ budget.old.used + trials_ahead pool.now k place.old.size place.old.difference place.old.walk.path.items place.old.walk.number place.old.walk.beyond }
+        × (0 < trials_ahead pool.now k place.new.hint.items place.new.size place.new.difference place.new.walk.path.items place.new.walk.number place.new.walk.beyond)) }
+    ensures steps { budget.new.used + trials_ahead pool.now k place.new.hint.items place.new.size place.new.difference place.new.walk.path.items place.new.walk.number place.new.walk.beyond
+        ≡ budget.old.used + trials_ahead pool.now k place.old.hint.items place.old.size place.old.difference place.old.walk.path.items place.old.walk.number place.old.walk.beyond }
     ensures limit { budget.new.limit ≡ budget.old.limit }
     ensures rises { budget.old.used ≤ budget.new.used }
     ensures within { budget.new.used ≤ budget.new.limit }
 {
     loop {
-        let stage = Stage {
-            pool,
-            k,
-            size: place.size,
-            difference: place.difference,
+        let tree = Hinted {
+            tree: Stage {
+                pool,
+                k,
+                size: place.size,
+                difference: place.difference,
+            },
+            hint: &place.hint,
         };
-        match climb_on(&stage, &mut place.walk, budget) {
+        match climb_on(&tree, &mut place.walk, budget) {
             Step::Found(()) => return Step::Found(()),
             Step::Undecided => return Step::Undecided,
             Step::End => {}
@@ -310,39 +383,53 @@ fn exchanged(pool: &[u16], k: usize, outs: &[usize], ins: &[usize]) -> Numbers
     numbers
 }
 
+/// The set that a whole search has found.
+fn found_set(pool: &[u16], k: usize, place: &Place) -> Numbers
+    requires few { length pool.now ≤ LIMIT }
+    requires enough { k ≤ length pool.now }
+    requires ins { place.now.size ≤ length pool.now - k }
+    requires standing { Stands (hinted place.now.hint.items (exchange_plan pool.now k place.now.size place.now.difference)) place.now.walk.path.items }
+    requires whole { length place.now.walk.path.items ≡ place.now.size + place.now.size }
+    ensures { result.items ≡ set_of pool.now k place.now.size place.now.walk.path.items }
+{
+    let (outs, ins) = place.walk.path.split_at(place.size);
+    exchanged(pool, k, outs, ins)
+}
+
 /// The sets of `k` numbers of a pool, in the order of exchanges between the original set, which is the first `k` numbers, and the
 /// others (C.04.3 D.2): fewer numbers exchanged first; then the smaller difference between the sum of the numbers moved in and the
 /// sum of those moved out; then those moved out compared from the highest, the higher first; then those moved in compared from the
 /// lowest, the lower first. It takes no memory. A step is one place tried for a number moved out or moved in.
 #[derive(Drop)]
-pub struct Exchanges<'a> {
-    pool: &'a [u16],
+pub struct Exchanges {
+    pool: Numbers,
     k: usize,
     place: Place,
 }
 
-impl<'a> Model for Exchanges<'a> {
+impl Model for Exchanges {
     ghost use Rattle.dutch_order.specs.declared.search.TheConstants.{LIMIT};
     ghost use Rattle.std.specs.Prelude.{◌≤◌, ◌-◌, length};
     ghost use Rattle.dutch_order.specs.Steps.{Ahead};
     ghost use Rattle.dutch_order.specs.Walks.{Stands};
+    ghost use Rattle.dutch_order.specs.Hints.{hinted};
     ghost use Rattle.dutch_order.specs.Stages.{exchange_plan, sets_ahead, trials_ahead};
 
     ghost Value = { Ahead };
 
     ghost view = { λ t. record {
-      coming = sets_ahead t.pool.now t.k t.place.size t.place.difference t.place.walk.path.items t.place.walk.number t.place.walk.beyond;
-      left = trials_ahead t.pool.now t.k t.place.size t.place.difference t.place.walk.path.items t.place.walk.number t.place.walk.beyond;
+      coming = sets_ahead t.pool.items t.k t.place.hint.items t.place.size t.place.difference t.place.walk.path.items t.place.walk.number t.place.walk.beyond;
+      left = trials_ahead t.pool.items t.k t.place.hint.items t.place.size t.place.difference t.place.walk.path.items t.place.walk.number t.place.walk.beyond;
     } };
 
     ghost invariant = { λ t.
-        (length t.pool.now ≤ LIMIT) × (t.k ≤ length t.pool.now) × (t.place.size ≤ t.k) × (t.place.size ≤ length t.pool.now - t.k)
-        × Stands (exchange_plan t.pool.now t.k t.place.size t.place.difference) t.place.walk.path.items };
+        (length t.pool.items ≤ LIMIT) × (t.k ≤ length t.pool.items) × (t.place.size ≤ t.k) × (t.place.size ≤ length t.pool.items - t.k)
+        × Stands (hinted t.place.hint.items (exchange_plan t.pool.items t.k t.place.size t.place.difference)) t.place.walk.path.items };
 }
 
-impl<'a> Exchanges<'a> {
+impl Exchanges {
     /// The sets of `k` numbers of a pool, which ascends and has at most `LIMIT` numbers, and at least `k`.
-    pub fn new(pool: &'a [u16], k: usize) -> Exchanges<'a>
+    pub fn new(pool: &[u16], k: usize) -> Exchanges
         requires ascends { IsStrictlyIncreasing pool.now }
         requires few { length pool.now ≤ LIMIT }
         requires enough { k ≤ length pool.now }
@@ -350,13 +437,29 @@ impl<'a> Exchanges<'a> {
         ensures nothing { k ≡ 0 → result.left ≡ 0 }
     {
         Exchanges {
-            pool,
+            pool: copied(pool),
             k,
             place: Place {
                 size: 0,
                 difference: 0,
+                hint: ArrayVec::new(),
                 walk: Walk::new(0),
             },
+        }
+    }
+
+    /// The same from a set on. Each of its places that is tried again costs a step.
+    pub fn from(pool: &[u16], k: usize, set: &[u16]) -> Exchanges
+        requires ascends { IsStrictlyIncreasing pool.now }
+        requires few { length pool.now ≤ LIMIT }
+        requires enough { k ≤ length pool.now }
+        requires given { IsIn set.now (subsets pool.now k) }
+        ensures coming { result.coming ≡ from_on set.now (exchanges pool.now k) }
+    {
+        Exchanges {
+            pool: copied(pool),
+            k,
+            place: place_of(pool, k, set),
         }
     }
 
@@ -373,11 +476,8 @@ impl<'a> Exchanges<'a> {
         ensures rises { budget.old.used ≤ budget.new.used }
         ensures within { budget.new.used ≤ budget.new.limit }
     {
-        match next_set(self.pool, self.k, &mut self.place, budget) {
-            Step::Found(()) => {
-                let (outs, ins) = self.place.walk.path.split_at(self.place.size);
-                Step::Found(exchanged(self.pool, self.k, outs, ins))
-            }
+        match next_set(&self.pool, self.k, &mut self.place, budget) {
+            Step::Found(()) => Step::Found(found_set(&self.pool, self.k, &self.place)),
             Step::End => Step::End,
             Step::Undecided => Step::Undecided,
         }

@@ -4,13 +4,16 @@ ghost use Rattle.std.specs.Prelude.{◌≡◌, ◌+◌, ◌*◌, ◌<◌, ◌≤
 ghost use Rattle.std.specs.List.{AllByRecursion};
 ghost use Rattle.dutch_order.specs.Halves.{half_start};
 ghost use Rattle.dutch_order.specs.Limbo.{limbo_exchanges, IsNonAscending};
-ghost use Rattle.dutch_order.specs.LimboSearch.{leads, mirrors, front_with, numbers_of};
+ghost use Rattle.dutch_order.specs.LimboSearch.{leads, mirrors, front_with, numbers_of, places_of, leader, leaders};
+ghost use Rattle.dutch_order.specs.Choices.{subsets, from_on};
+ghost use Rattle.dutch_order.specs.Keys.{IsIn};
+ghost use Rattle.dutch_order.specs.Trials.{numbers_from};
 ghost use Rattle.dutch_order.specs.Steps.{MatchStep};
 
 use crate::halves::{end_of_half, first_of_half};
-use crate::search::{LIMIT, PLACES, Tree, Walk, climb_on};
+use crate::search::{Hinted, LIMIT, PLACES, Path, Tree, Walk, climb_on, first_hint, put_behind};
 use crate::steps::{Budget, Step};
-use crate::transposition::Numbers;
+use crate::transposition::{Numbers, copied};
 use arrayvec::ArrayVec;
 use std::marker::Model;
 
@@ -69,6 +72,49 @@ fn numbered(places: &[usize]) -> Numbers
     numbers
 }
 
+/// The places of numbers, which count from 1.
+fn places_of(numbers: &[u16]) -> Path
+    requires few { length numbers.now ≤ LIMIT }
+    ensures { result.items ≡ places_of numbers.now }
+{
+    let mut places = ArrayVec::new();
+    for number in numbers {
+        places.push((*number as usize).saturating_sub(1));
+    }
+    places
+}
+
+/// The first place from one on that has the score of a place.
+fn leader(scores: &[u16], first: usize, place: usize) -> usize
+    requires within { place < length scores.now }
+    ensures value { result ≡ leader scores.now place first (place - first) }
+    ensures low { result ≤ place }
+{
+    for other in first..place {
+        if scores[other] == scores[place] {
+            return other;
+        }
+    }
+    place
+}
+
+/// The first set with the scores of a set of places.
+fn leaders(scores: &[u16], places: &[usize]) -> Path
+    requires within { AllByRecursion (λ place. place < length scores.now) places.now }
+    requires few { length places.now ≤ LIMIT }
+    requires narrow { length scores.now ≤ LIMIT }
+    ensures { result.items ≡ leaders scores.now 0 places.now }
+{
+    let mut path = ArrayVec::new();
+    let mut first = 0;
+    for place in places {
+        let lead = leader(scores, first, *place);
+        path.push(lead);
+        first = lead + 1;
+    }
+    path
+}
+
 /// Moved-down players by their scores, of whom sets of `k` are wanted.
 #[derive(Clone, Copy)]
 struct Ranked<'a> {
@@ -117,33 +163,37 @@ impl<'a> Tree for Ranked<'a> {
 /// (C.04.3 D.3). The players are numbered from 1. It takes no memory. A step is one place tried, for the first set with the same
 /// scores or for the set itself.
 #[derive(Drop)]
-pub struct LimboExchanges<'a> {
-    ranked: Ranked<'a>,
+pub struct LimboExchanges {
+    scores: Numbers,
+    k: usize,
+    hint: Path,
     walk: Walk,
 }
 
-impl<'a> Model for LimboExchanges<'a> {
+impl Model for LimboExchanges {
     ghost use Rattle.dutch_order.specs.declared.search.TheConstants.{LIMIT};
     ghost use Rattle.std.specs.Prelude.{◌≤◌, length, map};
     ghost use Rattle.dutch_order.specs.Steps.{Ahead};
     ghost use Rattle.dutch_order.specs.Trials.{ahead, hits, trials};
     ghost use Rattle.dutch_order.specs.Walks.{Stands};
+    ghost use Rattle.dutch_order.specs.Hints.{hinted};
     ghost use Rattle.dutch_order.specs.LimboSearch.{limbo_plan, second_numbers};
 
     ghost Value = { Ahead };
 
     ghost view = { λ t. record {
-      coming = map (second_numbers t.ranked.k)
-          (hits (ahead (limbo_plan t.ranked.scores.now t.ranked.k) t.walk.path.items t.walk.number));
-      left = trials (ahead (limbo_plan t.ranked.scores.now t.ranked.k) t.walk.path.items t.walk.number);
+      coming = map (second_numbers t.k)
+          (hits (ahead (hinted t.hint.items (limbo_plan t.scores.items t.k)) t.walk.path.items t.walk.number));
+      left = trials (ahead (hinted t.hint.items (limbo_plan t.scores.items t.k)) t.walk.path.items t.walk.number);
     } };
 
-    ghost invariant = { λ t. Stands (limbo_plan t.ranked.scores.now t.ranked.k) t.walk.path.items };
+    ghost invariant = { λ t. (length t.scores.items ≤ LIMIT) × (t.k ≤ length t.scores.items)
+        × Stands (hinted t.hint.items (limbo_plan t.scores.items t.k)) t.walk.path.items };
 }
 
-impl<'a> LimboExchanges<'a> {
+impl LimboExchanges {
     /// The sets of `k` of the players with these scores, which do not ascend. There are at most `LIMIT` players, and at least `k`.
-    pub fn new(scores: &'a [u16], k: usize) -> LimboExchanges<'a>
+    pub fn new(scores: &[u16], k: usize) -> LimboExchanges
         requires descends { IsNonAscending scores.now }
         requires few { length scores.now ≤ LIMIT }
         requires enough { k ≤ length scores.now }
@@ -151,8 +201,29 @@ impl<'a> LimboExchanges<'a> {
         ensures nothing { k ≡ 0 → result.left ≡ 0 }
     {
         LimboExchanges {
-            ranked: Ranked { scores, k },
+            scores: copied(scores),
+            k,
+            hint: ArrayVec::new(),
             walk: Walk::new(0),
+        }
+    }
+
+    /// The same from a set on. Each of its places that is tried again costs a step.
+    pub fn from(scores: &[u16], k: usize, set: &[u16]) -> LimboExchanges
+        requires descends { IsNonAscending scores.now }
+        requires few { length scores.now ≤ LIMIT }
+        requires enough { k ≤ length scores.now }
+        requires given { IsIn set.now (subsets (numbers_from 1 (length scores.now)) k) }
+        ensures coming { result.coming ≡ from_on set.now (limbo_exchanges scores.now k) }
+    {
+        let places = places_of(set);
+        let mut hint = leaders(scores, &places);
+        put_behind(&mut hint, &places);
+        LimboExchanges {
+            scores: copied(scores),
+            k,
+            walk: Walk::new(first_hint(&hint)),
+            hint,
         }
     }
 
@@ -169,8 +240,15 @@ impl<'a> LimboExchanges<'a> {
         ensures rises { budget.old.used ≤ budget.new.used }
         ensures within { budget.new.used ≤ budget.new.limit }
     {
-        match climb_on(&self.ranked, &mut self.walk, budget) {
-            Step::Found(()) => Step::Found(numbered(&self.walk.path[self.ranked.k..])),
+        let tree = Hinted {
+            tree: Ranked {
+                scores: &self.scores,
+                k: self.k,
+            },
+            hint: &self.hint,
+        };
+        match climb_on(&tree, &mut self.walk, budget) {
+            Step::Found(()) => Step::Found(numbered(&self.walk.path[self.k..])),
             Step::End => Step::End,
             Step::Undecided => Step::Undecided,
         }

@@ -1,7 +1,8 @@
 // The one search of all generators: a path of numbers that is filled place by place, goes back where no number fits, and can be
 // stopped before each trial.
-ghost use Rattle.std.specs.Prelude.{◌≡◌, ◌+◌, ◌-◌, ◌<◌, ◌≤◌, ℕ, None, [], ◌∷◌, length, true, false};
+ghost use Rattle.std.specs.Prelude.{◌≡◌, ◌+◌, ◌-◌, ◌<◌, ◌≤◌, ℕ, None, [], ◌∷◌, ◌++◌, length, true, false};
 ghost use Rattle.dutch_order.specs.Trials.{Plan, Tried, entry, below, ahead, hits, trials, lower, lowest};
+ghost use Rattle.dutch_order.specs.Hints.{hint_after, first_hint};
 ghost use Rattle.dutch_order.specs.Steps.{MatchStep};
 ghost use Rattle.dutch_order.specs.Walks.{Stands, IsOpen, IsSpent};
 
@@ -13,6 +14,9 @@ pub const LIMIT: usize = 256;
 
 /// The most places of a search: an exchange or a set of moved-down players fills two for each number.
 pub const PLACES: usize = 2 * LIMIT;
+
+/// The numbers at the places of a search that are filled, one after another.
+pub type Path = ArrayVec<usize, PLACES>;
 
 /// What a search fills, and which numbers it tries where.
 pub trait Tree {
@@ -48,11 +52,81 @@ pub trait Tree {
     ghost within: { (tree : Self) (path : _) → (plan tree).stop path ≤ (plan tree).width };
 }
 
+/// Puts places behind a path.
+pub fn put_behind(path: &mut Path, places: &[usize])
+    requires room { length path.old.items + length places.now ≤ PLACES }
+    ensures { path.new.items ≡ path.old.items ++ places.now }
+{
+    for place in places {
+        path.push(*place);
+    }
+}
+
+/// The number that follows a path in a longer one that begins with it.
+fn hint_after(hint: &[usize], path: &[usize]) -> Option<usize>
+    ensures { result ≡ hint_after hint.now path.now }
+{
+    if hint.len() <= path.len() {
+        return None;
+    }
+    for place in 0..path.len() {
+        if hint[place] != path[place] {
+            return None;
+        }
+    }
+    Some(hint[path.len()])
+}
+
+/// The first number that a search tries which begins at a path.
+pub fn first_hint(hint: &[usize]) -> usize
+    ensures { result ≡ first_hint hint.now }
+{
+    hint_after(hint, &[]).unwrap_or(0)
+}
+
+/// A search that begins at a path which is known: after a beginning of that path it starts with the path's own next number.
+#[derive(Clone, Copy)]
+pub struct Hinted<'a, T> {
+    pub tree: T,
+    pub hint: &'a Path,
+}
+
+impl<'a, T: Tree> Tree for Hinted<'a, T> {
+    ghost use Rattle.dutch_order.specs.Hints.{hinted};
+
+    ghost plan = { λ t. hinted t.hint.now.items (T.plan t.tree) };
+
+    ghost within = { λ t path. T.Tree.within t.tree path };
+
+    fn places(&self) -> usize {
+        self.tree.places()
+    }
+
+    fn start(&self, path: &[usize]) -> usize {
+        match hint_after(self.hint, path) {
+            Some(number) => number,
+            None => self.tree.start(path),
+        }
+    }
+
+    fn stop(&self, path: &[usize]) -> usize {
+        self.tree.stop(path)
+    }
+
+    fn admits(&self, path: &[usize], number: usize) -> bool {
+        self.tree.admits(path, number)
+    }
+
+    fn beyond(&self, path: &[usize], number: usize) -> Option<usize> {
+        self.tree.beyond(path, number)
+    }
+}
+
 /// Where a search stands: the numbers at the places filled, and the next number to try at the place after them. At a whole path
 /// the next number is 0 until the path has been handed out. And the least that lies beyond the numbers that were tried.
 #[derive(Drop)]
 pub struct Walk {
-    pub path: ArrayVec<usize, PLACES>,
+    pub path: Path,
     pub number: usize,
     pub beyond: Option<usize>,
 }

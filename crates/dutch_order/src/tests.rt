@@ -48,13 +48,13 @@ impl<'a> Lists for Transpositions<'a, Barred> {
     }
 }
 
-impl<'a> Lists for Exchanges<'a> {
+impl Lists for Exchanges {
     fn draw(&mut self, budget: &mut Budget) -> Step<Numbers> {
         self.next(budget)
     }
 }
 
-impl<'a> Lists for LimboExchanges<'a> {
+impl Lists for LimboExchanges {
     fn draw(&mut self, budget: &mut Budget) -> Step<Numbers> {
         self.next(budget)
     }
@@ -94,6 +94,8 @@ const SIX_BY_THREE: [u16; 60] = [
     5, 1, 4, 6, 2, 4, 5, 1, 5, 6, 2, 4, 6, 3, 4, 5, 2, 5, 6, 3, 4, 6, 3, 5, 6, 4, 5, 6,
 ];
 
+const FOUR_BY_TWO: [u16; 12] = [1, 2, 1, 3, 2, 3, 1, 4, 2, 4, 3, 4];
+
 #[test]
 fn exchanges_of_six_by_three(rt: HostRuntime) -> Result<(), Fail> {
     let (ample, used) = drawn(rt.alloc(), Exchanges::new(&[1, 2, 3, 4, 5, 6], 3), AMPLE)?;
@@ -116,11 +118,10 @@ fn exchanges_of_a_pool_with_a_gap(rt: HostRuntime) -> Result<(), Fail> {
 
 #[test]
 fn sets_of_moved_down_players(rt: HostRuntime) -> Result<(), Fail> {
-    let expected = [1, 2, 1, 3, 2, 3, 1, 4, 2, 4, 3, 4];
     let (ample, _) = drawn(rt.alloc(), LimboExchanges::new(&[6, 6, 4, 2], 2), AMPLE)?;
-    assert_eq!(rt; ample.as_slice(), expected.as_slice());
+    assert_eq!(rt; ample.as_slice(), FOUR_BY_TWO.as_slice());
     let (raised, _) = drawn(rt.alloc(), LimboExchanges::new(&[6, 6, 4, 2], 2), 0)?;
-    assert_eq!(rt; raised.as_slice(), expected.as_slice());
+    assert_eq!(rt; raised.as_slice(), FOUR_BY_TWO.as_slice());
     Ok(())
 }
 
@@ -163,6 +164,54 @@ fn transpositions_with_a_bar(rt: HostRuntime) -> Result<(), Fail> {
     )?;
     assert_eq!(rt; free.as_slice(), [3, 4, 4, 3].as_slice());
     assert_eq!(rt; all, 6);
+    Ok(())
+}
+
+#[test]
+fn transpositions_from_a_tuple(rt: HostRuntime) -> Result<(), Fail> {
+    let behind = [4, 3, 4, 5, 4, 6, 5, 3, 5, 4, 5, 6, 6, 3, 6, 4, 6, 5];
+    let (free, used) = drawn(
+        rt.alloc(),
+        Transpositions::from(&[1, 2], &[3, 4, 5, 6], &FREE, &[4, 3]),
+        AMPLE,
+    )?;
+    assert_eq!(rt; free.as_slice(), behind.as_slice());
+    assert_eq!(rt; used, 15);
+    let (raised, _) = drawn(
+        rt.alloc(),
+        Transpositions::from(&[1, 2], &[3, 4, 5, 6], &FREE, &[4, 3]),
+        0,
+    )?;
+    assert_eq!(rt; raised.as_slice(), behind.as_slice());
+    let barred = Barred { one: 1, other: 4 };
+    let (allowed, _) = drawn(
+        rt.alloc(),
+        Transpositions::from(&[1, 2], &[3, 4, 5, 6], &barred, &[4, 3]),
+        AMPLE,
+    )?;
+    assert_eq!(rt; allowed.as_slice(), &behind[6..]);
+    Ok(())
+}
+
+#[test]
+fn exchanges_from_each_set(rt: HostRuntime) -> Result<(), Fail> {
+    for place in 0..20usize {
+        let set = &SIX_BY_THREE[3 * place..3 * place + 3];
+        let lists = Exchanges::from(&[1, 2, 3, 4, 5, 6], 3, set);
+        let (rest, _) = drawn(rt.alloc(), lists, 0)?;
+        assert_eq!(rt; rest.as_slice(), &SIX_BY_THREE[3 * place..]);
+    }
+    Ok(())
+}
+
+#[test]
+fn moved_down_players_from_each_set(rt: HostRuntime) -> Result<(), Fail> {
+    for place in 0..6usize {
+        let set = &FOUR_BY_TWO[2 * place..2 * place + 2];
+        let lists = LimboExchanges::from(&[6, 6, 4, 2], 2, set);
+        let (rest, _) = drawn(rt.alloc(), lists, 0)?;
+        assert_eq!(rt; rest.as_slice(), &FOUR_BY_TWO[2 * place..]);
+    }
     Ok(())
 }
 

@@ -1,19 +1,34 @@
 // Transpositions, article D.1: tuples of a pool in the order of their numbers, specified by a sorted and filtered list of tuples.
-ghost use Rattle.std.specs.Prelude.{◌≡◌, ◌+◌, ◌*◌, ◌<◌, ◌≤◌, ℕ, [], ◌∷◌, length, map};
+ghost use Rattle.std.specs.Prelude.{◌≡◌, ◌+◌, ◌*◌, ◌<◌, ◌≤◌, ℕ, [], ◌∷◌, length, map, filter};
 ghost use Rattle.std.specs.List.{AllByRecursion};
 ghost use Rattle.std.specs.List.Sorted.{IsStrictlyIncreasing};
 ghost use Rattle.dutch_order.specs.Transposition.{transpositions, short_beginnings};
-ghost use Rattle.dutch_order.specs.TranspositionSearch.{transposition_plan, numbers_at};
+ghost use Rattle.dutch_order.specs.TranspositionSearch.{transposition_plan, numbers_at, place_in, places_in};
+ghost use Rattle.dutch_order.specs.Choices.{tuples, all_meet, from_on};
+ghost use Rattle.dutch_order.specs.Keys.{sorted, IsIn};
+ghost use Rattle.dutch_order.specs.Transposition.{tuple_key};
 ghost use Rattle.dutch_order.specs.Steps.{MatchStep};
 
 use crate::rules::Rule;
-use crate::search::{LIMIT, Tree, Walk, climb_on};
+use crate::search::{Hinted, LIMIT, Path, Tree, Walk, climb_on, first_hint};
 use crate::steps::{Budget, Step};
 use arrayvec::ArrayVec;
 use std::marker::Model;
 
 /// Numbers that a generator hands out.
 pub type Numbers = ArrayVec<u16, LIMIT>;
+
+/// A copy of numbers.
+pub fn copied(numbers: &[u16]) -> Numbers
+    requires few { length numbers.now ≤ LIMIT }
+    ensures { result.items ≡ numbers.now }
+{
+    let mut copy = ArrayVec::new();
+    for number in numbers {
+        copy.push(*number);
+    }
+    copy
+}
 
 /// The numbers at places of a pool.
 pub fn picked(pool: &[u16], path: &[usize]) -> Numbers
@@ -26,6 +41,32 @@ pub fn picked(pool: &[u16], path: &[usize]) -> Numbers
         numbers.push(pool[*place]);
     }
     numbers
+}
+
+/// The place of a number in a pool, or the length of a pool that does not have it.
+fn place_in(pool: &[u16], number: u16) -> usize
+    ensures { result ≡ place_in pool.now number }
+{
+    let mut place = 0;
+    for other in pool {
+        if *other == number {
+            return place;
+        }
+        place += 1;
+    }
+    place
+}
+
+/// The places of numbers in a pool.
+fn places_in(pool: &[u16], numbers: &[u16]) -> Path
+    requires few { length numbers.now ≤ LIMIT }
+    ensures { result.items ≡ places_in pool.now numbers.now }
+{
+    let mut places = ArrayVec::new();
+    for number in numbers {
+        places.push(place_in(pool, *number));
+    }
+    places
 }
 
 /// First players and the pool from which each gets an opponent.
@@ -72,7 +113,10 @@ impl<'a, R: Rule> Tree for Opponents<'a, R> {
 /// pool tried at one place.
 #[derive(Drop)]
 pub struct Transpositions<'a, R: Rule> {
-    opponents: Opponents<'a, R>,
+    first: Numbers,
+    pool: Numbers,
+    rule: &'a R,
+    hint: Path,
     walk: Walk,
 }
 
@@ -82,24 +126,25 @@ impl<'a, R: Rule> Model for Transpositions<'a, R> {
     ghost use Rattle.dutch_order.specs.Steps.{Ahead};
     ghost use Rattle.dutch_order.specs.Trials.{ahead, hits, trials};
     ghost use Rattle.dutch_order.specs.Walks.{Stands};
+    ghost use Rattle.dutch_order.specs.Hints.{hinted};
     ghost use Rattle.dutch_order.specs.TranspositionSearch.{transposition_plan, numbers_at};
 
     ghost Value = { Ahead };
 
     ghost view = { λ t. record {
-      coming = map (numbers_at t.opponents.pool.now)
-          (hits (ahead (transposition_plan (R.meets t.opponents.rule.now) t.opponents.first.now t.opponents.pool.now) t.walk.path.items t.walk.number));
-      left = trials (ahead (transposition_plan (R.meets t.opponents.rule.now) t.opponents.first.now t.opponents.pool.now) t.walk.path.items t.walk.number);
+      coming = map (numbers_at t.pool.items)
+          (hits (ahead (hinted t.hint.items (transposition_plan (R.meets t.rule.now) t.first.items t.pool.items)) t.walk.path.items t.walk.number));
+      left = trials (ahead (hinted t.hint.items (transposition_plan (R.meets t.rule.now) t.first.items t.pool.items)) t.walk.path.items t.walk.number);
     } };
 
     ghost invariant = { λ t.
-        (length t.opponents.first.now ≤ LIMIT) × (length t.opponents.pool.now ≤ LIMIT)
-        × Stands (transposition_plan (R.meets t.opponents.rule.now) t.opponents.first.now t.opponents.pool.now) t.walk.path.items };
+        (length t.first.items ≤ LIMIT) × (length t.pool.items ≤ LIMIT)
+        × Stands (hinted t.hint.items (transposition_plan (R.meets t.rule.now) t.first.items t.pool.items)) t.walk.path.items };
 }
 
 impl<'a, R: Rule> Transpositions<'a, R> {
     /// The transpositions of a pool for the first players. `first` and `pool` have at most `LIMIT` numbers, and the pool ascends.
-    pub fn new(first: &'a [u16], pool: &'a [u16], rule: &'a R) -> Transpositions<'a, R>
+    pub fn new(first: &[u16], pool: &[u16], rule: &'a R) -> Transpositions<'a, R>
         requires ascends { IsStrictlyIncreasing pool.now }
         requires few_first { length first.now ≤ LIMIT }
         requires few { length pool.now ≤ LIMIT }
@@ -107,8 +152,29 @@ impl<'a, R: Rule> Transpositions<'a, R> {
         ensures left { result.left ≡ length pool.now * length (short_beginnings (R.meets rule.now) first.now pool.now) }
     {
         Transpositions {
-            opponents: Opponents { first, pool, rule },
+            first: copied(first),
+            pool: copied(pool),
+            rule,
+            hint: ArrayVec::new(),
             walk: Walk::new(0),
+        }
+    }
+
+    /// The same from a tuple of the pool on, whether the rule allows it or not. Each of its numbers that is tried again costs a step.
+    pub fn from(first: &[u16], pool: &[u16], rule: &'a R, tuple: &[u16]) -> Transpositions<'a, R>
+        requires ascends { IsStrictlyIncreasing pool.now }
+        requires few_first { length first.now ≤ LIMIT }
+        requires few { length pool.now ≤ LIMIT }
+        requires given { IsIn tuple.now (tuples pool.now (length first.now)) }
+        ensures coming { result.coming ≡ filter (all_meet (R.meets rule.now) first.now) (from_on tuple.now (sorted tuple_key (tuples pool.now (length first.now)))) }
+    {
+        let hint = places_in(pool, tuple);
+        Transpositions {
+            first: copied(first),
+            pool: copied(pool),
+            rule,
+            walk: Walk::new(first_hint(&hint)),
+            hint,
         }
     }
 
@@ -125,8 +191,16 @@ impl<'a, R: Rule> Transpositions<'a, R> {
         ensures rises { budget.old.used ≤ budget.new.used }
         ensures within { budget.new.used ≤ budget.new.limit }
     {
-        match climb_on(&self.opponents, &mut self.walk, budget) {
-            Step::Found(()) => Step::Found(picked(self.opponents.pool, &self.walk.path)),
+        let tree = Hinted {
+            tree: Opponents {
+                first: &self.first,
+                pool: &self.pool,
+                rule: self.rule,
+            },
+            hint: &self.hint,
+        };
+        match climb_on(&tree, &mut self.walk, budget) {
+            Step::Found(()) => Step::Found(picked(&self.pool, &self.walk.path)),
             Step::End => Step::End,
             Step::Undecided => Step::Undecided,
         }

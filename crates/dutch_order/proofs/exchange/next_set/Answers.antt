@@ -7,14 +7,14 @@ pub returns-in-Found-clause-answer : goal.returns-in-Found-clause-answer
 returns-in-Found-clause-answer c =
     let p = c.loop-place.place in (
       sym c.loop-place.invariant.sets
-          ∙ sets-found c.args.pool.now c.args.k p.size p.difference p.walk.path.items c.climb_on.new.walk.path.items p.walk.number c.climb_on.new.walk.number p.walk.beyond c.climb_on.new.walk.beyond (sym c.in-Found.ensures.beyond) c.in-Found.ensures.answer.0,
+          ∙ sets-found c.args.pool.now c.args.k p.hint.items p.size p.difference p.walk.path.items c.climb_on.new.walk.path.items p.walk.number c.climb_on.new.walk.number p.walk.beyond c.climb_on.new.walk.beyond (sym c.in-Found.ensures.beyond) c.in-Found.ensures.answer.0,
       c.in-Found.ensures.answer.1,
     )
 
 pub returns-in-Undecided-clause-answer : goal.returns-in-Undecided-clause-answer
 returns-in-Undecided-clause-answer c =
     let p = c.loop-place.place in (
-      sets-by_hits c.args.pool.now c.args.k p.size p.difference c.climb_on.new.walk.path.items p.walk.path.items c.climb_on.new.walk.number p.walk.number c.climb_on.new.walk.beyond p.walk.beyond c.in-Undecided.ensures.beyond c.in-Undecided.ensures.answer.0
+      sets-by_hits c.args.pool.now c.args.k p.hint.items p.size p.difference c.climb_on.new.walk.path.items p.walk.path.items c.climb_on.new.walk.number p.walk.number c.climb_on.new.walk.beyond p.walk.beyond c.in-Undecided.ensures.beyond c.in-Undecided.ensures.answer.0
           ∙ c.loop-place.invariant.sets,
       c.in-Undecided.ensures.answer.1,
       omega (arith, c.in-Undecided.ensures.answer.2),
@@ -24,16 +24,16 @@ pub returns-then-not-next_stage-clause-answer : goal.returns-then-not-next_stage
 returns-then-not-next_stage-clause-answer c =
     let p = c.loop-place.place in
     let ended = c.next_stage.ensures.ended c.if-not-next_stage.true in
-    let same = sets-by_hits c.args.pool.now c.args.k p.size p.difference c.climb_on.new.walk.path.items p.walk.path.items c.climb_on.new.walk.number p.walk.number c.climb_on.new.walk.beyond p.walk.beyond c.in-End.ensures.beyond
+    let same = sets-by_hits c.args.pool.now c.args.k p.hint.items p.size p.difference c.climb_on.new.walk.path.items p.walk.path.items c.climb_on.new.walk.number p.walk.number c.climb_on.new.walk.beyond p.walk.beyond c.in-End.ensures.beyond
     (ap hits c.in-End.ensures.answer.1 ∙ sym c.in-End.ensures.answer.0) in
     (sym c.loop-place.invariant.sets ∙ sym same ∙ sym c.next_stage.ensures.sets ∙ ended.0, ended.0, ended.1)
 
 pub loop-place-preserved : goal.loop-place-preserved
 loop-place-preserved c =
     let p = c.loop-place.place in
-    let same = sets-by_hits c.args.pool.now c.args.k p.size p.difference c.climb_on.new.walk.path.items p.walk.path.items c.climb_on.new.walk.number p.walk.number c.climb_on.new.walk.beyond p.walk.beyond c.in-End.ensures.beyond
+    let same = sets-by_hits c.args.pool.now c.args.k p.hint.items p.size p.difference c.climb_on.new.walk.path.items p.walk.path.items c.climb_on.new.walk.number p.walk.number c.climb_on.new.walk.beyond p.walk.beyond c.in-End.ensures.beyond
     (ap hits c.in-End.ensures.answer.1 ∙ sym c.in-End.ensures.answer.0) in
-    let after = trials-after c.args.pool.now c.args.k p.size p.difference c.climb_on.new.walk.path.items p.walk.path.items c.climb_on.new.walk.number p.walk.number c.climb_on.new.walk.beyond p.walk.beyond c.in-End.ensures.beyond in
+    let after = trials-after c.args.pool.now c.args.k p.hint.items p.size p.difference c.climb_on.new.walk.path.items p.walk.path.items c.climb_on.new.walk.number p.walk.number c.climb_on.new.walk.beyond p.walk.beyond c.in-End.ensures.beyond in
     record {
       outs = c.next_stage.ensures.outs;
       ins = c.next_stage.ensures.ins;

@@ -1,13 +1,14 @@
-use Rattle.std.proofs.Common.{◌≡◌, ◌∙◌, ap, refl, arith, ◌-◌}
+use Rattle.std.proofs.Common.{◌≡◌, ◌∙◌, ap, refl, arith, ◌-◌, [], None}
 use Rattle.dutch_order.specs.Stages.{exchange_plan, trials_of_stages, trials_of_sizes, most_exchanged}
 use Rattle.dutch_order.proofs.StageSets.{exchanges-found}
-use Rattle.dutch_order.proofs.StageMoves.{sets-at_new, trials-at_new}
+use Rattle.dutch_order.proofs.StageMoves.{sets-at, trials-at}
 use Rattle.dutch_order.proofs.Moves.{trials-nothing}
 use Rattle.dutch_order.proofs.exchange.Exchanges.new.Goals as goal
 
 pub returns-clause-coming : goal.returns-clause-coming
 returns-clause-coming c =
-    sets-at_new c.args.pool.now c.args.k 0 0 0 0 c.new.result.path.items c.new.result.number c.new.result.beyond c.new.ensures.path c.new.ensures.number c.new.ensures.beyond refl refl
+    sets-at _ c.args.pool.now c.args.k _ [] 0 0 0 0 c.new-2.result.path.items c.new-2.result.number 0 c.new-2.result.beyond None
+    c.copied.ensures c.new.ensures c.new-2.ensures.path c.new-2.ensures.number c.new-2.ensures.beyond refl refl
     ∙ exchanges-found c.args.pool.now c.args.k c.requires.ascends c.requires.enough (λ i. omega (arith, c.type_inv.pool i))
 
 pub returns-clause-nothing : goal.returns-clause-nothing
@@ -16,5 +17,6 @@ returns-clause-nothing c none =
     let here = trials-nothing (exchange_plan c.args.pool.now c.args.k 0 0) refl in
     let sizes : trials_of_sizes c.args.pool.now c.args.k (most_exchanged c.args.pool.now c.args.k - 0) 1 ≡ 0 =
     ap (λ count. trials_of_sizes c.args.pool.now c.args.k count 1) (let e : most_exchanged c.args.pool.now c.args.k - 0 ≡ 0 = omega (arith, none) in e) in
-    trials-at_new c.args.pool.now c.args.k 0 0 0 0 c.new.result.path.items c.new.result.number c.new.result.beyond c.new.ensures.path c.new.ensures.number c.new.ensures.beyond refl refl
+    trials-at _ c.args.pool.now c.args.k _ [] 0 0 0 0 c.new-2.result.path.items c.new-2.result.number 0 c.new-2.result.beyond None
+    c.copied.ensures c.new.ensures c.new-2.ensures.path c.new-2.ensures.number c.new-2.ensures.beyond refl refl
     ∙ omega (arith, here, sizes)

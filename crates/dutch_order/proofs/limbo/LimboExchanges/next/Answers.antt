@@ -8,9 +8,10 @@ use Rattle.dutch_order.proofs.limbo.LimboExchanges.next.Goals as goal
 
 pub numbered-requires-clause-within : goal.numbered-requires-clause-within
 numbered-requires-clause-within c =
-    let ranked = c.self.inside.ranked in
-    AllByRecursion-take (λ place. place < LIMIT) (length c.deref.result.now - ranked.k) (drop ranked.k c.deref.result.now)
-    (AllByRecursion-drop (λ place. place < LIMIT) ranked.k c.deref.result.now
-    (subst (AllByRecursion (λ place. place < LIMIT)) (sym c.deref.ensures.0)
-    (Walked-below (limbo_plan ranked.scores.now ranked.k) LIMIT
-    (λ path. omega (arith, half_stop-one ranked.k (length ranked.scores.now) path, ranked.narrow)) [] c.climb_on.new.walk.path.items c.climb_on.ensures.stands.1)))
+    let k = c.self.inside.k in
+    let scores = c.deref.result.now in
+    AllByRecursion-take (λ place. place < LIMIT) (length c.deref-in-Found.result.now - k) (drop k c.deref-in-Found.result.now)
+    (AllByRecursion-drop (λ place. place < LIMIT) k c.deref-in-Found.result.now
+    (subst (AllByRecursion (λ place. place < LIMIT)) (sym c.deref-in-Found.ensures.0)
+    (Walked-below (limbo_plan scores k) LIMIT
+    (λ path. omega (arith, half_stop-one k (length scores) path, c.deref.ensures.1)) [] c.climb_on.new.walk.path.items c.climb_on.ensures.stands.1)))

@@ -1,4 +1,4 @@
-use Rattle.std.proofs.Common.{◌<◌, sym, subst, arith, length, []}
+use Rattle.std.proofs.Common.{◌<◌, sym, ap, subst, arith, length, []}
 use Rattle.std.specs.List.{AllByRecursion}
 use Rattle.dutch_order.specs.TranspositionSearch.{transposition_plan}
 use Rattle.dutch_order.proofs.Moves.{Walked-below}
@@ -6,7 +6,8 @@ use Rattle.dutch_order.proofs.transposition.Transpositions.next.Goals as goal
 
 pub picked-requires-clause-within : goal.picked-requires-clause-within
 picked-requires-clause-within g c =
-    let opponents = c.self.inside.opponents in
-    subst (AllByRecursion (λ place. place < length opponents.pool.now)) (sym c.deref.ensures.0)
-    (Walked-below (transposition_plan (g.R.Rule.meets opponents.rule.now) opponents.first.now opponents.pool.now) (length opponents.pool.now) (λ path. omega arith) []
-    c.climb_on.new.walk.path.items c.climb_on.ensures.stands.1)
+    let meets = g.R.Rule.meets c.self.inside.rule.now in
+    subst (λ pool. AllByRecursion (λ place. place < length pool) c.deref-in-Found-2.result.now) (sym c.deref-in-Found.ensures.0)
+    (subst (AllByRecursion (λ place. place < length c.self.inside.pool.items)) (sym c.deref-in-Found-2.ensures.0)
+    (Walked-below (transposition_plan meets c.deref.result.now c.deref-2.result.now) (length c.self.inside.pool.items) (λ path. omega (arith, ap length c.deref-2.ensures.0)) []
+    c.climb_on.new.walk.path.items c.climb_on.ensures.stands.1))

@@ -1,0 +1,26 @@
+use Rattle.std.proofs.Common.{◌∙◌, ap, sym, arith, length, ◌-◌, ◌+◌, ◌*◌, nat_lt}
+use Rattle.std.proofs.lemmas.Bool.{and_parts, ltb-true}
+use Rattle.dutch_order.proofs.Members.{length-numbers}
+use Rattle.dutch_order.proofs.Listed.{levels-listed}
+use Rattle.dutch_order.proofs.Hopeless.{none-legal}
+use Rattle.dutch_order.proofs.candidates.Candidates.new.Goals as goal
+
+pub new-blocks-requires-clause-enough : goal.new-blocks-requires-clause-enough
+new-blocks-requires-clause-enough g c =
+    omega (arith, c.requires.within_pairs, c.requires.residents_enough, ap length c.residents.ensures.items, length-numbers (c.args.bracket.now.mdps + 1) (length c.args.bracket.now.scores - c.args.bracket.now.mdps))
+
+pub returns-clause-coming : goal.returns-clause-coming
+returns-clause-coming g c =
+    levels-listed (g.R.Rule.meets c.args.rule.now) c.args.bracket.now c.args.shape (g.R.Rule.may_be_left c.args.rule.now)
+    c.mdps-mdps.result c.scores.result.now c.residents.result.items c.new-blocks.result c.new.result
+    c.new.ensures c.new-blocks.ensures c.residents.ensures.items c.mdps-mdps.ensures c.scores.ensures.scores
+
+pub invariant_of-result : goal.invariant_of-result
+invariant_of-result g c =
+    λ hopeless.
+    let frame = c.args.bracket.now in
+    let many = and_parts frame.last (nat_lt 1 (length frame.scores - 2 * c.args.shape.pairs)) (sym c.leaves_too_many.ensures ∙ hopeless) in
+    levels-listed (g.R.Rule.meets c.args.rule.now) frame c.args.shape (g.R.Rule.may_be_left c.args.rule.now)
+    c.mdps-mdps.result c.scores.result.now c.residents.result.items c.new-blocks.result c.new.result
+    c.new.ensures c.new-blocks.ensures c.residents.ensures.items c.mdps-mdps.ensures c.scores.ensures.scores
+    ∙ none-legal frame c.args.shape (g.R.Rule.meets c.args.rule.now) (g.R.Rule.may_be_left c.args.rule.now) c.requires many.0 (ltb-true 1 (length frame.scores - 2 * c.args.shape.pairs) many.1)

@@ -1,0 +1,10 @@
+use Rattle.std.proofs.Common.{◌≡◌, length}
+use Rattle.std.specs.Option.{is_some}
+use Rattle.dutch_order.specs.Cursors.{parts, numbers_of}
+use Rattle.dutch_order.proofs.cursor.are_numbers.Given as goal
+
+abbrev pub invariant-loop-word : goal.invariant-loop-word
+invariant-loop-word l = is_some (numbers_of (parts 44 l.rest)) ≡ is_some (numbers_of (parts 44 l.text))
+
+abbrev pub decreases-loop-word : goal.decreases-loop-word
+decreases-loop-word l = length l.rest

@@ -1,0 +1,11 @@
+-- The lists of a text that is read: how many numbers a cursor has room for.
+use Rattle.std.specs.Prelude.{ℕ, ◌<◌, ◌&&◌, Bool, nat_le, List, length, Option, IfSome}
+use Rattle.dutch_order.specs.Arrangements.{Arrangement}
+
+-- where there is a list, it has more than 256 numbers
+abbrev pub IsLong : Option (List ℕ) → Type 0
+IsLong list = IfSome list (λ numbers. 256 < length numbers)
+
+-- whether each list of an arrangement has at most 256 numbers
+abbrev pub is_short : Arrangement → Bool
+is_short a = nat_le (length a.s1) 256 && (nat_le (length a.s2) 256 && (nat_le (length a.s1r) 256 && nat_le (length a.s2r) 256))

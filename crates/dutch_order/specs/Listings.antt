@@ -1,0 +1,16 @@
+-- What a listing of candidates has still to give.
+use Rattle.std.specs.Prelude.{List, [], ◌∷◌, Option, Some, None}
+use Rattle.dutch_order.specs.declared.bracket.Shape.{Shape}
+use Rattle.dutch_order.specs.Arrangements.{Frame, Arrangement}
+
+-- the bracket and the shape whose candidates are listed, those still to come, and the one handed out last
+pub record Listing : Type 0 where
+  pub frame : Frame
+  pub shape : Shape
+  pub coming : List Arrangement
+  pub latest : Option Arrangement
+
+-- what there is, as a list
+abbrev pub listed : {T : Type 0} → Option T → List T
+listed None = []
+listed (Some x) = x ∷ []
