@@ -1,0 +1,238 @@
+-- The scoregroups of the seats that a walk has not used yet: the first one is above all others, and the brackets go on behind it.
+use Rattle.std.proofs.Common.{◌≡◌, ℕ, zero, suc, ◌+◌, ◌<◌, ◌≤◌, Bool, true, false, cond, ◌==◌, List, [], ◌∷◌, ◌++◌, Option, length, length-append, take, drop, refl, sym, ap, ◌∙◌, subst, arith}
+use Rattle.std.specs.List.{AllByRecursion, concat}
+use Rattle.std.proofs.lemmas.Bool.Decides.{nat_tests}
+use Rattle.std.proofs.lemmas.List.{take-append-drop}
+use Rattle.dutch_order.specs.Trials.{numbers_from}
+use Rattle.dutch_order.proofs.Members.{length-numbers}
+use Rattle.dutch_player.specs.Facts.{Facts}
+use Rattle.dutch_pair.specs.declared.reached.Kind.TheVariants.{Ordinary, Last}
+use Rattle.dutch_pair.specs.declared.walk.Ended.{Ended}
+use Rattle.dutch_pair.specs.declared.walk.Ended.TheVariants.{NoPairing}
+use Rattle.dutch_pair.specs.Seated.{score_at}
+use Rattle.dutch_pair.specs.Reached.{Stand, AreSeats, IsAbove}
+use Rattle.dutch_pair.specs.Groups.{front_with}
+use Rattle.dutch_pair.specs.Walk.{AreRanked, AreAbove, Goes}
+use Rattle.dutch_pair.specs.Round.{Round, bracket, completable, no_pairing, round, scoregroups, everybody, final_bracket, ordinary_bracket, brackets}
+use Rattle.dutch_pair.specs.Ends.{Ends, LeftGoOn}
+use Rattle.dutch_pair.proofs.GroupLemmas.{first_group_is, concat_scoregroups}
+use Rattle.dutch_pair.proofs.NextBrackets.{all_seats}
+use Rattle.dutch_pair.proofs.WalkEnds.{ends_nothing}
+use Rattle.dutch_pair.proofs.WalkLemmas.{Descends, is_above, left_go_on, ranked_seats, ranked_front}
+
+eq_of : (a b : ℕ) → (a == b) ≡ true → a ≡ b
+eq_of a b h = grind (arith, nat_tests)
+
+ne_of : (a b : ℕ) → (a == b) ≡ false → a ≤ b → a < b
+ne_of a b h le = grind (arith, nat_tests)
+
+add-one : (n : ℕ) → n + 1 ≡ suc n
+add-one n = omega arith
+
+pub none_of : (xs : List ℕ) → length xs ≡ 0 → xs ≡ []
+none_of [] h = refl
+none_of (x ∷ xs) h = absurd (omega (arith, h))
+
+module _ (facts : Facts) where
+  -- those at the front have the score
+  front_at : (score y : ℕ) (ys : List ℕ) (t : Bool) → (score_at facts y == score) ≡ t → AllByRecursion (λ a. score_at facts a ≡ score) (take (front_with facts score ys) ys)
+      → AllByRecursion (λ a. score_at facts a ≡ score) (take (cond t (suc (front_with facts score ys)) 0) (y ∷ ys))
+  front_at score y ys true e h = (eq_of (score_at facts y) score e, h)
+  front_at score y ys false e h = tt
+
+  front_same : (score : ℕ) (xs : List ℕ) → AllByRecursion (λ a. score_at facts a ≡ score) (take (front_with facts score xs) xs)
+  front_same score [] = tt
+  front_same score (y ∷ ys) = front_at score y ys (score_at facts y == score) refl (front_same score ys)
+
+  all_below : (y score : ℕ) (ys : List ℕ) → Descends facts → score_at facts y < score → AreRanked facts (y ∷ ys) → AreRanked facts ys → AllByRecursion (λ b. score_at facts b < score) ys
+  all_below y score [] descends lt h g = tt
+  all_below y score (b ∷ ys) descends lt h g =
+      let fall : score_at facts b ≤ score_at facts y = descends.falls y b h.1.0 g.0 in
+      (omega (arith, fall, lt), all_below y score ys descends lt (h.0, h.1.1, g.2) g.2)
+
+  -- and all behind them have a lower one
+  back_at : (score x y : ℕ) (ys : List ℕ) (t : Bool) → Descends facts → score_at facts x ≡ score → AreRanked facts (x ∷ y ∷ ys) → (score_at facts y == score) ≡ t
+      → (score_at facts y ≡ score → AllByRecursion (λ b. score_at facts b < score) (drop (front_with facts score ys) ys))
+      → AllByRecursion (λ b. score_at facts b < score) (drop (cond t (suc (front_with facts score ys)) 0) (y ∷ ys))
+  back_at score x y ys true descends same h e later = later (eq_of (score_at facts y) score e)
+  back_at score x y ys false descends same h e later =
+      let fall : score_at facts y ≤ score_at facts x = descends.falls x y h.1.0 h.2.0 in
+      let lt : score_at facts y < score = ne_of (score_at facts y) score e (omega (arith, fall, same)) in
+      (lt, all_below y score ys descends lt h.2 h.2.2)
+
+  back_below : (score x : ℕ) (xs : List ℕ) → Descends facts → score_at facts x ≡ score → AreRanked facts (x ∷ xs)
+      → AllByRecursion (λ b. score_at facts b < score) (drop (front_with facts score xs) xs)
+  back_below score x [] descends same h = tt
+  back_below score x (y ∷ ys) descends same h =
+      back_at score x y ys (score_at facts y == score) descends same h refl (λ e. back_below score y ys descends e h.2)
+
+  all_above : (score : ℕ) (tops lows : List ℕ) → AllByRecursion (λ a. score_at facts a ≡ score) tops → AllByRecursion (λ b. score_at facts b < score) lows → AreAbove facts tops lows
+  all_above score [] lows h g = tt
+  all_above score (a ∷ tops) lows h g =
+      (subst (λ (s : ℕ). AllByRecursion (λ b. score_at facts b < s) lows) (sym h.0) g, all_above score tops lows h.1 g)
+
+  ranked_rest : (xs ys : List ℕ) → AreRanked facts (xs ++ ys) → AreRanked facts ys
+  ranked_rest [] ys h = h
+  ranked_rest (x ∷ xs) ys h = ranked_rest xs ys h.2
+
+  -- the first scoregroup is above all lower seats
+  pub group_above : (md xs : List ℕ) (x n : ℕ) → Descends facts → Goes facts md (x ∷ xs) → n ≡ front_with facts (score_at facts x) xs
+      → AreAbove facts (take (n + 1) (x ∷ xs)) (drop (n + 1) (x ∷ xs))
+  group_above md xs x n descends goes e =
+      let k = front_with facts (score_at facts x) xs in
+      let same : n + 1 ≡ suc k = omega (arith, e) in
+      subst (λ (m : ℕ). AreAbove facts (take m (x ∷ xs)) (drop m (x ∷ xs))) (sym same)
+      (all_above (score_at facts x) (x ∷ take k xs) (drop k xs) (refl, front_same (score_at facts x) xs)
+      (back_below (score_at facts x) x xs descends refl (ranked_rest md (x ∷ xs) goes.ranked)))
+
+  parted : (md xs : List ℕ) (n : ℕ) → Goes facts md xs → Goes facts md (take n xs ++ drop n xs)
+  parted md xs n goes = subst (λ (all : List ℕ). Goes facts md all) (sym (take-append-drop n xs)) goes
+
+  groups_of : (x : ℕ) (xs : List ℕ) (n : ℕ) → n ≡ front_with facts (score_at facts x) xs
+      → scoregroups facts (x ∷ xs) ≡ take (n + 1) (x ∷ xs) ∷ scoregroups facts (drop (n + 1) (x ∷ xs))
+  groups_of x xs n e =
+      let same : n + 1 ≡ suc (front_with facts (score_at facts x) xs) = omega (arith, e) in
+      first_group_is facts x xs ∙ ap (λ (m : ℕ). take m (x ∷ xs) ∷ scoregroups facts (drop m (x ∷ xs))) (sym same)
+
+  brackets_at : (number : ℕ) (md group next : List ℕ) (later groups : List (List ℕ)) → groups ≡ next ∷ later
+      → brackets facts number md (group ∷ groups)
+      ≡ ordinary_bracket facts (bracket number Ordinary md group) (concat groups) (λ left. brackets facts (number + 1) left groups)
+  brackets_at number md group next later groups e =
+      subst (λ (gs : List (List ℕ)). brackets facts number md (group ∷ gs)
+      ≡ ordinary_bracket facts (bracket number Ordinary md group) (concat gs) (λ left. brackets facts (number + 1) left gs)) (sym e) refl
+
+  brackets_lower : (number : ℕ) (md group lower : List ℕ) → 0 < length lower
+      → brackets facts number md (group ∷ scoregroups facts lower)
+      ≡ ordinary_bracket facts (bracket number Ordinary md group) lower (λ left. brackets facts (number + 1) left (scoregroups facts lower))
+  brackets_lower number md group [] h = absurd (omega (arith, h))
+  brackets_lower number md group (y ∷ ys) h =
+      brackets_at number md group (y ∷ take (front_with facts (score_at facts y) ys) ys) (scoregroups facts (drop (front_with facts (score_at facts y) ys) ys))
+      (scoregroups facts (y ∷ ys)) (first_group_is facts y ys)
+      ∙ ap (λ (lower : List ℕ). ordinary_bracket facts (bracket number Ordinary md group) lower (λ left. brackets facts (number + 1) left (scoregroups facts (y ∷ ys))))
+      (concat_scoregroups facts (y ∷ ys))
+
+  -- the rest of the seats, parted into its first scoregroup and the lower ones
+  pub record IsParted (md rest group lower : List ℕ) : Type 0 where
+    pub goes : Goes facts md (group ++ lower)
+    pub above : AreAbove facts group lower
+    pub groups : scoregroups facts rest ≡ group ∷ scoregroups facts lower
+    pub count : length rest ≡ length group + length lower
+    pub some : 0 < length group
+
+  parted_at : (md xs : List ℕ) (x n : ℕ) → Descends facts → Goes facts md (x ∷ xs) → n ≡ front_with facts (score_at facts x) xs
+      → IsParted md (x ∷ xs) (take (n + 1) (x ∷ xs)) (drop (n + 1) (x ∷ xs))
+  parted_at md xs x n descends goes e =
+      let whole : take (n + 1) (x ∷ xs) ++ drop (n + 1) (x ∷ xs) ≡ x ∷ xs = take-append-drop (n + 1) (x ∷ xs) in
+      record {
+        goes = parted md (x ∷ xs) (n + 1) goes;
+        above = group_above md xs x n descends goes e;
+        groups = groups_of x xs n e;
+        count = ap length (sym whole) ∙ length-append (take (n + 1) (x ∷ xs)) (drop (n + 1) (x ∷ xs));
+        some = subst (λ (m : ℕ). 0 < length (take m (x ∷ xs))) (sym (add-one n)) (let some : 0 < suc (length (take n xs)) = omega arith in some);
+      }
+
+  pub parted_by : (md rest xs group lower : List ℕ) (x n score : ℕ) → Descends facts → Goes facts md rest → rest ≡ x ∷ xs → score ≡ score_at facts x
+      → n ≡ front_with facts score xs → group ≡ take (n + 1) rest → lower ≡ drop (n + 1) rest → IsParted md rest group lower
+  parted_by md rest xs group lower x n score descends goes e same count front back =
+      let at' : IsParted md (x ∷ xs) (take (n + 1) (x ∷ xs)) (drop (n + 1) (x ∷ xs)) =
+      parted_at md xs x n descends (subst (λ (all : List ℕ). Goes facts md all) e goes) (count ∙ ap (λ (s : ℕ). front_with facts s xs) same) in
+      let all : IsParted md rest (take (n + 1) rest) (drop (n + 1) rest) =
+      subst (λ (r : List ℕ). IsParted md r (take (n + 1) r) (drop (n + 1) r)) (sym e) at' in
+      subst (λ (g : List ℕ). IsParted md rest g lower) (sym front) (subst (λ (l : List ℕ). IsParted md rest (take (n + 1) rest) l) (sym back) all)
+
+  pub first_inside : (md rest xs : List ℕ) (x : ℕ) → Goes facts md rest → rest ≡ x ∷ xs → x < length facts.seats
+  first_inside md rest xs x goes e = (ranked_rest md (x ∷ xs) (subst (λ (all : List ℕ). AreRanked facts (md ++ all)) e goes.ranked)).0
+
+  pub others_inside : (md rest xs : List ℕ) (x : ℕ) → Goes facts md rest → rest ≡ x ∷ xs → AreSeats facts xs
+  others_inside md rest xs x goes e = ranked_seats facts xs (ranked_rest md (x ∷ xs) (subst (λ (all : List ℕ). AreRanked facts (md ++ all)) e goes.ranked)).2
+
+  pub moved_inside : (md rest : List ℕ) → Goes facts md rest → AllByRecursion (λ seat. seat < length facts.seats) md
+  moved_inside md rest goes = all_seats facts md (ranked_seats facts md (ranked_front facts md rest goes.ranked))
+
+  module _ (descends : Descends facts) (md rest group lower : List ℕ) (parted' : IsParted md rest group lower) where
+    pub few_parted : (now : List ℕ) → now ≡ md → length now + length group ≤ 256
+    few_parted now e =
+        let above = is_above facts descends 0 Last md group lower parted'.goes parted'.above (λ e. let bad : Last ≡ Ordinary = e in absurd (cc)) in
+        let few : length (md ++ group) + length lower ≤ 256 = above.few in
+        omega (arith, few, length-append md group, ap length e)
+
+    pub last_above : (number : ℕ) (now : List ℕ) (stand : Stand) → now ≡ md → lower ≡ [] → stand ≡ bracket number Last now group → IsAbove facts stand []
+    last_above number now stand e none made =
+        subst (λ (b : Stand). IsAbove facts b []) (sym (made ∙ ap (λ (m : List ℕ). bracket number Last m group) e))
+        (subst (λ (l : List ℕ). IsAbove facts (bracket number Last md group) l) none
+        (is_above facts descends number Last md group lower parted'.goes parted'.above (λ e. let bad : Last ≡ Ordinary = e in absurd (cc))))
+
+    pub ordinary_above : (number : ℕ) (now : List ℕ) (stand : Stand) → now ≡ md → 0 < length lower → stand ≡ bracket number Ordinary now group → IsAbove facts stand lower
+    ordinary_above number now stand e there made =
+        subst (λ (b : Stand). IsAbove facts b lower) (sym (made ∙ ap (λ (m : List ℕ). bracket number Ordinary m group) e))
+        (is_above facts descends number Ordinary md group lower parted'.goes parted'.above (λ e. there))
+
+    pub ordinary_left : (number : ℕ) (now : List ℕ) (stand : Stand) → now ≡ md → stand ≡ bracket number Ordinary now group → LeftGoOn facts stand lower
+    ordinary_left number now stand e made =
+        subst (λ (b : Stand). LeftGoOn facts b lower) (sym (made ∙ ap (λ (m : List ℕ). bracket number Ordinary m group) e))
+        (λ lists. left_go_on facts descends number Ordinary md group lower lists parted'.goes parted'.above)
+
+    -- behind the last scoregroup there is none
+    pub last_is : (number : ℕ) (now : List ℕ) (stand : Stand) → now ≡ md → lower ≡ [] → stand ≡ bracket number Last now group
+        → final_bracket facts stand ≡ brackets facts number md (scoregroups facts rest)
+    last_is number now stand e none made =
+        ap (final_bracket facts) (made ∙ ap (λ (m : List ℕ). bracket number Last m group) e)
+        ∙ sym (ap (brackets facts number md) (parted'.groups ∙ ap (λ (l : List ℕ). group ∷ scoregroups facts l) none))
+
+    -- above lower seats the first bracket is an ordinary one
+    pub ordinary_is : (number : ℕ) (now : List ℕ) (stand : Stand) → now ≡ md → 0 < length lower → stand ≡ bracket number Ordinary now group
+        → ordinary_bracket facts stand lower (λ left. brackets facts (number + 1) left (scoregroups facts lower)) ≡ brackets facts number md (scoregroups facts rest)
+    ordinary_is number now stand e there made =
+        ap (λ (b : Stand). ordinary_bracket facts b lower (λ left. brackets facts (number + 1) left (scoregroups facts lower)))
+        (made ∙ ap (λ (m : List ℕ). bracket number Ordinary m group) e)
+        ∙ sym (ap (brackets facts number md) parted'.groups ∙ brackets_lower number md group lower there)
+
+  above_numbers : (low first count : ℕ) → low < first → AllByRecursion (λ y. low < y) (numbers_from first count)
+  above_numbers low first zero h = tt
+  above_numbers low first (suc count) h = (h, above_numbers low (suc first) count (omega (arith, h)))
+
+  numbers_ranked : (first count : ℕ) → first + count ≤ length facts.seats → AreRanked facts (numbers_from first count)
+  numbers_ranked first zero h = tt
+  numbers_ranked first (suc count) h =
+      (omega (arith, h), above_numbers first (suc first) count (omega arith), numbers_ranked (suc first) count (omega (arith, h)))
+
+  -- at first all seats are to come
+  pub everybody_goes : (md all : List ℕ) → md ≡ [] → all ≡ everybody facts → Goes facts md all
+  everybody_goes md all none e =
+      subst (λ (m : List ℕ). Goes facts m all) (sym none)
+      (subst (λ (seats : List ℕ). Goes facts [] seats) (sym e) (record { ranked = numbers_ranked 0 (length facts.seats) (omega arith); above = tt }))
+
+  pub ends_first : (limit : ℕ) (asked : Option ℕ) (pairs : List (ℕ × ℕ)) (md all : List ℕ) (ended : Ended) → pairs ≡ [] → md ≡ [] → all ≡ everybody facts
+      → Ends facts limit asked 1 pairs (brackets facts 1 md (scoregroups facts all)) ended
+      → Ends facts limit asked 1 [] (brackets facts 1 [] (scoregroups facts (everybody facts))) ended
+  ends_first limit asked pairs md all ended no_pairs no_md e h =
+      subst (λ (seats : List ℕ). Ends facts limit asked 1 [] (brackets facts 1 [] (scoregroups facts seats)) ended) e
+      (subst (λ (m : List ℕ). Ends facts limit asked 1 [] (brackets facts 1 m (scoregroups facts all)) ended) no_md
+      (subst (λ (front : List (ℕ × ℕ)). Ends facts limit asked 1 front (brackets facts 1 md (scoregroups facts all)) ended) no_pairs h))
+
+  -- the same end, with other words for its round
+  pub goes_further : (limit limit' : ℕ) (asked : Option ℕ) (n n' : ℕ) (pairs : List (ℕ × ℕ)) (whole whole' : Round) (ended : Ended) → limit ≡ limit' → n ≡ n' → whole ≡ whole'
+      → Ends facts limit asked n pairs whole ended → Ends facts limit' asked n' pairs whole' ended
+  goes_further limit limit' asked n n' pairs whole whole' ended l e w h =
+      subst (λ (r : Round). Ends facts limit' asked n' pairs r ended) w
+      (subst (λ (k : ℕ). Ends facts limit' asked k pairs whole ended) e (subst (λ (k : ℕ). Ends facts k asked n pairs whole ended) l h))
+
+  pub shrinks : (md rest group lower : List ℕ) → IsParted md rest group lower → (number : ℕ) → number + length rest ≤ 257 → (number + 1) + length lower ≤ 257
+  shrinks md rest group lower parted' number h = omega (arith, h, parted'.count, parted'.some)
+
+  pub everybody_few : (all : List ℕ) → all ≡ everybody facts → length all ≡ length facts.seats
+  everybody_few all e = ap length e ∙ length-numbers 0 (length facts.seats)
+
+  -- a round in which all can be paired out is the one of its brackets
+  pub round_walked : (limit budget_limit : ℕ) (asked : Option ℕ) (all : List ℕ) (ended : Ended) → all ≡ everybody facts → completable facts all ≡ true → budget_limit ≡ limit
+      → Ends facts budget_limit asked 1 [] (brackets facts 1 [] (scoregroups facts (everybody facts))) ended → Ends facts limit asked 1 [] (round facts) ended
+  round_walked limit budget_limit asked all ended e test same h =
+      let here : completable facts (everybody facts) ≡ true = ap (completable facts) (sym e) ∙ test in
+      subst (λ (t : Bool). Ends facts limit asked 1 [] (cond t (brackets facts 1 [] (scoregroups facts (everybody facts))) (no_pairing facts)) ended) (sym here)
+      (subst (λ (n : ℕ). Ends facts n asked 1 [] (brackets facts 1 [] (scoregroups facts (everybody facts))) ended) same h)
+
+  pub round_nothing : (limit : ℕ) (asked : Option ℕ) (all : List ℕ) → all ≡ everybody facts → completable facts all ≡ false → Ends facts limit asked 1 [] (round facts) NoPairing
+  round_nothing limit asked all e test =
+      let here : completable facts (everybody facts) ≡ false = ap (completable facts) (sym e) ∙ test in
+      subst (λ (t : Bool). Ends facts limit asked 1 [] (cond t (brackets facts 1 [] (scoregroups facts (everybody facts))) (no_pairing facts)) NoPairing) (sym here)
+      (ends_nothing facts limit asked 1 [])

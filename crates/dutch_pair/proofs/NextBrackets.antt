@@ -1,0 +1,187 @@
+-- The next bracket is one of the field, and its residents have one score.
+use Rattle.std.proofs.Common.{◌≡◌, ℕ, zero, suc, ◌+◌, ◌-◌, ◌<◌, ◌≤◌, not, List, [], ◌∷◌, ◌++◌, map, length, get_or, ◌⊎◌, inl, inr, refl, sym, ap, ◌∙◌, subst, arith, length-append}
+use Rattle.std.specs.List.{AllByRecursion}
+use Rattle.std.specs.Prelude.{slice_index}
+use Rattle.std.proofs.lemmas.List.{length-map, get_or-map, map-append}
+use Rattle.std.proofs.lemmas.Simd.{map-map}
+use Rattle.dutch_order.specs.Trials.{numbers_from}
+use Rattle.dutch_order.specs.Choices.{is_member}
+use Rattle.dutch_order.specs.Draws.{Draw}
+use Rattle.dutch_order.specs.Limbo.{IsNonAscending}
+use Rattle.dutch_order.specs.Arrangements.{paired}
+use Rattle.dutch_order.proofs.Orders.{Rises, Rises-filter}
+use Rattle.dutch_player.specs.Facts.{Facts}
+use Rattle.dutch_pair.specs.declared.reached.Kind.TheVariants.{Ordinary}
+use Rattle.dutch_pair.specs.Seated.{seat_of, score_at, AllSeats, AllNumbers}
+use Rattle.dutch_pair.specs.Reached.{Stand, AreSeats, frame_of, IsOf}
+use Rattle.dutch_pair.specs.NextBracket.{next_stand, IsFlat, IsDraw, IsNext}
+use Rattle.dutch_pair.proofs.ArrangementParts.{numbers_rise}
+use Rattle.dutch_pair.proofs.DownLemmas.{down_numbers, down_few}
+use Rattle.dutch_pair.proofs.FlatBrackets.{falls_far, seat_score}
+use Rattle.dutch_pair.proofs.Copies.{Falls}
+
+append_low : (xs ys : List ℕ) (i : ℕ) → i < length xs → get_or (xs ++ ys) i 0 ≡ get_or xs i 0
+append_low [] ys i h = absurd (omega arith)
+append_low (x ∷ xs) ys zero h = refl
+append_low (x ∷ xs) ys (suc i) h = append_low xs ys i (omega arith)
+
+append_high : (xs ys : List ℕ) (i : ℕ) → length xs ≤ i → get_or (xs ++ ys) i 0 ≡ get_or ys (i - length xs) 0
+append_high [] ys i h = ap (λ k. get_or ys k 0) (let e : i ≡ i - 0 = omega arith in e)
+append_high (x ∷ xs) ys zero h = absurd (omega arith)
+append_high (x ∷ xs) ys (suc i) h =
+    append_high xs ys i (omega arith) ∙ ap (λ k. get_or ys k 0) (let e : i - length xs ≡ suc i - suc (length xs) = omega arith in e)
+
+-- seats by index and one after another
+pub all_seats : (facts : Facts) (seats : List ℕ) → AreSeats facts seats → AllSeats facts seats
+all_seats facts [] each = tt
+all_seats facts (seat ∷ seats) each = (each 0 (omega arith), all_seats facts seats (λ i h. each (suc i) (omega arith)))
+
+number_at : (seats numbers : List ℕ) (i : ℕ) → AllNumbers seats numbers → i < length numbers → (0 < get_or numbers i 0) × (get_or numbers i 0 ≤ length seats)
+number_at seats [] i all h = absurd (omega arith)
+number_at seats (x ∷ numbers) zero all h = all.0
+number_at seats (x ∷ numbers) (suc i) all h = number_at seats numbers i all.1 (omega arith)
+
+sides : (i n : ℕ) → (i < n) ⊎ (n ≤ i)
+sides i n = grind arith
+
+falls_index : (xs : List ℕ) → Falls xs → IsNonAscending xs
+falls_index [] falls i h = absurd (omega arith)
+falls_index (x ∷ []) falls i h = absurd (omega arith)
+falls_index (x ∷ y ∷ xs) falls zero h = falls.0.0
+falls_index (x ∷ y ∷ xs) falls (suc i) h =
+    let lower : get_or (y ∷ xs) (i + 1) 0 ≤ get_or (y ∷ xs) i 0 = falls_index (y ∷ xs) falls.1 i (omega arith) in
+    omega (arith, lower, ap (λ k. get_or (x ∷ y ∷ xs) k 0) (let e : suc i + 1 ≡ suc (i + 1) = omega arith in e))
+
+all_below : (x : ℕ) (ys : List ℕ) → ((j : ℕ) → j < length ys → get_or ys j 0 ≤ x) → AllByRecursion (λ y. y ≤ x) ys
+all_below x [] each = tt
+all_below x (y ∷ ys) each = (each 0 (omega arith), all_below x ys (λ j h. each (suc j) (omega arith)))
+
+both_below : (x : ℕ) (xs ys : List ℕ) → AllByRecursion (λ y. y ≤ x) xs → AllByRecursion (λ y. y ≤ x) ys → AllByRecursion (λ y. y ≤ x) (xs ++ ys)
+both_below x [] ys p q = q
+both_below x (z ∷ xs) ys p q = (p.0, both_below x xs ys p.1 q)
+
+falls_append : (xs ys : List ℕ) → Falls xs → Falls ys → ((i j : ℕ) → i < length xs → j < length ys → get_or ys j 0 ≤ get_or xs i 0) → Falls (xs ++ ys)
+falls_append [] ys p q apart = q
+falls_append (x ∷ xs) ys p q apart =
+    (both_below x xs ys p.0 (all_below x ys (λ j h. apart 0 j (omega arith) h)), falls_append xs ys p.1 q (λ i j h g. apart (suc i) j (omega arith) g))
+
+flat_falls : (f : ℕ → ℕ) (xs : List ℕ) → ((i j : ℕ) → i < length xs → j < length xs → f (get_or xs i 0) ≡ f (get_or xs j 0)) → Falls (map f xs)
+flat_falls f [] same = tt
+flat_falls f (x ∷ xs) same = (
+  all_below (f x) (map f xs) (λ j h. let lt : j < length xs = (let e = length-map xs f in omega arith) in
+      let e : f x ≡ f (get_or xs j 0) = same 0 (suc j) (omega arith) (omega arith) in omega (arith, e, get_or-map f xs j 0 0 lt)),
+  flat_falls f xs (λ i j h g. same (suc i) (suc j) (omega arith) (omega arith)),
+)
+
+later_below : (f : ℕ → ℕ) (n x : ℕ) (xs : List ℕ) → 0 < x → ((i j : ℕ) → 0 < i → i ≤ j → j ≤ n → f j ≤ f i)
+    → AllByRecursion (λ y. x < y) xs → AllByRecursion (λ i. (0 < i) × (i ≤ n)) xs → AllByRecursion (λ y. y ≤ f x) (map f xs)
+later_below f n x [] p falling above all = tt
+later_below f n x (y ∷ xs) p falling above all =
+    let lt : x < y = above.0 in (falling x y p (omega arith) all.0.1, later_below f n x xs p falling above.1 all.1)
+
+rising_falls : (f : ℕ → ℕ) (n : ℕ) (xs : List ℕ) → ((i j : ℕ) → 0 < i → i ≤ j → j ≤ n → f j ≤ f i) → Rises xs → AllByRecursion (λ i. (0 < i) × (i ≤ n)) xs → Falls (map f xs)
+rising_falls f n [] falling rises all = tt
+rising_falls f n (x ∷ xs) falling rises all = (later_below f n x xs all.0.0 falling rises.0 all.1, rising_falls f n xs falling rises.1 all.1)
+
+module _ (facts : Facts) (stand : Stand) (draw : Draw) (next : List ℕ) (of' : IsOf facts stand) (drawn : IsDraw facts stand draw) (below : IsNext facts stand next) where
+  pub numbers : AllNumbers stand.seats draw.down
+  numbers = subst (AllNumbers stand.seats) (sym drawn.down) (down_numbers facts stand draw.lists)
+
+  pub down_short : length draw.down ≤ length stand.seats
+  down_short = let few = down_few facts stand draw.lists in omega (arith, few, ap length drawn.down)
+
+  rises : Rises draw.down
+  rises = subst Rises (sym drawn.down) (Rises-filter (λ x. not (is_member x (paired draw.lists))) (numbers_from 1 (length (frame_of facts stand).scores)) (numbers_rise 1 (length (frame_of facts stand).scores)))
+
+  falling : (i j : ℕ) → 0 < i → i ≤ j → j ≤ length stand.seats → score_at facts (seat_of stand.seats j) ≤ score_at facts (seat_of stand.seats i)
+  falling i j p h g =
+      let same : length (frame_of facts stand).scores ≡ length stand.seats = length-map stand.seats (score_at facts) in
+      let far : slice_index (frame_of facts stand).scores ((i - 1) + (j - i)) ≤ slice_index (frame_of facts stand).scores (i - 1) =
+      falls_far (frame_of facts stand).scores of'.sound.descends (i - 1) (j - i) (omega arith) in
+      let e : slice_index (frame_of facts stand).scores ((i - 1) + (j - i)) ≡ slice_index (frame_of facts stand).scores (j - 1) =
+      ap (slice_index (frame_of facts stand).scores) (let e : (i - 1) + (j - i) ≡ j - 1 = omega arith in e) in
+      let a = seat_score facts stand (i - 1) (omega arith) in
+      let b = seat_score facts stand (j - 1) (omega arith) in
+      omega (arith, far, e, a, b)
+
+  count : length (map (seat_of stand.seats) draw.down) ≡ length draw.down
+  count = length-map draw.down (seat_of stand.seats)
+
+  moved_at : (i : ℕ) → i < length draw.down → get_or (map (seat_of stand.seats) draw.down) i 0 ≡ seat_of stand.seats (get_or draw.down i 0)
+  moved_at i h = get_or-map (seat_of stand.seats) draw.down i 0 0 h
+
+  -- the scores of those who move down are above those of the next scoregroup
+  apart : (i j : ℕ) → i < length draw.down → j < length next → score_at facts (get_or next j 0) < score_at facts (get_or (map (seat_of stand.seats) draw.down) i 0)
+  apart i j h g =
+      let number = number_at stand.seats draw.down i numbers h in
+      let lower : score_at facts (get_or next j 0) < score_at facts (seat_of stand.seats (get_or draw.down i 0)) = below.below (get_or draw.down i 0 - 1) j (omega (arith, number.0, number.1)) g in
+      omega (arith, lower, ap (score_at facts) (moved_at i h))
+
+  moved_falls : Falls (map (score_at facts) (map (seat_of stand.seats) draw.down))
+  moved_falls = subst Falls (sym (map-map (score_at facts) (seat_of stand.seats) draw.down)) (rising_falls (λ i. score_at facts (seat_of stand.seats i)) (length stand.seats) draw.down falling rises numbers)
+
+  all_fall : Falls (map (score_at facts) (map (seat_of stand.seats) draw.down ++ next))
+  all_fall =
+      subst Falls (sym (map-append (score_at facts) (map (seat_of stand.seats) draw.down) next))
+      (falls_append (map (score_at facts) (map (seat_of stand.seats) draw.down)) (map (score_at facts) next) moved_falls (flat_falls (score_at facts) next below.same)
+      (λ i j h g.
+      let lh : i < length draw.down = (let e = length-map (map (seat_of stand.seats) draw.down) (score_at facts) in omega (arith, h, e, count)) in
+      let lg : j < length next = (let e = length-map next (score_at facts) in omega (arith, g, e)) in
+      let lm : i < length (map (seat_of stand.seats) draw.down) = omega (arith, lh, count) in
+      omega (arith, apart i j lh lg, get_or-map (score_at facts) (map (seat_of stand.seats) draw.down) i 0 0 lm, get_or-map (score_at facts) next j 0 0 lg)))
+
+  long : length (map (seat_of stand.seats) draw.down ++ next) ≡ length draw.down + length next
+  long = length-append (map (seat_of stand.seats) draw.down) next ∙ ap (λ k. k + length next) count
+
+  inside : AreSeats facts (map (seat_of stand.seats) draw.down ++ next)
+  inside i h =
+      elim (sides i (length draw.down)) [
+        | inl low ↦
+            let number = number_at stand.seats draw.down i numbers low in
+            let seat : slice_index stand.seats (get_or draw.down i 0 - 1) < length facts.seats = of'.inside (get_or draw.down i 0 - 1) (omega (arith, number.0, number.1)) in
+            omega (arith, seat, append_low (map (seat_of stand.seats) draw.down) next i (omega (arith, low, count)), moved_at i low)
+        | inr high ↦
+            let seat : slice_index next (i - length (map (seat_of stand.seats) draw.down)) < length facts.seats = below.inside (i - length (map (seat_of stand.seats) draw.down)) (omega (arith, h, high, count, long)) in
+            omega (arith, seat, append_high (map (seat_of stand.seats) draw.down) next i (omega (arith, high, count)))
+      ]
+
+  score_in : (i : ℕ) → i < length draw.down + length next → slice_index (map (score_at facts) (map (seat_of stand.seats) draw.down ++ next)) i ≡ score_at facts (get_or (map (seat_of stand.seats) draw.down ++ next) i 0)
+  score_in i h = get_or-map (score_at facts) (map (seat_of stand.seats) draw.down ++ next) i 0 0 (omega (arith, h, long))
+
+  pub next_of : IsOf facts (next_stand (map (seat_of stand.seats) draw.down) next)
+  next_of = record {
+    inside = inside;
+    sound =
+        let scored : length (map (score_at facts) (map (seat_of stand.seats) draw.down ++ next)) ≡ length draw.down + length next =
+        length-map (map (seat_of stand.seats) draw.down ++ next) (score_at facts) ∙ long in
+        record {
+          few = omega (arith, scored, down_short, below.few);
+          within = omega (arith, scored, count);
+          descends = falls_index (map (score_at facts) (map (seat_of stand.seats) draw.down ++ next)) all_fall;
+          above = λ i j h g k.
+              let low : i < length draw.down = omega (arith, h, count) in
+              let one : score_at facts (get_or next (j - length (map (seat_of stand.seats) draw.down)) 0) < score_at facts (get_or (map (seat_of stand.seats) draw.down) i 0) =
+              apart i (j - length (map (seat_of stand.seats) draw.down)) low (omega (arith, g, k, scored, count)) in
+              omega (
+                arith,
+                one,
+                score_in i (omega (arith, low)),
+                score_in j (omega (arith, k, scored)),
+                ap (score_at facts) (append_low (map (seat_of stand.seats) draw.down) next i h),
+                ap (score_at facts) (append_high (map (seat_of stand.seats) draw.down) next j g),
+              );
+        };
+  }
+
+  pub next_flat : stand.kind ≡ Ordinary → IsFlat facts (next_stand (map (seat_of stand.seats) draw.down) next)
+  next_flat ordinary =
+      let some : 0 < length next = below.there ordinary in
+      let md : List ℕ = map (seat_of stand.seats) draw.down in
+      record {
+        resident = omega (arith, some, long, count);
+        same = λ i h g.
+            let first : score_at facts (get_or next ((i - 1) - length md) 0) ≡ score_at facts (get_or next (((length md + 1) - 1) - length md) 0) =
+            below.same ((i - 1) - length md) (((length md + 1) - 1) - length md) (omega (arith, h, g, long, count, some)) (omega (arith, some)) in
+            ap (score_at facts) (append_high md next (i - 1) (omega (arith, h))) ∙ first
+            ∙ sym (ap (score_at facts) (append_high md next ((length md + 1) - 1) (omega arith)));
+      }

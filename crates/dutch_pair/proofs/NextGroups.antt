@@ -1,0 +1,99 @@
+-- The next lower scoregroup is the front of the lower seats with one score.
+use Rattle.std.proofs.Common.{◌≡◌, ℕ, zero, suc, ◌+◌, ◌<◌, ◌≤◌, Bool, true, false, ◌==◌, cond, List, [], ◌∷◌, length, take, get_or, min, refl, sym, ap, ◌∙◌, subst, arith, add-one}
+use Rattle.std.proofs.lemmas.Bool.Decides.{nat_tests}
+use Rattle.std.proofs.lemmas.List.{length-take}
+use Rattle.dutch_order.specs.Arrangements.{down}
+use Rattle.dutch_order.specs.Draws.{Draw}
+use Rattle.dutch_player.specs.Facts.{Facts}
+use Rattle.dutch_pair.specs.Seated.{score_at}
+use Rattle.dutch_pair.specs.Reached.{Stand, IsAbove, frame_of}
+use Rattle.dutch_pair.specs.Quality.{Quality}
+use Rattle.dutch_pair.specs.Groups.{front_with}
+use Rattle.dutch_pair.specs.Round.{is_ordinary, first_group, scoregroups, quality_of}
+use Rattle.dutch_pair.specs.NextBracket.{IsNext, quality}
+use Rattle.dutch_pair.proofs.GroupLemmas.{first_group_is}
+
+equal_of : (a b : ℕ) → (a == b) ≡ true → a ≡ b
+equal_of a b h = grind (arith, nat_tests)
+
+-- the seat at a place of a front has the score, and is that at the same place of all
+abbrev pub IsAt : Facts → ℕ → List ℕ → List ℕ → ℕ → Type 0
+IsAt facts score front xs i = (score_at facts (get_or front i 0) ≡ score) × (i < length xs) × (get_or front i 0 ≡ get_or xs i 0)
+
+module _ (facts : Facts) where
+  front_at : (score x : ℕ) (xs : List ℕ) (i : ℕ) (t : Bool) → (score_at facts x == score) ≡ t
+      → ((j : ℕ) → j < length (take (front_with facts score xs) xs) → IsAt facts score (take (front_with facts score xs) xs) xs j)
+      → i < length (take (cond t (suc (front_with facts score xs)) 0) (x ∷ xs)) → IsAt facts score (take (cond t (suc (front_with facts score xs)) 0) (x ∷ xs)) (x ∷ xs) i
+  front_at score x xs i false e rest h = let bad : ⊥ = omega (arith, h) in absurd bad
+  front_at score x xs zero true e rest h = (equal_of (score_at facts x) score e, omega arith, refl)
+  front_at score x xs (suc i) true e rest h =
+      let later = rest i (omega (arith, h)) in
+      let lt : i < length xs = later.1 in
+      (later.0, omega (arith, lt), later.2)
+
+  at_front : (score : ℕ) (xs : List ℕ) (i : ℕ) → i < length (take (front_with facts score xs) xs) → IsAt facts score (take (front_with facts score xs) xs) xs i
+  at_front score [] i h = let bad : ⊥ = omega (arith, h) in absurd bad
+  at_front score (x ∷ xs) i h = front_at score x xs i (score_at facts x == score) refl (λ j g. at_front score xs j g) h
+
+  -- the seats of one score at the front of some
+  abbrev pub group_of : ℕ → List ℕ → List ℕ
+  group_of x xs = x ∷ take (front_with facts (score_at facts x) xs) xs
+
+  group_at : (x : ℕ) (xs : List ℕ) (i : ℕ) → i < length (group_of x xs) → IsAt facts (score_at facts x) (group_of x xs) (x ∷ xs) i
+  group_at x xs zero h = (refl, omega arith, refl)
+  group_at x xs (suc i) h =
+      let later = at_front (score_at facts x) xs i (omega (arith, h)) in
+      let lt : i < length xs = later.1 in
+      (later.0, omega (arith, lt), later.2)
+
+  group_is_next : (stand : Stand) (x : ℕ) (xs : List ℕ) → IsAbove facts stand (x ∷ xs) → IsNext facts stand (group_of x xs)
+  group_is_next stand x xs above = record {
+    inside = λ i h.
+        let p = group_at x xs i h in
+        let e : get_or (group_of x xs) i 0 ≡ get_or (x ∷ xs) i 0 = p.2 in
+        let lt : get_or (x ∷ xs) i 0 < length facts.seats = above.inside i p.1 in
+        omega (arith, e, lt);
+    few =
+        let n = front_with facts (score_at facts x) xs in
+        let short : length (take n xs) ≡ min n (length xs) = length-take n xs in
+        let few : length stand.seats + length (x ∷ xs) ≤ 256 = above.few in
+        omega (arith, short, few);
+    same = λ i j h g. (group_at x xs i h).0 ∙ sym (group_at x xs j g).0;
+    below = λ i j h g.
+        let p = group_at x xs j g in
+        let e : score_at facts (get_or (group_of x xs) j 0) ≡ score_at facts (get_or (x ∷ xs) j 0) = ap (score_at facts) p.2 in
+        let lt : score_at facts (get_or (x ∷ xs) j 0) < score_at facts (get_or stand.seats i 0) = above.below i j h p.1 in
+        omega (arith, e, lt);
+    there = λ k. omega arith;
+  }
+
+  none_is_next : (stand : Stand) → IsAbove facts stand [] → IsNext facts stand []
+  none_is_next stand above = record {
+    inside = λ i h. let bad : ⊥ = omega (arith, h) in absurd bad;
+    few = above.few;
+    same = λ i j h g. let bad : ⊥ = omega (arith, h) in absurd bad;
+    below = λ i j h g. let bad : ⊥ = omega (arith, g) in absurd bad;
+    there = above.there;
+  }
+
+  first_is_next : (stand : Stand) (lower : List ℕ) → IsAbove facts stand lower → IsNext facts stand (first_group facts (scoregroups facts lower))
+  first_is_next stand [] above = none_is_next stand above
+  first_is_next stand (x ∷ xs) above =
+      subst (λ groups. IsNext facts stand (first_group facts groups)) (sym (first_group_is facts x xs)) (group_is_next stand x xs above)
+
+  -- the first scoregroup of the lower seats is the next one
+  pub is_next : (stand : Stand) (lower next : List ℕ) → next ≡ first_group facts (scoregroups facts lower) → IsAbove facts stand lower → IsNext facts stand next
+  is_next stand lower next e above = subst (λ group. IsNext facts stand group) (sym e) (first_is_next stand lower above)
+
+  -- and of some seats it is the front with the first one's score
+  pub first_group_taken : (x : ℕ) (xs : List ℕ) (n : ℕ) → n ≡ front_with facts (score_at facts x) xs → take (n + 1) (x ∷ xs) ≡ first_group facts (scoregroups facts (x ∷ xs))
+  first_group_taken x xs n e =
+      ap (λ k. take k (x ∷ xs)) (add-one n) ∙ ap (λ k. x ∷ take k xs) e ∙ sym (ap (first_group facts) (first_group_is facts x xs))
+
+  -- the quality of a candidate, by its lists
+  pub quality_at : (stand : Stand) (lower next : List ℕ) (draw : Draw) (found : Quality) → next ≡ first_group facts (scoregroups facts lower)
+      → draw.down ≡ down (frame_of facts stand) draw.lists → found ≡ quality facts stand.seats (is_ordinary stand.kind) next draw
+      → found ≡ quality_of facts stand lower draw.lists
+  quality_at stand lower next draw found e left h =
+      h ∙ ap (λ group. quality facts stand.seats (is_ordinary stand.kind) group draw) e
+      ∙ ap (λ down. quality facts stand.seats (is_ordinary stand.kind) (first_group facts (scoregroups facts lower)) (record { lists = draw.lists; down = down })) left

@@ -1,0 +1,38 @@
+-- What the end of a walk over a whole round tells of the round.
+use Rattle.std.proofs.Common.{◌≡◌, ℕ, ◌+◌, ◌-◌, ◌≤◌, true, List, [], length, Option, Some, None, is_some, option_map, refl, sym, ap, ◌∙◌, arith}
+use Rattle.dutch_player.specs.Facts.{Facts}
+use Rattle.dutch_pair.specs.Boards.{boards}
+use Rattle.dutch_pair.specs.Round.{Visit, Pairing, round}
+use Rattle.dutch_pair.specs.Outcomes.{IsStoppedIn, visit_at}
+use Rattle.dutch_pair.specs.Ends.{in_front}
+
+module _ (facts : Facts) where
+  boards_at : (found : Option Pairing) (pairing : Pairing) (all : List (ℕ × ℕ)) → option_map (in_front []) found ≡ Some pairing → all ≡ boards facts pairing
+      → option_map (boards facts) found ≡ Some all
+  boards_at None pairing all e h = let bad : None ≡ Some pairing = e in cc
+  boards_at (Some own) pairing all e h =
+      let same : Some own ≡ Some pairing = e in
+      ap (option_map (boards facts)) same ∙ ap Some (sym h)
+
+  -- the boards of a round's pairs
+  pub boards_are : (pairs : List (ℕ × ℕ)) (bye : List ℕ) (all : List (ℕ × ℕ)) → option_map (in_front []) (round facts).pairing ≡ Some (record { pairs = pairs; bye = bye })
+      → all ≡ boards facts (record { pairs = pairs; bye = bye }) → option_map (boards facts) (round facts).pairing ≡ Some all
+  boards_are pairs bye all e h = boards_at (round facts).pairing (record { pairs = pairs; bye = bye }) all e h
+
+  paired_at : (found : Option Pairing) (pairing : Pairing) → option_map (in_front []) found ≡ Some pairing → is_some found ≡ true
+  paired_at None pairing e = let bad : None ≡ Some pairing = e in cc
+  paired_at (Some own) pairing e = refl
+
+  pub is_paired : (pairs : List (ℕ × ℕ)) (bye : List ℕ) → option_map (in_front []) (round facts).pairing ≡ Some (record { pairs = pairs; bye = bye })
+      → is_some (round facts).pairing ≡ true
+  is_paired pairs bye e = paired_at (round facts).pairing (record { pairs = pairs; bye = bye }) e
+
+  pub stopped_in : (limit bracket used : ℕ) → used ≡ limit → 1 ≤ bracket → bracket ≤ 1 + length (round facts).reached → IsStoppedIn facts limit bracket used
+  stopped_in limit bracket used e low high = (e, low, omega (arith, high))
+
+  pub visit_asked : (number own : ℕ) (visit : Visit) → Some number ≡ Some own → visit_at (own - 1) (round facts).reached ≡ Some visit
+      → visit_at (number - 1) (round facts).reached ≡ Some visit
+  visit_asked number own visit e h = ap (λ n. visit_at (n - 1) (round facts).reached) (let same : number ≡ own = cc in same) ∙ h
+
+  pub none_asked : (own : ℕ) → None ≡ Some own → (round facts).pairing ≡ None
+  none_asked own e = let bad : None ≡ Some own = e in cc

@@ -1,0 +1,39 @@
+-- What the answer about completion tells by the test.
+use Rattle.std.proofs.Common.{◌≡◌, ℕ, Bool, true, false, not, ◌||◌, List, ◌++◌, map, refl, ap, ◌∙◌, subst}
+use Rattle.dutch_order.specs.Arrangements.{Arrangement, down}
+use Rattle.dutch_player.specs.Facts.{Facts}
+use Rattle.dutch_pair.specs.declared.completion.Answer.{Answer}
+use Rattle.dutch_pair.specs.declared.completion.Answer.TheVariants.{Yes, No, Undecided}
+use Rattle.dutch_pair.specs.Completion.{Completable, can_complete, MatchAnswer, Tells}
+use Rattle.dutch_pair.specs.Reached.{Stand, frame_of}
+use Rattle.dutch_pair.specs.Seated.{seat_of}
+use Rattle.dutch_pair.specs.Seats.{seats_meet, seats_may_be_left}
+use Rattle.dutch_pair.specs.Round.{is_penultimate, completable, downfloaters}
+use Rattle.dutch_pair.specs.Eligible.{can_be_chosen}
+use Rattle.dutch_pair.proofs.Covering.{completable_by_test}
+
+is_false : (b : Bool) → ¬ (b ≡ true) → b ≡ false
+is_false true h = absurd (h refl)
+is_false false h = refl
+
+pub told : (meets : ℕ → ℕ → Bool) (may_be_left : ℕ → Bool) (players : List ℕ) (answer : Answer) (old new : Type 0) → (old → new)
+    → MatchAnswer answer (Completable meets may_be_left players) (¬ Completable meets may_be_left players) old
+    → Tells answer (can_complete meets may_be_left players) new
+told meets may_be_left players Yes old new f h = (completable_by_test meets may_be_left players).0 h
+told meets may_be_left players No old new f h =
+    is_false (can_complete meets may_be_left players) (λ test. h ((completable_by_test meets may_be_left players).1 test))
+told meets may_be_left players Undecided old new f h = f h
+
+chosen_at : (answer : Answer) (penultimate test : Bool) (stopped : Type 0) → true ≡ penultimate → Tells answer test stopped → Tells answer (not penultimate || test) stopped
+chosen_at answer true test stopped e h = h
+chosen_at answer false test stopped e h = let bad : true ≡ false = e in cc
+
+-- in the penultimate bracket, the answer about those left over and all lower players
+pub can_be_chosen_told : (facts : Facts) (stand : Stand) (lower left players : List ℕ) (lists : Arrangement) (answer : Answer) (old new : Type 0)
+    → true ≡ is_penultimate stand.kind → left ≡ down (frame_of facts stand) lists → players ≡ map (seat_of stand.seats) left ++ lower → (old → new)
+    → MatchAnswer answer (Completable (seats_meet facts) (seats_may_be_left facts) players) (¬ Completable (seats_meet facts) (seats_may_be_left facts) players) old
+    → Tells answer (can_be_chosen facts stand lower lists) new
+can_be_chosen_told facts stand lower left players lists answer old new kind e all f h =
+    chosen_at answer (is_penultimate stand.kind) (completable facts (downfloaters facts stand lists ++ lower)) new kind
+    (subst (λ seats. Tells answer (completable facts seats) new) (all ∙ ap (λ numbers. map (seat_of stand.seats) numbers ++ lower) e)
+    (told (seats_meet facts) (seats_may_be_left facts) players answer old new f h))

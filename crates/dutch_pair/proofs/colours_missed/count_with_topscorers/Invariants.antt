@@ -1,0 +1,9 @@
+use Rattle.std.proofs.Common.{◌≡◌, ◌+◌, ◌*◌, ◌≤◌, drop}
+use Rattle.dutch_pair.specs.Quality.{misses, count_with_topscorers}
+use Rattle.dutch_pair.proofs.colours_missed.count_with_topscorers.Given as goal
+
+abbrev pub invariant-loop-pair : goal.invariant-loop-pair
+invariant-loop-pair l = record {
+  few : l.count ≤ 2 * l.pair-index;
+  so_far : l.count + count_with_topscorers l.field (misses l.miss) (drop l.pair-index l.pairs) ≡ count_with_topscorers l.field (misses l.miss) l.pairs;
+}

@@ -1,0 +1,62 @@
+use Rattle.std.proofs.Common.{◌-◌, ◌+◌, suc, length, arith}
+use Rattle.std.specs.Prelude.{if◌then◌else◌}
+use Rattle.dutch_pair.specs.Completion.{can_cover, left_over, most}
+use Rattle.dutch_pair.proofs.PairSearch.{told_by_pairs, told_by_bye, spent_by_pairs, spent_by_bye, odd_unpaired, told_by_partner, spends-within, takes-found}
+use Rattle.dutch_pair.proofs.completion.+search.Goals as goal
+
+pub can_pair-returns-then-later-eq0-clause-answer : goal.can_pair-returns-then-later-eq0-clause-answer
+can_pair-returns-then-later-eq0-clause-answer g t c =
+    let e = c.in-Some.ensures.cases.0 in
+    rw e
+    (odd_unpaired (g.R.Rule.meets c.args.rule.now) (g.R.Rule.may_be_left c.args.rule.now) c.in-Some.first.now c.in-Some.later.now c.args.bye
+    c.if-not-bye.true c.if-later-eq0.true)
+
+pub can_pair-returns-in-No-clause-answer : goal.can_pair-returns-in-No-clause-answer
+can_pair-returns-in-No-clause-answer g t c =
+    let e = c.in-Some.ensures.cases.0 in
+    rw e
+    (told_by_bye (g.R.Rule.meets c.args.rule.now) (g.R.Rule.may_be_left c.args.rule.now) c.in-Some.first.now c.in-Some.later.now c.args.bye
+    c.args.budget.now c.pair_first.new.budget c.leave_first.new.budget c.leave_first.result
+    c.in-No.ensures.answer c.pair_first.ensures.steps c.leave_first.ensures.answer)
+
+pub can_pair-returns-in-No-clause-steps : goal.can_pair-returns-in-No-clause-steps
+can_pair-returns-in-No-clause-steps g t c =
+    let e = c.in-Some.ensures.cases.0 in
+    rw e
+    (spent_by_bye (g.R.Rule.meets c.args.rule.now) (g.R.Rule.may_be_left c.args.rule.now) c.in-Some.first.now c.in-Some.later.now c.args.bye
+    c.args.budget.now c.pair_first.new.budget c.leave_first.new.budget
+    c.pair_first.ensures.steps c.leave_first.ensures.steps)
+
+pub can_pair-returns-in_default-pair_first : goal.can_pair-returns-in_default-pair_first
+can_pair-returns-in_default-pair_first g t c =
+    let n = length c.in-Some.later.now in
+    let e = c.in-Some.ensures.cases.0 in
+    rw e
+    (record {
+      answer = told_by_pairs (g.R.Rule.meets c.args.rule.now) (g.R.Rule.may_be_left c.args.rule.now) c.in-Some.first.now c.in-Some.later.now c.args.bye
+          c.args.budget.now c.pair_first.new.budget c.pair_first.new.budget c.pair_first.result
+          c.in_default-pair_first.not-No c.pair_first.ensures.answer;
+      steps = spent_by_pairs (g.R.Rule.meets c.args.rule.now) (g.R.Rule.may_be_left c.args.rule.now) c.in-Some.first.now c.in-Some.later.now c.args.bye
+          c.args.budget.now c.pair_first.new.budget c.pair_first.new.budget
+          c.pair_first.ensures.steps;
+      taken = takes-found c.pair_first.result (n + 1) n (suc n) (if c.args.bye then suc n else 0) c.args.budget.now c.args.budget.now c.pair_first.new.budget
+          (omega arith) (omega arith) c.in_default-pair_first.not-No c.pair_first.ensures.taken;
+    })
+
+pub pair_first-returns-in_default : goal.pair_first-returns-in_default
+pair_first-returns-in_default g t c =
+    let meets = g.R.Rule.meets c.args.rule.now in
+    let n = length c.args.later.now in
+    let m = most (n - 1) c.args.bye in
+    record {
+      answer = told_by_partner (meets c.args.first) (can_cover meets (left_over c.args.bye (g.R.Rule.may_be_left c.args.rule.now)) (n - 1)) c.args.later.now
+          c.loop-place.place m c.args.budget.now c.loop-place.budget c.pair_with.new.budget c.pair_with.result
+          c.loop-place-test.true c.loop-place.invariant.same c.loop-place.invariant.steps c.in_default.not-No c.pair_with.ensures.answer;
+      steps = spends-within n c.loop-place.place m c.args.budget.now c.loop-place.budget c.pair_with.new.budget
+          c.loop-place-test.true c.loop-place.invariant.steps c.pair_with.ensures.steps;
+      taken = takes-found c.pair_with.result (n + 1) 1 (n + 1) n c.args.budget.now c.loop-place.budget c.pair_with.new.budget
+          (omega arith) (omega arith) c.in_default.not-No c.pair_with.ensures.taken;
+    }
+
+pub pair_first-returns-clause-taken : goal.pair_first-returns-clause-taken
+pair_first-returns-clause-taken g t c = omega (arith, c.loop-place.invariant.taken)

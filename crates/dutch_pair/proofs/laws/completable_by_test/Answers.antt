@@ -1,0 +1,5 @@
+use Rattle.dutch_pair.proofs.Covering.{completable_by_test}
+use Rattle.dutch_pair.proofs.laws.completable_by_test.Goals as goal
+
+pub returns : goal.returns
+returns c = completable_by_test

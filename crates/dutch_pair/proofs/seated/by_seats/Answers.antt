@@ -1,0 +1,6 @@
+use Rattle.std.proofs.Common.{rules}
+use Rattle.dutch_pair.proofs.SeatedWithin.{within_at}
+use Rattle.dutch_pair.proofs.seated.by_seats.Goals as goal
+
+pub returns-clause-inside : goal.returns-clause-inside
+returns-clause-inside c = within_at c.args.field.now c.args.seats.now c.args.candidate.now _ c.requires.bracket c.requires.candidate (search rules)

@@ -1,0 +1,11 @@
+use Rattle.std.proofs.Common.{◌≡◌, ◌++◌, map, ap, ◌∙◌, subst}
+use Rattle.dutch_pair.specs.Completion.{Tells}
+use Rattle.dutch_pair.specs.Seated.{seat_of}
+use Rattle.dutch_pair.specs.Round.{completable}
+use Rattle.dutch_pair.proofs.walk.leaves_completable.Goals as goal
+
+pub returns-clause-answer : goal.returns-clause-answer
+returns-clause-answer c =
+    let now = c.can_complete.new.budget.used ≡ c.can_complete.new.budget.limit in
+    let all = c.deref.ensures.0 ∙ c.seats_with_lower-players.ensures ∙ ap (λ numbers. map (seat_of c.args.reached.now.seats) numbers ++ c.args.lower.now) c.down.ensures in
+    subst (λ seats. Tells c.can_complete.result (completable c.args.field.now seats) now) all c.can_complete.ensures.answer

@@ -1,0 +1,82 @@
+-- Rounds that can be followed by hand, on which the definitions are tried.
+use Rattle.std.specs.Prelude.{ℕ, true, false, List, [], ◌∷◌, Option, Some, None, option_map, map}
+use Rattle.trf16.specs.declared.cell.Colour.{Colour}
+use Rattle.trf16.specs.declared.cell.Colour.TheVariants.{White, Black}
+use Rattle.dutch_player.specs.declared.float.Float.{Float}
+use Rattle.dutch_player.specs.declared.float.Float.TheVariants.{Up, Down}
+use Rattle.dutch_player.specs.Facts.{SeatFacts, Facts}
+use Rattle.dutch_pair.specs.Round.{round}
+use Rattle.dutch_pair.specs.Boards.{boards}
+
+-- the boards of a round, if it has a pairing
+abbrev pub boards_of : Facts → Option (List (ℕ × ℕ))
+boards_of facts = option_map (boards facts) (round facts).pairing
+
+-- the numbers of pairs in the brackets that a round reaches
+abbrev pub pairs_reached : Facts → List ℕ
+pairs_reached facts = map (λ visit. visit.shape.pairs) (round facts).reached
+
+-- a player who may have the bye: start rank, score, colours, opponents, and the float in the last round
+abbrev pub player : ℕ → ℕ → List Colour → List ℕ → Option Float → SeatFacts
+player start score played opponents latest = record {
+  start = start;
+  score = score;
+  played = played;
+  opponents = opponents;
+  latest = latest;
+  earlier = None;
+  may_bye = true;
+}
+
+-- a player who may not, and who played no game
+abbrev pub idle_winner : ℕ → ℕ → SeatFacts
+idle_winner start score = record {
+  start = start;
+  score = score;
+  played = [];
+  opponents = [];
+  latest = Some Down;
+  earlier = None;
+  may_bye = false;
+}
+
+-- before a round of some total, white being the initial colour
+abbrev pub before : ℕ → ℕ → List SeatFacts → Facts
+before round total seats = record { seats = seats; round = round; total = total; initial = White }
+
+-- five players before the first round
+abbrev pub five_players : Facts
+five_players =
+    before 1 5 (player 1 0 [] [] None ∷ player 2 0 [] [] None ∷ player 3 0 [] [] None ∷ player 4 0 [] [] None ∷ player 5 0 [] [] None ∷ [])
+
+-- one player leads: he moves down alone, and meets the one with whom both get their colour
+abbrev pub leader_moves_down : Facts
+leader_moves_down =
+    before 2 5
+    (player 1 2 (White ∷ []) (3 ∷ []) None ∷ player 2 1 (Black ∷ []) (4 ∷ []) None ∷ player 4 1 (White ∷ []) (2 ∷ []) None
+    ∷ player 3 0 (Black ∷ []) (1 ∷ []) None ∷ [])
+
+-- two with a full-point bye above two who have met: the first bracket cannot keep its pair
+abbrev pub pair_given_up : Facts
+pair_given_up =
+    before 2 3
+    (idle_winner 1 2 ∷ idle_winner 2 2 ∷ player 3 1 (White ∷ []) (4 ∷ []) None ∷ player 4 1 (Black ∷ []) (3 ∷ []) None ∷ [])
+
+-- four players who have all met
+abbrev pub all_met : Facts
+all_met =
+    before 4 4
+    (player 1 3 (White ∷ Black ∷ White ∷ []) (4 ∷ 2 ∷ 3 ∷ []) None ∷ player 2 3 (White ∷ White ∷ Black ∷ []) (3 ∷ 1 ∷ 4 ∷ []) None
+    ∷ player 3 3 (Black ∷ White ∷ Black ∷ []) (2 ∷ 4 ∷ 1 ∷ []) None ∷ player 4 3 (Black ∷ Black ∷ White ∷ []) (1 ∷ 3 ∷ 2 ∷ []) None ∷ [])
+
+-- two leaders who both had white twice, before a third round of some total; in the last round they are topscorers
+abbrev pub two_leaders : ℕ → Facts
+two_leaders total =
+    before 3 total
+    (player 1 4 (White ∷ White ∷ []) (5 ∷ 3 ∷ []) (Some Down) ∷ player 2 4 (White ∷ White ∷ []) (6 ∷ 4 ∷ []) (Some Down)
+    ∷ player 3 1 (White ∷ Black ∷ []) (4 ∷ 1 ∷ []) None ∷ player 4 1 (Black ∷ Black ∷ []) (3 ∷ 2 ∷ []) None
+    ∷ player 5 1 (Black ∷ White ∷ []) (1 ∷ 6 ∷ []) (Some Up) ∷ player 6 1 (Black ∷ Black ∷ []) (2 ∷ 5 ∷ []) (Some Up) ∷ [])
+
+-- three players, of whom the one with a forfeit win has no colour history and cannot have the bye
+abbrev pub forfeit_winner : Facts
+forfeit_winner = before 2 5 (player 1 2 (White ∷ []) (5 ∷ []) None ∷ player 2 2 (Black ∷ []) (6 ∷ []) None ∷ idle_winner 3 2 ∷ [])

@@ -1,0 +1,46 @@
+-- The best candidate so far, while a bracket's candidates are looked at one by one.
+use Rattle.std.specs.Prelude.{◌≡◌, ℕ, Bool, true, List, Option, Some, None}
+use Rattle.dutch_order.specs.declared.bracket.Shape.{Shape}
+use Rattle.dutch_order.specs.Arrangements.{Arrangement, down}
+use Rattle.dutch_order.specs.Draws.{Draw}
+use Rattle.dutch_player.specs.Facts.{Facts}
+use Rattle.dutch_pair.specs.declared.choice.Best.{Best}
+use Rattle.dutch_pair.specs.Reached.{Stand, frame_of}
+use Rattle.dutch_pair.specs.Quality.{Quality, is_better}
+use Rattle.dutch_pair.specs.QualityIn.{quality_in}
+use Rattle.dutch_pair.specs.Round.{eligible, quality_of}
+use Rattle.dutch_pair.specs.Choice.{chosen, chosen_of_rest}
+use Rattle.dutch_pair.specs.Eligible.{can_be_chosen}
+
+-- the candidate that is kept, if there is one, and its lists
+abbrev pub kept_draw : Option Best → Option Draw
+kept_draw None = None
+kept_draw (Some best) = Some best.candidate
+
+abbrev pub kept_lists : Option Best → Option Arrangement
+kept_lists None = None
+kept_lists (Some best) = Some best.candidate.lists
+
+-- a quality is better than that of the candidate that is kept, if there is one
+abbrev pub wins : Quality → Option Best → Bool
+wins quality None = true
+wins quality (Some best) = is_better quality (quality_in best.quality)
+
+-- who is kept has its downfloaters and its quality
+abbrev pub IsKept : Facts → Stand → List ℕ → Option Best → Type 0
+IsKept facts stand lower None = Unit {0}
+IsKept facts stand lower (Some best) =
+    (best.candidate.down ≡ down (frame_of facts stand) best.candidate.lists) × (quality_in best.quality ≡ quality_of facts stand lower best.candidate.lists)
+
+-- B.8: a candidate is better than another one
+abbrev pub is_better_in : Facts → Stand → List ℕ → Arrangement → Arrangement → Bool
+is_better_in facts stand lower c d = is_better (quality_of facts stand lower c) (quality_of facts stand lower d)
+
+-- B.8: what is chosen of a shape
+abbrev pub chosen_in : Facts → Stand → List ℕ → Shape → Option Arrangement
+chosen_in facts stand lower shape = chosen (is_better_in facts stand lower) (eligible facts stand lower shape)
+
+-- what is chosen of the one that is kept and of those to come
+abbrev pub chosen_yet : Facts → Stand → List ℕ → Option Best → List Arrangement → Option Arrangement
+chosen_yet facts stand lower kept coming =
+    chosen_of_rest (is_better_in facts stand lower) (can_be_chosen facts stand lower) (kept_lists kept) coming

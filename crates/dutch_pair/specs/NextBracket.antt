@@ -1,0 +1,89 @@
+-- What a candidate leaves for the next bracket (C.04.3 C.7), and its whole quality.
+use Rattle.std.specs.Prelude.{◌≡◌, ℕ, ◌+◌, ◌<◌, ◌≤◌, Bool, if◌then◌else◌, List, [], ◌∷◌, ◌++◌, map, filter, length, slice_index, Option, Some, None, option_map}
+use Rattle.std.specs.Ordering.{nat_cmp, is_lt}
+use Rattle.std.specs.Cmp.Lexicographic.{slice_cmp}
+use Rattle.dutch_order.specs.declared.bracket.Shape.{Shape}
+use Rattle.dutch_order.specs.Arrangements.{Arrangement, down, arrangements, candidates}
+use Rattle.dutch_order.specs.Keys.{IsIn}
+use Rattle.dutch_order.specs.Draws.{Draw}
+use Rattle.dutch_player.specs.Facts.{Facts}
+use Rattle.dutch_pair.specs.declared.reached.Kind.TheVariants.{Ordinary}
+use Rattle.dutch_pair.specs.Seated.{seat_of, score_at, by_seats}
+use Rattle.dutch_pair.specs.Reached.{Stand, AreSeats, frame_of, numbers_meet, number_may_be_left}
+use Rattle.dutch_pair.specs.Shapes.{fits, first_with, greatest_shape}
+use Rattle.dutch_pair.specs.Quality.{Quality, NextValue, psd, quality_with}
+
+-- a list of numbers before another: at the first difference its number is lower, or it has ended
+abbrev pub is_lower : List ℕ → List ℕ → Bool
+is_lower xs ys = is_lt (slice_cmp nat_cmp xs ys)
+
+-- the lowest of a list and some others
+abbrev pub lowest_list_upto : List ℕ → List (List ℕ) → List ℕ
+lowest_list_upto least [] = least
+lowest_list_upto least (xs ∷ others) = lowest_list_upto (if is_lower xs least then xs else least) others
+
+-- the lowest of some lists
+abbrev pub lowest_list : List (List ℕ) → List ℕ
+lowest_list [] = []
+lowest_list (xs ∷ others) = lowest_list_upto xs others
+
+-- the next bracket: the downfloaters are its moved-down players, and the next lower scoregroup its residents
+abbrev pub next_stand : List ℕ → List ℕ → Stand
+next_stand moved_down next = record { number = 0; kind = Ordinary; mdps = length moved_down; seats = moved_down ++ next }
+
+-- the arrangements of a bracket that meet C.1 and C.3, and C.2 where it leaves over at most one player
+abbrev pub legal_in : Facts → Stand → Shape → List Arrangement
+legal_in facts stand = candidates (numbers_meet facts stand) (number_may_be_left facts stand) (frame_of facts stand)
+
+-- the PSD of an arrangement of a bracket
+abbrev pub psd_in : Facts → Stand → Arrangement → List ℕ
+psd_in facts stand lists = psd facts (by_seats facts stand.seats (record { lists = lists; down = down (frame_of facts stand) lists }))
+
+-- where C.7 does not count, all candidates have the same value
+abbrev pub no_value : NextValue
+no_value = record { pairs = 0; psd = [] }
+
+-- of a shape the number of pairs, and the least PSD of its arrangements
+abbrev pub value_of_shape : Facts → Stand → Option Shape → NextValue
+value_of_shape facts stand None = no_value
+value_of_shape facts stand (Some shape) =
+    record { pairs = shape.pairs; psd = lowest_list (map (psd_in facts stand) (legal_in facts stand shape)) }
+
+-- C.7: what a bracket can be: the most pairs, for them the most moved-down players, and then the least PSD
+abbrev pub value_of : Facts → Stand → NextValue
+value_of facts stand = value_of_shape facts stand (greatest_shape (legal_in facts stand) (frame_of facts stand))
+
+-- C.7 counts in ordinary brackets alone
+abbrev pub value_in : Bool → Facts → List ℕ → List ℕ → NextValue
+value_in ordinary facts moved_down next = if ordinary then value_of facts (next_stand moved_down next) else no_value
+
+-- C.6 to C.19: the quality of a candidate in a bracket with these seats, above a next lower scoregroup
+abbrev pub quality : Facts → List ℕ → Bool → List ℕ → Draw → Quality
+quality facts seats ordinary next draw =
+    quality_with facts (by_seats facts seats draw) (value_in ordinary facts (map (seat_of seats) draw.down) next)
+
+-- a bracket with a resident, whose residents have one score, as a scoregroup has
+pub record IsFlat (facts : Facts) (stand : Stand) : Type 0 where
+  pub resident : stand.mdps < length stand.seats
+  pub same : (i : ℕ) → stand.mdps < i → i ≤ length stand.seats → score_at facts (seat_of stand.seats i) ≡ score_at facts (seat_of stand.seats (stand.mdps + 1))
+
+-- the first of some shapes that has an arrangement, and what the bracket can be with it
+abbrev pub first_among : Facts → Stand → List Shape → Option Shape
+first_among facts stand shapes = first_with (legal_in facts stand) (filter (fits (frame_of facts stand)) shapes)
+
+abbrev pub value_among : Facts → Stand → List Shape → Option NextValue
+value_among facts stand shapes = option_map (λ shape. value_of_shape facts stand (Some shape)) (first_among facts stand shapes)
+
+-- an arrangement of a bracket, with those whom it leaves over
+pub record IsDraw (facts : Facts) (stand : Stand) (draw : Draw) : Type 0 where
+  pub lists : (shape : Shape) × IsIn draw.lists (arrangements (frame_of facts stand) shape)
+  pub down : draw.down ≡ down (frame_of facts stand) draw.lists
+
+-- the next lower scoregroup: seats with one score, below those of a bracket with which it has at most 256 players; below an ordinary
+-- bracket there is one
+pub record IsNext (facts : Facts) (stand : Stand) (next : List ℕ) : Type 0 where
+  pub inside : AreSeats facts next
+  pub few : length stand.seats + length next ≤ 256
+  pub same : (i j : ℕ) → i < length next → j < length next → score_at facts (slice_index next i) ≡ score_at facts (slice_index next j)
+  pub below : (i j : ℕ) → i < length stand.seats → j < length next → score_at facts (slice_index next j) < score_at facts (slice_index stand.seats i)
+  pub there : stand.kind ≡ Ordinary → 0 < length next

@@ -1,0 +1,46 @@
+-- What the calls on a round answer.
+use Rattle.std.specs.Prelude.{◌≡◌, ℕ, zero, suc, ◌+◌, ◌-◌, ◌≤◌, true, List, [], ◌∷◌, length, Option, Some, None, option_map, is_some}
+use Rattle.dutch_order.specs.Arrangements.{Fits, down}
+use Rattle.dutch_player.specs.Facts.{Facts}
+use Rattle.dutch_pair.specs.declared.choice.Choice.{Choice}
+use Rattle.dutch_pair.specs.declared.choice.Choice.TheVariants.{Chosen as IsChosen, NoCandidate, Undecided as ChoiceUndecided}
+use Rattle.dutch_pair.specs.declared.round.Outcome.{Outcome}
+use Rattle.dutch_pair.specs.declared.round.Outcome.TheVariants.{Paired, NoPairing, Undecided}
+use Rattle.dutch_pair.specs.declared.round.BracketAt.{BracketAt}
+use Rattle.dutch_pair.specs.declared.round.BracketAt.TheVariants.{Bracket, NotReached, NoPairing as NoPairingAt, Undecided as UndecidedAt}
+use Rattle.dutch_pair.specs.Reached.{Stand, IsOf, frame_of}
+use Rattle.dutch_pair.specs.Round.{Visit, round, choice, shape_of}
+use Rattle.dutch_pair.specs.Boards.{boards}
+
+-- the bracket at a place of a list, the first at 0
+abbrev pub visit_at : ℕ → List Visit → Option Visit
+visit_at place [] = None
+visit_at zero (visit ∷ visits) = Some visit
+visit_at (suc place) (visit ∷ visits) = visit_at place visits
+
+-- a call was stopped at its limit, in one of the brackets reached or in the one behind them
+abbrev pub IsStoppedIn : Facts → ℕ → ℕ → ℕ → Type 0
+IsStoppedIn facts limit bracket used = (used ≡ limit) × (1 ≤ bracket) × (bracket ≤ length (round facts).reached + 1)
+
+-- the choice in a bracket above lower seats; what a call that was stopped owes is given with it
+abbrev pub IsChoice : Facts → Stand → List ℕ → Type 0 → Choice → Type 0
+IsChoice facts stand lower stopped (IsChosen shape candidate) =
+    (choice facts stand lower ≡ Some (record { shape = shape; lists = candidate.lists })) × (candidate.down ≡ down (frame_of facts stand) candidate.lists)
+    × Fits (frame_of facts stand) shape
+IsChoice facts stand lower stopped NoCandidate = shape_of facts stand lower ≡ None
+IsChoice facts stand lower stopped ChoiceUndecided = stopped
+
+-- the outcome of a round
+abbrev pub IsOutcome : Facts → ℕ → Outcome → Type 0
+IsOutcome facts limit (Paired all) = option_map (boards facts) (round facts).pairing ≡ Some all.items
+IsOutcome facts limit NoPairing = (round facts).pairing ≡ None
+IsOutcome facts limit (Undecided bracket used) = IsStoppedIn facts limit bracket used
+
+-- the bracket of a number, from 1, with its shape; or why there is none
+abbrev pub IsBracketAt : Facts → ℕ → ℕ → BracketAt → Type 0
+IsBracketAt facts limit number (Bracket reached shape) =
+    (visit_at (number - 1) (round facts).reached ≡ Some (record { bracket = reached; shape = shape }))
+    × IsOf facts reached × Fits (frame_of facts reached) shape
+IsBracketAt facts limit number NotReached = (visit_at (number - 1) (round facts).reached ≡ None) × (is_some (round facts).pairing ≡ true)
+IsBracketAt facts limit number NoPairingAt = (visit_at (number - 1) (round facts).reached ≡ None) × ((round facts).pairing ≡ None)
+IsBracketAt facts limit number (UndecidedAt bracket used) = IsStoppedIn facts limit bracket used

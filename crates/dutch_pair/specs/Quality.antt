@@ -1,0 +1,190 @@
+-- The quality of a candidate (C.04.3 C.6 to C.19): the items by which candidates of one shape are compared.
+use Rattle.std.specs.Prelude.{ℕ, ◌+◌, Bool, true, false, not, ◌&&◌, ◌||◌, ◌==◌, nat_lt, if◌then◌else◌, List, [], ◌∷◌, ◌++◌, map, filter, length, sum_by, Option}
+use Rattle.std.specs.declared.cmp.Ordering.{Ordering}
+use Rattle.std.specs.Ordering.{nat_cmp, on, then_cmp, flip_args, is_lt}
+use Rattle.std.specs.Cmp.Lexicographic.{slice_cmp}
+use Rattle.std.specs.Option.{option_map_or}
+use Rattle.trf16.specs.declared.cell.Colour.{Colour}
+use Rattle.trf16.specs.declared.cell.Colour.TheVariants.{White, Black}
+use Rattle.dutch_player.specs.declared.float.Float.{Float}
+use Rattle.dutch_player.specs.declared.float.Float.TheVariants.{Up, Down}
+use Rattle.dutch_player.specs.declared.preference.Kind.{Kind}
+use Rattle.dutch_player.specs.declared.preference.Kind.TheVariants.{Absolute, Strong, Mild}
+use Rattle.dutch_player.specs.Preferences.{is_same, last_two, preference}
+use Rattle.dutch_player.specs.Meetings.{is_topscorer}
+use Rattle.dutch_player.specs.Colours.{distance, colours}
+use Rattle.dutch_player.specs.Facts.{SeatFacts, Facts, seat_at}
+use Rattle.dutch_pair.specs.declared.seated.Mover.{Mover}
+use Rattle.dutch_pair.specs.declared.colours_missed.Miss.{Miss}
+use Rattle.dutch_pair.specs.declared.colours_missed.Miss.TheVariants.{Wide, Third, Preference, StrongPreference}
+use Rattle.dutch_pair.specs.Seated.{Seated, difference, difference_down, going_down, going_up}
+
+-- the items in the order in which they count
+pub record Quality : Type 0 where
+  pub psd : List ℕ
+  pub next_pairs : ℕ
+  pub next_psd : List ℕ
+  pub wide_differences : ℕ
+  pub third_colours : ℕ
+  pub missed_preferences : ℕ
+  pub missed_strong : ℕ
+  pub down_again : ℕ
+  pub up_again : ℕ
+  pub down_again_before : ℕ
+  pub up_again_before : ℕ
+  pub down_again_by : List ℕ
+  pub up_again_by : List ℕ
+  pub down_again_before_by : List ℕ
+  pub up_again_before_by : List ℕ
+
+-- C.7: what the next bracket can be: its number of pairs and the least PSD for it
+pub record NextValue : Type 0 where
+  pub pairs : ℕ
+  pub psd : List ℕ
+
+-- a number put behind all that are higher
+abbrev pub placed : ℕ → List ℕ → List ℕ
+placed x [] = x ∷ []
+placed x (y ∷ ys) = if nat_lt x y then y ∷ placed x ys else x ∷ y ∷ ys
+
+-- numbers put one by one to their places among some that are there, the highest first
+abbrev pub placed_all : List ℕ → List ℕ → List ℕ
+placed_all front [] = front
+placed_all front (x ∷ rest) = placed_all (placed x front) rest
+
+abbrev pub highest_first : List ℕ → List ℕ
+highest_first numbers = placed_all [] numbers
+
+-- C.6: the PSD: the differences of all pairs and all downfloaters, the highest first
+abbrev pub psd : Facts → Seated → List ℕ
+psd facts candidate =
+    highest_first (map (difference facts) candidate.pairs ++ map (difference_down facts candidate.lowest) candidate.down)
+
+-- C.8: with a colour more the colour difference is over +2 or under -2
+abbrev pub is_wide : SeatFacts → Colour → Bool
+is_wide seat colour = nat_lt 2 (distance (colour ∷ seat.played))
+
+-- C.9: the colour is that of the last two games
+abbrev pub is_third : SeatFacts → Colour → Bool
+is_third seat colour = option_map_or (is_same colour) (last_two seat.played) false
+
+-- C.10: the colour is not that of the preference
+abbrev pub is_missed : SeatFacts → Colour → Bool
+is_missed seat colour = option_map_or (λ wanted. not (is_same wanted.colour colour)) (preference seat.played) false
+
+abbrev pub is_strong : Kind → Bool
+is_strong Absolute = false
+is_strong Strong = true
+is_strong Mild = false
+
+-- C.11: the colour is not that of a preference that is strong and not absolute
+abbrev pub is_strong_missed : SeatFacts → Colour → Bool
+is_strong_missed seat colour =
+    option_map_or (λ wanted. is_strong wanted.kind && not (is_same wanted.colour colour)) (preference seat.played) false
+
+-- C.8 to C.11
+abbrev pub misses : Miss → SeatFacts → Colour → Bool
+misses Wide = is_wide
+misses Third = is_third
+misses Preference = is_missed
+misses StrongPreference = is_strong_missed
+
+-- 1 for yes
+abbrev pub one_if : Bool → ℕ
+one_if true = 1
+one_if false = 0
+
+-- how many of the players with white and with black something holds of, with the colour that each gets
+abbrev pub count_of_both : Facts → (SeatFacts → Colour → Bool) → ℕ × ℕ → ℕ
+count_of_both facts holds both = one_if (holds (seat_at facts both.0) White) + one_if (holds (seat_at facts both.1) Black)
+
+-- how many players of a pair something holds of, with the colour that each gets (E)
+abbrev pub count_in : Facts → (SeatFacts → Colour → Bool) → ℕ × ℕ → ℕ
+count_in facts holds pair = count_of_both facts holds (colours facts pair.0 pair.1)
+
+-- one of a pair is a topscorer
+abbrev pub has_topscorer : Facts → ℕ × ℕ → Bool
+has_topscorer facts pair = is_topscorer facts (seat_at facts pair.0) || is_topscorer facts (seat_at facts pair.1)
+
+-- how many players in pairs something holds of, and how many in pairs with a topscorer
+abbrev pub count_in_pairs : Facts → (SeatFacts → Colour → Bool) → List (ℕ × ℕ) → ℕ
+count_in_pairs facts holds pairs = sum_by (count_in facts holds) pairs
+
+abbrev pub count_with_topscorers : Facts → (SeatFacts → Colour → Bool) → List (ℕ × ℕ) → ℕ
+count_with_topscorers facts holds pairs = count_in_pairs facts holds (filter (has_topscorer facts) pairs)
+
+abbrev pub is_up : Float → Bool
+is_up Up = true
+is_up Down = false
+
+abbrev pub is_down : Float → Bool
+is_down Up = false
+is_down Down = true
+
+-- the float of a round is this one
+abbrev pub is_float : Float → Option Float → Bool
+is_float Up float = option_map_or is_up float false
+is_float Down float = option_map_or is_down float false
+
+-- A.4: the float in the last round (1) or in the one before it (2)
+abbrev pub float_of : Facts → ℕ → ℕ → Option Float
+float_of facts back seat = if back == 1 then (seat_at facts seat).latest else (seat_at facts seat).earlier
+
+-- those who had this float in the round so far back
+abbrev pub again : Facts → Float → ℕ → List Mover → List Mover
+again facts float back movers = filter (λ mover. is_float float (float_of facts back mover.seat)) movers
+
+-- the differences of some who move, the highest first
+abbrev pub differences : List Mover → List ℕ
+differences movers = highest_first (map (λ mover. mover.by) movers)
+
+-- the quality of a candidate, for a value of the next bracket
+abbrev pub quality_with : Facts → Seated → NextValue → Quality
+quality_with facts candidate next = record {
+  psd = psd facts candidate;
+  next_pairs = next.pairs;
+  next_psd = next.psd;
+  wide_differences = count_with_topscorers facts (misses Wide) candidate.pairs;
+  third_colours = count_with_topscorers facts (misses Third) candidate.pairs;
+  missed_preferences = count_in_pairs facts (misses Preference) candidate.pairs;
+  missed_strong = count_in_pairs facts (misses StrongPreference) candidate.pairs;
+  down_again = length (again facts Down 1 (going_down facts candidate));
+  up_again = length (again facts Up 1 (going_up facts candidate));
+  down_again_before = length (again facts Down 2 (going_down facts candidate));
+  up_again_before = length (again facts Up 2 (going_up facts candidate));
+  down_again_by = differences (again facts Down 1 (going_down facts candidate));
+  up_again_by = differences (again facts Up 1 (going_up facts candidate));
+  down_again_before_by = differences (again facts Down 2 (going_down facts candidate));
+  up_again_before_by = differences (again facts Up 2 (going_up facts candidate));
+}
+
+-- by a number or a list first, and then by something else: the smaller goes first, a list by its first difference or where it ends
+abbrev pub by_number : (Quality → ℕ) → (Quality → Quality → Ordering) → Quality → Quality → Ordering
+by_number item others = then_cmp (on item nat_cmp) others
+
+abbrev pub by_list : (Quality → List ℕ) → (Quality → Quality → Ordering) → Quality → Quality → Ordering
+by_list item others = then_cmp (on item (slice_cmp nat_cmp)) others
+
+-- C.16 to C.19
+abbrev pub compared_by_differences : Quality → Quality → Ordering
+compared_by_differences =
+    by_list (λ q. q.down_again_by) (by_list (λ q. q.up_again_by) (by_list (λ q. q.down_again_before_by) (on (λ q. q.up_again_before_by) (slice_cmp nat_cmp))))
+
+-- C.12 to C.15, and then the differences
+abbrev pub compared_by_floats : Quality → Quality → Ordering
+compared_by_floats =
+    by_number (λ q. q.down_again) (by_number (λ q. q.up_again) (by_number (λ q. q.down_again_before) (by_number (λ q. q.up_again_before) compared_by_differences)))
+
+-- C.8 to C.11, and then the floats
+abbrev pub compared_by_colours : Quality → Quality → Ordering
+compared_by_colours =
+    by_number (λ q. q.wide_differences) (by_number (λ q. q.third_colours) (by_number (λ q. q.missed_preferences) (by_number (λ q. q.missed_strong) compared_by_floats)))
+
+-- C.6, then C.7, of which more pairs go first, and then the colours
+abbrev pub compared : Quality → Quality → Ordering
+compared =
+    by_list (λ q. q.psd) (then_cmp (on (λ q. q.next_pairs) (flip_args nat_cmp)) (by_list (λ q. q.next_psd) compared_by_colours))
+
+-- at the first item that differs the first one is better
+abbrev pub is_better : Quality → Quality → Bool
+is_better a b = is_lt (compared a b)

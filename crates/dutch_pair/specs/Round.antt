@@ -1,0 +1,180 @@
+-- The pairing of a round, scoregroup by scoregroup (C.04.3 A.3, A.9, B.8).
+use Rattle.std.specs.Prelude.{ℕ, ◌+◌, Bool, true, false, ◌==◌, if◌then◌else◌, cond, List, [], ◌∷◌, ◌++◌, map, filter, length, Option, Some, None, option_map}
+use Rattle.std.specs.List.{concat}
+use Rattle.dutch_order.specs.declared.bracket.Shape.{Shape}
+use Rattle.dutch_order.specs.Trials.{numbers_from}
+use Rattle.dutch_order.specs.Arrangements.{Arrangement, candidates, down}
+use Rattle.dutch_player.specs.Facts.{Facts}
+use Rattle.dutch_pair.specs.declared.reached.Kind.{Kind}
+use Rattle.dutch_pair.specs.declared.reached.Kind.TheVariants.{Ordinary, Last, Penultimate, Collapsed}
+use Rattle.dutch_pair.specs.Reached.{Stand, frame_of, numbers_meet, number_may_be_left}
+use Rattle.dutch_pair.specs.Seated.{seat_of, score_at, all_pairs}
+use Rattle.dutch_pair.specs.Seats.{seats_meet, seats_may_be_left}
+use Rattle.dutch_pair.specs.Completion.{can_complete}
+use Rattle.dutch_pair.specs.Shapes.{greatest_shape}
+use Rattle.dutch_pair.specs.NextBracket.{quality}
+use Rattle.dutch_pair.specs.Quality.{Quality, is_better}
+use Rattle.dutch_pair.specs.Choice.{chosen}
+
+-- a choice: a shape, and an arrangement of it
+pub record Chosen : Type 0 where
+  pub shape : Shape
+  pub lists : Arrangement
+
+-- a bracket that was reached, and its shape
+pub record Visit : Type 0 where
+  pub bracket : Stand
+  pub shape : Shape
+
+-- the pairs of a round by seat, and the seat that has the bye, if one has
+pub record Pairing : Type 0 where
+  pub pairs : List (ℕ × ℕ)
+  pub bye : List ℕ
+
+-- the brackets that a round reaches, and its pairing, if there is one
+pub record Round : Type 0 where
+  pub reached : List Visit
+  pub pairing : Option Pairing
+
+abbrev pub is_ordinary : Kind → Bool
+is_ordinary Ordinary = true
+is_ordinary Last = false
+is_ordinary Penultimate = false
+is_ordinary Collapsed = false
+
+abbrev pub is_penultimate : Kind → Bool
+is_penultimate Ordinary = false
+is_penultimate Last = false
+is_penultimate Penultimate = true
+is_penultimate Collapsed = false
+
+-- A.3: a bracket of some moved down and some residents
+abbrev pub bracket : ℕ → Kind → List ℕ → List ℕ → Stand
+bracket number kind moved_down residents =
+    record { number = number; kind = kind; mdps = length moved_down; seats = moved_down ++ residents }
+
+module _ (facts : Facts) where
+  -- a seat put before groups of lower seats: into the first of them if that has its score
+  abbrev pub onto_group : ℕ → List (List ℕ) → List (List ℕ)
+  onto_group seat [] = (seat ∷ []) ∷ []
+  onto_group seat ([] ∷ groups) = (seat ∷ []) ∷ groups
+  onto_group seat ((first ∷ others) ∷ groups) =
+      if score_at facts seat == score_at facts first then (seat ∷ first ∷ others) ∷ groups else (seat ∷ []) ∷ (first ∷ others) ∷ groups
+
+  -- A.3: the scoregroups of seats by rank
+  abbrev pub scoregroups : List ℕ → List (List ℕ)
+  scoregroups [] = []
+  scoregroups (seat ∷ seats) = onto_group seat (scoregroups seats)
+
+  -- the first scoregroup of some, if there is one
+  abbrev pub first_group : List (List ℕ) → List ℕ
+  first_group [] = []
+  first_group (group ∷ groups) = group
+
+  -- all present players by rank
+  abbrev pub everybody : List ℕ
+  everybody = numbers_from 0 (length facts.seats)
+
+  -- A.9: whether seats can be paired out
+  abbrev pub completable : List ℕ → Bool
+  completable seats = can_complete (seats_meet facts) (seats_may_be_left facts) seats
+
+  -- the downfloaters of an arrangement, by seat
+  abbrev pub downfloaters : Stand → Arrangement → List ℕ
+  downfloaters stand lists = map (seat_of stand.seats) (down (frame_of facts stand) lists)
+
+  -- C.1 to C.3: the candidates of a bracket
+  abbrev pub candidates_of : Stand → Shape → List Arrangement
+  candidates_of stand shape = candidates (numbers_meet facts stand) (number_may_be_left facts stand) (frame_of facts stand) shape
+
+  -- C.4: the candidates that can be chosen; in the penultimate bracket those that leave players who can be paired out with all
+  -- lower ones
+  abbrev pub eligible : Stand → List ℕ → Shape → List Arrangement
+  eligible stand lower shape =
+      cond (is_penultimate stand.kind) (filter (λ lists. completable (downfloaters stand lists ++ lower)) (candidates_of stand shape)) (candidates_of stand shape)
+
+  -- C.6 to C.19: the quality of a candidate above all lower seats, of which the first scoregroup is the next bracket's
+  abbrev pub quality_of : Stand → List ℕ → Arrangement → Quality
+  quality_of stand lower lists =
+      quality facts stand.seats (is_ordinary stand.kind) (first_group (scoregroups lower)) (record { lists = lists; down = down (frame_of facts stand) lists })
+
+  -- B.8: of a shape the first candidate that none is better than
+  abbrev pub choice_in : Stand → List ℕ → Option Shape → Option Chosen
+  choice_in stand lower None = None
+  choice_in stand lower (Some shape) =
+      option_map (λ lists. record { shape = shape; lists = lists })
+      (chosen (λ c d. is_better (quality_of stand lower c) (quality_of stand lower d)) (eligible stand lower shape))
+
+  -- C.5: the shape of a bracket
+  abbrev pub shape_of : Stand → List ℕ → Option Shape
+  shape_of stand lower = greatest_shape (eligible stand lower) (frame_of facts stand)
+
+  -- the choice in a bracket above all lower seats; none where no shape has a candidate
+  abbrev pub choice : Stand → List ℕ → Option Chosen
+  choice stand lower = choice_in stand lower (shape_of stand lower)
+
+  -- there is no pairing, and no bracket from here on
+  abbrev pub no_pairing : Round
+  no_pairing = record { reached = []; pairing = None }
+
+  -- a bracket that is passed before the rest of a round, without its pairs
+  abbrev pub passing : Stand → Chosen → Round → Round
+  passing stand choice rest = record {
+    reached = record { bracket = stand; shape = choice.shape } ∷ rest.reached;
+    pairing = rest.pairing;
+  }
+
+  -- and with its pairs
+  abbrev pub pairing_in : Stand → Chosen → Round → Round
+  pairing_in stand choice rest = record {
+    reached = record { bracket = stand; shape = choice.shape } ∷ rest.reached;
+    pairing = option_map (λ later. record { pairs = all_pairs stand.seats choice.lists ++ later.pairs; bye = later.bye }) rest.pairing;
+  }
+
+  -- the end of a round: who is left over has the bye
+  abbrev pub ending : List ℕ → Round
+  ending left = record { reached = []; pairing = Some (record { pairs = []; bye = left }) }
+
+  -- A.9: the bracket that ends the round
+  abbrev pub final_chosen : Stand → Option Chosen → Round
+  final_chosen stand None = no_pairing
+  final_chosen stand (Some choice) = pairing_in stand choice (ending (downfloaters stand choice.lists))
+
+  abbrev pub final_bracket : Stand → Round
+  final_bracket stand = final_chosen stand (choice stand [])
+
+  -- A.9: the penultimate bracket, and then the collapsed one of those whom it leaves over with all lower players
+  abbrev pub penultimate_chosen : Stand → List ℕ → Option Chosen → Round
+  penultimate_chosen stand lower None = no_pairing
+  penultimate_chosen stand lower (Some choice) =
+      pairing_in stand choice (final_bracket (bracket (stand.number + 1) Collapsed (downfloaters stand choice.lists) lower))
+
+  -- a bracket that is paired again as the penultimate one
+  abbrev pub again : Stand → Stand
+  again stand = record { number = stand.number + 1; kind = Penultimate; mdps = stand.mdps; seats = stand.seats }
+
+  abbrev pub penultimate_bracket : Stand → List ℕ → Round
+  penultimate_bracket stand lower = penultimate_chosen (again stand) lower (choice (again stand) lower)
+
+  -- A.9: an ordinary bracket keeps its pairs if those whom it leaves over can be paired out with all lower players; else it is
+  -- paired again
+  abbrev pub ordinary_chosen : Stand → List ℕ → (List ℕ → Round) → Option Chosen → Round
+  ordinary_chosen stand lower goes_on None = no_pairing
+  ordinary_chosen stand lower goes_on (Some choice) =
+      if completable (downfloaters stand choice.lists ++ lower)
+      then pairing_in stand choice (goes_on (downfloaters stand choice.lists))
+      else passing stand choice (penultimate_bracket stand lower)
+
+  abbrev pub ordinary_bracket : Stand → List ℕ → (List ℕ → Round) → Round
+  ordinary_bracket stand lower goes_on = ordinary_chosen stand lower goes_on (choice stand lower)
+
+  -- A.3: the brackets from a number on, for those moved down and the scoregroups to come
+  abbrev pub brackets : ℕ → List ℕ → List (List ℕ) → Round
+  brackets number moved_down [] = ending moved_down
+  brackets number moved_down (group ∷ []) = final_bracket (bracket number Last moved_down group)
+  brackets number moved_down (group ∷ next ∷ groups) =
+      ordinary_bracket (bracket number Ordinary moved_down group) (concat (next ∷ groups)) (λ left. brackets (number + 1) left (next ∷ groups))
+
+  -- A.9: the round: none can be paired where not all can be paired out
+  abbrev pub round : Round
+  round = if completable everybody then brackets 1 [] (scoregroups everybody) else no_pairing

@@ -1,0 +1,16 @@
+-- Who of a field may meet whom, and who may have the bye, by seat (C.04.3 C.1 to C.3).
+use Rattle.std.specs.Prelude.{ℕ, Bool, not, ◌&&◌, ◌==◌, nat_lt, length}
+use Rattle.dutch_player.specs.Facts.{Facts, seat_at}
+use Rattle.dutch_player.specs.Meetings.{may_meet}
+
+-- a seat of the field
+abbrev pub is_seat : Facts → ℕ → Bool
+is_seat facts a = nat_lt a (length facts.seats)
+
+-- C.1 and C.3: two seats that differ, whose players may meet
+abbrev pub seats_meet : Facts → ℕ → ℕ → Bool
+seats_meet facts a b = is_seat facts a && is_seat facts b && not (a == b) && may_meet facts a b
+
+-- C.2: a seat whose player may have the bye
+abbrev pub seats_may_be_left : Facts → ℕ → Bool
+seats_may_be_left facts a = is_seat facts a && (seat_at facts a).may_bye

@@ -1,0 +1,41 @@
+-- The shape of a bracket (C.04.3 C.5, B.1): as many pairs as there is an arrangement for, and in them as many moved-down players.
+use Rattle.std.specs.Prelude.{ℕ, zero, suc, ◌+◌, ◌-◌, ◌*◌, ◌/◌, Bool, true, false, not, ◌&&◌, nat_lt, if◌then◌else◌, List, [], ◌∷◌, map, filter, flat_map, length, Option, Some, None}
+use Rattle.dutch_order.specs.declared.bracket.Shape.{Shape}
+use Rattle.dutch_order.specs.Arrangements.{Frame, Arrangement, remainder_pairs}
+
+-- the numbers from one down to 0
+abbrev pub down_from : ℕ → List ℕ
+down_from zero = 0 ∷ []
+down_from (suc n) = suc n ∷ down_from n
+
+-- a bracket has room for a shape
+abbrev pub fits : Frame → Shape → Bool
+fits frame shape =
+    not (nat_lt shape.pairs shape.mdps)
+    && (not (nat_lt frame.mdps shape.mdps) && not (nat_lt (length frame.scores - frame.mdps) (shape.mdps + 2 * remainder_pairs shape)))
+
+-- the shapes with a number of pairs and at most so many moved-down players, those with more of them first
+abbrev pub shapes_upto : ℕ → ℕ → List Shape
+shapes_upto pairs most = map (λ mdps. record { pairs = pairs; mdps = mdps }) (down_from most)
+
+-- the shapes with a number of pairs
+abbrev pub shapes_with : ℕ → List Shape
+shapes_with pairs = shapes_upto pairs pairs
+
+-- the shapes that a bracket has room for, those with more pairs first
+abbrev pub shapes : Frame → List Shape
+shapes frame = filter (fits frame) (flat_map shapes_with (down_from (length frame.scores / 2)))
+
+-- some arrangement is there
+abbrev pub has_member : List Arrangement → Bool
+has_member [] = false
+has_member (a ∷ rest) = true
+
+-- the first shape for which some arrangement is there
+abbrev pub first_with : (Shape → List Arrangement) → List Shape → Option Shape
+first_with eligible [] = None
+first_with eligible (shape ∷ rest) = if has_member (eligible shape) then Some shape else first_with eligible rest
+
+-- C.5, B.1: the greatest number of pairs for which some arrangement is there, and for it the greatest number of moved-down players
+abbrev pub greatest_shape : (Shape → List Arrangement) → Frame → Option Shape
+greatest_shape eligible frame = first_with eligible (shapes frame)

@@ -1,0 +1,189 @@
+// The choice in a bracket (C.04.3 B.8): its shape, and the first candidate of it that none is better than.
+ghost use Rattle.std.specs.Prelude.{◌≡◌, ◌≤◌, ◌∷◌, true, false, Some, None, List, IfOk};
+ghost use Rattle.std.specs.Option.{MatchOption};
+ghost use Rattle.dutch_order.specs.Arrangements.{Arrangement, Fits, down};
+ghost use Rattle.dutch_order.specs.Steps.{MatchStep};
+ghost use Rattle.dutch_pair.specs.Reached.{IsAbove, frame_of};
+ghost use Rattle.dutch_pair.specs.NextBracket.{IsDraw};
+ghost use Rattle.dutch_pair.specs.QualityIn.{quality_in};
+ghost use Rattle.dutch_pair.specs.Round.{quality_of};
+ghost use Rattle.dutch_pair.specs.Kept.{kept_draw, wins, IsKept, chosen_in, chosen_yet};
+ghost use Rattle.dutch_pair.specs.Outcomes.{IsChoice};
+
+use crate::completion::Answer;
+use crate::eligible::can_be_chosen;
+use crate::fault::PairFault;
+use crate::group::first_group;
+use crate::lookahead::quality;
+use crate::quality::Quality;
+use crate::reached::Reached;
+use crate::shape::shape_of;
+use dutch_order::bracket::Shape;
+use dutch_order::candidate::Candidate;
+use dutch_order::candidates::Candidates;
+use dutch_order::steps::{Budget, Step};
+use dutch_player::field::Field;
+use std::alloc::Global;
+
+/// What is chosen in a bracket.
+#[derive(Debug, Drop)]
+pub enum Choice {
+    /// The shape, and the first candidate of it that none is better than.
+    Chosen { shape: Shape, candidate: Candidate },
+    /// No shape has a candidate.
+    NoCandidate,
+    /// The budget's limit was reached first.
+    Undecided,
+}
+
+/// The best candidate so far, with its quality.
+#[derive(Debug, Drop)]
+pub(crate) struct Best {
+    candidate: Candidate,
+    quality: Quality,
+}
+
+/// The quality of a candidate above all lower seats; `None` where the budget's limit was reached first.
+#[tactic(auto, using(crate::proofs::NextGroups::is_next, crate::proofs::NextGroups::quality_at))]
+fn quality_of(
+    field: &Field,
+    reached: &Reached,
+    lower: &[u16],
+    candidate: &Candidate,
+    budget: &mut Budget,
+) -> Option<Quality>
+    requires above { IsAbove field.now reached.now lower.now }
+    requires candidate { IsDraw field.now reached.now candidate.now }
+    requires within { budget.old.used ≤ budget.old.limit }
+    ensures answer { MatchOption result (budget.new.used ≡ budget.new.limit)
+        (λ found. quality_in found ≡ quality_of field.now reached.now lower.now candidate.now.lists) }
+    ensures limit { budget.new.limit ≡ budget.old.limit }
+    ensures rises { budget.old.used ≤ budget.new.used }
+    ensures within { budget.new.used ≤ budget.new.limit }
+{
+    quality(field, reached, candidate, first_group(field, lower), budget)
+}
+
+/// Whether a quality is better than that of the candidate that is kept, if there is one.
+fn would_win(quality: &Quality, kept: &Option<Best>) -> bool
+    ensures { result ≡ wins (quality_in quality.now) kept.now }
+{
+    match kept {
+        Some(best) => quality.is_better(&best.quality),
+        None => true,
+    }
+}
+
+/// Keeps a candidate in place of the one before it if it is better and can be chosen. It says whether the budget sufficed for that.
+#[tactic(auto, using(crate::proofs::BestLemmas::loser_passed, crate::proofs::BestLemmas::winner_kept, crate::proofs::BestLemmas::unfit_is_passed))]
+fn consider(
+    field: &Field,
+    reached: &Reached,
+    lower: &[u16],
+    candidate: Candidate,
+    kept: &mut Option<Best>,
+    budget: &mut Budget,
+) -> bool
+    requires above { IsAbove field.now reached.now lower.now }
+    requires candidate { IsDraw field.now reached.now candidate }
+    requires kept { IsKept field.now reached.now lower.now kept.old }
+    requires within { budget.old.used ≤ budget.old.limit }
+    ensures same { result ≡ true → (coming : List Arrangement) → chosen_yet field.now reached.now lower.now kept.new coming
+        ≡ chosen_yet field.now reached.now lower.now kept.old (candidate.lists ∷ coming) }
+    ensures stopped { result ≡ false → budget.new.used ≡ budget.new.limit }
+    ensures kept { IsKept field.now reached.now lower.now kept.new }
+    ensures limit { budget.new.limit ≡ budget.old.limit }
+    ensures rises { budget.old.used ≤ budget.new.used }
+    ensures within { budget.new.used ≤ budget.new.limit }
+{
+    let Some(quality) = quality_of(field, reached, lower, &candidate, budget) else {
+        return false;
+    };
+    if !would_win(&quality, kept) {
+        return true;
+    }
+    match can_be_chosen(field, reached, lower, &candidate, budget) {
+        Answer::Yes => {
+            *kept = Some(Best { candidate, quality });
+            true
+        }
+        Answer::No => true,
+        Answer::Undecided => false,
+    }
+}
+
+/// The candidate that is kept; `End` where there is none.
+fn handed_out(kept: Option<Best>) -> Step<Candidate>
+    ensures { MatchStep result (λ c. kept_draw kept ≡ Some c) (kept_draw kept ≡ None) ⊥ }
+{
+    match kept {
+        Some(best) => Step::Found(best.candidate),
+        None => Step::End,
+    }
+}
+
+/// Of the candidates of a shape that can be chosen the first that none is better than. `End` is answered where no candidate can be
+/// chosen.
+fn best_of(
+    field: &Field,
+    reached: &Reached,
+    lower: &[u16],
+    shape: Shape,
+    budget: &mut Budget,
+) -> Step<Candidate>
+    requires above { IsAbove field.now reached.now lower.now }
+    requires fits { Fits (frame_of field.now reached.now) shape }
+    requires within { budget.old.used ≤ budget.old.limit }
+    ensures answer { MatchStep result
+        (λ c. (chosen_in field.now reached.now lower.now shape ≡ Some c.lists) × (c.down ≡ down (frame_of field.now reached.now) c.lists))
+        (chosen_in field.now reached.now lower.now shape ≡ None)
+        (budget.new.used ≡ budget.new.limit) }
+    ensures limit { budget.new.limit ≡ budget.old.limit }
+    ensures rises { budget.old.used ≤ budget.new.used }
+    ensures within { budget.new.used ≤ budget.new.limit }
+{
+    let bracket = reached.frame(field);
+    let rule = reached.rule(field);
+    let mut candidates = Candidates::new(&bracket, shape, &rule);
+    let mut kept = None;
+    loop {
+        match candidates.next(budget) {
+            Step::Found(candidate) => {
+                if !consider(field, reached, lower, candidate, &mut kept, budget) {
+                    return Step::Undecided;
+                }
+            }
+            Step::End => return handed_out(kept),
+            Step::Undecided => return Step::Undecided,
+        }
+    }
+}
+
+/// The choice in a bracket of a field, above all lower seats by rank. In the penultimate bracket only those candidates count that
+/// leave over players who can be paired out with all lower ones (C.4).
+#[tactic(auto, using(crate::proofs::BestLemmas::choice_is, crate::proofs::BestLemmas::shape_has_chosen))]
+pub fn choose(
+    _alloc: Global,
+    field: &Field,
+    reached: &Reached,
+    lower: &[u16],
+    budget: &mut Budget,
+) -> Result<Choice, PairFault>
+    requires above { IsAbove field.now reached.now lower.now }
+    requires within { budget.old.used ≤ budget.old.limit }
+    ensures answer { IfOk result (IsChoice field.now reached.now lower.now (budget.new.used ≡ budget.new.limit)) }
+    ensures limit { budget.new.limit ≡ budget.old.limit }
+    ensures rises { budget.old.used ≤ budget.new.used }
+    ensures within { budget.new.used ≤ budget.new.limit }
+{
+    let shape = match shape_of(field, reached, lower, budget) {
+        Step::Found(shape) => shape,
+        Step::End => return Ok(Choice::NoCandidate),
+        Step::Undecided => return Ok(Choice::Undecided),
+    };
+    match best_of(field, reached, lower, shape, budget) {
+        Step::Found(candidate) => Ok(Choice::Chosen { shape, candidate }),
+        Step::End => Ok(Choice::NoCandidate),
+        Step::Undecided => Ok(Choice::Undecided),
+    }
+}

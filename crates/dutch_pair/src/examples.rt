@@ -1,0 +1,22 @@
+// The definitions of a round, tried on rounds that can be followed by hand.
+ghost use Rattle.std.specs.Prelude.{◌≡◌, [], ◌∷◌, Some, None};
+ghost use Rattle.dutch_pair.specs.Examples.{boards_of, pairs_reached, five_players, leader_moves_down, pair_given_up, all_met, two_leaders, forfeit_winner};
+
+/// The boards of a few rounds, white before black, and 0 for the bye.
+pub fn rounds_by_hand()
+    ensures five_players { boards_of five_players ≡ Some ((1, 3) ∷ (4, 2) ∷ (5, 0) ∷ []) }
+    ensures leader_moves_down { boards_of leader_moves_down ≡ Some ((2, 1) ∷ (3, 4) ∷ []) }
+    ensures pair_given_up { boards_of pair_given_up ≡ Some ((1, 3) ∷ (4, 2) ∷ []) }
+    ensures all_met { boards_of all_met ≡ None }
+    ensures topscorers_meet { boards_of (two_leaders 3) ≡ Some ((2, 1) ∷ (6, 3) ∷ (4, 5) ∷ []) }
+    ensures leaders_do_not { boards_of (two_leaders 4) ≡ Some ((4, 1) ∷ (5, 2) ∷ (6, 3) ∷ []) }
+    ensures forfeit_winner { boards_of forfeit_winner ≡ Some ((3, 1) ∷ (2, 0) ∷ []) }
+{}
+
+/// How many pairs their brackets make: the first of the two that give up a pair is paired again, and then all in one bracket.
+pub fn brackets_by_hand()
+    ensures one_bracket { pairs_reached five_players ≡ 2 ∷ [] }
+    ensures moves_down { pairs_reached leader_moves_down ≡ 0 ∷ 1 ∷ 1 ∷ [] }
+    ensures paired_again { pairs_reached pair_given_up ≡ 1 ∷ 0 ∷ 2 ∷ [] }
+    ensures none { pairs_reached all_met ≡ [] }
+{}

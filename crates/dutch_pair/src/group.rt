@@ -1,0 +1,36 @@
+// The first scoregroup of seats by rank (C.04.3 A.3).
+ghost use Rattle.std.specs.Prelude.{◌≡◌, ◌≤◌, length};
+ghost use Rattle.dutch_pair.specs.Reached.{AreSeats};
+ghost use Rattle.dutch_pair.specs.Groups.{front_with};
+ghost use Rattle.dutch_pair.specs.Round.{first_group, scoregroups};
+
+use dutch_player::field::Field;
+
+/// How many seats at the front have a score.
+pub(crate) fn front_with(field: &Field, score: u16, seats: &[u16]) -> usize
+    requires inside { AreSeats field.now seats.now }
+    ensures count { result ≡ front_with field.now score seats.now }
+    ensures few { result ≤ length seats.now }
+{
+    let mut count = 0;
+    for seat in seats {
+        if field.score(*seat) != score {
+            return count;
+        }
+        count += 1;
+    }
+    count
+}
+
+/// The first scoregroup of seats by rank; none where there is no seat.
+#[tactic(auto, using(crate::proofs::NextGroups::first_group_taken))]
+pub(crate) fn first_group<'a>(field: &Field, seats: &'a [u16]) -> &'a [u16]
+    requires inside { AreSeats field.now seats.now }
+    ensures { result.now ≡ first_group field.now (scoregroups field.now seats.now) }
+{
+    let Some((first, others)) = seats.split_first() else {
+        return seats;
+    };
+    let count = front_with(field, field.score(*first), others);
+    seats.split_at(count + 1).0
+}

@@ -1,0 +1,187 @@
+// A bracket that a round reaches, by the seats of its players (C.04.3 A.3, A.9).
+ghost use Rattle.std.specs.Prelude.{◌≡◌, ◌<◌, ◌≤◌, true, length, map};
+ghost use Rattle.dutch_order.specs.declared.search.TheConstants.{LIMIT};
+ghost use Rattle.dutch_player.specs.Facts.{seat_at};
+ghost use Rattle.dutch_pair.specs.Seated.{seat_of, score_at};
+ghost use Rattle.dutch_pair.specs.Reached.{IsOf, AreSeats, ends_round, frame_of, is_number, numbers_meet, number_may_be_left};
+
+use arrayvec::ArrayVec;
+use dutch_order::bracket::Bracket;
+use dutch_order::rules::Rule;
+use dutch_order::search::LIMIT;
+use dutch_player::field::Field;
+use std::marker::Model;
+
+/// What a bracket is for the round.
+#[derive(Debug, Clone, Copy, PartialEq, Eq)]
+pub enum Kind {
+    /// Its downfloaters move down to the next one.
+    Ordinary,
+    /// No player stands below it.
+    Last,
+    /// It is paired again so that those left over can be paired with all lower players (C.4).
+    Penultimate,
+    /// Those left over by the penultimate one with all lower players; it ends the round.
+    Collapsed,
+}
+
+impl Kind {
+    /// Whether the round ends with this bracket, so that it may leave over at most one player.
+    pub fn ends_round(self) -> bool
+        ensures { result ≡ ends_round self }
+    {
+        match self {
+            Kind::Last | Kind::Collapsed => true,
+            Kind::Ordinary | Kind::Penultimate => false,
+        }
+    }
+}
+
+/// Seats of players.
+pub type Seats = ArrayVec<u16, LIMIT>;
+
+/// A bracket that a round reaches: the players moved down and then the residents, all by rank. A player's number in it is his
+/// place, from 1.
+#[derive(Debug, Drop)]
+pub struct Reached {
+    pub(crate) number: u16,
+    pub(crate) kind: Kind,
+    pub(crate) mdps: usize,
+    pub(crate) seats: Seats,
+}
+
+impl Model for Reached {
+    ghost use Rattle.dutch_pair.specs.Reached.{Stand};
+
+    ghost Value = { Stand };
+
+    ghost view = { λ r. record { number = r.number; kind = r.kind; mdps = r.mdps; seats = r.seats.items } };
+}
+
+impl Reached {
+    /// The number of the bracket, from 1 in the order in which the round reaches them.
+    pub fn number(&self) -> u16
+        ensures { result ≡ self.now.number }
+    {
+        self.number
+    }
+
+    /// What the bracket is for the round.
+    pub fn kind(&self) -> Kind
+        ensures { result ≡ self.now.kind }
+    {
+        self.kind
+    }
+
+    /// How many of its players were moved down.
+    pub fn mdps(&self) -> usize
+        ensures { result ≡ self.now.mdps }
+    {
+        self.mdps
+    }
+
+    /// The seats of its players in the field, by number.
+    pub fn seats(&self) -> &[u16]
+        ensures { result.now ≡ self.now.seats }
+    {
+        &self.seats
+    }
+
+    /// Whether a number is one of the bracket's: 1 to the count of players.
+    pub fn has(&self, number: u16) -> bool
+        ensures { result ≡ is_number self.now number }
+    {
+        1 <= number && usize::from(number) <= self.seats.len()
+    }
+
+    /// The seat of a number that is one of the bracket's.
+    pub fn seat(&self, number: u16) -> u16
+        requires { is_number self.now number ≡ true }
+        ensures { result ≡ seat_of self.now.seats number }
+    {
+        self.seats[usize::from(number) - 1]
+    }
+
+    /// The bracket by scores, for the field that it comes from.
+    pub fn frame(&self, field: &Field) -> Bracket
+        requires { IsOf field.now self.now }
+        ensures { result ≡ frame_of field.now self.now }
+    {
+        Bracket::new(
+            &scores(field, &self.seats),
+            self.mdps,
+            self.kind.ends_round(),
+        )
+    }
+
+    /// Who may meet, and who may be left over, by number in the bracket, for the field that it comes from (C.1 to C.3). It says no of
+    /// a number that is not the bracket's, and of two equal ones.
+    pub fn rule<'a>(&'a self, field: &'a Field) -> ByNumber<'a>
+        requires { IsOf field.now self.now }
+        ensures field { result.field.now ≡ field.now }
+        ensures reached { result.reached.now ≡ self.now }
+        ensures meets { ⟦<ByNumber<'a> as Rule>⟧.meets result ≡ numbers_meet field.now self.now }
+        ensures may_be_left { ⟦<ByNumber<'a> as Rule>⟧.may_be_left result ≡ number_may_be_left field.now self.now }
+    {
+        ByNumber {
+            reached: self,
+            field,
+        }
+    }
+}
+
+/// The scores of seats, in half points.
+fn scores(field: &Field, seats: &[u16]) -> Seats
+    requires inside { AreSeats field.now seats.now }
+    requires few { length seats.now ≤ LIMIT }
+    ensures { result.items ≡ map (score_at field.now) seats.now }
+{
+    let mut scores = ArrayVec::new();
+    for seat in seats {
+        scores.push(field.score(*seat));
+    }
+    scores
+}
+
+/// The rules on two players and on the bye by numbers of a bracket.
+#[derive(Clone, Copy)]
+pub struct ByNumber<'a> {
+    pub(crate) reached: &'a Reached,
+    pub(crate) field: &'a Field,
+    ghost sound: { IsOf field.now reached.now },
+}
+
+impl<'a> Rule for ByNumber<'a> {
+    ghost use Rattle.dutch_pair.specs.Reached.{numbers_meet, number_may_be_left};
+    ghost use Rattle.std.specs.Prelude.{◌≡◌, ◌==◌, ◌&&◌, not};
+    ghost use Rattle.std.proofs.Common.{ap, arith, ◌∙◌};
+    ghost use Rattle.std.proofs.Math.Bool.{and_comm};
+    ghost use Rattle.std.proofs.lemmas.Bool.Decides.{nat_tests};
+    ghost use Rattle.dutch_player.proofs.LawLemmas.{meeting_sym};
+    ghost use Rattle.dutch_pair.specs.Reached.{is_number};
+    ghost use Rattle.dutch_pair.specs.Seated.{seat_of};
+    ghost use Rattle.dutch_player.specs.Meetings.{may_meet};
+
+    ghost meets = { λ r. numbers_meet r.field.now r.reached.now };
+
+    ghost may_be_left = { λ r. number_may_be_left r.field.now r.reached.now };
+
+    ghost symmetric = { λ r a b la lb.
+        let inside : (is_number r.reached.now a && is_number r.reached.now b) ≡ (is_number r.reached.now b && is_number r.reached.now a) = and_comm (is_number r.reached.now a) (is_number r.reached.now b) in
+        let equal : (a == b) ≡ (b == a) = Prim.grind (arith, nat_tests) in
+        let free : may_meet r.field.now (seat_of r.reached.now.seats a) (seat_of r.reached.now.seats b)
+        ≡ may_meet r.field.now (seat_of r.reached.now.seats b) (seat_of r.reached.now.seats a) = meeting_sym r.field.now (seat_of r.reached.now.seats a) (seat_of r.reached.now.seats b) in
+        Prim.cc };
+
+    fn may_meet(&self, a: u16, b: u16) -> bool {
+        if !self.reached.has(a) || !self.reached.has(b) || a == b {
+            return false;
+        }
+        self.field
+            .may_meet(self.reached.seat(a), self.reached.seat(b))
+    }
+
+    fn last_ok(&self, a: u16) -> bool {
+        self.reached.has(a) && self.field.may_bye(self.reached.seat(a))
+    }
+}

@@ -1,0 +1,172 @@
+// A candidate by the seats of its players: its pairs, and who goes down or up in them (C.04.3 A.8).
+ghost use Rattle.std.specs.Prelude.{◌≡◌, ◌+◌, ◌<◌, ◌≤◌, ◌++◌, length, map, filter};
+ghost use Rattle.arrayvec.specs.ArrayVec.{array_vec_len};
+ghost use Rattle.dutch_player.specs.Facts.{seat_at};
+ghost use Rattle.dutch_pair.specs.Seated.{seat_of, score_at, pairs_of, lowest, lowest_upto, by_seats, difference, difference_down, is_uneven, goes_down, goes_up, floats_down, going_down, going_up, AllSeats, AllPairs, AllMovers, AllNumbers, HasSeats, IsCandidate};
+
+use arrayvec::ArrayVec;
+use dutch_order::candidate::Candidate;
+use dutch_order::search::LIMIT;
+use dutch_order::transposition::Numbers;
+use dutch_player::field::Field;
+use std::marker::Model;
+
+/// A player who goes down or up, and by how much.
+#[derive(Debug, Clone, Copy, Default, PartialEq, Eq)]
+pub struct Mover {
+    pub seat: u16,
+    pub by: u16,
+}
+
+/// Two players who meet, by their seats.
+pub type Pair = (u16, u16);
+
+/// A candidate by seats.
+#[derive(Debug, Drop)]
+pub struct Seated {
+    pub(crate) pairs: ArrayVec<Pair, LIMIT>,
+    pub(crate) down: Numbers,
+    // the lowest score in the bracket
+    pub(crate) lowest: u16,
+}
+
+impl Model for Seated {
+    ghost use Rattle.dutch_pair.specs.Seated.{Seated};
+
+    ghost Value = { Seated };
+
+    ghost view = { λ s. record { pairs = s.pairs.items; down = s.down.items; lowest = s.lowest } };
+}
+
+/// The seat of a number in a bracket.
+fn seat_of(seats: &[u16], number: u16) -> u16
+    requires first { 0 < number }
+    requires last { number ≤ length seats.now }
+    ensures { result ≡ seat_of seats.now number }
+{
+    seats[usize::from(number) - 1]
+}
+
+/// The lowest of a score and those of some seats.
+fn lowest_upto(field: &Field, least: u16, seats: &[u16]) -> u16
+    requires { AllSeats field.now seats.now }
+    ensures { result ≡ lowest_upto field.now least seats.now }
+{
+    let mut least = least;
+    for seat in seats {
+        least = least.min(field.score(*seat));
+    }
+    least
+}
+
+/// The lowest score of some seats.
+fn lowest(field: &Field, seats: &[u16]) -> u16
+    requires { AllSeats field.now seats.now }
+    ensures { result ≡ lowest field.now seats.now }
+{
+    match seats {
+        [seat, others @ ..] => lowest_upto(field, field.score(*seat), others),
+        _ => 0,
+    }
+}
+
+/// The difference of a pair: at most 64.
+pub(crate) fn difference(field: &Field, pair: Pair) -> u16
+    requires first { pair.0 < length field.now.seats }
+    requires second { pair.1 < length field.now.seats }
+    ensures value { result ≡ difference field.now pair }
+{
+    field.score(pair.0).abs_diff(field.score(pair.1))
+}
+
+/// The difference of a downfloater.
+pub(crate) fn difference_down(field: &Field, least: u16, seat: u16) -> u16
+    requires { seat < length field.now.seats }
+    ensures { result ≡ difference_down field.now least seat }
+{
+    field.score(seat).saturating_sub(least) + 2
+}
+
+/// The players of a pair have different scores.
+pub(crate) fn is_uneven(field: &Field, pair: Pair) -> bool
+    requires first { pair.0 < length field.now.seats }
+    requires second { pair.1 < length field.now.seats }
+    ensures { result ≡ is_uneven field.now pair }
+{
+    field.score(pair.0) != field.score(pair.1)
+}
+
+/// The player of a pair with the higher score.
+pub(crate) fn goes_down(field: &Field, pair: Pair) -> Mover
+    requires first { pair.0 < length field.now.seats }
+    requires second { pair.1 < length field.now.seats }
+    ensures value { result ≡ goes_down field.now pair }
+    ensures inside { result.seat < length field.now.seats }
+{
+    let by = difference(field, pair);
+    if field.score(pair.0) < field.score(pair.1) {
+        Mover { seat: pair.1, by }
+    } else {
+        Mover { seat: pair.0, by }
+    }
+}
+
+/// The player of a pair with the lower score.
+pub(crate) fn goes_up(field: &Field, pair: Pair) -> Mover
+    requires first { pair.0 < length field.now.seats }
+    requires second { pair.1 < length field.now.seats }
+    ensures value { result ≡ goes_up field.now pair }
+    ensures inside { result.seat < length field.now.seats }
+{
+    let by = difference(field, pair);
+    if field.score(pair.0) < field.score(pair.1) {
+        Mover { seat: pair.0, by }
+    } else {
+        Mover { seat: pair.1, by }
+    }
+}
+
+/// Adds the pairs of two lists of numbers, place by place.
+fn push_pairs(seats: &[u16], firsts: &[u16], seconds: &[u16], pairs: &mut ArrayVec<Pair, LIMIT>)
+    requires first { AllNumbers seats.now firsts.now }
+    requires second { AllNumbers seats.now seconds.now }
+    requires equal { length firsts.now ≡ length seconds.now }
+    requires room { array_vec_len pairs.old + length firsts.now ≤ LIMIT }
+    ensures items { pairs.new.items ≡ pairs.old.items ++ pairs_of seats.now firsts.now seconds.now }
+    ensures len { array_vec_len pairs.new ≡ array_vec_len pairs.old + length firsts.now }
+{
+    for (i, first) in firsts.iter().enumerate() {
+        pairs.push((seat_of(seats, *first), seat_of(seats, seconds[i])));
+    }
+}
+
+/// The seats of numbers.
+pub(crate) fn seats_of(seats: &[u16], numbers: &[u16]) -> Numbers
+    requires inside { AllNumbers seats.now numbers.now }
+    requires few { length numbers.now ≤ LIMIT }
+    ensures { result.items ≡ map (seat_of seats.now) numbers.now }
+{
+    let mut own = ArrayVec::new();
+    for number in numbers {
+        own.push(seat_of(seats, *number));
+    }
+    own
+}
+
+/// A candidate of a bracket with these seats, by seats.
+
+pub(crate) fn by_seats(field: &Field, seats: &[u16], candidate: &Candidate) -> Seated
+    requires bracket { AllSeats field.now seats.now }
+    requires candidate { IsCandidate seats.now candidate.now }
+    ensures value { result ≡ by_seats field.now seats.now candidate.now }
+    ensures inside { HasSeats field.now result }
+{
+    let mut pairs = ArrayVec::new();
+    push_pairs(seats, candidate.s1(), candidate.s2(), &mut pairs);
+    push_pairs(seats, candidate.s1r(), candidate.s2r(), &mut pairs);
+    Seated {
+        pairs,
+        down: seats_of(seats, candidate.down()),
+        lowest: lowest(field, seats),
+    }
+}

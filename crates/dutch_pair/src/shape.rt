@@ -1,0 +1,120 @@
+// The shape of a bracket (C.04.3 C.5, B.1): the most pairs that some candidate has, and then the most moved-down players in them.
+ghost use Rattle.std.specs.Prelude.{◌≡◌, ◌≤◌, ◌&&◌, Some, None, true, filter};
+ghost use Rattle.dutch_order.specs.declared.search.TheConstants.{LIMIT};
+ghost use Rattle.dutch_order.specs.Arrangements.{Fits};
+ghost use Rattle.dutch_order.specs.Steps.{MatchStep};
+ghost use Rattle.dutch_pair.specs.Reached.{IsAbove, frame_of};
+ghost use Rattle.dutch_pair.specs.Completion.{Tells};
+ghost use Rattle.dutch_pair.specs.Shapes.{fits, shapes_with, has_member, first_with};
+ghost use Rattle.dutch_pair.specs.Round.{eligible, shape_of};
+
+use crate::completion::Answer;
+use crate::eligible::has_candidate;
+use crate::reached::Reached;
+use dutch_order::bracket::{Bracket, Shape};
+use dutch_order::search::LIMIT;
+use dutch_order::steps::{Budget, Step};
+use dutch_player::field::Field;
+
+/// Whether a bracket has room for a shape.
+fn has_room(bracket: &Bracket, shape: Shape) -> bool
+    requires small { shape.pairs ≤ LIMIT }
+    ensures { result ≡ fits bracket.now shape }
+{
+    let residents = bracket.scores().len() - bracket.mdps();
+    if shape.pairs < shape.mdps || bracket.mdps() < shape.mdps {
+        return false;
+    }
+    shape.mdps + 2 * (shape.pairs - shape.mdps) <= residents
+}
+
+/// Whether a bracket has room for a shape, and some candidate of it can be chosen.
+#[tactic(auto, using(crate::proofs::ShapeSearch::fits_by_test))]
+fn has_shape(
+    field: &Field,
+    reached: &Reached,
+    lower: &[u16],
+    shape: Shape,
+    budget: &mut Budget,
+) -> Answer
+    requires above { IsAbove field.now reached.now lower.now }
+    requires small { shape.pairs ≤ LIMIT }
+    requires within { budget.old.used ≤ budget.old.limit }
+    ensures answer { Tells result (fits (frame_of field.now reached.now) shape && has_member (eligible field.now reached.now lower.now shape)) (budget.new.used ≡ budget.new.limit) }
+    ensures limit { budget.new.limit ≡ budget.old.limit }
+    ensures rises { budget.old.used ≤ budget.new.used }
+    ensures within { budget.new.used ≤ budget.new.limit }
+{
+    if !has_room(&reached.frame(field), shape) {
+        return Answer::No;
+    }
+    has_candidate(field, reached, lower, shape, budget)
+}
+
+/// Of the shapes with a number of pairs the one with the most moved-down players that has a candidate.
+#[tactic(auto, using(crate::proofs::ShapeSearch::mdps_taken, crate::proofs::ShapeSearch::mdps_passed, crate::proofs::ShapeSearch::mdps_ended))]
+fn shape_with(
+    field: &Field,
+    reached: &Reached,
+    lower: &[u16],
+    pairs: usize,
+    budget: &mut Budget,
+) -> Step<Shape>
+    requires above { IsAbove field.now reached.now lower.now }
+    requires small { pairs ≤ LIMIT }
+    requires within { budget.old.used ≤ budget.old.limit }
+    ensures answer { MatchStep result
+        (λ shape. (first_with (eligible field.now reached.now lower.now) (filter (fits (frame_of field.now reached.now)) (shapes_with pairs)) ≡ Some shape)
+        × (fits (frame_of field.now reached.now) shape ≡ true))
+        (first_with (eligible field.now reached.now lower.now) (filter (fits (frame_of field.now reached.now)) (shapes_with pairs)) ≡ None)
+        (budget.new.used ≡ budget.new.limit) }
+    ensures limit { budget.new.limit ≡ budget.old.limit }
+    ensures rises { budget.old.used ≤ budget.new.used }
+    ensures within { budget.new.used ≤ budget.new.limit }
+{
+    let mut mdps = pairs;
+    loop {
+        let shape = Shape { pairs, mdps };
+        match has_shape(field, reached, lower, shape, budget) {
+            Answer::Yes => return Step::Found(shape),
+            Answer::No => {}
+            Answer::Undecided => return Step::Undecided,
+        }
+        if mdps == 0 {
+            return Step::End;
+        }
+        mdps -= 1;
+    }
+}
+
+/// The shape of a bracket of a field above all lower seats by rank: of the shapes that have a candidate, the one with the most pairs,
+/// and for them with the most moved-down players. `End` is answered where none has one.
+pub(crate) fn shape_of(
+    field: &Field,
+    reached: &Reached,
+    lower: &[u16],
+    budget: &mut Budget,
+) -> Step<Shape>
+    requires above { IsAbove field.now reached.now lower.now }
+    requires within { budget.old.used ≤ budget.old.limit }
+    ensures answer { MatchStep result
+        (λ shape. (shape_of field.now reached.now lower.now ≡ Some shape) × Fits (frame_of field.now reached.now) shape)
+        (shape_of field.now reached.now lower.now ≡ None)
+        (budget.new.used ≡ budget.new.limit) }
+    ensures limit { budget.new.limit ≡ budget.old.limit }
+    ensures rises { budget.old.used ≤ budget.new.used }
+    ensures within { budget.new.used ≤ budget.new.limit }
+{
+    let mut pairs = reached.seats().len() / 2;
+    loop {
+        match shape_with(field, reached, lower, pairs, budget) {
+            Step::Found(shape) => return Step::Found(shape),
+            Step::End => {}
+            Step::Undecided => return Step::Undecided,
+        }
+        if pairs == 0 {
+            return Step::End;
+        }
+        pairs -= 1;
+    }
+}
