@@ -1,0 +1,6 @@
+pub mod RoundLemmas
+pub mod RankLemmas
+pub mod OrderLemmas
+pub mod RowLemmas
+pub mod LevelLemmas
+pub mod CountLemmas

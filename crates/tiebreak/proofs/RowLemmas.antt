@@ -1,0 +1,66 @@
+-- No pass loses or doubles a row: keys leave the start ranks, and the order only moves rows.
+use Rattle.std.proofs.Common.{◌≡◌, ℕ, Bool, true, false, cond, List, [], ◌∷◌, ◌++◌, map, Option, Result, Ok, Err, refl, ap, ◌∙◌, subst, append-nil}
+use Rattle.std.specs.Prelude.{IsPermutation}
+use Rattle.std.proofs.lemmas.List.Sorted.{IsPermutation-refl, IsPermutation-cons, IsPermutation-trans, IsPermutation-append_left, IsPermutation-map, IsPermutation-sym, IsPermutation-middle}
+use Rattle.trf16.specs.Sheet.{Entry, Sheet}
+use Rattle.tiebreak.specs.declared.key.Key.{Key}
+use Rattle.tiebreak.specs.declared.fault.TieFault.{TieFault}
+use Rattle.tiebreak.specs.Keys.{RowFacts, value_of}
+use Rattle.tiebreak.specs.Outcomes.{◌>>=◌}
+use Rattle.tiebreak.specs.Standings.{goes_before, placed, ranked, row_of, with_value, with_key, with_keys, judged, standings_of}
+use Rattle.tiebreak.specs.Laws.{HasEachOnce}
+
+abbrev starts : List RowFacts → List ℕ
+starts rows = map (λ row. row.start) rows
+
+starts-with_value : (f : RowFacts → Option ℕ) (rows : List RowFacts) → starts (map (λ row. with_value row (f row)) rows) ≡ starts rows
+starts-with_value f [] = refl
+starts-with_value f (row ∷ rest) = ap (λ others. row.start ∷ others) (starts-with_value f rest)
+
+starts-with_keys : (sheet : Sheet) (keys : List Key) (rows : List RowFacts) → starts (with_keys sheet keys rows) ≡ starts rows
+starts-with_keys sheet [] rows = refl
+starts-with_keys sheet (key ∷ rest) rows = starts-with_keys sheet rest (with_key sheet key rows) ∙ starts-with_value (value_of sheet rows key) rows
+
+starts-row_of : (sheet : Sheet) (players : List Entry) → starts (map (row_of sheet) players) ≡ map (λ entry. entry.start) players
+starts-row_of sheet [] = refl
+starts-row_of sheet (entry ∷ rest) = ap (λ others. entry.start ∷ others) (starts-row_of sheet rest)
+
+placed-moves-at : (row first : RowFacts) (rest : List RowFacts) (t : Bool) → IsPermutation (row ∷ rest) (placed row rest)
+    → IsPermutation (row ∷ first ∷ rest) (cond t (first ∷ placed row rest) (row ∷ first ∷ rest))
+placed-moves-at row first rest true more =
+    IsPermutation-trans (row ∷ first ∷ rest) (first ∷ row ∷ rest) (first ∷ placed row rest)
+    (IsPermutation-middle (row ∷ []) first rest) (IsPermutation-cons first (row ∷ rest) (placed row rest) more)
+placed-moves-at row first rest false more = IsPermutation-refl (row ∷ first ∷ rest)
+
+placed-moves : (row : RowFacts) (all : List RowFacts) → IsPermutation (row ∷ all) (placed row all)
+placed-moves row [] = IsPermutation-refl (row ∷ [])
+placed-moves row (first ∷ rest) = placed-moves-at row first rest (goes_before first row) (placed-moves row rest)
+
+pub ranked-moves : (front all : List RowFacts) → IsPermutation (front ++ all) (ranked front all)
+ranked-moves front [] = IsPermutation-sym (ranked front []) (front ++ []) (simp append-nil (IsPermutation-refl front))
+ranked-moves front (row ∷ rest) =
+    IsPermutation-trans (front ++ row ∷ rest) (row ∷ front ++ rest) (ranked (placed row front) rest)
+    (IsPermutation-middle front row rest)
+    (IsPermutation-trans (row ∷ front ++ rest) (placed row front ++ rest) (ranked (placed row front) rest)
+    (IsPermutation-append_left rest (row ∷ front) (placed row front) (placed-moves row front))
+    (ranked-moves (placed row front) rest))
+
+starts-ranked : (all : List RowFacts) → IsPermutation (starts all) (starts (ranked [] all))
+starts-ranked all = IsPermutation-map (λ row. row.start) all (ranked [] all) (ranked-moves [] all)
+
+starts-all : (sheet : Sheet) (keys : List Key) → IsPermutation (map (λ entry. entry.start) sheet.players) (starts (ranked [] (with_keys sheet keys (map (row_of sheet) sheet.players))))
+starts-all sheet keys =
+    let rows = with_keys sheet keys (map (row_of sheet) sheet.players) in
+    let same : starts rows ≡ map (λ entry. entry.start) sheet.players = starts-with_keys sheet keys (map (row_of sheet) sheet.players) ∙ starts-row_of sheet sheet.players in
+    subst (λ (before : List ℕ). IsPermutation before (starts (ranked [] rows))) same (starts-ranked rows)
+
+-- where a call gives rows, they are those of the definition
+pub rows-given : (all rows : List RowFacts) (first : Result (Unit {0}) TieFault) → (first >>= (λ _. Ok all)) ≡ Ok rows → all ≡ rows
+rows-given all rows (Ok x) e = cc
+rows-given all rows (Err fault) e = cc
+
+pub has_each_once : (sheet : Sheet) (keys : List Key) → HasEachOnce sheet keys
+unfolding standings_of
+has_each_once sheet keys rows e =
+    let all = ranked [] (with_keys sheet keys (map (row_of sheet) sheet.players)) in
+    subst (λ (given : List RowFacts). IsPermutation (map (λ entry. entry.start) sheet.players) (starts given)) (rows-given all rows (judged sheet) e) (starts-all sheet keys)

@@ -1,0 +1,11 @@
+use Rattle.std.proofs.Common.{◌≡◌, ◌+◌, ◌*◌, ◌≤◌}
+use Rattle.std.specs.Prelude.{sum_by}
+use Rattle.tiebreak.specs.Games.{opponent_score}
+use Rattle.tiebreak.specs.Keys.{buchholz}
+use Rattle.tiebreak.proofs.RoundLemmas.{rounds_from}
+use Rattle.tiebreak.proofs.keys.buchholz.Given as goal
+
+abbrev pub invariant-loop-before : goal.invariant-loop-before
+invariant-loop-before l =
+    (l.sum + sum_by (opponent_score l.report l.start) (rounds_from l.before l.rounds) ≡ buchholz l.report l.start)
+    × (l.sum ≤ 65792 * l.before)

@@ -1,0 +1,7 @@
+use Rattle.std.proofs.Common.{◌≡◌, ◌++◌, map}
+use Rattle.trf16.specs.Sheet.{entry_of}
+use Rattle.tiebreak.specs.Standings.{row_of}
+use Rattle.tiebreak.proofs.standings.first_rows.Given as goal
+
+abbrev pub invariant-loop-player : goal.invariant-loop-player
+invariant-loop-player l = l.rows.items ++ map (row_of l.report) (map entry_of l.player-iterator) ≡ map (row_of l.report) l.report.players

@@ -1,0 +1,5 @@
+pub mod Games
+pub mod Keys
+pub mod Outcomes
+pub mod Standings
+pub mod Laws

@@ -1,0 +1,103 @@
+-- The standings: the players by score, then by each key in its order, then by start rank.
+use Rattle.std.specs.Prelude.{◌≡◌, ℕ, ◌+◌, Bool, true, false, if◌then◌else◌, List, [], ◌∷◌, ◌++◌, map, Option, Some, None, option_map, Result, Ok, Err, slice_index_or}
+use Rattle.std.specs.Option.{option_map_or, option_cmp}
+use Rattle.std.specs.Cmp.Lexicographic.{slice_cmp}
+use Rattle.std.specs.declared.cmp.Ordering.{Ordering}
+use Rattle.std.specs.Ordering.{nat_cmp, ordering_then, is_lt}
+use Rattle.trf16.specs.declared.cell.Cell.{Cell}
+use Rattle.trf16.specs.declared.cell.Cell.TheVariants.{Unfinished as UnfinishedCell}
+use Rattle.trf16.specs.declared.kind.Kind.TheVariants.{Xxs}
+use Rattle.trf16.specs.Sheet.{Entry, Sheet}
+use Rattle.trf16.specs.Absence.{first_of}
+use Rattle.tiebreak.specs.declared.key.Key.{Key}
+use Rattle.tiebreak.specs.declared.fault.TieFault.{TieFault}
+use Rattle.tiebreak.specs.declared.fault.TieFault.TheVariants.{Unfinished, Unsupported}
+use Rattle.tiebreak.specs.Games.{score}
+use Rattle.tiebreak.specs.Keys.{RowFacts, value_of}
+use Rattle.tiebreak.specs.Outcomes.{◌>>=◌}
+
+-- a player's row before any key
+abbrev pub row_of : Sheet → Entry → RowFacts
+row_of sheet entry = record { start = entry.start; score = score sheet entry.start; values = [] }
+
+-- a row with the value of one more key
+abbrev pub with_value : RowFacts → Option ℕ → RowFacts
+with_value row value = record row { values = row.values ++ value ∷ [] }
+
+-- rows with the values of one more key
+abbrev pub with_key : Sheet → Key → List RowFacts → List RowFacts
+with_key sheet key rows = map (λ row. with_value row (value_of sheet rows key row)) rows
+
+-- rows with the values of some more keys, one key after the other
+abbrev pub with_keys : Sheet → List Key → List RowFacts → List RowFacts
+with_keys sheet [] rows = rows
+with_keys sheet (key ∷ rest) rows = with_keys sheet rest (with_key sheet key rows)
+
+-- the order of two rows: the higher score, then the higher value in the first key in which they differ (none is below any), then
+-- the smaller start rank
+abbrev pub row_cmp : RowFacts → RowFacts → Ordering
+row_cmp a b = ordering_then (nat_cmp b.score a.score) (ordering_then (slice_cmp (option_cmp nat_cmp) b.values a.values) (nat_cmp a.start b.start))
+
+-- who stands in front of another
+abbrev pub goes_before : RowFacts → RowFacts → Bool
+goes_before a b = is_lt (row_cmp a b)
+
+-- a row among others in order, behind all that go before it
+abbrev pub placed : RowFacts → List RowFacts → List RowFacts
+placed row [] = row ∷ []
+placed row (first ∷ rest) = if goes_before first row then first ∷ placed row rest else row ∷ first ∷ rest
+
+-- rows in order, where those in front have been placed already
+abbrev pub ranked : List RowFacts → List RowFacts → List RowFacts
+ranked front [] = front
+ranked front (row ∷ rest) = ranked (placed row front) rest
+
+-- none of some rows goes before one
+abbrev pub NoneBefore : RowFacts → List RowFacts → Type 0
+NoneBefore row [] = Unit {0}
+NoneBefore row (other ∷ rest) = (goes_before other row ≡ false) × NoneBefore row rest
+
+-- no row goes before one that stands in front of it
+abbrev pub IsRanked : List RowFacts → Type 0
+IsRanked [] = Unit {0}
+IsRanked (row ∷ rest) = NoneBefore row rest × IsRanked rest
+
+-- what stands behind the last row
+abbrev pub no_row : RowFacts
+no_row = record { start = 0; score = 0; values = [] }
+
+-- the row at a place, from 0
+abbrev pub row_at : List RowFacts → ℕ → RowFacts
+row_at rows place = slice_index_or rows place no_row
+
+-- a game without a result yet
+abbrev pub is_unfinished : Cell → Bool
+is_unfinished (UnfinishedCell opponent colour) = true
+is_unfinished _ = false
+
+-- the first round, of which the first is numbered n, with a game that has no result; such a round was paired
+abbrev pub first_unfinished : ℕ → List Cell → Option ℕ
+first_unfinished n [] = None
+first_unfinished n (cell ∷ rest) = if is_unfinished cell then Some n else first_unfinished (n + 1) rest
+
+-- the first game without a result, by the order of the players' lines and then by round
+abbrev pub unfinished : List Entry → Option (ℕ × ℕ)
+unfinished [] = None
+unfinished (entry ∷ rest) = option_map_or (λ round. Some (entry.start, round)) (first_unfinished 1 entry.cells) (unfinished rest)
+
+-- a fault, where its cause stands
+abbrev pub refused : Option TieFault → Result (Unit {0}) TieFault
+refused None = Ok tt
+refused (Some fault) = Err fault
+
+-- whether there are standings: each game has a result, and no line XXS gives games other points; else the first of these that fails
+unfoldable pub judged : Sheet → Result (Unit {0}) TieFault
+judged sheet = do
+  _ ← refused (option_map (λ at'. Unfinished at'.0 at'.1) (unfinished sheet.players))
+  refused (option_map (λ line. Unsupported line) (first_of (Xxs ∷ []) sheet))
+
+-- the rows of all players in order, or why there are none
+unfoldable pub standings_of : Sheet → List Key → Result (List RowFacts) TieFault
+standings_of sheet keys = do
+  _ ← judged sheet
+  Ok (ranked [] (with_keys sheet keys (map (row_of sheet) sheet.players)))

@@ -1,0 +1,56 @@
+// The rounds that were paired, seen from one player: whom he met, and whose score a round counts.
+ghost use Rattle.std.specs.Prelude.{◌≡◌, ◌<◌, ◌≤◌};
+ghost use Rattle.trf16.specs.Sheet.{rounds_played};
+ghost use Rattle.tiebreak.specs.Games.{is_game_with, have_met, virtual_score, opponent_score};
+
+use trf16::cell::Cell;
+use trf16::report::Report;
+
+fn is_game_with(cell: &Cell, other: u16) -> bool
+    ensures { result ≡ is_game_with other cell.now }
+{
+    match cell {
+        Cell::Game { opponent, .. } => *opponent == other,
+        _ => false,
+    }
+}
+
+/// Whether a game between two was played.
+#[tactic(auto, using(crate::proofs::RoundLemmas::next))]
+pub(crate) fn have_met(report: &Report<'_>, rounds: u8, a: u16, b: u16) -> bool
+    requires { rounds ≡ rounds_played report.now }
+    ensures { result ≡ have_met report.now a b }
+{
+    for before in 0..rounds {
+        if is_game_with(&report.cell(a, before + 1), b) {
+            return true;
+        }
+    }
+    false
+}
+
+// The half points of the virtual opponent in a round without a game.
+fn virtual_score(report: &Report<'_>, rounds: u8, start: u16, round: u8) -> u32
+    requires all { rounds ≡ rounds_played report.now }
+    requires from_one { 0 < round }
+    requires paired { round ≤ rounds }
+    ensures value { result ≡ virtual_score report.now start round }
+    ensures few { result ≤ 65792 }
+{
+    let missed = 2 - report.cell(start, round).half_points();
+    u32::from(report.points(start, round - 1)) + u32::from(missed) + u32::from(rounds - round)
+}
+
+/// The score of a player's opponent in a round, in half points.
+pub(crate) fn opponent_score(report: &Report<'_>, rounds: u8, start: u16, round: u8) -> u32
+    requires all { rounds ≡ rounds_played report.now }
+    requires from_one { 0 < round }
+    requires paired { round ≤ rounds }
+    ensures value { result ≡ opponent_score report.now start round }
+    ensures few { result ≤ 65792 }
+{
+    match report.cell(start, round) {
+        Cell::Game { opponent, .. } => u32::from(report.points(opponent, rounds)),
+        _ => virtual_score(report, rounds, start, round),
+    }
+}

@@ -1,0 +1,130 @@
+// The values of the tie-break keys.
+ghost use Rattle.std.specs.Prelude.{◌≡◌, ◌≤◌, ◌||◌, ◌==◌, length, IfOk};
+ghost use Rattle.std.specs.List.{list_all};
+ghost use Rattle.trf16.specs.Sheet.{rounds_played};
+ghost use Rattle.tiebreak.specs.Games.{have_met};
+ghost use Rattle.tiebreak.specs.Keys.{buchholz, sonneborn_berger, group_of, have_all_met, is_against, points_against, points_among, direct_in, value_of};
+
+use crate::games::{have_met, opponent_score};
+use crate::key::Key;
+use crate::row::Row;
+use std::alloc::{AllocError, Global};
+use trf16::cell::Cell;
+use trf16::report::Report;
+
+#[tactic(auto, using(crate::proofs::RoundLemmas::next))]
+fn buchholz(report: &Report<'_>, rounds: u8, start: u16) -> u32
+    requires { rounds ≡ rounds_played report.now }
+    ensures { result ≡ buchholz report.now start }
+{
+    let mut sum = 0;
+    for before in 0..rounds {
+        sum += opponent_score(report, rounds, start, before + 1);
+    }
+    sum
+}
+
+#[tactic(auto, using(crate::proofs::RoundLemmas::next))]
+fn sonneborn_berger(report: &Report<'_>, rounds: u8, start: u16) -> u32
+    requires { rounds ≡ rounds_played report.now }
+    ensures { result ≡ sonneborn_berger report.now start }
+{
+    let mut sum = 0;
+    for before in 0..rounds {
+        let got = report.cell(start, before + 1).half_points();
+        sum += opponent_score(report, rounds, start, before + 1) * u32::from(got);
+    }
+    sum
+}
+
+// The start ranks of those who are level with a row, its own among them.
+fn group_of(alloc: Global, rows: &[Row], row: &Row) -> Result<Vec<u16>, AllocError>
+    ensures { IfOk result (λ v. v.items ≡ group_of rows.now row.now) }
+{
+    rows.iter()
+        .filter(|other| row.is_level(other))
+        .map(|other| other.start())
+        .collect(alloc)
+}
+
+// Whether one of a group has met each other.
+fn has_met_all(report: &Report<'_>, rounds: u8, start: u16, group: &[u16]) -> bool
+    requires { rounds ≡ rounds_played report.now }
+    ensures { result ≡ list_all (λ other. (start == other) || have_met report.now start other) group.now }
+{
+    group.iter().all(|other| start == *other || have_met(report, rounds, start, *other))
+}
+
+fn have_all_met(report: &Report<'_>, rounds: u8, group: &[u16]) -> bool
+    requires { rounds ≡ rounds_played report.now }
+    ensures { result ≡ have_all_met report.now group.now }
+{
+    group
+        .iter()
+        .all(|start| has_met_all(report, rounds, *start, group))
+}
+
+// Whether a game was played against one of a group.
+fn is_against(group: &[u16], cell: &Cell) -> bool
+    ensures { result ≡ is_against group.now cell.now }
+{
+    match cell {
+        Cell::Game { opponent, .. } => group.contains(opponent),
+        _ => false,
+    }
+}
+
+fn points_against(group: &[u16], cell: &Cell) -> u16
+    ensures value { result ≡ points_against group.now cell.now }
+    ensures few { result ≤ 2 }
+{
+    if is_against(group, cell) {
+        cell.half_points()
+    } else {
+        0
+    }
+}
+
+#[tactic(auto, using(crate::proofs::RoundLemmas::next))]
+fn points_among(report: &Report<'_>, rounds: u8, group: &[u16], start: u16) -> u32
+    requires { rounds ≡ rounds_played report.now }
+    ensures { result ≡ points_among report.now group.now start }
+{
+    let mut sum = 0;
+    for before in 0..rounds {
+        sum += u32::from(points_against(group, &report.cell(start, before + 1)));
+    }
+    sum
+}
+
+fn direct_in(report: &Report<'_>, rounds: u8, group: &[u16], start: u16) -> Option<u32>
+    requires { rounds ≡ rounds_played report.now }
+    ensures { result ≡ direct_in report.now group.now start }
+{
+    if 1 < group.len() && have_all_met(report, rounds, group) {
+        return Some(points_among(report, rounds, group, start));
+    }
+    None
+}
+
+/// The value of a key for a row, where the rows have the values of the keys before.
+pub(crate) fn value_of(
+    alloc: Global,
+    report: &Report<'_>,
+    rounds: u8,
+    rows: &[Row],
+    key: Key,
+    row: &Row,
+) -> Result<Option<u32>, AllocError>
+    requires { rounds ≡ rounds_played report.now }
+    ensures { IfOk result (λ value. value ≡ value_of report.now rows.now key row.now) }
+{
+    match key {
+        Key::Direct => {
+            let group = group_of(alloc, rows, row)?;
+            Ok(direct_in(report, rounds, &group, row.start()))
+        }
+        Key::Buchholz => Ok(Some(buchholz(report, rounds, row.start()))),
+        Key::SonnebornBerger => Ok(Some(sonneborn_berger(report, rounds, row.start()))),
+    }
+}
