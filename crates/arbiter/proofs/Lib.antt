@@ -1,3 +1,9 @@
 pub mod InputLemmas
 pub mod WordLemmas
 pub mod RunLemmas
+pub mod KeyLemmas
+pub mod OptionLemmas
+pub mod CommandLemmas
+pub mod RequestLemmas
+pub mod ListingLemmas
+pub mod TableLemmas

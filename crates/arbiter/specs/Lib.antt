@@ -5,3 +5,11 @@ pub mod Texts
 pub mod Commands
 pub mod Run
 pub mod Replies
+pub mod Keys
+pub mod Options
+pub mod CommandLine
+pub mod Statuses
+pub mod CandidateTexts
+pub mod CandidateAnswers
+pub mod PairAnswers
+pub mod StandingsTexts

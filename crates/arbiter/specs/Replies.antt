@@ -1,6 +1,6 @@
 -- Replies as answers.
 use Rattle.std.specs.Prelude.{ℕ, List, string_bytes}
-use Rattle.arbiter.specs.Commands.{Answer}
+use Rattle.arbiter.specs.Statuses.{Answer}
 use Rattle.arbiter.specs.declared.reply.Text.{Text}
 use Rattle.arbiter.specs.declared.reply.Text.TheVariants.{Fixed, Made, Bytes}
 use Rattle.arbiter.specs.declared.reply.Reply.{Reply}

@@ -2,10 +2,12 @@
 use Rattle.std.specs.Prelude.{◌≡◌, ◌⊎◌, ◌+◌, ◌≤◌, ℕ, Bool, true, false, List, Option, None, Some}
 use Rattle.arbiter.specs.Devices.{Reading, IsKept, IsUnread}
 use Rattle.trf16.specs.Output.{Use, HasFailed, HasNotFailed, HasText, HasPart}
-use Rattle.arbiter.specs.Commands.{Answer, Answers, is_output, out_of_memory, read_fault}
+use Rattle.arbiter.specs.Commands.{Answers}
+use Rattle.arbiter.specs.Statuses.{Answer, is_output, out_of_memory, read_fault}
 use Rattle.arbiter.specs.Input.{most_read}
-use Rattle.arbiter.specs.Texts.{write_text}
-use Rattle.arbiter.specs.Words.{AsksFor, AsksForHelp, IsMistaken}
+use Rattle.arbiter.specs.Texts.{word_text, write_text}
+use Rattle.arbiter.specs.Words.{AsksFor, AsksForHelp, AsksWrongly, IsMistaken}
+use Rattle.arbiter.specs.declared.options.WordFault.{WordFault}
 use Rattle.arbiter.specs.declared.reply.Status.{Status}
 use Rattle.arbiter.specs.declared.reply.Status.TheVariants.{Done, BadWords, Trouble}
 use Rattle.arbiter.specs.declared.words.Request.{Request}
@@ -56,10 +58,17 @@ pub record IsCorrected (words : List (List ℕ)) (source : Reading) (answer : An
   pub unread : IsUnread source
   pub status : answer.status ≡ BadWords
 
+-- the options are refused with a text of the program's own, and nothing is read
+pub record HasWordFault (words : List (List ℕ)) (source : Reading) (answer : Answer) : Type 0 where
+  pub fault : WordFault
+  pub asked : AsksWrongly words fault
+  pub unread : IsUnread source
+  pub tells : answer ≡ record { status = BadWords; text = word_text fault }
+
 -- what is answered to the words and to what the source gives
 abbrev pub IsAnswer : List (List ℕ) → Reading → Answer → Type 0
 IsAnswer words source answer = IsCarriedOut words source answer ⊎ (IsHelped words source answer ⊎ (IsCorrected words source answer
-    ⊎ IsOutOfMemory source answer))
+    ⊎ (HasWordFault words source answer ⊎ IsOutOfMemory source answer)))
 
 -- ---- how it is written
 

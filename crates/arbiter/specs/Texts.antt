@@ -1,6 +1,12 @@
 -- The texts that the program writes, apart from clap's.
 use Rattle.std.specs.Prelude.{ℕ, List, ◌++◌, codes}
 use Rattle.std.specs.Fmt.{decimal}
+use Rattle.arbiter.specs.declared.options.WordFault.{WordFault}
+use Rattle.arbiter.specs.declared.options.WordFault.TheVariants.{BadColour, BadKeys, BadCursor}
+use Rattle.dutch_player.specs.declared.fault.FieldFault.{FieldFault}
+use Rattle.dutch_player.specs.declared.fault.FieldFault.TheVariants.{Unfinished, Unsupported, RoundsUnknown, RoundsOver, OutOfMemory as FieldMemory}
+use Rattle.tiebreak.specs.declared.fault.TieFault.{TieFault}
+use Rattle.tiebreak.specs.declared.fault.TieFault.TheVariants.{Unfinished as TieUnfinished, Unsupported as TieUnsupported, OutOfMemory as TieMemory}
 use Rattle.trf16.specs.declared.fault.Excess.{Excess}
 use Rattle.trf16.specs.declared.fault.Excess.TheVariants.{Bytes, Players, Rounds}
 use Rattle.trf16.specs.declared.fault.Fault.{Fault}
@@ -23,6 +29,12 @@ read_text = codes "device: read failed\n"
 -- a call of standard output failed
 abbrev pub write_text : List ℕ
 write_text = codes "device: write failed\n"
+
+-- what is wrong with words that clap lets pass
+abbrev pub word_text : WordFault → List ℕ
+word_text BadColour = codes "words: bad colour\n"
+word_text BadKeys = codes "words: bad keys\n"
+word_text BadCursor = codes "words: bad cursor\n"
 
 -- what does not fit in a round of a player
 abbrev pub round_text : ℕ → ℕ → List ℕ → List ℕ
@@ -48,3 +60,29 @@ fault_text OutOfMemory = memory_text
 -- a report is accepted: how many players it has, and how many rounds were paired
 abbrev pub accepted_text : ℕ → ℕ → List ℕ
 accepted_text players rounds = codes "accepted players " ++ (decimal players ++ (codes " rounds " ++ (decimal rounds ++ codes "\n")))
+
+-- why the next round cannot be paired from a report
+abbrev pub field_text : FieldFault → List ℕ
+field_text (Unfinished player round) = round_text player round (codes ": unfinished\n")
+field_text (Unsupported line) = codes "refused: line " ++ (decimal line ++ codes ": unsupported\n")
+field_text RoundsUnknown = codes "refused: rounds unknown\n"
+field_text RoundsOver = codes "refused: all rounds are played\n"
+field_text FieldMemory = memory_text
+
+-- the steps of a bracket reached the limit before it was decided
+abbrev pub undecided_text : ℕ → ℕ → List ℕ
+undecided_text number used = codes "undecided bracket " ++ (decimal number ++ (codes " steps " ++ (decimal used ++ codes "\n")))
+
+-- the round ends before a bracket
+abbrev pub not_reached_text : ℕ → List ℕ
+not_reached_text number = codes "words: bracket " ++ (decimal number ++ codes " is not reached\n")
+
+-- a cursor is not one of a bracket
+abbrev pub not_of_bracket_text : ℕ → List ℕ
+not_of_bracket_text number = codes "words: cursor is not of bracket " ++ (decimal number ++ codes "\n")
+
+-- why a report has no standings
+abbrev pub tie_text : TieFault → List ℕ
+tie_text (TieUnfinished player round) = round_text player round (codes ": unfinished\n")
+tie_text (TieUnsupported line) = codes "refused: line " ++ (decimal line ++ codes ": unsupported\n")
+tie_text TieMemory = memory_text

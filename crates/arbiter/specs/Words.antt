@@ -1,15 +1,19 @@
 -- What the words of a command line ask for, by clap's rules at the program's command.
-use Rattle.std.specs.Prelude.{◌≡◌, Bool, true, false, List, [], Option, Some, None, codes, if◌then◌else◌}
+use Rattle.std.specs.Prelude.{◌≡◌, Bool, true, false, List, [], Option, Some, None, Result, Ok, Err, option_and_then, codes, if◌then◌else◌}
 use Rattle.std.specs.List.{list_any}
 use Rattle.std.specs.Str.{bytes_eq}
 use Rattle.clap.specs.Words.{App, Row, Text, new_app, subcommand_of, with_subcommand, fault_of}
 use Rattle.clap.specs.Simple.{on_top}
 use Rattle.clap.specs.declared.error.kind.ErrorKind.{ErrorKind}
 use Rattle.clap.specs.declared.error.kind.ErrorKind.TheVariants.{DisplayHelp, DisplayVersion, OutOfMemory}
+use Rattle.dutch_order.specs.Cursors.{has_syntax}
 use Rattle.arbiter.specs.declared.words.Request.{Request}
-use Rattle.arbiter.specs.declared.words.Request.TheVariants.{Check, Format}
+use Rattle.arbiter.specs.declared.words.Request.TheVariants.{Check, Format, Pair, Candidates, Standings}
+use Rattle.arbiter.specs.CommandLine.{candidates_app, pair_app, standings_app}
+use Rattle.arbiter.specs.Options.{◌>>=◌, candidates_options, pair_options, standings_options}
 use Rattle.arbiter.specs.declared.words.Asked.{Asked}
-use Rattle.arbiter.specs.declared.words.Asked.TheVariants.{Command, Help, Mistake}
+use Rattle.arbiter.specs.declared.words.Asked.TheVariants.{Command, Help, Mistake, Refused}
+use Rattle.arbiter.specs.declared.options.WordFault.{WordFault}
 
 -- `check`, without options
 abbrev pub check_app : App
@@ -32,14 +36,49 @@ settled = on_top (λ top. record top {
   subcommand_required = true;
 })
 
+-- a command with `pair`, `candidates` and `standings`
+abbrev pub with_engine : App → App
+with_engine app = with_subcommand (with_subcommand (with_subcommand app pair_app.top) candidates_app.top) standings_app.top
+
 -- the program's command line
 abbrev pub arbiter_app : App
-arbiter_app = with_subcommand (with_subcommand (settled (versioned (new_app (codes "arbiter")))) check_app.top) format_app.top
+arbiter_app = with_engine (with_subcommand (with_subcommand (settled (versioned (new_app (codes "arbiter")))) check_app.top) format_app.top)
 
--- the request that a command and its options make
-abbrev pub request_by : Option (Text × List Row) → Option Request
-request_by None = None
-request_by (Some (name, options)) = if bytes_eq name (codes "check") then Some Check else (if bytes_eq name (codes "format") then Some Format else None)
+-- the request of `pair`
+unfoldable pub pair_request : List Row → Result Request WordFault
+pair_request rows = do
+  options ← pair_options rows
+  Ok (Pair options)
+
+-- the request of `candidates`
+unfoldable pub candidates_request : List Row → Result Request WordFault
+candidates_request rows = do
+  options ← candidates_options has_syntax rows
+  Ok (Candidates options)
+
+-- the request of `standings`
+unfoldable pub standings_request : List Row → Result Request WordFault
+standings_request rows = do
+  options ← standings_options rows
+  Ok (Standings options)
+
+-- the request that a command and its options make, or what is wrong with them; none where there is no such command
+abbrev pub request_of : Text → List Row → Option (Result Request WordFault)
+request_of name rows =
+    if bytes_eq name (codes "check") then Some (Ok Check)
+    else (if bytes_eq name (codes "format") then Some (Ok Format)
+    else (if bytes_eq name (codes "pair") then Some (pair_request rows)
+    else (if bytes_eq name (codes "candidates") then Some (candidates_request rows)
+    else (if bytes_eq name (codes "standings") then Some (standings_request rows) else None))))
+
+-- the same of the command that clap found, with its rows
+abbrev pub request_by : Option (Text × List Row) → Option (Result Request WordFault)
+request_by = option_and_then (λ command. request_of command.0 command.1)
+
+-- what a request comes to, or what is wrong with its options
+abbrev pub asked_by : Result Request WordFault → Asked
+asked_by (Ok request) = Command request
+asked_by (Err fault) = Refused fault
 
 -- an error of clap's that shows what was asked for: help, or the version
 abbrev pub is_shown : ErrorKind → Bool
@@ -57,7 +96,12 @@ is_mistake _ = true
 -- the words are accepted by clap's rules, and this is the request that they make
 pub record AsksFor (words : List Text) (request : Request) : Type 0 where
   pub accepted : fault_of arbiter_app words ≡ []
-  pub named : request_by (subcommand_of arbiter_app words) ≡ Some request
+  pub named : request_by (subcommand_of arbiter_app words) ≡ Some (Ok request)
+
+-- the words are accepted by clap's rules, and this is wrong with their options
+pub record AsksWrongly (words : List Text) (fault : WordFault) : Type 0 where
+  pub accepted : fault_of arbiter_app words ≡ []
+  pub named : request_by (subcommand_of arbiter_app words) ≡ Some (Err fault)
 
 -- clap's rules answer the words with help or the version
 abbrev pub AsksForHelp : List Text → Type 0
@@ -67,14 +111,16 @@ AsksForHelp words = list_any is_shown (fault_of arbiter_app words) ≡ true
 abbrev pub IsMistaken : List Text → Type 0
 IsMistaken words = list_any is_mistake (fault_of arbiter_app words) ≡ true
 
--- what the words come to; the texts of help and refusals are clap's
+-- what the words come to; the texts of help and mistakes are clap's
 abbrev pub ComesTo : List Text → Asked → Type 0
 ComesTo words (Command request) = AsksFor words request
 ComesTo words (Help text) = AsksForHelp words
 ComesTo words (Mistake text) = IsMistaken words
+ComesTo words (Refused fault) = AsksWrongly words fault
 
 -- the same of one error of clap's
 abbrev pub Tells : ErrorKind → Asked → Type 0
 Tells kind (Command request) = ⊥
 Tells kind (Help text) = is_shown kind ≡ true
 Tells kind (Mistake text) = is_mistake kind ≡ true
+Tells kind (Refused fault) = ⊥

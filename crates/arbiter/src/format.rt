@@ -22,8 +22,8 @@ pub fn format(alloc: Global, bytes: &[u8]) -> Result<Reply, AllocError>
     }
 }
 
-// An accepted report, made whole before the first byte is written.
-fn rewritten(alloc: Global, report: &Report<'_>) -> Result<Reply, AllocError>
+/// A report in canonical columns, made whole before the first byte is written.
+pub fn rewritten(alloc: Global, report: &Report<'_>) -> Result<Reply, AllocError>
     ensures { IfOk result (λ reply. answer_of reply ≡ format_answer (Ok report.now)) }
 {
     let mut text = Counted::new(Vec::new(alloc));

@@ -4,12 +4,20 @@
 ghost use Rattle.std.specs.Prelude.{◌≡◌, ◌≢◌};
 ghost use Rattle.std.specs.IoError.{error_kind};
 
+mod arguments;
+mod candidates;
 mod check;
+mod commands;
 mod format;
 mod input;
+mod keys;
+mod listing;
+mod options;
+mod pair;
 mod refusal;
 mod reply;
 mod run;
+mod standings;
 mod texts;
 mod words;
 

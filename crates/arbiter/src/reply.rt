@@ -1,7 +1,7 @@
 // The reply of a run: a status and a text, which is written to standard output or to standard error.
 ghost use Rattle.std.specs.Prelude.{◌≡◌, IsTrue, ◌↔◌, true, string_bytes};
 ghost use Rattle.trf16.specs.Output.{use_of, Puts};
-ghost use Rattle.arbiter.specs.Commands.{code_of, is_output};
+ghost use Rattle.arbiter.specs.Statuses.{code_of, is_output};
 ghost use Rattle.arbiter.specs.Replies.{answer_of, text_of};
 ghost use Rattle.arbiter.specs.Run.{IsWritten};
 
@@ -18,6 +18,10 @@ pub enum Status {
     Refused,
     /// The words are refused.
     BadWords,
+    /// No pairing meets the absolute criteria.
+    NoPairing,
+    /// A limit of steps was reached first.
+    Undecided,
     /// A device failed, or memory was refused.
     Trouble,
 }
@@ -31,6 +35,8 @@ impl Status {
             Status::Done => 0,
             Status::Refused => 1,
             Status::BadWords => 2,
+            Status::NoPairing => 3,
+            Status::Undecided => 4,
             Status::Trouble => 5,
         }
     }
@@ -39,7 +45,7 @@ impl Status {
     fn is_output(self) -> bool
         ensures { result ≡ is_output self }
     {
-        matches!(self, Status::Done)
+        matches!(self, Status::Done | Status::NoPairing | Status::Undecided)
     }
 }
 

@@ -1,16 +1,21 @@
 // A run of the program: from its words and the bytes of its input to the text that it writes.
 ghost use Rattle.std.specs.Prelude.{◌≡◌, ◌≤◌, ◌+◌, IfOk, map};
-ghost use Rattle.arbiter.specs.Commands.{Answers, out_of_memory};
+ghost use Rattle.arbiter.specs.Commands.{Answers};
+ghost use Rattle.arbiter.specs.Statuses.{out_of_memory};
 ghost use Rattle.arbiter.specs.Devices.{reading_of};
 ghost use Rattle.trf16.specs.Output.{use_of};
 ghost use Rattle.arbiter.specs.Input.{most_read};
 ghost use Rattle.arbiter.specs.Replies.{answer_of};
 ghost use Rattle.arbiter.specs.Run.{IsAnswer, IsOutOfMemory, IsReplyTo, IsRun};
 
+use crate::candidates::candidates;
 use crate::check::check;
 use crate::format::format;
 use crate::input::{InputFault, read_input};
+use crate::pair::pair;
 use crate::reply::{Reply, Status, Text};
+use crate::standings::standings;
+use crate::texts;
 use crate::words::{Asked, Request, read_words};
 use std::alloc::{AllocError, Global};
 use trf16::devices::{Sink, Source};
@@ -50,14 +55,18 @@ fn reply_to<'a, R: Source>(alloc: Global, words: &'a [&'a str], reader: &mut R) 
             status: Status::BadWords,
             text: Text::Made(text),
         },
+        Ok(Asked::Refused(fault)) => Reply {
+            status: Status::BadWords,
+            text: Text::Fixed(texts::bad_words(fault)),
+        },
         Err(AllocError) => out_of_memory(),
     }
 }
 
 // What is answered to a request, over what the source gives.
 #[tactic(auto, using(crate::proofs::RunLemmas::answered))]
-fn reply_to_request<R: Source>(alloc: Global, request: Request, reader: &mut R) -> Reply
-    ensures replies { IsReplyTo request
+fn reply_to_request<R: Source>(alloc: Global, request: Request<'_>, reader: &mut R) -> Reply
+    ensures replies { IsReplyTo request.entry
         (reading_of R.left R.failures R.calls reader.old reader.new) (answer_of result) }
     ensures bounded { R.calls reader.new ≤ R.calls reader.old + most_read }
 {
@@ -75,12 +84,15 @@ fn reply_to_request<R: Source>(alloc: Global, request: Request, reader: &mut R) 
 }
 
 // The answer of a command to the bytes of its input.
-fn answer(alloc: Global, request: Request, input: &[u8]) -> Result<Reply, AllocError>
-    ensures { IfOk result (λ reply. Answers request input.now (answer_of reply)) }
+fn answer(alloc: Global, request: Request<'_>, input: &[u8]) -> Result<Reply, AllocError>
+    ensures { IfOk result (λ reply. Answers request.entry input.now (answer_of reply)) }
 {
     match request {
         Request::Check => check(alloc, input),
         Request::Format => format(alloc, input),
+        Request::Candidates(options) => candidates(alloc, &options, input),
+        Request::Standings(options) => standings(alloc, options.keys.as_slice(), input),
+        Request::Pair(options) => pair(alloc, options, input),
     }
 }
 
@@ -96,5 +108,7 @@ fn out_of_memory() -> Reply
 
 #[cfg(test)]
 mod report_tests;
+#[cfg(test)]
+mod standings_tests;
 #[cfg(test)]
 mod tests;

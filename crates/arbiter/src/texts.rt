@@ -1,8 +1,16 @@
 // The texts of the program, apart from clap's.
 ghost use Rattle.std.specs.Prelude.{◌≡◌, IfOk, string_bytes};
-ghost use Rattle.arbiter.specs.Texts.{accepted_text, excess_text, fault_text};
+ghost use Rattle.arbiter.specs.CandidateAnswers.{ending_text};
+ghost use Rattle.arbiter.specs.CandidateTexts.{bracket_text, kind_text};
+ghost use Rattle.arbiter.specs.Texts.{accepted_text, excess_text, fault_text, field_text, not_of_bracket_text, not_reached_text, tie_text, undecided_text, word_text};
 
+use crate::listing::Ending;
+use crate::options::WordFault;
+use dutch_order::bracket::Shape;
+use dutch_pair::reached::Kind;
+use dutch_player::fault::FieldFault;
 use std::alloc::{AllocError, Global};
+use tiebreak::fault::TieFault;
 use trf16::fault::{Excess, Fault};
 
 /// A report is accepted: how many players it has, and how many rounds were paired.
@@ -10,6 +18,17 @@ pub fn accepted(alloc: Global, players: usize, rounds: u8) -> Result<String, All
     ensures { IfOk result (λ text. string_bytes text ≡ accepted_text players rounds) }
 {
     format!(in alloc; "accepted players {players} rounds {rounds}\n")
+}
+
+/// What is wrong with words that clap lets pass.
+pub fn bad_words(fault: WordFault) -> &'static str
+    ensures { result.now ≡ word_text fault }
+{
+    match fault {
+        WordFault::BadColour => "words: bad colour\n",
+        WordFault::BadKeys => "words: bad keys\n",
+        WordFault::BadCursor => "words: bad cursor\n",
+    }
 }
 
 /// Why a report is refused.
@@ -57,4 +76,93 @@ fn too_many(alloc: Global, excess: Excess) -> Result<String, AllocError>
         Excess::Rounds => "refused: too many rounds\n",
     };
     String::from_str(alloc, text)
+}
+
+/// Why the next round cannot be paired from a report.
+pub fn cannot_be_paired(alloc: Global, fault: FieldFault) -> Result<String, AllocError>
+    ensures { IfOk result (λ text. string_bytes text ≡ field_text fault) }
+{
+    match fault {
+        FieldFault::Unfinished { player, round } => {
+            format!(in alloc; "refused: player {player} round {round}: unfinished\n")
+        }
+        FieldFault::Unsupported { line } => {
+            format!(in alloc; "refused: line {line}: unsupported\n")
+        }
+        FieldFault::RoundsUnknown => String::from_str(alloc, "refused: rounds unknown\n"),
+        FieldFault::RoundsOver => String::from_str(alloc, "refused: all rounds are played\n"),
+        FieldFault::OutOfMemory => String::from_str(alloc, "memory: refused\n"),
+    }
+}
+
+/// The steps of a bracket reached the limit before it was decided.
+pub fn undecided(alloc: Global, number: u16, used: u64) -> Result<String, AllocError>
+    ensures { IfOk result (λ text. string_bytes text ≡ undecided_text number used) }
+{
+    format!(in alloc; "undecided bracket {number} steps {used}\n")
+}
+
+/// The round ends before a bracket.
+pub fn not_reached(alloc: Global, number: u16) -> Result<String, AllocError>
+    ensures { IfOk result (λ text. string_bytes text ≡ not_reached_text number) }
+{
+    format!(in alloc; "words: bracket {number} is not reached\n")
+}
+
+/// A cursor is not one of a bracket.
+pub fn not_of_bracket(alloc: Global, number: u16) -> Result<String, AllocError>
+    ensures { IfOk result (λ text. string_bytes text ≡ not_of_bracket_text number) }
+{
+    format!(in alloc; "words: cursor is not of bracket {number}\n")
+}
+
+/// What a bracket is for the round.
+fn kind(kind: Kind) -> &'static str
+    ensures { result.now ≡ kind_text kind }
+{
+    match kind {
+        Kind::Ordinary => "ordinary",
+        Kind::Last => "last",
+        Kind::Penultimate => "penultimate",
+        Kind::Collapsed => "collapsed",
+    }
+}
+
+/// The bracket of a number: its kind, how many pairs it makes, and how many moved-down players are in them.
+pub fn bracket(
+    alloc: Global,
+    number: u16,
+    of_kind: Kind,
+    shape: Shape,
+) -> Result<String, AllocError>
+    ensures { IfOk result (λ text. string_bytes text ≡ bracket_text number of_kind shape) }
+{
+    let (word, pairs, mdps) = (kind(of_kind), shape.pairs, shape.mdps);
+    format!(in alloc; "bracket {number} {word} pairs {pairs} mdps {mdps}\n")
+}
+
+/// The last line of a listing.
+pub fn ending(alloc: Global, number: u16, steps: u64, ending: Ending) -> Result<String, AllocError>
+    ensures { IfOk result (λ text. string_bytes text ≡ ending_text number steps ending) }
+{
+    match ending {
+        Ending::AtEnd => String::from_str(alloc, "end\n"),
+        Ending::AtCount => String::from_str(alloc, "more\n"),
+        Ending::Stopped => undecided(alloc, number, steps),
+    }
+}
+
+/// Why a report has no standings.
+pub fn has_no_standings(alloc: Global, fault: TieFault) -> Result<String, AllocError>
+    ensures { IfOk result (λ text. string_bytes text ≡ tie_text fault) }
+{
+    match fault {
+        TieFault::Unfinished { player, round } => {
+            format!(in alloc; "refused: player {player} round {round}: unfinished\n")
+        }
+        TieFault::Unsupported { line } => {
+            format!(in alloc; "refused: line {line}: unsupported\n")
+        }
+        TieFault::OutOfMemory => String::from_str(alloc, "memory: refused\n"),
+    }
 }

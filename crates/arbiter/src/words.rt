@@ -2,35 +2,51 @@
 ghost use Rattle.std.specs.Prelude.{◌≡◌, IfOk, map, false, codes};
 ghost use Rattle.clap.specs.declared.Command.{out-Command as fields_of};
 ghost use Rattle.clap.specs.Words.{app_of, kind_of, new_app, subcommand_rows_of};
-ghost use Rattle.arbiter.specs.Words.{ComesTo, Tells, request_by};
+ghost use Rattle.dutch_order.specs.Cursors.{has_syntax};
+ghost use Rattle.arbiter.specs.Options.{rows_in};
+ghost use Rattle.arbiter.specs.Words.{ComesTo, Tells, asked_by, candidates_request, pair_request, request_by, request_of, standings_request, with_engine};
 ghost use Rattle.arbiter.specs.Words.{arbiter_app, check_app, format_app, settled, versioned};
 
+use crate::commands::{candidates_command, pair_command, standings_command};
+use crate::options::{
+    CandidatesOptions, CursorSyntax, PairOptions, StandingsOptions, WordFault, candidates_options,
+    pair_options, standings_options,
+};
 use clap::error::ErrorKind;
 use clap::{ArgMatches, Command, Error};
+use dutch_order::cursor::Cursor;
 use std::alloc::{AllocError, Global};
 
 /// A command of the program, with its options.
-#[derive(Debug, Clone, Copy, PartialEq, Eq)]
-pub enum Request {
+#[derive(Debug, Drop)]
+pub enum Request<'a> {
     /// Tells whether a report is accepted.
     Check,
     /// Writes a report in canonical columns.
     Format,
+    /// Pairs the next round.
+    Pair(PairOptions),
+    /// Lists candidates of a bracket.
+    Candidates(CandidatesOptions<'a>),
+    /// Ranks the players.
+    Standings(StandingsOptions),
 }
 
 /// What the words of a command line come to.
 #[derive(Debug, Drop)]
-pub enum Asked {
+pub enum Asked<'a> {
     /// They ask for a command.
-    Command(Request),
+    Command(Request<'a>),
     /// They ask for help or the version, which is this text.
     Help(String),
-    /// They are refused, for the reason that the text gives.
+    /// They are refused by clap, for the reason that the text gives.
     Mistake(String),
+    /// They are refused for what an option says.
+    Refused(WordFault),
 }
 
 /// Reads the words after the program's name.
-pub fn read_words<'a>(alloc: Global, words: &'a [&'a str]) -> Result<Asked, AllocError>
+pub fn read_words<'a>(alloc: Global, words: &'a [&'a str]) -> Result<Asked<'a>, AllocError>
     ensures { IfOk result (ComesTo (map (λ word. word.now) words.now)) }
 {
     match arbiter_command(alloc)?.try_get_matches_from(words) {
@@ -38,25 +54,80 @@ pub fn read_words<'a>(alloc: Global, words: &'a [&'a str]) -> Result<Asked, Allo
             let Some(request) = request_in(&matches) else {
                 unreachable!();
             };
-            Ok(Asked::Command(request))
+            Ok(asked_by(request))
         }
         Err(error) => told(alloc, &error),
     }
 }
 
-// The request that clap's matches make.
-fn request_in(matches: &ArgMatches<'_>) -> Option<Request>
+// The request that clap's matches make, or what is wrong with its options.
+fn request_in<'a>(matches: &ArgMatches<'a>) -> Option<Result<Request<'a>, WordFault>>
     ensures { result ≡ request_by (subcommand_rows_of matches.now) }
 {
-    match matches.subcommand_name() {
-        Some("check") => Some(Request::Check),
-        Some("format") => Some(Request::Format),
+    match matches.subcommand() {
+        Some((name, options)) => request_of(name, options),
+        None => None,
+    }
+}
+
+// The request that a command and its options make, or what is wrong with them; none where there is no such command.
+fn request_of<'a>(name: &str, options: &ArgMatches<'a>) -> Option<Result<Request<'a>, WordFault>>
+    ensures { result ≡ request_of name.now (rows_in options.now) }
+{
+    match name {
+        "check" => Some(Ok(Request::Check)),
+        "format" => Some(Ok(Request::Format)),
+        "pair" => Some(pair_request(options)),
+        "candidates" => Some(candidates_request(options)),
+        "standings" => Some(standings_request(options)),
         _ => None,
     }
 }
 
+// The request of `pair`.
+#[tactic(auto, unfolding(crate::specs::Words::pair_request))]
+fn pair_request<'a>(options: &ArgMatches<'a>) -> Result<Request<'a>, WordFault>
+    ensures { result ≡ pair_request (rows_in options.now) }
+{
+    Ok(Request::Pair(pair_options(options)?))
+}
+
+// The request of `candidates`.
+#[tactic(auto, unfolding(crate::specs::Words::candidates_request))]
+fn candidates_request<'a>(options: &ArgMatches<'a>) -> Result<Request<'a>, WordFault>
+    ensures { result ≡ candidates_request (rows_in options.now) }
+{
+    Ok(Request::Candidates(candidates_options::<Cursor>(options)?))
+}
+
+// The request of `standings`.
+#[tactic(auto, unfolding(crate::specs::Words::standings_request))]
+fn standings_request<'a>(options: &ArgMatches<'a>) -> Result<Request<'a>, WordFault>
+    ensures { result ≡ standings_request (rows_in options.now) }
+{
+    Ok(Request::Standings(standings_options(options)?))
+}
+
+impl CursorSyntax for Cursor {
+    ghost is_cursor = { has_syntax };
+
+    fn is_cursor(text: &str) -> bool {
+        Cursor::syntax(text)
+    }
+}
+
+// What a request comes to, or what is wrong with its options.
+fn asked_by<'a>(request: Result<Request<'a>, WordFault>) -> Asked<'a>
+    ensures { result ≡ asked_by request.entry }
+{
+    match request {
+        Ok(request) => Asked::Command(request),
+        Err(fault) => Asked::Refused(fault),
+    }
+}
+
 // What an error of clap's comes to.
-fn told(alloc: Global, error: &Error) -> Result<Asked, AllocError>
+fn told<'a>(alloc: Global, error: &Error) -> Result<Asked<'a>, AllocError>
     ensures { IfOk result (Tells (kind_of error.now)) }
 {
     match error.kind() {
@@ -73,9 +144,22 @@ fn arbiter_command<'a>(alloc: Global) -> Result<Command<'a>, AllocError>
     ensures app { IfOk result (λ command. app_of command ≡ arbiter_app) }
     ensures local { IfOk result (λ command. (fields_of command).has_globals ≡ false) }
 {
-    with_settings(named(alloc)?)
+    let command = with_settings(named(alloc)?)
         .subcommand(check_command(alloc))?
-        .subcommand(format_command(alloc))
+        .subcommand(format_command(alloc))?;
+    with_engine(alloc, command)
+}
+
+// A program with the commands that ask the engine.
+fn with_engine<'a>(alloc: Global, command: Command<'a>) -> Result<Command<'a>, AllocError>
+    requires { (fields_of command).has_globals ≡ false }
+    ensures app { IfOk result (λ more. app_of more ≡ with_engine (app_of command.entry)) }
+    ensures local { IfOk result (λ more. (fields_of more).has_globals ≡ false) }
+{
+    command
+        .subcommand(pair_command(alloc)?)?
+        .subcommand(candidates_command(alloc)?)?
+        .subcommand(standings_command(alloc)?)
 }
 
 // The name and the texts of the program.

@@ -241,7 +241,7 @@ fn help_and_version_are_printed(rt: HostRuntime) {
 fn other_words_are_refused(rt: HostRuntime) {
     let table = [
         ([].as_slice(), "Usage: arbiter <COMMAND>"),
-        (["pair"].as_slice(), "unrecognized subcommand 'pair'"),
+        (["pairs"].as_slice(), "unrecognized subcommand 'pairs'"),
         (["help"].as_slice(), "unrecognized subcommand 'help'"),
         (["check", "x"].as_slice(), "unexpected argument 'x'"),
         (
@@ -253,6 +253,25 @@ fn other_words_are_refused(rt: HostRuntime) {
         let ended = run_on(rt.alloc(), words, Breaking(Dripping(b"")), 0, 1000);
         assert!(rt; ended.status == Status::BadWords);
         assert!(rt; contains(ended.err.as_slice(), part.as_bytes()));
+    }
+}
+
+#[test]
+fn options_are_refused_before_reading(rt: HostRuntime) {
+    let table = [
+        (
+            ["candidates", "--bracket", "1", "--initial", "red"].as_slice(),
+            "words: bad colour\n",
+        ),
+        (
+            ["standings", "--by", "sb,sb"].as_slice(),
+            "words: bad keys\n",
+        ),
+    ];
+    for (words, text) in table {
+        let ended = run_on(rt.alloc(), words, Breaking(Dripping(b"")), 0, 1000);
+        assert!(rt; ended.status == Status::BadWords);
+        assert_eq!(rt; ended.err.as_slice(), text.as_bytes());
     }
 }
 

@@ -1,0 +1,93 @@
+-- What `candidates` answers: a bracket, its shape, and the candidates of that shape in article D's order, from a cursor on or all.
+use Rattle.std.specs.Prelude.{◌≡◌, ℕ, zero, suc, ◌<◌, ◌≤◌, List, ◌++◌, length, take, Option, Some, None, Result, Ok, Err, codes}
+use Rattle.std.specs.List.{flat_map}
+use Rattle.dutch_order.specs.Arrangements.{Arrangement, candidates, rest}
+use Rattle.dutch_order.specs.Cursors.{cursor_of}
+use Rattle.dutch_order.specs.declared.bracket.Shape.{Shape}
+use Rattle.dutch_order.specs.declared.cursor.CursorFault.{CursorFault}
+use Rattle.dutch_pair.specs.Outcomes.{IsBracketAt}
+use Rattle.dutch_pair.specs.Reached.{Stand, frame_of, numbers_meet, number_may_be_left}
+use Rattle.dutch_pair.specs.declared.round.BracketAt.{BracketAt}
+use Rattle.dutch_pair.specs.declared.round.BracketAt.TheVariants.{Bracket, NotReached, NoPairing as NoPairingAt, Undecided as UndecidedAt}
+use Rattle.dutch_player.specs.Facts.{Facts, facts_of}
+use Rattle.dutch_player.specs.declared.fault.FieldFault.{FieldFault}
+use Rattle.trf16.specs.Sheet.{Sheet}
+use Rattle.trf16.specs.declared.fault.Fault.{Fault}
+use Rattle.arbiter.specs.Statuses.{Answer, field_refusal, no_pairing, not_of_bracket, not_reached, refusal, undecided}
+use Rattle.arbiter.specs.CandidateTexts.{bracket_text, line_text}
+use Rattle.arbiter.specs.Texts.{undecided_text}
+use Rattle.arbiter.specs.declared.listing.Ending.{Ending}
+use Rattle.arbiter.specs.declared.listing.Ending.TheVariants.{AtEnd, AtCount, Stopped}
+use Rattle.arbiter.specs.declared.options.CandidatesOptions.{CandidatesOptions}
+use Rattle.arbiter.specs.declared.reply.Status.{Status}
+use Rattle.arbiter.specs.declared.reply.Status.TheVariants.{Done, Undecided}
+
+-- the lines of the first `count` of some candidates, by how the listing ends: all came and they are fewer; as many came; or it was
+-- stopped before, behind any of them
+abbrev pub IsListing : (Arrangement → List ℕ) → List Arrangement → ℕ → Ending → List ℕ → Type 0
+IsListing line coming count AtEnd text = (length coming < count) × (text ≡ flat_map line coming)
+IsListing line coming count AtCount text = (count ≤ length coming) × (text ≡ flat_map line (take count coming))
+IsListing line coming count Stopped text = (k : ℕ) × (k < count) × (k ≤ length coming) × (text ≡ flat_map line (take k coming))
+
+-- the status of a listing
+abbrev pub status_of : Ending → Status
+status_of AtEnd = Done
+status_of AtCount = Done
+status_of Stopped = Undecided
+
+-- the last line of a listing
+abbrev pub ending_text : ℕ → ℕ → Ending → List ℕ
+ending_text number steps AtEnd = codes "end\n"
+ending_text number steps AtCount = codes "more\n"
+ending_text number steps Stopped = undecided_text number steps
+
+-- the candidates behind a cursor
+abbrev pub behind_cursor : Facts → Stand → Shape → Result Arrangement CursorFault → Result (List Arrangement) CursorFault
+behind_cursor facts stand shape (Ok lists) = Ok (rest (numbers_meet facts stand) (number_may_be_left facts stand) (frame_of facts stand) shape lists)
+behind_cursor facts stand shape (Err fault) = Err fault
+
+-- the candidates that a listing has to give: all of the bracket and shape, or those behind the cursor that a text is
+abbrev pub coming_of : Facts → Stand → Shape → Option (List ℕ) → Result (List Arrangement) CursorFault
+coming_of facts stand shape None = Ok (candidates (numbers_meet facts stand) (number_may_be_left facts stand) (frame_of facts stand) shape)
+coming_of facts stand shape (Some text) = behind_cursor facts stand shape (cursor_of (frame_of facts stand) shape text)
+
+-- a bracket of this number and its candidates to come are listed
+pub record IsListed (options : CandidatesOptions) (facts : Facts) (stand : Stand) (shape : Shape) (coming : List Arrangement) (answer : Answer) : Type 0 where
+  pub ending : Ending
+  pub lines : List ℕ
+  pub listing : IsListing (line_text facts stand) coming options.count ending lines
+  pub status : answer.status ≡ status_of ending
+  pub text : answer.text ≡ bracket_text options.bracket stand.kind shape ++ (lines ++ ending_text options.bracket options.steps ending)
+
+-- the same, where the cursor is one of the bracket; else that is told
+abbrev pub Lists : CandidatesOptions → Facts → Stand → Shape → Result (List Arrangement) CursorFault → Answer → Type 0
+Lists options facts stand shape (Ok coming) answer = IsListed options facts stand shape coming answer
+Lists options facts stand shape (Err fault) answer = answer ≡ not_of_bracket options.bracket
+
+-- a bracket is found under a number, or why there is none; no bracket has the number 0
+abbrev pub IsFound : Facts → ℕ → ℕ → BracketAt → Type 0
+IsFound facts steps zero found = found ≡ NotReached
+IsFound facts steps (suc number) found = IsBracketAt facts steps (suc number) found
+
+-- what is answered to the bracket that is found
+abbrev pub Tells : CandidatesOptions → Facts → BracketAt → Answer → Type 0
+Tells options facts (Bracket stand shape) answer = Lists options facts stand shape (coming_of facts stand shape options.from) answer
+Tells options facts NotReached answer = answer ≡ not_reached options.bracket
+Tells options facts NoPairingAt answer = answer ≡ no_pairing
+Tells options facts (UndecidedAt number used) answer = answer ≡ undecided number used
+
+-- the bracket that is asked for is found, or not, and that is answered
+pub record IsTold (options : CandidatesOptions) (facts : Facts) (answer : Answer) : Type 0 where
+  pub found : BracketAt
+  pub is : IsFound facts options.steps options.bracket found
+  pub tells : Tells options facts found answer
+
+-- what is answered to a field, or why the round cannot be paired
+abbrev pub InField : CandidatesOptions → Result Facts FieldFault → Answer → Type 0
+InField options (Ok facts) answer = IsTold options facts answer
+InField options (Err fault) answer = answer ≡ field_refusal fault
+
+-- `candidates`: what is answered to a report, or why it is refused
+abbrev pub AnswersCandidates : CandidatesOptions → Result Sheet Fault → Answer → Type 0
+AnswersCandidates options (Ok sheet) answer = InField options (facts_of sheet options.rounds options.initial) answer
+AnswersCandidates options (Err fault) answer = answer ≡ refusal fault

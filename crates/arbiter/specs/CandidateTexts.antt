@@ -1,0 +1,54 @@
+-- The texts of a bracket and its candidates, by start ranks.
+use Rattle.std.specs.Prelude.{ℕ, if◌then◌else◌, List, [], ◌∷◌, ◌++◌, codes}
+use Rattle.std.specs.List.{flat_map}
+use Rattle.std.specs.Fmt.{decimal}
+use Rattle.dutch_order.specs.Arrangements.{Arrangement, down}
+use Rattle.dutch_order.specs.Cursors.{cursor_text}
+use Rattle.dutch_order.specs.Draws.{Draw}
+use Rattle.dutch_order.specs.declared.bracket.Shape.{Shape}
+use Rattle.dutch_player.specs.Facts.{Facts, seat_at}
+use Rattle.dutch_pair.specs.Reached.{Stand, frame_of, is_number}
+use Rattle.dutch_pair.specs.Seated.{seat_of}
+use Rattle.dutch_pair.specs.declared.reached.Kind.{Kind}
+use Rattle.dutch_pair.specs.declared.reached.Kind.TheVariants.{Ordinary, Last, Penultimate, Collapsed}
+
+-- what a bracket is for the round
+abbrev pub kind_text : Kind → List ℕ
+kind_text Ordinary = codes "ordinary"
+kind_text Last = codes "last"
+kind_text Penultimate = codes "penultimate"
+kind_text Collapsed = codes "collapsed"
+
+-- the bracket of a number: its kind, how many pairs it makes, and how many moved-down players are in them
+abbrev pub bracket_text : ℕ → Kind → Shape → List ℕ
+bracket_text number kind shape =
+    codes "bracket " ++ (decimal number ++ (codes " " ++ (kind_text kind ++ (codes " pairs " ++ (decimal shape.pairs ++ (codes " mdps " ++ (decimal shape.mdps ++ codes "\n")))))))
+
+module _ (facts : Facts) (stand : Stand) where
+  -- the start rank of a number of a bracket; 0 for a number that is none of its
+  abbrev pub start_of : ℕ → ℕ
+  start_of number = if is_number stand number then (seat_at facts (seat_of stand.seats number)).start else 0
+
+  -- two who are paired
+  abbrev pub pair_text : ℕ → ℕ → List ℕ
+  pair_text first second = codes " " ++ (decimal (start_of first) ++ (codes "-" ++ decimal (start_of second)))
+
+  -- the pairs of two lists, place by place
+  abbrev pub pairs_text : List ℕ → List ℕ → List ℕ
+  pairs_text [] seconds = []
+  pairs_text (first ∷ firsts) [] = []
+  pairs_text (first ∷ firsts) (second ∷ seconds) = pair_text first second ++ pairs_text firsts seconds
+
+  -- those who are left over
+  abbrev pub down_text : List ℕ → List ℕ
+  down_text [] = []
+  down_text (number ∷ numbers) = codes " down" ++ flat_map (λ n. codes " " ++ decimal (start_of n)) (number ∷ numbers)
+
+  -- a candidate with those whom it leaves over
+  abbrev pub draw_text : Draw → List ℕ
+  draw_text draw =
+      cursor_text draw.lists ++ (pairs_text draw.lists.s1 draw.lists.s2 ++ (pairs_text draw.lists.s1r draw.lists.s2r ++ (down_text draw.down ++ codes "\n")))
+
+  -- a candidate: its cursor, its pairs, and its downfloaters by rank
+  abbrev pub line_text : Arrangement → List ℕ
+  line_text lists = draw_text (record { lists = lists; down = down (frame_of facts stand) lists })

@@ -1,0 +1,66 @@
+-- The commands with options, and their options, as clap's rules see them.
+use Rattle.std.specs.Prelude.{pos, true, Some, codes}
+use Rattle.clap.specs.Words.{App, Rule, Text, new_app, new_rule, with_rule}
+use Rattle.clap.specs.declared.builder.action.ArgAction.TheVariants.{SetTrue}
+use Rattle.clap.specs.declared.builder.value_parser.ValueParser.{ValueParser}
+use Rattle.clap.specs.declared.builder.value_parser.ValueParser.TheVariants.{Signed, Unsigned}
+
+-- ---- options
+
+-- an option with one value, of which help says the name
+abbrev pub option_rule : Text → Rule
+option_rule name = record (new_rule name) { long = Some name; value_names = 1 }
+
+-- an option whose value is a number that a parser reads
+abbrev pub number_rule : Text → ValueParser → Rule
+number_rule name parser = record (option_rule name) { parser = Some parser }
+
+-- `--bracket K`: 1 to 1000, which must be given
+abbrev pub bracket_rule : Rule
+bracket_rule = record (number_rule (codes "bracket") (Signed (pos 1) (pos 1000))) { required = true }
+
+-- `--from CURSOR`
+abbrev pub from_rule : Rule
+from_rule = option_rule (codes "from")
+
+-- `--count N`: 1 to 10000
+abbrev pub count_rule : Rule
+count_rule = number_rule (codes "count") (Unsigned 1 10000)
+
+-- `--rounds N`: 1 to 32
+abbrev pub rounds_rule : Rule
+rounds_rule = number_rule (codes "rounds") (Signed (pos 1) (pos 32))
+
+-- `--initial COLOUR`
+abbrev pub initial_rule : Rule
+initial_rule = option_rule (codes "initial")
+
+-- `--steps N`: 0 to 1000000000
+abbrev pub steps_rule : Rule
+steps_rule = number_rule (codes "steps") (Unsigned 0 1000000000)
+
+-- `--report`
+abbrev pub report_rule : Rule
+report_rule = record (new_rule (codes "report")) { long = Some (codes "report"); action = Some SetTrue }
+
+-- `--by LIST`
+abbrev pub by_rule : Rule
+by_rule = option_rule (codes "by")
+
+-- ---- commands
+
+-- a command with the options of a round: `--rounds`, `--initial` and `--steps`
+abbrev pub with_round_rules : App → App
+with_round_rules app = with_rule (with_rule (with_rule app rounds_rule) initial_rule) steps_rule
+
+-- `pair`
+abbrev pub pair_app : App
+pair_app = with_rule (with_round_rules (new_app (codes "pair"))) report_rule
+
+-- `candidates`
+abbrev pub candidates_app : App
+candidates_app = with_round_rules (with_rule (with_rule (with_rule (new_app (codes "candidates")) bracket_rule) from_rule) count_rule)
+
+-- `standings`
+abbrev pub standings_app : App
+standings_app = with_rule (new_app (codes "standings")) by_rule

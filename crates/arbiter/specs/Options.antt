@@ -1,0 +1,107 @@
+-- What the options of a command say, by the rows that clap makes of its words.
+use Rattle.std.specs.Prelude.{ℕ, Bool, false, if◌then◌else◌, List, Option, Some, None, Result, Ok, Err, option_and_then, unwrap_or, codes}
+use Rattle.std.specs.Option.{option_map_or}
+use Rattle.std.specs.Str.{bytes_eq}
+use Rattle.std.specs.Str.Parse.{digits_value, without_leading_plus}
+use Rattle.clap.specs.ValueTests.{is_unsigned_in}
+use Rattle.clap.specs.Words.{Row, Text, first_of, found_of, one_of, rows_of}
+use Rattle.clap.specs.declared.parser.matches.ArgMatches.{ArgMatches}
+use Rattle.trf16.specs.declared.cell.Colour.{Colour}
+use Rattle.trf16.specs.declared.cell.Colour.TheVariants.{White, Black}
+use Rattle.arbiter.specs.Keys.{keys_in, usual_keys}
+use Rattle.tiebreak.specs.declared.key.Key.{Key}
+use Rattle.arbiter.specs.declared.options.WordFault.{WordFault}
+use Rattle.arbiter.specs.declared.options.WordFault.TheVariants.{BadColour, BadKeys, BadCursor}
+use Rattle.arbiter.specs.declared.options.CandidatesOptions.{CandidatesOptions}
+use Rattle.arbiter.specs.declared.options.PairOptions.{PairOptions}
+use Rattle.arbiter.specs.declared.options.StandingsOptions.{StandingsOptions}
+
+-- what follows where there is no fault
+infixl 10 ◌>>=◌
+abbrev pub ◌>>=◌ : {A B : Type 0} → Result A WordFault → (A → Result B WordFault) → Result B WordFault
+(Ok x) >>= f = f x
+(Err fault) >>= f = Err fault
+
+-- the rows of the options that clap found
+abbrev pub rows_in : ArgMatches → List Row
+rows_in matches = rows_of (found_of matches)
+
+-- ---- one option
+
+-- the number from 0 to `most` that a text writes in decimal
+abbrev pub number_of : ℕ → Text → Option ℕ
+number_of most text = if is_unsigned_in 0 most text then Some (digits_value 10 (without_leading_plus text)) else None
+
+-- the number of an option
+abbrev pub number_in : ℕ → Text → List Row → Option ℕ
+number_in most id rows = option_and_then (number_of most) (one_of id rows)
+
+-- whether a flag is set
+abbrev pub flag_in : Text → List Row → Bool
+flag_in id rows = option_map_or (λ text. bytes_eq text (codes "true")) (first_of id rows) false
+
+-- what a reader makes of an option that may be left out; a text that it does not read is a fault
+abbrev pub read_by : {T : Type 0} → (Text → Option T) → WordFault → Option Text → Result (Option T) WordFault
+read_by read fault None = Ok None
+read_by read fault (Some text) = option_map_or (λ value. Ok (Some value)) (read text) (Err fault)
+
+-- the colour that a text names, in lower case
+abbrev pub colour_named : Text → Option Colour
+colour_named text = if bytes_eq text (codes "white") then Some White else (if bytes_eq text (codes "black") then Some Black else None)
+
+-- `--initial`: the colour of the first player in the first round
+abbrev pub initial_in : List Row → Result (Option Colour) WordFault
+initial_in rows = read_by colour_named BadColour (first_of (codes "initial") rows)
+
+-- `--rounds`: the number of rounds of the tournament
+abbrev pub rounds_in : List Row → Option ℕ
+rounds_in rows = number_in 255 (codes "rounds") rows
+
+-- `--steps`: how many steps a bracket may take, 10000000 where it is left out
+abbrev pub steps_in : List Row → ℕ
+steps_in rows = unwrap_or (number_in 18446744073709551615 (codes "steps") rows) 10000000
+
+-- `--count`: how many candidates are wanted, 100 where it is left out
+abbrev pub count_in : List Row → ℕ
+count_in rows = unwrap_or (number_in 18446744073709551615 (codes "count") rows) 100
+
+-- `--bracket`: the number of the bracket (clap lets no words pass that leave it out)
+abbrev pub bracket_in : List Row → ℕ
+bracket_in rows = unwrap_or (number_in 65535 (codes "bracket") rows) 1
+
+-- `--from`: the cursor behind which the candidates begin, where a test says which texts are cursors
+abbrev pub from_in : (Text → Bool) → List Row → Result (Option Text) WordFault
+from_in is_cursor rows = read_by (λ text. if is_cursor text then Some text else None) BadCursor (first_of (codes "from") rows)
+
+-- `--by`: the keys of the standings
+abbrev pub keys_by : Option Text → Result (List Key) WordFault
+keys_by None = Ok usual_keys
+keys_by (Some text) = option_map_or (λ keys. Ok keys) (keys_in text) (Err BadKeys)
+
+-- ---- the options of a command
+
+-- `pair`
+unfoldable pub pair_options : List Row → Result PairOptions WordFault
+pair_options rows = do
+  initial ← initial_in rows
+  Ok (record { rounds = rounds_in rows; initial = initial; steps = steps_in rows; report = flag_in (codes "report") rows })
+
+-- `standings`
+unfoldable pub standings_options : List Row → Result StandingsOptions WordFault
+standings_options rows = do
+  keys ← keys_by (first_of (codes "by") rows)
+  Ok (record { keys = keys })
+
+-- `candidates`, where a test says which texts are cursors
+unfoldable pub candidates_options : (Text → Bool) → List Row → Result CandidatesOptions WordFault
+candidates_options is_cursor rows = do
+  initial ← initial_in rows
+  cursor ← from_in is_cursor rows
+  Ok (record {
+    bracket = bracket_in rows;
+    from = cursor;
+    count = count_in rows;
+    rounds = rounds_in rows;
+    initial = initial;
+    steps = steps_in rows;
+  })

@@ -1,0 +1,98 @@
+// The options of the commands, as clap is told of them.
+ghost use Rattle.std.specs.Prelude.{◌≡◌, false};
+ghost use Rattle.clap.specs.Words.{rule_of};
+ghost use Rattle.arbiter.specs.CommandLine.{bracket_rule, by_rule, count_rule, from_rule, initial_rule, option_rule};
+ghost use Rattle.arbiter.specs.CommandLine.{report_rule, rounds_rule, steps_rule};
+
+use clap::{Arg, ArgAction, value_parser};
+use std::alloc::Global;
+
+/// `--bracket K`.
+pub fn bracket<'a>(alloc: Global) -> Arg<'a>
+    ensures rule { rule_of result ≡ bracket_rule }
+    ensures local { result.global ≡ false }
+{
+    option(alloc, "bracket", "K")
+        .value_parser(value_parser!(u16).range(1..=1000))
+        .required(true)
+        .help("The number of the bracket, 1 to 1000; 1 is the first that is paired [required]")
+}
+
+/// `--from CURSOR`.
+pub fn from<'a>(alloc: Global) -> Arg<'a>
+    ensures rule { rule_of result ≡ from_rule }
+    ensures local { result.global ≡ false }
+{
+    option(alloc, "from", "CURSOR").help(
+        "Begins behind the candidate with this cursor, as an earlier run printed it [default: the first]",
+    )
+}
+
+/// `--count N`.
+pub fn count<'a>(alloc: Global) -> Arg<'a>
+    ensures rule { rule_of result ≡ count_rule }
+    ensures local { result.global ≡ false }
+{
+    option(alloc, "count", "N")
+        .value_parser(value_parser!(usize).range(1..=10_000))
+        .help("How many candidates to print at most, 1 to 10000 [default: 100]")
+}
+
+/// `--rounds N`.
+pub fn rounds<'a>(alloc: Global) -> Arg<'a>
+    ensures rule { rule_of result ≡ rounds_rule }
+    ensures local { result.global ≡ false }
+{
+    option(alloc, "rounds", "N")
+        .value_parser(value_parser!(u8).range(1..=32))
+        .help("Rounds of the whole tournament, 1 to 32 [default: those of the report's XXR line]")
+}
+
+/// `--initial COLOUR`.
+pub fn initial<'a>(alloc: Global) -> Arg<'a>
+    ensures rule { rule_of result ≡ initial_rule }
+    ensures local { result.global ≡ false }
+{
+    option(alloc, "initial", "COLOUR").help(
+        "The initial colour, white or black [default: that of the report's XXC line]",
+    )
+}
+
+/// `--steps N`.
+pub fn steps<'a>(alloc: Global) -> Arg<'a>
+    ensures rule { rule_of result ≡ steps_rule }
+    ensures local { result.global ≡ false }
+{
+    option(alloc, "steps", "N")
+        .value_parser(value_parser!(u64).range(0..=1_000_000_000))
+        .help("Steps that the search in a bracket may take, 0 to 1000000000 [default: 10000000]")
+}
+
+/// `--report`.
+pub fn report<'a>(alloc: Global) -> Arg<'a>
+    ensures rule { rule_of result ≡ report_rule }
+    ensures local { result.global ≡ false }
+{
+    Arg::new(alloc, "report")
+        .long("report")
+        .action(ArgAction::SetTrue)
+        .help("Prints the report with the new round in place of the boards")
+}
+
+/// `--by LIST`.
+pub fn by<'a>(alloc: Global) -> Arg<'a>
+    ensures rule { rule_of result ≡ by_rule }
+    ensures local { result.global ≡ false }
+{
+    option(alloc, "by", "LIST").help(
+        "What tells players of one score apart: one to three of direct, buchholz and sb, joined by commas, none twice [default: direct,buchholz,sb]",
+    )
+}
+
+// An option that takes one value.
+fn option<'a>(alloc: Global, name: &'a str, value: &'a str) -> Arg<'a>
+    ensures rule { rule_of result ≡ option_rule name.entry.now }
+    ensures local { result.global ≡ false }
+{
+    Arg::new(alloc, name).long(name).value_name(value)
+}

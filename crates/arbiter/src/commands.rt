@@ -1,0 +1,71 @@
+// The commands with options, as clap is told of them.
+ghost use Rattle.std.specs.Prelude.{◌≡◌, IfOk, codes, false};
+ghost use Rattle.clap.specs.declared.Command.{out-Command as fields_of};
+ghost use Rattle.clap.specs.Words.{app_of, new_app, with_rule};
+ghost use Rattle.arbiter.specs.CommandLine.{candidates_app, pair_app, standings_app, with_round_rules};
+ghost use Rattle.arbiter.specs.CommandLine.{bracket_rule, count_rule, from_rule};
+
+use crate::arguments;
+use clap::Command;
+use std::alloc::{AllocError, Global};
+
+/// The command `pair`.
+pub fn pair_command<'a>(alloc: Global) -> Result<Command<'a>, AllocError>
+    ensures app { IfOk result (λ command. app_of command ≡ pair_app) }
+    ensures local { IfOk result (λ command. (fields_of command).has_globals ≡ false) }
+{
+    let command = Command::new(alloc, "pair")
+        .about("Pairs the next round, or tells that there is no pairing")
+        .after_help(
+            "The report is read from standard input. Printed are the number of lines that follow, and then a line 'white black' for each board, in start ranks; 'player 0' is the bye.\n\nExample: arbiter pair --rounds 7 --initial white < report.trf",
+        );
+    with_round(alloc, command)?.arg(arguments::report(alloc))
+}
+
+/// The command `candidates`.
+pub fn candidates_command<'a>(alloc: Global) -> Result<Command<'a>, AllocError>
+    ensures app { IfOk result (λ command. app_of command ≡ candidates_app) }
+    ensures local { IfOk result (λ command. (fields_of command).has_globals ≡ false) }
+{
+    let command = Command::new(alloc, "candidates")
+        .about("Lists the legal candidates of a bracket in the order of article D")
+        .after_help(
+            "The report is read from standard input. Printed are the bracket's kind and shape, and then a line for each candidate: its cursor, its pairs in start ranks, and who moves down; the last line says 'end', or 'more' where the count was reached first.\n\nExample: arbiter candidates --bracket 1 --count 20 < report.trf",
+        );
+    with_round(alloc, with_bracket(alloc, command)?)
+}
+
+/// The command `standings`.
+pub fn standings_command<'a>(alloc: Global) -> Result<Command<'a>, AllocError>
+    ensures app { IfOk result (λ command. app_of command ≡ standings_app) }
+    ensures local { IfOk result (λ command. (fields_of command).has_globals ≡ false) }
+{
+    Command::new(alloc, "standings")
+        .about("Ranks the players by score and by the keys that break ties")
+        .after_help(
+            "The report is read from standard input. Printed is a line for each player: place, start rank, score, and the keys.\n\nExample: arbiter standings --by buchholz,sb < report.trf",
+        )
+        .arg(arguments::by(alloc))
+}
+
+// A command with the options that say which candidates of which bracket are wanted.
+fn with_bracket<'a>(alloc: Global, command: Command<'a>) -> Result<Command<'a>, AllocError>
+    ensures app { IfOk result (λ more. app_of more ≡ with_rule (with_rule (with_rule (app_of command.entry) bracket_rule) from_rule) count_rule) }
+    ensures local { IfOk result (λ more. (fields_of more).has_globals ≡ (fields_of command.entry).has_globals) }
+{
+    command
+        .arg(arguments::bracket(alloc))?
+        .arg(arguments::from(alloc))?
+        .arg(arguments::count(alloc))
+}
+
+// A command with the options of a round.
+fn with_round<'a>(alloc: Global, command: Command<'a>) -> Result<Command<'a>, AllocError>
+    ensures app { IfOk result (λ more. app_of more ≡ with_round_rules (app_of command.entry)) }
+    ensures local { IfOk result (λ more. (fields_of more).has_globals ≡ (fields_of command.entry).has_globals) }
+{
+    command
+        .arg(arguments::rounds(alloc))?
+        .arg(arguments::initial(alloc))?
+        .arg(arguments::steps(alloc))
+}

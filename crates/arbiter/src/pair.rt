@@ -1,0 +1,130 @@
+// The command `pair`: the boards of the next round, or the report with that round.
+ghost use Rattle.std.specs.Prelude.{◌≡◌, ◌++◌, IfOk, Ok, OnOk, codes, length, string_bytes};
+ghost use Rattle.std.specs.List.{flat_map};
+ghost use Rattle.std.specs.Fmt.{decimal};
+ghost use Rattle.trf16.specs.Verdict.{verdict};
+ghost use Rattle.trf16.specs.Round.{CanBePaired, with_round};
+ghost use Rattle.trf16.specs.Written.{written};
+ghost use Rattle.arbiter.specs.PairAnswers.{AnswersPair, PairsField, TellsBoards, TellsOutcome, TellsReport, board_text, boards_text};
+ghost use Rattle.arbiter.specs.Replies.{answer_of};
+ghost use Rattle.arbiter.specs.Statuses.{cannot_be_written};
+
+use crate::format::rewritten;
+use crate::options::PairOptions;
+use crate::refusal::{cannot_be_paired, no_pairing, refused, undecided};
+use crate::reply::{Reply, Status, Text};
+use dutch_pair::boards::Pair;
+use dutch_pair::fault::PairFault;
+use dutch_pair::round::{Outcome, pair_round};
+use dutch_player::fault::FieldFault;
+use dutch_player::field::Field;
+use std::alloc::{AllocError, Global};
+use trf16::fault::Fault;
+use trf16::report::Report;
+
+/// What `pair` says of the bytes of a report.
+pub fn pair(alloc: Global, options: PairOptions, bytes: &[u8]) -> Result<Reply, AllocError>
+    ensures { IfOk result (λ reply. AnswersPair options (verdict bytes.now) (answer_of reply)) }
+{
+    match trf16::read(alloc, bytes) {
+        Ok(report) => of_report(alloc, options, &report),
+        Err(Fault::OutOfMemory) => Err(AllocError),
+        Err(fault) => refused(alloc, fault),
+    }
+}
+
+// The same of an accepted report.
+fn of_report(alloc: Global, options: PairOptions, report: &Report<'_>) -> Result<Reply, AllocError>
+    ensures { IfOk result (λ reply. AnswersPair options (Ok report.now) (answer_of reply)) }
+{
+    match Field::new(alloc, report, options.rounds, options.initial) {
+        Ok(field) => of_field(alloc, options, report, &field),
+        Err(FieldFault::OutOfMemory) => Err(AllocError),
+        Err(fault) => cannot_be_paired(alloc, fault),
+    }
+}
+
+// The same of those whom the next round is paired from.
+fn of_field(
+    alloc: Global,
+    options: PairOptions,
+    report: &Report<'_>,
+    field: &Field,
+) -> Result<Reply, AllocError>
+    ensures { IfOk result (λ reply. PairsField options report.now (Ok field.now) (answer_of reply)) }
+{
+    match pair_round(alloc, field, options.steps) {
+        Ok(outcome) => tell(alloc, options, report, &outcome),
+        Err(PairFault::OutOfMemory) => Err(AllocError),
+    }
+}
+
+// What is said of the outcome of pairing.
+fn tell(
+    alloc: Global,
+    options: PairOptions,
+    report: &Report<'_>,
+    outcome: &Outcome,
+) -> Result<Reply, AllocError>
+    ensures { IfOk result (λ reply. TellsOutcome options report.now outcome.now (answer_of reply)) }
+{
+    match outcome {
+        Outcome::Paired(boards) => tell_boards(alloc, options.report, report, boards.as_slice()),
+        Outcome::NoPairing => Ok(no_pairing()),
+        Outcome::Undecided { bracket, used } => undecided(alloc, *bracket, *used),
+    }
+}
+
+// The boards, or the report with them.
+fn tell_boards(
+    alloc: Global,
+    as_report: bool,
+    report: &Report<'_>,
+    boards: &[Pair],
+) -> Result<Reply, AllocError>
+    ensures { IfOk result (λ reply. TellsBoards as_report report.now boards.now (answer_of reply)) }
+{
+    if as_report {
+        return tell_report(alloc, report, boards);
+    }
+    let text = board_lines(alloc, boards)?;
+    Ok(Reply {
+        status: Status::Done,
+        text: Text::Made(text),
+    })
+}
+
+// The report whose next round the boards are, where they can be that round.
+fn tell_report(alloc: Global, report: &Report<'_>, boards: &[Pair]) -> Result<Reply, AllocError>
+    ensures { IfOk result (λ reply. TellsReport report.now boards.now (answer_of reply)) }
+{
+    if !report.can_be_paired(boards) {
+        return Ok(cannot_be_written());
+    }
+    let paired = report.with_round(alloc, boards)?;
+    rewritten(alloc, &paired)
+}
+
+// How many boards there are, and a line for each.
+fn board_lines(alloc: Global, boards: &[Pair]) -> Result<String, AllocError>
+    ensures { IfOk result (λ text. string_bytes text ≡ boards_text boards.now) }
+{
+    let count = boards.len();
+    let mut text = format!(in alloc; "{count}\n")?;
+    for board in boards {
+        let (white, black) = *board;
+        let line = format!(in alloc; "{white} {black}\n")?;
+        text.push_str(line.as_str())?;
+    }
+    Ok(text)
+}
+
+// The boards cannot be the next round of the report.
+fn cannot_be_written() -> Reply
+    ensures { answer_of result ≡ cannot_be_written }
+{
+    Reply {
+        status: Status::Trouble,
+        text: Text::Fixed("boards: not of this report\n"),
+    }
+}

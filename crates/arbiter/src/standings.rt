@@ -1,0 +1,140 @@
+// The command `standings`: the players by score and by the keys that break ties.
+ghost use Rattle.std.specs.Prelude.{◌≡◌, ◌≢◌, ◌++◌, ◌≤◌, ◌<◌, IfOk, Ok, OnOk, length, string_bytes};
+ghost use Rattle.trf16.specs.Verdict.{verdict};
+ghost use Rattle.arbiter.specs.Replies.{answer_of};
+ghost use Rattle.arbiter.specs.StandingsTexts.{halves_text, quarter_text, quarters_text, row_text, rows_text, standings_answer, table_answer, value_text, values_text};
+
+use crate::refusal::{has_no_standings, refused};
+use crate::reply::{Reply, Status, Text};
+use std::alloc::{AllocError, Global};
+use tiebreak::fault::TieFault;
+use tiebreak::key::Key;
+use tiebreak::row::Row;
+use trf16::fault::Fault;
+use trf16::report::Report;
+
+/// What `standings` says of the bytes of a report.
+pub fn standings(alloc: Global, keys: &[Key], bytes: &[u8]) -> Result<Reply, AllocError>
+    ensures { IfOk result (λ reply. answer_of reply ≡ standings_answer keys.now (verdict bytes.now)) }
+{
+    match trf16::read(alloc, bytes) {
+        Ok(report) => of_report(alloc, keys, &report),
+        Err(Fault::OutOfMemory) => Err(AllocError),
+        Err(fault) => refused(alloc, fault),
+    }
+}
+
+// The same of an accepted report.
+fn of_report(alloc: Global, keys: &[Key], report: &Report<'_>) -> Result<Reply, AllocError>
+    ensures { IfOk result (λ reply. answer_of reply ≡ standings_answer keys.now (Ok report.now)) }
+{
+    match tiebreak::table(alloc, report, keys) {
+        Ok(table) => of_rows(alloc, keys, table.rows()),
+        Err(TieFault::OutOfMemory) => Err(AllocError),
+        Err(fault) => has_no_standings(alloc, fault),
+    }
+}
+
+// The lines of all players.
+fn of_rows(alloc: Global, keys: &[Key], rows: &[Row]) -> Result<Reply, AllocError>
+    ensures { IfOk result (λ reply. answer_of reply ≡ table_answer keys.now (Ok rows.now)) }
+{
+    let mut text = String::new(alloc);
+    for (i, row) in rows.iter().enumerate() {
+        put_row(alloc, &mut text, keys, i + 1, row)?;
+    }
+    Ok(Reply {
+        status: Status::Done,
+        text: Text::Made(text),
+    })
+}
+
+// Puts the line of a player.
+fn put_row(
+    alloc: Global,
+    text: &mut String,
+    keys: &[Key],
+    place: usize,
+    row: &Row,
+) -> Result<(), AllocError>
+    ensures { OnOk result (string_bytes text.new ≡ string_bytes text.old ++ row_text keys.now place row.now) }
+{
+    let start = row.start();
+    let front = format!(in alloc; "{place} {start} ")?;
+    text.push_str(front.as_str())?;
+    let score = halves(alloc, u32::from(row.score()))?;
+    text.push_str(score.as_str())?;
+    put_values(alloc, text, keys, row.values())?;
+    text.push_str("\n")
+}
+
+// Puts the values of some keys, in their order.
+#[tactic(auto, using(crate::proofs::TableLemmas::values_end))]
+fn put_values(
+    alloc: Global,
+    text: &mut String,
+    keys: &[Key],
+    values: &[Option<u32>],
+) -> Result<(), AllocError>
+    ensures { OnOk result (string_bytes text.new ≡ string_bytes text.old ++ values_text keys.now values.now) }
+{
+    for (i, key) in keys.iter().enumerate() {
+        if values.len() <= i {
+            return Ok(());
+        }
+        text.push_str(" ")?;
+        let made = value_of(alloc, *key, values[i])?;
+        text.push_str(made.as_str())?;
+    }
+    Ok(())
+}
+
+// The value of a key; a line where it tells nothing.
+fn value_of(alloc: Global, key: Key, value: Option<u32>) -> Result<String, AllocError>
+    ensures { IfOk result (λ text. string_bytes text ≡ value_text key value) }
+{
+    let Some(value) = value else {
+        return String::from_str(alloc, "-");
+    };
+    match key {
+        Key::Direct | Key::Buchholz => halves(alloc, value),
+        Key::SonnebornBerger => quarters(alloc, value),
+    }
+}
+
+// Half points as points with one decimal.
+fn halves(alloc: Global, halves: u32) -> Result<String, AllocError>
+    ensures { IfOk result (λ text. string_bytes text ≡ halves_text halves) }
+{
+    let points = halves / 2;
+    if halves % 2 == 0 {
+        format!(in alloc; "{points}.0")
+    } else {
+        format!(in alloc; "{points}.5")
+    }
+}
+
+// Quarters of a point as points with two decimals.
+fn quarters(alloc: Global, quarters: u32) -> Result<String, AllocError>
+    ensures { IfOk result (λ text. string_bytes text ≡ quarters_text quarters) }
+{
+    let points = quarters / 4;
+    let decimals = quarter(quarters % 4);
+    format!(in alloc; "{points}{decimals}")
+}
+
+// The decimals of quarters of a point.
+fn quarter(quarter: u32) -> &'static str
+    ensures { result.now ≡ quarter_text quarter }
+{
+    if quarter == 0 {
+        return ".00";
+    }
+    if quarter == 1 {
+        return ".25";
+    }
+    if quarter == 2 {
+        return ".50";
+    }
+    ".75"
+}
