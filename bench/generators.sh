@@ -9,6 +9,6 @@ mkdir "$work/crates"
 cp -r "$here/../crates/dutch_order" "$work/crates/dutch_order"
 mkdir -p "$work/crates/generators/src"
 cp "$here/generators.rattle" "$work/crates/generators/src/main.rt"
-printf 'dutch_order: arrayvec\ngenerators: dutch_order\n' > "$work/crates.txt"
+printf 'dutch_order: arrayvec itoa thiserror\ngenerators: dutch_order\n' > "$work/crates.txt"
 cd "$work/crates/generators"
 rt try

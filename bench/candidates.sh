@@ -1,0 +1,15 @@
+#!/bin/sh
+# Measures the candidates of a bracket: runs the small program candidates.rattle over the crate dutch_order, in a folder of its own. Steps
+# are exact; the times are those of a trial build, which is not optimised. (The program is no crate of the repository, so it does not end in
+# .rt.)
+set -e
+here=$(cd "$(dirname "$0")" && pwd)
+work=$(mktemp -d)
+trap 'rm -rf "$work"' EXIT
+mkdir "$work/crates"
+cp -r "$here/../crates/dutch_order" "$work/crates/dutch_order"
+mkdir -p "$work/crates/candidates/src"
+cp "$here/candidates.rattle" "$work/crates/candidates/src/main.rt"
+printf 'dutch_order: arrayvec itoa thiserror\ncandidates: dutch_order arrayvec\n' > "$work/crates.txt"
+cd "$work/crates/candidates"
+rt try
