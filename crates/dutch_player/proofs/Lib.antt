@@ -1,2 +1,3 @@
 pub mod RankLemmas
 pub mod LawLemmas
+pub mod PresentLemmas

@@ -1,18 +1,17 @@
 -- What a round is paired from: the present players by rank, and how a report tells of them (C.04.3 A.2, A.7).
-use Rattle.std.specs.Prelude.{◌≡◌, ℕ, ◌+◌, ◌-◌, Bool, true, false, ◌&&◌, ◌||◌, ◌==◌, nat_lt, if◌then◌else◌, List, [], ◌∷◌, take, slice_index_or, Option, Some, None, option_map, Result, Ok, Err}
+use Rattle.std.specs.Prelude.{◌≡◌, ℕ, ◌+◌, ◌-◌, Bool, false, ◌&&◌, ◌||◌, ◌==◌, nat_lt, if◌then◌else◌, List, [], ◌∷◌, take, slice_index_or, Option, Some, None, option_map, Result, Ok, Err}
 use Rattle.std.specs.Option.{ok_or, option_map_or}
 use Rattle.trf16.specs.declared.cell.Colour.{Colour}
 use Rattle.trf16.specs.declared.cell.Colour.TheVariants.{White}
-use Rattle.trf16.specs.declared.cell.Cell.{Cell}
-use Rattle.trf16.specs.declared.cell.Cell.TheVariants.{Unfinished as UnfinishedCell}
 use Rattle.trf16.specs.declared.kind.Kind.TheVariants.{Xxa, Xxs, Xxp, Rank}
 use Rattle.trf16.specs.Sheet.{Entry, Sheet, rounds_played}
+use Rattle.trf16.specs.Outcomes.{◌>>=◌}
+use Rattle.trf16.specs.Unfinished.{unfinished}
 use Rattle.trf16.specs.Absence.{absent, first_of}
 use Rattle.dutch_player.specs.declared.float.Float.{Float}
 use Rattle.dutch_player.specs.declared.fault.FieldFault.{FieldFault}
 use Rattle.dutch_player.specs.declared.fault.FieldFault.TheVariants.{Unfinished, Unsupported, RoundsUnknown, RoundsOver}
 use Rattle.dutch_player.specs.Histories.{score, played, opponents, may_bye, float_in}
-use Rattle.dutch_player.specs.Outcomes.{◌>>=◌}
 
 -- a present player: start rank, score in half points, the colours of his games (the last game first), the start ranks of those whom
 -- he has met, his floats in the last round and in the one before it, and whether he may have the bye
@@ -32,7 +31,7 @@ pub record Facts : Type 0 where
   pub total : ℕ
   pub initial : Colour
 
--- what stands behind the last seat
+-- what stands behind the last seat: nobody
 abbrev pub no_seat : SeatFacts
 no_seat = record { start = 0; score = 0; played = []; opponents = []; latest = None; earlier = None; may_bye = false }
 
@@ -89,26 +88,12 @@ abbrev pub initial_of : Sheet → Option Colour → Colour
 initial_of sheet (Some colour) = colour
 initial_of sheet None = option_map_or (λ colour. colour) sheet.initial White
 
--- the total of rounds: the one that is asked for, else the report's
+-- the total of rounds: the one that is asked for, else the report's (our own choice)
 abbrev pub total_of : Sheet → Option ℕ → Option ℕ
 total_of sheet (Some total) = Some total
 total_of sheet None = sheet.total
 
-abbrev pub is_unfinished : Cell → Bool
-is_unfinished (UnfinishedCell opponent colour) = true
-is_unfinished _ = false
-
--- the first round, of which the first is numbered n, with a game that has no result; such a round was paired
-abbrev pub first_unfinished : ℕ → List Cell → Option ℕ
-first_unfinished n [] = None
-first_unfinished n (cell ∷ rest) = if is_unfinished cell then Some n else first_unfinished (n + 1) rest
-
--- the first game without a result, by the order of the players' lines and then by round
-abbrev pub unfinished : List Entry → Option (ℕ × ℕ)
-unfinished [] = None
-unfinished (entry ∷ rest) = option_map_or (λ round. Some (entry.start, round)) (first_unfinished 1 entry.cells) (unfinished rest)
-
--- the first line that changes what is paired, by points, pairings, or the ranking
+-- the first line that changes what is paired: by points, by pairings or by the ranking (our own choice: none is supported)
 abbrev pub unsupported : Sheet → Option ℕ
 unsupported sheet = first_of (Xxa ∷ Xxs ∷ Xxp ∷ Rank ∷ []) sheet
 
@@ -121,7 +106,7 @@ refused (Some fault) = Err fault
 -- and not all rounds are played; else the first of these that fails
 unfoldable pub total_for : Sheet → Option ℕ → Result ℕ FieldFault
 total_for sheet asked = do
-  _ ← refused (option_map (λ at'. Unfinished at'.0 at'.1) (unfinished sheet.players))
+  _ ← refused (option_map (λ at'. Unfinished at'.0 at'.1) (unfinished sheet))
   _ ← refused (option_map (λ line. Unsupported line) (unsupported sheet))
   total ← ok_or (total_of sheet asked) RoundsUnknown
   if nat_lt total (rounds_played sheet + 1) then Err RoundsOver else Ok total

@@ -1,9 +1,12 @@
 -- What holds of every field (C.04.3 A.6, C.1, C.3, E).
-use Rattle.std.specs.Prelude.{◌≡◌, ℕ, true, Some}
+use Rattle.std.specs.Prelude.{◌≡◌, ℕ, ◌+◌, ◌<◌, ◌≤◌, true, false, nat_eq, List, map, All, Option, Some}
+use Rattle.std.specs.List.{IsDistinct}
+use Rattle.trf16.specs.Sheet.{Sheet, known, rounds_played}
+use Rattle.trf16.specs.Absence.{absent}
 use Rattle.dutch_player.specs.declared.preference.Kind.TheVariants.{Absolute}
 use Rattle.dutch_player.specs.declared.preference.Pref.{Pref}
 use Rattle.dutch_player.specs.Preferences.{preference}
-use Rattle.dutch_player.specs.Facts.{Facts, seat_at}
+use Rattle.dutch_player.specs.Facts.{Facts, seat_at, total_of}
 use Rattle.dutch_player.specs.Meetings.{may_meet}
 use Rattle.dutch_player.specs.Colours.{with_colour, colours}
 
@@ -13,3 +16,22 @@ GrantsBoth facts a b = (p q : Pref) → may_meet facts a b ≡ true
     → preference (seat_at facts a).played ≡ Some p → preference (seat_at facts b).played ≡ Some q
     → p.kind ≡ Absolute → q.kind ≡ Absolute → (p.colour ≡ q.colour → ⊥)
     → (colours facts a b ≡ with_colour a b p.colour) × (colours facts a b ≡ with_colour b a q.colour)
+
+-- the start ranks of the present players, by rank
+abbrev pub start_ranks : Facts → List ℕ
+start_ranks facts = map (λ seat. seat.start) facts.seats
+
+-- start ranks count from 1: on a board 0 stands for nobody
+abbrev pub CountFromOne : Facts → Type 0
+CountFromOne facts = All (λ start. 0 < start) (start_ranks facts)
+
+-- the seats are players of a report who are present, each once; the round that is to be paired is the next one, and within the total
+-- that is asked for or that the report names
+pub record IsFieldOf (sheet : Sheet) (asked : Option ℕ) (facts : Facts) : Type 0 where
+  pub players : All (λ start. known sheet start ≡ true) (start_ranks facts)
+  pub present : All (λ start. absent sheet start ≡ false) (start_ranks facts)
+  pub once : IsDistinct nat_eq (start_ranks facts)
+  pub from_one : CountFromOne facts
+  pub next : facts.round ≡ rounds_played sheet + 1
+  pub total : total_of sheet asked ≡ Some facts.total
+  pub within : facts.round ≤ facts.total

@@ -1,3 +1,4 @@
+-- What the contracts of dutch_player name: histories, preferences, meetings and colours, and the facts of a round.
 pub mod Preferences
 pub mod Histories
 pub mod Outcomes

@@ -11,7 +11,7 @@ use Rattle.dutch_player.specs.Facts.{SeatFacts, Facts, seat_at}
 abbrev pub is_topscorer : Facts → SeatFacts → Bool
 is_topscorer facts a = (facts.round == facts.total) && nat_lt (facts.round - 1) a.score
 
--- a game of the one names the other
+-- C.1: a game that was played of the one names the other
 abbrev pub has_met : SeatFacts → SeatFacts → Bool
 has_met a b = list_any (λ start. start == b.start) a.opponents
 
@@ -19,6 +19,7 @@ has_met a b = list_any (λ start. start == b.start) a.opponents
 abbrev pub have_met : SeatFacts → SeatFacts → Bool
 have_met a b = has_met a b || has_met b a
 
+-- A.6: an absolute preference
 abbrev pub is_absolute : Kind → Bool
 is_absolute Absolute = true
 is_absolute Strong = false
@@ -33,6 +34,6 @@ clash _ _ = false
 abbrev pub colours_allow : Facts → SeatFacts → SeatFacts → Bool
 colours_allow facts a b = is_topscorer facts a || is_topscorer facts b || not (clash (preference a.played) (preference b.played))
 
--- C.1 and C.3
+-- C.1 and C.3: the two have not met, and their colours allow it
 abbrev pub may_meet : Facts → ℕ → ℕ → Bool
 may_meet facts a b = not (have_met (seat_at facts a) (seat_at facts b)) && colours_allow facts (seat_at facts a) (seat_at facts b)

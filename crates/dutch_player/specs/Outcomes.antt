@@ -3,12 +3,6 @@ use Rattle.std.specs.Prelude.{◌≡◌, Result, Ok, Err}
 use Rattle.dutch_player.specs.declared.fault.FieldFault.{FieldFault}
 use Rattle.dutch_player.specs.declared.fault.FieldFault.TheVariants.{OutOfMemory}
 
--- what the next step gives, unless a step before met a fault
-infixl 10 ◌>>=◌
-abbrev pub ◌>>=◌ : {A B : Type 0} → Result A FieldFault → (A → Result B FieldFault) → Result B FieldFault
-(Ok x) >>= f = f x
-(Err fault) >>= f = Err fault
-
 -- the fault that a call answers is the one that the definition gives, or memory was refused
 abbrev pub Fails : {Y : Type 0} → FieldFault → Result Y FieldFault → Type 0
 Fails OutOfMemory given = Unit {0}

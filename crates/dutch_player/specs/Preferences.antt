@@ -11,22 +11,26 @@ abbrev pub other : Colour → Colour
 other White = Black
 other Black = White
 
+-- white, and not black
 abbrev pub is_white : Colour → Bool
 is_white White = true
 is_white Black = false
 
+-- black, and not white
 abbrev pub is_black : Colour → Bool
 is_black White = false
 is_black Black = true
 
+-- two colours are one
 abbrev pub is_same : Colour → Colour → Bool
 is_same White c = is_white c
 is_same Black c = is_black c
 
--- how many games were played with white, and with black
+-- how many games were played with white
 abbrev pub whites : List Colour → ℕ
 whites played = count_by is_white played
 
+-- how many games were played with black
 abbrev pub blacks : List Colour → ℕ
 blacks played = count_by is_black played
 

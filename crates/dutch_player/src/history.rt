@@ -1,34 +1,13 @@
 // What the rounds that were paired say of a player: score, floats, colours, opponents, the bye (C.04.3 A.2, A.4, A.6, C.1, C.2).
-ghost use Rattle.std.specs.Prelude.{◌≡◌, ◌≤◌, ◌*◌, ◌<◌, length, take, IfOk, vec_len};
+ghost use Rattle.std.specs.Prelude.{◌≡◌, ◌≤◌, length, IfOk, vec_len};
 ghost use Rattle.std.specs.List.{list_any};
-ghost use Rattle.trf16.specs.Sheet.{cell_at};
-ghost use Rattle.dutch_player.specs.Histories.{score, colour_played, played, opponent_played, opponents, bars_bye, may_bye, float_between, float_by, float_in};
+ghost use Rattle.dutch_player.specs.Histories.{colour_played, played, opponent_played, opponents, bars_bye, may_bye, float_between, float_by, float_in};
 
 use crate::float::Float;
 use std::alloc::{AllocError, Global};
 use trf16::cell::{Bye, Cell, Colour};
+use trf16::cells::{cell_at, front, points_of};
 use trf16::report::Report;
-
-/// The cells of the first rounds.
-pub(crate) fn front(cells: &[Cell], rounds: u8) -> &[Cell]
-    ensures value { result.now ≡ take rounds cells.now }
-    ensures shorter { length result.now ≤ length cells.now }
-{
-    cells.split_at(cells.len().min(usize::from(rounds))).0
-}
-
-/// The half points of some rounds.
-pub(crate) fn score(cells: &[Cell]) -> u16
-    requires { length cells.now ≤ 32 }
-    ensures value { result ≡ score cells.now }
-    ensures few { result ≤ 64 }
-{
-    let mut sum = 0;
-    for cell in cells {
-        sum += cell.half_points();
-    }
-    sum
-}
 
 fn colour_played(cell: &Cell) -> Option<Colour>
     ensures { result ≡ colour_played cell.now }
@@ -102,23 +81,13 @@ fn float_between(mine: u16, theirs: u16) -> Option<Float>
     if mine < theirs { Some(Float::Up) } else { None }
 }
 
-fn cell_at(cells: &[Cell], round: u8) -> Cell
-    requires { 0 < round }
-    ensures { result ≡ cell_at cells.now round }
-{
-    cells
-        .get(usize::from(round) - 1)
-        .copied()
-        .unwrap_or(Cell::Blank)
-}
-
 fn float_by(report: &Report<'_>, cells: &[Cell], before: u8, cell: &Cell) -> Option<Float>
     requires { length cells.now ≤ 32 }
     ensures { result ≡ float_by report.now cells.now before cell.now }
 {
     match cell {
         Cell::Game { opponent, .. } => float_between(
-            score(front(cells, before)),
+            points_of(front(cells, before)),
             report.points(*opponent, before),
         ),
         _ => Some(Float::Down),

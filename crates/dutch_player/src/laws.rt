@@ -1,9 +1,12 @@
 // Laws of the rules, which hold of every field.
-ghost use Rattle.std.specs.Prelude.{◌≡◌, ◌<◌, ◌≤◌, ◌≢◌, ℕ, false, length};
+ghost use Rattle.std.specs.Prelude.{◌≡◌, ◌<◌, ◌≤◌, ◌≢◌, ℕ, Ok, Option, false, length};
+ghost use Rattle.trf16.specs.Sheet.{Sheet};
+ghost use Rattle.trf16.specs.StartRanks.{HasOwnStarts};
+ghost use Rattle.trf16.specs.declared.cell.Colour.{Colour};
 ghost use Rattle.dutch_player.specs.Meetings.{may_meet};
 ghost use Rattle.dutch_player.specs.Colours.{colours};
-ghost use Rattle.dutch_player.specs.Facts.{seat_at, goes_before};
-ghost use Rattle.dutch_player.specs.Laws.{GrantsBoth};
+ghost use Rattle.dutch_player.specs.Facts.{Facts, facts_of, seat_at, goes_before};
+ghost use Rattle.dutch_player.specs.Laws.{GrantsBoth, IsFieldOf};
 
 use crate::field::Field;
 
@@ -46,3 +49,10 @@ pub fn scores_do_not_ascend(field: &Field)
 {
     let _ = &field.seats;
 }
+
+/// Whoever has a seat is a player of the report who is present, and has one seat; the round that is to be paired is the report's next
+/// one, and within the total.
+pub fn seats_are_present_players()
+    ensures { (sheet : Sheet) (asked : Option ℕ) (initial : Option Colour) (facts : Facts) → HasOwnStarts sheet → facts_of sheet asked initial ≡ Ok facts
+        → IsFieldOf sheet asked facts }
+{}

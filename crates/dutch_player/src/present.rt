@@ -4,10 +4,11 @@ ghost use Rattle.trf16.specs.Sheet.{entry_of, rounds_played};
 ghost use Rattle.dutch_player.specs.SeatOf.{facts_in};
 ghost use Rattle.dutch_player.specs.Facts.{seat_of, seats_of, ranked};
 
-use crate::history::{float_in, front, may_bye, opponents, played, score};
+use crate::history::{float_in, may_bye, opponents, played};
 use crate::ranking::insert_by_rank;
 use crate::seat::Seat;
 use std::alloc::{AllocError, Global};
+use trf16::cells::{front, points_of};
 use trf16::player::Player;
 use trf16::report::Report;
 
@@ -26,7 +27,7 @@ fn seat_of(
     let opponents = opponents(alloc, cells)?;
     Ok(Seat {
         start: player.start,
-        score: score(cells),
+        score: points_of(cells),
         played,
         opponents,
         latest: float_in(report, cells, rounds),

@@ -6,7 +6,7 @@ use Rattle.trf16.specs.Sheet.{Entry, Sheet}
 use Rattle.tiebreak.specs.declared.key.Key.{Key}
 use Rattle.tiebreak.specs.declared.fault.TieFault.{TieFault}
 use Rattle.tiebreak.specs.Keys.{RowFacts, value_of}
-use Rattle.tiebreak.specs.Outcomes.{◌>>=◌}
+use Rattle.trf16.specs.Outcomes.{◌>>=◌}
 use Rattle.tiebreak.specs.Standings.{goes_before, placed, ranked, row_of, with_value, with_key, with_keys, judged, standings_of}
 use Rattle.tiebreak.specs.Laws.{HasEachOnce}
 

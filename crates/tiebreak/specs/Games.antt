@@ -27,7 +27,8 @@ have_met sheet a b = list_any (λ round. is_game_with b (cell_in sheet a round))
 abbrev pub virtual_score : Sheet → ℕ → ℕ → ℕ
 virtual_score sheet start round = points_upto sheet start (round - 1) + (2 - half_points (cell_in sheet start round)) + (rounds_played sheet - round)
 
--- the score that a round with this cell counts: the opponent's as it stands, or the virtual opponent's where no game was played
+-- the score that a round with this cell counts: the opponent's as it stands, without adjustment (our own choice), or the virtual
+-- opponent's where no game was played
 abbrev pub score_met : Sheet → ℕ → ℕ → Cell → ℕ
 score_met sheet start round (Game opponent colour rated got) = score sheet opponent
 score_met sheet start round _ = virtual_score sheet start round

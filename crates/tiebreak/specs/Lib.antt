@@ -1,3 +1,4 @@
+-- What the contracts of tiebreak name: games, keys and standings.
 pub mod Games
 pub mod Keys
 pub mod Outcomes

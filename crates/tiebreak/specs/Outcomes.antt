@@ -3,12 +3,6 @@ use Rattle.std.specs.Prelude.{◌≡◌, Result, Ok, Err}
 use Rattle.tiebreak.specs.declared.fault.TieFault.{TieFault}
 use Rattle.tiebreak.specs.declared.fault.TieFault.TheVariants.{OutOfMemory}
 
--- what the next step gives, unless a step before met a fault
-infixl 10 ◌>>=◌
-abbrev pub ◌>>=◌ : {A B : Type 0} → Result A TieFault → (A → Result B TieFault) → Result B TieFault
-(Ok x) >>= f = f x
-(Err fault) >>= f = Err fault
-
 -- the fault that a call answers is the one that the definition gives, or memory was refused
 abbrev pub Fails : {Y : Type 0} → TieFault → Result Y TieFault → Type 0
 Fails OutOfMemory given = Unit {0}

@@ -1,20 +1,19 @@
 -- The standings: the players by score, then by each key in its order, then by start rank.
-use Rattle.std.specs.Prelude.{◌≡◌, ℕ, ◌+◌, Bool, true, false, if◌then◌else◌, List, [], ◌∷◌, ◌++◌, map, Option, Some, None, option_map, Result, Ok, Err, slice_index_or}
-use Rattle.std.specs.Option.{option_map_or, option_cmp}
+use Rattle.std.specs.Prelude.{◌≡◌, ℕ, ◌+◌, Bool, false, if◌then◌else◌, List, [], ◌∷◌, ◌++◌, map, Option, Some, None, option_map, Result, Ok, Err, slice_index_or}
+use Rattle.std.specs.Option.{option_cmp}
 use Rattle.std.specs.Cmp.Lexicographic.{slice_cmp}
 use Rattle.std.specs.declared.cmp.Ordering.{Ordering}
 use Rattle.std.specs.Ordering.{nat_cmp, ordering_then, is_lt}
-use Rattle.trf16.specs.declared.cell.Cell.{Cell}
-use Rattle.trf16.specs.declared.cell.Cell.TheVariants.{Unfinished as UnfinishedCell}
 use Rattle.trf16.specs.declared.kind.Kind.TheVariants.{Xxs}
 use Rattle.trf16.specs.Sheet.{Entry, Sheet}
+use Rattle.trf16.specs.Outcomes.{◌>>=◌}
+use Rattle.trf16.specs.Unfinished.{unfinished}
 use Rattle.trf16.specs.Absence.{first_of}
 use Rattle.tiebreak.specs.declared.key.Key.{Key}
 use Rattle.tiebreak.specs.declared.fault.TieFault.{TieFault}
 use Rattle.tiebreak.specs.declared.fault.TieFault.TheVariants.{Unfinished, Unsupported}
 use Rattle.tiebreak.specs.Games.{score}
 use Rattle.tiebreak.specs.Keys.{RowFacts, value_of}
-use Rattle.tiebreak.specs.Outcomes.{◌>>=◌}
 
 -- a player's row before any key
 abbrev pub row_of : Sheet → Entry → RowFacts
@@ -70,21 +69,6 @@ no_row = record { start = 0; score = 0; values = [] }
 abbrev pub row_at : List RowFacts → ℕ → RowFacts
 row_at rows place = slice_index_or rows place no_row
 
--- a game without a result yet
-abbrev pub is_unfinished : Cell → Bool
-is_unfinished (UnfinishedCell opponent colour) = true
-is_unfinished _ = false
-
--- the first round, of which the first is numbered n, with a game that has no result; such a round was paired
-abbrev pub first_unfinished : ℕ → List Cell → Option ℕ
-first_unfinished n [] = None
-first_unfinished n (cell ∷ rest) = if is_unfinished cell then Some n else first_unfinished (n + 1) rest
-
--- the first game without a result, by the order of the players' lines and then by round
-abbrev pub unfinished : List Entry → Option (ℕ × ℕ)
-unfinished [] = None
-unfinished (entry ∷ rest) = option_map_or (λ round. Some (entry.start, round)) (first_unfinished 1 entry.cells) (unfinished rest)
-
 -- a fault, where its cause stands
 abbrev pub refused : Option TieFault → Result (Unit {0}) TieFault
 refused None = Ok tt
@@ -93,7 +77,7 @@ refused (Some fault) = Err fault
 -- whether there are standings: each game has a result, and no line XXS gives games other points; else the first of these that fails
 unfoldable pub judged : Sheet → Result (Unit {0}) TieFault
 judged sheet = do
-  _ ← refused (option_map (λ at'. Unfinished at'.0 at'.1) (unfinished sheet.players))
+  _ ← refused (option_map (λ at'. Unfinished at'.0 at'.1) (unfinished sheet))
   refused (option_map (λ line. Unsupported line) (first_of (Xxs ∷ []) sheet))
 
 -- the rows of all players in order, or why there are none

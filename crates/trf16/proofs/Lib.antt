@@ -1,6 +1,7 @@
 pub mod LineLemmas
 pub mod ColumnLemmas
 pub mod FieldLemmas
+pub mod StepLemmas
 pub mod ReadingLemmas
 pub mod ReportLemmas
 pub mod AnsweringLemmas
@@ -19,3 +20,4 @@ pub mod WritingLemmas
 pub mod RoundLemmas
 pub mod PairedRound
 pub mod BoardLemmas
+pub mod StartRanks

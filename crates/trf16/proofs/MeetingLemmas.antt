@@ -7,10 +7,10 @@ use Rattle.std.proofs.lemmas.List.{get_or_past}
 use Rattle.std.specs.Str.{is_utf8}
 use Rattle.trf16.specs.Lines.{lines, without_marks}
 use Rattle.trf16.specs.Sheet.{Entry, Sheet, known, cell_in, cells_of, half_points, opponent_in_cell, colour_in_cell, rounds_played}
-use Rattle.trf16.specs.Outcomes.{◌>>=◌}
 use Rattle.trf16.specs.Answering.{are_opposite, is_forfeit, are_of_one_class, has_other_points, pair_fits, cell_fits, cells_fit, points_fit, player_fits, players_fit}
 use Rattle.trf16.specs.Verdict.{verdict, report_of, lines_onto, sized, without_players, has_too_many_rounds}
 use Rattle.trf16.specs.Meetings.{AnswerEachOther, AreSum, HavePoints}
+use Rattle.trf16.proofs.StepLemmas.{then_ok, same_ok}
 use Rattle.trf16.specs.declared.cell.Cell.{Cell}
 use Rattle.trf16.specs.declared.cell.Cell.TheVariants.{Blank}
 use Rattle.trf16.specs.declared.fault.Excess.TheVariants.{Bytes}
@@ -30,16 +30,6 @@ never : {A : Type 0} (fault : Fault) (x : A) → failed fault ≡ done x → ⊥
 unfolding failed done
 never fault x e = cc
 
-same : {A : Type 0} (x y : A) → done x ≡ done y → x ≡ y
-unfolding done
-same x y e = cc
-
--- the value of a step that met no fault
-pub bind_ok : {A B : Type 0} (r : Result A Fault) (f : A → Result B Fault) (y : B) → (r >>= f) ≡ Ok y → (x : A) × (r ≡ Ok x) × (f x ≡ Ok y)
-unfolding failed done
-bind_ok (Ok x) f y e = (x, refl, e)
-bind_ok (Err fault) f y e = absurd (never fault y e)
-
 -- a test that met no fault
 guard : {A : Type 0} (b : Bool) (fault : Fault) (r : Result A Fault) (y : A) → cond b (Err fault) r ≡ Ok y → (b ≡ false) × (r ≡ Ok y)
 unfolding failed done
@@ -58,10 +48,10 @@ accepted bytes sheet e =
     let g = guard (nat_lt 1048576 (length bytes)) (TooMany Bytes) _ sheet e in
     let utf8 = is_utf8 (without_marks bytes) in
     let all = lines (without_marks bytes) in
-    let read = bind_ok (lines_onto (without_players utf8 all) 1 all) _ sheet g.1 in
-    let fit = bind_ok (sized read.0 (has_too_many_rounds utf8 all)) _ sheet read.2 in
-    let looked = bind_ok (players_fit fit.0 fit.0.players) (λ _. Ok fit.0) sheet fit.2 in
-    let is : fit.0 ≡ sheet = same fit.0 sheet looked.2 in
+    let read = then_ok (lines_onto (without_players utf8 all) 1 all) _ sheet g.1 in
+    let fit = then_ok (sized read.0 (has_too_many_rounds utf8 all)) _ sheet read.2 in
+    let looked = then_ok (players_fit fit.0 fit.0.players) (λ _. Ok fit.0) sheet fit.2 in
+    let is : fit.0 ≡ sheet = same_ok fit.0 sheet looked.2 in
     subst (λ (s : Sheet). players_fit s s.players ≡ fits) is looked.1
 
 -- the cells of one player fit
@@ -69,8 +59,8 @@ pub cells_of-fit : (sheet : Sheet) (entries : List Entry) (start : ℕ) → play
 unfolding players_fit player_fits cells_fit
 cells_of-fit sheet [] start e = refl
 cells_of-fit sheet (entry ∷ rest) start e =
-    let first = bind_ok (player_fits sheet entry) (λ _. players_fit sheet rest) (tt {0}) e in
-    let cells = bind_ok (cells_fit sheet entry.start 1 entry.cells) (λ _. points_fit sheet entry) (tt {0}) first.1 in
+    let first = then_ok (player_fits sheet entry) (λ _. players_fit sheet rest) (tt {0}) e in
+    let cells = then_ok (cells_fit sheet entry.start 1 entry.cells) (λ _. points_fit sheet entry) (tt {0}) first.1 in
     by (nat_eq entry.start start) refl cells.1 (cells_of-fit sheet rest start first.2)
   where
     by : (here : Bool) → nat_eq entry.start start ≡ here → cells_fit sheet entry.start 1 entry.cells ≡ fits → cells_fit sheet start 1 (cells_of rest start) ≡ fits
@@ -84,11 +74,11 @@ pub cell_of-fit : (sheet : Sheet) (start n : ℕ) (cells : List Cell) (i : ℕ) 
 unfolding cells_fit
 cell_of-fit sheet start n [] i lt e = absurd (omega arith)
 cell_of-fit sheet start n (cell ∷ rest) zero lt e =
-    let here = bind_ok (cell_fits sheet start n cell) (λ _. cells_fit sheet start (n + 1) rest) (tt {0}) e in
+    let here = then_ok (cell_fits sheet start n cell) (λ _. cells_fit sheet start (n + 1) rest) (tt {0}) e in
     let place : n ≡ n + 0 = omega arith in
     subst (λ r. cell_fits sheet start r cell ≡ fits) place here.1
 cell_of-fit sheet start n (cell ∷ rest) (suc i) lt e =
-    let here = bind_ok (cell_fits sheet start n cell) (λ _. cells_fit sheet start (n + 1) rest) (tt {0}) e in
+    let here = then_ok (cell_fits sheet start n cell) (λ _. cells_fit sheet start (n + 1) rest) (tt {0}) e in
     let place : n + 1 + i ≡ n + suc i = omega arith in
     subst (λ r. cell_fits sheet start r (get_or rest i Blank) ≡ fits) place (cell_of-fit sheet start (n + 1) rest i (omega arith) here.2)
 
@@ -185,11 +175,11 @@ points_of-fit : (sheet : Sheet) (entries : List Entry) (k : ℕ) (d : Entry) →
 unfolding players_fit player_fits
 points_of-fit sheet [] k d lt e = absurd (omega arith)
 points_of-fit sheet (entry ∷ rest) zero d lt e =
-    let first = bind_ok (player_fits sheet entry) (λ _. players_fit sheet rest) (tt {0}) e in
-    let cells = bind_ok (cells_fit sheet entry.start 1 entry.cells) (λ _. points_fit sheet entry) (tt {0}) first.1 in
+    let first = then_ok (player_fits sheet entry) (λ _. players_fit sheet rest) (tt {0}) e in
+    let cells = then_ok (cells_fit sheet entry.start 1 entry.cells) (λ _. points_fit sheet entry) (tt {0}) first.1 in
     cells.2
 points_of-fit sheet (entry ∷ rest) (suc k) d lt e =
-    let first = bind_ok (player_fits sheet entry) (λ _. players_fit sheet rest) (tt {0}) e in
+    let first = then_ok (player_fits sheet entry) (λ _. players_fit sheet rest) (tt {0}) e in
     points_of-fit sheet rest k d (omega arith) first.2
 
 sums : (sheet : Sheet) (entry : Entry) (points : ℕ)

@@ -24,7 +24,8 @@ use Rattle.trf16.specs.declared.cell.Cell.TheVariants.{Blank, Bye, Game, Forfeit
 use Rattle.trf16.specs.declared.fault.Fault.{Fault}
 use Rattle.trf16.specs.declared.fault.Fault.TheVariants.{NoSuchOpponent, SelfOpponent, NotMutual, Points}
 use Rattle.trf16.proofs.BoardLemmas.{eq-self, eq-sym, all_from, all_in}
-use Rattle.trf16.proofs.MeetingLemmas.{bind_ok, cell_of-fit}
+use Rattle.trf16.proofs.StepLemmas.{then_ok}
+use Rattle.trf16.proofs.MeetingLemmas.{cell_of-fit}
 use Rattle.trf16.proofs.WrittenCells.{is_sound}
 use Rattle.trf16.proofs.WrittenPlayers.{IsSoundEntry}
 use Rattle.trf16.proofs.WrittenReport.{Turns, known-turned, are_all_sound, were_sound, were_fit, written_again}
@@ -463,8 +464,8 @@ players_again : (utf8 : Bool) (boards : List (ℕ × ℕ)) (n : ℕ) (old new : 
 unfolding players_fit player_fits
 players_again utf8 boards n old new [] next sound le fit = refl
 players_again utf8 boards n old new (entry ∷ entries) next sound le fit =
-    let outer = bind_ok (player_fits old entry) (λ _. players_fit old entries) (tt {0}) fit in
-    let inner = bind_ok (cells_fit old entry.start 1 entry.cells) (λ _. points_fit old entry) (tt {0}) outer.1 in
+    let outer = then_ok (player_fits old entry) (λ _. players_fit old entries) (tt {0}) fit in
+    let inner = then_ok (cells_fit old entry.start 1 entry.cells) (λ _. points_fit old entry) (tt {0}) outer.1 in
     let cells : cells_fit new entry.start 1 (cells_with boards n entry) ≡ fits = cells_again boards n old new entry next sound.0.some (omega arith) inner.1 in
     let points : points_fit new (entry_with boards n entry) ≡ fits = points_again boards n new entry next.played in
     rw (cells, points) (players_again utf8 boards n old new entries next sound.1 (omega arith) outer.2)

@@ -25,7 +25,8 @@ use Rattle.trf16.proofs.ColumnLemmas.{joined-columns}
 use Rattle.trf16.proofs.WrittenNumbers.{numbers}
 use Rattle.trf16.proofs.WrittenColumns.{is_plain, each, joined-each, length-each, starts-append, starts-ascii, columns-append, columns-ascii, AreColumns, AreColumns-drop, columns-are, ascii-plain, slice_part}
 use Rattle.trf16.proofs.WrittenCells.{is_sound, fields_of, text-behind, list_all-append, plain-number, length-four, four_are}
-use Rattle.trf16.proofs.WrittenRounds.{then_ok, ok_or_ok, same_ok, blank_ok, blank_from, tail_of, tail-rounds, lead_blank, rounds-written, rounds_were, ascii-blank, ascii_from, joined_at, fields_are}
+use Rattle.trf16.proofs.StepLemmas.{then_ok, same_ok}
+use Rattle.trf16.proofs.WrittenRounds.{ok_or_ok, blank_ok, blank_from, tail_of, tail-rounds, lead_blank, rounds-written, rounds_were, ascii-blank, ascii_from, joined_at, fields_are}
 use Rattle.trf16.proofs.WrittenText.{is_inside, utf8_split, utf8_nil, utf8_behind, utf8_front}
 use Rattle.trf16.proofs.WrittenFields.{without_last-append, without_last-twice, cut, all_cut, length_cut, IsCarried, carried_is, filled, inside-plain, are_small, points_field_is, ascii-points, ascii-number}
 

@@ -30,7 +30,7 @@ use Rattle.trf16.specs.declared.cell.Cell.TheVariants.{Blank, Bye, Game, Forfeit
 use Rattle.trf16.specs.declared.fault.Excess.TheVariants.{Bytes, Players, Rounds}
 use Rattle.trf16.specs.declared.fault.Fault.{Fault}
 use Rattle.trf16.specs.declared.fault.Fault.TheVariants.{BadExtension, Duplicate, Points, TooMany, NoPlayers}
-use Rattle.trf16.proofs.WrittenRounds.{then_ok, same_ok}
+use Rattle.trf16.proofs.StepLemmas.{then_ok, same_ok}
 use Rattle.trf16.proofs.WrittenText.{is_inside, are_inside, are_utf8, lines-line, lines-inside, utf8_lines, has_mark, no_mark, without_marks-no_mark, line-no_mark}
 use Rattle.trf16.proofs.WrittenFields.{are_small}
 use Rattle.trf16.proofs.WrittenPlayers.{IsPlayer, IsSoundEntry, player_is, was_player, written_player}
@@ -57,10 +57,10 @@ known-turned utf8 turn [] start t = refl
 known-turned utf8 turn (entry ∷ entries) start t = rw (t.start entry, known-turned utf8 turn entries start t) refl
 
 -- what a line changes where it is no player's
-record Keeps (sheet next : Sheet) : Type 0 where
-  utf8 : next.utf8 ≡ sheet.utf8
-  carried : next.carried ≡ sheet.carried
-  players : next.players ≡ sheet.players
+pub record Keeps (sheet next : Sheet) : Type 0 where
+  pub utf8 : next.utf8 ≡ sheet.utf8
+  pub carried : next.carried ≡ sheet.carried
+  pub players : next.players ≡ sheet.players
 
 keeps_from : (sheet made next : Sheet) → ◌≡◌ {A = Result Sheet Fault} (Ok made) (Ok next) → Keeps sheet made → Keeps sheet next
 keeps_from sheet made next e k = subst (Keeps sheet) (same_ok made next e) k
@@ -89,7 +89,7 @@ absence_keep sheet n line next e = by (are_start_ranks (words_of line)) e
     by true e = keeps_from sheet sheet next e (record { utf8 = refl; carried = refl; players = refl })
     by false e = absurd (not_ok (BadExtension n) next e)
 
-line_keeps : (sheet : Sheet) (n : ℕ) (line : List (List ℕ)) (next : Sheet) → is_player line ≡ false → line_onto sheet n line ≡ Ok next → Keeps sheet next
+pub line_keeps : (sheet : Sheet) (n : ℕ) (line : List (List ℕ)) (next : Sheet) → is_player line ≡ false → line_onto sheet n line ≡ Ok next → Keeps sheet next
 unfolding line_onto
 line_keeps sheet n line next other e =
     by (is_kind (codes "XXR") line) (is_kind (codes "XXC") line) (is_kind (codes "XXZ") line) (rw other at e)
@@ -145,12 +145,12 @@ line_turns turn sheet n line next other e =
     by false false false e = ap (λ (made : Sheet). Ok (turned turn made)) (same_ok sheet next e)
 
 -- what a player's line adds
-record Adds (sheet : Sheet) (n : ℕ) (line : List (List ℕ)) (next : Sheet) : Type 0 where
-  entry : Entry
-  player : IsPlayer sheet n line entry
-  next_is : with_player sheet entry ≡ next
+pub record Adds (sheet : Sheet) (n : ℕ) (line : List (List ℕ)) (next : Sheet) : Type 0 where
+  pub entry : Entry
+  pub player : IsPlayer sheet n line entry
+  pub next_is : with_player sheet entry ≡ next
 
-line_adds : (sheet : Sheet) (n : ℕ) (line : List (List ℕ)) (next : Sheet) → is_player line ≡ true → line_onto sheet n line ≡ Ok next → Adds sheet n line next
+pub line_adds : (sheet : Sheet) (n : ℕ) (line : List (List ℕ)) (next : Sheet) → is_player line ≡ true → line_onto sheet n line ≡ Ok next → Adds sheet n line next
 unfolding line_onto player_onto
 line_adds sheet n line next named e =
     let s = then_ok (player_at sheet n line) (λ entry. Ok (with_player sheet entry)) next (rw named at e) in
@@ -213,7 +213,7 @@ end_read utf8 sheet final n u e =
       };
     }
 
-first_onto : (sheet final : Sheet) (n : ℕ) (line : List ℕ) (rest : List (List ℕ)) → lines_onto sheet n (line ∷ rest) ≡ Ok final
+pub first_onto : (sheet final : Sheet) (n : ℕ) (line : List ℕ) (rest : List (List ℕ)) → lines_onto sheet n (line ∷ rest) ≡ Ok final
     → (next : Sheet) × (line_onto sheet n (columns sheet.utf8 line) ≡ Ok next) × (lines_onto next (n + 1) rest ≡ Ok final)
 unfolding lines_onto
 first_onto sheet final n line rest e = then_ok (line_onto sheet n (columns sheet.utf8 line)) (λ next. lines_onto next (n + 1) rest) final e
@@ -408,13 +408,13 @@ sized_turn turn sheet long e = rw (length-map sheet.players turn) (by (nat_lt 25
     by false false false false e = refl
 
 -- what a report that was read is
-record IsReport (utf8 : Bool) (all : List (List ℕ)) (report : Sheet) : Type 0 where
-  read : lines_onto (without_players utf8 all) 1 all ≡ Ok report
-  size : sized report (has_too_many_rounds utf8 all) ≡ Ok report
-  short : has_too_many_rounds utf8 all ≡ false
-  fit : players_fit report report.players ≡ Ok tt
+pub record IsReport (utf8 : Bool) (all : List (List ℕ)) (report : Sheet) : Type 0 where
+  pub read : lines_onto (without_players utf8 all) 1 all ≡ Ok report
+  pub size : sized report (has_too_many_rounds utf8 all) ≡ Ok report
+  pub short : has_too_many_rounds utf8 all ≡ false
+  pub fit : players_fit report report.players ≡ Ok tt
 
-report_is : (utf8 : Bool) (all : List (List ℕ)) (report : Sheet) → report_of utf8 all ≡ Ok report → IsReport utf8 all report
+pub report_is : (utf8 : Bool) (all : List (List ℕ)) (report : Sheet) → report_of utf8 all ≡ Ok report → IsReport utf8 all report
 unfolding report_of
 report_is utf8 all report e =
     let long = has_too_many_rounds utf8 all in
@@ -471,7 +471,7 @@ text_is utf8 bytes report turn unmarked r turns fit =
       read = ap (report_of utf8) copy ∙ report_from utf8 c.copy (turned turn report) again;
     }
 
-verdict_is : (bytes : List ℕ) (report : Sheet) → verdict bytes ≡ Ok report → report_of (is_utf8 (without_marks bytes)) (lines (without_marks bytes)) ≡ Ok report
+pub verdict_is : (bytes : List ℕ) (report : Sheet) → verdict bytes ≡ Ok report → report_of (is_utf8 (without_marks bytes)) (lines (without_marks bytes)) ≡ Ok report
 unfolding verdict
 verdict_is bytes report e = by (nat_lt 1048576 (length bytes)) e
   where

@@ -1,5 +1,5 @@
 -- The rounds of a line: what is known of those that were read, and that they read back where they are written.
-use Rattle.std.proofs.Common.{◌≡◌, ℕ, zero, suc, ◌+◌, ◌-◌, ◌*◌, ◌<◌, ◌≤◌, Bool, true, false, ◌&&◌, ◌==◌, nat_lt, nat_le, cond, List, [], ◌∷◌, ◌++◌, length, take, drop, replicate, refl, sym, ap, ◌∙◌, arith, subst, ◌⊎◌, inl, inr, Option, Some, None, Result, Ok, Err}
+use Rattle.std.proofs.Common.{◌≡◌, ℕ, zero, suc, ◌+◌, ◌-◌, ◌*◌, ◌<◌, ◌≤◌, Bool, true, false, ◌&&◌, ◌==◌, nat_lt, nat_le, cond, List, [], ◌∷◌, ◌++◌, length, take, drop, replicate, refl, sym, ap, ◌∙◌, arith, subst, ◌⊎◌, inl, inr, Option, Some, None, Ok, Err}
 use Rattle.std.specs.Prelude.{option_and_then}
 use Rattle.std.specs.List.{list_all, flat_map}
 use Rattle.std.specs.Option.{option_map_or, ok_or}
@@ -20,21 +20,11 @@ use Rattle.trf16.specs.declared.cell.Cell.{Cell}
 use Rattle.trf16.specs.declared.cell.Cell.TheVariants.{Blank, Game}
 use Rattle.trf16.specs.declared.fault.Fault.{Fault}
 use Rattle.trf16.specs.declared.fault.Fault.TheVariants.{BadCell, Misaligned}
+use Rattle.trf16.proofs.StepLemmas.{then_ok, same_ok}
 use Rattle.trf16.proofs.WrittenNumbers.{value_below}
 use Rattle.trf16.proofs.WrittenColumns.{each}
 use Rattle.trf16.proofs.ColumnLemmas.{joined-append}
 use Rattle.trf16.proofs.WrittenCells.{is_sound, fields_of, four_are, text-behind, list_all-append, ascii-digits}
-
--- what steps one after the other gave
-pub then_ok : {A B : Type 0} (read : Result A Fault) (next : A → Result B Fault) (y : B) → (read >>= next) ≡ Ok y → (x : A) × (read ≡ Ok x) × (next x ≡ Ok y)
-then_ok (Ok x) next y e = (x, refl, e)
-then_ok {A} {B} (Err fault) next y e = absurd (differ fault y e)
-  where
-    differ : (fault : Fault) (y : B) → Err fault ≡ Ok y → ⊥
-    differ fault y e = cc
-
-pub same_ok : {A : Type 0} (x y : A) → ◌≡◌ {A = Result A Fault} (Ok x) (Ok y) → x ≡ y
-same_ok x y e = cc
 
 pub then_some : {A B : Type 0} (o : Option A) (next : A → Option B) (y : B) → option_and_then next o ≡ Some y → (x : A) × (o ≡ Some x) × (next x ≡ Some y)
 then_some (Some x) next y e = (x, refl, e)

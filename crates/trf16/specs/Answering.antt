@@ -1,4 +1,4 @@
--- The rules on two players who name each other in a round, and on the sum of a player's points.
+-- The rules on two players who name each other in a round, and on the sum of a player's points (our own choices).
 use Rattle.std.specs.Prelude.{ℕ, ◌+◌, Bool, true, false, not, ◌&&◌, ◌||◌, ◌==◌, nat_le, nat_lt, if◌then◌else◌, List, [], ◌∷◌, codes, Option, Some, sum_by, take, Result, Ok, Err}
 use Rattle.std.specs.List.{list_any}
 use Rattle.std.specs.Option.{option_map_or}
@@ -19,6 +19,7 @@ are_opposite (Some White) (Some Black) = true
 are_opposite (Some Black) (Some White) = true
 are_opposite _ _ = false
 
+-- a game that was not played
 abbrev pub is_forfeit : Cell → Bool
 is_forfeit (Forfeit opponent colour won) = true
 is_forfeit _ = false

@@ -2,12 +2,12 @@
 use Rattle.std.specs.Prelude.{◌≡◌, ◌+◌, ◌-◌, ◌^◌, ◌<◌, ◌≤◌, ℕ, Result, MatchResult}
 use Rattle.trf16.specs.declared.devices.Counted.{Counted}
 
--- a count rises by one, and stays where it is as large as it can be
+-- a count below the largest u64 rises by one, and no count rises by more
 pub record CountsOne (old new : ℕ) : Type 0 where
   pub counts : old < 2 ^ 64 - 1 → new ≡ old + 1
   pub at_most : new ≤ old + 1
 
--- the count of failures rises by one where the call failed, and else stays
+-- the count of failures rises so where the call failed, and else stays
 abbrev pub CountsFailure : {T E : Type 0} → ℕ → ℕ → Result T E → Type 0
 CountsFailure old new answer = MatchResult answer (λ _. new ≡ old) (λ _. CountsOne old new)
 

@@ -1,3 +1,4 @@
+-- What the contracts of trf16 name: lines, fields and cells, what a report says, and what calls answer.
 pub mod Devices
 pub mod Output
 pub mod Lines
@@ -10,6 +11,8 @@ pub mod Answering
 pub mod Verdict
 pub mod Meetings
 pub mod Absence
+pub mod Unfinished
 pub mod Written
 pub mod Round
 pub mod Steps
+pub mod StartRanks

@@ -5,7 +5,7 @@ use Rattle.trf16.specs.declared.fault.Fault.TheVariants.{OutOfMemory}
 
 -- what the next step gives, unless a step before met a fault
 infixl 10 ◌>>=◌
-abbrev pub ◌>>=◌ : {A B : Type 0} → Result A Fault → (A → Result B Fault) → Result B Fault
+abbrev pub ◌>>=◌ : {A B E : Type 0} → Result A E → (A → Result B E) → Result B E
 (Ok x) >>= f = f x
 (Err fault) >>= f = Err fault
 

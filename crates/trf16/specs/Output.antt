@@ -3,7 +3,8 @@ use Rattle.std.specs.Prelude.{◌≡◌, ◌<◌, ◌++◌, ℕ, List, Option, R
 use Rattle.std.specs.Io.KnownBytes.{Appends}
 use Rattle.trf16.specs.Devices.{CountsOne}
 
--- a device before and after: its bytes where they are known (those still to come of a source, those written of a sink), and how many of its calls had failed
+-- a device before and after: its bytes where they are known (those still to come of a source, those written of a sink), and how many
+-- of its calls had failed
 pub record Use : Type 0 where
   pub before : Option (List ℕ)
   pub after : Option (List ℕ)

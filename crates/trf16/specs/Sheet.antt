@@ -79,7 +79,7 @@ abbrev pub last_paired_of : List Entry → ℕ
 last_paired_of [] = 0
 last_paired_of (entry ∷ rest) = max (last_paired entry.cells) (last_paired_of rest)
 
--- how many rounds were paired
+-- how many rounds were paired: up to the last in which some cell names an opponent or is U (our own choice)
 abbrev pub rounds_played : Sheet → ℕ
 rounds_played sheet = last_paired_of sheet.players
 
@@ -96,7 +96,7 @@ bye_points Full = 2
 bye_points Allocated = 2
 bye_points Zero = 0
 
--- the half points of a cell: a forfeit win gives 2, and a game without a result none
+-- the half points of a cell: a forfeit win gives 2, a game without a result none, and a blank none (our own choice)
 abbrev pub half_points : Cell → ℕ
 half_points Blank = 0
 half_points (Bye bye) = bye_points bye
@@ -104,7 +104,7 @@ half_points (Game opponent colour rated got) = outcome_points got
 half_points (Forfeit opponent colour won) = if won then 2 else 0
 half_points (Unfinished opponent colour) = 0
 
--- the half points of a player in the rounds from 1 on, of which there are `upto`
+-- the half points of a player in the rounds from 1 up to a given one
 abbrev pub points_upto : Sheet → ℕ → ℕ → ℕ
 points_upto sheet start upto = sum_by half_points (take upto (cells_of sheet.players start))
 

@@ -34,12 +34,14 @@ abbrev pub points_field : Option ℕ → List ℕ
 points_field None = blanks 4
 points_field (Some points) = right_in_four (points_text points)
 
+-- H, F, U and Z
 abbrev pub bye_letter : ByeKind → ℕ
 bye_letter Half = 72
 bye_letter Full = 70
 bye_letter Allocated = 85
 bye_letter Zero = 90
 
+-- w, b, or a dash where there is none
 abbrev pub colour_letter : Option Colour → ℕ
 colour_letter None = 45
 colour_letter (Some White) = 119

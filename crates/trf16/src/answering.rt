@@ -1,11 +1,12 @@
 // The rules on two players who name each other in a round, and on the sum of a player's points.
-ghost use Rattle.std.specs.Prelude.{◌≡◌, ◌==◌, ◌<◌, ◌≤◌, false, length, sum_by, take};
+ghost use Rattle.std.specs.Prelude.{◌≡◌, ◌==◌, ◌<◌, ◌≤◌, false, length};
 ghost use Rattle.std.specs.Option.{option_map_or};
 ghost use Rattle.trf16.specs.Outcomes.{Gives};
-ghost use Rattle.trf16.specs.Sheet.{entry_of, half_points, opponent_in_cell, rounds_played};
+ghost use Rattle.trf16.specs.Sheet.{entry_of, opponent_in_cell, rounds_played};
 ghost use Rattle.trf16.specs.Answering.{are_opposite, is_forfeit, are_of_one_class, pair_fits, cell_fits, cells_fit, points_fit, player_fits, players_fit};
 
 use crate::cell::{Cell, Colour};
+use crate::cells::{front, points_of};
 use crate::fault::Fault;
 use crate::player::Player;
 use crate::report::Report;
@@ -111,18 +112,6 @@ fn cells_fit(report: &Report<'_>, player: u16, cells: &[Cell]) -> Result<(), Fau
     Ok(())
 }
 
-/// The half points of some rounds.
-pub(crate) fn sum_of(cells: &[Cell]) -> u16
-    requires { length cells.now ≤ 32 }
-    ensures { result ≡ sum_by half_points cells.now }
-{
-    let mut sum = 0;
-    for cell in cells {
-        sum += cell.half_points();
-    }
-    sum
-}
-
 // The points field of a player, of the rounds that were played.
 #[tactic(auto, unfolding(crate::specs::Answering::points_fit))]
 fn points_fit(report: &Report<'_>, player: &Player<'_>, rounds: u8) -> Result<(), Fault>
@@ -132,7 +121,7 @@ fn points_fit(report: &Report<'_>, player: &Player<'_>, rounds: u8) -> Result<()
     let Some(points) = player.points else {
         return Ok(());
     };
-    if points == sum_of(front(&player.cells, rounds)) || points == sum_of(&player.cells) {
+    if points == points_of(front(&player.cells, rounds)) || points == points_of(&player.cells) {
         return Ok(());
     }
     if points < 200 && report.has_other_points() {
@@ -141,14 +130,6 @@ fn points_fit(report: &Report<'_>, player: &Player<'_>, rounds: u8) -> Result<()
     Err(Fault::Points {
         player: player.start,
     })
-}
-
-/// The cells of the first rounds.
-pub(crate) fn front(cells: &[Cell], rounds: u8) -> &[Cell]
-    ensures value { result.now ≡ take rounds cells.now }
-    ensures shorter { length result.now ≤ length cells.now }
-{
-    cells.split_at(cells.len().min(usize::from(rounds))).0
 }
 
 // The rounds of a player, and then his points.

@@ -8,6 +8,7 @@ ghost use Rattle.trf16.specs.Lines.{ends_line, lines, columns};
 ghost use Rattle.trf16.specs.Cells.{cell_from};
 ghost use Rattle.trf16.specs.Fields.{words, number_in, points_in};
 ghost use Rattle.trf16.specs.Sheet.{Sheet};
+ghost use Rattle.trf16.specs.StartRanks.{HasOwnStarts};
 ghost use Rattle.trf16.specs.Verdict.{verdict};
 ghost use Rattle.trf16.specs.Written.{right_in_four, points_text, cell_text, written};
 ghost use Rattle.trf16.specs.Round.{CanBePaired, with_round};
@@ -52,4 +53,9 @@ pub fn law_round_trip()
 pub fn law_round_trip_with_round()
     ensures { (bytes : List ℕ) → (report : Sheet) → (boards : List (ℕ × ℕ)) → verdict bytes ≡ Ok report → CanBePaired boards report → 0 < length boards
         → length (written (with_round boards report)) ≤ 1048576 → verdict (written (with_round boards report)) ≡ Ok (with_round boards report) }
+{}
+
+/// In an accepted report no two players have one start rank, each start rank is from 1 to 9999, and a total of rounds is at most 32.
+pub fn start_ranks_are_own()
+    ensures { (bytes : List ℕ) (sheet : Sheet) → verdict bytes ≡ Ok sheet → HasOwnStarts sheet }
 {}

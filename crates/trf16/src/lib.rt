@@ -3,6 +3,7 @@
 
 mod answering;
 pub mod cell;
+pub mod cells;
 mod columns;
 pub mod devices;
 mod draft;

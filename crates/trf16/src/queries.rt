@@ -1,10 +1,12 @@
-// What a report says of the round that comes next: who is absent, the points so far, and what is not supported.
-ghost use Rattle.std.specs.Prelude.{◌≡◌, ◌≤◌, ◌*◌};
+// What a report says of the round that comes next: who is absent, the points so far, which game has no result, and what is
+// not supported.
+ghost use Rattle.std.specs.Prelude.{◌≡◌};
 ghost use Rattle.trf16.specs.Absence.{is_absence, is_named_absent, absent, first_of};
 ghost use Rattle.trf16.specs.Sheet.{points_upto};
+ghost use Rattle.trf16.specs.Unfinished.{unfinished};
 
-use crate::answering::{front, sum_of};
 use crate::cell::{Bye, Cell};
+use crate::cells::{first_unfinished, front, points_of};
 use crate::extensions::{is_of_some, names_absent};
 use crate::kind::Kind;
 use crate::lines::next_line;
@@ -49,9 +51,21 @@ impl<'a> Report<'a> {
         ensures value { result ≡ points_upto self.now start upto }
     {
         match self.player(start) {
-            Some(player) => sum_of(front(&player.cells, upto)),
+            Some(player) => points_of(front(&player.cells, upto)),
             None => 0,
         }
+    }
+
+    /// The player and the round of the first game that has no result, by the order of the players' lines and then by round.
+    pub fn unfinished(&self) -> Option<(u16, usize)>
+        ensures { result ≡ unfinished self.now }
+    {
+        for player in self.players() {
+            if let Some(round) = first_unfinished(&player.cells) {
+                return Some((player.start, round));
+            }
+        }
+        None
     }
 
     /// The number of the first line of one of some kinds, from 1. It takes time in step with the text.

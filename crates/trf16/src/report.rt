@@ -1,11 +1,12 @@
 // A report that was accepted, and what it says.
 ghost use Rattle.std.specs.Prelude.{◌≡◌, ◌<◌, ◌≤◌, map, length, option_copied, IfSome, []};
 ghost use Rattle.std.specs.Option.{option_map_or};
-ghost use Rattle.trf16.specs.Sheet.{entry_of, known, cells_of, cell_at, cell_in, carried_in, is_paired, last_paired, rounds_played};
+ghost use Rattle.trf16.specs.Sheet.{entry_of, known, cells_of, cell_in, carried_in, rounds_played};
 ghost use Rattle.trf16.specs.Answering.{has_other_points};
 ghost use Rattle.trf16.specs.Verdict.{carried_line};
 
-use crate::cell::{Bye, Cell, Colour};
+use crate::cell::{Cell, Colour};
+use crate::cells::{cell_at, last_paired};
 use crate::columns::split_kind;
 use crate::extensions::is_word;
 use crate::lines::next_line;
@@ -154,41 +155,4 @@ pub(crate) fn carried_line(line: &[u8], utf8: bool) -> Option<&[u8]>
     } else {
         Some(line)
     }
-}
-
-fn cell_at(cells: &[Cell], round: u8) -> Cell
-    requires { 0 < round }
-    ensures { result ≡ cell_at cells.now round }
-{
-    cells
-        .get(usize::from(round) - 1)
-        .copied()
-        .unwrap_or(Cell::Blank)
-}
-
-fn is_paired(cell: &Cell) -> bool
-    ensures { result ≡ is_paired cell.now }
-{
-    match cell {
-        Cell::Blank | Cell::Bye(Bye::Half | Bye::Full | Bye::Zero) => false,
-        Cell::Bye(Bye::Allocated)
-        | Cell::Game { .. }
-        | Cell::Forfeit { .. }
-        | Cell::Unfinished { .. } => true,
-    }
-}
-
-// The last round in which one of some cells is paired.
-fn last_paired(cells: &[Cell]) -> u8
-    requires { length cells.now ≤ 32 }
-    ensures value { result ≡ last_paired cells.now }
-    ensures within { result ≤ length cells.now }
-{
-    let mut last = 0;
-    for (i, cell) in cells.iter().enumerate() {
-        if is_paired(cell) {
-            last = i as u8 + 1;
-        }
-    }
-    last
 }

@@ -5,8 +5,8 @@ ghost use Rattle.trf16.specs.Sheet.{entry_of, half_points, rounds_played};
 ghost use Rattle.trf16.specs.Steps.{is_free, are_free};
 ghost use Rattle.trf16.specs.Round.{CanBePaired, named_by, cell_on, cell_by, with_cell, cells_with, entry_with, with_round};
 
-use crate::answering::{front, sum_of};
 use crate::cell::{Bye, Cell, Colour};
+use crate::cells::{front, points_of};
 use crate::player::Player;
 use crate::report::Report;
 use indexmap::IndexMap;
@@ -86,7 +86,7 @@ fn points_with(points: Option<u16>, cells: &[Cell], rounds: u8) -> Option<u16>
     ensures { result ≡ option_map (λ _. sum_by half_points (take rounds cells.now)) points }
 {
     match points {
-        Some(_) => Some(sum_of(front(cells, rounds))),
+        Some(_) => Some(points_of(front(cells, rounds))),
         None => None,
     }
 }

@@ -1,8 +1,8 @@
 use Rattle.std.proofs.Common.{refl, arith}
 use Rattle.trf16.specs.declared.cell.Cell.TheVariants.{Blank}
 use Rattle.trf16.proofs.ReportLemmas.{last_paired-more}
-use Rattle.trf16.proofs.report.last_paired.Goals as goal
-use Rattle.trf16.proofs.report.last_paired.Goals.{then-is_paired, else-is_paired}
+use Rattle.trf16.proofs.cells.last_paired.Goals as goal
+use Rattle.trf16.proofs.cells.last_paired.Goals.{then-is_paired, else-is_paired}
 
 pub loop-i-preserved : goal.loop-i-preserved
 loop-i-preserved c =

@@ -1,0 +1,172 @@
+-- The seats of a field are those of the present players of its report, by rank.
+use Rattle.std.proofs.Common.{◌≡◌, ℕ, ◌+◌, ◌<◌, ◌≤◌, Bool, true, false, cond, ◌==◌, nat_eq, nat_lt, List, [], ◌∷◌, ◌++◌, map, Option, Some, None, Result, Ok, Err, refl, sym, ap, ◌∙◌, subst, arith, append-nil}
+use Rattle.std.specs.Prelude.{All, IsPermutation, option_map}
+use Rattle.std.specs.List.{AllByRecursion, IsDistinct, list_any}
+use Rattle.std.specs.Option.{ok_or}
+use Rattle.std.proofs.lemmas.Bool.{eq-eqb, or_left, or_right}
+use Rattle.std.proofs.lemmas.Bool.Decides.{nat_tests}
+use Rattle.std.proofs.lemmas.List.Elements.{All-from_recursion, recursion_from_All}
+use Rattle.std.proofs.lemmas.List.Sorted.{All-permutation, IsPermutation-refl, IsPermutation-cons, IsPermutation-middle, IsPermutation-sym, IsPermutation-trans, IsPermutation-append_left, IsPermutation-map}
+use Rattle.std.proofs.lemmas.Map.Keys.{IsDistinct-IsPermutation}
+use Rattle.trf16.specs.declared.cell.Colour.{Colour}
+use Rattle.trf16.specs.Sheet.{Entry, Sheet, known, rounds_played}
+use Rattle.trf16.specs.Absence.{absent}
+use Rattle.trf16.specs.Unfinished.{unfinished}
+use Rattle.trf16.specs.StartRanks.{starts_of, HasOwnStarts}
+use Rattle.dutch_player.specs.declared.fault.FieldFault.{FieldFault}
+use Rattle.dutch_player.specs.declared.fault.FieldFault.TheVariants.{Unfinished, Unsupported, RoundsUnknown, RoundsOver}
+use Rattle.trf16.specs.Outcomes.{◌>>=◌}
+use Rattle.dutch_player.specs.Facts.{SeatFacts, Facts, goes_before, placed, ranked, seat_of, seats_of, initial_of, total_of, unsupported, refused, total_for, facts_of}
+use Rattle.dutch_player.specs.Laws.{IsFieldOf}
+
+-- ---- the order by rank
+
+placed_at : (seat first : SeatFacts) (rest : List SeatFacts) (t : Bool) → IsPermutation (seat ∷ rest) (placed seat rest)
+    → IsPermutation (seat ∷ first ∷ rest) (cond t (first ∷ placed seat rest) (seat ∷ first ∷ rest))
+placed_at seat first rest true more =
+    IsPermutation-trans (seat ∷ first ∷ rest) (first ∷ seat ∷ rest) (first ∷ placed seat rest)
+    (IsPermutation-sym (first ∷ seat ∷ rest) (seat ∷ first ∷ rest) (IsPermutation-middle (first ∷ []) seat rest))
+    (IsPermutation-cons first (seat ∷ rest) (placed seat rest) more)
+placed_at seat first rest false more = IsPermutation-refl (seat ∷ first ∷ rest)
+
+placed_permutes : (seat : SeatFacts) (all : List SeatFacts) → IsPermutation (seat ∷ all) (placed seat all)
+placed_permutes seat [] = IsPermutation-refl (seat ∷ [])
+placed_permutes seat (first ∷ rest) = placed_at seat first rest (goes_before first seat) (placed_permutes seat rest)
+
+ranked_permutes : (front all : List SeatFacts) → IsPermutation (front ++ all) (ranked front all)
+ranked_permutes [] [] = IsPermutation-refl []
+ranked_permutes (seat ∷ front) [] =
+    subst (λ (seats : List SeatFacts). IsPermutation seats (seat ∷ front)) (sym (append-nil (seat ∷ front))) (IsPermutation-refl (seat ∷ front))
+ranked_permutes front (seat ∷ rest) =
+    IsPermutation-trans (front ++ seat ∷ rest) (placed seat front ++ rest) (ranked (placed seat front) rest)
+    (IsPermutation-trans (front ++ seat ∷ rest) (seat ∷ (front ++ rest)) (placed seat front ++ rest)
+    (IsPermutation-middle front seat rest) (IsPermutation-append_left rest (seat ∷ front) (placed seat front) (placed_permutes seat front)))
+    (ranked_permutes (placed seat front) rest)
+
+-- ---- who is present
+
+starts : List SeatFacts → List ℕ
+starts seats = map (λ seat. seat.start) seats
+
+module _ (sheet : Sheet) where
+  seats_all_at : (P : ℕ → Type 0) (entry : Entry) (rest : List SeatFacts) (t : Bool) → absent sheet entry.start ≡ t → (absent sheet entry.start ≡ false → P entry.start)
+      → AllByRecursion P (starts rest) → AllByRecursion P (starts (cond t rest (seat_of sheet entry ∷ rest)))
+  unfolding starts
+  seats_all_at P entry rest true e here all = all
+  seats_all_at P entry rest false e here all = (here e, all)
+
+  -- what holds of present players holds of all seats
+  seats_all : (P : ℕ → Type 0) (entries : List Entry) → AllByRecursion (λ (entry : Entry). absent sheet entry.start ≡ false → P entry.start) entries
+      → AllByRecursion P (starts (seats_of sheet entries))
+  unfolding starts
+  seats_all P [] all = tt
+  seats_all P (entry ∷ rest) all = seats_all_at P entry (seats_of sheet rest) (absent sheet entry.start) refl all.0 (seats_all P rest all.1)
+
+  by_starts : (P : ℕ → Type 0) (entries : List Entry) → AllByRecursion P (starts_of entries) → AllByRecursion (λ (entry : Entry). absent sheet entry.start ≡ false → P entry.start) entries
+  by_starts P [] all = tt
+  by_starts P (entry ∷ rest) all = (λ e. all.0, by_starts P rest all.1)
+
+  seats_distinct_at : (entry : Entry) (rest : List SeatFacts) (t : Bool) → AllByRecursion (λ y. nat_eq entry.start y ≡ false) (starts rest) → IsDistinct nat_eq (starts rest)
+      → IsDistinct nat_eq (starts (cond t rest (seat_of sheet entry ∷ rest)))
+  unfolding starts IsDistinct
+  seats_distinct_at entry rest true other distinct = distinct
+  seats_distinct_at entry rest false other distinct = (other, distinct)
+
+  seats_distinct : (entries : List Entry) → IsDistinct nat_eq (starts_of entries) → IsDistinct nat_eq (starts (seats_of sheet entries))
+  unfolding starts IsDistinct
+  seats_distinct [] distinct = tt
+  seats_distinct (entry ∷ rest) distinct =
+      seats_distinct_at entry (seats_of sheet rest) (absent sheet entry.start)
+      (seats_all (λ y. nat_eq entry.start y ≡ false) rest (by_starts (λ y. nat_eq entry.start y ≡ false) rest distinct.0)) (seats_distinct rest distinct.1)
+
+  present_ones : (entries : List Entry) → AllByRecursion (λ (entry : Entry). absent sheet entry.start ≡ false → absent sheet entry.start ≡ false) entries
+  present_ones [] = tt
+  present_ones (entry ∷ rest) = (λ e. e, present_ones rest)
+
+named_in : List Entry → ℕ → Bool
+named_in entries start = list_any (λ (entry : Entry). entry.start == start) entries
+
+known_more : (first : Entry) (entries some : List Entry) → AllByRecursion (λ (entry : Entry). named_in entries entry.start ≡ true) some
+    → AllByRecursion (λ (entry : Entry). named_in (first ∷ entries) entry.start ≡ true) some
+unfolding named_in
+known_more first entries [] all = tt
+known_more first entries (entry ∷ some) all = (or_right (first.start == entry.start) (named_in entries entry.start) all.0, known_more first entries some all.1)
+
+all_known : (entries : List Entry) → AllByRecursion (λ (entry : Entry). named_in entries entry.start ≡ true) entries
+unfolding named_in
+all_known [] = tt
+all_known (entry ∷ rest) =
+    (or_left (entry.start == entry.start) (named_in rest entry.start) (eq-eqb entry.start entry.start refl), known_more entry rest rest (all_known rest))
+
+known_ones : (sheet : Sheet) (entries : List Entry) → AllByRecursion (λ (entry : Entry). named_in sheet.players entry.start ≡ true) entries
+    → AllByRecursion (λ (entry : Entry). absent sheet entry.start ≡ false → known sheet entry.start ≡ true) entries
+unfolding named_in
+known_ones sheet [] all = tt
+known_ones sheet (entry ∷ rest) all = (λ e. all.0, known_ones sheet rest all.1)
+
+-- ---- the total of rounds
+
+not_ok : {A : Type 0} (fault : FieldFault) (x : A) → ◌≡◌ {A = Result A FieldFault} (Err fault) (Ok x) → ⊥
+not_ok fault x e = cc
+
+same_ok : {A : Type 0} (x y : A) → ◌≡◌ {A = Result A FieldFault} (Ok x) (Ok y) → x ≡ y
+same_ok x y e = cc
+
+then_ok : {A B : Type 0} (r : Result A FieldFault) (f : A → Result B FieldFault) (y : B) → (r >>= f) ≡ Ok y → (x : A) × (r ≡ Ok x) × (f x ≡ Ok y)
+then_ok (Ok x) f y e = (x, refl, e)
+then_ok (Err fault) f y e = absurd (not_ok fault y e)
+
+ok_or_ok : (o : Option ℕ) (fault : FieldFault) (x : ℕ) → ok_or o fault ≡ Ok x → o ≡ Some x
+ok_or_ok None fault x e = absurd (not_ok fault x e)
+ok_or_ok (Some y) fault x e = ap Some (same_ok y x e)
+
+in_time : (total played : ℕ) (t : Bool) (x : ℕ) → nat_lt total (played + 1) ≡ t → ◌≡◌ {A = Result ℕ FieldFault} (cond t (Err RoundsOver) (Ok total)) (Ok x) → (total ≡ x) × (played + 1 ≤ x)
+in_time total played true x is e = absurd (not_ok RoundsOver x e)
+in_time total played false x is e = let same = same_ok total x e in (same, (let le : played + 1 ≤ total = grind (arith, nat_tests) in omega (arith, le, same)))
+
+total_is : (sheet : Sheet) (asked : Option ℕ) (total : ℕ) → total_for sheet asked ≡ Ok total → (total_of sheet asked ≡ Some total) × (rounds_played sheet + 1 ≤ total)
+unfolding total_for
+total_is sheet asked total e =
+    let last : ℕ → Result ℕ FieldFault = λ total. cond (nat_lt total (rounds_played sheet + 1)) (Err RoundsOver) (Ok total) in
+    let s1 = then_ok (refused (option_map (λ (at' : ℕ × ℕ). Unfinished at'.0 at'.1) (unfinished sheet)))
+    (λ _. refused (option_map (λ line. Unsupported line) (unsupported sheet)) >>= λ _. ok_or (total_of sheet asked) RoundsUnknown >>= last) total e in
+    let s2 = then_ok (refused (option_map (λ line. Unsupported line) (unsupported sheet))) (λ _. ok_or (total_of sheet asked) RoundsUnknown >>= last) total s1.2 in
+    let s3 = then_ok (ok_or (total_of sheet asked) RoundsUnknown) last total s2.2 in
+    let named = ok_or_ok (total_of sheet asked) RoundsUnknown s3.0 s3.1 in
+    let time = in_time s3.0 (rounds_played sheet) (nat_lt s3.0 (rounds_played sheet + 1)) total refl s3.2 in
+    (named ∙ ap Some time.0, time.1)
+
+-- ---- the field
+
+made : Sheet → Option Colour → ℕ → Facts
+made sheet initial total =
+    record { seats = ranked [] (seats_of sheet sheet.players); round = rounds_played sheet + 1; total = total; initial = initial_of sheet initial }
+
+field_made : (sheet : Sheet) (asked : Option ℕ) (initial : Option Colour) (total : ℕ) → HasOwnStarts sheet → total_of sheet asked ≡ Some total
+    → rounds_played sheet + 1 ≤ total → IsFieldOf sheet asked (made sheet initial total)
+unfolding made starts named_in
+field_made sheet asked initial total own named time =
+    let seats : List SeatFacts = seats_of sheet sheet.players in
+    let order : IsPermutation (starts seats) (starts (ranked [] seats)) = IsPermutation-map (λ (seat : SeatFacts). seat.start) seats (ranked [] seats) (ranked_permutes [] seats) in
+    let all : (P : ℕ → Type 0) → AllByRecursion (λ (entry : Entry). absent sheet entry.start ≡ false → P entry.start) sheet.players → All P (starts (ranked [] seats)) =
+    λ P each. All-permutation P (starts seats) (starts (ranked [] seats)) order (All-from_recursion P (starts seats) (seats_all sheet P sheet.players each)) in
+    record {
+      players = all (λ start. known sheet start ≡ true) (known_ones sheet sheet.players (all_known sheet.players));
+      present = all (λ start. absent sheet start ≡ false) (present_ones sheet sheet.players);
+      once = IsDistinct-IsPermutation nat_eq flips (starts seats) (starts (ranked [] seats)) order (seats_distinct sheet sheet.players own.different);
+      from_one = all (λ start. 0 < start) (by_starts sheet (λ start. 0 < start) sheet.players
+          (recursion_from_All (λ start. 0 < start) (starts_of sheet.players) (λ k d lt. (own.within k d lt).0)));
+      next = refl;
+      total = named;
+      within = time;
+    }
+  where
+    flips : (x y : ℕ) → nat_eq x y ≡ nat_eq y x
+    flips x y = grind (arith, nat_tests)
+
+pub field_of : (sheet : Sheet) (asked : Option ℕ) (initial : Option Colour) (facts : Facts) → HasOwnStarts sheet → facts_of sheet asked initial ≡ Ok facts → IsFieldOf sheet asked facts
+unfolding facts_of made
+field_of sheet asked initial facts own e =
+    let s = then_ok (total_for sheet asked) (λ total. Ok (made sheet initial total)) facts e in
+    let rounds = total_is sheet asked s.0 s.1 in
+    subst (IsFieldOf sheet asked) (same_ok (made sheet initial s.0) facts s.2) (field_made sheet asked initial s.0 own rounds.0 rounds.1)

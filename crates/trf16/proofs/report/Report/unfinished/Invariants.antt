@@ -1,0 +1,7 @@
+use Rattle.std.proofs.Common.{◌≡◌, map}
+use Rattle.trf16.specs.Sheet.{entry_of}
+use Rattle.trf16.specs.Unfinished.{unfinished_of}
+use Rattle.trf16.proofs.report.Report.unfinished.Given as goal
+
+abbrev pub invariant-loop-player : goal.invariant-loop-player
+invariant-loop-player l = unfinished_of (map entry_of l.player-iterator) ≡ unfinished_of l.self.players

@@ -1,0 +1,14 @@
+-- The start ranks of a report, and how many rounds it names.
+use Rattle.std.specs.Prelude.{ℕ, ◌<◌, ◌≤◌, List, map, nat_eq, All, IfSome}
+use Rattle.std.specs.List.{IsDistinct}
+use Rattle.trf16.specs.Sheet.{Entry, Sheet}
+
+-- the start ranks of some players, in the order of their lines
+abbrev pub starts_of : List Entry → List ℕ
+starts_of entries = map (λ entry. entry.start) entries
+
+-- no two players have one start rank, each is from 1 to 9999, and a total of rounds is at most 32
+pub record HasOwnStarts (sheet : Sheet) : Type 0 where
+  pub different : IsDistinct nat_eq (starts_of sheet.players)
+  pub within : All (λ start. (0 < start) × (start ≤ 9999)) (starts_of sheet.players)
+  pub rounds : IfSome sheet.total (λ total. total ≤ 32)

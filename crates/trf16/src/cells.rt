@@ -1,0 +1,87 @@
+// The cells of a player, which stand for the rounds from 1 on: one of them, the first of them, and what they come to.
+ghost use Rattle.std.specs.Prelude.{◌≡◌, ◌<◌, ◌≤◌, length, sum_by, take};
+ghost use Rattle.trf16.specs.Sheet.{cell_at, half_points, is_paired, last_paired};
+ghost use Rattle.trf16.specs.Unfinished.{is_unfinished, first_unfinished};
+
+use crate::cell::{Bye, Cell};
+
+/// The cell of a round, which counts from 1; behind the last it is blank.
+pub fn cell_at(cells: &[Cell], round: u8) -> Cell
+    requires { 0 < round }
+    ensures { result ≡ cell_at cells.now round }
+{
+    cells
+        .get(usize::from(round) - 1)
+        .copied()
+        .unwrap_or(Cell::Blank)
+}
+
+/// The cells of the first rounds.
+pub fn front(cells: &[Cell], rounds: u8) -> &[Cell]
+    ensures value { result.now ≡ take rounds cells.now }
+    ensures shorter { length result.now ≤ length cells.now }
+{
+    cells.split_at(cells.len().min(usize::from(rounds))).0
+}
+
+/// The half points of some rounds.
+pub fn points_of(cells: &[Cell]) -> u16
+    requires { length cells.now ≤ 32 }
+    ensures value { result ≡ sum_by half_points cells.now }
+    ensures few { result ≤ 64 }
+{
+    let mut sum = 0;
+    for cell in cells {
+        sum += cell.half_points();
+    }
+    sum
+}
+
+fn is_paired(cell: &Cell) -> bool
+    ensures { result ≡ is_paired cell.now }
+{
+    match cell {
+        Cell::Blank | Cell::Bye(Bye::Half | Bye::Full | Bye::Zero) => false,
+        Cell::Bye(Bye::Allocated)
+        | Cell::Game { .. }
+        | Cell::Forfeit { .. }
+        | Cell::Unfinished { .. } => true,
+    }
+}
+
+/// The last round in which one of some cells is paired.
+pub(crate) fn last_paired(cells: &[Cell]) -> u8
+    requires { length cells.now ≤ 32 }
+    ensures value { result ≡ last_paired cells.now }
+    ensures within { result ≤ length cells.now }
+{
+    let mut last = 0;
+    for (i, cell) in cells.iter().enumerate() {
+        if is_paired(cell) {
+            last = i as u8 + 1;
+        }
+    }
+    last
+}
+
+fn is_unfinished(cell: &Cell) -> bool
+    ensures { result ≡ is_unfinished cell.now }
+{
+    match cell {
+        Cell::Unfinished { .. } => true,
+        _ => false,
+    }
+}
+
+/// The first round with a game that has no result.
+pub(crate) fn first_unfinished(cells: &[Cell]) -> Option<usize>
+    requires { length cells.now ≤ 32 }
+    ensures { result ≡ first_unfinished 1 cells.now }
+{
+    for (i, cell) in cells.iter().enumerate() {
+        if is_unfinished(cell) {
+            return Some(i + 1);
+        }
+    }
+    None
+}
