@@ -4,8 +4,7 @@ use Rattle.std.specs.List.{filter, flat_map}
 use Rattle.std.proofs.lemmas.List.Elements.{filter-append}
 use Rattle.std.proofs.lemmas.Bool.{cases_Bool, true≢false, and_from}
 use Rattle.dutch_order.specs.declared.bracket.Shape.{Shape}
-use Rattle.dutch_order.specs.Choices.{tuples, subsets, all_meet, is_same, from_on}
-use Rattle.dutch_order.specs.Trials.{numbers_from}
+use Rattle.dutch_order.specs.Choices.{tuples, subsets, all_meet, is_same, from_on, numbers_from}
 use Rattle.dutch_order.specs.Keys.{IsIn, sorted}
 use Rattle.dutch_order.specs.Transposition.{tuple_key, transpositions}
 use Rattle.dutch_order.specs.Exchange.{exchanges, exchange_key}

@@ -3,9 +3,8 @@ use Rattle.std.proofs.Common.{◌≡◌, ℕ, zero, suc, ◌+◌, ◌<◌, ◌�
 use Rattle.std.specs.List.{filter, AllByRecursion}
 use Rattle.std.specs.List.Sorted.{IsStrictlyIncreasing}
 use Rattle.std.proofs.lemmas.Bool.{eqb-true, ne_eqb, cases_Bool}
-use Rattle.dutch_order.specs.Choices.{subsets, tuples, is_member, is_same, without, all_meet, from_on}
+use Rattle.dutch_order.specs.Choices.{subsets, tuples, is_member, is_same, without, all_meet, from_on, numbers_from}
 use Rattle.dutch_order.specs.Keys.{IsIn, sorted}
-use Rattle.dutch_order.specs.Trials.{numbers_from}
 use Rattle.dutch_order.specs.Transposition.{tuple_key, transpositions}
 use Rattle.dutch_order.specs.Limbo.{limbo_exchanges, limbo_key}
 use Rattle.dutch_order.specs.Arrangements.{left_of}

@@ -3,8 +3,7 @@ use Rattle.std.proofs.Common.{◌≡◌, ℕ, zero, suc, ◌+◌, ◌-◌, ◌<�
 use Rattle.std.specs.List.{AllByRecursion}
 use Rattle.std.proofs.lemmas.List.{length-take-le}
 use Rattle.std.proofs.lemmas.Bool.{and_from}
-use Rattle.dutch_order.specs.Trials.{numbers_from}
-use Rattle.dutch_order.specs.Choices.{subsets, tuples, is_member}
+use Rattle.dutch_order.specs.Choices.{subsets, tuples, is_member, numbers_from}
 use Rattle.dutch_order.specs.Keys.{IsIn, sorted}
 use Rattle.dutch_order.specs.Transposition.{tuple_key}
 use Rattle.dutch_order.specs.Exchange.{exchange_key, exchanges}

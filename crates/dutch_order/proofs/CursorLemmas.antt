@@ -2,7 +2,7 @@
 use Rattle.std.proofs.Common.{◌≡◌, ℕ, ◌+◌, Bool, true, false, ◌==◌, cond, List, [], ◌∷◌, ◌++◌, refl, sym, ap, Option, Some, None}
 use Rattle.std.specs.Option.{option_map}
 use Rattle.std.proofs.lemmas.List.{append_assoc}
-use Rattle.dutch_order.specs.Trials.{numbers_from}
+use Rattle.dutch_order.specs.Choices.{numbers_from}
 use Rattle.dutch_order.specs.Cursors.{onto_first, parts, arrangement_of, ◌>>=◌}
 use Rattle.dutch_order.proofs.Members.{numbers-append}
 

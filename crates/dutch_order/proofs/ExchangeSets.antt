@@ -9,8 +9,7 @@ use Rattle.std.proofs.lemmas.List.Kept.{AllPairs-from_increasing}
 use Rattle.std.proofs.lemmas.Simd.{map-map}
 use Rattle.std.proofs.lemmas.Bool.{cases_order, eq-eqb, ne_eqb, or_from, or_left, or_right}
 use Rattle.dutch_order.specs.declared.exchange.Side.TheVariants.{Out, In}
-use Rattle.dutch_order.specs.Trials.{numbers_from}
-use Rattle.dutch_order.specs.Choices.{is_member, subsets}
+use Rattle.dutch_order.specs.Choices.{is_member, subsets, numbers_from}
 use Rattle.dutch_order.specs.Keys.{IsIn, higher_first}
 use Rattle.dutch_order.specs.Exchange.{moved_out, moved_in, exchange_key, sum_of}
 use Rattle.dutch_order.specs.Stages.{total, value_of, kept_of, out_places, in_places}

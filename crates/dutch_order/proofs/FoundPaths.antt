@@ -3,7 +3,8 @@ use Rattle.std.proofs.Common.{◌≡◌, ℕ, zero, suc, ◌+◌, ◌-◌, ◌<�
 use Rattle.std.specs.List.{flat_map}
 use Rattle.std.proofs.lemmas.List.{append-nil}
 use Rattle.std.proofs.lemmas.Bool.{cases_eq}
-use Rattle.dutch_order.specs.Trials.{Plan, numbers_from}
+use Rattle.dutch_order.specs.Choices.{numbers_from}
+use Rattle.dutch_order.specs.Trials.{Plan}
 use Rattle.dutch_order.specs.Keys.{is_before, IsIn, Ascends}
 use Rattle.dutch_order.proofs.HalfWalks.{Admitted}
 use Rattle.dutch_order.proofs.Found.{found, found-zero, found-suc}

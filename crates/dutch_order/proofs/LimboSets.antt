@@ -5,9 +5,9 @@ use Rattle.std.proofs.lemmas.List.{append-nil, length-map, get_or_past}
 use Rattle.std.proofs.lemmas.Simd.{map-map}
 use Rattle.std.proofs.lemmas.Bool.{true≢false, cases_Bool, eqb-true, eq-eqb, ne_eqb, and_parts, and_from, or_cases, or_left, or_right, lt-ltb, le-ltb, eqb-false, cases_lt, not_from_false, not-true}
 use Rattle.std.specs.List.{filter}
-use Rattle.dutch_order.specs.Trials.{Plan, numbers_from, entry, ahead, hits, trials}
+use Rattle.dutch_order.specs.Trials.{Plan, entry, ahead, hits, trials}
 use Rattle.dutch_order.specs.Hints.{hinted, first_hint}
-use Rattle.dutch_order.specs.Choices.{subsets, from_on}
+use Rattle.dutch_order.specs.Choices.{subsets, from_on, numbers_from}
 use Rattle.dutch_order.specs.Keys.{is_before, IsIn, Ascends, higher_first}
 use Rattle.dutch_order.specs.Halves.{half_start}
 use Rattle.dutch_order.specs.Limbo.{limbo_key, limbo_exchanges, score_of, IsNonAscending}

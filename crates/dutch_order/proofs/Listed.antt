@@ -3,8 +3,7 @@ use Rattle.std.proofs.Common.{◌≡◌, ℕ, Bool, true, false, ◌&&◌, cond,
 use Rattle.std.specs.List.{filter, flat_map}
 use Rattle.std.proofs.lemmas.Bool.{cases_Bool}
 use Rattle.dutch_order.specs.declared.bracket.Shape.{Shape}
-use Rattle.dutch_order.specs.Choices.{subsets, tuples, all_meet}
-use Rattle.dutch_order.specs.Trials.{numbers_from}
+use Rattle.dutch_order.specs.Choices.{subsets, tuples, all_meet, numbers_from}
 use Rattle.dutch_order.specs.Keys.{IsIn, sorted}
 use Rattle.dutch_order.specs.Transposition.{tuple_key, transpositions}
 use Rattle.dutch_order.specs.Exchange.{exchanges, exchange_key}

@@ -2,7 +2,8 @@
 use Rattle.std.proofs.Common.{◌≡◌, ℕ, zero, suc, ◌+◌, ◌-◌, ◌<◌, ◌≤◌, true, false, cond, List, [], ◌∷◌, ◌++◌, length, refl, sym, ◌∙◌, ap, append_assoc, arith, length-append, subst, take, drop}
 use Rattle.std.specs.List.{flat_map, AllByRecursion}
 use Rattle.std.proofs.lemmas.List.{append-nil}
-use Rattle.dutch_order.specs.Trials.{Plan, Event, Tried, Hit, numbers_from, entry, below, after, ahead, trials}
+use Rattle.dutch_order.specs.Choices.{numbers_from}
+use Rattle.dutch_order.specs.Trials.{Plan, Event, Tried, Hit, entry, below, after, ahead, trials}
 use Rattle.dutch_order.specs.Walks.{Walked}
 
 -- nothing follows the empty path

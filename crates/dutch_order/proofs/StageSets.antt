@@ -1,26 +1,23 @@
 -- The stages of exchanges find all sets, by their keys.
-use Rattle.std.proofs.Common.{◌≡◌, ℕ, zero, suc, ◌+◌, ◌-◌, ◌<◌, ◌≤◌, Bool, true, false, not, min, List, [], ◌∷◌, ◌++◌, map, length, drop, refl, sym, ◌∙◌, ap, append_assoc, arith, subst, ◌⊎◌, inl, inr, slice_index, zero-add, Option, Some, None, cond, nat_lt, nat_le, ◌&&◌, if◌then◌else◌}
+use Rattle.std.proofs.Common.{◌≡◌, ℕ, zero, suc, ◌+◌, ◌-◌, ◌<◌, ◌≤◌, Bool, true, false, min, List, [], ◌∷◌, ◌++◌, map, length, drop, refl, sym, ◌∙◌, ap, append_assoc, arith, subst, ◌⊎◌, inl, inr, slice_index, zero-add, Option, Some, None, cond, nat_lt, nat_le, ◌&&◌, if◌then◌else◌}
 use Rattle.std.specs.List.Sorted.{IsStrictlyIncreasing}
 use Rattle.std.proofs.lemmas.List.{append-nil, length-map}
 use Rattle.std.proofs.lemmas.Simd.{map-map}
-use Rattle.std.proofs.lemmas.Bool.{true≢false, cases_eq, cases_order, cases_Bool, not_from_true, not_from_false, and_parts, and_cases, leb-true, leb-false, lt-ltb, ltb-true, eq-eqb, ne_eqb}
+use Rattle.std.proofs.lemmas.Bool.{true≢false, cases_eq, cases_Bool, and_parts, and_cases, leb-true, leb-false, lt-ltb, ltb-true, eq-eqb, ne_eqb}
 use Rattle.dutch_order.specs.declared.exchange.Side.TheVariants.{Out, In}
-use Rattle.dutch_order.specs.Trials.{Plan, Event, Tried, Hit, numbers_from, entry, below, ahead, hits, lower, lowest}
-use Rattle.std.specs.List.{flat_map, filter}
-use Rattle.dutch_order.specs.Choices.{subsets, from_on}
-use Rattle.dutch_order.specs.Hints.{hinted, first_hint}
+use Rattle.dutch_order.specs.Trials.{Plan, Event, Tried, Hit, entry, below, ahead, hits, lower, lowest}
+use Rattle.std.specs.List.{flat_map}
+use Rattle.dutch_order.specs.Choices.{subsets, numbers_from}
 use Rattle.dutch_order.specs.Keys.{is_before, IsIn, Ascends, higher_first}
 use Rattle.dutch_order.specs.Exchange.{exchange_key, exchanges}
-use Rattle.dutch_order.specs.Stages.{total, value_of, within_reach, beyond_reach, exchange_plan, kept_of, set_of, stage_sets, stage_left, sets_of_stages, sets_of_sizes, stages_of, least_difference, greatest_difference, most_exchanged, sets_ahead, is_next, least_at, greatest_at, out_places, in_places, exchange_path, exchange_difference}
+use Rattle.dutch_order.specs.Stages.{total, value_of, within_reach, beyond_reach, exchange_plan, kept_of, set_of, stage_sets, stage_left, sets_of_stages, sets_of_sizes, stages_of, least_difference, greatest_difference, most_exchanged, sets_ahead, is_next, least_at, greatest_at}
 use Rattle.dutch_order.proofs.HalfWalks.{Climbs, AllFit, Admitted, halves-split, halves-join, Climbs-room}
-use Rattle.dutch_order.proofs.Orders.{is_before-lower, is_before-equal, is_before-cases, is_before-irreflexive, IsIn-map, map-IsIn, IsIn-append, IsIn-front, IsIn-back, IsIn-filter, filter-IsIn, Ascends-append, Ascends-filter, Ascends-unique, is_before-asymmetric, member_has}
+use Rattle.dutch_order.proofs.Orders.{is_before-lower, is_before-equal, is_before-cases, is_before-irreflexive, IsIn-map, map-IsIn, IsIn-append, IsIn-front, IsIn-back, Ascends-append, member_has}
 use Rattle.dutch_order.proofs.Found.{found, ahead-new}
 use Rattle.dutch_order.proofs.FoundPaths.{in-numbers, found-admitted, admitted-found, found-ascends, is_before-begun}
 use Rattle.dutch_order.proofs.LimboSets.{is_before-split, is_before-join, drop_front}
-use Rattle.dutch_order.proofs.Sets.{subsets-climb, subsets-map, subsets-ascend, ascending-sorted, in-sorted, sorted-in, Ascends-map}
-use Rattle.dutch_order.proofs.Hinted.{hinted-ahead, hinted-hits}
-use Rattle.dutch_order.proofs.FromOn.{is_late, from_on-filter, order-same, admitted-length, admitted-reaches}
-use Rattle.dutch_order.proofs.ExchangeSets.{v, v-raises, pool-is, set-is, set-in_pool, exchange_key-is, exchange-of, places-of_exchange}
+use Rattle.dutch_order.proofs.Sets.{subsets-climb, subsets-map, subsets-ascend, ascending-sorted, Ascends-map}
+use Rattle.dutch_order.proofs.ExchangeSets.{v, v-raises, pool-is, set-is, set-in_pool, exchange_key-is, exchange-of}
 use Rattle.dutch_order.proofs.StageMoves.{sets-first}
 use Rattle.dutch_order.proofs.Reach.{out-falls, inn-raises, difference-least, difference-greatest, outs-fit, ins-fit, ins-exact, take_front_of}
 
@@ -81,10 +78,10 @@ module _ (pool : List ℕ) (k : ℕ) (rises : IsStrictlyIncreasing pool) (enough
   abbrev pub key : List ℕ → List ℕ
   key = exchange_key pool k
 
-  abbrev inn : ℕ → ℕ
+  abbrev pub inn : ℕ → ℕ
   inn = value_of pool k In
 
-  abbrev out : ℕ → ℕ
+  abbrev pub out : ℕ → ℕ
   out = value_of pool k Out
 
   starts_at_none : (size difference open_places : ℕ) → entry (exchange_plan pool k size difference) open_places [] ≡ 0
@@ -97,18 +94,18 @@ module _ (pool : List ℕ) (k : ℕ) (rises : IsStrictlyIncreasing pool) (enough
       ap (λ place. map (set_of pool k size) (hits (ahead (exchange_plan pool k size difference) [] place))) (sym (starts_at_none size difference (size + size)))
       ∙ ap (λ events. map (set_of pool k size) (hits events)) (ahead-new (exchange_plan pool k size difference))
 
-  path-set : (size : ℕ) (outs ins : List ℕ) → length outs ≡ size → set_of pool k size (outs ++ ins) ≡ kept_of pool k outs ++ map inn ins
+  pub path-set : (size : ℕ) (outs ins : List ℕ) → length outs ≡ size → set_of pool k size (outs ++ ins) ≡ kept_of pool k outs ++ map inn ins
   path-set size outs ins whole =
       ap (λ xs. kept_of pool k xs ++ map inn (drop size (outs ++ ins))) (take_front_of outs ins size whole)
       ∙ ap (λ xs. kept_of pool k outs ++ map inn xs) (drop_front outs ins size whole)
 
-  no_difference : (outs ins : List ℕ) → length outs ≡ 0 → length ins ≡ 0 → total inn ins - total out outs ≡ 0
+  pub no_difference : (outs ins : List ℕ) → length outs ≡ 0 → length ins ≡ 0 → total inn ins - total out outs ≡ 0
   no_difference [] [] p q = refl
   no_difference [] (x ∷ ins) p q = absurd (omega arith)
   no_difference (x ∷ outs) ins p q = absurd (omega arith)
 
   -- a path that is found is an exchange
-  path-exchange : (size difference : ℕ) → (size ≡ 0 → difference ≡ 0) → (path : List ℕ) → IsIn path (found (exchange_plan pool k size difference) (size + size) []) → (outs : List ℕ) × (ins : List ℕ) × (path ≡ outs ++ ins) × Exchange pool k size difference (set_of pool k size path) outs ins
+  pub path-exchange : (size difference : ℕ) → (size ≡ 0 → difference ≡ 0) → (path : List ℕ) → IsIn path (found (exchange_plan pool k size difference) (size + size) []) → (outs : List ℕ) × (ins : List ℕ) × (path ≡ outs ++ ins) × Exchange pool k size difference (set_of pool k size path) outs ins
   path-exchange size difference none path m =
       let found' = found-admitted (exchange_plan pool k size difference) (size + size) [] path m in
       let halves = halves-split size k (length pool - k) (within_reach pool k size difference) (beyond_reach pool k size difference) found'.0 found'.2 in
@@ -135,13 +132,13 @@ module _ (pool : List ℕ) (k : ℕ) (rises : IsStrictlyIncreasing pool) (enough
         },
       )
 
-  stage-exchange : (size difference : ℕ) → (size ≡ 0 → difference ≡ 0) → (set : List ℕ) → IsIn set (stage_sets pool k size difference [] 0) → (outs : List ℕ) × (ins : List ℕ) × Exchange pool k size difference set outs ins
+  pub stage-exchange : (size difference : ℕ) → (size ≡ 0 → difference ≡ 0) → (set : List ℕ) → IsIn set (stage_sets pool k size difference [] 0) → (outs : List ℕ) × (ins : List ℕ) × Exchange pool k size difference set outs ins
   stage-exchange size difference none set m =
       let from = IsIn-map (set_of pool k size) set (found (exchange_plan pool k size difference) (size + size) []) (subst (IsIn set) (stage-is size difference) m) in
       let path = path-exchange size difference none from.0 from.2 in
       (path.0, path.1, subst (λ s. Exchange pool k size difference s path.0 path.1) (sym from.1) path.3)
 
-  exchange-admitted : (size difference : ℕ) (set outs ins : List ℕ) → Exchange pool k size difference set outs ins → Admitted (exchange_plan pool k size difference) (size + size) [] (outs ++ ins)
+  pub exchange-admitted : (size difference : ℕ) (set outs ins : List ℕ) → Exchange pool k size difference set outs ins → Admitted (exchange_plan pool k size difference) (size + size) [] (outs ++ ins)
   exchange-admitted size difference set outs ins e =
       halves-join size k (length pool - k) (within_reach pool k size difference) (beyond_reach pool k size difference) outs ins (record {
         front_climbs = e.outs_climb;
@@ -160,7 +157,7 @@ module _ (pool : List ℕ) (k : ℕ) (rises : IsStrictlyIncreasing pool) (enough
       (map-IsIn (set_of pool k size) (outs ++ ins) (found (exchange_plan pool k size difference) (size + size) [])
       (admitted-found (exchange_plan pool k size difference) (size + size) [] (outs ++ ins) (exchange-admitted size difference set outs ins e))))
 
-  key-at : (size difference : ℕ) (set outs ins : List ℕ) → Exchange pool k size difference set outs ins → key set ≡ size ∷ difference ∷ (map (λ i. higher_first (out i)) outs ++ map inn ins)
+  pub key-at : (size difference : ℕ) (set outs ins : List ℕ) → Exchange pool k size difference set outs ins → key set ≡ size ∷ difference ∷ (map (λ i. higher_first (out i)) outs ++ map inn ins)
   key-at size difference set outs ins e =
       ap key (e.is_set ∙ set-is pool k rises enough outs ins)
       ∙ exchange_key-is pool k rises enough outs ins e.outs_climb e.ins_climb
@@ -169,7 +166,7 @@ module _ (pool : List ℕ) (k : ℕ) (rises : IsStrictlyIncreasing pool) (enough
       ∙ ap (λ xs. size ∷ difference ∷ (xs ++ map inn ins)) (map-map higher_first out outs)
 
   -- within a stage, earlier paths have earlier keys
-  stage-order : (size difference : ℕ) → (size ≡ 0 → difference ≡ 0) → (p q : List ℕ) → IsIn p (found (exchange_plan pool k size difference) (size + size) []) → IsIn q (found (exchange_plan pool k size difference) (size + size) []) → is_before p q ≡ true → is_before (key (set_of pool k size p)) (key (set_of pool k size q)) ≡ true
+  pub stage-order : (size difference : ℕ) → (size ≡ 0 → difference ≡ 0) → (p q : List ℕ) → IsIn p (found (exchange_plan pool k size difference) (size + size) []) → IsIn q (found (exchange_plan pool k size difference) (size + size) []) → is_before p q ≡ true → is_before (key (set_of pool k size p)) (key (set_of pool k size q)) ≡ true
   stage-order size difference none p q m n h =
       let one = path-exchange size difference none p m in
       let two = path-exchange size difference none q n in
@@ -279,7 +276,7 @@ module _ (pool : List ℕ) (k : ℕ) (rises : IsStrictlyIncreasing pool) (enough
   above_append : (first : ℕ) (xs ys : List Event) → ((m : ℕ) → lowest xs ≡ Some m → first < m) → ((m : ℕ) → lowest ys ≡ Some m → first < m) → (n : ℕ) → lowest (xs ++ ys) ≡ Some n → first < n
   above_append first xs ys p q n is = above_lower first n (lowest xs) (lowest ys) p q (sym (lowest-append xs ys) ∙ is)
 
-  beyond_above : (size first : ℕ) (path : List ℕ) (place n : ℕ) → beyond_reach pool k size first path place ≡ Some n → first < n
+  pub beyond_above : (size first : ℕ) (path : List ℕ) (place n : ℕ) → beyond_reach pool k size first path place ≡ Some n → first < n
   beyond_above size first path place n is =
       elim (cases_Bool (nat_lt first (least_at pool k size path place))) [
         | inl over ↦
@@ -308,7 +305,7 @@ module _ (pool : List ℕ) (k : ℕ) (rises : IsStrictlyIncreasing pool) (enough
         (cond_above first (plan.fits path x) (below plan open_places (path ++ x ∷ []) (entry plan open_places (path ++ x ∷ []))) (each x)) told)
         (tried_above open_places path each numbers) n is
 
-    below_above : (open_places : ℕ) (path : List ℕ) (number n : ℕ) → lowest (below plan open_places path number) ≡ Some n → first < n
+    pub below_above : (open_places : ℕ) (path : List ℕ) (number n : ℕ) → lowest (below plan open_places path number) ≡ Some n → first < n
     unfolding below
     below_above zero path zero n is = cc
     below_above zero path (suc number) n is = cc
@@ -342,7 +339,7 @@ module _ (pool : List ℕ) (k : ℕ) (rises : IsStrictlyIncreasing pool) (enough
         | inr most ↦ subst (λ events. AtMost difference (lowest events)) (sym (ahead-is size first)) most
       ]
 
-  stages-in : (count size first : ℕ) (next : Option ℕ) (set : List ℕ) → IsIn set (sets_of_stages pool k count size first next) → (difference : ℕ) × (first ≤ difference) × (difference < first + count) × IsIn set (stage_sets pool k size difference [] 0)
+  pub stages-in : (count size first : ℕ) (next : Option ℕ) (set : List ℕ) → IsIn set (sets_of_stages pool k count size first next) → (difference : ℕ) × (first ≤ difference) × (difference < first + count) × IsIn set (stage_sets pool k size difference [] 0)
   unfolding sets_of_stages
   stages-in zero size first next set m = absurd m
   stages-in (suc count) size first next set m =
@@ -352,7 +349,7 @@ module _ (pool : List ℕ) (k : ℕ) (rises : IsStrictlyIncreasing pool) (enough
         | inr (inr later) ↦ let rest = stages-in count size (suc first) next set later.1 in (rest.0, omega (arith, rest.1), omega (arith, rest.2), rest.3)
       ]
 
-  in-stages : (count size first difference n : ℕ) (next : Option ℕ) (set outs ins : List ℕ) → Exchange pool k size difference set outs ins → next ≡ Some n → first ≤ n → n ≤ difference → difference < first + count → IsIn set (sets_of_stages pool k count size first next)
+  pub in-stages : (count size first difference n : ℕ) (next : Option ℕ) (set outs ins : List ℕ) → Exchange pool k size difference set outs ins → next ≡ Some n → first ≤ n → n ≤ difference → difference < first + count → IsIn set (sets_of_stages pool k count size first next)
   unfolding sets_of_stages AtMost
   in-stages zero size first difference n next set outs ins e is from to below' = absurd (omega arith)
   in-stages (suc count) size first difference n next set outs ins e is from to below' =
@@ -376,7 +373,7 @@ module _ (pool : List ℕ) (k : ℕ) (rises : IsStrictlyIncreasing pool) (enough
             (in-stages count size (suc first) difference n next set outs ins e is (omega (arith, other)) to (omega arith))
       ]
 
-  stages-ascend : (count size first : ℕ) (next : Option ℕ) → ((difference : ℕ) → first ≤ difference → difference < first + count → size ≡ 0 → difference ≡ 0) → Ascends key (sets_of_stages pool k count size first next)
+  pub stages-ascend : (count size first : ℕ) (next : Option ℕ) → ((difference : ℕ) → first ≤ difference → difference < first + count → size ≡ 0 → difference ≡ 0) → Ascends key (sets_of_stages pool k count size first next)
   unfolding sets_of_stages
   stages-ascend zero size first next none = tt
   stages-ascend (suc count) size first next none =
@@ -411,7 +408,7 @@ module _ (pool : List ℕ) (k : ℕ) (rises : IsStrictlyIncreasing pool) (enough
         | inr later ↦ let rest = sizes-in count (suc first) set later in (rest.0, omega (arith, rest.1), omega (arith, rest.2), rest.3)
       ]
 
-  in-sizes : (count first size : ℕ) (set : List ℕ) → first ≤ size → size < first + count → IsIn set (sets_of_stages pool k (stages_of pool k size) size (least_difference pool k size) (Some (least_difference pool k size))) → IsIn set (sets_of_sizes pool k count first)
+  pub in-sizes : (count first size : ℕ) (set : List ℕ) → first ≤ size → size < first + count → IsIn set (sets_of_stages pool k (stages_of pool k size) size (least_difference pool k size) (Some (least_difference pool k size))) → IsIn set (sets_of_sizes pool k count first)
   unfolding sets_of_sizes
   in-sizes zero first size set from below m = absurd (omega arith)
   in-sizes (suc count) first size set from below m =
@@ -420,14 +417,14 @@ module _ (pool : List ℕ) (k : ℕ) (rises : IsStrictlyIncreasing pool) (enough
         | inr other ↦ IsIn-back set (sets_of_stages pool k (stages_of pool k first) first (least_difference pool k first) (Some (least_difference pool k first))) (sets_of_sizes pool k count (suc first)) (in-sizes count (suc first) size set (omega (arith, other)) (omega arith) m)
       ]
 
-  size-exchange : (count first : ℕ) (set : List ℕ) → IsIn set (sets_of_sizes pool k count first) → (size : ℕ) × (difference : ℕ) × (outs : List ℕ) × (ins : List ℕ) × (first ≤ size) × Exchange pool k size difference set outs ins
+  pub size-exchange : (count first : ℕ) (set : List ℕ) → IsIn set (sets_of_sizes pool k count first) → (size : ℕ) × (difference : ℕ) × (outs : List ℕ) × (ins : List ℕ) × (first ≤ size) × Exchange pool k size difference set outs ins
   size-exchange count first set m =
       let size = sizes-in count first set m in
       let stage = stages-in (stages_of pool k size.0) size.0 (least_difference pool k size.0) (Some (least_difference pool k size.0)) set size.3 in
       let e = stage-exchange size.0 stage.0 (none_at size.0 stage.0 stage.1 stage.2) set stage.3 in
       (size.0, stage.0, e.0, e.1, size.1, e.2)
 
-  sizes-ascend : (count first : ℕ) → Ascends key (sets_of_sizes pool k count first)
+  pub sizes-ascend : (count first : ℕ) → Ascends key (sets_of_sizes pool k count first)
   unfolding sets_of_sizes
   sizes-ascend zero first = tt
   sizes-ascend (suc count) first =
@@ -494,251 +491,3 @@ module _ (pool : List ℕ) (k : ℕ) (rises : IsStrictlyIncreasing pool) (enough
       ∙ ap (λ count. (stage_sets pool k 0 0 [] 0 ++ sets_of_stages pool k (greatest_difference pool k 0 - 0) 0 1 (lowest (ahead (exchange_plan pool k 0 0) [] 0))) ++ sets_of_sizes pool k count 1) (let e : most_exchanged pool k - 0 ≡ most_exchanged pool k = omega arith in e)
       ∙ ap (λ sets. sets ++ sets_of_sizes pool k (most_exchanged pool k) 1) (sym (sets-first pool k 0 (greatest_difference pool k 0 - 0) 0))
       ∙ sizes-sorted
-
-  -- the exchange of a set
-  exchange-is : (set : List ℕ) → IsIn set (subsets pool k) → Exchange pool k (length (out_places pool k set)) (exchange_difference pool k set) set (out_places pool k set) (in_places pool k set)
-  exchange-is set m =
-      let e = exchange-of pool k rises enough set m in
-      let same = places-of_exchange pool k rises enough set e.0 e.1 e.2 e.3 e.5 in
-      record {
-        outs_climb = subst (Climbs 0 k) (sym same.0) e.2;
-        ins_climb = subst (Climbs 0 (length pool - k)) (sym same.1) e.3;
-        outs_size = refl;
-        ins_size = ap length same.1 ∙ sym e.4 ∙ ap length (sym same.0);
-        differs = refl;
-        is_set = e.5 ∙ ap (λ outs. kept_of pool k outs ++ map inn e.1) (sym same.0) ∙ ap (λ ins. kept_of pool k (out_places pool k set) ++ map inn ins) (sym same.1);
-      }
-
-  -- no more are moved out or in than there are
-  pub exchange-room : (set : List ℕ) → IsIn set (subsets pool k) → (length (out_places pool k set) ≤ k) × (length (in_places pool k set) ≡ length (out_places pool k set)) × (length (out_places pool k set) ≤ length pool - k)
-  exchange-room set m =
-      let e = exchange-is set m in
-      let out_room : 0 + length (out_places pool k set) ≤ k = Climbs-length 0 k (out_places pool k set) (omega arith) e.outs_climb in
-      let in_room : 0 + length (in_places pool k set) ≤ length pool - k = Climbs-length 0 (length pool - k) (in_places pool k set) (omega arith) e.ins_climb in
-      (omega arith, e.ins_size, omega (arith, e.ins_size))
-
-  exchange-sorted : (size difference : ℕ) (set outs ins : List ℕ) → Exchange pool k size difference set outs ins → IsIn set (exchanges pool k)
-  exchange-sorted size difference set outs ins e =
-      in-sorted key set (subsets pool k)
-      (subst (λ s. IsIn s (subsets pool k)) (sym e.is_set) (set-in_pool pool k rises enough outs ins e.outs_climb e.ins_climb (e.outs_size ∙ sym e.ins_size)))
-
-  -- fewer exchanged are before more, and then a smaller difference before a larger one
-  before-larger : (size size' difference difference' : ℕ) (x y outs ins outs' ins' : List ℕ) → size < size' → Exchange pool k size difference x outs ins → Exchange pool k size' difference' y outs' ins' → is_before (key x) (key y) ≡ true
-  before-larger size size' difference difference' x y outs ins outs' ins' less e e' =
-      subst (λ z. is_before z (key y) ≡ true) (sym (key-at size difference x outs ins e))
-      (subst (λ z. is_before (size ∷ difference ∷ (map (λ i. higher_first (out i)) outs ++ map inn ins)) z ≡ true) (sym (key-at size' difference' y outs' ins' e'))
-      (is_before-lower size size' (difference ∷ (map (λ i. higher_first (out i)) outs ++ map inn ins)) (difference' ∷ (map (λ i. higher_first (out i)) outs' ++ map inn ins')) less))
-
-  before-wider : (size difference difference' : ℕ) (x y outs ins outs' ins' : List ℕ) → difference < difference' → Exchange pool k size difference x outs ins → Exchange pool k size difference' y outs' ins' → is_before (key x) (key y) ≡ true
-  before-wider size difference difference' x y outs ins outs' ins' less e e' =
-      let one : List ℕ = map (λ i. higher_first (out i)) outs ++ map inn ins in
-      let two : List ℕ = map (λ i. higher_first (out i)) outs' ++ map inn ins' in
-      subst (λ z. is_before z (key y) ≡ true) (sym (key-at size difference x outs ins e))
-      (subst (λ z. is_before (size ∷ difference ∷ one) z ≡ true) (sym (key-at size difference' y outs' ins' e'))
-      (is_before-equal size (difference ∷ one) (difference' ∷ two) ∙ is_before-lower difference difference' one two less))
-
-  -- a known next difference that none lies before
-  lower-next : (difference : ℕ) (o : Option ℕ) → ((n : ℕ) → o ≡ Some n → difference < n) → lower (Some (suc difference)) o ≡ Some (suc difference)
-  lower-next difference None above = refl
-  lower-next difference (Some n) above = ap Some (omega (arith, above n refl))
-
-  module _ (set : List ℕ) (given : IsIn set (subsets pool k)) where
-    abbrev outs : List ℕ
-    outs = out_places pool k set
-
-    abbrev ins : List ℕ
-    ins = in_places pool k set
-
-    abbrev hint : List ℕ
-    hint = exchange_path pool k set
-
-    abbrev size : ℕ
-    size = length outs
-
-    abbrev difference : ℕ
-    difference = exchange_difference pool k set
-
-    abbrev stage : Plan
-    stage = exchange_plan pool k size difference
-
-    abbrev late : List ℕ → Bool
-    late = is_late key set
-
-    e : Exchange pool k size difference set outs ins
-    e = exchange-is set given
-
-    -- where nothing is exchanged, nothing differs
-    none : size ≡ 0 → difference ≡ 0
-    none empty = no_difference outs ins empty (e.ins_size ∙ empty)
-
-    none_later : (difference' : ℕ) → suc difference ≤ difference' → difference' < suc difference + (greatest_difference pool k size - difference) → size ≡ 0 → difference' ≡ 0
-    none_later difference' from below' empty =
-        let nothing : greatest_difference pool k size ≡ 0 = ap (greatest_difference pool k) empty in
-        absurd (omega (arith, from, below', nothing))
-
-    admitted : Admitted stage (size + size) [] hint
-    admitted = exchange-admitted size difference set outs ins e
-
-    here : IsIn hint (found stage (size + size) [])
-    here = admitted-found stage (size + size) [] hint admitted
-
-    whole : size + size ≡ length hint
-    whole = sym (admitted-length stage (size + size) [] hint admitted)
-
-    hint-set : set_of pool k size hint ≡ set
-    hint-set = path-set size outs ins refl ∙ sym e.is_set
-
-    -- what its stage still finds
-    first_sets : List (List ℕ)
-    first_sets = map (set_of pool k size) (filter (λ path. not (is_before path hint)) (found stage (size + size) []))
-
-    stage-from : stage_left pool k hint size difference [] (first_hint hint) ≡ first_sets
-    unfolding stage_left first_sets
-    stage-from = ap (map (set_of pool k size)) (hinted-hits stage hint whole (admitted-reaches stage (size + size) [] hint admitted))
-
-    next-from : lower (Some (suc difference)) (lowest (ahead (hinted hint stage) [] (first_hint hint))) ≡ Some (suc difference)
-    next-from =
-        lower-next difference (lowest (ahead (hinted hint stage) [] (first_hint hint)))
-        (λ n is. below_above (hinted hint stage) difference (beyond_above size difference) (size + size) [] (entry (hinted hint stage) (size + size) []) n
-        (ap lowest (sym (hinted-ahead stage hint whole)) ∙ is))
-
-    second_sets : List (List ℕ)
-    second_sets = sets_of_stages pool k (greatest_difference pool k size - difference) size (suc difference) (Some (suc difference))
-
-    third_sets : List (List ℕ)
-    third_sets = sets_of_sizes pool k (most_exchanged pool k - size) (suc size)
-
-    -- each part has exchanges of its kind, and each is late
-    path-late : (path : List ℕ) → IsIn path (found stage (size + size) []) → late (set_of pool k size path) ≡ not (is_before path hint)
-    path-late path m =
-        ap (λ s. not (is_before (key (set_of pool k size path)) (key s))) (sym hint-set)
-        ∙ ap not (sym (order-same key (set_of pool k size) (found stage (size + size) []) (stage-order size difference none) path hint m here))
-
-    first-in : (x : List ℕ) → IsIn x first_sets → (late x ≡ true) × ((outs' : List ℕ) × (ins' : List ℕ) × Exchange pool k size difference x outs' ins')
-    unfolding first_sets
-    first-in x m =
-        let from = IsIn-map (set_of pool k size) x (filter (λ path. not (is_before path hint)) (found stage (size + size) [])) m in
-        let kept = IsIn-filter (λ path. not (is_before path hint)) from.0 (found stage (size + size) []) from.2 in
-        let path = path-exchange size difference none from.0 kept.0 in (
-          ap late from.1 ∙ path-late from.0 kept.0 ∙ kept.1,
-          (path.0, path.1, subst (λ s. Exchange pool k size difference s path.0 path.1) (sym from.1) path.3),
-        )
-
-    second-in : (x : List ℕ) → IsIn x second_sets → (difference' : ℕ) × (outs' : List ℕ) × (ins' : List ℕ) × (difference < difference') × Exchange pool k size difference' x outs' ins'
-    unfolding second_sets
-    second-in x m =
-        let later = stages-in (greatest_difference pool k size - difference) size (suc difference) (Some (suc difference)) x m in
-        let there = stage-exchange size later.0 (none_later later.0 later.1 later.2) x later.3 in
-        (later.0, there.0, there.1, omega (arith, later.1), there.2)
-
-    third-in : (x : List ℕ) → IsIn x third_sets → (size' : ℕ) × (difference' : ℕ) × (outs' : List ℕ) × (ins' : List ℕ) × (size < size') × Exchange pool k size' difference' x outs' ins'
-    unfolding third_sets
-    third-in x m =
-        let there = size-exchange (most_exchanged pool k - size) (suc size) x m in
-        (there.0, there.1, there.2, there.3, omega (arith, there.4), there.5)
-
-    after-late : (x : List ℕ) → is_before (key set) (key x) ≡ true → late x ≡ true
-    after-late x before = not_from_false (is_before (key x) (key set)) (is_before-asymmetric (key set) (key x) before)
-
-    parts-ascend : Ascends key (first_sets ++ (second_sets ++ third_sets))
-    unfolding first_sets second_sets third_sets
-    parts-ascend =
-        let first_ascend : Ascends key first_sets =
-        Ascends-map key (set_of pool k size) (filter (λ path. not (is_before path hint)) (found stage (size + size) []))
-        (Ascends-filter (λ path. path) (λ path. not (is_before path hint)) (found stage (size + size) []) (found-ascends stage (size + size) []))
-        (λ p q m n. stage-order size difference none p q
-        (IsIn-filter (λ path. not (is_before path hint)) p (found stage (size + size) []) m).0
-        (IsIn-filter (λ path. not (is_before path hint)) q (found stage (size + size) []) n).0) in
-        let rest_ascend : Ascends key (second_sets ++ third_sets) =
-        Ascends-append key second_sets third_sets
-        (stages-ascend (greatest_difference pool k size - difference) size (suc difference) (Some (suc difference)) none_later)
-        (sizes-ascend (most_exchanged pool k - size) (suc size))
-        (λ x y m n.
-        let one = second-in x m in
-        let two = third-in y n in
-        before-larger size two.0 one.0 two.1 x y one.1 one.2 two.2 two.3 two.4 one.4 two.5) in
-        Ascends-append key first_sets (second_sets ++ third_sets) first_ascend rest_ascend
-        (λ x y m n.
-        let one = (first-in x m).1 in
-        elim (IsIn-append y second_sets third_sets n) [
-          | inl second ↦ (let two = second-in y second in before-wider size difference two.0 x y one.0 one.1 two.1 two.2 two.3 one.2 two.4)
-          | inr third ↦ (let two = third-in y third in before-larger size two.0 difference two.1 x y one.0 one.1 two.2 two.3 two.4 one.2 two.5)
-        ])
-
-    -- the parts have what is not before the set
-    parts-late : (x : List ℕ) → IsIn x (first_sets ++ (second_sets ++ third_sets)) → IsIn x (filter late (exchanges pool k))
-    parts-late x m =
-        elim (IsIn-append x first_sets (second_sets ++ third_sets) m) [
-          | inl first ↦ (let one = first-in x first in filter-IsIn late x (exchanges pool k) (exchange-sorted size difference x one.1.0 one.1.1 one.1.2) one.0)
-          | inr rest ↦ elim (IsIn-append x second_sets third_sets rest) [
-            | inl second ↦ (let two = second-in x second in
-                filter-IsIn late x (exchanges pool k) (exchange-sorted size two.0 x two.1 two.2 two.4)
-                (after-late x (before-wider size difference two.0 set x outs ins two.1 two.2 two.3 e two.4)))
-            | inr third ↦ (let two = third-in x third in
-                filter-IsIn late x (exchanges pool k) (exchange-sorted two.0 two.1 x two.2 two.3 two.5)
-                (after-late x (before-larger size two.0 difference two.1 set x outs ins two.2 two.3 two.4 e two.5)))
-          ]
-        ]
-
-    not-late : (x : List ℕ) → is_before (key x) (key set) ≡ true → late x ≡ true → ⊥
-    not-late x before is = true≢false (sym is ∙ not_from_true (is_before (key x) (key set)) before)
-
-    late-first : (x outs' ins' : List ℕ) → Exchange pool k size difference x outs' ins' → late x ≡ true → IsIn x first_sets
-    unfolding first_sets
-    late-first x outs' ins' e' is =
-        let path : List ℕ = outs' ++ ins' in
-        let there : IsIn path (found stage (size + size) []) = admitted-found stage (size + size) [] path (exchange-admitted size difference x outs' ins' e') in
-        let made : set_of pool k size path ≡ x = path-set size outs' ins' e'.outs_size ∙ sym e'.is_set in
-        subst (λ s. IsIn s (map (set_of pool k size) (filter (λ path. not (is_before path hint)) (found stage (size + size) [])))) made
-        (map-IsIn (set_of pool k size) path (filter (λ path. not (is_before path hint)) (found stage (size + size) []))
-        (filter-IsIn (λ path. not (is_before path hint)) path (found stage (size + size) []) there
-        (sym (path-late path there) ∙ ap late made ∙ is)))
-
-    late-second : (difference' : ℕ) (x outs' ins' : List ℕ) → Exchange pool k size difference' x outs' ins' → difference < difference' → IsIn x second_sets
-    unfolding second_sets
-    late-second difference' x outs' ins' e' less =
-        let greatest : total inn ins' - total out outs' ≤ greatest_difference pool k size = difference-greatest pool k rises enough outs' ins' size e'.outs_size e'.ins_size e'.outs_climb e'.ins_climb in
-        in-stages (greatest_difference pool k size - difference) size (suc difference) difference' (suc difference) (Some (suc difference)) x outs' ins' e' refl (omega arith) (omega arith)
-        (omega (arith, greatest, e'.differs, less))
-
-    late-third : (size' difference' : ℕ) (x outs' ins' : List ℕ) → Exchange pool k size' difference' x outs' ins' → size < size' → IsIn x third_sets
-    unfolding third_sets
-    late-third size' difference' x outs' ins' e' less =
-        let least : least_difference pool k size' ≤ total inn ins' - total out outs' = difference-least pool k rises enough outs' ins' size' e'.outs_size e'.ins_size e'.outs_climb e'.ins_climb in
-        let greatest : total inn ins' - total out outs' ≤ greatest_difference pool k size' = difference-greatest pool k rises enough outs' ins' size' e'.outs_size e'.ins_size e'.outs_climb e'.ins_climb in
-        let out_room : 0 + length outs' ≤ k = Climbs-length 0 k outs' (omega arith) e'.outs_climb in
-        let in_room : 0 + length ins' ≤ length pool - k = Climbs-length 0 (length pool - k) ins' (omega arith) e'.ins_climb in
-        in-sizes (most_exchanged pool k - size) (suc size) size' x (omega (arith, less)) (omega (arith, less, e'.outs_size, e'.ins_size))
-        (in-stages (stages_of pool k size') size' (least_difference pool k size') difference' (least_difference pool k size') (Some (least_difference pool k size')) x outs' ins' e' refl (omega arith) (omega (arith, least, e'.differs)) (omega (arith, least, greatest, e'.differs)))
-
-    late-parts : (x : List ℕ) → IsIn x (filter late (exchanges pool k)) → IsIn x (first_sets ++ (second_sets ++ third_sets))
-    late-parts x m =
-        let kept = IsIn-filter late x (exchanges pool k) m in
-        let outs' : List ℕ = out_places pool k x in
-        let ins' : List ℕ = in_places pool k x in
-        let size' : ℕ = length outs' in
-        let difference' : ℕ = exchange_difference pool k x in
-        let e' : Exchange pool k size' difference' x outs' ins' = exchange-is x (sorted-in key x (subsets pool k) kept.0) in
-        elim (cases_order size size') [
-          | inl same_size ↦
-              let here' : Exchange pool k size difference' x outs' ins' = subst (λ s. Exchange pool k s difference' x outs' ins') (sym same_size) e' in
-              elim (cases_order difference difference') [
-                | inl same ↦
-                    IsIn-front x first_sets (second_sets ++ third_sets)
-                    (late-first x outs' ins' (subst (λ d. Exchange pool k size d x outs' ins') (sym same) here') kept.1)
-                | inr (inl less) ↦ IsIn-back x first_sets (second_sets ++ third_sets) (IsIn-front x second_sets third_sets (late-second difference' x outs' ins' here' less))
-                | inr (inr more) ↦ absurd (not-late x (before-wider size difference' difference x set outs' ins' outs ins more here' e) kept.1)
-              ]
-          | inr (inl less) ↦ IsIn-back x first_sets (second_sets ++ third_sets) (IsIn-back x second_sets third_sets (late-third size' difference' x outs' ins' e' less))
-          | inr (inr more) ↦ absurd (not-late x (before-larger size' size difference' difference x set outs' ins' outs ins more e' e) kept.1)
-        ]
-
-    -- a search that begins at a set finds those from it on
-    pub exchanges-from : sets_ahead pool k hint size difference [] (first_hint hint) (Some (suc difference)) ≡ from_on set (exchanges pool k)
-    unfolding second_sets third_sets
-    exchanges-from =
-        let ascend : Ascends key (exchanges pool k) = subst (Ascends key) sizes-sorted (sizes-ascend (suc (most_exchanged pool k)) 0) in
-        ap (λ sets. sets ++ (sets_of_stages pool k (greatest_difference pool k size - difference) size (suc difference) (lower (Some (suc difference)) (lowest (ahead (hinted hint stage) [] (first_hint hint)))) ++ third_sets)) stage-from
-        ∙ ap (λ next. first_sets ++ (sets_of_stages pool k (greatest_difference pool k size - difference) size (suc difference) next ++ third_sets)) next-from
-        ∙ Ascends-unique key (first_sets ++ (second_sets ++ third_sets)) (filter late (exchanges pool k)) parts-ascend (Ascends-filter key late (exchanges pool k) ascend) parts-late late-parts
-        ∙ sym (from_on-filter key set (exchanges pool k) ascend (in-sorted key set (subsets pool k) given))

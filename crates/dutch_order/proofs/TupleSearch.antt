@@ -9,8 +9,8 @@ use Rattle.std.proofs.lemmas.List.{append-nil, map-append}
 use Rattle.std.proofs.lemmas.List.Folds.{flat_map-map, list_any-append}
 use Rattle.std.proofs.lemmas.List.Kept.{AllPairs-from_increasing}
 use Rattle.std.proofs.lemmas.Bool.{ne_eqb, eq-eqb, eqb-true, lt-ltb, le-ltb, cases_order, cases_Bool, true≢false}
-use Rattle.dutch_order.specs.Trials.{Plan, numbers_from, entry, ahead, hits, trials}
-use Rattle.dutch_order.specs.Choices.{tuples, without, all_meet, from_on}
+use Rattle.dutch_order.specs.Trials.{Plan, entry, ahead, hits, trials}
+use Rattle.dutch_order.specs.Choices.{tuples, without, all_meet, from_on, numbers_from}
 use Rattle.dutch_order.specs.Transposition.{transpositions, short_beginnings, beginnings_below}
 use Rattle.dutch_order.specs.TranspositionSearch.{transposition_plan, numbers_at, place_in, places_in}
 use Rattle.dutch_order.specs.Hints.{hinted, first_hint}

@@ -1,7 +1,6 @@
 -- The arrangements of a bracket (C.04.3 A.3, B.2 to B.7): who is paired with whom, in article D's order.
 use Rattle.std.specs.Prelude.{ℕ, ◌+◌, ◌-◌, ◌*◌, ◌<◌, ◌≤◌, Bool, true, false, not, ◌&&◌, ◌||◌, if◌then◌else◌, List, [], ◌∷◌, ◌++◌, map, filter, flat_map, length, take, slice_index}
-use Rattle.dutch_order.specs.Trials.{numbers_from}
-use Rattle.dutch_order.specs.Choices.{tuples, is_member, all_meet, is_same}
+use Rattle.dutch_order.specs.Choices.{tuples, is_member, all_meet, is_same, numbers_from}
 use Rattle.dutch_order.specs.Keys.{sorted}
 use Rattle.dutch_order.specs.Transposition.{tuple_key}
 use Rattle.dutch_order.specs.Exchange.{exchanges}
@@ -23,10 +22,11 @@ pub record Arrangement : Type 0 where
   pub s1r : List ℕ
   pub s2r : List ℕ
 
--- the players of a bracket, by number; those moved down; and the residents
+-- the numbers of a bracket's players, which count from 1 by rank and stay the same in the remainder (our own choice)
 abbrev pub players_of : Frame → List ℕ
 players_of frame = numbers_from 1 (length frame.scores)
 
+-- A.3: the numbers of the residents, behind those of the moved-down players
 abbrev pub residents_of : Frame → List ℕ
 residents_of frame = numbers_from (frame.mdps + 1) (length frame.scores - frame.mdps)
 
@@ -38,17 +38,18 @@ moved_down_scores frame = take frame.mdps frame.scores
 abbrev pub left_of : List ℕ → List ℕ → List ℕ
 left_of numbers taken = filter (λ x. not (is_member x taken)) numbers
 
--- how many residents meet residents
+-- B.1: how many residents meet residents
 abbrev pub remainder_pairs : Shape → ℕ
 remainder_pairs shape = shape.pairs - shape.mdps
 
--- a shape that a bracket has room for: as many pairs, and as many moved-down players in them
+-- B.1: a bracket has room for a shape: each moved-down player in a pair has a resident to meet, and two more residents are there for
+-- each other pair (our own choice)
 pub record Fits (frame : Frame) (shape : Shape) : Type 0 where
   pub within_pairs : shape.mdps ≤ shape.pairs
   pub within_moved_down : shape.mdps ≤ frame.mdps
   pub residents_enough : shape.mdps + 2 * remainder_pairs shape ≤ length frame.scores - frame.mdps
 
--- a list of scores as a bracket has it: at most 256, not ascending, that of each moved-down player above that of each resident
+-- A.3: a list of scores as a bracket has it: at most 256, not ascending, that of each moved-down player above that of each resident
 pub record IsBracket (scores : List ℕ) (mdps : ℕ) : Type 0 where
   pub few : length scores ≤ 256
   pub within : mdps ≤ length scores
@@ -74,7 +75,7 @@ module _ (frame : Frame) (shape : Shape) where
   abbrev pub arrangements : List Arrangement
   arrangements = flat_map with_s2 (limbo_exchanges (moved_down_scores frame) shape.mdps)
 
--- the players of an arrangement's pairs
+-- B.3: the players of an arrangement's pairs
 abbrev pub paired : Arrangement → List ℕ
 paired a = a.s1 ++ (a.s2 ++ (a.s1r ++ a.s2r))
 
@@ -82,7 +83,7 @@ paired a = a.s1 ++ (a.s2 ++ (a.s1r ++ a.s2r))
 abbrev pub down : Frame → Arrangement → List ℕ
 down frame a = left_of (players_of frame) (paired a)
 
--- at most one player is left, and that one may be
+-- C.2: at most one player is left, and that one may be
 abbrev pub leaves_one : (ℕ → Bool) → List ℕ → Bool
 leaves_one may_be_left [] = true
 leaves_one may_be_left (player ∷ []) = may_be_left player
@@ -94,7 +95,7 @@ module _ (meets : ℕ → ℕ → Bool) (may_be_left : ℕ → Bool) where
   is_legal frame a =
       all_meet meets a.s1 a.s2 && (all_meet meets a.s1r a.s2r && (not frame.last || leaves_one may_be_left (down frame a)))
 
-  -- the candidates: the arrangements that are legal
+  -- the candidates: the arrangements that are legal; two with the same pairs are two candidates (our own choice)
   abbrev pub candidates : Frame → Shape → List Arrangement
   candidates frame shape = filter (is_legal frame) (arrangements frame shape)
 

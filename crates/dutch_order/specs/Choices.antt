@@ -1,6 +1,11 @@
--- The plain lists of choices, in no order that matters: sets and tuples of the members of a list.
+-- The plain lists of choices, in no order that matters: sets (C.04.3 D.2, D.3) and tuples (D.1) of the members of a list.
 use Rattle.std.specs.Prelude.{ℕ, zero, suc, Bool, true, false, not, eqb, ◌&&◌, List, [], ◌∷◌, ◌++◌, map, filter, flat_map, if◌then◌else◌}
 use Rattle.std.specs.List.{list_any}
+
+-- so many numbers from a first one on
+abbrev pub numbers_from : ℕ → ℕ → List ℕ
+numbers_from first zero = []
+numbers_from first (suc count) = first ∷ numbers_from (suc first) count
 
 -- all lists of k members of a list, each list in the order in which its members stand there
 abbrev pub subsets : List ℕ → ℕ → List (List ℕ)
@@ -21,7 +26,7 @@ abbrev pub tuples : List ℕ → ℕ → List (List ℕ)
 tuples numbers zero = [] ∷ []
 tuples numbers (suc k) = flat_map (λ x. map (λ tuple. x ∷ tuple) (tuples (without x numbers) k)) numbers
 
--- whether the players of two lists may meet, place by place
+-- B.3: whether the players of two lists may meet, place by place
 abbrev pub all_meet : (ℕ → ℕ → Bool) → List ℕ → List ℕ → Bool
 all_meet meets [] seconds = true
 all_meet meets (first ∷ firsts) [] = true

@@ -1,4 +1,5 @@
--- The lists of a text that is read: how many numbers a cursor has room for.
+-- The lists of a text that is read, and how many numbers a cursor has room for: a model that carries the reading, and which a reader
+-- of its promise may pass by.
 use Rattle.std.specs.Prelude.{ℕ, ◌<◌, ◌&&◌, Bool, nat_le, List, length, Option, IfSome}
 use Rattle.dutch_order.specs.Arrangements.{Arrangement}
 

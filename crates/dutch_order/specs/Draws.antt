@@ -1,4 +1,4 @@
--- A candidate with those whom it leaves over.
+-- A candidate with those whom it leaves over (C.04.3 B.2, B.3).
 use Rattle.std.specs.Prelude.{ℕ, List}
 use Rattle.dutch_order.specs.Arrangements.{Arrangement}
 

@@ -1,4 +1,5 @@
--- The order of choices: each has a key, a list of numbers, and the key that has the lower number at the first difference is first.
+-- The order of choices (C.04.3 D): each has a key, a list of numbers, and the one with the lower number at the first difference is
+-- first.
 use Rattle.std.specs.Prelude.{◌≡◌, ℕ, ◌-◌, Bool, true, false, ◌&&◌, ◌||◌, eqb, ltb, List, [], ◌∷◌, ◌⊎◌, cond}
 use Rattle.std.specs.List.{AllByRecursion}
 

@@ -52,40 +52,47 @@ module _ (meets : ℕ → ℕ → Bool) where
   abbrev pub by_s1 : ℕ → List ℕ → List (List ℕ) → List (List Arrangement)
   by_s1 k residents sets = map (λ s1. joined (by_s2 k s1 residents (transpositions meets s1 residents))) sets
 
-  -- the same behind a cursor
+  -- where S1, S2 and S1R are the cursor's own: the arrangements behind it
   abbrev pub behind_s2r : List ℕ → List ℕ → List ℕ → Arrangement → List ℕ → List Arrangement
   behind_s2r s1 s2 remainder own s1r =
       map (arranged s1 s2 s1r)
       (without_own (Some own) (filter (all_meet meets s1r) (from_on own.s2r (sorted tuple_key (tuples (left_of remainder s1r) (length s1r))))))
 
+  -- a block for each S1R; the first of them, if it is the cursor's own, is what stands behind the cursor's S2R
   abbrev pub s1r_blocks : Option Arrangement → List ℕ → List ℕ → List ℕ → List (List ℕ) → List (List Arrangement)
   s1r_blocks own s1 s2 remainder sets =
       blocks_from own (λ a. a.s1r) (behind_s2r s1 s2 remainder) (by_s2r s1 s2 remainder) sets
 
+  -- where S1 and S2 are the cursor's own: the arrangements behind it
   abbrev pub behind_s1r : ℕ → List ℕ → List ℕ → Arrangement → List ℕ → List Arrangement
   behind_s1r k s1 residents own s2 =
       joined (s1r_blocks (Some own) s1 s2 (left_of residents s2) (from_on own.s1r (exchanges (left_of residents s2) k)))
 
+  -- a block for each S2; the first of them, if it is the cursor's own, is what stands behind the cursor's S1R
   abbrev pub s2_blocks : Option Arrangement → ℕ → List ℕ → List ℕ → List (List ℕ) → List (List Arrangement)
   s2_blocks own k s1 residents lists =
       blocks_from own (λ a. a.s2) (behind_s1r k s1 residents)
       (λ s2. joined (by_s1r s1 s2 (left_of residents s2) (exchanges (left_of residents s2) k))) lists
 
+  -- where S1 is the cursor's own: the arrangements behind it
   abbrev pub behind_s2 : ℕ → List ℕ → Arrangement → List ℕ → List Arrangement
   behind_s2 k residents own s1 =
       joined (s2_blocks (Some own) k s1 residents (filter (all_meet meets s1) (from_on own.s2 (sorted tuple_key (tuples residents (length s1))))))
 
+  -- a block for each S1; the first of them, if it is the cursor's own, is what stands behind the cursor's S2
   abbrev pub s1_blocks : Option Arrangement → ℕ → List ℕ → List (List ℕ) → List (List Arrangement)
   s1_blocks own k residents sets =
       blocks_from own (λ a. a.s1) (behind_s2 k residents) (λ s1. joined (by_s2 k s1 residents (transpositions meets s1 residents))) sets
 
--- a cursor's lists are choices of the levels: its S2R, its S1R too, and its S2 too
+-- a cursor's S2R is a choice
 abbrev pub HasS2r : List ℕ → Arrangement → Type 0
 HasS2r remainder own = IsIn own.s2r (tuples (left_of remainder own.s1r) (length own.s1r))
 
+-- its S1R is a choice, and its S2R is
 abbrev pub HasS1r : ℕ → List ℕ → Arrangement → Type 0
 HasS1r k remainder own = IsIn own.s1r (subsets remainder k) × HasS2r remainder own
 
+-- its S2 is a choice, its S1R and its S2R are
 abbrev pub HasS2 : ℕ → List ℕ → Arrangement → Type 0
 HasS2 k residents own = IsIn own.s2 (tuples residents (length own.s1)) × HasS1r k (left_of residents own.s2) own
 

@@ -1,3 +1,4 @@
+-- What the contracts of dutch_order name: choices and their order, brackets, arrangements and candidates, cursors, and searches.
 pub mod Choices
 pub mod Keys
 pub mod Trials

@@ -1,8 +1,7 @@
 -- Exchanges of moved-down players (C.04.3 D.3): sets of places of the bracket, by their scores and then by their numbers.
 use Rattle.std.specs.Prelude.{ℕ, ◌+◌, ◌-◌, ◌<◌, ◌≤◌, List, ◌++◌, map, length, slice_index}
-use Rattle.dutch_order.specs.Choices.{subsets}
+use Rattle.dutch_order.specs.Choices.{subsets, numbers_from}
 use Rattle.dutch_order.specs.Keys.{sorted, higher_first}
-use Rattle.dutch_order.specs.Trials.{numbers_from}
 
 -- the score of a player by his number, which counts from 1
 abbrev pub score_of : List ℕ → ℕ → ℕ

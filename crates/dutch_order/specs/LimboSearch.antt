@@ -25,6 +25,7 @@ mirrors scores k path place =
     && (slice_index scores (place + same_ahead scores k (slice_index scores (slice_index path (length path - k))) path)
     == slice_index scores (slice_index path (length path - k)))
 
+-- the search: the places of the first set with the same scores, and then those of the set
 abbrev pub limbo_plan : List ℕ → ℕ → Plan
 limbo_plan scores k =
     two_halves k (length scores) (length scores)

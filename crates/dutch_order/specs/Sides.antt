@@ -1,4 +1,4 @@
--- How many numbers each side of an exchange has.
+-- How many numbers each side of an exchange has: a model that carries the search, and which a reader of the promises may pass by.
 use Rattle.std.specs.Prelude.{ℕ, ◌-◌, List, length}
 use Rattle.dutch_order.specs.declared.exchange.Side.{Side}
 use Rattle.dutch_order.specs.declared.exchange.Side.TheVariants.{Out, In}

@@ -1,9 +1,10 @@
--- How exchanges are searched: stage by stage, one for each number of exchanged players and each difference of the sums.
+-- How exchanges are searched, stage by stage, one for each number of exchanged players and each difference of the sums: a model that
+-- carries the search, and which a reader of the promises may pass by.
 use Rattle.std.specs.Prelude.{ℕ, zero, suc, ◌+◌, ◌-◌, Bool, false, not, ◌&&◌, ◌==◌, nat_lt, nat_le, min, List, [], ◌∷◌, ◌++◌, map, filter, reverse, take, drop, length, slice_index, if◌then◌else◌, Option, Some, None}
-use Rattle.dutch_order.specs.Choices.{is_member}
+use Rattle.dutch_order.specs.Choices.{is_member, numbers_from}
 use Rattle.dutch_order.specs.declared.exchange.Side.{Side}
 use Rattle.dutch_order.specs.declared.exchange.Side.TheVariants.{Out, In}
-use Rattle.dutch_order.specs.Trials.{Plan, numbers_from, hits, trials, lower, lowest, ahead}
+use Rattle.dutch_order.specs.Trials.{Plan, hits, trials, lower, lowest, ahead}
 use Rattle.dutch_order.specs.Halves.{two_halves}
 use Rattle.dutch_order.specs.Hints.{hinted}
 
@@ -79,24 +80,27 @@ module _ (pool : List ℕ) (k : ℕ) where
   stage_left hint size difference path place =
       map (set_of size) (hits (ahead (hinted hint (exchange_plan size difference)) path place))
 
-  -- the places of the numbers that a set has moved out, and of those that it has moved in
+  -- the places of the numbers that a set has moved out
   abbrev pub out_places : List ℕ → List ℕ
   out_places set = filter (λ place. not (is_member (value_of Out place) set)) (numbers_from 0 k)
 
+  -- the places of the numbers that a set has moved in
   abbrev pub in_places : List ℕ → List ℕ
   in_places set = filter (λ place. is_member (value_of In place) set) (numbers_from 0 (length pool - k))
 
-  -- the path that finds a set, and the difference of its sums
+  -- the path that finds a set
   abbrev pub exchange_path : List ℕ → List ℕ
   exchange_path set = out_places set ++ in_places set
 
+  -- the difference of the sums of a set
   abbrev pub exchange_difference : List ℕ → ℕ
   exchange_difference set = total (value_of In) (in_places set) - total (value_of Out) (out_places set)
 
-  -- the least and the greatest difference of exchanges of so many
+  -- the least difference of exchanges of so many
   abbrev pub least_difference : ℕ → ℕ
   least_difference size = run In 0 size - run Out 0 size
 
+  -- the greatest difference of exchanges of so many
   abbrev pub greatest_difference : ℕ → ℕ
   greatest_difference size = run In (length pool - k - size) size - run Out (k - size) size
 
@@ -108,6 +112,7 @@ module _ (pool : List ℕ) (k : ℕ) where
       then stage_sets size difference [] 0 ++ sets_of_stages count size (suc difference) (lowest (ahead (exchange_plan size difference) [] 0))
       else sets_of_stages count size (suc difference) next
 
+  -- how many trials these stages make
   unfoldable pub trials_of_stages : ℕ → ℕ → ℕ → Option ℕ → ℕ
   trials_of_stages zero size difference next = 0
   trials_of_stages (suc count) size difference next =
@@ -125,11 +130,13 @@ module _ (pool : List ℕ) (k : ℕ) where
   sets_of_sizes (suc count) size =
       sets_of_stages (stages_of size) size (least_difference size) (Some (least_difference size)) ++ sets_of_sizes count (suc size)
 
+  -- how many trials these sizes make
   unfoldable pub trials_of_sizes : ℕ → ℕ → ℕ
   trials_of_sizes zero size = 0
   trials_of_sizes (suc count) size =
       trials_of_stages (stages_of size) size (least_difference size) (Some (least_difference size)) + trials_of_sizes count (suc size)
 
+  -- how many stages these sizes have
   unfoldable pub stages_of_sizes : ℕ → ℕ → ℕ
   stages_of_sizes zero size = 0
   stages_of_sizes (suc count) size = stages_of size + stages_of_sizes count (suc size)
@@ -145,12 +152,14 @@ module _ (pool : List ℕ) (k : ℕ) where
       ++ (sets_of_stages (greatest_difference size - difference) size (suc difference) (lower beyond (lowest (ahead (hinted hint (exchange_plan size difference)) path place)))
       ++ sets_of_sizes (most_exchanged - size) (suc size))
 
+  -- how many trials are to be made from there on
   abbrev pub trials_ahead : List ℕ → ℕ → ℕ → List ℕ → ℕ → Option ℕ → ℕ
   trials_ahead hint size difference path place beyond =
       trials (ahead (hinted hint (exchange_plan size difference)) path place)
       + (trials_of_stages (greatest_difference size - difference) size (suc difference) (lower beyond (lowest (ahead (hinted hint (exchange_plan size difference)) path place)))
       + trials_of_sizes (most_exchanged - size) (suc size))
 
+  -- how many stages follow
   abbrev pub stages_ahead : ℕ → ℕ → ℕ
   stages_ahead size difference =
       (greatest_difference size - difference) + stages_of_sizes (most_exchanged - size) (suc size)

@@ -19,10 +19,11 @@ transposition_plan meets first pool = record {
 abbrev pub numbers_at : List ℕ → List ℕ → List ℕ
 numbers_at pool path = map (λ place. slice_index pool place) path
 
--- the place of a number in a pool, and those of the numbers of a list
+-- the place of a number in a pool
 abbrev pub place_in : List ℕ → ℕ → ℕ
 place_in [] number = 0
 place_in (x ∷ pool) number = if x == number then 0 else 1 + place_in pool number
 
+-- the places of the numbers of a list in a pool
 abbrev pub places_in : List ℕ → List ℕ → List ℕ
 places_in pool numbers = map (place_in pool) numbers

@@ -1,6 +1,7 @@
--- The model that carries a search: its events, of which some are trials and some choices found, as a list of what is still to come.
--- It says how the generators work, and a reader of their promises may pass it by.
+-- The model that carries a search, and which a reader of the generators' promises may pass by: its events, of which some are trials
+-- and some choices found, as a list of what is still to come.
 use Rattle.std.specs.Prelude.{ℕ, zero, suc, ◌+◌, ◌-◌, min, Bool, cond, Option, Some, None, List, [], ◌∷◌, ◌++◌, length, flat_map}
+pub use Rattle.dutch_order.specs.Choices.{numbers_from}
 
 -- what a search fills: how many places, below which number all its numbers are, from which to which number it tries at the place
 -- after a beginning, whether a number fits there, and what a number that does not fit would have given at least, where that is known
@@ -40,11 +41,6 @@ abbrev pub lowest : List Event → Option ℕ
 lowest [] = None
 lowest (Tried beyond ∷ events) = lower beyond (lowest events)
 lowest (Hit path ∷ events) = lowest events
-
--- so many numbers from a first one on
-abbrev pub numbers_from : ℕ → ℕ → List ℕ
-numbers_from first zero = []
-numbers_from first (suc count) = first ∷ numbers_from (suc first) count
 
 module _ (plan : Plan) where
   -- the first number to try after a beginning, where so many places are open

@@ -1,4 +1,4 @@
--- Where a search may stand.
+-- Where a search may stand: a model that carries the search, and which a reader of the promises may pass by.
 use Rattle.std.specs.Prelude.{◌≡◌, ℕ, ◌-◌, ◌<◌, ◌≤◌, List, [], ◌∷◌, ◌++◌, length}
 use Rattle.dutch_order.specs.Trials.{Plan, below}
 

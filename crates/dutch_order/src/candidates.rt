@@ -149,7 +149,7 @@ pub struct Candidates<'a, R: Rule> {
 }
 
 impl<'a, R: Rule> Model for Candidates<'a, R> {
-    ghost use Rattle.std.specs.Prelude.{◌≡◌, ◌++◌, [], filter, true};
+    ghost use Rattle.std.specs.Prelude.{◌≡◌, ◌++◌, ◌&&◌, ◌-◌, ◌*◌, [], filter, length, nat_lt, true};
     ghost use Rattle.dutch_order.specs.Levels.{may_leave};
     ghost use Rattle.dutch_order.specs.Listings.{Listing, listed};
 
@@ -163,7 +163,8 @@ impl<'a, R: Rule> Model for Candidates<'a, R> {
     } };
 
     ghost invariant = { λ l.
-        l.hopeless ≡ true → filter (may_leave (R.may_be_left l.rule.now) l.bracket.now) (listed l.ready ++ l.level) ≡ [] };
+        (l.hopeless ≡ (l.bracket.now.last && nat_lt 1 (length l.bracket.now.scores - 2 * l.shape.pairs)))
+        × (l.hopeless ≡ true → filter (may_leave (R.may_be_left l.rule.now) l.bracket.now) (listed l.ready ++ l.level) ≡ []) };
 }
 
 impl<'a, R: Rule> Candidates<'a, R> {
@@ -230,13 +231,16 @@ impl<'a, R: Rule> Candidates<'a, R> {
     }
 
     /// The next candidate. `Found` gives the first of those to come, `End` is answered where none is left, and `Undecided` where the
-    /// budget is used up before the next one is found: what is to come is then as it was.
+    /// budget is used up before the next one is found: what is to come is then as it was. Where the bracket may leave over at most
+    /// one player and the shape leaves more, `End` is answered without a step.
     pub fn next(&mut self, budget: &mut Budget) -> Step<Candidate>
         requires { budget.old.used ≤ budget.old.limit }
         ensures answer { MatchStep result
             (λ c. (self.old.coming ≡ c.lists ∷ self.new.coming) × (c.down ≡ down self.old.frame c.lists) × (self.new.latest ≡ Some c.lists))
             ((self.old.coming ≡ []) × (self.new.coming ≡ []) × (self.new.latest ≡ self.old.latest))
             ((self.new.coming ≡ self.old.coming) × (self.new.latest ≡ self.old.latest) × (budget.new.used ≡ budget.new.limit)) }
+        ensures hopeless { (self.old.frame.last && nat_lt 1 (length self.old.frame.scores - 2 * self.old.shape.pairs)) ≡ true
+            → MatchStep result (λ _. ⊥) (budget.new.used ≡ budget.old.used) ⊥ }
         ensures frame { self.new.frame ≡ self.old.frame }
         ensures shape { self.new.shape ≡ self.old.shape }
         ensures limit { budget.new.limit ≡ budget.old.limit }

@@ -2,73 +2,52 @@
 ghost use Rattle.std.specs.Prelude.{◌≤◌};
 ghost use Rattle.dutch_order.specs.Arrangements.{Fits};
 
+use crate::barred::{AMPLE, Barred, FREE, raised};
 use crate::bracket::{Bracket, Shape};
+use crate::candidate::Candidate;
 use crate::candidates::Candidates;
-use crate::rules::Rule;
 use crate::steps::{Budget, Step};
 use std::alloc::Global;
 use std::test::Fail;
 
-/// A rule that bars one pair, and one player from being left over.
-#[derive(Drop)]
-struct Barred {
-    one: u16,
-    other: u16,
-    stays: u16,
+const ALL: usize = 1_000_000;
+
+/// The four lists and the downfloaters of a candidate, one after another.
+fn numbers_of(alloc: Global, candidate: &Candidate) -> Result<Vec<u16>, Fail> {
+    let mut numbers = Vec::new(alloc);
+    numbers.extend_from_slice(candidate.s1())?;
+    numbers.extend_from_slice(candidate.s2())?;
+    numbers.extend_from_slice(candidate.s1r())?;
+    numbers.extend_from_slice(candidate.s2r())?;
+    numbers.extend_from_slice(candidate.down())?;
+    Ok(numbers)
 }
 
-impl Rule for Barred {
-    ghost use Rattle.std.specs.Prelude.{not, ◌==◌, ◌&&◌, ◌||◌};
-    ghost use Rattle.std.proofs.Common.{rules};
-
-    ghost meets = { λ r a b. not (((a == r.one) && (b == r.other)) || ((a == r.other) && (b == r.one))) };
-
-    ghost may_be_left = { λ r a. not (a == r.stays) };
-
-    fn may_meet(&self, a: u16, b: u16) -> bool {
-        !((a == self.one && b == self.other) || (a == self.other && b == self.one))
-    }
-
-    fn last_ok(&self, a: u16) -> bool {
-        !(a == self.stays)
-    }
-
-    ghost symmetric = { λ r a b. Prim.search rules };
-}
-
-const FREE: Barred = Barred {
-    one: 0,
-    other: 0,
-    stays: 0,
-};
-
-const AMPLE: u64 = 1_000_000;
-
-/// The four lists and the downfloaters of all candidates, one after another, where the limit starts at `limit` and rises by one
+/// The numbers of the first `most` candidates, or of all where there are fewer, where the limit starts at `limit` and rises by one
 /// after each Undecided, and the steps that were used.
 fn listing(
     alloc: Global,
     mut candidates: Candidates<'_, Barred>,
+    most: usize,
     limit: u64,
 ) -> Result<(Vec<u16>, u64), Fail> {
     let mut budget = Budget { limit, used: 0 };
     let mut numbers = Vec::new(alloc);
+    let mut left = most;
     for _turn in 0..100_000u32 {
+        if left == 0 {
+            break;
+        }
         match candidates.next(&mut budget) {
             Step::Found(candidate) => {
-                numbers.extend_from_slice(candidate.s1())?;
-                numbers.extend_from_slice(candidate.s2())?;
-                numbers.extend_from_slice(candidate.s1r())?;
-                numbers.extend_from_slice(candidate.s2r())?;
-                numbers.extend_from_slice(candidate.down())?;
+                numbers.extend_from_slice(&numbers_of(alloc, &candidate)?)?;
+                left -= 1;
             }
             Step::End => break,
             Step::Undecided => {
-                if budget.limit >= AMPLE {
+                if !raised(&mut budget) {
                     break;
                 }
-                budget.limit += 1;
-                continue;
             }
         }
     }
@@ -85,44 +64,61 @@ const MOVED_DOWN: [u16; 72] = [
 fn four_moved_down_of_whom_two_are_paired(rt: HostRuntime) -> Result<(), Fail> {
     let bracket = Bracket::new(&[6, 6, 4, 2, 0, 0], 4, false);
     let shape = Shape { pairs: 2, mdps: 2 };
-    let (ample, used) = listing(rt.alloc(), Candidates::new(&bracket, shape, &FREE), AMPLE)?;
+    let (ample, used) = listing(
+        rt.alloc(),
+        Candidates::new(&bracket, shape, &FREE),
+        ALL,
+        AMPLE,
+    )?;
     assert_eq!(rt; ample.as_slice(), MOVED_DOWN.as_slice());
-    let (raised, used_again) = listing(rt.alloc(), Candidates::new(&bracket, shape, &FREE), 0)?;
+    let (raised, used_again) = listing(
+        rt.alloc(),
+        Candidates::new(&bracket, shape, &FREE),
+        ALL,
+        0,
+    )?;
     assert_eq!(rt; raised.as_slice(), MOVED_DOWN.as_slice());
     assert_eq!(rt; used, used_again);
-    assert!(rt; goes_on(rt.alloc(), &bracket, shape, &FREE, &MOVED_DOWN, 6)?);
+    assert_eq!(rt;
+        right_rests(rt.alloc(), &bracket, shape, &FREE, &MOVED_DOWN, ALL)?,
+        12
+    );
     Ok(())
 }
 
-/// Whether from each candidate on come exactly those behind it, where each has `size` numbers in `all`.
-fn goes_on(
+/// From how many arrangements of the bracket and shape come exactly the legal ones behind them: those of the first `most` that
+/// stand before the first one from which others come. `legal` has the numbers of the legal ones.
+fn right_rests(
     alloc: Global,
     bracket: &Bracket,
     shape: Shape,
     rule: &Barred,
-    all: &[u16],
-    size: usize,
-) -> Result<bool, Fail>
+    legal: &[u16],
+    most: usize,
+) -> Result<usize, Fail>
     requires { Fits bracket.now shape }
 {
-    let mut candidates = Candidates::new(bracket, shape, rule);
+    let mut arrangements = Candidates::new(bracket, shape, &FREE);
     let mut budget = Budget {
         limit: AMPLE,
         used: 0,
     };
-    let mut behind = size;
-    for _turn in 0..100_000u32 {
-        let Step::Found(candidate) = candidates.next(&mut budget) else {
-            break;
+    let mut behind = legal;
+    for turn in 0..most {
+        let Step::Found(arrangement) = arrangements.next(&mut budget) else {
+            return Ok(turn);
         };
-        let from = Candidates::from(bracket, shape, rule, candidate.cursor());
-        let (rest, _) = listing(alloc, from, 0)?;
-        if behind > all.len() || rest.as_slice() != &all[behind..] {
-            return Ok(false);
+        let own = numbers_of(alloc, &arrangement)?;
+        if let Some(others) = behind.strip_prefix(&own) {
+            behind = others;
         }
-        behind = behind.saturating_add(size);
+        let from = Candidates::from(bracket, shape, rule, arrangement.cursor());
+        let (rest, _) = listing(alloc, from, most - 1 - turn, 0)?;
+        if rest.as_slice() != behind {
+            return Ok(turn);
+        }
     }
-    Ok(true)
+    Ok(most)
 }
 
 const FOUR: [u16; 48] = [
@@ -134,11 +130,63 @@ const FOUR: [u16; 48] = [
 fn four_players_of_one_score(rt: HostRuntime) -> Result<(), Fail> {
     let bracket = Bracket::new(&[0, 0, 0, 0], 0, true);
     let shape = Shape { pairs: 2, mdps: 0 };
-    let (ample, _) = listing(rt.alloc(), Candidates::new(&bracket, shape, &FREE), AMPLE)?;
+    let (ample, _) = listing(
+        rt.alloc(),
+        Candidates::new(&bracket, shape, &FREE),
+        ALL,
+        AMPLE,
+    )?;
     assert_eq!(rt; ample.as_slice(), FOUR.as_slice());
-    let (raised, _) = listing(rt.alloc(), Candidates::new(&bracket, shape, &FREE), 0)?;
+    let (raised, _) = listing(rt.alloc(), Candidates::new(&bracket, shape, &FREE), ALL, 0)?;
     assert_eq!(rt; raised.as_slice(), FOUR.as_slice());
-    assert!(rt; goes_on(rt.alloc(), &bracket, shape, &FREE, &FOUR, 4)?);
+    assert_eq!(rt;
+        right_rests(rt.alloc(), &bracket, shape, &FREE, &FOUR, ALL)?,
+        12
+    );
+    Ok(())
+}
+
+const FOUR_WITH_A_BAR: [u16; 32] = [
+    1, 2, 3, 4, 1, 2, 4, 3, 1, 3, 4, 2, 1, 4, 3, 2, 2, 3, 4, 1, 2, 4, 3, 1, 3, 4, 1, 2, 3, 4, 2, 1,
+];
+
+#[test]
+fn from_legal_and_barred_arrangements_of_four(rt: HostRuntime) -> Result<(), Fail> {
+    let rule = Barred {
+        one: 1,
+        other: 2,
+        stays: 0,
+    };
+    let bracket = Bracket::new(&[0, 0, 0, 0], 0, true);
+    let shape = Shape { pairs: 2, mdps: 0 };
+    let (numbers, _) = listing(rt.alloc(), Candidates::new(&bracket, shape, &rule), ALL, 0)?;
+    assert_eq!(rt; numbers.as_slice(), FOUR_WITH_A_BAR.as_slice());
+    assert_eq!(rt;
+        right_rests(rt.alloc(), &bracket, shape, &rule, &FOUR_WITH_A_BAR, ALL)?,
+        12
+    );
+    Ok(())
+}
+
+#[test]
+fn the_first_candidates_of_eleven(rt: HostRuntime) -> Result<(), Fail> {
+    let bracket = Bracket::new(&[0, 0, 0, 0, 0, 0, 0, 0, 0, 0, 0], 0, true);
+    let shape = Shape { pairs: 5, mdps: 0 };
+    let (first, _) = listing(
+        rt.alloc(),
+        Candidates::new(&bracket, shape, &FREE),
+        200,
+        AMPLE,
+    )?;
+    assert_eq!(rt; first.len(), 2200);
+    assert_eq!(rt;
+        &first[2189..],
+        [1, 2, 3, 4, 5, 7, 10, 8, 6, 11, 9].as_slice()
+    );
+    assert_eq!(rt;
+        right_rests(rt.alloc(), &bracket, shape, &FREE, &first, 200)?,
+        200
+    );
     Ok(())
 }
 
@@ -146,7 +194,12 @@ fn four_players_of_one_score(rt: HostRuntime) -> Result<(), Fail> {
 fn nothing_is_legal_where_two_are_left(rt: HostRuntime) -> Result<(), Fail> {
     let bracket = Bracket::new(&[0, 0, 0, 0], 0, true);
     let shape = Shape { pairs: 1, mdps: 0 };
-    let (numbers, used) = listing(rt.alloc(), Candidates::new(&bracket, shape, &FREE), AMPLE)?;
+    let (numbers, used) = listing(
+        rt.alloc(),
+        Candidates::new(&bracket, shape, &FREE),
+        ALL,
+        AMPLE,
+    )?;
     assert_eq!(rt; numbers.len(), 0);
     assert_eq!(rt; used, 0);
     Ok(())
@@ -162,15 +215,34 @@ fn the_one_left_over_is_asked_about(rt: HostRuntime) -> Result<(), Fail> {
     let bracket = Bracket::new(&[2, 2, 0], 2, true);
     let shape = Shape { pairs: 1, mdps: 1 };
     let expected = [1, 3, 2, 2, 3, 1];
-    let (ample, used) = listing(rt.alloc(), Candidates::new(&bracket, shape, &rule), AMPLE)?;
+    let (ample, used) = listing(
+        rt.alloc(),
+        Candidates::new(&bracket, shape, &rule),
+        ALL,
+        AMPLE,
+    )?;
     assert_eq!(rt; ample.as_slice(), expected.as_slice());
-    let (raised, used_again) = listing(rt.alloc(), Candidates::new(&bracket, shape, &rule), 0)?;
+    let (raised, used_again) = listing(
+        rt.alloc(),
+        Candidates::new(&bracket, shape, &rule),
+        ALL,
+        0,
+    )?;
     assert_eq!(rt; raised.as_slice(), expected.as_slice());
     assert_eq!(rt; used, used_again);
     let three = Bracket::new(&[0, 0, 0], 0, true);
     let residents = Shape { pairs: 1, mdps: 0 };
     let of_three = [1, 3, 2, 2, 3, 1, 3, 1, 2, 3, 2, 1];
-    let (numbers, _) = listing(rt.alloc(), Candidates::new(&three, residents, &rule), 0)?;
+    let (numbers, _) = listing(
+        rt.alloc(),
+        Candidates::new(&three, residents, &rule),
+        ALL,
+        0,
+    )?;
     assert_eq!(rt; numbers.as_slice(), of_three.as_slice());
+    assert_eq!(rt;
+        right_rests(rt.alloc(), &three, residents, &rule, &of_three, ALL)?,
+        6
+    );
     Ok(())
 }

@@ -5,11 +5,10 @@ ghost use Rattle.std.specs.List.Sorted.{IsStrictlyIncreasing};
 ghost use Rattle.dutch_order.specs.declared.search.TheConstants.{LIMIT};
 ghost use Rattle.dutch_order.specs.Arrangements.{Arrangement, left_of};
 ghost use Rattle.dutch_order.specs.Exchange.{exchanges};
-ghost use Rattle.dutch_order.specs.Choices.{all_meet, from_on, subsets, tuples};
+ghost use Rattle.dutch_order.specs.Choices.{all_meet, from_on, subsets, tuples, numbers_from};
 ghost use Rattle.dutch_order.specs.Keys.{IsIn, sorted};
 ghost use Rattle.dutch_order.specs.Levels.{HasS1r, HasS2, HasS2r, behind_s2r, by_s1, by_s1r, by_s2, by_s2r, s1_blocks, s1r_blocks, s2_blocks, without_own};
 ghost use Rattle.dutch_order.specs.Steps.{MatchStep};
-ghost use Rattle.dutch_order.specs.Trials.{numbers_from};
 ghost use Rattle.dutch_order.specs.Limbo.{IsNonAscending, limbo_exchanges};
 ghost use Rattle.dutch_order.specs.Transposition.{transpositions, tuple_key};
 

@@ -11,10 +11,9 @@
 ghost use Rattle.dutch_order.specs.declared.search.TheConstants.{LIMIT};
 ghost use Rattle.std.specs.Prelude.{◌≡◌, ◌+◌, ◌*◌, ◌-◌, ◌<◌, ◌≤◌, ℕ, suc, true, false, Some, [], ◌∷◌, ◌++◌, length, map, take, drop};
 ghost use Rattle.std.specs.List.{AllByRecursion};
-ghost use Rattle.dutch_order.specs.Trials.{numbers_from};
 ghost use Rattle.dutch_order.specs.Stages.{least_at, greatest_at, least_difference, greatest_difference, exchange_plan, sets_ahead, trials_ahead, stages_ahead, set_of, kept_of, value_of, following, out_places, in_places, exchange_path, exchange_difference};
 ghost use Rattle.dutch_order.specs.Exchange.{exchanges};
-ghost use Rattle.dutch_order.specs.Choices.{subsets, from_on};
+ghost use Rattle.dutch_order.specs.Choices.{subsets, from_on, numbers_from};
 ghost use Rattle.dutch_order.specs.Keys.{IsIn};
 ghost use Rattle.std.specs.List.Sorted.{IsStrictlyIncreasing};
 ghost use Rattle.dutch_order.specs.declared.exchange.Side.TheVariants.{In};

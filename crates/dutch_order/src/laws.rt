@@ -1,8 +1,7 @@
 // Laws of the definitions alone: the orders of choices are orders, and the lists of choices are what they are said to be.
 ghost use Rattle.std.specs.Prelude.{◌≡◌, ◌≤◌, ◌⊎◌, ◌↔◌, ℕ, Bool, List, true, false, length, slice_index};
 ghost use Rattle.std.specs.List.Sorted.{IsStrictlyIncreasing};
-ghost use Rattle.dutch_order.specs.Trials.{numbers_from};
-ghost use Rattle.dutch_order.specs.Choices.{subsets, tuples, all_meet};
+ghost use Rattle.dutch_order.specs.Choices.{subsets, tuples, all_meet, numbers_from};
 ghost use Rattle.dutch_order.specs.Keys.{is_before, IsIn, Ascends};
 ghost use Rattle.dutch_order.specs.Transposition.{tuple_key, transpositions};
 ghost use Rattle.dutch_order.specs.Exchange.{exchange_key, exchanges};

@@ -1,6 +1,8 @@
 // Arrangements of numbers in the order of the Handbook's article D, specified by lists that are sorted by a key.
 #![tactic(auto)]
 
+#[cfg(test)]
+mod barred;
 pub mod bracket;
 pub mod candidate;
 pub mod candidates;

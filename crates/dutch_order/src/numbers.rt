@@ -1,9 +1,8 @@
 // Lists of a bracket's numbers.
 ghost use Rattle.std.specs.Prelude.{◌≡◌, ◌+◌, ◌≤◌, ℕ, length, true};
 ghost use Rattle.std.specs.List.Sorted.{IsStrictlyIncreasing};
-ghost use Rattle.dutch_order.specs.Trials.{numbers_from};
 ghost use Rattle.dutch_order.specs.Arrangements.{left_of};
-ghost use Rattle.dutch_order.specs.Choices.{is_same};
+ghost use Rattle.dutch_order.specs.Choices.{is_same, numbers_from};
 ghost use Rattle.dutch_order.specs.declared.search.TheConstants.{LIMIT};
 
 use crate::transposition::Numbers;

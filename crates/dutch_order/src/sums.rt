@@ -1,7 +1,7 @@
 // Sums of the numbers at places of one side of an exchange.
 ghost use Rattle.std.specs.Prelude.{◌≡◌, ◌+◌, ◌*◌, ◌-◌, ◌<◌, ◌≤◌, ℕ, [], ◌∷◌, length, map};
 ghost use Rattle.std.specs.List.{AllByRecursion};
-ghost use Rattle.dutch_order.specs.Trials.{numbers_from};
+ghost use Rattle.dutch_order.specs.Choices.{numbers_from};
 ghost use Rattle.dutch_order.specs.Stages.{value_of, total, run};
 ghost use Rattle.dutch_order.specs.Sides.{count_of};
 

@@ -1,39 +1,13 @@
 // The tables of arrangements, and the generators under limits that rise by one.
 ghost use Rattle.std.specs.Prelude.{◌≤◌};
 
+use crate::barred::{AMPLE, Barred, FREE, raised};
 use crate::exchange::Exchanges;
 use crate::limbo::LimboExchanges;
-use crate::rules::Rule;
 use crate::steps::{Budget, Step};
 use crate::transposition::{Numbers, Transpositions};
 use std::alloc::Global;
 use std::test::Fail;
-
-/// A rule that bars one pair.
-#[derive(Drop)]
-struct Barred {
-    one: u16,
-    other: u16,
-}
-
-impl Rule for Barred {
-    ghost use Rattle.std.specs.Prelude.{not, ◌==◌, ◌&&◌, ◌||◌, true};
-    ghost use Rattle.std.proofs.Common.{rules};
-
-    ghost meets = { λ r a b. not (((a == r.one) && (b == r.other)) || ((a == r.other) && (b == r.one))) };
-
-    ghost may_be_left = { λ r a. true };
-
-    fn may_meet(&self, a: u16, b: u16) -> bool {
-        !((a == self.one && b == self.other) || (a == self.other && b == self.one))
-    }
-
-    fn last_ok(&self, _a: u16) -> bool {
-        true
-    }
-
-    ghost symmetric = { λ r a b. Prim.search rules };
-}
 
 /// A generator, whichever it is.
 trait Lists {
@@ -74,20 +48,14 @@ fn drawn<L: Lists + Drop>(
             Step::Found(list) => numbers.extend_from_slice(&list)?,
             Step::End => break,
             Step::Undecided => {
-                if budget.limit >= AMPLE {
+                if !raised(&mut budget) {
                     break;
                 }
-                budget.limit += 1;
-                continue;
             }
         }
     }
     Ok((numbers, budget.used))
 }
-
-const AMPLE: u64 = 1_000_000;
-
-const FREE: Barred = Barred { one: 0, other: 0 };
 
 const SIX_BY_THREE: [u16; 60] = [
     1, 2, 3, 1, 2, 4, 1, 2, 5, 1, 3, 4, 1, 2, 6, 1, 3, 5, 2, 3, 4, 1, 3, 6, 2, 3, 5, 2, 3, 6, 1, 4,
@@ -143,7 +111,11 @@ fn transpositions_of_nine(rt: HostRuntime) -> Result<(), Fail> {
 
 #[test]
 fn transpositions_with_a_bar(rt: HostRuntime) -> Result<(), Fail> {
-    let barred = Barred { one: 1, other: 3 };
+    let barred = Barred {
+        one: 1,
+        other: 3,
+        stays: 0,
+    };
     let (ample, used) = drawn(
         rt.alloc(),
         Transpositions::new(&[1, 2], &[3, 4], &barred),
@@ -183,7 +155,11 @@ fn transpositions_from_a_tuple(rt: HostRuntime) -> Result<(), Fail> {
         0,
     )?;
     assert_eq!(rt; raised.as_slice(), behind.as_slice());
-    let barred = Barred { one: 1, other: 4 };
+    let barred = Barred {
+        one: 1,
+        other: 4,
+        stays: 0,
+    };
     let (allowed, _) = drawn(
         rt.alloc(),
         Transpositions::from(&[1, 2], &[3, 4, 5, 6], &barred, &[4, 3]),

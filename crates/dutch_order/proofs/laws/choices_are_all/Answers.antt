@@ -1,9 +1,8 @@
 use Rattle.std.proofs.Common.{length}
-use Rattle.dutch_order.specs.Choices.{tuples, subsets, all_meet}
+use Rattle.dutch_order.specs.Choices.{tuples, subsets, all_meet, numbers_from}
 use Rattle.dutch_order.specs.Keys.{sorted}
 use Rattle.dutch_order.specs.Exchange.{exchange_key}
 use Rattle.dutch_order.specs.Limbo.{limbo_key}
-use Rattle.dutch_order.specs.Trials.{numbers_from}
 use Rattle.dutch_order.proofs.Orders.{IsIn-filter, filter-IsIn}
 use Rattle.dutch_order.proofs.Sets.{sorted-in, in-sorted}
 use Rattle.dutch_order.proofs.laws.choices_are_all.Goals as goal

@@ -1,9 +1,8 @@
 use Rattle.std.proofs.Common.{sym, ◌∙◌, length, subst}
-use Rattle.dutch_order.specs.Choices.{tuples, subsets, all_meet}
+use Rattle.dutch_order.specs.Choices.{tuples, subsets, all_meet, numbers_from}
 use Rattle.dutch_order.specs.Keys.{Ascends, sorted}
 use Rattle.dutch_order.specs.Exchange.{exchange_key}
 use Rattle.dutch_order.specs.Limbo.{limbo_key}
-use Rattle.dutch_order.specs.Trials.{numbers_from}
 use Rattle.dutch_order.proofs.LimboSets.{limbo_key-apart}
 use Rattle.dutch_order.proofs.Orders.{Ascends-filter, Rises-from, sorted-ascending}
 use Rattle.dutch_order.proofs.Sets.{subsets-climb, subsets-ascend, sorted-ascends}

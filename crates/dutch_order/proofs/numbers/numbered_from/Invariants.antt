@@ -1,5 +1,5 @@
 use Rattle.std.proofs.Common.{◌≡◌}
-use Rattle.dutch_order.specs.Trials.{numbers_from}
+use Rattle.dutch_order.specs.Choices.{numbers_from}
 use Rattle.dutch_order.proofs.numbers.numbered_from.Given as goal
 
 abbrev pub invariant-loop-place : goal.invariant-loop-place

@@ -1,7 +1,6 @@
 use Rattle.std.proofs.Common.{◌≡◌, ◌∙◌, ap, sym, subst, arith, length, take, ◌-◌, ◌+◌, ◌*◌, nat_lt}
 use Rattle.std.proofs.lemmas.Bool.{and_parts, ltb-true}
-use Rattle.dutch_order.specs.Trials.{numbers_from}
-use Rattle.dutch_order.specs.Choices.{subsets}
+use Rattle.dutch_order.specs.Choices.{subsets, numbers_from}
 use Rattle.dutch_order.specs.Keys.{IsIn}
 use Rattle.dutch_order.specs.Arrangements.{remainder_pairs}
 use Rattle.dutch_order.specs.Levels.{HasS2}
@@ -38,12 +37,14 @@ returns-clause-coming g c =
     c.new.ensures c.from-blocks.ensures c.residents.ensures.items c.mdps-mdps.ensures c.scores.ensures.scores
 
 pub invariant_of-result : goal.invariant_of-result
-invariant_of-result g c =
-    λ hopeless.
-    let frame = c.args.bracket.now in
-    let many = and_parts frame.last (nat_lt 1 (length frame.scores - 2 * c.args.shape.pairs)) (sym c.leaves_too_many.ensures ∙ hopeless) in
-    levels-behind frame c.args.shape (g.R.Rule.meets c.args.rule.now) c.args.cursor (stands frame c.args.shape c.args.cursor c.requires.given) (g.R.Rule.may_be_left c.args.rule.now)
-    c.mdps-mdps.result c.scores.result.now c.residents.result.items c.from-blocks.result c.new.result
-    c.new.ensures c.from-blocks.ensures c.residents.ensures.items c.mdps-mdps.ensures c.scores.ensures.scores
-    ∙ none-behind (g.R.Rule.meets c.args.rule.now) (g.R.Rule.may_be_left c.args.rule.now) frame c.args.shape c.args.cursor
-    (none-legal frame c.args.shape (g.R.Rule.meets c.args.rule.now) (g.R.Rule.may_be_left c.args.rule.now) c.requires.fits many.0 (ltb-true 1 (length frame.scores - 2 * c.args.shape.pairs) many.1))
+invariant_of-result g c = (
+  c.leaves_too_many.ensures,
+  λ hopeless.
+      let frame = c.args.bracket.now in
+      let many = and_parts frame.last (nat_lt 1 (length frame.scores - 2 * c.args.shape.pairs)) (sym c.leaves_too_many.ensures ∙ hopeless) in
+      levels-behind frame c.args.shape (g.R.Rule.meets c.args.rule.now) c.args.cursor (stands frame c.args.shape c.args.cursor c.requires.given) (g.R.Rule.may_be_left c.args.rule.now)
+      c.mdps-mdps.result c.scores.result.now c.residents.result.items c.from-blocks.result c.new.result
+      c.new.ensures c.from-blocks.ensures c.residents.ensures.items c.mdps-mdps.ensures c.scores.ensures.scores
+      ∙ none-behind (g.R.Rule.meets c.args.rule.now) (g.R.Rule.may_be_left c.args.rule.now) frame c.args.shape c.args.cursor
+      (none-legal frame c.args.shape (g.R.Rule.meets c.args.rule.now) (g.R.Rule.may_be_left c.args.rule.now) c.requires.fits many.0 (ltb-true 1 (length frame.scores - 2 * c.args.shape.pairs) many.1)),
+)

@@ -16,11 +16,13 @@ returns-clause-coming g c =
     c.new.ensures c.new-blocks.ensures c.residents.ensures.items c.mdps-mdps.ensures c.scores.ensures.scores
 
 pub invariant_of-result : goal.invariant_of-result
-invariant_of-result g c =
-    λ hopeless.
-    let frame = c.args.bracket.now in
-    let many = and_parts frame.last (nat_lt 1 (length frame.scores - 2 * c.args.shape.pairs)) (sym c.leaves_too_many.ensures ∙ hopeless) in
-    levels-listed (g.R.Rule.meets c.args.rule.now) frame c.args.shape (g.R.Rule.may_be_left c.args.rule.now)
-    c.mdps-mdps.result c.scores.result.now c.residents.result.items c.new-blocks.result c.new.result
-    c.new.ensures c.new-blocks.ensures c.residents.ensures.items c.mdps-mdps.ensures c.scores.ensures.scores
-    ∙ none-legal frame c.args.shape (g.R.Rule.meets c.args.rule.now) (g.R.Rule.may_be_left c.args.rule.now) c.requires many.0 (ltb-true 1 (length frame.scores - 2 * c.args.shape.pairs) many.1)
+invariant_of-result g c = (
+  c.leaves_too_many.ensures,
+  λ hopeless.
+      let frame = c.args.bracket.now in
+      let many = and_parts frame.last (nat_lt 1 (length frame.scores - 2 * c.args.shape.pairs)) (sym c.leaves_too_many.ensures ∙ hopeless) in
+      levels-listed (g.R.Rule.meets c.args.rule.now) frame c.args.shape (g.R.Rule.may_be_left c.args.rule.now)
+      c.mdps-mdps.result c.scores.result.now c.residents.result.items c.new-blocks.result c.new.result
+      c.new.ensures c.new-blocks.ensures c.residents.ensures.items c.mdps-mdps.ensures c.scores.ensures.scores
+      ∙ none-legal frame c.args.shape (g.R.Rule.meets c.args.rule.now) (g.R.Rule.may_be_left c.args.rule.now) c.requires many.0 (ltb-true 1 (length frame.scores - 2 * c.args.shape.pairs) many.1),
+)

@@ -2,7 +2,7 @@ use Rattle.std.proofs.Common.{◌∙◌, [], length, ap, arith, subst, sym, suc,
 use Rattle.dutch_order.specs.Hints.{hinted, first_hint}
 use Rattle.dutch_order.specs.Walks.{Walked}
 use Rattle.dutch_order.specs.Stages.{exchange_plan, exchange_path, exchange_difference, out_places}
-use Rattle.dutch_order.proofs.StageSets.{exchange-room, exchanges-from}
+use Rattle.dutch_order.proofs.LateSets.{exchange-room, exchanges-from}
 use Rattle.dutch_order.proofs.StageMoves.{sets-at}
 use Rattle.dutch_order.proofs.exchange.Exchanges.from.Goals as goal
 

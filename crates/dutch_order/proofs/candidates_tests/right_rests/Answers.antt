@@ -3,7 +3,7 @@ use Rattle.std.specs.List.{filter, AllByRecursion}
 use Rattle.dutch_order.specs.Arrangements.{arrangements}
 use Rattle.dutch_order.specs.Keys.{IsIn}
 use Rattle.dutch_order.proofs.Orders.{all_members}
-use Rattle.dutch_order.proofs.candidates_tests.goes_on.Goals as goal
+use Rattle.dutch_order.proofs.candidates_tests.right_rests.Goals as goal
 
 kept-all : {X : Type 0} (P : X → Type 0) (p : X → Bool) (xs : List X) → AllByRecursion P xs → AllByRecursion P (filter p xs)
 kept-all P p [] all = tt
@@ -18,6 +18,6 @@ loop-turn-init c =
     let all = arrangements c.args.bracket.now c.args.shape in
     record {
       within = omega arith;
-      members = subst (AllByRecursion (λ a. IsIn a all)) (sym c.new-candidates.ensures.coming)
+      members = subst (AllByRecursion (λ a. IsIn a all)) (sym c.new-arrangements.ensures.coming)
           (kept-all (λ a. IsIn a all) _ all (all_members (λ a. IsIn a all) all (λ a m. m)));
     }
