@@ -54,7 +54,7 @@ not_member x [] above = refl
 not_member x (y ∷ ys) above =
     ap (λ b. b || is_member x ys) (ne_eqb y x (λ e. let h : x < y = above.0 in omega (arith, h, e))) ∙ not_member x ys above.1
 
-none_without : (x : ℕ) (ys : List ℕ) → AllByRecursion (λ y. x < y) ys → without x ys ≡ ys
+pub none_without : (x : ℕ) (ys : List ℕ) → AllByRecursion (λ y. x < y) ys → without x ys ≡ ys
 none_without x [] above = refl
 none_without x (y ∷ ys) above =
     ap (λ b. cond (not b) (y ∷ without x ys) (without x ys)) (ne_eqb y x (λ e. let h : x < y = above.0 in omega (arith, h, e)))
@@ -75,10 +75,10 @@ left_one : (x : ℕ) (pool : List ℕ) → left_of pool (x ∷ []) ≡ without x
 left_one x pool =
     filter-same (λ y. not (eqb x y || false)) (λ y. not (eqb y x)) pool (λ y. grind (arith, nat_tests))
 
-left_cons : (x : ℕ) (t pool : List ℕ) → left_of pool (x ∷ t) ≡ left_of (without x pool) t
+pub left_cons : (x : ℕ) (t pool : List ℕ) → left_of pool (x ∷ t) ≡ left_of (without x pool) t
 left_cons x t pool = sym (left-append pool (x ∷ []) t) ∙ ap (λ rest. left_of rest t) (left_one x pool)
 
-left_none : (pool : List ℕ) → left_of pool [] ≡ pool
+pub left_none : (pool : List ℕ) → left_of pool [] ≡ pool
 left_none pool = filter-all pool
 
 -- a tuple or a set leaves the others

@@ -20,7 +20,7 @@ use Rattle.dutch_pair.specs.NextBracket.{legal_in, psd_in, value_of_shape, IsFla
 use Rattle.dutch_pair.proofs.ArrangementParts.{parts_of, Residents}
 use Rattle.dutch_pair.proofs.PsdParts.{OneScore, down_parts}
 use Rattle.dutch_pair.proofs.DownLemmas.{down_numbers}
-use Rattle.dutch_pair.proofs.FirstLeast.{Descends, first_is_least, in_filter}
+use Rattle.dutch_pair.proofs.LeastPsd.{Descends, first_is_least, in_filter}
 
 players : (facts : Facts) (stand : Stand) → length (frame_of facts stand).scores ≡ length stand.seats
 players facts stand = length-map stand.seats (score_at facts)

@@ -1,26 +1,16 @@
 -- The first shape of some that has an arrangement, step by step along them.
-use Rattle.std.proofs.Common.{◌≡◌, ℕ, zero, suc, ◌+◌, ◌-◌, ◌*◌, ◌/◌, ◌<◌, ◌≤◌, Bool, true, false, cond, not, ◌&&◌, nat_lt, List, [], ◌∷◌, ◌++◌, length, Some, None, refl, sym, ap, ◌∙◌, arith}
+use Rattle.std.proofs.Common.{◌≡◌, ℕ, zero, suc, ◌-◌, ◌/◌, ◌<◌, Bool, true, false, cond, List, [], ◌∷◌, ◌++◌, length, Some, None, refl, sym, ap, ◌∙◌, arith}
 use Rattle.std.specs.Prelude.{filter, flat_map, Option, option_map}
 use Rattle.std.proofs.lemmas.List.{length-map}
 use Rattle.std.proofs.lemmas.List.Elements.{filter-append}
-use Rattle.std.proofs.lemmas.Bool.Decides.{nat_tests}
 use Rattle.dutch_order.specs.declared.bracket.Shape.{Shape}
-use Rattle.dutch_order.specs.Arrangements.{Frame, Arrangement, Fits, remainder_pairs}
+use Rattle.dutch_order.specs.Arrangements.{Arrangement}
 use Rattle.dutch_player.specs.Facts.{Facts}
 use Rattle.dutch_pair.specs.Seated.{score_at}
 use Rattle.dutch_pair.specs.Reached.{Stand, frame_of}
 use Rattle.dutch_pair.specs.Quality.{NextValue}
 use Rattle.dutch_pair.specs.Shapes.{down_from, fits, shapes_upto, shapes_with, has_member, first_with, greatest_shape}
 use Rattle.dutch_pair.specs.NextBracket.{legal_in, no_value, value_of_shape, value_of, first_among, value_among}
-
--- a bracket that has room for a shape by the test has room for it
-fits_at : (p m q r k : ℕ) → (not (nat_lt p m) && (not (nat_lt q m) && not (nat_lt r k))) ≡ true → (m ≤ p) × (m ≤ q) × (k ≤ r)
-fits_at p m q r k e = (grind (arith, nat_tests), grind (arith, nat_tests), grind (arith, nat_tests))
-
-pub fits_of : (frame : Frame) (shape : Shape) → fits frame shape ≡ true → Fits frame shape
-fits_of frame shape e =
-    let all = fits_at shape.pairs shape.mdps frame.mdps (length frame.scores - frame.mdps) (shape.mdps + 2 * remainder_pairs shape) e in
-    record { within_pairs = all.0; within_moved_down = all.1; residents_enough = all.2 }
 
 same_either : (t : Bool) → cond t None None ≡ let none : Option Shape = None in none
 same_either true = refl

@@ -1,5 +1,5 @@
 -- What the answer about completion tells by the test.
-use Rattle.std.proofs.Common.{◌≡◌, ℕ, Bool, true, false, not, ◌||◌, List, ◌++◌, map, refl, ap, ◌∙◌, subst}
+use Rattle.std.proofs.Common.{◌≡◌, ℕ, Bool, true, false, not, ◌||◌, List, ◌++◌, map, refl, subst}
 use Rattle.dutch_order.specs.Arrangements.{Arrangement, down}
 use Rattle.dutch_player.specs.Facts.{Facts}
 use Rattle.dutch_pair.specs.declared.completion.Answer.{Answer}
@@ -7,7 +7,6 @@ use Rattle.dutch_pair.specs.declared.completion.Answer.TheVariants.{Yes, No, Und
 use Rattle.dutch_pair.specs.Completion.{Completable, can_complete, MatchAnswer, Tells}
 use Rattle.dutch_pair.specs.Reached.{Stand, frame_of}
 use Rattle.dutch_pair.specs.Seated.{seat_of}
-use Rattle.dutch_pair.specs.Seats.{seats_meet, seats_may_be_left}
 use Rattle.dutch_pair.specs.Round.{is_penultimate, completable, downfloaters}
 use Rattle.dutch_pair.specs.Eligible.{can_be_chosen}
 use Rattle.dutch_pair.proofs.Covering.{completable_by_test}
@@ -29,11 +28,10 @@ chosen_at answer true test stopped e h = h
 chosen_at answer false test stopped e h = let bad : true ≡ false = e in cc
 
 -- in the penultimate bracket, the answer about those left over and all lower players
-pub can_be_chosen_told : (facts : Facts) (stand : Stand) (lower left players : List ℕ) (lists : Arrangement) (answer : Answer) (old new : Type 0)
-    → true ≡ is_penultimate stand.kind → left ≡ down (frame_of facts stand) lists → players ≡ map (seat_of stand.seats) left ++ lower → (old → new)
-    → MatchAnswer answer (Completable (seats_meet facts) (seats_may_be_left facts) players) (¬ Completable (seats_meet facts) (seats_may_be_left facts) players) old
-    → Tells answer (can_be_chosen facts stand lower lists) new
-can_be_chosen_told facts stand lower left players lists answer old new kind e all f h =
-    chosen_at answer (is_penultimate stand.kind) (completable facts (downfloaters facts stand lists ++ lower)) new kind
-    (subst (λ seats. Tells answer (completable facts seats) new) (all ∙ ap (λ numbers. map (seat_of stand.seats) numbers ++ lower) e)
-    (told (seats_meet facts) (seats_may_be_left facts) players answer old new f h))
+pub can_be_chosen_told : (facts : Facts) (stand : Stand) (lower left : List ℕ) (lists : Arrangement) (answer : Answer) (stopped : Type 0)
+    → true ≡ is_penultimate stand.kind → left ≡ down (frame_of facts stand) lists
+    → Tells answer (completable facts (map (seat_of stand.seats) left ++ lower)) stopped
+    → Tells answer (can_be_chosen facts stand lower lists) stopped
+can_be_chosen_told facts stand lower left lists answer stopped kind e h =
+    chosen_at answer (is_penultimate stand.kind) (completable facts (downfloaters facts stand lists ++ lower)) stopped kind
+    (subst (λ numbers. Tells answer (completable facts (map (seat_of stand.seats) numbers ++ lower)) stopped) e h)

@@ -21,11 +21,11 @@ use Rattle.dutch_pair.specs.Walk.{AreAbove, Goes}
 use Rattle.dutch_pair.specs.Round.{Round, Visit, Pairing, Chosen, is_penultimate, bracket, completable, downfloaters, candidates_of, eligible, quality_of, choice_in, choice, shape_of, no_pairing, passing, pairing_in, ending, final_chosen, final_bracket, penultimate_chosen, again, penultimate_bracket, ordinary_chosen, ordinary_bracket}
 use Rattle.dutch_pair.specs.Outcomes.{visit_at}
 use Rattle.dutch_pair.specs.Ends.{paired_again, Ends, IsPaired, IsAhead, LeftGoOn, Misses, in_front, is_asked}
-use Rattle.dutch_pair.proofs.FirstLeast.{in_filter}
+use Rattle.dutch_pair.proofs.LeastPsd.{in_filter}
 use Rattle.dutch_pair.proofs.FirstLemmas.{choice_of_shape}
 use Rattle.dutch_pair.proofs.FlatBrackets.{candidate_of}
 use Rattle.dutch_pair.proofs.NextBrackets.{all_seats}
-use Rattle.dutch_pair.proofs.SeatedWithin.{all_within}
+use Rattle.dutch_pair.proofs.CandidateSeats.{all_within}
 use Rattle.dutch_pair.proofs.DownLemmas.{down_numbers, down_few}
 use Rattle.dutch_pair.proofs.WalkLemmas.{Descends, is_above}
 
@@ -36,7 +36,7 @@ in_unbeaten_at : (better : Arrangement → Arrangement → Bool) (all : List Arr
 in_unbeaten_at better all c a rest true later e = let same : c ≡ a = cc in inl (sym same)
 in_unbeaten_at better all c a rest false later e = inr (later e)
 
-in_unbeaten : (better : Arrangement → Arrangement → Bool) (all ys : List Arrangement) (a : Arrangement) → first_unbeaten better all ys ≡ Some a → IsIn a ys
+pub in_unbeaten : (better : Arrangement → Arrangement → Bool) (all ys : List Arrangement) (a : Arrangement) → first_unbeaten better all ys ≡ Some a → IsIn a ys
 in_unbeaten better all [] a e = let bad : None ≡ Some a = e in cc
 in_unbeaten better all (c ∷ rest) a e = in_unbeaten_at better all c a rest (is_unbeaten better all c) (in_unbeaten better all rest a) e
 

@@ -4,8 +4,8 @@ use Rattle.dutch_order.specs.declared.steps.Budget.{Budget}
 use Rattle.dutch_pair.specs.declared.completion.Answer.{Answer}
 use Rattle.dutch_pair.specs.declared.completion.Answer.TheVariants.{Yes, No, Undecided}
 
--- pairs of players, in each the earlier player first and the pairs in the order of their first members, each of two who may meet,
--- and the players that are left out
+-- pairs of players, in each the one first who stands earlier in the list (our own choice), the pairs in the order of their first
+-- members, each of two who may meet; and the players that are left out
 abbrev pub Covers : (ℕ → ℕ → Bool) → List ℕ → List (ℕ × ℕ) → List ℕ → Type 0
 Covers meets players [] out = players ≡ out
 Covers meets players (pair ∷ pairs) out = record {
@@ -19,7 +19,7 @@ Covers meets players (pair ∷ pairs) out = record {
   covered : Covers meets (between ++ behind) pairs later;
 }
 
--- nobody is left out, or one player who may be
+-- C.2: nobody is left out, or one player who may be
 abbrev pub MayBeLeftOut : (ℕ → Bool) → List ℕ → Type 0
 MayBeLeftOut may_be_left [] = Unit {0}
 MayBeLeftOut may_be_left (a ∷ []) = may_be_left a ≡ true
@@ -37,6 +37,7 @@ abbrev pub some_partner : (ℕ → Bool) → (List ℕ → Bool) → List ℕ �
 some_partner meets holds between [] = false
 some_partner meets holds between (b ∷ after) = (meets b && holds (between ++ after)) || some_partner meets holds (between ++ b ∷ []) after
 
+-- nobody may be left out
 abbrev pub nobody : ℕ → Bool
 nobody a = false
 

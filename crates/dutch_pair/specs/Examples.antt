@@ -5,7 +5,11 @@ use Rattle.trf16.specs.declared.cell.Colour.TheVariants.{White, Black}
 use Rattle.dutch_player.specs.declared.float.Float.{Float}
 use Rattle.dutch_player.specs.declared.float.Float.TheVariants.{Up, Down}
 use Rattle.dutch_player.specs.Facts.{SeatFacts, Facts}
-use Rattle.dutch_pair.specs.Round.{round}
+use Rattle.dutch_order.specs.Arrangements.{Arrangement}
+use Rattle.dutch_pair.specs.declared.reached.Kind.TheVariants.{Ordinary}
+use Rattle.dutch_pair.specs.Reached.{Stand}
+use Rattle.dutch_pair.specs.Quality.{Quality}
+use Rattle.dutch_pair.specs.Round.{bracket, round}
 use Rattle.dutch_pair.specs.Boards.{boards}
 
 -- the boards of a round, if it has a pairing
@@ -55,6 +59,34 @@ leader_moves_down =
     before 2 5
     (player 1 2 (White ∷ []) (3 ∷ []) None ∷ player 2 1 (Black ∷ []) (4 ∷ []) None ∷ player 4 1 (White ∷ []) (2 ∷ []) None
     ∷ player 3 0 (Black ∷ []) (1 ∷ []) None ∷ [])
+
+-- its second bracket: the leader above the two with one half point, who are followed by the last player
+abbrev pub leader_above_two : Stand
+leader_above_two = bracket 2 Ordinary (0 ∷ []) (1 ∷ 2 ∷ [])
+
+-- in that bracket the leader meets one of the two, by his number
+abbrev pub leader_meets : ℕ → Arrangement
+leader_meets resident = record { s1 = 1 ∷ []; s2 = resident ∷ []; s1r = []; s2r = [] }
+
+-- the quality of the leader's pair where so many preferences are missed, all of them strong ones
+abbrev pub leader_quality : ℕ → Quality
+leader_quality missed = record {
+  psd = 2 ∷ 1 ∷ [];
+  next_pairs = 1;
+  next_psd = 1 ∷ [];
+  wide_differences = 0;
+  third_colours = 0;
+  missed_preferences = missed;
+  missed_strong = missed;
+  down_again = 0;
+  up_again = 0;
+  down_again_before = 0;
+  up_again_before = 0;
+  down_again_by = [];
+  up_again_by = [];
+  down_again_before_by = [];
+  up_again_before_by = [];
+}
 
 -- two with a full-point bye above two who have met: the first bracket cannot keep its pair
 abbrev pub pair_given_up : Facts

@@ -12,11 +12,12 @@ use Rattle.dutch_pair.specs.Round.{eligible, quality_of}
 use Rattle.dutch_pair.specs.Choice.{chosen, chosen_of_rest}
 use Rattle.dutch_pair.specs.Eligible.{can_be_chosen}
 
--- the candidate that is kept, if there is one, and its lists
+-- the candidate that is kept, if there is one
 abbrev pub kept_draw : Option Best → Option Draw
 kept_draw None = None
 kept_draw (Some best) = Some best.candidate
 
+-- the lists of the candidate that is kept, if there is one
 abbrev pub kept_lists : Option Best → Option Arrangement
 kept_lists None = None
 kept_lists (Some best) = Some best.candidate.lists

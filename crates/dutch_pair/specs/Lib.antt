@@ -1,3 +1,4 @@
+-- What the contracts of dutch_pair name: completion, brackets, shapes, quality, the choice, the round and its boards.
 pub mod Seated
 pub mod Shapes
 pub mod Quality
@@ -17,3 +18,4 @@ pub mod Eligible
 pub mod Walk
 pub mod Kept
 pub mod Ends
+pub mod Everybody

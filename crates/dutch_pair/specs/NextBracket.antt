@@ -27,7 +27,8 @@ abbrev pub lowest_list : List (List ℕ) → List ℕ
 lowest_list [] = []
 lowest_list (xs ∷ others) = lowest_list_upto xs others
 
--- the next bracket: the downfloaters are its moved-down players, and the next lower scoregroup its residents
+-- C.7: the next bracket: the downfloaters are its moved-down players, and the next lower scoregroup its residents; it is not a last
+-- one, and lower scoregroups are not looked at (our own choice)
 abbrev pub next_stand : List ℕ → List ℕ → Stand
 next_stand moved_down next = record { number = 0; kind = Ordinary; mdps = length moved_down; seats = moved_down ++ next }
 
@@ -35,15 +36,15 @@ next_stand moved_down next = record { number = 0; kind = Ordinary; mdps = length
 abbrev pub legal_in : Facts → Stand → Shape → List Arrangement
 legal_in facts stand = candidates (numbers_meet facts stand) (number_may_be_left facts stand) (frame_of facts stand)
 
--- the PSD of an arrangement of a bracket
+-- C.6: the PSD of an arrangement of a bracket
 abbrev pub psd_in : Facts → Stand → Arrangement → List ℕ
 psd_in facts stand lists = psd facts (by_seats facts stand.seats (record { lists = lists; down = down (frame_of facts stand) lists }))
 
--- where C.7 does not count, all candidates have the same value
+-- C.7: where it does not count, all candidates have the same value (our own choice)
 abbrev pub no_value : NextValue
 no_value = record { pairs = 0; psd = [] }
 
--- of a shape the number of pairs, and the least PSD of its arrangements
+-- C.7: of a shape the number of pairs, and the least PSD of its arrangements
 abbrev pub value_of_shape : Facts → Stand → Option Shape → NextValue
 value_of_shape facts stand None = no_value
 value_of_shape facts stand (Some shape) =
@@ -67,10 +68,11 @@ pub record IsFlat (facts : Facts) (stand : Stand) : Type 0 where
   pub resident : stand.mdps < length stand.seats
   pub same : (i : ℕ) → stand.mdps < i → i ≤ length stand.seats → score_at facts (seat_of stand.seats i) ≡ score_at facts (seat_of stand.seats (stand.mdps + 1))
 
--- the first of some shapes that has an arrangement, and what the bracket can be with it
+-- the first of some shapes that has an arrangement
 abbrev pub first_among : Facts → Stand → List Shape → Option Shape
 first_among facts stand shapes = first_with (legal_in facts stand) (filter (fits (frame_of facts stand)) shapes)
 
+-- what the bracket can be with the first of some shapes that has an arrangement
 abbrev pub value_among : Facts → Stand → List Shape → Option NextValue
 value_among facts stand shapes = option_map (λ shape. value_of_shape facts stand (Some shape)) (first_among facts stand shapes)
 

@@ -19,7 +19,7 @@ use Rattle.dutch_pair.specs.declared.colours_missed.Miss.{Miss}
 use Rattle.dutch_pair.specs.declared.colours_missed.Miss.TheVariants.{Wide, Third, Preference, StrongPreference}
 use Rattle.dutch_pair.specs.Seated.{Seated, difference, difference_down, going_down, going_up}
 
--- the items in the order in which they count
+-- the items in the order in which they count: C.6, the two of C.7, then one each for C.8 to C.19
 pub record Quality : Type 0 where
   pub psd : List ℕ
   pub next_pairs : ℕ
@@ -52,6 +52,7 @@ abbrev pub placed_all : List ℕ → List ℕ → List ℕ
 placed_all front [] = front
 placed_all front (x ∷ rest) = placed_all (placed x front) rest
 
+-- numbers in order, the highest first
 abbrev pub highest_first : List ℕ → List ℕ
 highest_first numbers = placed_all [] numbers
 
@@ -60,7 +61,7 @@ abbrev pub psd : Facts → Seated → List ℕ
 psd facts candidate =
     highest_first (map (difference facts) candidate.pairs ++ map (difference_down facts candidate.lowest) candidate.down)
 
--- C.8: with a colour more the colour difference is over +2 or under -2
+-- C.8: with a colour more the colour difference is over +2 or under -2 (of each player his own: our own choice)
 abbrev pub is_wide : SeatFacts → Colour → Bool
 is_wide seat colour = nat_lt 2 (distance (colour ∷ seat.played))
 
@@ -72,6 +73,7 @@ is_third seat colour = option_map_or (is_same colour) (last_two seat.played) fal
 abbrev pub is_missed : SeatFacts → Colour → Bool
 is_missed seat colour = option_map_or (λ wanted. not (is_same wanted.colour colour)) (preference seat.played) false
 
+-- A.6: a preference that is strong and not absolute
 abbrev pub is_strong : Kind → Bool
 is_strong Absolute = false
 is_strong Strong = true
@@ -102,21 +104,24 @@ count_of_both facts holds both = one_if (holds (seat_at facts both.0) White) + o
 abbrev pub count_in : Facts → (SeatFacts → Colour → Bool) → ℕ × ℕ → ℕ
 count_in facts holds pair = count_of_both facts holds (colours facts pair.0 pair.1)
 
--- one of a pair is a topscorer
+-- A.7: one or both of a pair are topscorers
 abbrev pub has_topscorer : Facts → ℕ × ℕ → Bool
 has_topscorer facts pair = is_topscorer facts (seat_at facts pair.0) || is_topscorer facts (seat_at facts pair.1)
 
--- how many players in pairs something holds of, and how many in pairs with a topscorer
+-- how many players in pairs something holds of
 abbrev pub count_in_pairs : Facts → (SeatFacts → Colour → Bool) → List (ℕ × ℕ) → ℕ
 count_in_pairs facts holds pairs = sum_by (count_in facts holds) pairs
 
+-- C.8, C.9: how many players in pairs with a topscorer something holds of
 abbrev pub count_with_topscorers : Facts → (SeatFacts → Colour → Bool) → List (ℕ × ℕ) → ℕ
 count_with_topscorers facts holds pairs = count_in_pairs facts holds (filter (has_topscorer facts) pairs)
 
+-- an upfloat
 abbrev pub is_up : Float → Bool
 is_up Up = true
 is_up Down = false
 
+-- a downfloat
 abbrev pub is_down : Float → Bool
 is_down Up = false
 is_down Down = true
@@ -130,15 +135,15 @@ is_float Down float = option_map_or is_down float false
 abbrev pub float_of : Facts → ℕ → ℕ → Option Float
 float_of facts back seat = if back == 1 then (seat_at facts seat).latest else (seat_at facts seat).earlier
 
--- those who had this float in the round so far back
+-- C.12 to C.15: those who had this float in the round so far back
 abbrev pub again : Facts → Float → ℕ → List Mover → List Mover
 again facts float back movers = filter (λ mover. is_float float (float_of facts back mover.seat)) movers
 
--- the differences of some who move, the highest first
+-- C.16 to C.19: the differences of some who move, the highest first
 abbrev pub differences : List Mover → List ℕ
 differences movers = highest_first (map (λ mover. mover.by) movers)
 
--- the quality of a candidate, for a value of the next bracket
+-- C.6 to C.19: the quality of a candidate, for a value of the next bracket
 abbrev pub quality_with : Facts → Seated → NextValue → Quality
 quality_with facts candidate next = record {
   psd = psd facts candidate;
@@ -158,10 +163,11 @@ quality_with facts candidate next = record {
   up_again_before_by = differences (again facts Up 2 (going_up facts candidate));
 }
 
--- by a number or a list first, and then by something else: the smaller goes first, a list by its first difference or where it ends
+-- by a number first, the smaller one in front, and then by something else
 abbrev pub by_number : (Quality → ℕ) → (Quality → Quality → Ordering) → Quality → Quality → Ordering
 by_number item others = then_cmp (on item nat_cmp) others
 
+-- by a list first, and then by something else: the smaller one in front, by its first difference or where it ends
 abbrev pub by_list : (Quality → List ℕ) → (Quality → Quality → Ordering) → Quality → Quality → Ordering
 by_list item others = then_cmp (on item (slice_cmp nat_cmp)) others
 
@@ -185,6 +191,6 @@ abbrev pub compared : Quality → Quality → Ordering
 compared =
     by_list (λ q. q.psd) (then_cmp (on (λ q. q.next_pairs) (flip_args nat_cmp)) (by_list (λ q. q.next_psd) compared_by_colours))
 
--- at the first item that differs the first one is better
+-- one quality is better than another: at the first item that differs it stands in front
 abbrev pub is_better : Quality → Quality → Bool
 is_better a b = is_lt (compared a b)

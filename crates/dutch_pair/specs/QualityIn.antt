@@ -2,6 +2,7 @@
 use Rattle.dutch_pair.specs.declared.quality.Quality.{Quality as Fields}
 use Rattle.dutch_pair.specs.Quality.{Quality}
 
+-- a quality by what stands in its fields
 abbrev pub quality_in : Fields → Quality
 quality_in q = record {
   psd = q.psd.items;

@@ -15,7 +15,7 @@ pub record Stand : Type 0 where
   pub mdps : ℕ
   pub seats : List ℕ
 
--- at most one player may be left over in the last bracket and in a collapsed one
+-- A.9: at most one player may be left over in the last bracket and in a collapsed one
 abbrev pub ends_round : Kind → Bool
 ends_round Ordinary = false
 ends_round Last = true
@@ -52,8 +52,8 @@ pub record IsOf (facts : Facts) (stand : Stand) : Type 0 where
   pub inside : AreSeats facts stand.seats
   pub sound : IsBracket (frame_of facts stand).scores stand.mdps
 
--- a bracket of a field above some lower seats, with which it has at most 256: their scores are below those of the bracket, and below an
--- ordinary one there is a seat
+-- a bracket of a field above some lower seats, with which it has at most 256: their scores are below those of the bracket, and below
+-- an ordinary one there is a seat
 pub record IsAbove (facts : Facts) (stand : Stand) (lower : List ℕ) : Type 0 where
   pub bracket : IsOf facts stand
   pub inside : AreSeats facts lower

@@ -36,12 +36,14 @@ pub record Round : Type 0 where
   pub reached : List Visit
   pub pairing : Option Pairing
 
+-- a bracket whose downfloaters move down to the next one
 abbrev pub is_ordinary : Kind → Bool
 is_ordinary Ordinary = true
 is_ordinary Last = false
 is_ordinary Penultimate = false
 is_ordinary Collapsed = false
 
+-- A.9: a bracket that is paired again, by C.4
 abbrev pub is_penultimate : Kind → Bool
 is_penultimate Ordinary = false
 is_penultimate Last = false
@@ -117,14 +119,14 @@ module _ (facts : Facts) where
   abbrev pub no_pairing : Round
   no_pairing = record { reached = []; pairing = None }
 
-  -- a bracket that is passed before the rest of a round, without its pairs
+  -- a bracket that is passed before the rest of a round, without its pairs; it stays among those reached (our own choice)
   abbrev pub passing : Stand → Chosen → Round → Round
   passing stand choice rest = record {
     reached = record { bracket = stand; shape = choice.shape } ∷ rest.reached;
     pairing = rest.pairing;
   }
 
-  -- and with its pairs
+  -- a bracket before the rest of a round, with its pairs
   abbrev pub pairing_in : Stand → Chosen → Round → Round
   pairing_in stand choice rest = record {
     reached = record { bracket = stand; shape = choice.shape } ∷ rest.reached;
@@ -135,15 +137,16 @@ module _ (facts : Facts) where
   abbrev pub ending : List ℕ → Round
   ending left = record { reached = []; pairing = Some (record { pairs = []; bye = left }) }
 
-  -- A.9: the bracket that ends the round
+  -- the same for its choice; none has no pairing
   abbrev pub final_chosen : Stand → Option Chosen → Round
   final_chosen stand None = no_pairing
   final_chosen stand (Some choice) = pairing_in stand choice (ending (downfloaters stand choice.lists))
 
+  -- A.9: the last bracket or the collapsed one, which ends the round
   abbrev pub final_bracket : Stand → Round
   final_bracket stand = final_chosen stand (choice stand [])
 
-  -- A.9: the penultimate bracket, and then the collapsed one of those whom it leaves over with all lower players
+  -- the penultimate bracket by its choice, and then the collapsed one of those whom it leaves over with all lower players
   abbrev pub penultimate_chosen : Stand → List ℕ → Option Chosen → Round
   penultimate_chosen stand lower None = no_pairing
   penultimate_chosen stand lower (Some choice) =
@@ -153,11 +156,12 @@ module _ (facts : Facts) where
   abbrev pub again : Stand → Stand
   again stand = record { number = stand.number + 1; kind = Penultimate; mdps = stand.mdps; seats = stand.seats }
 
+  -- A.9: a bracket that is paired again, and the collapsed one behind it
   abbrev pub penultimate_bracket : Stand → List ℕ → Round
   penultimate_bracket stand lower = penultimate_chosen (again stand) lower (choice (again stand) lower)
 
-  -- A.9: an ordinary bracket keeps its pairs if those whom it leaves over can be paired out with all lower players; else it is
-  -- paired again
+  -- an ordinary bracket by its choice: it keeps its pairs if those whom it leaves over can be paired out with all lower players; else
+  -- it is paired again
   abbrev pub ordinary_chosen : Stand → List ℕ → (List ℕ → Round) → Option Chosen → Round
   ordinary_chosen stand lower goes_on None = no_pairing
   ordinary_chosen stand lower goes_on (Some choice) =
@@ -165,6 +169,7 @@ module _ (facts : Facts) where
       then pairing_in stand choice (goes_on (downfloaters stand choice.lists))
       else passing stand choice (penultimate_bracket stand lower)
 
+  -- A.9: an ordinary bracket, and how the round goes on behind it
   abbrev pub ordinary_bracket : Stand → List ℕ → (List ℕ → Round) → Round
   ordinary_bracket stand lower goes_on = ordinary_chosen stand lower goes_on (choice stand lower)
 

@@ -48,12 +48,12 @@ by_seats facts seats draw = record {
   lowest = lowest facts seats;
 }
 
--- the difference of a pair: that of its scores
+-- A.8: the difference of a pair: that of its scores
 abbrev pub difference : Facts → ℕ × ℕ → ℕ
 difference facts pair =
     (score_at facts pair.0 - score_at facts pair.1) + (score_at facts pair.1 - score_at facts pair.0)
 
--- the difference of a downfloater: his score minus a score two half points below the lowest one in the bracket
+-- A.8: the difference of a downfloater: his score minus a score two half points below the lowest one in the bracket
 abbrev pub difference_down : Facts → ℕ → ℕ → ℕ
 difference_down facts least seat = (score_at facts seat - least) + 2
 
@@ -61,25 +61,26 @@ difference_down facts least seat = (score_at facts seat - least) + 2
 abbrev pub is_uneven : Facts → ℕ × ℕ → Bool
 is_uneven facts pair = not (score_at facts pair.0 == score_at facts pair.1)
 
--- of a pair with different scores the player with the higher one goes down
+-- A.4: of a pair with different scores the player with the higher one goes down
 abbrev pub goes_down : Facts → ℕ × ℕ → Mover
 goes_down facts pair =
     record { seat = if nat_lt (score_at facts pair.0) (score_at facts pair.1) then pair.1 else pair.0; by = difference facts pair }
 
--- and the player with the lower one goes up
+-- A.4: and the player with the lower one goes up
 abbrev pub goes_up : Facts → ℕ × ℕ → Mover
 goes_up facts pair =
     record { seat = if nat_lt (score_at facts pair.0) (score_at facts pair.1) then pair.0 else pair.1; by = difference facts pair }
 
--- who is in no pair goes down too
+-- who is in no pair goes down too (our own choice)
 abbrev pub floats_down : Facts → ℕ → ℕ → Mover
 floats_down facts least seat = record { seat = seat; by = difference_down facts least seat }
 
--- all who go down, and all who go up
+-- all who go down
 abbrev pub going_down : Facts → Seated → List Mover
 going_down facts candidate =
     map (goes_down facts) (filter (is_uneven facts) candidate.pairs) ++ map (floats_down facts candidate.lowest) candidate.down
 
+-- all who go up
 abbrev pub going_up : Facts → Seated → List Mover
 going_up facts candidate = map (goes_up facts) (filter (is_uneven facts) candidate.pairs)
 
@@ -95,7 +96,7 @@ AllPairs facts pairs = AllByRecursion (λ pair. (pair.0 < length facts.seats) ×
 abbrev pub AllMovers : Facts → List Mover → Type 0
 AllMovers facts movers = AllByRecursion (λ mover. mover.seat < length facts.seats) movers
 
--- a candidate of players of a field, of whom there are at most 256
+-- a candidate of players of a field: pairs and downfloaters are at most 256
 pub record HasSeats (facts : Facts) (candidate : Seated) : Type 0 where
   pub pairs : AllPairs facts candidate.pairs
   pub down : AllSeats facts candidate.down
@@ -105,7 +106,8 @@ pub record HasSeats (facts : Facts) (candidate : Seated) : Type 0 where
 abbrev pub AllNumbers : List ℕ → List ℕ → Type 0
 AllNumbers seats numbers = AllByRecursion (λ number. (0 < number) × (number ≤ length seats)) numbers
 
--- a candidate of a bracket with these seats: its numbers, and that none is there twice in so far as lengths tell it
+-- a candidate of a bracket with these seats: its numbers are the bracket's, the lists of those who meet have one length, and pairs
+-- and downfloaters are at most 256
 pub record IsCandidate (seats : List ℕ) (draw : Draw) : Type 0 where
   pub moved_down : length draw.lists.s1 ≡ length draw.lists.s2
   pub residents : length draw.lists.s1r ≡ length draw.lists.s2r

@@ -3,7 +3,7 @@ ghost use Rattle.std.specs.Prelude.{◌≡◌, ◌+◌, ◌<◌, ◌≤◌, leng
 ghost use Rattle.dutch_player.specs.Facts.{seat_at};
 ghost use Rattle.dutch_player.specs.Preferences.{is_same};
 ghost use Rattle.dutch_pair.specs.Seated.{AllPairs};
-ghost use Rattle.dutch_pair.specs.Quality.{is_wide, is_third, is_missed, is_strong, is_strong_missed, misses, one_if, count_in, count_of_both, has_topscorer, count_in_pairs, count_with_topscorers};
+ghost use Rattle.dutch_pair.specs.Quality.{is_wide, is_third, is_missed, is_strong, is_strong_missed, misses, count_in, has_topscorer, count_in_pairs, count_with_topscorers};
 
 use crate::seated::Pair;
 use dutch_order::search::LIMIT;

@@ -1,5 +1,5 @@
 // Completion, article A.9: whether players can be paired so that at most one is left out, specified by a list of pairs.
-ghost use Rattle.std.specs.Prelude.{◌≡◌, ◌+◌, ◌-◌, ◌*◌, ◌<◌, ◌≤◌, Bool, true, false, ◌&&◌, [], ◌∷◌, ◌++◌, take, drop, length, slice_index, if◌then◌else◌};
+ghost use Rattle.std.specs.Prelude.{◌≡◌, ◌+◌, ◌-◌, ◌*◌, ◌<◌, ◌≤◌, true, false, ◌&&◌, [], ◌++◌, take, drop, length, slice_index, if◌then◌else◌};
 ghost use Rattle.dutch_pair.specs.Completion.{Completable, can_cover, some_partner, nobody, left_over, most, Spends, IsStopped, Takes, MatchAnswer, Tells};
 
 use arrayvec::ArrayVec;

@@ -2,7 +2,7 @@
 ghost use Rattle.std.specs.Prelude.{◌≡◌, ◌+◌, ◌<◌, ◌≤◌, ◌++◌, length, map, filter};
 ghost use Rattle.arrayvec.specs.ArrayVec.{array_vec_len};
 ghost use Rattle.dutch_pair.specs.Seated.{is_uneven, goes_down, goes_up, floats_down, going_down, going_up, AllSeats, AllPairs, AllMovers, HasSeats};
-ghost use Rattle.dutch_pair.specs.Quality.{is_float, float_of, again, differences};
+ghost use Rattle.dutch_pair.specs.Quality.{is_float, again, differences};
 
 use crate::differences::put;
 use crate::seated::{Mover, Pair, Seated, difference_down, goes_down, goes_up, is_uneven};
@@ -59,7 +59,6 @@ fn push_down(field: &Field, least: u16, down: &[u16], movers: &mut Movers)
 }
 
 /// All who go down.
-
 pub(crate) fn going_down(field: &Field, candidate: &Seated) -> Movers
     requires { HasSeats field.now candidate.now }
     ensures items { result.items ≡ going_down field.now candidate.now }
@@ -73,7 +72,7 @@ pub(crate) fn going_down(field: &Field, candidate: &Seated) -> Movers
 }
 
 /// All who go up.
-#[tactic(auto, using(crate::proofs::MoversWithin::up_within))]
+#[tactic(auto, using(crate::proofs::MoverSeats::up_within))]
 pub(crate) fn going_up(field: &Field, candidate: &Seated) -> Movers
     requires { HasSeats field.now candidate.now }
     ensures items { result.items ≡ going_up field.now candidate.now }

@@ -1,7 +1,16 @@
 // Laws of the definitions alone: better qualities are in a strict and total order, the test of completable players is right, and
 // the most steps of a few players.
-ghost use Rattle.std.specs.Prelude.{◌≡◌, ◌⊎◌, ◌↔◌, ℕ, Bool, List, false, true};
+ghost use Rattle.std.specs.Prelude.{◌≡◌, ◌≤◌, ◌⊎◌, ◌↔◌, ℕ, Bool, IfSome, List, Ok, Option, Some, false, length, true};
+ghost use Rattle.trf16.specs.Round.{CanBePaired};
+ghost use Rattle.trf16.specs.Sheet.{Sheet};
+ghost use Rattle.trf16.specs.Verdict.{verdict};
+ghost use Rattle.trf16.specs.declared.cell.Colour.{Colour};
 ghost use Rattle.dutch_pair.specs.Quality.{Quality, is_better};
+ghost use Rattle.dutch_player.specs.Facts.{Facts, facts_of};
+ghost use Rattle.dutch_player.specs.Laws.{CountFromOne};
+ghost use Rattle.dutch_pair.specs.Boards.{boards};
+ghost use Rattle.dutch_pair.specs.Everybody.{NameEverybodyOnce};
+ghost use Rattle.dutch_pair.specs.Round.{Pairing, round};
 ghost use Rattle.dutch_pair.specs.Completion.{Completable, can_complete, most};
 
 /// Of two qualities one is better, or they are the same: a strict and total order.
@@ -26,4 +35,22 @@ pub fn most_of_few()
     ensures three { most 3 true ≡ 6 }
     ensures four { most 4 true ≡ 12 }
     ensures five { most 5 true ≡ 35 }
+{}
+
+/// In a round that is paired each present player stands on exactly one board, once, and nobody else does.
+pub fn everybody_is_named_once()
+    ensures { (facts : Facts) (pairing : Pairing) → CountFromOne facts → (round facts).pairing ≡ Some pairing → NameEverybodyOnce facts (boards facts pairing) }
+{}
+
+/// In a round that is paired at most one player has the bye.
+pub fn at_most_one_has_the_bye()
+    ensures { (facts : Facts) (pairing : Pairing) → (round facts).pairing ≡ Some pairing → length pairing.bye ≤ 1 }
+{}
+
+/// The boards of a round can be the next round of the accepted report that it is paired from, where a total of rounds that is asked
+/// for is at most 32.
+pub fn boards_can_be_the_next_round()
+    ensures { (bytes : List ℕ) (sheet : Sheet) (asked : Option ℕ) (initial : Option Colour) (facts : Facts) (pairing : Pairing) → verdict bytes ≡ Ok sheet
+        → IfSome asked (λ total. total ≤ 32) → facts_of sheet asked initial ≡ Ok facts → (round facts).pairing ≡ Some pairing
+        → CanBePaired (boards facts pairing) sheet }
 {}

@@ -2,42 +2,26 @@
 //
 // All residents of the next bracket have one score, so within a shape the PSD depends on the scores of S1 alone, and article D lists
 // the sets with the higher scores first: the first candidate has the least PSD, and no other one is looked at.
-ghost use Rattle.std.specs.Prelude.{◌≡◌, ◌+◌, ◌++◌, map, ℕ, slice_index, ◌<◌, ◌≤◌, ◌/◌, [], ◌∷◌, flat_map, true, false, length, Some, None, MatchOption};
+ghost use Rattle.std.specs.Prelude.{◌≡◌, map, ℕ, slice_index, ◌<◌, ◌≤◌, ◌/◌, [], ◌∷◌, flat_map, true, false, length, Some, None, MatchOption};
 ghost use Rattle.dutch_order.specs.Arrangements.{Fits, down};
 ghost use Rattle.dutch_order.specs.Steps.{MatchStep};
-ghost use Rattle.arrayvec.specs.ArrayVec.{array_vec_len};
-ghost use Rattle.dutch_order.specs.declared.search.TheConstants.{LIMIT};
 ghost use Rattle.dutch_pair.specs.Seated.{seat_of};
 ghost use Rattle.dutch_pair.specs.Reached.{IsOf, frame_of};
 ghost use Rattle.dutch_pair.specs.QualityIn.{quality_in};
 ghost use Rattle.dutch_pair.specs.Round.{is_ordinary};
-ghost use Rattle.dutch_pair.specs.Shapes.{down_from, shapes_with, fits, has_member};
-ghost use Rattle.dutch_pair.specs.NextBracket.{IsDraw, IsFlat, IsNext, legal_in, next_stand, no_value, value_of_shape, value_among, value_in, value_of, quality};
+ghost use Rattle.dutch_pair.specs.Shapes.{down_from, shapes_with, has_member};
+ghost use Rattle.dutch_pair.specs.NextBracket.{IsDraw, IsFlat, IsNext, legal_in, next_stand, value_of_shape, value_among, value_in, value_of, quality};
 
 use crate::differences::psd;
 use crate::quality::{NextValue, Quality, quality_with};
-use crate::reached::{Kind, Reached};
+use crate::reached::{Kind, Reached, bracket};
 use crate::seated::{by_seats, seats_of};
+use crate::shape::has_room;
 use dutch_order::bracket::Shape;
 use dutch_order::candidate::Candidate;
 use dutch_order::candidates::Candidates;
-use dutch_order::search::LIMIT;
 use dutch_order::steps::{Budget, Step};
-use dutch_order::transposition::Numbers;
 use dutch_player::field::Field;
-
-/// Whether a bracket has room for a shape.
-fn fits(reached: &Reached, field: &Field, shape: Shape) -> bool
-    requires small { shape.pairs ≤ length reached.now.seats }
-    requires of { IsOf field.now reached.now }
-    ensures { result ≡ fits (frame_of field.now reached.now) shape }
-{
-    let residents = reached.seats().len() - reached.mdps();
-    if shape.pairs < shape.mdps || reached.mdps() < shape.mdps {
-        return false;
-    }
-    shape.mdps + 2 * (shape.pairs - shape.mdps) <= residents
-}
 
 /// Scores are such as a `u16` holds.
 fn are_small(scores: &[u16])
@@ -83,7 +67,7 @@ fn value_of_shape(
 }
 
 /// What a bracket can be with a shape, where it has room for that.
-#[tactic(auto, using(crate::proofs::ShapeLemmas::found_one, crate::proofs::ShapeLemmas::empty_one, crate::proofs::ShapeLemmas::unfit_one, crate::proofs::ShapeLemmas::fits_of))]
+#[tactic(auto, using(crate::proofs::ShapeLemmas::found_one, crate::proofs::ShapeLemmas::empty_one, crate::proofs::ShapeLemmas::unfit_one, crate::proofs::ShapeSearch::fits_by_test))]
 fn value_for(field: &Field, reached: &Reached, shape: Shape, budget: &mut Budget) -> Step<NextValue>
     requires small { shape.pairs ≤ length reached.now.seats }
     requires of { IsOf field.now reached.now }
@@ -97,7 +81,7 @@ fn value_for(field: &Field, reached: &Reached, shape: Shape, budget: &mut Budget
     ensures rises { budget.old.used ≤ budget.new.used }
     ensures within { budget.new.used ≤ budget.new.limit }
 {
-    if !fits(reached, field, shape) {
+    if !has_room(field, reached, shape) {
         return Step::End;
     }
     value_of_shape(field, reached, shape, budget)
@@ -190,25 +174,8 @@ fn next_bracket(field: &Field, reached: &Reached, candidate: &Candidate, next: &
     requires next { IsNext field.now reached.now next.now }
     ensures { result ≡ next_stand (map (seat_of reached.now.seats) candidate.now.down) next.now }
 {
-    let mut seats = seats_of(reached.seats(), candidate.down());
-    let mdps = seats.len();
-    push_all(next, &mut seats);
-    Reached {
-        number: 0,
-        kind: Kind::Ordinary,
-        mdps,
-        seats,
-    }
-}
-
-/// Adds numbers to some.
-fn push_all(more: &[u16], numbers: &mut Numbers)
-    requires { array_vec_len numbers.old + length more.now ≤ LIMIT }
-    ensures { numbers.new.items ≡ numbers.old.items ++ more.now }
-{
-    for number in more {
-        numbers.push(*number);
-    }
+    let moved_down = seats_of(reached.seats(), candidate.down());
+    bracket(0, Kind::Ordinary, &moved_down, next)
 }
 
 /// The value of the next bracket for a candidate (C.7): in ordinary brackets alone.

@@ -1,5 +1,5 @@
 // The quality of a candidate, by which candidates of one shape are compared (C.04.3 C.6 to C.19), specified item by item.
-ghost use Rattle.std.specs.Prelude.{◌≡◌, ◌≤◌, length};
+ghost use Rattle.std.specs.Prelude.{◌≡◌};
 ghost use Rattle.dutch_pair.specs.Seated.{by_seats, AllSeats, IsCandidate};
 ghost use Rattle.dutch_pair.specs.Quality.{quality_with, is_better};
 ghost use Rattle.dutch_pair.specs.NextBracket.{no_value};

@@ -1,8 +1,9 @@
 // A bracket that a round reaches, by the seats of its players (C.04.3 A.3, A.9).
-ghost use Rattle.std.specs.Prelude.{◌≡◌, ◌<◌, ◌≤◌, true, length, map};
+ghost use Rattle.std.specs.Prelude.{◌≡◌, ◌+◌, ◌<◌, ◌≤◌, ◌++◌, true, length, map};
+ghost use Rattle.arrayvec.specs.ArrayVec.{array_vec_len};
 ghost use Rattle.dutch_order.specs.declared.search.TheConstants.{LIMIT};
-ghost use Rattle.dutch_player.specs.Facts.{seat_at};
 ghost use Rattle.dutch_pair.specs.Seated.{seat_of, score_at};
+ghost use Rattle.dutch_pair.specs.Round.{bracket};
 ghost use Rattle.dutch_pair.specs.Reached.{IsOf, AreSeats, ends_round, frame_of, is_number, numbers_meet, number_may_be_left};
 
 use arrayvec::ArrayVec;
@@ -127,6 +128,32 @@ impl Reached {
             reached: self,
             field,
         }
+    }
+}
+
+/// Adds seats to some.
+pub(crate) fn push_all(more: &[u16], seats: &mut Seats)
+    requires { array_vec_len seats.old + length more.now ≤ LIMIT }
+    ensures { seats.new.items ≡ seats.old.items ++ more.now }
+{
+    for seat in more {
+        seats.push(*seat);
+    }
+}
+
+/// A bracket of some moved down and some residents.
+pub(crate) fn bracket(number: u16, kind: Kind, moved_down: &[u16], residents: &[u16]) -> Reached
+    requires { length moved_down.now + length residents.now ≤ LIMIT }
+    ensures { result ≡ bracket number kind moved_down.now residents.now }
+{
+    let mut seats = Seats::new();
+    push_all(moved_down, &mut seats);
+    push_all(residents, &mut seats);
+    Reached {
+        number,
+        kind,
+        mdps: moved_down.len(),
+        seats,
     }
 }
 

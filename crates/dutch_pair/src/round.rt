@@ -1,5 +1,5 @@
 // The round, bracket by bracket (C.04.3 A.3, A.9), specified by a recursion over the scoregroups.
-ghost use Rattle.std.specs.Prelude.{◌≡◌, ◌≤◌, IfOk};
+ghost use Rattle.std.specs.Prelude.{◌≤◌, IfOk};
 ghost use Rattle.dutch_pair.specs.Outcomes.{IsOutcome, IsBracketAt};
 
 use crate::boards::{Pair, boards};

@@ -1,8 +1,7 @@
 // A candidate by the seats of its players: its pairs, and who goes down or up in them (C.04.3 A.8).
-ghost use Rattle.std.specs.Prelude.{◌≡◌, ◌+◌, ◌<◌, ◌≤◌, ◌++◌, length, map, filter};
+ghost use Rattle.std.specs.Prelude.{◌≡◌, ◌+◌, ◌<◌, ◌≤◌, ◌++◌, length, map};
 ghost use Rattle.arrayvec.specs.ArrayVec.{array_vec_len};
-ghost use Rattle.dutch_player.specs.Facts.{seat_at};
-ghost use Rattle.dutch_pair.specs.Seated.{seat_of, score_at, pairs_of, lowest, lowest_upto, by_seats, difference, difference_down, is_uneven, goes_down, goes_up, floats_down, going_down, going_up, AllSeats, AllPairs, AllMovers, AllNumbers, HasSeats, IsCandidate};
+ghost use Rattle.dutch_pair.specs.Seated.{seat_of, pairs_of, lowest, lowest_upto, by_seats, difference, difference_down, is_uneven, goes_down, goes_up, AllSeats, AllNumbers, HasSeats, IsCandidate};
 
 use arrayvec::ArrayVec;
 use dutch_order::candidate::Candidate;
@@ -154,7 +153,6 @@ pub(crate) fn seats_of(seats: &[u16], numbers: &[u16]) -> Numbers
 }
 
 /// A candidate of a bracket with these seats, by seats.
-
 pub(crate) fn by_seats(field: &Field, seats: &[u16], candidate: &Candidate) -> Seated
     requires bracket { AllSeats field.now seats.now }
     requires candidate { IsCandidate seats.now candidate.now }

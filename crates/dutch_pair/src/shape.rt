@@ -1,9 +1,8 @@
 // The shape of a bracket (C.04.3 C.5, B.1): the most pairs that some candidate has, and then the most moved-down players in them.
-ghost use Rattle.std.specs.Prelude.{◌≡◌, ◌≤◌, ◌&&◌, Some, None, true, filter};
-ghost use Rattle.dutch_order.specs.declared.search.TheConstants.{LIMIT};
+ghost use Rattle.std.specs.Prelude.{◌≡◌, ◌≤◌, ◌&&◌, Some, None, true, length, filter};
 ghost use Rattle.dutch_order.specs.Arrangements.{Fits};
 ghost use Rattle.dutch_order.specs.Steps.{MatchStep};
-ghost use Rattle.dutch_pair.specs.Reached.{IsAbove, frame_of};
+ghost use Rattle.dutch_pair.specs.Reached.{IsOf, IsAbove, frame_of};
 ghost use Rattle.dutch_pair.specs.Completion.{Tells};
 ghost use Rattle.dutch_pair.specs.Shapes.{fits, shapes_with, has_member, first_with};
 ghost use Rattle.dutch_pair.specs.Round.{eligible, shape_of};
@@ -11,18 +10,18 @@ ghost use Rattle.dutch_pair.specs.Round.{eligible, shape_of};
 use crate::completion::Answer;
 use crate::eligible::has_candidate;
 use crate::reached::Reached;
-use dutch_order::bracket::{Bracket, Shape};
-use dutch_order::search::LIMIT;
+use dutch_order::bracket::Shape;
 use dutch_order::steps::{Budget, Step};
 use dutch_player::field::Field;
 
-/// Whether a bracket has room for a shape.
-fn has_room(bracket: &Bracket, shape: Shape) -> bool
-    requires small { shape.pairs ≤ LIMIT }
-    ensures { result ≡ fits bracket.now shape }
+/// Whether a bracket of a field has room for a shape.
+pub(crate) fn has_room(field: &Field, reached: &Reached, shape: Shape) -> bool
+    requires of { IsOf field.now reached.now }
+    requires small { shape.pairs ≤ length reached.now.seats }
+    ensures { result ≡ fits (frame_of field.now reached.now) shape }
 {
-    let residents = bracket.scores().len() - bracket.mdps();
-    if shape.pairs < shape.mdps || bracket.mdps() < shape.mdps {
+    let residents = reached.seats().len() - reached.mdps();
+    if shape.pairs < shape.mdps || reached.mdps() < shape.mdps {
         return false;
     }
     shape.mdps + 2 * (shape.pairs - shape.mdps) <= residents
@@ -38,14 +37,14 @@ fn has_shape(
     budget: &mut Budget,
 ) -> Answer
     requires above { IsAbove field.now reached.now lower.now }
-    requires small { shape.pairs ≤ LIMIT }
+    requires small { shape.pairs ≤ length reached.now.seats }
     requires within { budget.old.used ≤ budget.old.limit }
     ensures answer { Tells result (fits (frame_of field.now reached.now) shape && has_member (eligible field.now reached.now lower.now shape)) (budget.new.used ≡ budget.new.limit) }
     ensures limit { budget.new.limit ≡ budget.old.limit }
     ensures rises { budget.old.used ≤ budget.new.used }
     ensures within { budget.new.used ≤ budget.new.limit }
 {
-    if !has_room(&reached.frame(field), shape) {
+    if !has_room(field, reached, shape) {
         return Answer::No;
     }
     has_candidate(field, reached, lower, shape, budget)
@@ -61,7 +60,7 @@ fn shape_with(
     budget: &mut Budget,
 ) -> Step<Shape>
     requires above { IsAbove field.now reached.now lower.now }
-    requires small { pairs ≤ LIMIT }
+    requires small { pairs ≤ length reached.now.seats }
     requires within { budget.old.used ≤ budget.old.limit }
     ensures answer { MatchStep result
         (λ shape. (first_with (eligible field.now reached.now lower.now) (filter (fits (frame_of field.now reached.now)) (shapes_with pairs)) ≡ Some shape)

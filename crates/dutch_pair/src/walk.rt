@@ -3,26 +3,23 @@
 // One walk serves both questions: which pairs the round has, and which bracket has a number. A bracket that is asked for is only asked
 // for its shape; in every other one its choice is made. What the walk keeps is told from behind: however the round from a bracket on
 // ends, the whole round ends so, with the pairs made so far in front.
-ghost use Rattle.std.specs.Prelude.{◌≡◌, ◌+◌, ◌<◌, ◌≤◌, ◌++◌, [], IfOk, length, map};
+ghost use Rattle.std.specs.Prelude.{◌≡◌, ◌+◌, ◌<◌, ◌≤◌, ◌++◌, [], IfOk};
 ghost use Rattle.std.specs.List.{AllByRecursion};
-ghost use Rattle.dutch_order.specs.declared.search.TheConstants.{LIMIT};
 ghost use Rattle.dutch_pair.specs.Boards.{IsPair};
-ghost use Rattle.dutch_pair.specs.Completion.{Tells};
 ghost use Rattle.dutch_pair.specs.NextBracket.{IsDraw};
-ghost use Rattle.dutch_pair.specs.Reached.{IsOf, IsAbove, frame_of};
-ghost use Rattle.dutch_pair.specs.Round.{bracket, everybody, completable, round, brackets, scoregroups, final_bracket, penultimate_bracket};
-ghost use Rattle.dutch_pair.specs.Seated.{seat_of, all_pairs, AllNumbers};
+ghost use Rattle.dutch_pair.specs.Reached.{IsOf, IsAbove};
+ghost use Rattle.dutch_pair.specs.Round.{everybody, round, brackets, scoregroups, final_bracket, penultimate_bracket};
+ghost use Rattle.dutch_pair.specs.Seated.{all_pairs};
 ghost use Rattle.dutch_pair.specs.Ends.{Ends, IsAhead, LeftGoOn, Settles, Turns, is_asked, paired_again, stopped};
 
 use crate::boards::Pair;
 use crate::choice::{Choice, choose};
-use crate::completion::{Answer, completes};
-use crate::eligible::seats_with_lower;
+use crate::completion::Answer;
+use crate::eligible::{can_complete, leaves_completable};
 use crate::fault::PairFault;
 use crate::group::front_with;
-use crate::reached::{Kind, Reached, Seats};
+use crate::reached::{Kind, Reached, Seats, bracket};
 use crate::seated::{by_seats, seats_of};
-use crate::seats::seats;
 use crate::shape::shape_of;
 use dutch_order::bracket::Shape;
 use dutch_order::candidate::Candidate;
@@ -72,26 +69,6 @@ pub(crate) fn everybody(field: &Field) -> Seats
     ensures { result.items ≡ everybody field.now }
 {
     numbered_from(0, field.len())
-}
-
-/// A bracket of some moved down and some residents.
-pub(crate) fn bracket(number: u16, kind: Kind, moved_down: &[u16], residents: &[u16]) -> Reached
-    requires { length moved_down.now + length residents.now ≤ LIMIT }
-    ensures { result ≡ bracket number kind moved_down.now residents.now }
-{
-    let mut seats = Seats::new();
-    for seat in moved_down {
-        seats.push(*seat);
-    }
-    for seat in residents {
-        seats.push(*seat);
-    }
-    Reached {
-        number,
-        kind,
-        mdps: moved_down.len(),
-        seats,
-    }
 }
 
 fn is_asked(asked: Option<u16>, number: u16) -> bool
@@ -249,37 +226,6 @@ fn penultimate_bracket(
         Settled::Nothing => Ok(Ended::NoPairing),
         Settled::Undecided => Ok(stopped(&reached, budget.used)),
     }
-}
-
-/// Whether seats can be paired out (A.9).
-fn can_complete(field: &Field, players: &[u16], budget: &mut Budget) -> Answer
-    requires few { length players.now ≤ LIMIT }
-    requires within { budget.old.used ≤ budget.old.limit }
-    ensures answer { Tells result (completable field.now players.now) (budget.new.used ≡ budget.new.limit) }
-    ensures limit { budget.new.limit ≡ budget.old.limit }
-    ensures within { budget.new.used ≤ budget.new.limit }
-{
-    completes(players, &seats(field), budget)
-}
-
-/// Whether those whom a candidate leaves over can be paired out with all lower players (A.9).
-fn leaves_completable(
-    field: &Field,
-    reached: &Reached,
-    lower: &[u16],
-    candidate: &Candidate,
-    budget: &mut Budget,
-) -> Answer
-    requires above { IsAbove field.now reached.now lower.now }
-    requires numbers { AllNumbers reached.now.seats candidate.now.down }
-    requires few { length candidate.now.down ≤ length reached.now.seats }
-    requires within { budget.old.used ≤ budget.old.limit }
-    ensures answer { Tells result (completable field.now (map (seat_of reached.now.seats) candidate.now.down ++ lower.now)) (budget.new.used ≡ budget.new.limit) }
-    ensures limit { budget.new.limit ≡ budget.old.limit }
-    ensures within { budget.new.used ≤ budget.new.limit }
-{
-    let players = seats_with_lower(reached, candidate.down(), lower);
-    can_complete(field, &players, budget)
 }
 
 /// An ordinary bracket: it keeps its pairs if those whom it leaves over can be paired out with all lower players; else it is paired

@@ -1,10 +1,11 @@
+-- One candidate more, or the end of all candidates, tells what is chosen of the shape.
 use Rattle.std.proofs.Common.{◌≡◌, inl, inr, refl, sym, ap, ◌∙◌, subst, arith}
 use Rattle.dutch_order.specs.Arrangements.{Frame, arrangements, is_legal, down}
 use Rattle.dutch_order.specs.Keys.{IsIn}
 use Rattle.dutch_pair.specs.Reached.{frame_of, numbers_meet, number_may_be_left}
 use Rattle.dutch_pair.specs.Round.{candidates_of}
 use Rattle.dutch_pair.specs.Kept.{chosen_in, chosen_yet}
-use Rattle.dutch_pair.proofs.FirstLeast.{in_filter}
+use Rattle.dutch_pair.proofs.LeastPsd.{in_filter}
 use Rattle.dutch_pair.proofs.FlatBrackets.{listed_as}
 use Rattle.dutch_pair.proofs.BestLemmas.{chosen_first, chosen_last, handed}
 use Rattle.dutch_pair.proofs.choice.best_of.Goals as goal

@@ -1,3 +1,4 @@
+-- A better candidate that can be chosen is kept, and the same one is chosen in the end.
 use Rattle.std.proofs.Common.{refl, sym}
 use Rattle.dutch_pair.proofs.BestLemmas.{winner_kept}
 use Rattle.dutch_pair.proofs.choice.consider.Goals as goal

@@ -1,3 +1,4 @@
+-- Both players of a pair are of the field, whichever of them gets white.
 use Rattle.std.proofs.Common.{ℕ, ◌<◌, length, subst, sym}
 use Rattle.dutch_pair.proofs.ColourSeats.{colours_within}
 use Rattle.dutch_pair.proofs.colours_missed.count_in.Goals as goal

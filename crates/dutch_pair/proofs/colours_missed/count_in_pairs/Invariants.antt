@@ -1,3 +1,4 @@
+-- The count so far and that of the pairs to come make the whole count, which a `u16` holds.
 use Rattle.std.proofs.Common.{◌≡◌, ◌+◌, ◌*◌, ◌≤◌, drop}
 use Rattle.dutch_pair.specs.Quality.{misses, count_in_pairs}
 use Rattle.dutch_pair.proofs.colours_missed.count_in_pairs.Given as goal

@@ -1,3 +1,4 @@
+-- The answer and the steps of one player more, from those of the players behind him.
 use Rattle.std.proofs.Common.{◌-◌, ◌+◌, suc, length, arith}
 use Rattle.std.specs.Prelude.{if◌then◌else◌}
 use Rattle.dutch_pair.specs.Completion.{can_cover, left_over, most}

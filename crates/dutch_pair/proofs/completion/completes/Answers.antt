@@ -1,3 +1,4 @@
+-- The answer of the search is the answer about a list of pairs.
 use Rattle.std.proofs.Common.{true, length}
 use Rattle.dutch_pair.specs.Completion.{most, IsStopped}
 use Rattle.dutch_pair.proofs.Covering.{answer_by_test}

@@ -1,3 +1,4 @@
+-- The players but for one are those in front of his place and those behind it.
 use Rattle.std.proofs.Common.{◌≡◌, ◌∙◌, ◌++◌, ap, sym, take, drop, suc, ℕ, List, add-one}
 use Rattle.std.proofs.lemmas.List.{take_all}
 use Rattle.dutch_pair.proofs.completion.without.Goals as goal

@@ -1,3 +1,4 @@
+-- The players copied so far.
 use Rattle.std.proofs.Common.{◌≡◌, take}
 use Rattle.dutch_pair.proofs.completion.without.Given as goal
 

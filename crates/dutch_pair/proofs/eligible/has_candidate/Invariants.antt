@@ -1,3 +1,4 @@
+-- Some candidate to come can be chosen if any of the shape can be.
 use Rattle.std.proofs.Common.{◌≡◌, ◌≤◌, filter, length}
 use Rattle.dutch_pair.specs.Shapes.{has_member}
 use Rattle.dutch_pair.specs.Reached.{frame_of}

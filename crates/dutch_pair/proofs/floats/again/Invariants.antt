@@ -1,3 +1,4 @@
+-- The differences put so far, and those of the players to come who had the float, make them all.
 use Rattle.std.proofs.Common.{◌≡◌, ◌≤◌, drop, map}
 use Rattle.arrayvec.specs.ArrayVec.{array_vec_len}
 use Rattle.dutch_pair.specs.Quality.{placed_all, again, differences}

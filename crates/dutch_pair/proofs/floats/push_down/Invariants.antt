@@ -1,3 +1,4 @@
+-- The downfloaters added so far stand behind those who were there.
 use Rattle.std.proofs.Common.{◌≡◌, ◌+◌, ◌++◌, drop, map}
 use Rattle.arrayvec.specs.ArrayVec.{array_vec_len}
 use Rattle.dutch_pair.specs.Seated.{floats_down}

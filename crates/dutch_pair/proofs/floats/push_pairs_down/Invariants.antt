@@ -1,3 +1,4 @@
+-- The players added so far and those of the pairs to come make all who go down in pairs.
 use Rattle.std.proofs.Common.{◌≡◌, ◌+◌, ◌≤◌, ◌++◌, drop, map, filter}
 use Rattle.arrayvec.specs.ArrayVec.{array_vec_len}
 use Rattle.dutch_pair.specs.Seated.{is_uneven, goes_down}

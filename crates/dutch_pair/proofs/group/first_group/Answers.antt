@@ -1,3 +1,4 @@
+-- The first scoregroup is the seats at the front with the score of the first one.
 use Rattle.std.proofs.Common.{ℕ, suc, List, ◌∷◌, subst, arith}
 use Rattle.dutch_player.specs.Facts.{Facts}
 use Rattle.dutch_pair.specs.Reached.{AreSeats}

@@ -1,3 +1,4 @@
+-- All seats passed so far have the score.
 use Rattle.std.proofs.Common.{◌≡◌, ◌+◌, drop}
 use Rattle.dutch_pair.specs.Groups.{front_with}
 use Rattle.dutch_pair.proofs.group.front_with.Given as goal

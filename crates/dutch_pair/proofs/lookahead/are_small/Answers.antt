@@ -1,3 +1,4 @@
+-- A score is a `u16`.
 use Rattle.std.proofs.Common.{get_or, arith, w16, Fits}
 use Rattle.std.proofs.Math.Facts.{Fits-lt-pow}
 use Rattle.dutch_pair.proofs.lookahead.are_small.Goals as goal

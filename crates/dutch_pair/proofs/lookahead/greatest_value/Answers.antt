@@ -1,3 +1,4 @@
+-- A number of pairs that has no candidate is passed, and the first that has one gives the value.
 use Rattle.std.proofs.Common.{sym, ◌∙◌, arith}
 use Rattle.dutch_pair.proofs.ShapeLemmas.{next_pairs, found_pairs}
 use Rattle.dutch_pair.proofs.lookahead.greatest_value.Goals as goal

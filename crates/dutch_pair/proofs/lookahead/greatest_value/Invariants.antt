@@ -1,3 +1,4 @@
+-- No number of pairs passed so far has a candidate.
 use Rattle.std.proofs.Common.{◌≡◌, ◌≤◌, ◌/◌, length}
 use Rattle.std.specs.Prelude.{flat_map}
 use Rattle.dutch_pair.specs.Shapes.{down_from, shapes_with}

@@ -1,10 +1,11 @@
+-- There is room for the downfloaters and the next lower scoregroup.
 use Rattle.std.proofs.Common.{ap, length, arith}
 use Rattle.std.proofs.lemmas.List.{length-map}
 use Rattle.dutch_pair.specs.Seated.{seat_of}
 use Rattle.dutch_pair.proofs.NextBrackets.{down_short}
 use Rattle.dutch_pair.proofs.lookahead.next_bracket.Goals as goal
 
-pub push_all-requires : goal.push_all-requires
-push_all-requires c =
+pub bracket-requires : goal.bracket-requires
+bracket-requires c =
     let short = down_short c.args.field.now c.args.reached.now c.args.candidate.now c.args.next.now c.requires.of c.requires.candidate c.requires.next in
-    omega (arith, short, c.requires.next.few, ap length c.seats_of-seats.ensures, length-map c.down.result.now (seat_of c.seats.result.now), ap length c.down.ensures)
+    omega (arith, short, c.requires.next.few, ap length c.deref.ensures.0, ap length c.seats_of-moved_down.ensures, length-map c.down.result.now (seat_of c.seats.result.now), ap length c.down.ensures)

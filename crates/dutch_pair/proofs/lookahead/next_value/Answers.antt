@@ -1,3 +1,4 @@
+-- The next bracket is one of the field, and its residents have one score.
 use Rattle.std.proofs.Common.{sym, ◌∙◌, subst}
 use Rattle.dutch_pair.specs.Reached.{Stand, IsOf}
 use Rattle.dutch_pair.specs.NextBracket.{IsFlat}

@@ -1,3 +1,4 @@
+-- A candidate of a bracket has numbers of its seats.
 use Rattle.std.proofs.Common.{List, ℕ, sym, subst}
 use Rattle.dutch_pair.specs.Seated.{IsCandidate}
 use Rattle.dutch_pair.proofs.FlatBrackets.{candidate_of}

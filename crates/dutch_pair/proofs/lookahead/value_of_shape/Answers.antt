@@ -1,3 +1,4 @@
+-- The first candidate of a shape has the least PSD of all.
 use Rattle.std.proofs.Common.{◌≡◌, ℕ, ◌≤◌, List, ◌∷◌, sym, ap, ◌∙◌, subst}
 use Rattle.std.specs.Prelude.{slice_index}
 use Rattle.dutch_order.specs.Arrangements.{Frame, down}

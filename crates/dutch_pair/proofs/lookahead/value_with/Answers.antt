@@ -1,3 +1,4 @@
+-- A shape that has no candidate is passed, and the first that has one gives the value.
 use Rattle.std.proofs.Common.{sym, ◌∙◌, arith}
 use Rattle.dutch_pair.proofs.ShapeLemmas.{next_mdps, found_mdps}
 use Rattle.dutch_pair.proofs.lookahead.value_with.Goals as goal

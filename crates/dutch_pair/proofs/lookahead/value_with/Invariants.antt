@@ -1,3 +1,4 @@
+-- No shape with more moved-down players has a candidate.
 use Rattle.std.proofs.Common.{◌≡◌, ◌≤◌}
 use Rattle.dutch_pair.specs.Shapes.{shapes_upto, shapes_with}
 use Rattle.dutch_pair.specs.NextBracket.{value_among}

@@ -1,3 +1,4 @@
+-- The scores of the seats passed so far.
 use Rattle.std.proofs.Common.{◌≡◌, map, take}
 use Rattle.dutch_pair.specs.Seated.{score_at}
 use Rattle.dutch_pair.proofs.reached.scores.Given as goal

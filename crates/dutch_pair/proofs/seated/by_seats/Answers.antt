@@ -1,5 +1,6 @@
+-- The pairs and the downfloaters of a candidate by seats are of the field.
 use Rattle.std.proofs.Common.{rules}
-use Rattle.dutch_pair.proofs.SeatedWithin.{within_at}
+use Rattle.dutch_pair.proofs.CandidateSeats.{within_at}
 use Rattle.dutch_pair.proofs.seated.by_seats.Goals as goal
 
 pub returns-clause-inside : goal.returns-clause-inside

@@ -1,3 +1,4 @@
+-- The lowest score so far and those to come give the lowest of all.
 use Rattle.std.proofs.Common.{◌≡◌, drop}
 use Rattle.dutch_pair.specs.Seated.{lowest_upto}
 use Rattle.dutch_pair.proofs.seated.lowest_upto.Given as goal

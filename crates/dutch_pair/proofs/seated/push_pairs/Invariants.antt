@@ -1,3 +1,4 @@
+-- The pairs added so far and those of the numbers to come make them all.
 use Rattle.std.proofs.Common.{◌≡◌, ◌+◌, ◌++◌, drop}
 use Rattle.arrayvec.specs.ArrayVec.{array_vec_len}
 use Rattle.dutch_pair.specs.Seated.{pairs_of}

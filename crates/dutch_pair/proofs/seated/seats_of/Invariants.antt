@@ -1,3 +1,4 @@
+-- The seats of the numbers passed so far.
 use Rattle.std.proofs.Common.{◌≡◌, take, map}
 use Rattle.dutch_pair.specs.Seated.{seat_of}
 use Rattle.dutch_pair.proofs.seated.seats_of.Given as goal

@@ -1,3 +1,4 @@
+-- A number of pairs that has no candidate is passed, and the first that has one gives the shape.
 use Rattle.std.proofs.Common.{◌∙◌, arith}
 use Rattle.dutch_pair.specs.Reached.{frame_of}
 use Rattle.dutch_pair.specs.Shapes.{fits}

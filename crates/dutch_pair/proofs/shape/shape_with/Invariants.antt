@@ -1,3 +1,4 @@
+-- No shape with more moved-down players has a candidate.
 use Rattle.std.proofs.Common.{◌≡◌, ◌≤◌, map, filter}
 use Rattle.dutch_pair.specs.Reached.{frame_of}
 use Rattle.dutch_pair.specs.Shapes.{down_from, fits, shapes_with, first_with}

@@ -1,3 +1,4 @@
+-- How the round ends with its last bracket, for each way in which that is settled.
 use Rattle.std.proofs.Common.{◌≡◌, [], ◌∙◌, subst}
 use Rattle.dutch_pair.specs.Ends.{Settles}
 use Rattle.dutch_pair.proofs.WalkEnds.{drawn, numbers_left, left_is, final_asked, final_paired}

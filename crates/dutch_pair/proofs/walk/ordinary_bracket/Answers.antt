@@ -1,3 +1,4 @@
+-- How an ordinary bracket ends the walk or lets it go on, for each way in which it is settled.
 use Rattle.std.proofs.Common.{◌≡◌, ℕ, ◌++◌, List, map, true, refl, sym, ap, ◌∙◌, subst}
 use Rattle.dutch_pair.specs.Seated.{seat_of}
 use Rattle.dutch_pair.specs.Walk.{Goes}

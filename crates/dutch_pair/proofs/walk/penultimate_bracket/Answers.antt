@@ -1,3 +1,4 @@
+-- How the round ends with the penultimate bracket and the collapsed one, for each way in which the first is settled.
 use Rattle.std.proofs.Common.{◌≡◌, ◌+◌, ◌≤◌, length, sym, ap, ◌∙◌, subst}
 use Rattle.std.proofs.lemmas.Result.{IfOk-weaker}
 use Rattle.dutch_pair.specs.declared.reached.Kind.TheVariants.{Collapsed}

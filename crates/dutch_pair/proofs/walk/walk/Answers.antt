@@ -1,3 +1,4 @@
+-- How the walk ends, by the test of all present players.
 use Rattle.std.proofs.Common.{[], ◌∙◌}
 use Rattle.std.proofs.lemmas.Result.{IfOk-weaker}
 use Rattle.dutch_pair.specs.Round.{brackets, everybody, round, scoregroups}

@@ -1,3 +1,4 @@
+-- The rest of the round from the bracket on that comes next, with the pairs made so far in front, is the whole round.
 use Rattle.std.proofs.Common.{◌≡◌, ◌+◌, ◌≤◌, [], length}
 use Rattle.std.specs.List.{AllByRecursion}
 use Rattle.dutch_pair.specs.Boards.{IsPair}

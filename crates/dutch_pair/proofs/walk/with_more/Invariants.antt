@@ -1,3 +1,4 @@
+-- The pairs added so far stand behind those that were there.
 use Rattle.std.proofs.Common.{◌≡◌, ◌++◌, take}
 use Rattle.dutch_pair.proofs.walk.with_more.Given as goal
 

@@ -1,8 +1,9 @@
+-- The answer about a list of pairs is what the test of the seats tells.
 use Rattle.std.proofs.Common.{◌≡◌, length, true, subst}
 use Rattle.dutch_pair.specs.Completion.{Completable, MatchAnswer, IsStopped, most}
 use Rattle.dutch_pair.specs.Seats.{seats_meet, seats_may_be_left}
 use Rattle.dutch_pair.proofs.TellLemmas.{told}
-use Rattle.dutch_pair.proofs.walk.can_complete.Goals as goal
+use Rattle.dutch_pair.proofs.eligible.can_complete.Goals as goal
 
 pub returns-clause-answer : goal.returns-clause-answer
 returns-clause-answer c =

@@ -1,8 +1,9 @@
+-- The players who are tested are those left over and all lower ones.
 use Rattle.std.proofs.Common.{◌≡◌, ◌++◌, map, ap, ◌∙◌, subst}
 use Rattle.dutch_pair.specs.Completion.{Tells}
 use Rattle.dutch_pair.specs.Seated.{seat_of}
 use Rattle.dutch_pair.specs.Round.{completable}
-use Rattle.dutch_pair.proofs.walk.leaves_completable.Goals as goal
+use Rattle.dutch_pair.proofs.eligible.leaves_completable.Goals as goal
 
 pub returns-clause-answer : goal.returns-clause-answer
 returns-clause-answer c =

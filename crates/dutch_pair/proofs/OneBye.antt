@@ -1,0 +1,132 @@
+-- In a round that is paired at most one player has the bye: the bracket that ends it leaves at most one over.
+use Rattle.std.proofs.Common.{◌≡◌, ℕ, ◌+◌, ◌≤◌, Bool, true, false, cond, not, ◌||◌, List, [], ◌∷◌, ◌++◌, length, Option, Some, None, inl, inr, refl, sym, ap, ◌∙◌, subst, arith}
+use Rattle.std.specs.Prelude.{IfSome, filter, option_map}
+use Rattle.std.specs.List.{concat}
+use Rattle.std.proofs.lemmas.Bool.{and_parts, cases_Bool, true≢false}
+use Rattle.std.proofs.lemmas.List.{length-map}
+use Rattle.dutch_order.specs.declared.bracket.Shape.{Shape}
+use Rattle.dutch_order.specs.Choices.{all_meet}
+use Rattle.dutch_order.specs.Keys.{IsIn}
+use Rattle.dutch_order.specs.Arrangements.{Frame, Arrangement, arrangements, down, is_legal, leaves_one}
+use Rattle.dutch_player.specs.Facts.{Facts}
+use Rattle.dutch_pair.specs.declared.reached.Kind.TheVariants.{Ordinary, Last, Collapsed}
+use Rattle.dutch_pair.specs.Choice.{chosen}
+use Rattle.dutch_pair.specs.Quality.{is_better}
+use Rattle.dutch_pair.specs.Reached.{Stand, ends_round, frame_of, numbers_meet, number_may_be_left}
+use Rattle.dutch_pair.specs.Round.{Round, Pairing, Chosen, bracket, candidates_of, choice, choice_in, completable, downfloaters, eligible, everybody, is_penultimate, quality_of, scoregroups, shape_of, pairing_in, passing, no_pairing, final_chosen, final_bracket, penultimate_chosen, penultimate_bracket, again, ordinary_chosen, brackets, round}
+use Rattle.dutch_pair.specs.Seated.{all_pairs, seat_of}
+use Rattle.dutch_pair.proofs.LeastPsd.{in_filter}
+use Rattle.dutch_pair.proofs.WalkEnds.{in_unbeaten}
+
+-- ---- what is chosen is legal
+
+in_passes : {X : Type 0} (p : X → Bool) (x : X) (xs : List X) → IsIn x (filter p xs) → p x ≡ true
+in_passes p x [] m = absurd m
+in_passes p x (y ∷ ys) m = elim (cases_Bool (p y)) [
+  | inl passes ↦ elim (subst (λ b. IsIn x (cond b (y ∷ filter p ys) (filter p ys))) passes m) [ inl same ↦ ap p same ∙ passes | inr later ↦ in_passes p x ys later ]
+  | inr fails ↦ in_passes p x ys (subst (λ b. IsIn x (cond b (y ∷ filter p ys) (filter p ys))) fails m)
+]
+
+leaves_few : (may_be_left : ℕ → Bool) (xs : List ℕ) → leaves_one may_be_left xs ≡ true → length xs ≤ 1
+leaves_few may_be_left [] e = omega arith
+leaves_few may_be_left (x ∷ []) e = omega arith
+leaves_few may_be_left (x ∷ y ∷ rest) e = absurd (true≢false (sym e))
+
+module _ (facts : Facts) (stand : Stand) where
+  legal : Arrangement → Bool
+  legal a = is_legal (numbers_meet facts stand) (number_may_be_left facts stand) (frame_of facts stand) a
+
+  legal_of : (lower : List ℕ) (shape : Shape) (a : Arrangement) (t : Bool)
+      → IsIn a (cond t (filter (λ lists. completable facts (downfloaters facts stand lists ++ lower)) (candidates_of facts stand shape)) (candidates_of facts stand shape))
+      → legal a ≡ true
+  unfolding legal
+  legal_of lower shape a true m =
+      in_passes (λ c. legal c) a (arrangements (frame_of facts stand) shape)
+      (in_filter (λ lists. completable facts (downfloaters facts stand lists ++ lower)) a (candidates_of facts stand shape) m)
+  legal_of lower shape a false m = in_passes (λ c. legal c) a (arrangements (frame_of facts stand) shape) m
+
+  legal_at : (shape : Shape) (found : Option Arrangement) (made : Chosen) → ((a : Arrangement) → found ≡ Some a → legal a ≡ true)
+      → option_map (λ (lists : Arrangement). let one : Chosen = record { shape = shape; lists = lists } in one) found ≡ Some made → legal made.lists ≡ true
+  legal_at shape None made each e = let bad : None ≡ Some made = e in cc
+  legal_at shape (Some a) made each e =
+      let same : (let one : Chosen = record { shape = shape; lists = a } in one) ≡ made = cc in
+      subst (λ (one : Chosen). legal one.lists ≡ true) same (each a refl)
+
+  legal_in : (lower : List ℕ) (found : Option Shape) (made : Chosen) → choice_in facts stand lower found ≡ Some made → legal made.lists ≡ true
+  legal_in lower None made e = let bad : None ≡ Some made = e in cc
+  legal_in lower (Some shape) made e =
+      let better : Arrangement → Arrangement → Bool = λ c d. is_better (quality_of facts stand lower c) (quality_of facts stand lower d) in
+      let all : List Arrangement = eligible facts stand lower shape in
+      legal_at shape (chosen better all) made
+      (λ a is. legal_of lower shape a (is_penultimate stand.kind) (in_unbeaten better all all a is)) e
+
+  -- who is left over by what is chosen, where at most one may be
+  left_few : (lower : List ℕ) (made : Chosen) → ends_round stand.kind ≡ true → choice facts stand lower ≡ Some made → length (downfloaters facts stand made.lists) ≤ 1
+  unfolding legal
+  left_few lower made ends e =
+      let frame : Frame = frame_of facts stand in
+      let a : Arrangement = made.lists in
+      let first = and_parts (all_meet (numbers_meet facts stand) a.s1 a.s2) _ (legal_in lower (shape_of facts stand lower) made e) in
+      let second = and_parts (all_meet (numbers_meet facts stand) a.s1r a.s2r) _ first.1 in
+      let one : leaves_one (number_may_be_left facts stand) (down frame a) ≡ true =
+      subst (λ b. (not b || leaves_one (number_may_be_left facts stand) (down frame a)) ≡ true) ends second.1 in
+      omega (arith, leaves_few (number_may_be_left facts stand) (down frame a) one, length-map (down frame a) (seat_of stand.seats))
+
+-- ---- bracket by bracket
+
+-- a pairing, if there is one, has at most one bye
+abbrev pub HasOneBye : Option Pairing → Type 0
+HasOneBye found = IfSome found (λ pairing. length pairing.bye ≤ 1)
+
+module _ (facts : Facts) where
+  bye_stays : (stand : Stand) (made : Chosen) (rest : Option Pairing) → HasOneBye rest
+      → HasOneBye (option_map (λ later. record { pairs = all_pairs stand.seats made.lists ++ later.pairs; bye = later.bye }) rest)
+  bye_stays stand made None one = tt
+  bye_stays stand made (Some later) one = one
+
+  final_at : (stand : Stand) (found : Option Chosen) → ends_round stand.kind ≡ true → choice facts stand [] ≡ found → HasOneBye (final_chosen facts stand found).pairing
+  final_at stand None ends e = tt
+  final_at stand (Some made) ends e = left_few facts stand [] made ends e
+
+  final_bye : (stand : Stand) → ends_round stand.kind ≡ true → HasOneBye (final_bracket facts stand).pairing
+  final_bye stand ends = final_at stand (choice facts stand []) ends refl
+
+  penultimate_at : (stand : Stand) (lower : List ℕ) (found : Option Chosen) → HasOneBye (penultimate_chosen facts stand lower found).pairing
+  penultimate_at stand lower None = tt
+  penultimate_at stand lower (Some made) =
+      let last : Stand = bracket (stand.number + 1) Collapsed (downfloaters facts stand made.lists) lower in
+      bye_stays stand made (final_bracket facts last).pairing (final_bye last refl)
+
+  penultimate_bye : (stand : Stand) (lower : List ℕ) → HasOneBye (penultimate_bracket facts stand lower).pairing
+  penultimate_bye stand lower = penultimate_at (again facts stand) lower (choice facts (again facts stand) lower)
+
+  kept_at : (stand : Stand) (lower : List ℕ) (goes_on : List ℕ → Round) (made : Chosen) (t : Bool) → ((left : List ℕ) → HasOneBye (goes_on left).pairing)
+      → HasOneBye (cond t (pairing_in facts stand made (goes_on (downfloaters facts stand made.lists))) (passing facts stand made (penultimate_bracket facts stand lower))).pairing
+  kept_at stand lower goes_on made true later =
+      bye_stays stand made (goes_on (downfloaters facts stand made.lists)).pairing (later (downfloaters facts stand made.lists))
+  kept_at stand lower goes_on made false later = penultimate_bye stand lower
+
+  ordinary_at : (stand : Stand) (lower : List ℕ) (goes_on : List ℕ → Round) (found : Option Chosen) → ((left : List ℕ) → HasOneBye (goes_on left).pairing)
+      → HasOneBye (ordinary_chosen facts stand lower goes_on found).pairing
+  ordinary_at stand lower goes_on None later = tt
+  ordinary_at stand lower goes_on (Some made) later =
+      kept_at stand lower goes_on made (completable facts (downfloaters facts stand made.lists ++ lower)) later
+
+  no_groups : (group : List ℕ) (groups : List (List ℕ)) → (group ∷ groups) ≡ [] → ⊥
+  no_groups group groups e = cc
+
+  brackets_bye : (number : ℕ) (moved_down : List ℕ) (groups : List (List ℕ)) → (groups ≡ [] → length moved_down ≤ 1) → HasOneBye (brackets facts number moved_down groups).pairing
+  brackets_bye number moved_down [] few = few refl
+  brackets_bye number moved_down (group ∷ []) few = final_bye (bracket number Last moved_down group) refl
+  brackets_bye number moved_down (group ∷ next ∷ groups) few =
+      let stand : Stand = bracket number Ordinary moved_down group in
+      let lower : List ℕ = concat (next ∷ groups) in
+      ordinary_at stand lower (λ left. brackets facts (number + 1) left (next ∷ groups)) (choice facts stand lower)
+      (λ left. brackets_bye (number + 1) left (next ∷ groups) (λ e. absurd (no_groups next groups e)))
+
+  round_at : (t : Bool) → HasOneBye (cond t (brackets facts 1 [] (scoregroups facts (everybody facts))) (no_pairing facts)).pairing
+  round_at true = brackets_bye 1 [] (scoregroups facts (everybody facts)) (λ e. omega arith)
+  round_at false = tt
+
+  pub one_bye : (pairing : Pairing) → (round facts).pairing ≡ Some pairing → length pairing.bye ≤ 1
+  one_bye pairing e = subst HasOneBye e (round_at (completable facts (everybody facts)))

@@ -1,0 +1,9 @@
+-- Whom the boards of a round name.
+use Rattle.std.specs.Prelude.{ℕ, List, IsPermutation}
+use Rattle.trf16.specs.Round.{named_by}
+use Rattle.dutch_player.specs.Facts.{Facts}
+use Rattle.dutch_player.specs.Laws.{start_ranks}
+
+-- some boards name each present player, once, and nobody else
+abbrev pub NameEverybodyOnce : Facts → List (ℕ × ℕ) → Type 0
+NameEverybodyOnce facts boards = IsPermutation (start_ranks facts) (named_by boards)
