@@ -7,3 +7,5 @@ pub mod CommandLemmas
 pub mod RequestLemmas
 pub mod ListingLemmas
 pub mod TableLemmas
+pub mod AskedLemmas
+pub mod PairLemmas

@@ -1,10 +1,12 @@
 -- What clap's getters read of an option, by the rows of a parse.
-use Rattle.std.proofs.Common.{◌≡◌, ◌∙◌, ◌<◌, ◌^◌, suc, ap, arith, sym, refl, ℕ, Bool, true, false, List, Option, Some, None, Ok, Err, Result}
-use Rattle.std.specs.Prelude.{if◌then◌else◌, option_and_then}
+use Rattle.std.proofs.Common.{◌≡◌, ◌∙◌, ◌<◌, ◌≤◌, ◌^◌, ◌&&◌, suc, ap, arith, sym, refl, cond, ℕ, Bool, true, false, nat_le, nat_lt, List, Option, Some, None, Ok, Err, Result}
+use Rattle.std.specs.Prelude.{if◌then◌else◌, option_and_then, MatchOption}
+use Rattle.std.specs.Bool.{then_some}
+use Rattle.std.proofs.lemmas.Bool.Decides.{nat_tests}
 use Rattle.std.specs.Str.Parse.{ParsesUnsigned, digits_value, without_leading_plus}
 use Rattle.clap.specs.Matches.{ReadsOne, one_text}
-use Rattle.clap.specs.ValueTests.{is_unsigned_in}
-use Rattle.clap.specs.Words.{Text, rows_of}
+use Rattle.clap.specs.ValueTests.{is_numeral, is_unsigned_in}
+use Rattle.clap.specs.Words.{Row, Text, one_of, rows_of}
 use Rattle.clap.specs.declared.builder.value_parser.ValueParser.TheVariants as vp
 use Rattle.clap.specs.declared.parser.matches.Found.{Found}
 use Rattle.clap.proofs.ValueTestLemmas.{Accepts-accepts, accepts-Accepts}
@@ -36,3 +38,40 @@ module _ (E : Type 0) (G : List ℕ → Result ℕ E → Type 0) (k most : ℕ) 
       go : (o : Option Text) → one_text f id ≡ o → r ≡ number_in most id (rows_of f)
       go None e = none e ∙ sym (ap (option_and_then (number_of most)) (sym (one_text-rows f id) ∙ e))
       go (Some t) e = number_test t (is_unsigned_in 0 most t) refl r (value t e) ∙ sym (ap (option_and_then (number_of most)) (sym (one_text-rows f id) ∙ e))
+
+-- a number, if it is at most so much
+abbrev pub kept : ℕ → Option ℕ → Option ℕ
+kept most None = None
+kept most (Some n) = cond (nat_le n most) (Some n) None
+
+kept_at : (low high n : ℕ) (t : Bool) → low ≤ high → nat_le n high ≡ t → kept low (cond t (Some n) None) ≡ cond (nat_le n low) (Some n) None
+kept_at low high n true le e = refl
+kept_at low high n false le e =
+    let fails : nat_le n low ≡ false = grind (arith, nat_tests) in
+    sym (ap (λ b. cond b (Some n) None) fails)
+
+kept_of : (low high n : ℕ) (a b c : Bool) → low ≤ high
+    → kept low (cond (a && (b && (c && nat_le n high))) (Some n) None) ≡ cond (a && (b && (c && nat_le n low))) (Some n) None
+kept_of low high n true true true le = kept_at low high n (nat_le n high) le refl
+kept_of low high n true true false le = refl
+kept_of low high n true false c le = refl
+kept_of low high n false b c le = refl
+
+kept_number : (low high : ℕ) (found : Option Text) → low ≤ high → kept low (option_and_then (number_of high) found) ≡ option_and_then (number_of low) found
+kept_number low high None le = refl
+kept_number low high (Some text) le =
+    let n = digits_value 10 (without_leading_plus text) in
+    kept_of low high n (is_numeral (without_leading_plus text)) (nat_lt n (2 ^ 64)) (nat_le 0 n) le
+
+if_true : (b : Bool) (x : ℕ) → then_some b x ≡ cond b (Some x) None
+if_true true x = refl
+if_true false x = refl
+
+-- a number that is kept only where it is at most so much
+pub number_kept : (low high : ℕ) (id : Text) (rows : List Row) (r result : Option ℕ) → low ≤ high → r ≡ number_in high id rows
+    → MatchOption r (result ≡ None) (λ x. result ≡ then_some (nat_le x low) x) → result ≡ number_in low id rows
+number_kept low high id rows r result le e h = filtered r result h ∙ (ap (kept low) e ∙ kept_number low high (one_of id rows) le)
+  where
+    filtered : (r result : Option ℕ) → MatchOption r (result ≡ None) (λ x. result ≡ then_some (nat_le x low) x) → result ≡ kept low r
+    filtered None result h = h
+    filtered (Some x) result h = h ∙ if_true (nat_le x low) x

@@ -1,3 +1,4 @@
+-- What the contracts of arbiter name: words, options, texts, answers and runs.
 pub mod Devices
 pub mod Input
 pub mod Words
@@ -13,3 +14,4 @@ pub mod CandidateTexts
 pub mod CandidateAnswers
 pub mod PairAnswers
 pub mod StandingsTexts
+pub mod Known

@@ -53,9 +53,9 @@ colour_named text = if bytes_eq text (codes "white") then Some White else (if by
 abbrev pub initial_in : List Row → Result (Option Colour) WordFault
 initial_in rows = read_by colour_named BadColour (first_of (codes "initial") rows)
 
--- `--rounds`: the number of rounds of the tournament
+-- `--rounds`: the number of rounds of the tournament (clap lets no words pass with one above 32)
 abbrev pub rounds_in : List Row → Option ℕ
-rounds_in rows = number_in 255 (codes "rounds") rows
+rounds_in rows = number_in 32 (codes "rounds") rows
 
 -- `--steps`: how many steps a bracket may take, 10000000 where it is left out
 abbrev pub steps_in : List Row → ℕ

@@ -1,5 +1,5 @@
 -- What `pair` answers: the boards of the next round, or the report with that round.
-use Rattle.std.specs.Prelude.{◌≡◌, ◌⊎◌, ℕ, Bool, true, false, List, ◌++◌, length, Result, Ok, Err, codes}
+use Rattle.std.specs.Prelude.{◌≡◌, ℕ, Bool, true, false, List, ◌++◌, length, Result, Ok, Err, codes}
 use Rattle.std.specs.List.{flat_map}
 use Rattle.std.specs.Fmt.{decimal}
 use Rattle.dutch_pair.specs.Outcomes.{IsOutcome}
@@ -7,11 +7,11 @@ use Rattle.dutch_pair.specs.declared.round.Outcome.{Outcome}
 use Rattle.dutch_pair.specs.declared.round.Outcome.TheVariants.{Paired, NoPairing, Undecided}
 use Rattle.dutch_player.specs.Facts.{Facts, facts_of}
 use Rattle.dutch_player.specs.declared.fault.FieldFault.{FieldFault}
-use Rattle.trf16.specs.Round.{CanBePaired, with_round}
+use Rattle.trf16.specs.Round.{with_round}
 use Rattle.trf16.specs.Sheet.{Sheet}
 use Rattle.trf16.specs.Written.{written}
 use Rattle.trf16.specs.declared.fault.Fault.{Fault}
-use Rattle.arbiter.specs.Statuses.{Answer, cannot_be_written, field_refusal, no_pairing, refusal, undecided}
+use Rattle.arbiter.specs.Statuses.{Answer, field_refusal, no_pairing, refusal, undecided}
 use Rattle.arbiter.specs.declared.options.PairOptions.{PairOptions}
 use Rattle.arbiter.specs.declared.reply.Status.TheVariants.{Done}
 
@@ -23,11 +23,9 @@ board_text board = decimal board.0 ++ (codes " " ++ (decimal board.1 ++ codes "\
 abbrev pub boards_text : List (ℕ × ℕ) → List ℕ
 boards_text boards = decimal (length boards) ++ (codes "\n" ++ flat_map board_text boards)
 
--- the report whose next round some boards are, where they can be that round
+-- the report whose next round some boards are
 abbrev pub TellsReport : Sheet → List (ℕ × ℕ) → Answer → Type 0
-TellsReport sheet boards answer =
-    (CanBePaired boards sheet × (answer ≡ record { status = Done; text = written (with_round boards sheet) }))
-    ⊎ ((CanBePaired boards sheet → ⊥) × (answer ≡ cannot_be_written))
+TellsReport sheet boards answer = answer ≡ record { status = Done; text = written (with_round boards sheet) }
 
 -- the boards (false), or the report with them (true)
 abbrev pub TellsBoards : Bool → Sheet → List (ℕ × ℕ) → Answer → Type 0

@@ -71,7 +71,3 @@ not_of_bracket number = record { status = BadWords; text = not_of_bracket_text n
 abbrev pub tie_refusal : TieFault → Answer
 tie_refusal TieMemory = out_of_memory
 tie_refusal fault = record { status = Refused; text = tie_text fault }
-
--- the boards of a round cannot be the next round of the report that they come from
-abbrev pub cannot_be_written : Answer
-cannot_be_written = record { status = Trouble; text = codes "boards: not of this report\n" }

@@ -1,4 +1,4 @@
-// The arbiter at the command line: it checks a tournament report that stands on standard input.
+// The arbiter at the command line: it reads a tournament report from standard input, and checks, rewrites, pairs or ranks it.
 #![tactic(auto)]
 
 ghost use Rattle.std.specs.Prelude.{◌≡◌, ◌≢◌};

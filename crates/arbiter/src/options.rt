@@ -23,7 +23,7 @@ pub enum WordFault {
 /// What is asked of `pair`.
 #[derive(Debug, Clone, Copy, PartialEq, Eq)]
 pub struct PairOptions {
-    /// The number of rounds of the tournament, where the words name it.
+    /// The number of rounds of the tournament, where the words name it: at most 32.
     pub rounds: Option<u8>,
     /// The colour of the first player in the first round, where the words name it.
     pub initial: Option<Colour>,
@@ -183,11 +183,13 @@ fn count_in(matches: &ArgMatches<'_>) -> usize
     matches.get_one::<usize>("count").unwrap_or(100)
 }
 
-// `--rounds`: the number of rounds of the tournament.
+// `--rounds`: the number of rounds of the tournament. No words with one above 32 come here.
 fn rounds_in(matches: &ArgMatches<'_>) -> Option<u8>
     ensures { result ≡ rounds_in (rows_in matches.now) }
 {
-    matches.get_one::<u8>("rounds")
+    matches
+        .get_one::<u8>("rounds")
+        .filter(|rounds| *rounds <= 32)
 }
 
 // `--steps`: how many steps a bracket may take.

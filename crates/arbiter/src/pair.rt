@@ -2,12 +2,13 @@
 ghost use Rattle.std.specs.Prelude.{◌≡◌, ◌++◌, IfOk, Ok, OnOk, codes, length, string_bytes};
 ghost use Rattle.std.specs.List.{flat_map};
 ghost use Rattle.std.specs.Fmt.{decimal};
+ghost use Rattle.dutch_player.specs.Facts.{facts_of};
 ghost use Rattle.trf16.specs.Verdict.{verdict};
 ghost use Rattle.trf16.specs.Round.{CanBePaired, with_round};
 ghost use Rattle.trf16.specs.Written.{written};
 ghost use Rattle.arbiter.specs.PairAnswers.{AnswersPair, PairsField, TellsBoards, TellsOutcome, TellsReport, board_text, boards_text};
+ghost use Rattle.arbiter.specs.Known.{CanBeTold, HasFewRounds, IsAccepted};
 ghost use Rattle.arbiter.specs.Replies.{answer_of};
-ghost use Rattle.arbiter.specs.Statuses.{cannot_be_written};
 
 use crate::format::rewritten;
 use crate::options::PairOptions;
@@ -15,6 +16,7 @@ use crate::refusal::{cannot_be_paired, no_pairing, refused, undecided};
 use crate::reply::{Reply, Status, Text};
 use dutch_pair::boards::Pair;
 use dutch_pair::fault::PairFault;
+use dutch_pair::laws::boards_can_be_the_next_round;
 use dutch_pair::round::{Outcome, pair_round};
 use dutch_player::fault::FieldFault;
 use dutch_player::field::Field;
@@ -23,7 +25,9 @@ use trf16::fault::Fault;
 use trf16::report::Report;
 
 /// What `pair` says of the bytes of a report.
+#[tactic(auto, using(crate::proofs::PairLemmas::accepted))]
 pub fn pair(alloc: Global, options: PairOptions, bytes: &[u8]) -> Result<Reply, AllocError>
+    requires { HasFewRounds options }
     ensures { IfOk result (λ reply. AnswersPair options (verdict bytes.now) (answer_of reply)) }
 {
     match trf16::read(alloc, bytes) {
@@ -35,6 +39,8 @@ pub fn pair(alloc: Global, options: PairOptions, bytes: &[u8]) -> Result<Reply, 
 
 // The same of an accepted report.
 fn of_report(alloc: Global, options: PairOptions, report: &Report<'_>) -> Result<Reply, AllocError>
+    requires few { HasFewRounds options }
+    requires accepted { IsAccepted report.now }
     ensures { IfOk result (λ reply. AnswersPair options (Ok report.now) (answer_of reply)) }
 {
     match Field::new(alloc, report, options.rounds, options.initial) {
@@ -45,14 +51,20 @@ fn of_report(alloc: Global, options: PairOptions, report: &Report<'_>) -> Result
 }
 
 // The same of those whom the next round is paired from.
+#[tactic(auto, using(crate::proofs::PairLemmas::can_be_told))]
 fn of_field(
     alloc: Global,
     options: PairOptions,
     report: &Report<'_>,
     field: &Field,
 ) -> Result<Reply, AllocError>
+    requires few { HasFewRounds options }
+    requires accepted { IsAccepted report.now }
+    requires field { facts_of report.now options.rounds options.initial ≡ Ok field.now }
     ensures { IfOk result (λ reply. PairsField options report.now (Ok field.now) (answer_of reply)) }
 {
+    // So `tell` may put them into the report.
+    boards_can_be_the_next_round();
     match pair_round(alloc, field, options.steps) {
         Ok(outcome) => tell(alloc, options, report, &outcome),
         Err(PairFault::OutOfMemory) => Err(AllocError),
@@ -66,6 +78,7 @@ fn tell(
     report: &Report<'_>,
     outcome: &Outcome,
 ) -> Result<Reply, AllocError>
+    requires { CanBeTold report.now outcome.now }
     ensures { IfOk result (λ reply. TellsOutcome options report.now outcome.now (answer_of reply)) }
 {
     match outcome {
@@ -82,6 +95,7 @@ fn tell_boards(
     report: &Report<'_>,
     boards: &[Pair],
 ) -> Result<Reply, AllocError>
+    requires { CanBePaired boards.now report.now }
     ensures { IfOk result (λ reply. TellsBoards as_report report.now boards.now (answer_of reply)) }
 {
     if as_report {
@@ -94,13 +108,11 @@ fn tell_boards(
     })
 }
 
-// The report whose next round the boards are, where they can be that round.
+// The report whose next round the boards are.
 fn tell_report(alloc: Global, report: &Report<'_>, boards: &[Pair]) -> Result<Reply, AllocError>
+    requires { CanBePaired boards.now report.now }
     ensures { IfOk result (λ reply. TellsReport report.now boards.now (answer_of reply)) }
 {
-    if !report.can_be_paired(boards) {
-        return Ok(cannot_be_written());
-    }
     let paired = report.with_round(alloc, boards)?;
     rewritten(alloc, &paired)
 }
@@ -117,14 +129,4 @@ fn board_lines(alloc: Global, boards: &[Pair]) -> Result<String, AllocError>
         text.push_str(line.as_str())?;
     }
     Ok(text)
-}
-
-// The boards cannot be the next round of the report.
-fn cannot_be_written() -> Reply
-    ensures { answer_of result ≡ cannot_be_written }
-{
-    Reply {
-        status: Status::Trouble,
-        text: Text::Fixed("boards: not of this report\n"),
-    }
 }

@@ -1,6 +1,7 @@
 // A run of the program: from its words and the bytes of its input to the text that it writes.
 ghost use Rattle.std.specs.Prelude.{◌≡◌, ◌≤◌, ◌+◌, IfOk, map};
 ghost use Rattle.arbiter.specs.Commands.{Answers};
+ghost use Rattle.arbiter.specs.Known.{CanBeAnswered};
 ghost use Rattle.arbiter.specs.Statuses.{out_of_memory};
 ghost use Rattle.arbiter.specs.Devices.{reading_of};
 ghost use Rattle.trf16.specs.Output.{use_of};
@@ -40,6 +41,7 @@ pub fn run<'a, R: Source, O: Sink, E: Sink>(
 }
 
 // What is answered to the words and to what the source gives.
+#[tactic(auto, using(crate::proofs::AskedLemmas::can_be_answered))]
 fn reply_to<'a, R: Source>(alloc: Global, words: &'a [&'a str], reader: &mut R) -> Reply
     ensures answers { IsAnswer (map (λ word. word.now) words.now)
         (reading_of R.left R.failures R.calls reader.old reader.new) (answer_of result) }
@@ -66,6 +68,7 @@ fn reply_to<'a, R: Source>(alloc: Global, words: &'a [&'a str], reader: &mut R) 
 // What is answered to a request, over what the source gives.
 #[tactic(auto, using(crate::proofs::RunLemmas::answered))]
 fn reply_to_request<R: Source>(alloc: Global, request: Request<'_>, reader: &mut R) -> Reply
+    requires { CanBeAnswered request }
     ensures replies { IsReplyTo request.entry
         (reading_of R.left R.failures R.calls reader.old reader.new) (answer_of result) }
     ensures bounded { R.calls reader.new ≤ R.calls reader.old + most_read }
@@ -85,6 +88,7 @@ fn reply_to_request<R: Source>(alloc: Global, request: Request<'_>, reader: &mut
 
 // The answer of a command to the bytes of its input.
 fn answer(alloc: Global, request: Request<'_>, input: &[u8]) -> Result<Reply, AllocError>
+    requires { CanBeAnswered request }
     ensures { IfOk result (λ reply. Answers request.entry input.now (answer_of reply)) }
 {
     match request {
@@ -107,8 +111,16 @@ fn out_of_memory() -> Reply
 }
 
 #[cfg(test)]
+mod candidates_tests;
+#[cfg(test)]
+mod pair_tests;
+#[cfg(test)]
 mod report_tests;
 #[cfg(test)]
+mod rows;
+#[cfg(test)]
 mod standings_tests;
+#[cfg(test)]
+mod steps_tests;
 #[cfg(test)]
 mod tests;

@@ -169,9 +169,11 @@ fn named<'a>(alloc: Global) -> Result<Command<'a>, AllocError>
 {
     Command::new(alloc, "arbiter")
         .about(
-            "Checks and rewrites a chess tournament report in TRF16 columns, which is read from standard input",
+            "Pairs, checks, rewrites and ranks a chess tournament whose report, in TRF16 columns, is read from standard input",
         )
-        .after_help("Example: arbiter check < report.trf")
+        .after_help(
+            "The exit status is 0 where all is done, 1 where the report is refused, 2 where the words are, 3 where there is no pairing, 4 where the steps ended first, and 5 where a device failed or memory was refused.\n\nExample: arbiter pair < report.trf",
+        )
         .version("1.0")
         .bin_name("arbiter")
 }
@@ -195,7 +197,9 @@ fn check_command<'a>(alloc: Global) -> Command<'a>
 {
     Command::new(alloc, "check")
         .about("Tells how many players and rounds the report has, or why it is refused")
-        .after_help("The report is read from standard input: arbiter check < report.trf")
+        .after_help(
+            "The report is read from standard input. Printed are the numbers of its players and of the rounds that were paired; why it is refused goes to standard error.\n\nExample: arbiter check < report.trf",
+        )
 }
 
 // The command `format`.
@@ -205,5 +209,7 @@ fn format_command<'a>(alloc: Global) -> Command<'a>
 {
     Command::new(alloc, "format")
         .about("Writes the report in canonical columns, or tells why it is refused")
-        .after_help("The report is read from standard input: arbiter format < report.trf")
+        .after_help(
+            "The report is read from standard input. Printed is each player's line in TRF16's columns, and each other line as it stands.\n\nExample: arbiter format < report.trf > canonical.trf",
+        )
 }

@@ -1,18 +1,11 @@
 // Runs over whole reports: the rules on lines and on two players, each with the text that must come, and `format`.
+use crate::run::rows::{line, report};
 use crate::run::tests::{Ended, check, has_printed, has_refused, run_on};
 use std::alloc::{AllocError, Global};
 
-// A line of a player with a points field and the cells of his rounds, each of 10 columns.
-fn line(alloc: Global, start: u8, points: &str, cells: &str) -> Result<String, AllocError> {
-    format!(in alloc; "001 {start:>4}{:72}{points:>4}{:5}{cells}\n", "", "")
-}
-
 // A report of two players and one round.
 fn two(alloc: Global, first: &str, second: &str) -> Result<String, AllocError> {
-    let mut text = line(alloc, 1, "", first)?;
-    let other = line(alloc, 2, "", second)?;
-    text.push_str(other.as_str())?;
-    Ok(text)
+    report(alloc, "", &[first, second])
 }
 
 fn verdict(alloc: Global, text: &str) -> Ended {

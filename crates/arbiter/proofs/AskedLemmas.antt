@@ -1,0 +1,95 @@
+-- A request that words make can be answered: the total of rounds that it names is at most 32.
+use Rattle.std.proofs.Common.{◌≡◌, ◌&&◌, ◌≤◌, ◌^◌, cond, refl, subst, ℕ, Bool, true, false, nat_le, nat_lt, List, Option, Some, None, Result, Ok, Err}
+use Rattle.std.specs.Prelude.{IfSome, codes, option_and_then}
+use Rattle.std.specs.Str.{bytes_eq}
+use Rattle.std.specs.Str.Parse.{digits_value, without_leading_plus}
+use Rattle.std.proofs.lemmas.Bool.{leb-true, and_parts}
+use Rattle.clap.specs.ValueTests.{is_numeral, is_unsigned_in}
+use Rattle.clap.specs.Words.{Row, Text, one_of, subcommand_of}
+use Rattle.dutch_order.specs.Cursors.{has_syntax}
+use Rattle.trf16.specs.declared.cell.Colour.{Colour}
+use Rattle.arbiter.specs.Known.{CanBeAnswered, HasFewRounds}
+use Rattle.arbiter.specs.Options.{◌>>=◌, candidates_options, flag_in, initial_in, number_of, pair_options, rounds_in, standings_options, steps_in}
+use Rattle.arbiter.specs.Words.{AsksFor, arbiter_app, candidates_request, pair_request, request_by, standings_request}
+use Rattle.arbiter.specs.declared.options.PairOptions.{PairOptions}
+use Rattle.arbiter.specs.declared.options.WordFault.{WordFault}
+use Rattle.arbiter.specs.declared.words.Request.{Request}
+use Rattle.arbiter.specs.declared.words.Request.TheVariants.{Check, Format, Pair, Candidates, Standings}
+
+-- what a step gives that met no fault
+not_ok : {A : Type 0} (fault : WordFault) (x : A) → ◌≡◌ {A = Result A WordFault} (Err fault) (Ok x) → ⊥
+not_ok fault x e = cc
+
+same_ok : {A : Type 0} (x y : A) → ◌≡◌ {A = Result A WordFault} (Ok x) (Ok y) → x ≡ y
+same_ok x y e = cc
+
+then_ok : {A B : Type 0} (r : Result A WordFault) (f : A → Result B WordFault) (y : B) → (r >>= f) ≡ Ok y → (x : A) × (r ≡ Ok x) × (f x ≡ Ok y)
+then_ok (Ok x) f y e = (x, refl, e)
+then_ok (Err fault) f y e = absurd (not_ok fault y e)
+
+-- a number that is read is at most the greatest
+number_at : (most n : ℕ) (t : Bool) → (t ≡ true → n ≤ most) → IfSome (cond t (Some n) None) (λ x. x ≤ most)
+number_at most n true passes = passes refl
+number_at most n false passes = tt
+
+number_few : (most : ℕ) (found : Option Text) → IfSome (option_and_then (number_of most) found) (λ x. x ≤ most)
+number_few most None = tt
+number_few most (Some text) =
+    let n = digits_value 10 (without_leading_plus text) in
+    number_at most n (is_unsigned_in 0 most text)
+    (λ passes.
+    let small = nat_lt n (2 ^ 64) in
+    let one = and_parts (is_numeral (without_leading_plus text)) (small && (nat_le 0 n && nat_le n most)) passes in
+    let two = and_parts small (nat_le 0 n && nat_le n most) one.1 in
+    let three = and_parts (nat_le 0 n) (nat_le n most) two.1 in
+    leb-true n most three.1)
+
+rounds_few : (rows : List Row) → IfSome (rounds_in rows) (λ x. x ≤ 32)
+rounds_few rows = number_few 32 (one_of (codes "rounds") rows)
+
+pair_few : (rows : List Row) (options : PairOptions) → pair_options rows ≡ Ok options → HasFewRounds options
+unfolding pair_options
+pair_few rows options e =
+    let made : Option Colour → PairOptions = λ initial. record { rounds = rounds_in rows; initial = initial; steps = steps_in rows; report = flag_in (codes "report") rows } in
+    let s = then_ok (initial_in rows) (λ initial. Ok (made initial)) options e in
+    subst HasFewRounds (same_ok (made s.0) options s.2) (rounds_few rows)
+
+pair_asked : (rows : List Row) (request : Request) → pair_request rows ≡ Ok request → CanBeAnswered request
+unfolding pair_request
+pair_asked rows request e =
+    let s = then_ok (pair_options rows) (λ options. Ok (Pair options)) request e in
+    subst CanBeAnswered (same_ok (Pair s.0) request s.2) (pair_few rows s.0 s.1)
+
+candidates_asked : (rows : List Row) (request : Request) → candidates_request rows ≡ Ok request → CanBeAnswered request
+unfolding candidates_request
+candidates_asked rows request e =
+    let s = then_ok (candidates_options has_syntax rows) (λ options. Ok (Candidates options)) request e in
+    subst CanBeAnswered (same_ok (Candidates s.0) request s.2) tt
+
+standings_asked : (rows : List Row) (request : Request) → standings_request rows ≡ Ok request → CanBeAnswered request
+unfolding standings_request
+standings_asked rows request e =
+    let s = then_ok (standings_options rows) (λ options. Ok (Standings options)) request e in
+    subst CanBeAnswered (same_ok (Standings s.0) request s.2) tt
+
+some_ok : (x y : Result Request WordFault) → Some x ≡ Some y → x ≡ y
+some_ok x y e = cc
+
+asked_at : (rows : List Row) (request : Request) (check format pair candidates standings : Bool)
+    → cond check (Some (Ok Check)) (cond format (Some (Ok Format)) (cond pair (Some (pair_request rows))
+    (cond candidates (Some (candidates_request rows)) (cond standings (Some (standings_request rows)) None)))) ≡ Some (Ok request) → CanBeAnswered request
+asked_at rows request true format pair candidates standings e = subst CanBeAnswered (same_ok Check request (some_ok (Ok Check) (Ok request) e)) tt
+asked_at rows request false true pair candidates standings e = subst CanBeAnswered (same_ok Format request (some_ok (Ok Format) (Ok request) e)) tt
+asked_at rows request false false true candidates standings e = pair_asked rows request (some_ok (pair_request rows) (Ok request) e)
+asked_at rows request false false false true standings e = candidates_asked rows request (some_ok (candidates_request rows) (Ok request) e)
+asked_at rows request false false false false true e = standings_asked rows request (some_ok (standings_request rows) (Ok request) e)
+asked_at rows request false false false false false e = let bad : None ≡ Some (let made : Result Request WordFault = Ok request in made) = e in cc
+
+asked_by : (command : Option (Text × List Row)) (request : Request) → request_by command ≡ Some (Ok request) → CanBeAnswered request
+asked_by None request e = let bad : None ≡ Some (let made : Result Request WordFault = Ok request in made) = e in cc
+asked_by (Some command) request e =
+    let name : Text = command.0 in
+    asked_at command.1 request (bytes_eq name (codes "check")) (bytes_eq name (codes "format")) (bytes_eq name (codes "pair")) (bytes_eq name (codes "candidates")) (bytes_eq name (codes "standings")) e
+
+pub can_be_answered : (words : List Text) (request : Request) → AsksFor words request → CanBeAnswered request
+can_be_answered words request asks = asked_by (subcommand_of arbiter_app words) request asks.named
