@@ -3,10 +3,9 @@ ghost use Rattle.std.specs.Prelude.{◌≡◌, ◌≤◌, length};
 ghost use Rattle.std.specs.List.Sorted.{IsStrictlyIncreasing};
 ghost use Rattle.dutch_order.specs.Arrangements.{IsBracket, players_of, residents_of};
 ghost use Rattle.dutch_order.specs.Cursors.{moved_down_of};
-ghost use Rattle.dutch_order.specs.declared.search.TheConstants.{LIMIT};
+ghost use Rattle.dutch_order.specs.declared.numbers.TheConstants.{LIMIT};
 
-use crate::numbers::numbered_from;
-use crate::transposition::Numbers;
+use crate::numbers::{Numbers, numbered_from};
 use arrayvec::ArrayVec;
 use std::marker::Model;
 

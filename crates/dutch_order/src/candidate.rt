@@ -2,7 +2,7 @@
 ghost use Rattle.std.specs.Prelude.{◌≡◌};
 
 use crate::cursor::Cursor;
-use crate::transposition::{Numbers, copied};
+use crate::numbers::{Numbers, copied};
 use std::marker::Model;
 
 /// A legal arrangement of a bracket (C.04.3 B.2, B.3), and those whom it leaves over. Players are named by their numbers in the bracket.

@@ -14,10 +14,9 @@ use crate::candidate::Candidate;
 use crate::choices::ByS1;
 use crate::cursor::Cursor;
 use crate::levels::{Arranges, Level};
-use crate::numbers::left_of;
+use crate::numbers::{Numbers, left_of};
 use crate::rules::Rule;
 use crate::steps::{Budget, Step};
-use crate::transposition::Numbers;
 use std::marker::Model;
 
 /// Those whom an arrangement leaves over, by rank.

@@ -2,7 +2,7 @@
 ghost use Rattle.std.specs.Prelude.{◌≡◌, ◌+◌, ◌≤◌, ℕ, List, [], ◌∷◌, Some, filter, length};
 ghost use Rattle.std.specs.List.{AllByRecursion};
 ghost use Rattle.std.specs.List.Sorted.{IsStrictlyIncreasing};
-ghost use Rattle.dutch_order.specs.declared.search.TheConstants.{LIMIT};
+ghost use Rattle.dutch_order.specs.declared.numbers.TheConstants.{LIMIT};
 ghost use Rattle.dutch_order.specs.Arrangements.{Arrangement, left_of};
 ghost use Rattle.dutch_order.specs.Exchange.{exchanges};
 ghost use Rattle.dutch_order.specs.Choices.{all_meet, from_on, subsets, tuples, numbers_from};
@@ -16,10 +16,10 @@ use crate::cursor::Cursor;
 use crate::exchange::Exchanges;
 use crate::levels::{Arranges, Blocks, Level};
 use crate::limbo::LimboExchanges;
-use crate::numbers::{is_same, left_of};
+use crate::numbers::{Numbers, copied, is_same, left_of};
 use crate::rules::Rule;
 use crate::steps::{Budget, Step};
-use crate::transposition::{Numbers, Transpositions, copied};
+use crate::transposition::Transpositions;
 use std::marker::Model;
 
 /// Arrangements with the same S1, S2 and S1R: one for each S2R, by article D.1.

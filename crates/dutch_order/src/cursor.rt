@@ -8,9 +8,7 @@ ghost use Rattle.dutch_order.specs.CursorLists.{IsLong, is_short};
 ghost use Rattle.arrayvec.specs.ArrayString.{array_string_len};
 
 use crate::bracket::{Bracket, Shape};
-use crate::numbers::left_of;
-use crate::search::LIMIT;
-use crate::transposition::{Numbers, copied};
+use crate::numbers::{LIMIT, Numbers, copied, left_of};
 use arrayvec::ArrayString;
 use itoa::Buffer;
 use std::marker::Model;
@@ -394,6 +392,3 @@ impl Cursor {
         text
     }
 }
-
-#[cfg(test)]
-mod tests;

@@ -8,7 +8,7 @@
 //
 // A search that begins at a set begins in that set's stage, at the set's own path, and then tries the very next difference, since
 // what lies beyond the paths before the set was not seen.
-ghost use Rattle.dutch_order.specs.declared.search.TheConstants.{LIMIT};
+ghost use Rattle.dutch_order.specs.declared.numbers.TheConstants.{LIMIT};
 ghost use Rattle.std.specs.Prelude.{◌≡◌, ◌+◌, ◌*◌, ◌-◌, ◌<◌, ◌≤◌, ℕ, suc, true, false, Some, [], ◌∷◌, ◌++◌, length, map, take, drop};
 ghost use Rattle.std.specs.List.{AllByRecursion};
 ghost use Rattle.dutch_order.specs.Stages.{least_at, greatest_at, least_difference, greatest_difference, exchange_plan, sets_ahead, trials_ahead, stages_ahead, set_of, kept_of, value_of, following, out_places, in_places, exchange_path, exchange_difference};
@@ -23,16 +23,16 @@ ghost use Rattle.dutch_order.specs.Trials.{ahead};
 ghost use Rattle.dutch_order.specs.Hints.{hinted, first_hint};
 
 use crate::halves::{end_of_half, first_of_half};
-use crate::search::{Hinted, LIMIT, Path, Tree, Walk, climb_on, first_hint, put_behind};
+use crate::numbers::{LIMIT, Numbers, copied};
+use crate::search::{Hinted, Path, Tree, Walk, climb_on, first_hint, put_behind};
 use crate::steps::{Budget, Step};
 use crate::sums::{run_of, total_of, value_at};
-use crate::transposition::{Numbers, copied};
 use arrayvec::ArrayVec;
 use std::marker::Model;
 
 /// The two sides of an exchange: the numbers of the original set, from the highest, and the others, from the lowest.
 #[derive(Debug, Clone, Copy, PartialEq, Eq)]
-pub enum Side {
+pub(crate) enum Side {
     Out,
     In,
 }
@@ -407,7 +407,7 @@ pub struct Exchanges {
 }
 
 impl Model for Exchanges {
-    ghost use Rattle.dutch_order.specs.declared.search.TheConstants.{LIMIT};
+    ghost use Rattle.dutch_order.specs.declared.numbers.TheConstants.{LIMIT};
     ghost use Rattle.std.specs.Prelude.{◌≤◌, ◌-◌, length};
     ghost use Rattle.dutch_order.specs.Steps.{Ahead};
     ghost use Rattle.dutch_order.specs.Walks.{Stands};

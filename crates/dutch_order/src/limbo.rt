@@ -1,5 +1,5 @@
 // Exchanges of moved-down players, article D.3: sets of places by their scores and numbers, specified by a sorted list of subsets.
-ghost use Rattle.dutch_order.specs.declared.search.TheConstants.{LIMIT};
+ghost use Rattle.dutch_order.specs.declared.numbers.TheConstants.{LIMIT};
 ghost use Rattle.std.specs.Prelude.{◌≡◌, ◌+◌, ◌*◌, ◌<◌, ◌≤◌, ℕ, [], ◌∷◌, ◌-◌, length, map, slice_index};
 ghost use Rattle.std.specs.List.{AllByRecursion};
 ghost use Rattle.dutch_order.specs.Halves.{half_start};
@@ -10,9 +10,9 @@ ghost use Rattle.dutch_order.specs.Keys.{IsIn};
 ghost use Rattle.dutch_order.specs.Steps.{MatchStep};
 
 use crate::halves::{end_of_half, first_of_half};
-use crate::search::{Hinted, LIMIT, PLACES, Path, Tree, Walk, climb_on, first_hint, put_behind};
+use crate::numbers::{LIMIT, Numbers, copied};
+use crate::search::{Hinted, PLACES, Path, Tree, Walk, climb_on, first_hint, put_behind};
 use crate::steps::{Budget, Step};
-use crate::transposition::{Numbers, copied};
 use arrayvec::ArrayVec;
 use std::marker::Model;
 
@@ -170,7 +170,7 @@ pub struct LimboExchanges {
 }
 
 impl Model for LimboExchanges {
-    ghost use Rattle.dutch_order.specs.declared.search.TheConstants.{LIMIT};
+    ghost use Rattle.dutch_order.specs.declared.numbers.TheConstants.{LIMIT};
     ghost use Rattle.std.specs.Prelude.{◌≤◌, length, map};
     ghost use Rattle.dutch_order.specs.Steps.{Ahead};
     ghost use Rattle.dutch_order.specs.Trials.{ahead, hits, trials};

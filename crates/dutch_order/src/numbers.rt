@@ -1,12 +1,29 @@
-// Lists of a bracket's numbers.
+// The numbers of players, of which a bracket has 256 at most, and lists of them.
 ghost use Rattle.std.specs.Prelude.{◌≡◌, ◌+◌, ◌≤◌, ℕ, length, true};
 ghost use Rattle.std.specs.List.Sorted.{IsStrictlyIncreasing};
 ghost use Rattle.dutch_order.specs.Arrangements.{left_of};
 ghost use Rattle.dutch_order.specs.Choices.{is_same, numbers_from};
-ghost use Rattle.dutch_order.specs.declared.search.TheConstants.{LIMIT};
+ghost use Rattle.dutch_order.specs.declared.numbers.TheConstants.{LIMIT};
 
-use crate::transposition::Numbers;
 use arrayvec::ArrayVec;
+
+/// The most players of a bracket, and the most numbers that a generator chooses from.
+pub const LIMIT: usize = 256;
+
+/// Numbers of players, as a generator hands them out.
+pub type Numbers = ArrayVec<u16, LIMIT>;
+
+/// A copy of numbers.
+pub(crate) fn copied(numbers: &[u16]) -> Numbers
+    requires few { length numbers.now ≤ LIMIT }
+    ensures { result.items ≡ numbers.now }
+{
+    let mut copy = ArrayVec::new();
+    for number in numbers {
+        copy.push(*number);
+    }
+    copy
+}
 
 /// So many numbers from a first one on.
 pub fn numbered_from(first: usize, count: usize) -> Numbers
@@ -23,7 +40,7 @@ pub fn numbered_from(first: usize, count: usize) -> Numbers
 }
 
 /// The numbers of a list that are not in another.
-pub fn left_of(numbers: &[u16], taken: &[u16]) -> Numbers
+pub(crate) fn left_of(numbers: &[u16], taken: &[u16]) -> Numbers
     requires few { length numbers.now ≤ LIMIT }
     ensures items { result.items ≡ left_of numbers.now taken.now }
     ensures ascends { IsStrictlyIncreasing numbers.now → IsStrictlyIncreasing result.items }
@@ -38,7 +55,7 @@ pub fn left_of(numbers: &[u16], taken: &[u16]) -> Numbers
 }
 
 /// Whether two lists are the same.
-pub fn is_same(one: &[u16], other: &[u16]) -> bool
+pub(crate) fn is_same(one: &[u16], other: &[u16]) -> bool
     ensures same { result ≡ is_same one.now other.now }
     ensures equal { result ≡ true → one.now ≡ other.now }
 {

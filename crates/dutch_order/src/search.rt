@@ -6,11 +6,9 @@ ghost use Rattle.dutch_order.specs.Hints.{hint_after, first_hint};
 ghost use Rattle.dutch_order.specs.Steps.{MatchStep};
 ghost use Rattle.dutch_order.specs.Walks.{Stands, IsOpen, IsSpent};
 
+use crate::numbers::LIMIT;
 use crate::steps::{Budget, Step};
 use arrayvec::ArrayVec;
-
-/// The most numbers that a generator chooses from.
-pub const LIMIT: usize = 256;
 
 /// The most places of a search: an exchange or a set of moved-down players fills two for each number.
 pub const PLACES: usize = 2 * LIMIT;

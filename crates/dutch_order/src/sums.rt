@@ -6,7 +6,7 @@ ghost use Rattle.dutch_order.specs.Stages.{value_of, total, run};
 ghost use Rattle.dutch_order.specs.Sides.{count_of};
 
 use crate::exchange::Side;
-use crate::search::LIMIT;
+use crate::numbers::LIMIT;
 
 /// The number at a place of a side.
 pub fn value_at(pool: &[u16], k: usize, side: Side, place: usize) -> usize

@@ -9,29 +9,15 @@ ghost use Rattle.dutch_order.specs.Keys.{sorted, IsIn};
 ghost use Rattle.dutch_order.specs.Transposition.{tuple_key};
 ghost use Rattle.dutch_order.specs.Steps.{MatchStep};
 
+use crate::numbers::{LIMIT, Numbers, copied};
 use crate::rules::Rule;
-use crate::search::{Hinted, LIMIT, Path, Tree, Walk, climb_on, first_hint};
+use crate::search::{Hinted, Path, Tree, Walk, climb_on, first_hint};
 use crate::steps::{Budget, Step};
 use arrayvec::ArrayVec;
 use std::marker::Model;
 
-/// Numbers that a generator hands out.
-pub type Numbers = ArrayVec<u16, LIMIT>;
-
-/// A copy of numbers.
-pub fn copied(numbers: &[u16]) -> Numbers
-    requires few { length numbers.now ≤ LIMIT }
-    ensures { result.items ≡ numbers.now }
-{
-    let mut copy = ArrayVec::new();
-    for number in numbers {
-        copy.push(*number);
-    }
-    copy
-}
-
 /// The numbers at places of a pool.
-pub fn picked(pool: &[u16], path: &[usize]) -> Numbers
+fn picked(pool: &[u16], path: &[usize]) -> Numbers
     requires within { AllByRecursion (λ place. place < length pool.now) path.now }
     requires few { length path.now ≤ LIMIT }
     ensures { result.items ≡ numbers_at pool.now path.now }
@@ -121,7 +107,7 @@ pub struct Transpositions<'a, R: Rule> {
 }
 
 impl<'a, R: Rule> Model for Transpositions<'a, R> {
-    ghost use Rattle.dutch_order.specs.declared.search.TheConstants.{LIMIT};
+    ghost use Rattle.dutch_order.specs.declared.numbers.TheConstants.{LIMIT};
     ghost use Rattle.std.specs.Prelude.{◌≤◌, length, map};
     ghost use Rattle.dutch_order.specs.Steps.{Ahead};
     ghost use Rattle.dutch_order.specs.Trials.{ahead, hits, trials};

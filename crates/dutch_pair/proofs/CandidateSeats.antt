@@ -1,42 +1,36 @@
 -- A candidate by seats has players of the field.
-use Rattle.std.proofs.Common.{◌≡◌, ℕ, zero, suc, ◌+◌, ◌-◌, ◌<◌, ◌≤◌, length, get_or, subst, List, [], ◌∷◌, ◌++◌, map, sym, arith, length-append}
+use Rattle.std.proofs.Common.{◌≡◌, ℕ, zero, suc, ◌+◌, ◌-◌, ◌<◌, ◌≤◌, length, subst, List, [], ◌∷◌, map, sym, arith, length-append}
 use Rattle.std.proofs.lemmas.List.{length-map}
 use Rattle.dutch_order.specs.Draws.{Draw}
 use Rattle.dutch_player.specs.Facts.{Facts}
-use Rattle.dutch_pair.specs.Seated.{Seated, seat_of, pairs_of, all_pairs, by_seats, AllSeats, AllPairs, AllNumbers, HasSeats, IsCandidate}
+use Rattle.dutch_pair.specs.Boards.{IsPair}
+use Rattle.dutch_pair.specs.Seated.{Seated, seat_of, pairs_of, all_pairs, by_seats, AreSeats, AllPairs, AllNumbers, HasSeats, IsCandidate}
+use Rattle.dutch_pair.proofs.AllLemmas.{all_join}
 
-at_place : (facts : Facts) (seats : List ℕ) (i : ℕ) → AllSeats facts seats → i < length seats → get_or seats i 0 < length facts.seats
-at_place facts [] i p h = absurd (omega arith)
-at_place facts (seat ∷ seats) zero p h = p.0
-at_place facts (seat ∷ seats) (suc i) p h = at_place facts seats i p.1 (omega arith)
-
-seat_within : (facts : Facts) (seats : List ℕ) (number : ℕ) → AllSeats facts seats → (0 < number) × (number ≤ length seats)
+seat_within : (facts : Facts) (seats : List ℕ) (number : ℕ) → AreSeats facts seats → (0 < number) × (number ≤ length seats)
     → seat_of seats number < length facts.seats
-seat_within facts seats number p h = at_place facts seats (number - 1) p (omega arith)
+seat_within facts seats number p h = p (number - 1) (omega arith)
 
-pub all_within : (facts : Facts) (seats numbers : List ℕ) → AllSeats facts seats → AllNumbers seats numbers → AllSeats facts (map (seat_of seats) numbers)
-all_within facts seats [] p h = tt
-all_within facts seats (number ∷ numbers) p h = (seat_within facts seats number p h.0, all_within facts seats numbers p h.1)
+pub all_within : (facts : Facts) (seats numbers : List ℕ) → AreSeats facts seats → AllNumbers seats numbers → AreSeats facts (map (seat_of seats) numbers)
+all_within facts seats [] p h i lt = absurd (omega arith)
+all_within facts seats (number ∷ numbers) p h zero lt = seat_within facts seats number p h.0
+all_within facts seats (number ∷ numbers) p h (suc i) lt = all_within facts seats numbers p h.1 i (omega arith)
 
-pairs_within : (facts : Facts) (seats firsts seconds : List ℕ) → AllSeats facts seats → AllNumbers seats firsts → AllNumbers seats seconds
+pairs_within : (facts : Facts) (seats firsts seconds : List ℕ) → AreSeats facts seats → AllNumbers seats firsts → AllNumbers seats seconds
     → AllPairs facts (pairs_of seats firsts seconds)
 pairs_within facts seats [] seconds p h g = tt
 pairs_within facts seats (a ∷ firsts) [] p h g = tt
 pairs_within facts seats (a ∷ firsts) (b ∷ seconds) p h g =
     ((seat_within facts seats a p h.0, seat_within facts seats b p g.0), pairs_within facts seats firsts seconds p h.1 g.1)
 
-pairs_append : (facts : Facts) (xs ys : List (ℕ × ℕ)) → AllPairs facts xs → AllPairs facts ys → AllPairs facts (xs ++ ys)
-pairs_append facts [] ys p q = q
-pairs_append facts (x ∷ xs) ys p q = (p.0, pairs_append facts xs ys p.1 q)
-
 length_pairs : (seats firsts seconds : List ℕ) → length (pairs_of seats firsts seconds) ≤ length firsts
 length_pairs seats [] seconds = omega arith
 length_pairs seats (a ∷ firsts) [] = omega arith
 length_pairs seats (a ∷ firsts) (b ∷ seconds) = let h = length_pairs seats firsts seconds in omega (arith, h)
 
-pub seated_within : (facts : Facts) (seats : List ℕ) (draw : Draw) → AllSeats facts seats → IsCandidate seats draw → HasSeats facts (by_seats facts seats draw)
+pub seated_within : (facts : Facts) (seats : List ℕ) (draw : Draw) → AreSeats facts seats → IsCandidate seats draw → HasSeats facts (by_seats facts seats draw)
 seated_within facts seats draw b h = record {
-  pairs = pairs_append facts (pairs_of seats draw.lists.s1 draw.lists.s2) (pairs_of seats draw.lists.s1r draw.lists.s2r)
+  pairs = all_join (IsPair facts) (pairs_of seats draw.lists.s1 draw.lists.s2) (pairs_of seats draw.lists.s1r draw.lists.s2r)
       (pairs_within facts seats draw.lists.s1 draw.lists.s2 b h.s1 h.s2)
       (pairs_within facts seats draw.lists.s1r draw.lists.s2r b h.s1r h.s2r);
   down = all_within facts seats draw.down b h.down;
@@ -49,5 +43,5 @@ seated_within facts seats draw b h = record {
       omega (arith, h.few);
 }
 
-pub within_at : (facts : Facts) (seats : List ℕ) (draw : Draw) (candidate : Seated) → AllSeats facts seats → IsCandidate seats draw → candidate ≡ by_seats facts seats draw → HasSeats facts candidate
+pub within_at : (facts : Facts) (seats : List ℕ) (draw : Draw) (candidate : Seated) → AreSeats facts seats → IsCandidate seats draw → candidate ≡ by_seats facts seats draw → HasSeats facts candidate
 within_at facts seats draw candidate b h e = let P : Seated → Type 0 = HasSeats facts in subst P (sym e) (seated_within facts seats draw b h)

@@ -1,7 +1,7 @@
 -- Those whom an arrangement leaves over are numbers of the bracket.
 use Rattle.std.proofs.Common.{◌≡◌, ℕ, zero, suc, ◌+◌, ◌<◌, ◌≤◌, Bool, true, false, cond, List, ◌∷◌, length, filter, arith}
 use Rattle.std.proofs.lemmas.List.{length-map}
-use Rattle.dutch_order.specs.Trials.{numbers_from}
+use Rattle.dutch_order.specs.Choices.{numbers_from}
 use Rattle.dutch_order.specs.Arrangements.{Arrangement, down}
 use Rattle.dutch_player.specs.Facts.{Facts}
 use Rattle.dutch_pair.specs.Reached.{Stand, frame_of}

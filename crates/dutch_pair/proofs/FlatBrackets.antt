@@ -3,8 +3,7 @@ use Rattle.std.proofs.Common.{◌≡◌, ℕ, zero, suc, ◌+◌, ◌-◌, ◌<�
 use Rattle.std.specs.Prelude.{filter, slice_index, Some}
 use Rattle.std.proofs.lemmas.List.{length-map, get_or-map}
 use Rattle.dutch_order.specs.declared.bracket.Shape.{Shape}
-use Rattle.dutch_order.specs.Trials.{numbers_from}
-use Rattle.dutch_order.specs.Choices.{is_member}
+use Rattle.dutch_order.specs.Choices.{numbers_from, is_member}
 use Rattle.dutch_order.specs.Keys.{IsIn}
 use Rattle.dutch_order.specs.Limbo.{IsNonAscending}
 use Rattle.dutch_order.specs.Draws.{Draw}
@@ -25,7 +24,7 @@ use Rattle.dutch_pair.proofs.LeastPsd.{Descends, first_is_least, in_filter}
 players : (facts : Facts) (stand : Stand) → length (frame_of facts stand).scores ≡ length stand.seats
 players facts stand = length-map stand.seats (score_at facts)
 
-pub seat_score : (facts : Facts) (stand : Stand) (i : ℕ) → i < length stand.seats → slice_index (frame_of facts stand).scores i ≡ score_at facts (get_or stand.seats i 0)
+seat_score : (facts : Facts) (stand : Stand) (i : ℕ) → i < length stand.seats → slice_index (frame_of facts stand).scores i ≡ score_at facts (get_or stand.seats i 0)
 seat_score facts stand i h = get_or-map (score_at facts) stand.seats i 0 0 h
 
 climbing_numbers : (seats : List ℕ) (q low : ℕ) (xs : List ℕ) → 0 < low → q ≤ length seats → Climbs low (1 + q) xs → AllNumbers seats xs
@@ -70,7 +69,7 @@ candidate_of facts stand shape draw of' m e =
     }
 
 -- scores that do not ascend, far apart
-pub falls_far : (scores : List ℕ) → IsNonAscending scores → (i n : ℕ) → i + n < length scores → slice_index scores (i + n) ≤ slice_index scores i
+falls_far : (scores : List ℕ) → IsNonAscending scores → (i n : ℕ) → i + n < length scores → slice_index scores (i + n) ≤ slice_index scores i
 falls_far scores falls i zero h = let e : slice_index scores (i + 0) ≡ slice_index scores i = ap (slice_index scores) (let e : i + 0 ≡ i = omega arith in e) in omega (arith, e)
 falls_far scores falls i (suc n) h =
     let one : slice_index scores (i + n + 1) ≤ slice_index scores (i + n) = falls (i + n) (omega arith) in
@@ -78,19 +77,25 @@ falls_far scores falls i (suc n) h =
     let e : slice_index scores (i + suc n) ≡ slice_index scores (i + n + 1) = ap (slice_index scores) (let e : i + suc n ≡ i + n + 1 = omega arith in e) in
     omega (arith, one, more, e)
 
+-- the seats of a bracket have scores that do not ascend
+pub seats_fall : (facts : Facts) (stand : Stand) → IsOf facts stand
+    → (i j : ℕ) → 0 < i → i ≤ j → j ≤ length stand.seats → score_at facts (seat_of stand.seats j) ≤ score_at facts (seat_of stand.seats i)
+seats_fall facts stand of' i j p h g =
+    let same : length (frame_of facts stand).scores ≡ length stand.seats = players facts stand in
+    let far : slice_index (frame_of facts stand).scores ((i - 1) + (j - i)) ≤ slice_index (frame_of facts stand).scores (i - 1) =
+    falls_far (frame_of facts stand).scores of'.sound.descends (i - 1) (j - i) (omega arith) in
+    let e : slice_index (frame_of facts stand).scores ((i - 1) + (j - i)) ≡ slice_index (frame_of facts stand).scores (j - 1) =
+    ap (slice_index (frame_of facts stand).scores) (let e : (i - 1) + (j - i) ≡ j - 1 = omega arith in e) in
+    let a = seat_score facts stand (i - 1) (omega arith) in
+    let b = seat_score facts stand (j - 1) (omega arith) in
+    omega (arith, far, e, a, b)
+
 pub descends_of : (facts : Facts) (stand : Stand) → IsOf facts stand → ((i : ℕ) → slice_index (frame_of facts stand).scores i ≤ 65535) → Descends facts stand
 descends_of facts stand of' small =
     let same : length (frame_of facts stand).scores ≡ length stand.seats = players facts stand in
     let inside : stand.mdps ≤ length (frame_of facts stand).scores = of'.sound.within in
     record {
-      falling = λ i j p h g.
-          let far : slice_index (frame_of facts stand).scores ((i - 1) + (j - i)) ≤ slice_index (frame_of facts stand).scores (i - 1) =
-          falls_far (frame_of facts stand).scores of'.sound.descends (i - 1) (j - i) (omega arith) in
-          let e : slice_index (frame_of facts stand).scores ((i - 1) + (j - i)) ≡ slice_index (frame_of facts stand).scores (j - 1) =
-          ap (slice_index (frame_of facts stand).scores) (let e : (i - 1) + (j - i) ≡ j - 1 = omega arith in e) in
-          let a = seat_score facts stand (i - 1) (omega arith) in
-          let b = seat_score facts stand (j - 1) (omega arith) in
-          omega (arith, far, e, a, b);
+      falling = λ i j p h g. seats_fall facts stand of' i j p h (omega arith);
       small = λ i p h.
           let a = seat_score facts stand (i - 1) (omega arith) in
           let b : slice_index (frame_of facts stand).scores (i - 1) ≤ 65535 = small (i - 1) in

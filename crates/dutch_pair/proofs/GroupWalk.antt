@@ -2,21 +2,20 @@
 use Rattle.std.proofs.Common.{◌≡◌, ℕ, zero, suc, ◌+◌, ◌<◌, ◌≤◌, Bool, true, false, cond, ◌==◌, List, [], ◌∷◌, ◌++◌, Option, length, length-append, take, drop, refl, sym, ap, ◌∙◌, subst, arith}
 use Rattle.std.specs.List.{AllByRecursion, concat}
 use Rattle.std.proofs.lemmas.Bool.Decides.{nat_tests}
-use Rattle.std.proofs.lemmas.List.{take-append-drop}
-use Rattle.dutch_order.specs.Trials.{numbers_from}
+use Rattle.std.proofs.lemmas.List.{append_cancel_left, take-append-drop}
+use Rattle.dutch_order.specs.Choices.{numbers_from}
 use Rattle.dutch_order.proofs.Members.{length-numbers}
 use Rattle.dutch_player.specs.Facts.{Facts}
 use Rattle.dutch_pair.specs.declared.reached.Kind.TheVariants.{Ordinary, Last}
 use Rattle.dutch_pair.specs.declared.walk.Ended.{Ended}
 use Rattle.dutch_pair.specs.declared.walk.Ended.TheVariants.{NoPairing}
-use Rattle.dutch_pair.specs.Seated.{score_at}
-use Rattle.dutch_pair.specs.Reached.{Stand, AreSeats, IsAbove}
+use Rattle.dutch_pair.specs.Seated.{score_at, AreSeats}
+use Rattle.dutch_pair.specs.Reached.{Stand, IsAbove}
 use Rattle.dutch_pair.specs.Groups.{front_with}
 use Rattle.dutch_pair.specs.Walk.{AreRanked, AreAbove, Goes}
-use Rattle.dutch_pair.specs.Round.{Round, bracket, completable, no_pairing, round, scoregroups, everybody, final_bracket, ordinary_bracket, brackets}
+use Rattle.dutch_pair.specs.Round.{Round, bracket, completable, no_pairing, round, first_group, scoregroups, everybody, final_bracket, ordinary_bracket, brackets}
 use Rattle.dutch_pair.specs.Ends.{Ends, LeftGoOn}
-use Rattle.dutch_pair.proofs.GroupLemmas.{first_group_is, concat_scoregroups}
-use Rattle.dutch_pair.proofs.NextBrackets.{all_seats}
+use Rattle.dutch_pair.proofs.GroupLemmas.{first_group_is, first_group_taken, concat_scoregroups}
 use Rattle.dutch_pair.proofs.WalkEnds.{ends_nothing}
 use Rattle.dutch_pair.proofs.WalkLemmas.{Descends, is_above, left_go_on, ranked_seats, ranked_front}
 
@@ -113,6 +112,7 @@ module _ (facts : Facts) where
 
   -- the rest of the seats, parted into its first scoregroup and the lower ones
   pub record IsParted (md rest group lower : List ℕ) : Type 0 where
+    pub descends : Descends facts
     pub goes : Goes facts md (group ++ lower)
     pub above : AreAbove facts group lower
     pub groups : scoregroups facts rest ≡ group ∷ scoregroups facts lower
@@ -124,6 +124,7 @@ module _ (facts : Facts) where
   parted_at md xs x n descends goes e =
       let whole : take (n + 1) (x ∷ xs) ++ drop (n + 1) (x ∷ xs) ≡ x ∷ xs = take-append-drop (n + 1) (x ∷ xs) in
       record {
+        descends = descends;
         goes = parted md (x ∷ xs) (n + 1) goes;
         above = group_above md xs x n descends goes e;
         groups = groups_of x xs n e;
@@ -131,28 +132,33 @@ module _ (facts : Facts) where
         some = subst (λ (m : ℕ). 0 < length (take m (x ∷ xs))) (sym (add-one n)) (let some : 0 < suc (length (take n xs)) = omega arith in some);
       }
 
-  pub parted_by : (md rest xs group lower : List ℕ) (x n score : ℕ) → Descends facts → Goes facts md rest → rest ≡ x ∷ xs → score ≡ score_at facts x
-      → n ≡ front_with facts score xs → group ≡ take (n + 1) rest → lower ≡ drop (n + 1) rest → IsParted md rest group lower
-  parted_by md rest xs group lower x n score descends goes e same count front back =
-      let at' : IsParted md (x ∷ xs) (take (n + 1) (x ∷ xs)) (drop (n + 1) (x ∷ xs)) =
-      parted_at md xs x n descends (subst (λ (all : List ℕ). Goes facts md all) e goes) (count ∙ ap (λ (s : ℕ). front_with facts s xs) same) in
-      let all : IsParted md rest (take (n + 1) rest) (drop (n + 1) rest) =
-      subst (λ (r : List ℕ). IsParted md r (take (n + 1) r) (drop (n + 1) r)) (sym e) at' in
-      subst (λ (g : List ℕ). IsParted md rest g lower) (sym front) (subst (λ (l : List ℕ). IsParted md rest (take (n + 1) rest) l) (sym back) all)
+  -- the first scoregroup and the seats behind it are such parts
+  parted_at_first : (md rest group lower : List ℕ) → Descends facts → Goes facts md rest → 0 < length rest → group ++ lower ≡ rest
+      → group ≡ first_group facts (scoregroups facts rest) → IsParted md rest group lower
+  parted_at_first md [] group lower descends goes some whole first = absurd (omega (arith, some))
+  parted_at_first md (x ∷ xs) group lower descends goes some whole first =
+      let n = front_with facts (score_at facts x) xs in
+      let behind : List ℕ = drop (n + 1) (x ∷ xs) in
+      let front : group ≡ take (n + 1) (x ∷ xs) = first ∙ sym (first_group_taken facts x xs n refl) in
+      let back : lower ≡ behind =
+      append_cancel_left group lower behind (whole ∙ sym (ap (λ (g : List ℕ). g ++ behind) front ∙ take-append-drop (n + 1) (x ∷ xs))) in
+      subst (λ (g : List ℕ). IsParted md (x ∷ xs) g lower) (sym front)
+      (subst (λ (l : List ℕ). IsParted md (x ∷ xs) (take (n + 1) (x ∷ xs)) l) (sym back) (parted_at md xs x n descends goes refl))
 
-  pub first_inside : (md rest xs : List ℕ) (x : ℕ) → Goes facts md rest → rest ≡ x ∷ xs → x < length facts.seats
-  first_inside md rest xs x goes e = (ranked_rest md (x ∷ xs) (subst (λ (all : List ℕ). AreRanked facts (md ++ all)) e goes.ranked)).0
+  pub parted_by : {md rest group lower : List ℕ} → Descends facts → Goes facts md rest → 0 < length rest → group ++ lower ≡ rest
+      → group ≡ first_group facts (scoregroups facts rest) → IsParted md rest group lower
+  parted_by {md = md} {rest = rest} {group = group} {lower = lower} = parted_at_first md rest group lower
 
-  pub others_inside : (md rest xs : List ℕ) (x : ℕ) → Goes facts md rest → rest ≡ x ∷ xs → AreSeats facts xs
-  others_inside md rest xs x goes e = ranked_seats facts xs (ranked_rest md (x ∷ xs) (subst (λ (all : List ℕ). AreRanked facts (md ++ all)) e goes.ranked)).2
+  pub rest_inside : (md rest : List ℕ) → Goes facts md rest → AreSeats facts rest
+  rest_inside md rest goes = ranked_seats facts rest (ranked_rest md rest goes.ranked)
 
-  pub moved_inside : (md rest : List ℕ) → Goes facts md rest → AllByRecursion (λ seat. seat < length facts.seats) md
-  moved_inside md rest goes = all_seats facts md (ranked_seats facts md (ranked_front facts md rest goes.ranked))
+  pub moved_inside : (md rest : List ℕ) → Goes facts md rest → AreSeats facts md
+  moved_inside md rest goes = ranked_seats facts md (ranked_front facts md rest goes.ranked)
 
-  module _ (descends : Descends facts) (md rest group lower : List ℕ) (parted' : IsParted md rest group lower) where
+  module _ {md rest group lower : List ℕ} (parted' : IsParted md rest group lower) where
     pub few_parted : (now : List ℕ) → now ≡ md → length now + length group ≤ 256
     few_parted now e =
-        let above = is_above facts descends 0 Last md group lower parted'.goes parted'.above (λ e. let bad : Last ≡ Ordinary = e in absurd (cc)) in
+        let above = is_above facts parted'.descends 0 Last md group lower parted'.goes parted'.above (λ e. let bad : Last ≡ Ordinary = e in absurd (cc)) in
         let few : length (md ++ group) + length lower ≤ 256 = above.few in
         omega (arith, few, length-append md group, ap length e)
 
@@ -160,17 +166,17 @@ module _ (facts : Facts) where
     last_above number now stand e none made =
         subst (λ (b : Stand). IsAbove facts b []) (sym (made ∙ ap (λ (m : List ℕ). bracket number Last m group) e))
         (subst (λ (l : List ℕ). IsAbove facts (bracket number Last md group) l) none
-        (is_above facts descends number Last md group lower parted'.goes parted'.above (λ e. let bad : Last ≡ Ordinary = e in absurd (cc))))
+        (is_above facts parted'.descends number Last md group lower parted'.goes parted'.above (λ e. let bad : Last ≡ Ordinary = e in absurd (cc))))
 
     pub ordinary_above : (number : ℕ) (now : List ℕ) (stand : Stand) → now ≡ md → 0 < length lower → stand ≡ bracket number Ordinary now group → IsAbove facts stand lower
     ordinary_above number now stand e there made =
         subst (λ (b : Stand). IsAbove facts b lower) (sym (made ∙ ap (λ (m : List ℕ). bracket number Ordinary m group) e))
-        (is_above facts descends number Ordinary md group lower parted'.goes parted'.above (λ e. there))
+        (is_above facts parted'.descends number Ordinary md group lower parted'.goes parted'.above (λ e. there))
 
     pub ordinary_left : (number : ℕ) (now : List ℕ) (stand : Stand) → now ≡ md → stand ≡ bracket number Ordinary now group → LeftGoOn facts stand lower
     ordinary_left number now stand e made =
         subst (λ (b : Stand). LeftGoOn facts b lower) (sym (made ∙ ap (λ (m : List ℕ). bracket number Ordinary m group) e))
-        (λ lists. left_go_on facts descends number Ordinary md group lower lists parted'.goes parted'.above)
+        (λ lists. left_go_on facts parted'.descends number Ordinary md group lower lists parted'.goes parted'.above)
 
     -- behind the last scoregroup there is none
     pub last_is : (number : ℕ) (now : List ℕ) (stand : Stand) → now ≡ md → lower ≡ [] → stand ≡ bracket number Last now group
@@ -217,8 +223,8 @@ module _ (facts : Facts) where
       subst (λ (r : Round). Ends facts limit' asked n' pairs r ended) w
       (subst (λ (k : ℕ). Ends facts limit' asked k pairs whole ended) e (subst (λ (k : ℕ). Ends facts k asked n pairs whole ended) l h))
 
-  pub shrinks : (md rest group lower : List ℕ) → IsParted md rest group lower → (number : ℕ) → number + length rest ≤ 257 → (number + 1) + length lower ≤ 257
-  shrinks md rest group lower parted' number h = omega (arith, h, parted'.count, parted'.some)
+  pub shrinks : {md rest group lower : List ℕ} → IsParted md rest group lower → (number : ℕ) → number + length rest ≤ 257 → (number + 1) + length lower ≤ 257
+  shrinks parted' number h = omega (arith, h, parted'.count, parted'.some)
 
   pub everybody_few : (all : List ℕ) → all ≡ everybody facts → length all ≡ length facts.seats
   everybody_few all e = ap length e ∙ length-numbers 0 (length facts.seats)

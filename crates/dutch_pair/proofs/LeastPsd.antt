@@ -7,8 +7,7 @@ use Rattle.std.proofs.lemmas.Bool.Decides.{nat_tests}
 use Rattle.std.proofs.lemmas.List.{length-map, get_or-map, get_or-take}
 use Rattle.std.proofs.lemmas.List.Elements.{filter-append}
 use Rattle.dutch_order.specs.declared.bracket.Shape.{Shape}
-use Rattle.dutch_order.specs.Trials.{numbers_from}
-use Rattle.dutch_order.specs.Choices.{subsets, tuples, is_member}
+use Rattle.dutch_order.specs.Choices.{numbers_from, subsets, tuples, is_member}
 use Rattle.dutch_order.specs.Keys.{is_before, higher_first, IsIn, Ascends, sorted}
 use Rattle.dutch_order.specs.Transposition.{tuple_key}
 use Rattle.dutch_order.specs.Exchange.{exchanges, sum_of}

@@ -1,3 +1,4 @@
+pub mod AllLemmas
 pub mod ArrangementParts
 pub mod BestLemmas
 pub mod BoardLemmas
@@ -14,6 +15,7 @@ pub mod MoverSeats
 pub mod NextBrackets
 pub mod PairSearch
 pub mod NextGroups
+pub mod TakenSteps
 pub mod Places
 pub mod PsdParts
 pub mod QualityOrder

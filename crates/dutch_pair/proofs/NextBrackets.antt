@@ -4,20 +4,22 @@ use Rattle.std.specs.List.{AllByRecursion}
 use Rattle.std.specs.Prelude.{slice_index}
 use Rattle.std.proofs.lemmas.List.{length-map, get_or-map, map-append}
 use Rattle.std.proofs.lemmas.Simd.{map-map}
-use Rattle.dutch_order.specs.Trials.{numbers_from}
-use Rattle.dutch_order.specs.Choices.{is_member}
+use Rattle.dutch_order.specs.Choices.{numbers_from, is_member}
 use Rattle.dutch_order.specs.Draws.{Draw}
 use Rattle.dutch_order.specs.Limbo.{IsNonAscending}
 use Rattle.dutch_order.specs.Arrangements.{paired}
 use Rattle.dutch_order.proofs.Orders.{Rises, Rises-filter}
+use Rattle.dutch_order.proofs.Turns.{at_index}
 use Rattle.dutch_player.specs.Facts.{Facts}
 use Rattle.dutch_pair.specs.declared.reached.Kind.TheVariants.{Ordinary}
-use Rattle.dutch_pair.specs.Seated.{seat_of, score_at, AllSeats, AllNumbers}
-use Rattle.dutch_pair.specs.Reached.{Stand, AreSeats, frame_of, IsOf}
+use Rattle.dutch_pair.specs.Seated.{seat_of, score_at, AreSeats, AllNumbers}
+use Rattle.dutch_pair.specs.Reached.{Stand, frame_of, IsOf}
 use Rattle.dutch_pair.specs.NextBracket.{next_stand, IsFlat, IsDraw, IsNext}
+use Rattle.dutch_pair.proofs.AllLemmas.{all_join}
 use Rattle.dutch_pair.proofs.ArrangementParts.{numbers_rise}
+use Rattle.dutch_pair.proofs.CandidateSeats.{all_within}
 use Rattle.dutch_pair.proofs.DownLemmas.{down_numbers, down_few}
-use Rattle.dutch_pair.proofs.FlatBrackets.{falls_far, seat_score}
+use Rattle.dutch_pair.proofs.FlatBrackets.{seats_fall}
 use Rattle.dutch_pair.proofs.Copies.{Falls}
 
 append_low : (xs ys : List ℕ) (i : ℕ) → i < length xs → get_or (xs ++ ys) i 0 ≡ get_or xs i 0
@@ -30,16 +32,6 @@ append_high [] ys i h = ap (λ k. get_or ys k 0) (let e : i ≡ i - 0 = omega ar
 append_high (x ∷ xs) ys zero h = absurd (omega arith)
 append_high (x ∷ xs) ys (suc i) h =
     append_high xs ys i (omega arith) ∙ ap (λ k. get_or ys k 0) (let e : i - length xs ≡ suc i - suc (length xs) = omega arith in e)
-
--- seats by index and one after another
-pub all_seats : (facts : Facts) (seats : List ℕ) → AreSeats facts seats → AllSeats facts seats
-all_seats facts [] each = tt
-all_seats facts (seat ∷ seats) each = (each 0 (omega arith), all_seats facts seats (λ i h. each (suc i) (omega arith)))
-
-number_at : (seats numbers : List ℕ) (i : ℕ) → AllNumbers seats numbers → i < length numbers → (0 < get_or numbers i 0) × (get_or numbers i 0 ≤ length seats)
-number_at seats [] i all h = absurd (omega arith)
-number_at seats (x ∷ numbers) zero all h = all.0
-number_at seats (x ∷ numbers) (suc i) all h = number_at seats numbers i all.1 (omega arith)
 
 sides : (i n : ℕ) → (i < n) ⊎ (n ≤ i)
 sides i n = grind arith
@@ -56,14 +48,10 @@ all_below : (x : ℕ) (ys : List ℕ) → ((j : ℕ) → j < length ys → get_o
 all_below x [] each = tt
 all_below x (y ∷ ys) each = (each 0 (omega arith), all_below x ys (λ j h. each (suc j) (omega arith)))
 
-both_below : (x : ℕ) (xs ys : List ℕ) → AllByRecursion (λ y. y ≤ x) xs → AllByRecursion (λ y. y ≤ x) ys → AllByRecursion (λ y. y ≤ x) (xs ++ ys)
-both_below x [] ys p q = q
-both_below x (z ∷ xs) ys p q = (p.0, both_below x xs ys p.1 q)
-
 falls_append : (xs ys : List ℕ) → Falls xs → Falls ys → ((i j : ℕ) → i < length xs → j < length ys → get_or ys j 0 ≤ get_or xs i 0) → Falls (xs ++ ys)
 falls_append [] ys p q apart = q
 falls_append (x ∷ xs) ys p q apart =
-    (both_below x xs ys p.0 (all_below x ys (λ j h. apart 0 j (omega arith) h)), falls_append xs ys p.1 q (λ i j h g. apart (suc i) j (omega arith) g))
+    (all_join (λ z. z ≤ x) xs ys p.0 (all_below x ys (λ j h. apart 0 j (omega arith) h)), falls_append xs ys p.1 q (λ i j h g. apart (suc i) j (omega arith) g))
 
 flat_falls : (f : ℕ → ℕ) (xs : List ℕ) → ((i j : ℕ) → i < length xs → j < length xs → f (get_or xs i 0) ≡ f (get_or xs j 0)) → Falls (map f xs)
 flat_falls f [] same = tt
@@ -93,17 +81,6 @@ module _ (facts : Facts) (stand : Stand) (draw : Draw) (next : List ℕ) (of' : 
   rises : Rises draw.down
   rises = subst Rises (sym drawn.down) (Rises-filter (λ x. not (is_member x (paired draw.lists))) (numbers_from 1 (length (frame_of facts stand).scores)) (numbers_rise 1 (length (frame_of facts stand).scores)))
 
-  falling : (i j : ℕ) → 0 < i → i ≤ j → j ≤ length stand.seats → score_at facts (seat_of stand.seats j) ≤ score_at facts (seat_of stand.seats i)
-  falling i j p h g =
-      let same : length (frame_of facts stand).scores ≡ length stand.seats = length-map stand.seats (score_at facts) in
-      let far : slice_index (frame_of facts stand).scores ((i - 1) + (j - i)) ≤ slice_index (frame_of facts stand).scores (i - 1) =
-      falls_far (frame_of facts stand).scores of'.sound.descends (i - 1) (j - i) (omega arith) in
-      let e : slice_index (frame_of facts stand).scores ((i - 1) + (j - i)) ≡ slice_index (frame_of facts stand).scores (j - 1) =
-      ap (slice_index (frame_of facts stand).scores) (let e : (i - 1) + (j - i) ≡ j - 1 = omega arith in e) in
-      let a = seat_score facts stand (i - 1) (omega arith) in
-      let b = seat_score facts stand (j - 1) (omega arith) in
-      omega (arith, far, e, a, b)
-
   count : length (map (seat_of stand.seats) draw.down) ≡ length draw.down
   count = length-map draw.down (seat_of stand.seats)
 
@@ -113,12 +90,12 @@ module _ (facts : Facts) (stand : Stand) (draw : Draw) (next : List ℕ) (of' : 
   -- the scores of those who move down are above those of the next scoregroup
   apart : (i j : ℕ) → i < length draw.down → j < length next → score_at facts (get_or next j 0) < score_at facts (get_or (map (seat_of stand.seats) draw.down) i 0)
   apart i j h g =
-      let number = number_at stand.seats draw.down i numbers h in
+      let number = at_index (λ n. (0 < n) × (n ≤ length stand.seats)) draw.down i numbers h in
       let lower : score_at facts (get_or next j 0) < score_at facts (seat_of stand.seats (get_or draw.down i 0)) = below.below (get_or draw.down i 0 - 1) j (omega (arith, number.0, number.1)) g in
       omega (arith, lower, ap (score_at facts) (moved_at i h))
 
   moved_falls : Falls (map (score_at facts) (map (seat_of stand.seats) draw.down))
-  moved_falls = subst Falls (sym (map-map (score_at facts) (seat_of stand.seats) draw.down)) (rising_falls (λ i. score_at facts (seat_of stand.seats i)) (length stand.seats) draw.down falling rises numbers)
+  moved_falls = subst Falls (sym (map-map (score_at facts) (seat_of stand.seats) draw.down)) (rising_falls (λ i. score_at facts (seat_of stand.seats i)) (length stand.seats) draw.down (seats_fall facts stand of') rises numbers)
 
   all_fall : Falls (map (score_at facts) (map (seat_of stand.seats) draw.down ++ next))
   all_fall =
@@ -137,9 +114,9 @@ module _ (facts : Facts) (stand : Stand) (draw : Draw) (next : List ℕ) (of' : 
   inside i h =
       elim (sides i (length draw.down)) [
         | inl low ↦
-            let number = number_at stand.seats draw.down i numbers low in
-            let seat : slice_index stand.seats (get_or draw.down i 0 - 1) < length facts.seats = of'.inside (get_or draw.down i 0 - 1) (omega (arith, number.0, number.1)) in
-            omega (arith, seat, append_low (map (seat_of stand.seats) draw.down) next i (omega (arith, low, count)), moved_at i low)
+            let lt : i < length (map (seat_of stand.seats) draw.down) = omega (arith, low, count) in
+            let seat : slice_index (map (seat_of stand.seats) draw.down) i < length facts.seats = all_within facts stand.seats draw.down of'.inside numbers i lt in
+            omega (arith, seat, append_low (map (seat_of stand.seats) draw.down) next i lt)
         | inr high ↦
             let seat : slice_index next (i - length (map (seat_of stand.seats) draw.down)) < length facts.seats = below.inside (i - length (map (seat_of stand.seats) draw.down)) (omega (arith, h, high, count, long)) in
             omega (arith, seat, append_high (map (seat_of stand.seats) draw.down) next i (omega (arith, high, count)))

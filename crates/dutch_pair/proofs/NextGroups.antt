@@ -1,5 +1,5 @@
 -- The next lower scoregroup is the front of the lower seats with one score.
-use Rattle.std.proofs.Common.{◌≡◌, ℕ, zero, suc, ◌+◌, ◌<◌, ◌≤◌, Bool, true, false, ◌==◌, cond, List, [], ◌∷◌, length, take, get_or, min, refl, sym, ap, ◌∙◌, subst, arith, add-one}
+use Rattle.std.proofs.Common.{◌≡◌, ℕ, zero, suc, ◌+◌, ◌<◌, ◌≤◌, Bool, true, false, ◌==◌, cond, List, [], ◌∷◌, length, take, get_or, min, refl, sym, ap, ◌∙◌, subst, arith}
 use Rattle.std.proofs.lemmas.Bool.Decides.{nat_tests}
 use Rattle.std.proofs.lemmas.List.{length-take}
 use Rattle.dutch_order.specs.Arrangements.{down}
@@ -84,11 +84,6 @@ module _ (facts : Facts) where
   -- the first scoregroup of the lower seats is the next one
   pub is_next : (stand : Stand) (lower next : List ℕ) → next ≡ first_group facts (scoregroups facts lower) → IsAbove facts stand lower → IsNext facts stand next
   is_next stand lower next e above = subst (λ group. IsNext facts stand group) (sym e) (first_is_next stand lower above)
-
-  -- and of some seats it is the front with the first one's score
-  pub first_group_taken : (x : ℕ) (xs : List ℕ) (n : ℕ) → n ≡ front_with facts (score_at facts x) xs → take (n + 1) (x ∷ xs) ≡ first_group facts (scoregroups facts (x ∷ xs))
-  first_group_taken x xs n e =
-      ap (λ k. take k (x ∷ xs)) (add-one n) ∙ ap (λ k. x ∷ take k xs) e ∙ sym (ap (first_group facts) (first_group_is facts x xs))
 
   -- the quality of a candidate, by its lists
   pub quality_at : (stand : Stand) (lower next : List ℕ) (draw : Draw) (found : Quality) → next ≡ first_group facts (scoregroups facts lower)

@@ -13,7 +13,7 @@ use Rattle.dutch_pair.specs.declared.reached.Kind.TheVariants.{Ordinary, Last, C
 use Rattle.dutch_pair.specs.Choice.{chosen}
 use Rattle.dutch_pair.specs.Quality.{is_better}
 use Rattle.dutch_pair.specs.Reached.{Stand, ends_round, frame_of, numbers_meet, number_may_be_left}
-use Rattle.dutch_pair.specs.Round.{Round, Pairing, Chosen, bracket, candidates_of, choice, choice_in, completable, downfloaters, eligible, everybody, is_penultimate, quality_of, scoregroups, shape_of, pairing_in, passing, no_pairing, final_chosen, final_bracket, penultimate_chosen, penultimate_bracket, again, ordinary_chosen, brackets, round}
+use Rattle.dutch_pair.specs.Round.{Round, Pairing, Chosen, bracket, candidates_of, choice, choice_in, completable, downfloaters, eligible, everybody, is_penultimate, quality_of, scoregroups, shape_of, pairing_in, passing, no_pairing, final_chosen, final_bracket, penultimate_chosen, penultimate_bracket, paired_again, ordinary_chosen, brackets, round}
 use Rattle.dutch_pair.specs.Seated.{all_pairs, seat_of}
 use Rattle.dutch_pair.proofs.LeastPsd.{in_filter}
 use Rattle.dutch_pair.proofs.WalkEnds.{in_unbeaten}
@@ -98,7 +98,7 @@ module _ (facts : Facts) where
       bye_stays stand made (final_bracket facts last).pairing (final_bye last refl)
 
   penultimate_bye : (stand : Stand) (lower : List ℕ) → HasOneBye (penultimate_bracket facts stand lower).pairing
-  penultimate_bye stand lower = penultimate_at (again facts stand) lower (choice facts (again facts stand) lower)
+  penultimate_bye stand lower = penultimate_at (paired_again stand) lower (choice facts (paired_again stand) lower)
 
   kept_at : (stand : Stand) (lower : List ℕ) (goes_on : List ℕ → Round) (made : Chosen) (t : Bool) → ((left : List ℕ) → HasOneBye (goes_on left).pairing)
       → HasOneBye (cond t (pairing_in facts stand made (goes_on (downfloaters facts stand made.lists))) (passing facts stand made (penultimate_bracket facts stand lower))).pairing

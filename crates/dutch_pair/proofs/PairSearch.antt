@@ -3,7 +3,7 @@ use Rattle.std.proofs.Common.{◌≡◌, ◌≢◌, ℕ, zero, suc, ◌+◌, ◌
 use Rattle.std.specs.Prelude.{if◌then◌else◌}
 use Rattle.std.proofs.Math.Bool.{and-true}
 use Rattle.std.proofs.Math.Nat.{mul-le-mul_right}
-use Rattle.std.proofs.lemmas.List.{drop_more, take_more}
+use Rattle.std.proofs.lemmas.List.{drop_more, drop_all, take_more}
 use Rattle.dutch_order.specs.declared.steps.Budget.{Budget}
 use Rattle.dutch_pair.specs.declared.completion.Answer.{Answer}
 use Rattle.dutch_pair.specs.declared.completion.Answer.TheVariants.{Yes, No, Undecided}
@@ -51,6 +51,18 @@ some_partner-step meets holds later i lt =
     ∙ ap
     (λ front. (meets (get_or later i 0) && holds (take i later ++ drop (i + 1) later)) || some_partner meets holds front (drop (i + 1) later))
     (sym (take_more later i 0 lt))
+
+-- one partner fails, and then all have failed
+pub partner_fails : (meets : ℕ → Bool) (holds : List ℕ → Bool) (later : List ℕ) (i : ℕ) → i < length later
+    → (meets (get_or later i 0) && holds (take i later ++ drop (i + 1) later)) ≡ false
+    → some_partner meets holds (take i later) (drop i later) ≡ some_partner meets holds [] later
+    → some_partner meets holds (take (i + 1) later) (drop (i + 1) later) ≡ some_partner meets holds [] later
+partner_fails meets holds later i lt fails same =
+    sym (some_partner-step meets holds later i lt ∙ ap (λ t. t || some_partner meets holds (take (i + 1) later) (drop (i + 1) later)) fails) ∙ same
+
+pub all_fail : (meets : ℕ → Bool) (holds : List ℕ → Bool) (later : List ℕ) (i : ℕ) → length later ≤ i
+    → some_partner meets holds (take i later) (drop i later) ≡ some_partner meets holds [] later → some_partner meets holds [] later ≡ false
+all_fail meets holds later i le same = sym same ∙ ap (λ rest. some_partner meets holds (take i later) rest) (drop_all i later le)
 
 -- an answer for one partner that is not No serves for all
 pub told_by_partner : (meets : ℕ → Bool) (holds : List ℕ → Bool) (later : List ℕ) (i m : ℕ) (old mid new : Budget) (answer : Answer) → i < length later

@@ -27,13 +27,22 @@ fits_by_test frame shape h =
       residents_enough = not_below (length frame.scores - frame.mdps) (shape.mdps + 2 * remainder_pairs shape) (both_second (not (nat_lt frame.mdps shape.mdps)) _ others);
     }
 
-down_one : (n : ℕ) → 0 < n → down_from n ≡ n ∷ down_from (n - 1)
+pub down_one : (n : ℕ) → 0 < n → down_from n ≡ n ∷ down_from (n - 1)
 down_one zero h = let bad : ⊥ = omega (arith, h) in absurd bad
 down_one (suc n) h = ap (λ k. suc n ∷ down_from k) (let e : n ≡ suc n - 1 = omega arith in e)
 
 -- a shape with these pairs and moved-down players
 abbrev pub shape_with : ℕ → ℕ → Shape
 shape_with pairs mdps = record { pairs = pairs; mdps = mdps }
+
+-- the shape that one list gives, and where it gives none that of another
+abbrev or_else : Option Shape → Option Shape → Option Shape
+or_else None other = other
+or_else (Some shape) other = Some shape
+
+or_cond : (t : Bool) (shape : Shape) (one other : Option Shape) → cond t (Some shape) (or_else one other) ≡ or_else (cond t (Some shape) one) other
+or_cond true shape one other = refl
+or_cond false shape one other = refl
 
 module _ (eligible : Shape → List Arrangement) (room : Shape → Bool) where
   -- what is found in some shapes, of which those count that there is room for
@@ -52,10 +61,10 @@ module _ (eligible : Shape → List Arrangement) (room : Shape → Bool) where
   first_of : (shape : Shape) (rest : List Shape) → found_in (shape ∷ rest) ≡ cond (has shape) (Some shape) (found_in rest)
   first_of shape rest = first_at (room shape) shape (filter room rest)
 
-  taken : (shape : Shape) (rest : List Shape) → has shape ≡ true → found_in (shape ∷ rest) ≡ Some shape
+  pub taken : (shape : Shape) (rest : List Shape) → has shape ≡ true → found_in (shape ∷ rest) ≡ Some shape
   taken shape rest h = first_of shape rest ∙ ap (λ t. cond t (Some shape) (found_in rest)) h
 
-  passed : (shape : Shape) (rest : List Shape) → has shape ≡ false → found_in (shape ∷ rest) ≡ found_in rest
+  pub passed : (shape : Shape) (rest : List Shape) → has shape ≡ false → found_in (shape ∷ rest) ≡ found_in rest
   passed shape rest h = first_of shape rest ∙ ap (λ t. cond t (Some shape) (found_in rest)) h
 
   -- from a number of moved-down players downwards
@@ -71,34 +80,31 @@ module _ (eligible : Shape → List Arrangement) (room : Shape → Bool) where
   mdps_ended pairs zero e h = passed (shape_with pairs zero) [] h
   mdps_ended pairs (suc n) e h = let bad : ⊥ = omega (arith, e) in absurd bad
 
-  abbrev or_else : Option Shape → Option Shape → Option Shape
-  or_else None other = other
-  or_else (Some shape) other = Some shape
-
-  or_cond : (t : Bool) (shape : Shape) (one other : Option Shape) → cond t (Some shape) (or_else one other) ≡ or_else (cond t (Some shape) one) other
-  or_cond true shape one other = refl
-  or_cond false shape one other = refl
-
   found_append : (front back : List Shape) → found_in (front ++ back) ≡ or_else (found_in front) (found_in back)
   found_append [] back = refl
   found_append (shape ∷ front) back =
       first_of shape (front ++ back) ∙ ap (cond (has shape) (Some shape)) (found_append front back)
       ∙ or_cond (has shape) shape (found_in front) (found_in back) ∙ ap (λ one. or_else one (found_in back)) (sym (first_of shape front))
 
+  -- some shapes in front of others: what is found in them, and where they have none, what is found in the others
+  pub some_first : (front back : List Shape) (shape : Shape) → found_in front ≡ Some shape → found_in (front ++ back) ≡ Some shape
+  some_first front back shape h = found_append front back ∙ ap (λ one. or_else one (found_in back)) h
+
+  pub none_first : (front back : List Shape) → found_in front ≡ None → found_in (front ++ back) ≡ found_in back
+  none_first front back h = found_append front back ∙ ap (λ one. or_else one (found_in back)) h
+
   -- from a number of pairs downwards
   pub pairs_taken : (n : ℕ) (shape : Shape) → found_in (shapes_with n) ≡ Some shape → found_in (flat_map shapes_with (down_from n)) ≡ Some shape
-  pairs_taken zero shape h = found_append (shapes_with zero) [] ∙ ap (λ one. or_else one None) h
-  pairs_taken (suc n) shape h =
-      found_append (shapes_with (suc n)) (flat_map shapes_with (down_from n)) ∙ ap (λ one. or_else one (found_in (flat_map shapes_with (down_from n)))) h
+  pairs_taken zero shape h = some_first (shapes_with zero) [] shape h
+  pairs_taken (suc n) shape h = some_first (shapes_with (suc n)) (flat_map shapes_with (down_from n)) shape h
 
   pub pairs_passed : (n : ℕ) → 0 < n → found_in (shapes_with n) ≡ None
       → found_in (flat_map shapes_with (down_from n)) ≡ found_in (flat_map shapes_with (down_from (n - 1)))
   pairs_passed n more h =
-      ap (λ ns. found_in (flat_map shapes_with ns)) (down_one n more) ∙ found_append (shapes_with n) (flat_map shapes_with (down_from (n - 1)))
-      ∙ ap (λ one. or_else one (found_in (flat_map shapes_with (down_from (n - 1))))) h
+      ap (λ ns. found_in (flat_map shapes_with ns)) (down_one n more) ∙ none_first (shapes_with n) (flat_map shapes_with (down_from (n - 1))) h
 
   pub pairs_ended : (n : ℕ) → n ≡ 0 → found_in (shapes_with n) ≡ None → found_in (flat_map shapes_with (down_from n)) ≡ None
-  pairs_ended zero e h = found_append (shapes_with zero) [] ∙ ap (λ one. or_else one None) h
+  pairs_ended zero e h = none_first (shapes_with zero) [] h
   pairs_ended (suc n) e h = let bad : ⊥ = omega (arith, e) in absurd bad
 
   found_has : (t : Bool) (shape wanted : Shape) (rest : List Shape) → has_member (eligible shape) ≡ t → (first_with eligible rest ≡ Some wanted → has_member (eligible wanted) ≡ true)

@@ -1,5 +1,5 @@
 -- Lists of numbers by what any weight of their members comes to: two lists of the same numbers, in any order, weigh the same.
-use Rattle.std.proofs.Common.{◌≡◌, ℕ, ◌+◌, ◌<◌, nat_eq, cond, List, [], ◌∷◌, ◌++◌, map, inl, inr, refl, sym, subst, ap, ◌∙◌, arith}
+use Rattle.std.proofs.Common.{◌≡◌, ℕ, ◌+◌, ◌<◌, nat_eq, cond, List, [], ◌∷◌, ◌++◌, map, length, inl, inr, refl, sym, subst, ap, ◌∙◌, arith}
 use Rattle.std.specs.Prelude.{IsPermutation}
 use Rattle.std.proofs.lemmas.Bool.{cases_Bool, eqb-true, eq-eqb}
 use Rattle.std.proofs.lemmas.List.Sorted.{IsPermutation-refl, IsPermutation-cons, IsPermutation-middle, IsPermutation-sym, IsPermutation-trans}
@@ -12,6 +12,11 @@ total w (x ∷ xs) = w x + total w xs
 pub total_append : (w : ℕ → ℕ) (xs ys : List ℕ) → total w (xs ++ ys) ≡ total w xs + total w ys
 total_append w [] ys = omega arith
 total_append w (x ∷ xs) ys = omega (arith, total_append w xs ys)
+
+-- where each weighs one, it is how many there are
+pub total_length : (xs : List ℕ) → total (λ x. 1) xs ≡ length xs
+total_length [] = refl
+total_length (x ∷ xs) = omega (arith, total_length xs)
 
 pub total_map : (w f : ℕ → ℕ) (xs : List ℕ) → total w (map f xs) ≡ total (λ x. w (f x)) xs
 total_map w f [] = refl

@@ -1,5 +1,5 @@
 -- How the walk over the brackets ends, told from behind: a bracket more in front of a round that ends so.
-use Rattle.std.proofs.Common.{◌≡◌, ℕ, zero, suc, ◌+◌, ◌-◌, ◌<◌, ◌≤◌, Bool, true, false, cond, List, [], ◌∷◌, ◌++◌, length, map, filter, inl, inr, Option, Some, None, option_map, refl, sym, ap, ◌∙◌, subst, arith, append-nil, append_assoc}
+use Rattle.std.proofs.Common.{◌≡◌, ℕ, zero, suc, ◌+◌, ◌-◌, ◌≤◌, Bool, true, false, cond, List, [], ◌∷◌, ◌++◌, length, map, filter, inl, inr, Option, Some, None, option_map, refl, sym, ap, ◌∙◌, subst, arith, append-nil, append_assoc}
 use Rattle.std.specs.List.{AllByRecursion}
 use Rattle.std.proofs.lemmas.Bool.Decides.{nat_tests}
 use Rattle.std.proofs.lemmas.List.{length-map}
@@ -12,19 +12,19 @@ use Rattle.dutch_pair.specs.declared.reached.Kind.TheVariants.{Ordinary, Penulti
 use Rattle.dutch_pair.specs.declared.walk.Ended.{Ended}
 use Rattle.dutch_pair.specs.declared.walk.Ended.TheVariants.{Asked, Paired, NoPairing, Undecided}
 use Rattle.dutch_pair.specs.Boards.{IsPair}
-use Rattle.dutch_pair.specs.Seated.{seat_of, all_pairs, AllNumbers, IsCandidate}
+use Rattle.dutch_pair.specs.Seated.{seat_of, all_pairs, AreSeats, AllNumbers, IsCandidate}
 use Rattle.dutch_pair.specs.Reached.{Stand, IsOf, IsAbove, frame_of, numbers_meet, number_may_be_left}
 use Rattle.dutch_pair.specs.NextBracket.{IsDraw}
 use Rattle.dutch_pair.specs.Choice.{is_unbeaten, first_unbeaten, chosen}
 use Rattle.dutch_pair.specs.Quality.{is_better}
 use Rattle.dutch_pair.specs.Walk.{AreAbove, Goes}
-use Rattle.dutch_pair.specs.Round.{Round, Visit, Pairing, Chosen, is_penultimate, bracket, completable, downfloaters, candidates_of, eligible, quality_of, choice_in, choice, shape_of, no_pairing, passing, pairing_in, ending, final_chosen, final_bracket, penultimate_chosen, again, penultimate_bracket, ordinary_chosen, ordinary_bracket}
+use Rattle.dutch_pair.specs.Round.{Round, Visit, Pairing, Chosen, is_penultimate, bracket, completable, downfloaters, candidates_of, eligible, quality_of, choice_in, choice, shape_of, no_pairing, passing, pairing_in, ending, final_chosen, final_bracket, penultimate_chosen, paired_again, penultimate_bracket, ordinary_chosen, ordinary_bracket}
 use Rattle.dutch_pair.specs.Outcomes.{visit_at}
-use Rattle.dutch_pair.specs.Ends.{paired_again, Ends, IsPaired, IsAhead, LeftGoOn, Misses, in_front, is_asked}
+use Rattle.dutch_pair.specs.Ends.{Ends, IsPaired, IsAhead, LeftGoOn, Misses, in_front, is_asked}
 use Rattle.dutch_pair.proofs.LeastPsd.{in_filter}
 use Rattle.dutch_pair.proofs.FirstLemmas.{choice_of_shape}
 use Rattle.dutch_pair.proofs.FlatBrackets.{candidate_of}
-use Rattle.dutch_pair.proofs.NextBrackets.{all_seats}
+use Rattle.dutch_pair.proofs.AllLemmas.{all_join}
 use Rattle.dutch_pair.proofs.CandidateSeats.{all_within}
 use Rattle.dutch_pair.proofs.DownLemmas.{down_numbers, down_few}
 use Rattle.dutch_pair.proofs.WalkLemmas.{Descends, is_above}
@@ -77,8 +77,7 @@ module _ (facts : Facts) where
   candidate_is stand draw of' drawn' = candidate_of facts stand drawn'.lists.0 draw of' drawn'.lists.1 drawn'.down
 
   pub pairs_join : (front more : List (ℕ × ℕ)) → AllByRecursion (IsPair facts) front → AllByRecursion (IsPair facts) more → AllByRecursion (IsPair facts) (front ++ more)
-  pairs_join [] more h g = g
-  pairs_join (p ∷ front) more h g = (h.0, pairs_join front more h.1 g)
+  pairs_join front more h g = all_join (IsPair facts) front more h g
 
 -- ---- a bracket of a round, and those after it
 
@@ -178,7 +177,7 @@ module _ (facts : Facts) where
 
   -- no bracket is left
   pub paired_ending : (asked : Option ℕ) (n : ℕ) (made : List (ℕ × ℕ)) (left bye : List ℕ) → bye ≡ left → AllByRecursion (IsPair facts) made
-      → AllByRecursion (λ seat. seat < length facts.seats) bye → IsPaired facts asked n made (ending facts left) made bye
+      → AreSeats facts bye → IsPaired facts asked n made (ending facts left) made bye
   paired_ending asked n made left bye e pairs seats = (
     ap (λ (xs : List (ℕ × ℕ)). let all : Pairing = record { pairs = xs; bye = left } in Some all) (append-nil made)
         ∙ ap (λ (ys : List ℕ). let all : Pairing = record { pairs = made; bye = ys } in Some all) (sym e),
@@ -188,10 +187,10 @@ module _ (facts : Facts) where
   )
 
   pub down_seats : (stand : Stand) (lists : Arrangement) (left : List ℕ) → IsOf facts stand → left ≡ downfloaters facts stand lists
-      → AllByRecursion (λ seat. seat < length facts.seats) left
+      → AreSeats facts left
   down_seats stand lists left of' e =
-      subst (AllByRecursion (λ seat. seat < length facts.seats)) (sym e)
-      (all_within facts stand.seats (down (frame_of facts stand) lists) (all_seats facts stand.seats of'.inside) (down_numbers facts stand lists))
+      subst (AreSeats facts) (sym e)
+      (all_within facts stand.seats (down (frame_of facts stand) lists) of'.inside (down_numbers facts stand lists))
 
   pub final_paired : (asked : Option ℕ) (stand : Stand) (shape : Shape) (lists : Arrangement) (front made : List (ℕ × ℕ)) (bye : List ℕ) → IsOf facts stand
       → choice facts stand [] ≡ Some (record { shape = shape; lists = lists }) → made ≡ front ++ all_pairs stand.seats lists → bye ≡ downfloaters facts stand lists
@@ -219,7 +218,7 @@ module _ (facts : Facts) (limit : ℕ) (asked : Option ℕ) (stand : Stand) (fro
       (ends_nothing facts limit asked stand.number front)
 
 -- the penultimate bracket, and the collapsed one
-pub above_again : (facts : Facts) (stand : Stand) (lower : List ℕ) → IsAbove facts stand lower → IsAbove facts (again facts stand) lower
+pub above_again : (facts : Facts) (stand : Stand) (lower : List ℕ) → IsAbove facts stand lower → IsAbove facts (paired_again stand) lower
 above_again facts stand lower above = record {
   bracket = record { inside = above.bracket.inside; sound = above.bracket.sound };
   inside = above.inside;
@@ -240,30 +239,30 @@ collapsed_above facts stand lower left lists number descends goes e =
     (above_none facts lower) (λ e. let bad : Collapsed ≡ Ordinary = e in absurd (cc))
 
 module _ (facts : Facts) (limit : ℕ) (asked : Option ℕ) (stand : Stand) (lower : List ℕ) (front : List (ℕ × ℕ)) where
-  pub penultimate_asked : (shape : Shape) → IsOf facts (again facts stand) → is_asked asked (stand.number + 1) ≡ true → shape_of facts (again facts stand) lower ≡ Some shape
-      → Fits (frame_of facts (again facts stand)) shape
-      → Ends facts limit asked (stand.number + 1) front (penultimate_bracket facts stand lower) (Asked (again facts stand) shape)
+  pub penultimate_asked : (shape : Shape) → IsOf facts (paired_again stand) → is_asked asked (stand.number + 1) ≡ true → shape_of facts (paired_again stand) lower ≡ Some shape
+      → Fits (frame_of facts (paired_again stand)) shape
+      → Ends facts limit asked (stand.number + 1) front (penultimate_bracket facts stand lower) (Asked (paired_again stand) shape)
   penultimate_asked shape of' is e fits =
-      let one = choice_of_shape facts (again facts stand) lower shape e in
-      let collapsed : Round = final_bracket facts (bracket ((stand.number + 1) + 1) Collapsed (downfloaters facts (again facts stand) one.0) lower) in
-      ends_asked facts limit asked (again facts stand) shape front (penultimate_bracket facts stand lower) collapsed.reached
-      (ap (λ (c : Option Chosen). (penultimate_chosen facts (again facts stand) lower c).reached) one.1) is of' fits
+      let one = choice_of_shape facts (paired_again stand) lower shape e in
+      let collapsed : Round = final_bracket facts (bracket ((stand.number + 1) + 1) Collapsed (downfloaters facts (paired_again stand) one.0) lower) in
+      ends_asked facts limit asked (paired_again stand) shape front (penultimate_bracket facts stand lower) collapsed.reached
+      (ap (λ (c : Option Chosen). (penultimate_chosen facts (paired_again stand) lower c).reached) one.1) is of' fits
 
-  pub penultimate_nothing : choice facts (again facts stand) lower ≡ None → Ends facts limit asked (stand.number + 1) front (penultimate_bracket facts stand lower) NoPairing
+  pub penultimate_nothing : choice facts (paired_again stand) lower ≡ None → Ends facts limit asked (stand.number + 1) front (penultimate_bracket facts stand lower) NoPairing
   penultimate_nothing e =
-      subst (λ (c : Option Chosen). Ends facts limit asked (stand.number + 1) front (penultimate_chosen facts (again facts stand) lower c) NoPairing) (sym e)
+      subst (λ (c : Option Chosen). Ends facts limit asked (stand.number + 1) front (penultimate_chosen facts (paired_again stand) lower c) NoPairing) (sym e)
       (ends_nothing facts limit asked (stand.number + 1) front)
 
   pub penultimate_goes_on : (shape : Shape) (lists : Arrangement) (all : List (ℕ × ℕ)) (left : List ℕ) (ended : Ended)
-      → choice facts (again facts stand) lower ≡ Some (record { shape = shape; lists = lists }) → all ≡ front ++ all_pairs stand.seats lists
-      → left ≡ downfloaters facts (again facts stand) lists → IsAhead asked (stand.number + 1) → is_asked asked (stand.number + 1) ≡ false
+      → choice facts (paired_again stand) lower ≡ Some (record { shape = shape; lists = lists }) → all ≡ front ++ all_pairs stand.seats lists
+      → left ≡ downfloaters facts (paired_again stand) lists → IsAhead asked (stand.number + 1) → is_asked asked (stand.number + 1) ≡ false
       → Ends facts limit asked ((stand.number + 1) + 1) all (final_bracket facts (bracket ((stand.number + 1) + 1) Collapsed left lower)) ended
       → Ends facts limit asked (stand.number + 1) front (penultimate_bracket facts stand lower) ended
   penultimate_goes_on shape lists all left ended e pairs same ahead other h =
       let chosen' : Chosen = record { shape = shape; lists = lists } in
       let collapsed : List ℕ → Round = λ xs. final_bracket facts (bracket ((stand.number + 1) + 1) Collapsed xs lower) in
-      subst (λ (c : Option Chosen). Ends facts limit asked (stand.number + 1) front (penultimate_chosen facts (again facts stand) lower c) ended) (sym e)
-      (ends_pairing facts limit asked (again facts stand) chosen' (collapsed (downfloaters facts (again facts stand) lists)) front all ended pairs
+      subst (λ (c : Option Chosen). Ends facts limit asked (stand.number + 1) front (penultimate_chosen facts (paired_again stand) lower c) ended) (sym e)
+      (ends_pairing facts limit asked (paired_again stand) chosen' (collapsed (downfloaters facts (paired_again stand) lists)) front all ended pairs
       (ahead_more asked (stand.number + 1) ahead other)
       (subst (λ (xs : List ℕ). Ends facts limit asked ((stand.number + 1) + 1) all (collapsed xs) ended) same h))
 

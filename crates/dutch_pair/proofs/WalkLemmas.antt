@@ -2,27 +2,23 @@
 use Rattle.std.proofs.Common.{◌≡◌, ℕ, zero, suc, ◌+◌, ◌-◌, ◌<◌, ◌≤◌, Bool, true, false, not, cond, List, [], ◌∷◌, ◌++◌, length, get_or, map, filter, refl, sym, ap, ◌∙◌, subst, arith, append_assoc, length-append}
 use Rattle.std.specs.List.{AllByRecursion}
 use Rattle.std.proofs.lemmas.List.{length-map, get_or-map}
-use Rattle.dutch_order.specs.Trials.{numbers_from}
 use Rattle.dutch_order.specs.Arrangements.{Arrangement, paired}
-use Rattle.dutch_order.specs.Choices.{is_member}
+use Rattle.dutch_order.specs.Choices.{numbers_from, is_member}
 use Rattle.dutch_order.specs.Limbo.{IsNonAscending}
+use Rattle.dutch_order.proofs.Turns.{at_index}
 use Rattle.dutch_player.specs.Facts.{Facts}
 use Rattle.dutch_pair.specs.declared.reached.Kind.{Kind}
 use Rattle.dutch_pair.specs.declared.reached.Kind.TheVariants.{Ordinary}
-use Rattle.dutch_pair.specs.Seated.{score_at, seat_of}
-use Rattle.dutch_pair.specs.Reached.{AreSeats, IsAbove}
+use Rattle.dutch_pair.specs.Seated.{score_at, seat_of, AreSeats}
+use Rattle.dutch_pair.specs.Reached.{IsAbove}
 use Rattle.dutch_pair.specs.Round.{bracket, downfloaters}
 use Rattle.dutch_pair.specs.Walk.{AreRanked, AreAbove, Goes}
+use Rattle.dutch_pair.proofs.AllLemmas.{all_join}
 
 -- scores do not ascend along the seats of a field, of which there are at most 256
 pub record Descends (facts : Facts) : Type 0 where
   pub falls : (a b : ℕ) → a < b → b < length facts.seats → score_at facts b ≤ score_at facts a
   pub few : length facts.seats ≤ 256
-
-all_at : (P : ℕ → Type 0) (xs : List ℕ) (i : ℕ) → AllByRecursion P xs → i < length xs → P (get_or xs i 0)
-all_at P [] i h lt = absurd (omega (arith, lt))
-all_at P (x ∷ xs) zero h lt = h.0
-all_at P (x ∷ xs) (suc i) h lt = all_at P xs i h.1 (omega (arith, lt))
 
 all_front : (P : ℕ → Type 0) (xs ys : List ℕ) → AllByRecursion P (xs ++ ys) → AllByRecursion P xs
 all_front P [] ys h = tt
@@ -31,10 +27,6 @@ all_front P (x ∷ xs) ys h = (h.0, all_front P xs ys h.1)
 all_back : (P : ℕ → Type 0) (xs ys : List ℕ) → AllByRecursion P (xs ++ ys) → AllByRecursion P ys
 all_back P [] ys h = h
 all_back P (x ∷ xs) ys h = all_back P xs ys h.1
-
-all_join : (P : ℕ → Type 0) (xs ys : List ℕ) → AllByRecursion P xs → AllByRecursion P ys → AllByRecursion P (xs ++ ys)
-all_join P [] ys h g = g
-all_join P (x ∷ xs) ys h g = (h.0, all_join P xs ys h.1 g)
 
 all_of : (P Q : ℕ → Type 0) (xs : List ℕ) → ((x : ℕ) → P x → Q x) → AllByRecursion P xs → AllByRecursion Q xs
 all_of P Q [] f h = tt
@@ -68,7 +60,7 @@ module _ (facts : Facts) where
   -- seats by rank go up
   ranked_next : (xs : List ℕ) → AreRanked facts xs → (i : ℕ) → i + 1 < length xs → get_or xs i 0 < get_or xs (i + 1) 0
   ranked_next [] h i lt = absurd (omega (arith, lt))
-  ranked_next (x ∷ xs) h zero lt = all_at (λ b. x < b) xs 0 h.1 (omega (arith, lt))
+  ranked_next (x ∷ xs) h zero lt = at_index (λ b. x < b) xs 0 h.1 (omega (arith, lt))
   ranked_next (x ∷ xs) h (suc i) lt =
       let next : suc (i + 1) ≡ suc i + 1 = omega arith in
       subst (λ k. get_or xs i 0 < get_or (x ∷ xs) k 0) next (ranked_next xs h.2 i (omega (arith, lt)))
@@ -88,8 +80,8 @@ module _ (facts : Facts) where
 
     above_at : (md rest : List ℕ) (i j : ℕ) → AreAbove facts md rest → i < length md → j < length rest → score_at facts (get_or rest j 0) < score_at facts (get_or md i 0)
     above_at md rest i j h lti ltj =
-        all_at (λ b. score_at facts b < score_at facts (get_or md i 0)) rest j
-        (all_at (λ a. AllByRecursion (λ b. score_at facts b < score_at facts a) rest) md i h lti) ltj
+        at_index (λ b. score_at facts b < score_at facts (get_or md i 0)) rest j
+        (at_index (λ a. AllByRecursion (λ b. score_at facts b < score_at facts a) rest) md i h lti) ltj
 
     get_front : (xs ys : List ℕ) (i : ℕ) → i < length xs → get_or (xs ++ ys) i 0 ≡ get_or xs i 0
     get_front [] ys i lt = absurd (omega (arith, lt))

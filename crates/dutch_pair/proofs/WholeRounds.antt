@@ -6,7 +6,7 @@ use Rattle.dutch_player.specs.Facts.{Facts}
 use Rattle.dutch_pair.specs.declared.reached.Kind.{Kind}
 use Rattle.dutch_pair.specs.declared.reached.Kind.TheVariants.{Ordinary, Last, Collapsed}
 use Rattle.dutch_pair.specs.Reached.{Stand}
-use Rattle.dutch_pair.specs.Round.{Round, Pairing, Chosen, bracket, choice, completable, downfloaters, everybody, scoregroups, pairing_in, passing, no_pairing, final_chosen, final_bracket, penultimate_chosen, penultimate_bracket, again, ordinary_chosen, ordinary_bracket, brackets, round}
+use Rattle.dutch_pair.specs.Round.{Round, Pairing, Chosen, bracket, choice, completable, downfloaters, everybody, scoregroups, pairing_in, passing, no_pairing, final_chosen, final_bracket, penultimate_chosen, penultimate_bracket, paired_again, ordinary_chosen, ordinary_bracket, brackets, round}
 use Rattle.dutch_pair.specs.Seated.{all_pairs}
 use Rattle.dutch_pair.proofs.GroupLemmas.{concat_scoregroups}
 use Rattle.dutch_pair.proofs.Totals.{total, total_append}
@@ -60,7 +60,7 @@ module _ (w : ℕ → ℕ) where
         (final_whole last (moved_within (stand.number + 1) Collapsed left lower))
 
     penultimate_whole : (stand : Stand) (lower : List ℕ) → stand.mdps ≤ length stand.seats → Weighs (total w stand.seats + total w lower) (penultimate_bracket facts stand lower).pairing
-    penultimate_whole stand lower within = penultimate_at (again facts stand) lower (choice facts (again facts stand) lower) within refl
+    penultimate_whole stand lower within = penultimate_at (paired_again stand) lower (choice facts (paired_again stand) lower) within refl
 
     -- ---- an ordinary bracket
 

@@ -1,5 +1,5 @@
 -- How the walk over the brackets ends, as the round from a bracket on tells it: a model that carries the round's proof.
-use Rattle.std.specs.Prelude.{◌≡◌, ℕ, ◌+◌, ◌-◌, ◌<◌, ◌≤◌, Bool, true, false, ◌==◌, List, ◌++◌, length, Option, Some, None, option_map}
+use Rattle.std.specs.Prelude.{◌≡◌, ℕ, ◌+◌, ◌-◌, ◌≤◌, Bool, true, false, ◌==◌, List, ◌++◌, length, Option, Some, None, option_map}
 use Rattle.std.specs.List.{AllByRecursion}
 use Rattle.dutch_order.specs.Arrangements.{Arrangement, Fits, down}
 use Rattle.dutch_player.specs.Facts.{Facts}
@@ -9,8 +9,8 @@ use Rattle.dutch_pair.specs.declared.walk.Turn.{Turn}
 use Rattle.dutch_pair.specs.declared.walk.Turn.TheVariants.{Ended as IsEnded, GoesOn}
 use Rattle.dutch_pair.specs.declared.walk.Settled.{Settled}
 use Rattle.dutch_pair.specs.declared.walk.Settled.TheVariants.{Asked as ShapeAsked, Chosen as IsChosen, Nothing, Undecided as SettledUndecided}
-use Rattle.dutch_pair.specs.declared.reached.Kind.TheVariants.{Penultimate}
 use Rattle.dutch_pair.specs.Boards.{IsPair}
+use Rattle.dutch_pair.specs.Seated.{AreSeats}
 use Rattle.dutch_pair.specs.Reached.{Stand, IsOf, frame_of}
 use Rattle.dutch_pair.specs.Round.{Round, Pairing, choice, shape_of, downfloaters, ordinary_bracket}
 use Rattle.dutch_pair.specs.Walk.{Goes}
@@ -39,7 +39,7 @@ in_front pairs later = record { pairs = pairs ++ later.pairs; bye = later.bye }
 abbrev pub IsPaired : Facts → Option ℕ → ℕ → List (ℕ × ℕ) → Round → List (ℕ × ℕ) → List ℕ → Type 0
 IsPaired facts asked number pairs round all bye =
     (option_map (in_front pairs) round.pairing ≡ Some (record { pairs = all; bye = bye })) × Misses asked number round
-    × AllByRecursion (IsPair facts) all × AllByRecursion (λ seat. seat < length facts.seats) bye
+    × AllByRecursion (IsPair facts) all × AreSeats facts bye
 
 -- the end of a walk that has made some pairs before a bracket's number: what the round from there on tells
 abbrev pub Ends : Facts → ℕ → Option ℕ → ℕ → List (ℕ × ℕ) → Round → Ended → Type 0
@@ -73,10 +73,6 @@ Turns facts limit asked stand lower pairs (GoesOn left all) =
     ((goes_on : List ℕ → Round) (ended : Ended) → Ends facts limit asked (stand.number + 1) all.items (goes_on left.items) ended
     → Ends facts limit asked stand.number pairs (ordinary_bracket facts stand lower goes_on) ended)
     × IsAhead asked (stand.number + 1) × Goes facts left.items lower × AllByRecursion (IsPair facts) all.items
-
--- a bracket that is paired again as the penultimate one
-abbrev pub paired_again : Stand → Stand
-paired_again stand = record { number = stand.number + 1; kind = Penultimate; mdps = stand.mdps; seats = stand.seats }
 
 -- the walk was stopped in a bracket
 abbrev pub stopped : Stand → ℕ → Ended

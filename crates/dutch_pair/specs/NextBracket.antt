@@ -8,8 +8,8 @@ use Rattle.dutch_order.specs.Keys.{IsIn}
 use Rattle.dutch_order.specs.Draws.{Draw}
 use Rattle.dutch_player.specs.Facts.{Facts}
 use Rattle.dutch_pair.specs.declared.reached.Kind.TheVariants.{Ordinary}
-use Rattle.dutch_pair.specs.Seated.{seat_of, score_at, by_seats}
-use Rattle.dutch_pair.specs.Reached.{Stand, AreSeats, frame_of, numbers_meet, number_may_be_left}
+use Rattle.dutch_pair.specs.Seated.{seat_of, score_at, by_seats, AreSeats}
+use Rattle.dutch_pair.specs.Reached.{Stand, frame_of, numbers_meet, number_may_be_left}
 use Rattle.dutch_pair.specs.Shapes.{fits, first_with, greatest_shape}
 use Rattle.dutch_pair.specs.Quality.{Quality, NextValue, psd, quality_with}
 

@@ -5,7 +5,7 @@ use Rattle.dutch_pair.specs.declared.reached.Kind.{Kind}
 use Rattle.dutch_pair.specs.declared.reached.Kind.TheVariants.{Ordinary, Last, Penultimate, Collapsed}
 use Rattle.dutch_player.specs.Facts.{Facts, seat_at}
 use Rattle.dutch_player.specs.Meetings.{may_meet}
-use Rattle.dutch_pair.specs.Seated.{seat_of, score_at}
+use Rattle.dutch_pair.specs.Seated.{seat_of, score_at, AreSeats}
 
 -- A.3: a bracket that is reached: its number, counted from 1, its kind, how many of its players were moved down, and the seats of its
 -- players by rank
@@ -42,10 +42,6 @@ numbers_meet facts stand a b =
 -- C.2 by number
 abbrev pub number_may_be_left : Facts → Stand → ℕ → Bool
 number_may_be_left facts stand a = is_number stand a && (seat_at facts (seat_of stand.seats a)).may_bye
-
--- all of these are seats of the field
-abbrev pub AreSeats : Facts → List ℕ → Type 0
-AreSeats facts seats = (i : ℕ) → i < length seats → slice_index seats i < length facts.seats
 
 -- a bracket is one of a field: its seats are the field's, and their scores are those of a bracket
 pub record IsOf (facts : Facts) (stand : Stand) : Type 0 where

@@ -2,7 +2,7 @@
 use Rattle.std.specs.Prelude.{ℕ, ◌+◌, Bool, true, false, ◌==◌, if◌then◌else◌, cond, List, [], ◌∷◌, ◌++◌, map, filter, length, Option, Some, None, option_map}
 use Rattle.std.specs.List.{concat}
 use Rattle.dutch_order.specs.declared.bracket.Shape.{Shape}
-use Rattle.dutch_order.specs.Trials.{numbers_from}
+use Rattle.dutch_order.specs.Choices.{numbers_from}
 use Rattle.dutch_order.specs.Arrangements.{Arrangement, candidates, down}
 use Rattle.dutch_player.specs.Facts.{Facts}
 use Rattle.dutch_pair.specs.declared.reached.Kind.{Kind}
@@ -54,6 +54,10 @@ is_penultimate Collapsed = false
 abbrev pub bracket : ℕ → Kind → List ℕ → List ℕ → Stand
 bracket number kind moved_down residents =
     record { number = number; kind = kind; mdps = length moved_down; seats = moved_down ++ residents }
+
+-- a bracket that is paired again as the penultimate one
+abbrev pub paired_again : Stand → Stand
+paired_again stand = record { number = stand.number + 1; kind = Penultimate; mdps = stand.mdps; seats = stand.seats }
 
 module _ (facts : Facts) where
   -- a seat put before groups of lower seats: into the first of them if that has its score
@@ -152,13 +156,9 @@ module _ (facts : Facts) where
   penultimate_chosen stand lower (Some choice) =
       pairing_in stand choice (final_bracket (bracket (stand.number + 1) Collapsed (downfloaters stand choice.lists) lower))
 
-  -- a bracket that is paired again as the penultimate one
-  abbrev pub again : Stand → Stand
-  again stand = record { number = stand.number + 1; kind = Penultimate; mdps = stand.mdps; seats = stand.seats }
-
   -- A.9: a bracket that is paired again, and the collapsed one behind it
   abbrev pub penultimate_bracket : Stand → List ℕ → Round
-  penultimate_bracket stand lower = penultimate_chosen (again stand) lower (choice (again stand) lower)
+  penultimate_bracket stand lower = penultimate_chosen (paired_again stand) lower (choice (paired_again stand) lower)
 
   -- an ordinary bracket by its choice: it keeps its pairs if those whom it leaves over can be paired out with all lower players; else
   -- it is paired again

@@ -84,9 +84,9 @@ going_down facts candidate =
 abbrev pub going_up : Facts → Seated → List Mover
 going_up facts candidate = map (goes_up facts) (filter (is_uneven facts) candidate.pairs)
 
--- seats that a field has
-abbrev pub AllSeats : Facts → List ℕ → Type 0
-AllSeats facts seats = AllByRecursion (λ seat. seat < length facts.seats) seats
+-- all of these are seats of the field
+abbrev pub AreSeats : Facts → List ℕ → Type 0
+AreSeats facts seats = (i : ℕ) → i < length seats → slice_index seats i < length facts.seats
 
 -- pairs of such seats
 abbrev pub AllPairs : Facts → List (ℕ × ℕ) → Type 0
@@ -99,7 +99,7 @@ AllMovers facts movers = AllByRecursion (λ mover. mover.seat < length facts.sea
 -- a candidate of players of a field: pairs and downfloaters are at most 256
 pub record HasSeats (facts : Facts) (candidate : Seated) : Type 0 where
   pub pairs : AllPairs facts candidate.pairs
-  pub down : AllSeats facts candidate.down
+  pub down : AreSeats facts candidate.down
   pub few : length candidate.pairs + length candidate.down ≤ 256
 
 -- numbers that a bracket with these seats has

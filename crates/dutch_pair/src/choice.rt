@@ -13,7 +13,7 @@ ghost use Rattle.dutch_pair.specs.Outcomes.{IsChoice};
 use crate::completion::Answer;
 use crate::eligible::can_be_chosen;
 use crate::fault::PairFault;
-use crate::group::first_group;
+use crate::group::split_first_group;
 use crate::lookahead::quality;
 use crate::quality::Quality;
 use crate::reached::Reached;
@@ -61,7 +61,13 @@ fn quality_of(
     ensures rises { budget.old.used ≤ budget.new.used }
     ensures within { budget.new.used ≤ budget.new.limit }
 {
-    quality(field, reached, candidate, first_group(field, lower), budget)
+    quality(
+        field,
+        reached,
+        candidate,
+        split_first_group(field, lower).0,
+        budget,
+    )
 }
 
 /// Whether a quality is better than that of the candidate that is kept, if there is one.

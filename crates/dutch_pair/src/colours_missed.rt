@@ -6,7 +6,7 @@ ghost use Rattle.dutch_pair.specs.Seated.{AllPairs};
 ghost use Rattle.dutch_pair.specs.Quality.{is_wide, is_third, is_missed, is_strong, is_strong_missed, misses, count_in, has_topscorer, count_in_pairs, count_with_topscorers};
 
 use crate::seated::Pair;
-use dutch_order::search::LIMIT;
+use dutch_order::numbers::LIMIT;
 use dutch_player::field::Field;
 use dutch_player::preference::Kind;
 use trf16::cell::Colour;

@@ -3,10 +3,9 @@ ghost use Rattle.std.specs.Prelude.{◌≡◌, ◌+◌, ◌-◌, ◌*◌, ◌<�
 ghost use Rattle.dutch_pair.specs.Completion.{Completable, can_cover, some_partner, nobody, left_over, most, Spends, IsStopped, Takes, MatchAnswer, Tells};
 
 use arrayvec::ArrayVec;
+use dutch_order::numbers::{LIMIT, Numbers};
 use dutch_order::rules::Rule;
-use dutch_order::search::LIMIT;
 use dutch_order::steps::Budget;
-use dutch_order::transposition::Numbers;
 
 /// Whether players are completable.
 #[derive(Debug, Clone, Copy, PartialEq, Eq)]

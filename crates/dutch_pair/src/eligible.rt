@@ -1,6 +1,6 @@
 // Which candidates of a bracket can be chosen (C.04.3 C.4), and whether a shape has one.
 ghost use Rattle.std.specs.Prelude.{◌≡◌, ◌+◌, ◌≤◌, ◌++◌, length, map};
-ghost use Rattle.dutch_order.specs.declared.search.TheConstants.{LIMIT};
+ghost use Rattle.dutch_order.specs.declared.numbers.TheConstants.{LIMIT};
 ghost use Rattle.dutch_order.specs.Arrangements.{Fits, down};
 ghost use Rattle.dutch_pair.specs.Reached.{IsAbove, frame_of};
 ghost use Rattle.dutch_pair.specs.Seated.{seat_of, AllNumbers};

@@ -1,14 +1,13 @@
 // Players who go down or up again, as in one of the last two rounds (C.04.3 C.12 to C.19).
 ghost use Rattle.std.specs.Prelude.{◌≡◌, ◌+◌, ◌<◌, ◌≤◌, ◌++◌, length, map, filter};
 ghost use Rattle.arrayvec.specs.ArrayVec.{array_vec_len};
-ghost use Rattle.dutch_pair.specs.Seated.{is_uneven, goes_down, goes_up, floats_down, going_down, going_up, AllSeats, AllPairs, AllMovers, HasSeats};
+ghost use Rattle.dutch_pair.specs.Seated.{is_uneven, goes_down, goes_up, floats_down, going_down, going_up, AreSeats, AllPairs, AllMovers, HasSeats};
 ghost use Rattle.dutch_pair.specs.Quality.{is_float, again, differences};
 
 use crate::differences::put;
 use crate::seated::{Mover, Pair, Seated, difference_down, goes_down, goes_up, is_uneven};
 use arrayvec::ArrayVec;
-use dutch_order::search::LIMIT;
-use dutch_order::transposition::Numbers;
+use dutch_order::numbers::{LIMIT, Numbers};
 use dutch_player::field::Field;
 use dutch_player::float::Float;
 
@@ -45,7 +44,7 @@ fn push_pairs_up(field: &Field, pairs: &[Pair], movers: &mut Movers)
 
 /// Adds the downfloaters.
 fn push_down(field: &Field, least: u16, down: &[u16], movers: &mut Movers)
-    requires inside { AllSeats field.now down.now }
+    requires inside { AreSeats field.now down.now }
     requires room { array_vec_len movers.old + length down.now ≤ LIMIT }
     ensures items { movers.new.items ≡ movers.old.items ++ map (floats_down field.now least) down.now }
     ensures len { array_vec_len movers.new ≡ array_vec_len movers.old + length down.now }

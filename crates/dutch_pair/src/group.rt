@@ -1,6 +1,6 @@
 // The first scoregroup of seats by rank (C.04.3 A.3).
-ghost use Rattle.std.specs.Prelude.{◌≡◌, ◌≤◌, length};
-ghost use Rattle.dutch_pair.specs.Reached.{AreSeats};
+ghost use Rattle.std.specs.Prelude.{◌≡◌, ◌≤◌, ◌++◌, drop, length};
+ghost use Rattle.dutch_pair.specs.Seated.{AreSeats};
 ghost use Rattle.dutch_pair.specs.Groups.{front_with};
 ghost use Rattle.dutch_pair.specs.Round.{first_group, scoregroups};
 
@@ -22,15 +22,17 @@ pub(crate) fn front_with(field: &Field, score: u16, seats: &[u16]) -> usize
     count
 }
 
-/// The first scoregroup of seats by rank; none where there is no seat.
-#[tactic(auto, using(crate::proofs::NextGroups::first_group_taken))]
-pub(crate) fn first_group<'a>(field: &Field, seats: &'a [u16]) -> &'a [u16]
+/// The first scoregroup of seats by rank, and the seats behind it; two empty lists where there is no seat.
+#[tactic(auto, using(crate::proofs::GroupLemmas::first_group_taken, crate::proofs::GroupLemmas::others_dropped))]
+pub(crate) fn split_first_group<'a>(field: &Field, seats: &'a [u16]) -> (&'a [u16], &'a [u16])
     requires inside { AreSeats field.now seats.now }
-    ensures { result.now ≡ first_group field.now (scoregroups field.now seats.now) }
+    ensures whole { result.0.now ++ result.1.now ≡ seats.now }
+    ensures first { result.0.now ≡ first_group field.now (scoregroups field.now seats.now) }
+    ensures others { scoregroups field.now result.1.now ≡ drop 1 (scoregroups field.now seats.now) }
 {
     let Some((first, others)) = seats.split_first() else {
-        return seats;
+        return (seats, seats);
     };
     let count = front_with(field, field.score(*first), others);
-    seats.split_at(count + 1).0
+    seats.split_at(count + 1)
 }

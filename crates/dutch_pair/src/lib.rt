@@ -19,6 +19,4 @@ pub mod round;
 pub mod seated;
 pub mod seats;
 pub mod shape;
-#[cfg(test)]
-mod tests;
 mod walk;

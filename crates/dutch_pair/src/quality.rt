@@ -1,6 +1,6 @@
 // The quality of a candidate, by which candidates of one shape are compared (C.04.3 C.6 to C.19), specified item by item.
 ghost use Rattle.std.specs.Prelude.{◌≡◌};
-ghost use Rattle.dutch_pair.specs.Seated.{by_seats, AllSeats, IsCandidate};
+ghost use Rattle.dutch_pair.specs.Seated.{by_seats, AreSeats, IsCandidate};
 ghost use Rattle.dutch_pair.specs.Quality.{quality_with, is_better};
 ghost use Rattle.dutch_pair.specs.NextBracket.{no_value};
 ghost use Rattle.dutch_pair.specs.QualityIn.{quality_in};
@@ -10,7 +10,7 @@ use crate::differences::psd;
 use crate::floats::{again, going_down, going_up};
 use crate::seated::by_seats;
 use dutch_order::candidate::Candidate;
-use dutch_order::transposition::Numbers;
+use dutch_order::numbers::Numbers;
 use dutch_player::field::Field;
 use dutch_player::float::Float;
 use std::cmp::Reverse;
@@ -76,7 +76,7 @@ impl Quality {
 /// The quality of a candidate of a bracket with these seats, for a value of the next bracket.
 #[tactic(auto, using(crate::proofs::Places::length_differences))]
 pub fn quality_with(field: &Field, seats: &[u16], candidate: &Candidate, next: NextValue) -> Quality
-    requires bracket { AllSeats field.now seats.now }
+    requires bracket { AreSeats field.now seats.now }
     requires candidate { IsCandidate seats.now candidate.now }
     ensures { quality_in result ≡ quality_with field.now (by_seats field.now seats.now candidate.now) next }
 {

@@ -1,15 +1,15 @@
 // A bracket that a round reaches, by the seats of its players (C.04.3 A.3, A.9).
 ghost use Rattle.std.specs.Prelude.{◌≡◌, ◌+◌, ◌<◌, ◌≤◌, ◌++◌, true, length, map};
 ghost use Rattle.arrayvec.specs.ArrayVec.{array_vec_len};
-ghost use Rattle.dutch_order.specs.declared.search.TheConstants.{LIMIT};
-ghost use Rattle.dutch_pair.specs.Seated.{seat_of, score_at};
+ghost use Rattle.dutch_order.specs.declared.numbers.TheConstants.{LIMIT};
+ghost use Rattle.dutch_pair.specs.Seated.{seat_of, score_at, AreSeats};
 ghost use Rattle.dutch_pair.specs.Round.{bracket};
-ghost use Rattle.dutch_pair.specs.Reached.{IsOf, AreSeats, ends_round, frame_of, is_number, numbers_meet, number_may_be_left};
+ghost use Rattle.dutch_pair.specs.Reached.{IsOf, ends_round, frame_of, is_number, numbers_meet, number_may_be_left};
 
 use arrayvec::ArrayVec;
 use dutch_order::bracket::Bracket;
+use dutch_order::numbers::LIMIT;
 use dutch_order::rules::Rule;
-use dutch_order::search::LIMIT;
 use dutch_player::field::Field;
 use std::marker::Model;
 

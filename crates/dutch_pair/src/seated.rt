@@ -1,12 +1,11 @@
 // A candidate by the seats of its players: its pairs, and who goes down or up in them (C.04.3 A.8).
 ghost use Rattle.std.specs.Prelude.{◌≡◌, ◌+◌, ◌<◌, ◌≤◌, ◌++◌, length, map};
 ghost use Rattle.arrayvec.specs.ArrayVec.{array_vec_len};
-ghost use Rattle.dutch_pair.specs.Seated.{seat_of, pairs_of, lowest, lowest_upto, by_seats, difference, difference_down, is_uneven, goes_down, goes_up, AllSeats, AllNumbers, HasSeats, IsCandidate};
+ghost use Rattle.dutch_pair.specs.Seated.{seat_of, pairs_of, lowest, lowest_upto, by_seats, difference, difference_down, is_uneven, goes_down, goes_up, AreSeats, AllNumbers, HasSeats, IsCandidate};
 
 use arrayvec::ArrayVec;
 use dutch_order::candidate::Candidate;
-use dutch_order::search::LIMIT;
-use dutch_order::transposition::Numbers;
+use dutch_order::numbers::{LIMIT, Numbers};
 use dutch_player::field::Field;
 use std::marker::Model;
 
@@ -48,7 +47,7 @@ fn seat_of(seats: &[u16], number: u16) -> u16
 
 /// The lowest of a score and those of some seats.
 fn lowest_upto(field: &Field, least: u16, seats: &[u16]) -> u16
-    requires { AllSeats field.now seats.now }
+    requires { AreSeats field.now seats.now }
     ensures { result ≡ lowest_upto field.now least seats.now }
 {
     let mut least = least;
@@ -60,7 +59,7 @@ fn lowest_upto(field: &Field, least: u16, seats: &[u16]) -> u16
 
 /// The lowest score of some seats.
 fn lowest(field: &Field, seats: &[u16]) -> u16
-    requires { AllSeats field.now seats.now }
+    requires { AreSeats field.now seats.now }
     ensures { result ≡ lowest field.now seats.now }
 {
     match seats {
@@ -154,7 +153,7 @@ pub(crate) fn seats_of(seats: &[u16], numbers: &[u16]) -> Numbers
 
 /// A candidate of a bracket with these seats, by seats.
 pub(crate) fn by_seats(field: &Field, seats: &[u16], candidate: &Candidate) -> Seated
-    requires bracket { AllSeats field.now seats.now }
+    requires bracket { AreSeats field.now seats.now }
     requires candidate { IsCandidate seats.now candidate.now }
     ensures value { result ≡ by_seats field.now seats.now candidate.now }
     ensures inside { HasSeats field.now result }

@@ -8,16 +8,16 @@ ghost use Rattle.std.specs.List.{AllByRecursion};
 ghost use Rattle.dutch_pair.specs.Boards.{IsPair};
 ghost use Rattle.dutch_pair.specs.NextBracket.{IsDraw};
 ghost use Rattle.dutch_pair.specs.Reached.{IsOf, IsAbove};
-ghost use Rattle.dutch_pair.specs.Round.{everybody, round, brackets, scoregroups, final_bracket, penultimate_bracket};
+ghost use Rattle.dutch_pair.specs.Round.{everybody, round, brackets, scoregroups, final_bracket, paired_again, penultimate_bracket};
 ghost use Rattle.dutch_pair.specs.Seated.{all_pairs};
-ghost use Rattle.dutch_pair.specs.Ends.{Ends, IsAhead, LeftGoOn, Settles, Turns, is_asked, paired_again, stopped};
+ghost use Rattle.dutch_pair.specs.Ends.{Ends, IsAhead, LeftGoOn, Settles, Turns, is_asked, stopped};
 
 use crate::boards::Pair;
 use crate::choice::{Choice, choose};
 use crate::completion::Answer;
 use crate::eligible::{can_complete, leaves_completable};
 use crate::fault::PairFault;
-use crate::group::front_with;
+use crate::group::split_first_group;
 use crate::reached::{Kind, Reached, Seats, bracket};
 use crate::seated::{by_seats, seats_of};
 use crate::shape::shape_of;
@@ -122,7 +122,7 @@ fn with_more(pairs: Vec<Pair>, more: &[Pair]) -> Result<Vec<Pair>, AllocFailed<P
 }
 
 /// Pairs with those of a candidate behind them.
-#[tactic(auto, using(crate::proofs::WalkEnds::candidate_is, crate::proofs::WalkEnds::pairs_join, crate::proofs::NextBrackets::all_seats))]
+#[tactic(auto, using(crate::proofs::WalkEnds::candidate_is, crate::proofs::WalkEnds::pairs_join))]
 fn with_pairs(
     field: &Field,
     reached: &Reached,
@@ -290,14 +290,13 @@ fn walk_on(
     let (mut number, mut moved_down, mut pairs) = (1, Seats::new(), Vec::new(alloc));
     let (mut rest, mut budget) = (all, budget);
     loop {
-        let Some((first, others)) = rest.split_first() else {
+        if rest.is_empty() {
             return Ok(Ended::Paired {
                 pairs,
                 bye: moved_down,
             });
-        };
-        let count = front_with(field, field.score(*first), others) + 1;
-        let (group, lower) = rest.split_at(count);
+        }
+        let (group, lower) = split_first_group(field, rest);
         if lower.is_empty() {
             let last = bracket(number, Kind::Last, &moved_down, group);
             return final_bracket(alloc, field, last, asked, budget, pairs);

@@ -1,8 +1,8 @@
 -- The answer and the steps of one player more, from those of the players behind him.
-use Rattle.std.proofs.Common.{◌-◌, ◌+◌, suc, length, arith}
+use Rattle.std.proofs.Common.{◌≡◌, ℕ, ◌-◌, ◌+◌, ◌*◌, suc, length, subst, arith}
 use Rattle.std.specs.Prelude.{if◌then◌else◌}
-use Rattle.dutch_pair.specs.Completion.{can_cover, left_over, most}
-use Rattle.dutch_pair.proofs.PairSearch.{told_by_pairs, told_by_bye, spent_by_pairs, spent_by_bye, odd_unpaired, told_by_partner, spends-within, takes-found}
+use Rattle.dutch_pair.specs.Completion.{can_cover, left_over, most, Spends}
+use Rattle.dutch_pair.proofs.PairSearch.{told_by_pairs, told_by_bye, spent_by_pairs, spent_by_bye, odd_unpaired, told_by_partner, partner_fails, all_fail, spends-within, takes-found}
 use Rattle.dutch_pair.proofs.completion.+search.Goals as goal
 
 pub can_pair-returns-then-later-eq0-clause-answer : goal.can_pair-returns-then-later-eq0-clause-answer
@@ -43,6 +43,31 @@ can_pair-returns-in_default-pair_first g t c =
       taken = takes-found c.pair_first.result (n + 1) n (suc n) (if c.args.bye then suc n else 0) c.args.budget.now c.args.budget.now c.pair_first.new.budget
           (omega arith) (omega arith) c.in_default-pair_first.not-No c.pair_first.ensures.taken;
     })
+
+pub pair_first-loop-place-preserved : goal.pair_first-loop-place-preserved
+pair_first-loop-place-preserved g t c =
+    let meets = g.R.Rule.meets c.args.rule.now in
+    let n = length c.args.later.now in
+    let m = most (n - 1) c.args.bye in
+    record {
+      same = partner_fails (meets c.args.first) (can_cover meets (left_over c.args.bye (g.R.Rule.may_be_left c.args.rule.now)) (n - 1)) c.args.later.now
+          c.loop-place.place c.loop-place-test.true c.in-No.ensures.answer c.loop-place.invariant.same;
+      steps = spends-within (c.loop-place.place + 1) c.loop-place.place m c.args.budget.now c.loop-place.budget c.pair_with.new.budget
+          (omega arith) c.loop-place.invariant.steps c.in-No.ensures.steps;
+      taken = omega (arith, c.loop-place.invariant.taken, c.in-No.ensures.taken);
+    }
+
+pub pair_first-returns-clause-answer : goal.pair_first-returns-clause-answer
+pair_first-returns-clause-answer g t c =
+    let meets = g.R.Rule.meets c.args.rule.now in
+    all_fail (meets c.args.first) (can_cover meets (left_over c.args.bye (g.R.Rule.may_be_left c.args.rule.now)) (length c.args.later.now - 1)) c.args.later.now
+    c.loop-place.place c.loop-place-test.false c.loop-place.invariant.same
+
+pub pair_first-returns-clause-steps : goal.pair_first-returns-clause-steps
+pair_first-returns-clause-steps g t c =
+    let m = most (length c.args.later.now - 1) c.args.bye in
+    let all : c.loop-place.place ≡ length c.args.later.now = omega arith in
+    subst (λ (k : ℕ). Spends (k * (1 + m)) c.args.budget.now c.loop-place.budget) all c.loop-place.invariant.steps
 
 pub pair_first-returns-in_default : goal.pair_first-returns-in_default
 pair_first-returns-in_default g t c =

@@ -8,8 +8,8 @@ use Rattle.dutch_pair.specs.declared.walk.Ended.{Ended}
 use Rattle.dutch_pair.specs.Ends.{Ends, IsAhead}
 use Rattle.dutch_pair.proofs.walk.walk_on.Given as goal
 
-abbrev pub invariant-loop-first : goal.invariant-loop-first
-invariant-loop-first l = record {
+abbrev pub invariant-loop-rest : goal.invariant-loop-rest
+invariant-loop-rest l = record {
   tells : (ended : Ended) → Ends l.field l.limit l.asked l.number l.pairs.items (brackets l.field l.number l.moved_down.items (scoregroups l.field l.rest)) ended
       → Ends l.field l.limit l.asked 1 [] (brackets l.field 1 [] (scoregroups l.field (everybody l.field))) ended;
   goes : Goes l.field l.moved_down.items l.rest;
@@ -20,5 +20,5 @@ invariant-loop-first l = record {
   pairs : AllByRecursion (IsPair l.field) l.pairs.items;
 }
 
-abbrev pub decreases-loop-first : goal.decreases-loop-first
-decreases-loop-first l = length l.rest
+abbrev pub decreases-loop-rest : goal.decreases-loop-rest
+decreases-loop-rest l = length l.rest
