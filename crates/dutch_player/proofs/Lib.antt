@@ -1,3 +1,4 @@
 pub mod RankLemmas
 pub mod LawLemmas
 pub mod PresentLemmas
+pub mod ColourLemmas

@@ -14,5 +14,3 @@ mod present;
 mod ranking;
 mod refusals;
 mod seat;
-#[cfg(test)]
-mod tests;

@@ -1,22 +1,15 @@
 // Who may meet whom (C.04.3 C.1, C.3).
-ghost use Rattle.std.specs.Prelude.{◌≡◌, ◌==◌};
-ghost use Rattle.std.specs.List.{list_any};
+ghost use Rattle.std.specs.Prelude.{◌≡◌};
 ghost use Rattle.dutch_player.specs.SeatOf.{facts_in};
 ghost use Rattle.dutch_player.specs.Meetings.{has_met, have_met, is_absolute, clash};
 
 use crate::preference::{Kind, Pref, is_same};
 use crate::seat::Seat;
 
-fn names(opponents: &[u16], start: u16) -> bool
-    ensures { result ≡ list_any (λ s. s == start) opponents.now }
-{
-    opponents.iter().any(|opponent| *opponent == start)
-}
-
 fn has_met(a: &Seat, b: &Seat) -> bool
     ensures { result ≡ has_met (facts_in a.now) (facts_in b.now) }
 {
-    names(&a.opponents, b.start)
+    a.opponents.contains(&b.start)
 }
 
 /// Whether two players have played a game with each other.

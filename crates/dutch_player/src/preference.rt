@@ -68,12 +68,13 @@ pub(crate) fn whites(played: &[Colour]) -> usize
     played.iter().filter(|colour| is_white(*colour)).count()
 }
 
-/// How many games were played with black.
+/// How many games were played with black: all that were not played with white.
+#[tactic(auto, using(crate::proofs::ColourLemmas::of_both))]
 pub(crate) fn blacks(played: &[Colour]) -> usize
     ensures value { result ≡ blacks played.now }
     ensures within { result ≤ length played.now }
 {
-    played.iter().filter(|colour| is_black(*colour)).count()
+    played.len() - whites(played)
 }
 
 /// Games with white minus games with black.

@@ -10,7 +10,5 @@ mod ranking;
 mod refusals;
 pub mod row;
 pub mod standings;
-#[cfg(test)]
-mod tests;
 
 pub use standings::table;

@@ -117,6 +117,3 @@ impl<W: Write> Sink for Counted<W> {
         }
     }
 }
-
-#[cfg(test)]
-mod tests;

@@ -25,6 +25,3 @@ mod writing;
 
 pub use reading::read;
 pub use writing::write;
-
-#[cfg(test)]
-mod tests;

@@ -200,6 +200,3 @@ impl<'a> Report<'a> {
         })
     }
 }
-
-#[cfg(test)]
-mod tests;

@@ -27,7 +27,6 @@ fn put_blanks<W: Sink>(w: &mut W, count: usize) -> Result<(), Failed>
 }
 
 // A text at the right of four columns.
-#[tactic(auto, using(crate::proofs::OutputLemmas::put_both, crate::proofs::OutputLemmas::put_neither))]
 fn put_right<W: Sink>(w: &mut W, text: &[u8]) -> Result<(), Failed>
     ensures { Puts (right_in_four text.now) (use_of W.held W.failures w.old w.new) result }
 {
@@ -43,7 +42,6 @@ fn put_number<W: Sink>(w: &mut W, number: u16) -> Result<(), Failed>
 }
 
 // Half points as points with one decimal.
-#[tactic(auto, using(crate::proofs::OutputLemmas::put_both, crate::proofs::OutputLemmas::put_neither))]
 fn put_decimal<W: Sink>(w: &mut W, whole: &[u8], points: u16) -> Result<(), Failed>
     requires { whole.now ≡ decimal (points / 2) }
     ensures { Puts (points_text points) (use_of W.held W.failures w.old w.new) result }
@@ -72,7 +70,6 @@ fn put_points_field<W: Sink>(w: &mut W, points: Option<u16>) -> Result<(), Faile
 }
 
 // A text at the left of some columns.
-#[tactic(auto, using(crate::proofs::OutputLemmas::put_both, crate::proofs::OutputLemmas::put_neither))]
 fn put_left<W: Sink>(w: &mut W, utf8: bool, width: usize, text: &[u8]) -> Result<(), Failed>
     requires { width ≤ 72 }
     ensures { Puts (left_in utf8 width text.now) (use_of W.held W.failures w.old w.new) result }
@@ -116,7 +113,6 @@ fn outcome_letter(rated: bool, got: Outcome) -> u8
 }
 
 // Opponent, colour and the letter of the result.
-#[tactic(auto, using(crate::proofs::OutputLemmas::put_both, crate::proofs::OutputLemmas::put_neither))]
 fn put_meeting<W: Sink>(
     w: &mut W,
     opponent: u16,
@@ -178,7 +174,6 @@ fn put_player<W: Sink>(w: &mut W, utf8: bool, player: &Player<'_>) -> Result<(),
 }
 
 // A line that is carried, with its end.
-#[tactic(auto, using(crate::proofs::OutputLemmas::put_both, crate::proofs::OutputLemmas::put_neither))]
 fn put_line<W: Sink>(w: &mut W, line: &[u8]) -> Result<(), Failed>
     ensures { Puts (line.now ++ (10 ∷ [])) (use_of W.held W.failures w.old w.new) result }
 {
@@ -233,6 +228,3 @@ pub fn write<W: Sink>(report: &Report<'_>, w: &mut W) -> Result<(), Failed>
     }
     Ok(())
 }
-
-#[cfg(test)]
-mod tests;
