@@ -9,3 +9,4 @@ pub mod ListingLemmas
 pub mod TableLemmas
 pub mod AskedLemmas
 pub mod PairLemmas
+pub mod MemberLemmas

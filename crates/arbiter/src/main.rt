@@ -5,6 +5,8 @@ ghost use Rattle.std.specs.Prelude.{◌≡◌, ◌≢◌};
 ghost use Rattle.std.specs.IoError.{error_kind};
 
 mod arguments;
+#[cfg(test)]
+mod below;
 mod candidates;
 mod check;
 mod commands;

@@ -2,7 +2,7 @@
 ghost use Rattle.std.specs.Prelude.{◌≡◌, ◌≤◌, ◌+◌, IfOk, map};
 ghost use Rattle.arbiter.specs.Commands.{Answers};
 ghost use Rattle.arbiter.specs.Known.{CanBeAnswered};
-ghost use Rattle.arbiter.specs.Statuses.{out_of_memory};
+ghost use Rattle.arbiter.specs.Statuses.{out_of_memory, read_fault};
 ghost use Rattle.arbiter.specs.Devices.{reading_of};
 ghost use Rattle.trf16.specs.Output.{use_of};
 ghost use Rattle.arbiter.specs.Input.{most_read};
@@ -78,10 +78,7 @@ fn reply_to_request<R: Source>(alloc: Global, request: Request<'_>, reader: &mut
             Ok(reply) => reply,
             Err(AllocError) => out_of_memory(),
         },
-        Err(InputFault::Read) => Reply {
-            status: Status::Trouble,
-            text: Text::Fixed("device: read failed\n"),
-        },
+        Err(InputFault::Read) => read_failed(),
         Err(InputFault::Memory) => out_of_memory(),
     }
 }
@@ -97,6 +94,16 @@ fn answer(alloc: Global, request: Request<'_>, input: &[u8]) -> Result<Reply, Al
         Request::Candidates(options) => candidates(alloc, &options, input),
         Request::Standings(options) => standings(alloc, options.keys.as_slice(), input),
         Request::Pair(options) => pair(alloc, options, input),
+    }
+}
+
+// A call of the source failed.
+fn read_failed() -> Reply
+    ensures { answer_of result ≡ read_fault }
+{
+    Reply {
+        status: Status::Trouble,
+        text: Text::Fixed("device: read failed\n"),
     }
 }
 

@@ -33,15 +33,23 @@ fn players_answer_each_other(rt: HostRuntime) -> Result<(), AllocError> {
 #[test]
 fn own_opponent_and_points(rt: HostRuntime) -> Result<(), AllocError> {
     let alloc = rt.alloc();
-    let own = line(alloc, 1, "", "     1 w 1")?;
-    let ended = verdict(alloc, own.as_str());
-    assert!(rt; has_refused(&ended, "refused: player 1 round 1: own opponent\n"));
-    let missing = line(alloc, 1, "", "     2 w 1")?;
-    let ended = verdict(alloc, missing.as_str());
-    assert!(rt; has_refused(&ended, "refused: player 1 round 1: no such opponent\n"));
-    let points = line(alloc, 1, "0.5", "")?;
-    let ended = verdict(alloc, points.as_str());
-    assert!(rt; has_refused(&ended, "refused: player 1: points\n"));
+    let table = [
+        (
+            "",
+            "     1 w 1",
+            "refused: player 1 round 1: own opponent\n",
+        ),
+        (
+            "",
+            "     2 w 1",
+            "refused: player 1 round 1: no such opponent\n",
+        ),
+        ("0.5", "", "refused: player 1: points\n"),
+    ];
+    for (points, cells, text) in table {
+        let player = line(alloc, 1, points, cells)?;
+        assert!(rt; has_refused(&verdict(alloc, player.as_str()), text));
+    }
     let mut other = String::from_str(alloc, "XXS x\n")?;
     let bye = line(alloc, 1, "3.0", "  0000 - U")?;
     other.push_str(bye.as_str())?;

@@ -1,0 +1,158 @@
+// Completion under rules that bar nothing, and that bar every meeting, and the rule of a small report.
+
+use crate::below::lines::{Line, field_of};
+use dutch_order::rules::Rule;
+use dutch_order::steps::Budget;
+use dutch_pair::completion::{Answer, completes};
+use dutch_pair::reached::Kind;
+use dutch_pair::round::{BracketAt, Outcome, bracket_at, pair_round};
+use dutch_pair::seats::seats;
+use dutch_player::field::Field;
+use std::alloc::Global;
+use std::test::Fail;
+use trf16::cell::Colour;
+
+/// A rule that allows every bye, and every meeting or none.
+#[derive(Drop)]
+struct All {
+    meetings: bool,
+}
+
+impl Rule for All {
+    ghost use Rattle.std.specs.Prelude.{true, refl};
+
+    ghost meets = { λ r a b. r.meetings };
+
+    ghost may_be_left = { λ r a. true };
+
+    fn may_meet(&self, _a: u16, _b: u16) -> bool {
+        self.meetings
+    }
+
+    fn last_ok(&self, _a: u16) -> bool {
+        true
+    }
+
+    ghost symmetric = { λ r a b p q. refl };
+}
+
+const FREE: All = All { meetings: true };
+
+const BARRED: All = All { meetings: false };
+
+#[test]
+fn five_players(rt: HostRuntime) {
+    for (rule, wanted) in [(&FREE, Answer::Yes), (&BARRED, Answer::No)] {
+        let mut budget = Budget { limit: 35, used: 0 };
+        let answer = completes(&[1, 2, 3, 4, 5], rule, &mut budget);
+        assert_eq!(rt; answer, wanted);
+    }
+}
+
+#[test]
+fn no_players(rt: HostRuntime) {
+    let mut budget = Budget { limit: 0, used: 0 };
+    assert_eq!(rt; completes(&[], &BARRED, &mut budget), Answer::Yes);
+    assert_eq!(rt; budget.used, 0);
+}
+
+#[test]
+fn a_limit_one_too_low(rt: HostRuntime) {
+    let players = [1, 2, 3, 4];
+    let mut enough = Budget { limit: 8, used: 6 };
+    assert_eq!(rt; completes(&players, &FREE, &mut enough), Answer::Yes);
+    let mut low = Budget { limit: 7, used: 6 };
+    assert_eq!(rt; completes(&players, &FREE, &mut low), Answer::Undecided);
+    assert_eq!(rt; (enough.used, low.used), (8, 7));
+}
+
+// Two who have met, and two whose game was a forfeit: by rank 3, 1, 2, 4.
+const FOUR: [Line<'static>; 4] = [
+    ("001    1", "   2 w ="),
+    ("001    2", "   1 b ="),
+    ("001    3", "   4 w +"),
+    ("001    4", "   3 b -"),
+];
+
+// No player has the number 4.
+#[test]
+fn seats_that_meet(rt: HostRuntime) -> Result<(), Fail> {
+    let field = field_of(rt.alloc(), &FOUR, Some(5), Some(Colour::White))?;
+    let rule = seats(&field);
+    let table = [
+        (1, 2, false),
+        (0, 3, true),
+        (2, 0, true),
+        (0, 0, false),
+        (0, 4, false),
+    ];
+    for (a, b, meets) in table {
+        assert_eq!(rt; rule.may_meet(a, b), meets, "{a} and {b}");
+    }
+    let mut budget = Budget { limit: 9, used: 0 };
+    assert_eq!(rt; completes(&[1, 2], &rule, &mut budget), Answer::No);
+    Ok(())
+}
+
+// The first won by forfeit, and no player has the number 4.
+#[test]
+fn seats_for_the_bye(rt: HostRuntime) -> Result<(), Fail> {
+    let field = field_of(rt.alloc(), &FOUR, Some(5), Some(Colour::White))?;
+    let rule = seats(&field);
+    for (seat, may) in [(0, false), (1, true), (4, false)] {
+        assert_eq!(rt; rule.last_ok(seat), may, "{seat}");
+    }
+    let mut budget = Budget { limit: 9, used: 0 };
+    assert_eq!(rt; completes(&[0, 1, 2], &rule, &mut budget), Answer::Yes);
+    Ok(())
+}
+
+// Two with a full-point bye above two who have met: the first bracket cannot keep its pair.
+const PAIR_GIVEN_UP: [Line<'static>; 4] = [
+    ("001    1", "0000 - F"),
+    ("001    2", "0000 - F"),
+    ("001    3", "   4 w ="),
+    ("001    4", "   3 b ="),
+];
+
+#[test]
+fn a_pair_is_given_up(rt: HostRuntime) -> Result<(), Fail> {
+    let field = field_of(rt.alloc(), &PAIR_GIVEN_UP, Some(3), Some(Colour::White))?;
+    let wanted = [(1, 3), (4, 2)];
+    match pair_round(rt.alloc(), &field, 1000)? {
+        Outcome::Paired(boards) => assert_eq!(rt; boards.as_slice(), wanted.as_slice()),
+        _ => assert!(rt; false, "not paired"),
+    }
+    match pair_round(rt.alloc(), &field, 1)? {
+        Outcome::Undecided { bracket, used } => assert_eq!(rt; (bracket, used), (1, 1)),
+        _ => assert!(rt; false, "decided"),
+    }
+    Ok(())
+}
+
+// The kind of a bracket and its pairs, or that the round ends before it. Brackets are counted from 1.
+fn kind_and_pairs(
+    alloc: Global,
+    field: &Field,
+    number: u16,
+) -> Result<Option<(Kind, usize)>, Fail> {
+    match bracket_at(alloc, field, 1000, number.max(1))? {
+        BracketAt::Bracket { reached, shape } => Ok(Some((reached.kind(), shape.pairs))),
+        BracketAt::NotReached => Ok(None),
+        _ => Err(Fail::new("not paired, or undecided")),
+    }
+}
+
+#[test]
+fn brackets_of_a_pair_given_up(rt: HostRuntime) -> Result<(), Fail> {
+    let field = field_of(rt.alloc(), &PAIR_GIVEN_UP, Some(3), Some(Colour::White))?;
+    let table = [
+        (1, Some((Kind::Ordinary, 1))),
+        (3, Some((Kind::Collapsed, 2))),
+        (4, None),
+    ];
+    for (number, wanted) in table {
+        assert_eq!(rt; kind_and_pairs(rt.alloc(), &field, number)?, wanted);
+    }
+    Ok(())
+}

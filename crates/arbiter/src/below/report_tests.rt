@@ -1,0 +1,135 @@
+// Each call over a small report, whose answers follow from TRF16's columns by hand.
+use std::test::Fail;
+use trf16::cell::{Bye, Cell, Colour, Outcome};
+use trf16::cells::{cell_at, front, points_of};
+use trf16::fault::{Excess, Fault};
+use trf16::kind::Kind;
+use trf16::read;
+use trf16::report::Report;
+
+// Round 1: 1 beats 2, and 3 has the pairing-allocated bye. Round 2: 1 has half a point, 2 wins against 3 by forfeit. 3 does not play on.
+const REPORT: &[u8] =
+    b"XXR 5\nxxc BLACK1\n012 An evening open\n001    1                                                                         1.5          2 w 1  0000 - H\n001    2                                                                                      1 b 0     3 w +\n001    3                                                                         1,0       0000 - U     2 b -  0000 - Z\nXXZ 2 9\n";
+
+// What the report above says, each question in one place.
+
+fn some_cells_of(report: &Report<'_>) -> [Cell; 4] {
+    [
+        report.cell(1, 1),
+        report.cell(1, 2),
+        report.cell(3, 2),
+        report.cell(3, 4),
+    ]
+}
+
+fn lengths_of_carried_lines(report: &Report<'_>) -> [Option<usize>; 3] {
+    [
+        report.carried(3).map(|line| line.len()),
+        report.carried(4).map(|line| line.len()),
+        report.carried(8).map(|line| line.len()),
+    ]
+}
+
+fn some_points(report: &Report<'_>) -> [u16; 3] {
+    [
+        report.points(1, 1),
+        report.points(1, 2),
+        report.points(3, 32),
+    ]
+}
+
+fn absences(report: &Report<'_>) -> [bool; 3] {
+    [report.absent(1), report.absent(2), report.absent(3)]
+}
+
+#[test]
+fn players_and_cells(rt: HostRuntime) -> Result<(), Fail> {
+    let report = read(rt.alloc(), REPORT)?;
+    let won = Cell::Game {
+        opponent: 2,
+        colour: Colour::White,
+        rated: true,
+        got: Outcome::Win,
+    };
+    let forfeit = Cell::Forfeit {
+        opponent: 2,
+        colour: Some(Colour::Black),
+        won: false,
+    };
+    let cells = [won, Cell::Bye(Bye::Half), forfeit, Cell::Blank];
+    assert_eq!(rt; some_cells_of(&report), cells);
+    assert!(rt; report.players().len() == 3 && report.rounds_played() == 2);
+    Ok(())
+}
+
+#[test]
+fn what_a_cell_says(rt: HostRuntime) {
+    let forfeit = Cell::Forfeit {
+        opponent: 2,
+        colour: Some(Colour::Black),
+        won: false,
+    };
+    assert_eq!(rt; forfeit.opponent(), Some(2));
+    assert_eq!(rt; forfeit.colour(), Some(Colour::Black));
+    assert_eq!(rt; forfeit.half_points(), 0);
+    assert_eq!(rt; Cell::Bye(Bye::Allocated).half_points(), 2);
+}
+
+#[test]
+fn lines_and_points(rt: HostRuntime) -> Result<(), Fail> {
+    let report = read(rt.alloc(), REPORT)?;
+    assert_eq!(rt;
+        (report.total_rounds(), report.initial()),
+        (Some(5), Some(Colour::Black))
+    );
+    assert_eq!(rt; lengths_of_carried_lines(&report), [Some(19), None, None]);
+    assert_eq!(rt; some_points(&report), [2, 3, 2]);
+    assert_eq!(rt; absences(&report), [false, true, true]);
+    assert_eq!(rt; report.unsupported(&[Kind::Rank, Kind::Xxa]), None);
+    Ok(())
+}
+
+#[test]
+fn first_game_without_a_result(rt: HostRuntime) -> Result<(), Fail> {
+    assert_eq!(rt; read(rt.alloc(), REPORT)?.unfinished(), None);
+    let report = read(
+        rt.alloc(),
+        b"001    7                                                                                                2 w\n001    2                                                                                                7 b\n",
+    )?;
+    assert_eq!(rt; report.unfinished(), Some((7, 2)));
+    Ok(())
+}
+
+#[test]
+fn some_cells(rt: HostRuntime) {
+    let cells = [Cell::Bye(Bye::Half), Cell::Blank, Cell::Bye(Bye::Full)];
+    assert_eq!(rt; cell_at(&cells, 1), Cell::Bye(Bye::Half));
+    assert_eq!(rt; cell_at(&cells, 4), Cell::Blank);
+    assert_eq!(rt; points_of(&cells), 3);
+    assert_eq!(rt; points_of(front(&cells, 2)), 1);
+    assert_eq!(rt; front(&cells, 4).len(), 3);
+}
+
+#[test]
+fn first_line_of_a_kind(rt: HostRuntime) -> Result<(), Fail> {
+    let report = read(rt.alloc(), b"xxs 1\nXXC rank\nXXA\n001    1\n")?;
+    assert_eq!(rt; report.unsupported(&[Kind::Xxa]), Some(3));
+    assert_eq!(rt; report.unsupported(&[Kind::Xxa, Kind::Rank]), Some(2));
+    assert_eq!(rt; report.unsupported(&[Kind::Xxp]), None);
+    Ok(())
+}
+
+#[test]
+fn first_fault(rt: HostRuntime) {
+    let fault = |bytes: &[u8]| read(rt.alloc(), bytes).err();
+    assert_eq!(rt; fault(b""), Some(Fault::NoPlayers));
+    assert_eq!(rt; fault(b"001"), Some(Fault::BadNumber { line: 1 }));
+    assert_eq!(rt;
+        fault(b"001    1\r\n001    1"),
+        Some(Fault::Duplicate { line: 2 })
+    );
+    assert_eq!(rt;
+        fault(b"XXR 33\r001    1"),
+        Some(Fault::TooMany(Excess::Rounds))
+    );
+}
