@@ -19,3 +19,4 @@ pub mod Levels
 pub mod Listings
 pub mod Cursors
 pub mod CursorLists
+pub mod Prefixes

@@ -1,6 +1,6 @@
 -- What a call that may stop at a limit answers.
 use Rattle.std.specs.Prelude.{◌≡◌, ℕ, Bool, true, false, List, [], ◌∷◌, ◌++◌}
-use Rattle.std.specs.List.{list_all}
+use Rattle.std.specs.List.{list_all, AllByRecursion}
 use Rattle.dutch_order.specs.declared.steps.Step.{Step}
 use Rattle.dutch_order.specs.declared.steps.Step.TheVariants.{Found, End, Undecided}
 
@@ -18,6 +18,10 @@ MatchStep Undecided found ended undecided = undecided
 -- a list that goes on as another, once some of its beginning is skipped that is all without interest
 abbrev pub Skips : {T : Type 0} → (T → Bool) → List T → List T → Type 0
 Skips {T} dull before after = (skipped : List T) × (before ≡ skipped ++ after) × (list_all dull skipped ≡ true)
+
+-- a list that goes on as another, once some of its beginning is skipped of which each is idle
+abbrev pub Passes : {T : Type 0} → (T → Type 0) → List T → List T → Type 0
+Passes {T} Idle before after = (skipped : List T) × (before ≡ skipped ++ after) × AllByRecursion Idle skipped
 
 -- what a call hands out of the list to come before it, where it may skip what is without interest
 abbrev pub HandsOut : {T : Type 0} → (T → Bool) → List T → List T → Step T → Type 0

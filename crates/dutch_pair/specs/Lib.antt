@@ -19,3 +19,9 @@ pub mod Walk
 pub mod Kept
 pub mod Ends
 pub mod Everybody
+pub mod Beginnings
+pub mod ColourFloors
+pub mod PsdFloors
+pub mod Floors
+pub mod Ghosts
+pub mod Aims

@@ -1,0 +1,26 @@
+-- Beginnings of arrangements: what is fixed while a bracket's arrangements are gone through (C.04.3 B.6, B.7).
+use Rattle.std.specs.Prelude.{◌≡◌, ℕ, List, ◌++◌}
+use Rattle.dutch_order.specs.declared.prefix.Filling.{Filling}
+use Rattle.dutch_order.specs.declared.prefix.Filling.TheVariants.{S1, S2, S2r}
+use Rattle.dutch_order.specs.Arrangements.{Arrangement}
+
+-- the lists that are fixed so far, and which of them is being filled
+pub record Beginning : Type 0 where
+  pub filling : Filling
+  pub lists : Arrangement
+
+-- a list begins with another
+pub record GoesOn (front list : List ℕ) : Type 0 where
+  pub rest : List ℕ
+  pub is : list ≡ front ++ rest
+
+-- an arrangement begins with these lists: before S1 is chosen every one does; while S2 is filled S1 is its own and its S2 goes on;
+-- while S2R is filled S1, S2 and S1R are its own and its S2R goes on
+abbrev pub BeginsAt : Filling → Arrangement → Arrangement → Type 0
+BeginsAt S1 begun a = Unit {0}
+BeginsAt S2 begun a = (begun.s1 ≡ a.s1) × GoesOn begun.s2 a.s2
+BeginsAt S2r begun a = (begun.s1 ≡ a.s1) × (begun.s2 ≡ a.s2) × (begun.s1r ≡ a.s1r) × GoesOn begun.s2r a.s2r
+
+-- an arrangement begins so
+abbrev pub Begins : Beginning → Arrangement → Type 0
+Begins beginning a = BeginsAt beginning.filling beginning.lists a

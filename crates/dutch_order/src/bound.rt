@@ -1,0 +1,31 @@
+// What can tell that no candidate with a beginning is of interest, so that a listing may leave them all out.
+ghost use Rattle.std.specs.Prelude.{◌≡◌, ℕ, Bool, true};
+ghost use Rattle.dutch_order.specs.Arrangements.{Arrangement, Frame, candidates};
+ghost use Rattle.dutch_order.specs.Keys.{IsIn};
+ghost use Rattle.dutch_order.specs.Prefixes.{Begins};
+ghost use Rattle.dutch_order.specs.declared.bracket.Shape.{Shape};
+
+use crate::prefix::Prefix;
+
+/// Which candidates of a bracket and a shape are without interest, told by how they begin. It answers for all beginnings.
+pub trait Bound {
+    /// The bracket whose candidates it knows.
+    ghost frame: { Self → Frame };
+
+    /// Their shape.
+    ghost shape: { Self → Shape };
+
+    /// Who may meet in it, by their numbers.
+    ghost meets: { Self → ℕ → ℕ → Bool };
+
+    /// Who may be the one left over in it.
+    ghost may_be_left: { Self → ℕ → Bool };
+
+    /// A candidate is without interest.
+    ghost is_dull: { Self → Arrangement → Bool };
+
+    /// Whether it knows that every candidate with a beginning is without interest.
+    fn cannot_win(&self, prefix: &Prefix<'_>) -> bool
+        ensures { result ≡ true → (a : Arrangement) → IsIn a (candidates (meets self.now) (may_be_left self.now) (frame self.now) (shape self.now))
+            → Begins prefix.now a → is_dull self.now a ≡ true };
+}

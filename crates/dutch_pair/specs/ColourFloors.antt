@@ -1,0 +1,88 @@
+-- How many players miss their colour preference at least, whatever pairs are added to a beginning (C.04.3 C.10, C.11).
+use Rattle.std.specs.Prelude.{◌≡◌, ℕ, ◌+◌, ◌-◌, ◌*◌, ◌==◌, Bool, true, false, not, ◌&&◌, List, [], ◌∷◌, filter, length, max, zero, suc}
+use Rattle.std.specs.List.{list_any}
+use Rattle.std.specs.Option.{option_map_or}
+use Rattle.trf16.specs.declared.cell.Colour.{Colour}
+use Rattle.trf16.specs.declared.cell.Colour.TheVariants.{White, Black}
+use Rattle.dutch_order.specs.declared.bracket.Shape.{Shape}
+use Rattle.dutch_order.specs.Arrangements.{Arrangement, left_of, residents_of, remainder_pairs}
+use Rattle.dutch_player.specs.declared.preference.Kind.{Kind}
+use Rattle.dutch_player.specs.declared.preference.Kind.TheVariants.{Absolute, Strong, Mild}
+use Rattle.dutch_player.specs.Preferences.{is_same, preference}
+use Rattle.dutch_player.specs.Facts.{Facts, seat_at}
+use Rattle.dutch_pair.specs.declared.colours_missed.Miss.TheVariants.{Wide, Third, Preference, StrongPreference}
+use Rattle.dutch_pair.specs.Quality.{one_if, misses, count_in, count_with_topscorers}
+use Rattle.dutch_pair.specs.Reached.{Stand, frame_of, numbers_meet}
+use Rattle.dutch_pair.specs.Seated.{seat_of}
+use Rattle.dutch_pair.specs.Beginnings.{free, room}
+
+-- A.6: a preference that is absolute or strong
+abbrev pub is_firm : Kind → Bool
+is_firm Absolute = true
+is_firm Strong = true
+is_firm Mild = false
+
+-- 1 for a seat whose preference is this colour
+abbrev pub wants : Facts → Colour → ℕ → ℕ
+wants facts colour seat = one_if (option_map_or (λ wanted. is_same wanted.colour colour) (preference (seat_at facts seat).played) false)
+
+-- 1 for a seat whose preference is this colour, and firm
+abbrev pub wants_firmly : Facts → Colour → ℕ → ℕ
+wants_firmly facts colour seat =
+    one_if (option_map_or (λ wanted. is_firm wanted.kind && is_same wanted.colour colour) (preference (seat_at facts seat).played) false)
+
+-- what a pair adds to C.8 and C.9
+abbrev pub adds_top : Facts → ℕ × ℕ → ℕ
+adds_top facts pair = count_with_topscorers facts (misses Wide) (pair ∷ []) + count_with_topscorers facts (misses Third) (pair ∷ [])
+
+-- how many of the free players whose preference is a colour are more than can be served: each pair to make serves one of them, and
+-- each downfloater needs no colour
+abbrev pub surplus : Facts → Stand → Shape → Arrangement → Colour → ℕ
+surplus facts stand shape b colour = free (wants facts colour) stand b - room stand shape b
+
+-- the same of firm preferences
+abbrev pub surplus_firm : Facts → Stand → Shape → Arrangement → Colour → ℕ
+surplus_firm facts stand shape b colour = free (wants_firmly facts colour) stand b - room stand shape b
+
+-- C.10: how many more than those of its pairs miss in each arrangement with a beginning
+abbrev pub more_missed : Facts → Stand → Shape → Arrangement → ℕ
+more_missed facts stand shape b = max (surplus facts stand shape b White) (surplus facts stand shape b Black)
+
+-- C.11: the same, where C.8 and C.9 are those of the beginning
+abbrev pub more_missed_strong : Facts → Stand → Shape → Arrangement → ℕ
+more_missed_strong facts stand shape b = max (surplus_firm facts stand shape b White) (surplus_firm facts stand shape b Black)
+
+-- a list from behind as many as another has
+abbrev pub beyond : List ℕ → List ℕ → List ℕ
+beyond [] xs = xs
+beyond (y ∷ part) [] = []
+beyond (y ∷ part) (x ∷ xs) = beyond part xs
+
+-- two numbers may meet, and neither misses a preference
+abbrev pub suits : Facts → Stand → ℕ → ℕ → Bool
+suits facts stand x y =
+    numbers_meet facts stand x y && (count_in facts (misses Preference) (seat_of stand.seats x, seat_of stand.seats y) == 0)
+
+-- the players whom S1R still has to pair
+abbrev pub waiting : Arrangement → List ℕ
+waiting b = beyond b.s2r b.s1r
+
+-- and those with whom
+abbrev pub pool : Facts → Stand → Arrangement → List ℕ
+pool facts stand b = left_of (left_of (left_of (residents_of (frame_of facts stand)) b.s2) b.s1r) b.s2r
+
+-- of those who wait how many suit nobody of the pool
+abbrev pub lonely_first : Facts → Stand → Arrangement → ℕ
+lonely_first facts stand b = length (filter (λ x. not (list_any (suits facts stand x) (pool facts stand b))) (waiting b))
+
+-- of the pool how many suit nobody who waits
+abbrev pub lonely_second : Facts → Stand → Arrangement → ℕ
+lonely_second facts stand b = length (filter (λ y. not (list_any (λ x. suits facts stand x y) (waiting b))) (pool facts stand b))
+
+-- the residents who go down with a shape
+abbrev pub residents_down : Stand → Shape → ℕ
+residents_down stand shape = (length stand.seats - stand.mdps - shape.mdps) - 2 * remainder_pairs shape
+
+-- C.10: lonely players miss, but for residents of the pool who go down
+abbrev pub lonely : Facts → Stand → Shape → Arrangement → ℕ
+lonely facts stand shape b = max (lonely_first facts stand b) (lonely_second facts stand b - residents_down stand shape)
