@@ -10,6 +10,7 @@ pub mod DownLemmas
 pub mod EligibleLemmas
 pub mod LeastPsd
 pub mod FlatBrackets
+pub mod FloorOrder
 pub mod GroupLemmas
 pub mod MoverSeats
 pub mod NextBrackets

@@ -1,0 +1,56 @@
+-- A floor is not beaten: a quality that is nowhere in front of another is not better than it (C.04.3 C.6 to C.19). Two qualities are
+-- compared item by item, and the first item that differs decides. There the quality stands behind its floor, since it is in front of
+-- it nowhere; at C.11 it may be in front where C.8 or C.9 differs, and then C.8 or C.9 has decided before.
+use Rattle.std.proofs.Common.{◌≡◌, ℕ, ◌<◌, ◌≤◌, false, List, refl, sym, ap, arith}
+use Rattle.std.specs.declared.cmp.Ordering.{Ordering}
+use Rattle.std.specs.declared.cmp.Ordering.TheVariants.{Less, Equal, Greater}
+use Rattle.std.specs.Ordering.{nat_cmp, is_lt, ordering_then}
+use Rattle.std.specs.Cmp.Lexicographic.{slice_cmp}
+use Rattle.std.proofs.lemmas.Cmp.{ranked, by_ranked}
+use Rattle.dutch_pair.specs.Quality.{Quality, compared_by_colours, compared_by_floats, compared_by_differences, is_better}
+use Rattle.dutch_pair.specs.NextBracket.{is_lower}
+use Rattle.dutch_pair.specs.Floors.{IsFloor}
+
+then_not : (o others : Ordering) → is_lt o ≡ false → is_lt others ≡ false → is_lt (ordering_then o others) ≡ false
+then_not Less others first later = first
+then_not Equal others first later = later
+then_not Greater others first later = refl
+
+-- by a list that is not lower, and then by others
+list_not : (xs ys : List ℕ) (others : Ordering) → is_lower xs ys ≡ false → is_lt others ≡ false → is_lt (ordering_then (slice_cmp nat_cmp xs ys) others) ≡ false
+list_not xs ys others first later = then_not (slice_cmp nat_cmp xs ys) others first later
+
+-- by a number that is not smaller, and where it is the same by others
+number_not : (x y : ℕ) (others : Ordering) → y ≤ x → (x ≡ y → is_lt others ≡ false) → is_lt (ordering_then (nat_cmp x y) others) ≡ false
+number_not x y others first later =
+    by_ranked (x < y) (x ≡ y) (y < x) (nat_cmp x y) (ranked x y (nat_cmp x y) refl)
+    (λ e less. absurd (omega (arith, first, less)))
+    (λ e same. then_not (nat_cmp x y) others (ap is_lt e) (later same))
+    (λ e more. ap (λ o. is_lt (ordering_then o others)) e)
+
+module _ (f q : Quality) (floor : IsFloor f q) where
+  differences_not : is_lt (compared_by_differences q f) ≡ false
+  differences_not =
+      list_not q.down_again_by f.down_again_by _ floor.down_again_by
+      (list_not q.up_again_by f.up_again_by _ floor.up_again_by
+      (list_not q.down_again_before_by f.down_again_before_by _ floor.down_again_before_by floor.up_again_before_by))
+
+  floats_not : is_lt (compared_by_floats q f) ≡ false
+  floats_not =
+      number_not q.down_again f.down_again _ floor.down_again (λ _.
+      number_not q.up_again f.up_again _ floor.up_again (λ _.
+      number_not q.down_again_before f.down_again_before _ floor.down_again_before (λ _.
+      number_not q.up_again_before f.up_again_before _ floor.up_again_before (λ _. differences_not))))
+
+  colours_not : is_lt (compared_by_colours q f) ≡ false
+  colours_not =
+      number_not q.wide_differences f.wide_differences _ floor.wide (λ wide.
+      number_not q.third_colours f.third_colours _ floor.third (λ third.
+      number_not q.missed_preferences f.missed_preferences _ floor.missed (λ _.
+      number_not q.missed_strong f.missed_strong _ (floor.strong wide third) (λ _. floats_not))))
+
+  pub not_better : is_better q f ≡ false
+  not_better =
+      list_not q.psd f.psd _ floor.psd
+      (number_not f.next_pairs q.next_pairs _ floor.next_pairs (λ pairs.
+      list_not q.next_psd f.next_psd _ (floor.next_psd (sym pairs)) colours_not))
