@@ -2,6 +2,8 @@ pub mod AllLemmas
 pub mod ArrangementParts
 pub mod BestLemmas
 pub mod BoardLemmas
+pub mod C06Psd
+pub mod C08ToC19Fixed
 pub mod ChoiceLemmas
 pub mod ColourSeats
 pub mod Copies
@@ -15,6 +17,7 @@ pub mod GroupLemmas
 pub mod MoverSeats
 pub mod NextBrackets
 pub mod PairSearch
+pub mod PairsWithBeginning
 pub mod NextGroups
 pub mod TakenSteps
 pub mod Places
@@ -25,6 +28,7 @@ pub mod ShapeLemmas
 pub mod ShapeSearch
 pub mod TellLemmas
 pub mod WalkLemmas
+pub mod FixedPairs
 pub mod FirstLemmas
 pub mod WalkEnds
 pub mod GroupWalk

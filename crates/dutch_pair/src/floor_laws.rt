@@ -1,11 +1,45 @@
 // Laws of the floors: a quality made from a beginning of an arrangement that no arrangement with this beginning is better than
 // (C.04.3 C.6 to C.19). What bounds the choice by beginnings cites them.
-ghost use Rattle.std.specs.Prelude.{◌≡◌, false};
-ghost use Rattle.dutch_pair.specs.Quality.{Quality, is_better};
-ghost use Rattle.dutch_pair.specs.Floors.{IsFloor};
+ghost use Rattle.std.specs.Prelude.{◌≡◌, ◌+◌, ◌≤◌, ℕ, List, false, map};
+ghost use Rattle.dutch_order.specs.Arrangements.{Arrangement};
+ghost use Rattle.dutch_player.specs.Facts.{Facts};
+ghost use Rattle.dutch_pair.specs.declared.colours_missed.Miss.TheVariants.{Wide, Third, Preference, StrongPreference};
+ghost use Rattle.dutch_pair.specs.Beginnings.{HasPairsOf, fixed};
+ghost use Rattle.dutch_pair.specs.Floors.{IsFloor, NotBelow, floor_with};
+ghost use Rattle.dutch_pair.specs.NextBracket.{is_lower};
+ghost use Rattle.dutch_pair.specs.Quality.{NextValue, Quality, count_in_pairs, count_with_topscorers, highest_first, is_better, misses};
+ghost use Rattle.dutch_pair.specs.Reached.{Stand};
+ghost use Rattle.dutch_pair.specs.Round.{quality_of};
+ghost use Rattle.dutch_pair.specs.Seated.{all_pairs, difference};
 
 /// C.6 to C.19: a quality that is nowhere in front of another is not better.
 #[tactic(auto, using(crate::proofs::FloorOrder::not_better))]
 pub fn a_floor_is_not_beaten()
     ensures { (f q : Quality) → IsFloor f q → is_better q f ≡ false }
+{}
+
+/// C.8, C.9, C.12 to C.19: what the pairs of a beginning make is the least that an arrangement with it makes.
+pub fn a_beginning_is_the_least()
+    ensures { (facts : Facts) (stand : Stand) (lower : List ℕ) (b a : Arrangement) → HasPairsOf b a
+        → NotBelow facts (fixed facts stand b) (quality_of facts stand lower a) }
+{}
+
+/// C.6: the PSD of an arrangement is not lower than that of the pairs of a beginning that it has.
+pub fn no_psd_is_below_that_of_fixed_pairs()
+    ensures { (facts : Facts) (stand : Stand) (lower : List ℕ) (b a : Arrangement) → HasPairsOf b a
+        → is_lower (quality_of facts stand lower a).psd (highest_first (map (difference facts) (all_pairs stand.seats b))) ≡ false }
+{}
+
+/// C.6 to C.19: no arrangement with a beginning is better than a floor, if its PSD is not lower than the floor's, if the next bracket
+/// can be no better, and if so many more players miss a preference, and a strong one where C.8 and C.9 are those of the beginning.
+pub fn a_floor_holds()
+    ensures { (facts : Facts) (stand : Stand) (lower psd : List ℕ) (next : NextValue) (m ms : ℕ) (b a : Arrangement) → HasPairsOf b a
+        → is_lower (quality_of facts stand lower a).psd psd ≡ false
+        → (quality_of facts stand lower a).next_pairs ≤ next.pairs
+        → ((quality_of facts stand lower a).next_pairs ≡ next.pairs → is_lower (quality_of facts stand lower a).next_psd next.psd ≡ false)
+        → count_in_pairs facts (misses Preference) (all_pairs stand.seats b) + m ≤ (quality_of facts stand lower a).missed_preferences
+        → ((quality_of facts stand lower a).wide_differences ≡ count_with_topscorers facts (misses Wide) (all_pairs stand.seats b)
+        → (quality_of facts stand lower a).third_colours ≡ count_with_topscorers facts (misses Third) (all_pairs stand.seats b)
+        → count_in_pairs facts (misses StrongPreference) (all_pairs stand.seats b) + ms ≤ (quality_of facts stand lower a).missed_strong)
+        → is_better (quality_of facts stand lower a) (floor_with facts stand psd next m ms b) ≡ false }
 {}

@@ -1,0 +1,129 @@
+-- What the pairs of a beginning make is the least that an arrangement with it makes (C.04.3 C.8, C.9, C.12 to C.19): the pairs that
+-- it adds and its downfloaters only add to it. So at C.8, C.9 and C.12 to C.15 there are no fewer players, and in the lists of C.16 to
+-- C.19 no difference stands less often, and of such lists, the highest first, the one with more stands behind.
+use Rattle.std.proofs.Common.{◌≡◌, ℕ, ◌+◌, ◌≤◌, Bool, false, List, [], ◌∷◌, ◌++◌, map, filter, length, refl, sym, ap, ◌∙◌, arith, length-append}
+use Rattle.std.specs.Prelude.{sum_by}
+use Rattle.std.proofs.lemmas.List.{map-append}
+use Rattle.std.proofs.lemmas.List.Elements.{filter-append}
+use Rattle.std.proofs.lemmas.List.Sums.{sum_by-append}
+use Rattle.dutch_order.specs.Arrangements.{Arrangement, down}
+use Rattle.dutch_order.specs.Draws.{Draw}
+use Rattle.dutch_player.specs.declared.float.Float.{Float}
+use Rattle.dutch_player.specs.declared.float.Float.TheVariants.{Up, Down}
+use Rattle.dutch_player.specs.Facts.{SeatFacts, Facts}
+use Rattle.trf16.specs.declared.cell.Colour.{Colour}
+use Rattle.dutch_pair.specs.declared.seated.Mover.{Mover}
+use Rattle.dutch_pair.specs.declared.colours_missed.Miss.TheVariants.{Wide, Third}
+use Rattle.dutch_pair.specs.Beginnings.{HasPairsOf, fixed}
+use Rattle.dutch_pair.specs.Floors.{NotBelow}
+use Rattle.dutch_pair.specs.NextBracket.{is_lower}
+use Rattle.dutch_pair.specs.Quality.{again, count_in, count_in_pairs, count_with_topscorers, differences, has_topscorer, highest_first, misses}
+use Rattle.dutch_pair.specs.Reached.{Stand, frame_of}
+use Rattle.dutch_pair.specs.Round.{quality_of}
+use Rattle.dutch_pair.specs.Seated.{Seated, all_pairs, by_seats, floats_down, goes_down, goes_up, going_down, going_up, is_uneven, lowest}
+use Rattle.dutch_pair.proofs.Copies.{copies, copies_append, highest_first_copies, highest_first_falls, not_lower}
+use Rattle.dutch_pair.proofs.PairsWithBeginning.{AddsUp, no_less}
+
+-- a list in which each number stands no less often is not lower
+pub more_copies : (xs ys : List ℕ) → ((d : ℕ) → copies d xs ≤ copies d ys) → is_lower (highest_first ys) (highest_first xs) ≡ false
+more_copies xs ys more =
+    not_lower (highest_first xs) (highest_first ys) (highest_first_falls xs) (highest_first_falls ys)
+    (λ d above. omega (arith, more d, highest_first_copies d xs, highest_first_copies d ys))
+
+pub pairs_add_up : (facts : Facts) (holds : SeatFacts → Colour → Bool) → AddsUp (count_in_pairs facts holds)
+pairs_add_up facts holds xs ys = sum_by-append (count_in facts holds) xs ys
+
+pub with_topscorers_add_up : (facts : Facts) (holds : SeatFacts → Colour → Bool) → AddsUp (count_with_topscorers facts holds)
+with_topscorers_add_up facts holds xs ys =
+    ap (sum_by (count_in facts holds)) (filter-append (has_topscorer facts) xs ys)
+    ∙ sum_by-append (count_in facts holds) (filter (has_topscorer facts) xs) (filter (has_topscorer facts) ys)
+
+-- what adds up over a list adds up over the members that a test finds, and over what is made of each
+filtered_add_up : {X : Type 0} (f : List X → ℕ) (test : X → Bool) → AddsUp f → AddsUp (λ xs. f (filter test xs))
+filtered_add_up f test adds xs ys = ap f (filter-append test xs ys) ∙ adds (filter test xs) (filter test ys)
+
+mapped_add_up : {X Y : Type 0} (f : List Y → ℕ) (made : X → Y) → AddsUp f → AddsUp (λ xs. f (map made xs))
+mapped_add_up f made adds xs ys = ap f (map-append made xs ys) ∙ adds (map made xs) (map made ys)
+
+lengths_add_up : {X : Type 0} → AddsUp (λ (xs : List X). length xs)
+lengths_add_up xs ys = length-append xs ys
+
+-- what adds up over a list is nothing for none
+none_of_none : {X : Type 0} (f : List X → ℕ) → AddsUp f → f [] ≡ 0
+none_of_none f adds = let twice : f [] ≡ f [] + f [] = adds [] [] in omega (arith, twice)
+
+module _ (facts : Facts) (stand : Stand) (b : Arrangement) (draw : Draw) (begins : HasPairsOf b draw.lists) where
+  abbrev fewer : Seated
+  fewer = fixed facts stand b
+
+  abbrev all : Seated
+  all = by_seats facts stand.seats draw
+
+  -- of who goes down
+  down_no_less : (f : List Mover → ℕ) → AddsUp f → f (going_down facts fewer) ≤ f (going_down facts all)
+  down_no_less f adds =
+      let of_pairs : List (ℕ × ℕ) → ℕ = λ pairs. f (map (goes_down facts) (filter (is_uneven facts) pairs)) in
+      let more : of_pairs fewer.pairs ≤ of_pairs all.pairs =
+      no_less of_pairs stand.seats b draw.lists (filtered_add_up (λ pairs. f (map (goes_down facts) pairs)) (is_uneven facts) (mapped_add_up f (goes_down facts) adds)) begins in
+      omega (
+        arith,
+        more,
+        none_of_none f adds,
+        adds (map (goes_down facts) (filter (is_uneven facts) fewer.pairs)) [],
+        adds (map (goes_down facts) (filter (is_uneven facts) all.pairs)) (map (floats_down facts all.lowest) all.down),
+      )
+
+  -- and of who goes up
+  up_no_less : (f : List Mover → ℕ) → AddsUp f → f (going_up facts fewer) ≤ f (going_up facts all)
+  up_no_less f adds =
+      no_less (λ pairs. f (map (goes_up facts) (filter (is_uneven facts) pairs))) stand.seats b draw.lists
+      (filtered_add_up (λ pairs. f (map (goes_up facts) pairs)) (is_uneven facts) (mapped_add_up f (goes_up facts) adds)) begins
+
+module _ (facts : Facts) (float : Float) (back : ℕ) where
+  -- how many had a float in the round so far back
+  counts_add_up : AddsUp (λ movers. length (again facts float back movers))
+  counts_add_up xs ys = ap length (filter-append _ xs ys) ∙ length-append (again facts float back xs) (again facts float back ys)
+
+  -- how often a difference stands among theirs
+  copies_add_up : (d : ℕ) → AddsUp (λ movers. copies d (map (λ (mover : Mover). mover.by) (again facts float back movers)))
+  copies_add_up d xs ys =
+      ap (λ movers. copies d (map (λ (mover : Mover). mover.by) movers)) (filter-append _ xs ys)
+      ∙ ap (copies d) (map-append (λ (mover : Mover). mover.by) (again facts float back xs) (again facts float back ys))
+      ∙ copies_append d (map (λ (mover : Mover). mover.by) (again facts float back xs)) (map (λ (mover : Mover). mover.by) (again facts float back ys))
+
+module _ (facts : Facts) (stand : Stand) (b : Arrangement) (draw : Draw) (begins : HasPairsOf b draw.lists) where
+  down_count : (back : ℕ) → length (again facts Down back (going_down facts (fixed facts stand b))) ≤ length (again facts Down back (going_down facts (by_seats facts stand.seats draw)))
+  down_count back = down_no_less facts stand b draw begins (λ movers. length (again facts Down back movers)) (counts_add_up facts Down back)
+
+  up_count : (back : ℕ) → length (again facts Up back (going_up facts (fixed facts stand b))) ≤ length (again facts Up back (going_up facts (by_seats facts stand.seats draw)))
+  up_count back = up_no_less facts stand b draw begins (λ movers. length (again facts Up back movers)) (counts_add_up facts Up back)
+
+  down_list : (back : ℕ)
+      → is_lower (differences (again facts Down back (going_down facts (by_seats facts stand.seats draw)))) (differences (again facts Down back (going_down facts (fixed facts stand b)))) ≡ false
+  down_list back =
+      let by : List Mover → List ℕ = λ movers. map (λ (mover : Mover). mover.by) (again facts Down back movers) in
+      more_copies (by (going_down facts (fixed facts stand b))) (by (going_down facts (by_seats facts stand.seats draw)))
+      (λ d. down_no_less facts stand b draw begins (λ movers. copies d (by movers)) (copies_add_up facts Down back d))
+
+  up_list : (back : ℕ)
+      → is_lower (differences (again facts Up back (going_up facts (by_seats facts stand.seats draw)))) (differences (again facts Up back (going_up facts (fixed facts stand b)))) ≡ false
+  up_list back =
+      let by : List Mover → List ℕ = λ movers. map (λ (mover : Mover). mover.by) (again facts Up back movers) in
+      more_copies (by (going_up facts (fixed facts stand b))) (by (going_up facts (by_seats facts stand.seats draw)))
+      (λ d. up_no_less facts stand b draw begins (λ movers. copies d (by movers)) (copies_add_up facts Up back d))
+
+pub least_of_beginning : (facts : Facts) (stand : Stand) (lower : List ℕ) (b a : Arrangement) → HasPairsOf b a → NotBelow facts (fixed facts stand b) (quality_of facts stand lower a)
+least_of_beginning facts stand lower b a begins =
+    let draw : Draw = record { lists = a; down = down (frame_of facts stand) a } in
+    record {
+      wide = no_less (count_with_topscorers facts (misses Wide)) stand.seats b a (with_topscorers_add_up facts (misses Wide)) begins;
+      third = no_less (count_with_topscorers facts (misses Third)) stand.seats b a (with_topscorers_add_up facts (misses Third)) begins;
+      down_again = down_count facts stand b draw begins 1;
+      up_again = up_count facts stand b draw begins 1;
+      down_again_before = down_count facts stand b draw begins 2;
+      up_again_before = up_count facts stand b draw begins 2;
+      down_again_by = down_list facts stand b draw begins 1;
+      up_again_by = up_list facts stand b draw begins 1;
+      down_again_before_by = down_list facts stand b draw begins 2;
+      up_again_before_by = up_list facts stand b draw begins 2;
+    }
