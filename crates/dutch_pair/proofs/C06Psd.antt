@@ -2,19 +2,35 @@
 -- pairs: other pairs and downfloaters only add differences. Where all residents have one score, it is known by S1 alone: each
 -- moved-down player meets a resident with that score or goes down, each pair of residents is even, and how many residents go down the
 -- shape tells.
-use Rattle.std.proofs.Common.{◌≡◌, ℕ, ◌+◌, ◌≤◌, false, List, [], ◌++◌, map, ap, ◌∙◌, arith}
-use Rattle.std.proofs.lemmas.List.{map-append}
-use Rattle.dutch_order.specs.Arrangements.{Arrangement, down}
+use Rattle.std.proofs.Common.{◌≡◌, ℕ, zero, suc, ◌+◌, ◌-◌, ◌*◌, ◌<◌, ◌≤◌, true, false, List, [], ◌∷◌, ◌++◌, map, length, ◌⊎◌, inl, inr, refl, sym, ap, ◌∙◌, arith}
+use Rattle.std.specs.declared.cmp.Ordering.{Ordering}
+use Rattle.std.specs.declared.cmp.Ordering.TheVariants.{Less, Equal, Greater}
+use Rattle.std.specs.Ordering.{nat_cmp, is_lt, ordering_reverse}
+use Rattle.std.specs.Cmp.Lexicographic.{slice_cmp}
+use Rattle.std.proofs.lemmas.Cmp.{nat_list_cmp_total}
+use Rattle.std.proofs.lemmas.List.{map-append, length-map}
+use Rattle.std.proofs.lemmas.Map.Lookups.{exact_bytes}
+use Rattle.dutch_order.specs.declared.bracket.Shape.{Shape}
+use Rattle.dutch_order.specs.Choices.{numbers_from, is_member}
+use Rattle.dutch_order.specs.Keys.{IsIn}
+use Rattle.dutch_order.specs.Arrangements.{Arrangement, arrangements, down, left_of, remainder_pairs}
+use Rattle.dutch_order.proofs.HalfWalks.{Climbs, Climbs-room}
+use Rattle.dutch_order.proofs.Members.{climbs-filter, filter-climbs, filter-length, length-numbers}
 use Rattle.dutch_player.specs.Facts.{Facts}
 use Rattle.dutch_pair.specs.Beginnings.{HasPairsOf}
-use Rattle.dutch_pair.specs.NextBracket.{is_lower}
+use Rattle.dutch_pair.specs.ColourFloors.{residents_down}
+use Rattle.dutch_pair.specs.NextBracket.{is_lower, IsFlat}
+use Rattle.dutch_pair.specs.PsdFloors.{repeated, psd_with, IsUniform}
 use Rattle.dutch_pair.specs.Quality.{highest_first}
-use Rattle.dutch_pair.specs.Reached.{Stand, frame_of}
+use Rattle.dutch_pair.specs.Reached.{Stand, frame_of, IsOf}
 use Rattle.dutch_pair.specs.Round.{quality_of}
-use Rattle.dutch_pair.specs.Seated.{seat_of, all_pairs, difference, difference_down, lowest}
+use Rattle.dutch_pair.specs.Seated.{seat_of, score_at, all_pairs, difference, difference_down, lowest}
+use Rattle.dutch_pair.proofs.ArrangementParts.{parts_of}
 use Rattle.dutch_pair.proofs.C08ToC19Fixed.{more_copies}
 use Rattle.dutch_pair.proofs.Copies.{copies, copies_append}
+use Rattle.dutch_pair.proofs.FlatBrackets.{one_score_of, seats_fall}
 use Rattle.dutch_pair.proofs.PairsWithBeginning.{no_less}
+use Rattle.dutch_pair.proofs.PsdParts.{repeated as so_often, psd_copies}
 
 pub psd_of_beginning : (facts : Facts) (stand : Stand) (lower : List ℕ) (b a : Arrangement) → HasPairsOf b a
     → is_lower (quality_of facts stand lower a).psd (highest_first (map (difference facts) (all_pairs stand.seats b))) ≡ false
@@ -25,3 +41,148 @@ psd_of_beginning facts stand lower b a begins =
     let more : copies d (by (all_pairs stand.seats b)) ≤ copies d (by (all_pairs stand.seats a)) =
     no_less (λ pairs. copies d (by pairs)) stand.seats b a (λ xs ys. ap (copies d) (map-append (difference facts) xs ys) ∙ copies_append d (by xs) (by ys)) begins in
     omega (arith, more, copies_append d (by (all_pairs stand.seats a)) floats))
+
+-- two lists of which neither is lower are the same
+neither_lower : (xs ys : List ℕ) (o : Ordering) → slice_cmp nat_cmp xs ys ≡ o → is_lower xs ys ≡ false → is_lower ys xs ≡ false → xs ≡ ys
+neither_lower xs ys Less e f g = let lower : is_lower xs ys ≡ true = ap is_lt e in absurd (cc)
+neither_lower xs ys Equal e f g = exact_bytes xs ys e
+neither_lower xs ys Greater e f g = let lower : is_lower ys xs ≡ true = ap is_lt (nat_list_cmp_total.antisymm ys xs ∙ ap ordering_reverse e) in absurd (cc)
+
+-- lists in which each number stands equally often are the same, the highest first
+same_copies : (xs ys : List ℕ) → ((d : ℕ) → copies d xs ≡ copies d ys) → highest_first xs ≡ highest_first ys
+same_copies xs ys same =
+    neither_lower (highest_first xs) (highest_first ys) _ refl
+    (more_copies ys xs (λ d. omega (arith, same d))) (more_copies xs ys (λ d. omega (arith, same d)))
+
+one_word : (x n : ℕ) → so_often x n ≡ repeated x n
+one_word x zero = refl
+one_word x (suc n) = ap (λ xs. x ∷ xs) (one_word x n)
+
+-- where all residents have one score, the PSD is known by S1
+pub psd_by_first : (facts : Facts) (stand : Stand) (lower : List ℕ) (shape : Shape) (a : Arrangement) → IsOf facts stand → IsFlat facts stand
+    → IsIn a (arrangements (frame_of facts stand) shape)
+    → (quality_of facts stand lower a).psd ≡ psd_with facts stand shape (score_at facts (seat_of stand.seats (stand.mdps + 1))) a.s1
+psd_by_first facts stand lower shape a of' flat member =
+    let s : ℕ = score_at facts (seat_of stand.seats (stand.mdps + 1)) in
+    let j = remainder_pairs shape in
+    let left = residents_down stand shape in
+    let counted : length (frame_of facts stand).scores ≡ length stand.seats = length-map stand.seats (score_at facts) in
+    let parts = parts_of (frame_of facts stand) shape a of'.sound.within member in
+    let fits : left + (shape.mdps + (j + j)) ≡ length stand.seats - stand.mdps = (let e = parts.left in omega (arith, e, counted)) in
+    let paired : List ℕ = map (λ i. score_at facts (seat_of stand.seats i) - s) a.s1 in
+    let limbo : List ℕ = map (λ i. (score_at facts (seat_of stand.seats i) - s) + 2) (left_of (numbers_from 1 stand.mdps) a.s1) in
+    same_copies
+    (map (difference facts) (all_pairs stand.seats a) ++ map (difference_down facts (lowest facts stand.seats)) (map (seat_of stand.seats) (down (frame_of facts stand) a)))
+    (paired ++ (limbo ++ (repeated 0 j ++ repeated 2 left)))
+    (λ d.
+    omega (
+      arith,
+      psd_copies facts stand s shape.mdps j a d (one_score_of facts stand of' flat) parts counted left fits,
+      copies_append d paired (limbo ++ (repeated 0 j ++ repeated 2 left)),
+      copies_append d limbo (repeated 0 j ++ repeated 2 left),
+      copies_append d (repeated 0 j) (repeated 2 left),
+      ap (copies d) (one_word 0 j),
+      ap (copies d) (one_word 2 left),
+    ))
+
+none_of_nothing : (xs : List ℕ) → length xs ≡ 0 → xs ≡ []
+none_of_nothing [] e = refl
+none_of_nothing (x ∷ xs) e = absurd (omega (arith, e))
+
+-- numbers that climb and are as many as there is room for are all of them
+all_that_fit : (low bound : ℕ) (xs : List ℕ) → Climbs low bound xs → low + length xs ≡ bound → xs ≡ numbers_from low (length xs)
+all_that_fit low bound [] climbs full = refl
+all_that_fit low bound (x ∷ xs) climbs full =
+    let above : low ≤ x = climbs.0 in
+    let room : x + length xs < bound = Climbs-room low bound xs x climbs in
+    let first : x ≡ low = omega (arith, above, room, full) in
+    let later : xs ≡ numbers_from (suc x) (length xs) = all_that_fit (suc x) bound xs climbs.2 (omega (arith, first, full)) in
+    ap (λ rest. x ∷ rest) later ∙ ap (λ k. k ∷ numbers_from (suc k) (length xs)) first
+
+numbers_climb : (low bound count : ℕ) → low + count ≤ bound → Climbs low bound (numbers_from low count)
+numbers_climb low bound zero h = tt
+numbers_climb low bound (suc n) h = (omega arith, omega arith, numbers_climb (suc low) bound n (omega arith))
+
+-- what a value of a number comes to, where it is one and the same for all
+one_value : (f : ℕ → ℕ) (c q low : ℕ) (xs : List ℕ) → 0 < low → ((i : ℕ) → 0 < i → i ≤ q → f i ≡ c) → Climbs low (1 + q) xs → map f xs ≡ repeated c (length xs)
+one_value f c q low [] p same climbs = refl
+one_value f c q low (x ∷ xs) p same climbs =
+    let above : low ≤ x = climbs.0 in
+    let below : x < 1 + q = climbs.1 in
+    ap (λ y. y ∷ map f xs) (same x (omega arith) (omega arith)) ∙ ap (λ ys. c ∷ ys) (one_value f c q (suc x) xs (omega arith) same climbs.2)
+
+-- how many moved-down players are not in S1
+limbo_length : (q : ℕ) (xs : List ℕ) → Climbs 1 (1 + q) xs → length (left_of (numbers_from 1 q) xs) ≡ q - length xs
+limbo_length q xs climbs =
+    let shared = filter-length (λ x. is_member x xs) (numbers_from 1 q) in
+    omega (arith, shared, ap length (climbs-filter 1 q xs climbs), length-numbers 1 q)
+
+module _ (facts : Facts) (stand : Stand) (shape : Shape) (s : ℕ) where
+  abbrev by_one : ℕ → ℕ
+  by_one i = score_at facts (seat_of stand.seats i) - s
+
+  abbrev by_limbo : ℕ → ℕ
+  by_limbo i = (score_at facts (seat_of stand.seats i) - s) + 2
+
+  abbrev others : List ℕ
+  others = repeated 0 (remainder_pairs shape) ++ repeated 2 (residents_down stand shape)
+
+  -- where all moved-down players have one score, it matters only how many S1 has
+  psd_of_count : ((i : ℕ) → 0 < i → i ≤ stand.mdps → score_at facts (seat_of stand.seats i) ≡ score_at facts (seat_of stand.seats 1))
+      → (s1 : List ℕ) → Climbs 1 (1 + stand.mdps) s1
+      → psd_with facts stand shape s s1
+      ≡ highest_first (repeated (by_one 1) (length s1) ++ (repeated (by_limbo 1) (stand.mdps - length s1) ++ others))
+  psd_of_count same s1 climbs =
+      let q = stand.mdps in
+      let limbo : List ℕ = left_of (numbers_from 1 q) s1 in
+      let first : map by_one s1 ≡ repeated (by_one 1) (length s1) = one_value by_one (by_one 1) q 1 s1 (omega arith) (λ i p h. omega (arith, same i p h)) climbs in
+      let second : map by_limbo limbo ≡ repeated (by_limbo 1) (length limbo) =
+      one_value by_limbo (by_limbo 1) q 1 limbo (omega arith) (λ i p h. omega (arith, same i p h)) (filter-climbs _ 1 q) in
+      ap (λ xs. highest_first (xs ++ (map by_limbo limbo ++ others))) first
+      ∙ ap (λ xs. highest_first (repeated (by_one 1) (length s1) ++ (xs ++ others))) (second ∙ ap (repeated (by_limbo 1)) (limbo_length q s1 climbs))
+
+  -- in a uniform bracket the PSD is that of the first S1
+  psd_of_any : (s1 : List ℕ) → IsUniform facts stand shape → Climbs 1 (1 + stand.mdps) s1 → length s1 ≡ shape.mdps
+      → psd_with facts stand shape s s1 ≡ psd_with facts stand shape s (numbers_from 1 shape.mdps)
+  psd_of_any s1 (inl none) climbs counted =
+      ap (psd_with facts stand shape s) (none_of_nothing s1 (counted ∙ none) ∙ sym (ap (numbers_from 1) none))
+  psd_of_any s1 (inr (inl all)) climbs counted =
+      ap (psd_with facts stand shape s) (all_that_fit 1 (1 + stand.mdps) s1 climbs (omega (arith, counted, all)) ∙ ap (numbers_from 1) counted)
+  psd_of_any s1 (inr (inr same)) climbs counted =
+      let q = stand.mdps in
+      let shared = filter-length (λ x. is_member x s1) (numbers_from 1 q) in
+      let room : shape.mdps ≤ q = omega (arith, counted, shared, ap length (climbs-filter 1 q s1 climbs), length-numbers 1 q) in
+      let firsts = psd_of_count same (numbers_from 1 shape.mdps) (numbers_climb 1 (1 + q) shape.mdps (omega arith)) in
+      psd_of_count same s1 climbs
+      ∙ ap (λ n. highest_first (repeated (by_one 1) n ++ (repeated (by_limbo 1) (q - n) ++ others))) (counted ∙ sym (length-numbers 1 shape.mdps))
+      ∙ sym firsts
+
+pub psd_of_all : (facts : Facts) (stand : Stand) (lower : List ℕ) (shape : Shape) (a : Arrangement) → IsOf facts stand → IsFlat facts stand → IsUniform facts stand shape
+    → IsIn a (arrangements (frame_of facts stand) shape)
+    → (quality_of facts stand lower a).psd ≡ psd_with facts stand shape (score_at facts (seat_of stand.seats (stand.mdps + 1))) (numbers_from 1 shape.mdps)
+psd_of_all facts stand lower shape a of' flat uniform member =
+    let s : ℕ = score_at facts (seat_of stand.seats (stand.mdps + 1)) in
+    let parts = parts_of (frame_of facts stand) shape a of'.sound.within member in
+    psd_by_first facts stand lower shape a of' flat member ∙ psd_of_any facts stand shape s a.s1 uniform parts.s1 parts.s1_count
+
+-- scores do not ascend, so where the first resident and the last have one score all residents have it
+pub flat_by_ends : (facts : Facts) (stand : Stand) → IsOf facts stand → stand.mdps < length stand.seats
+    → score_at facts (seat_of stand.seats (stand.mdps + 1)) ≡ score_at facts (seat_of stand.seats (length stand.seats)) → IsFlat facts stand
+flat_by_ends facts stand of' resident ends = record {
+  resident = resident;
+  same = λ i p h.
+      let high = seats_fall facts stand of' (stand.mdps + 1) i (omega arith) (omega arith) h in
+      let low = seats_fall facts stand of' i (length stand.seats) (omega arith) h (omega arith) in
+      omega (arith, high, low, ends);
+}
+
+-- and so for moved-down players
+pub uniform_by_ends : (facts : Facts) (stand : Stand) (shape : Shape) → IsOf facts stand
+    → score_at facts (seat_of stand.seats 1) ≡ score_at facts (seat_of stand.seats stand.mdps) → IsUniform facts stand shape
+uniform_by_ends facts stand shape of' ends =
+    let within : stand.mdps ≤ length (frame_of facts stand).scores = of'.sound.within in
+    let counted : length (frame_of facts stand).scores ≡ length stand.seats = length-map stand.seats (score_at facts) in
+    inr (inr (λ i p h.
+    let high = seats_fall facts stand of' 1 i (omega arith) (omega arith) (omega (arith, within, counted)) in
+    let low = seats_fall facts stand of' i stand.mdps p h (omega (arith, within, counted)) in
+    omega (arith, high, low, ends)))
