@@ -1,7 +1,7 @@
 -- What the pairs of a beginning make is the least that an arrangement with it makes (C.04.3 C.8, C.9, C.12 to C.19): the pairs that
 -- it adds and its downfloaters only add to it. So at C.8, C.9 and C.12 to C.15 there are no fewer players, and in the lists of C.16 to
 -- C.19 no difference stands less often, and of such lists, the highest first, the one with more stands behind.
-use Rattle.std.proofs.Common.{◌≡◌, ℕ, ◌+◌, ◌≤◌, Bool, false, List, [], ◌∷◌, ◌++◌, map, filter, length, refl, sym, ap, ◌∙◌, arith, length-append}
+use Rattle.std.proofs.Common.{◌≡◌, ℕ, ◌+◌, ◌≤◌, Bool, false, List, [], map, filter, length, ap, ◌∙◌, arith, length-append}
 use Rattle.std.specs.Prelude.{sum_by}
 use Rattle.std.proofs.lemmas.List.{map-append}
 use Rattle.std.proofs.lemmas.List.Elements.{filter-append}
@@ -20,7 +20,7 @@ use Rattle.dutch_pair.specs.NextBracket.{is_lower}
 use Rattle.dutch_pair.specs.Quality.{again, count_in, count_in_pairs, count_with_topscorers, differences, has_topscorer, highest_first, misses}
 use Rattle.dutch_pair.specs.Reached.{Stand, frame_of}
 use Rattle.dutch_pair.specs.Round.{quality_of}
-use Rattle.dutch_pair.specs.Seated.{Seated, all_pairs, by_seats, floats_down, goes_down, goes_up, going_down, going_up, is_uneven, lowest}
+use Rattle.dutch_pair.specs.Seated.{Seated, by_seats, floats_down, goes_down, goes_up, going_down, going_up, is_uneven}
 use Rattle.dutch_pair.proofs.Copies.{copies, copies_append, highest_first_copies, highest_first_falls, not_lower}
 use Rattle.dutch_pair.proofs.PairsWithBeginning.{AddsUp, no_less}
 

@@ -65,18 +65,18 @@ module _ (f q : Quality) (floor : IsFloor f q) where
 
 -- so no arrangement with a beginning is better than the floor made from it, if the floor's PSD and value of the next bracket and its
 -- counts at C.10 and C.11 are such
-pub floor_holds : (facts : Facts) (stand : Stand) (lower psd : List ℕ) (next : NextValue) (m ms : ℕ) (b a : Arrangement) → HasPairsOf b a
+pub floor_holds : (facts : Facts) (stand : Stand) (lower psd : List ℕ) (next : NextValue) (more_missed more_missed_strong : ℕ) (b a : Arrangement) → HasPairsOf b a
     → is_lower (quality_of facts stand lower a).psd psd ≡ false
     → (quality_of facts stand lower a).next_pairs ≤ next.pairs
     → ((quality_of facts stand lower a).next_pairs ≡ next.pairs → is_lower (quality_of facts stand lower a).next_psd next.psd ≡ false)
-    → count_in_pairs facts (misses Preference) (all_pairs stand.seats b) + m ≤ (quality_of facts stand lower a).missed_preferences
+    → count_in_pairs facts (misses Preference) (all_pairs stand.seats b) + more_missed ≤ (quality_of facts stand lower a).missed_preferences
     → ((quality_of facts stand lower a).wide_differences ≡ count_with_topscorers facts (misses Wide) (all_pairs stand.seats b)
     → (quality_of facts stand lower a).third_colours ≡ count_with_topscorers facts (misses Third) (all_pairs stand.seats b)
-    → count_in_pairs facts (misses StrongPreference) (all_pairs stand.seats b) + ms ≤ (quality_of facts stand lower a).missed_strong)
-    → is_better (quality_of facts stand lower a) (floor_with facts stand psd next m ms b) ≡ false
-floor_holds facts stand lower psd next m ms b a begins by_psd by_pairs by_next_psd by_missed by_strong =
+    → count_in_pairs facts (misses StrongPreference) (all_pairs stand.seats b) + more_missed_strong ≤ (quality_of facts stand lower a).missed_strong)
+    → is_better (quality_of facts stand lower a) (floor_with facts stand psd next more_missed more_missed_strong b) ≡ false
+floor_holds facts stand lower psd next more_missed more_missed_strong b a begins by_psd by_pairs by_next_psd by_missed by_strong =
     let least = least_of_beginning facts stand lower b a begins in
-    not_better (floor_with facts stand psd next m ms b) (quality_of facts stand lower a) (record {
+    not_better (floor_with facts stand psd next more_missed more_missed_strong b) (quality_of facts stand lower a) (record {
       psd = by_psd;
       next_pairs = by_pairs;
       next_psd = by_next_psd;

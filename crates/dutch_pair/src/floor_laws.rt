@@ -1,16 +1,20 @@
 // Laws of the floors: a quality made from a beginning of an arrangement that no arrangement with this beginning is better than
 // (C.04.3 C.6 to C.19). What bounds the choice by beginnings cites them.
-ghost use Rattle.std.specs.Prelude.{◌≡◌, ◌+◌, ◌≤◌, ℕ, List, false, map};
-ghost use Rattle.dutch_order.specs.Arrangements.{Arrangement};
+ghost use Rattle.std.specs.Prelude.{◌≡◌, ◌+◌, ◌<◌, ◌≤◌, ℕ, List, false, length, map};
+ghost use Rattle.dutch_order.specs.declared.bracket.Shape.{Shape};
+ghost use Rattle.dutch_order.specs.Arrangements.{Arrangement, arrangements};
+ghost use Rattle.dutch_order.specs.Choices.{numbers_from};
+ghost use Rattle.dutch_order.specs.Keys.{IsIn};
 ghost use Rattle.dutch_player.specs.Facts.{Facts};
 ghost use Rattle.dutch_pair.specs.declared.colours_missed.Miss.TheVariants.{Wide, Third, Preference, StrongPreference};
 ghost use Rattle.dutch_pair.specs.Beginnings.{HasPairsOf, fixed};
 ghost use Rattle.dutch_pair.specs.Floors.{IsFloor, NotBelow, floor_with};
-ghost use Rattle.dutch_pair.specs.NextBracket.{is_lower};
+ghost use Rattle.dutch_pair.specs.NextBracket.{IsFlat, is_lower};
+ghost use Rattle.dutch_pair.specs.PsdFloors.{IsUniform, psd_with};
 ghost use Rattle.dutch_pair.specs.Quality.{NextValue, Quality, count_in_pairs, count_with_topscorers, highest_first, is_better, misses};
-ghost use Rattle.dutch_pair.specs.Reached.{Stand};
+ghost use Rattle.dutch_pair.specs.Reached.{IsOf, Stand, frame_of};
 ghost use Rattle.dutch_pair.specs.Round.{quality_of};
-ghost use Rattle.dutch_pair.specs.Seated.{all_pairs, difference};
+ghost use Rattle.dutch_pair.specs.Seated.{all_pairs, difference, score_at, seat_of};
 
 /// C.6 to C.19: a quality that is nowhere in front of another is not better.
 #[tactic(auto, using(crate::proofs::FloorOrder::not_better))]
@@ -33,13 +37,32 @@ pub fn no_psd_is_below_that_of_fixed_pairs()
 /// C.6 to C.19: no arrangement with a beginning is better than a floor, if its PSD is not lower than the floor's, if the next bracket
 /// can be no better, and if so many more players miss a preference, and a strong one where C.8 and C.9 are those of the beginning.
 pub fn a_floor_holds()
-    ensures { (facts : Facts) (stand : Stand) (lower psd : List ℕ) (next : NextValue) (m ms : ℕ) (b a : Arrangement) → HasPairsOf b a
+    ensures { (facts : Facts) (stand : Stand) (lower psd : List ℕ) (next : NextValue) (more_missed more_missed_strong : ℕ) (b a : Arrangement) → HasPairsOf b a
         → is_lower (quality_of facts stand lower a).psd psd ≡ false
         → (quality_of facts stand lower a).next_pairs ≤ next.pairs
         → ((quality_of facts stand lower a).next_pairs ≡ next.pairs → is_lower (quality_of facts stand lower a).next_psd next.psd ≡ false)
-        → count_in_pairs facts (misses Preference) (all_pairs stand.seats b) + m ≤ (quality_of facts stand lower a).missed_preferences
+        → count_in_pairs facts (misses Preference) (all_pairs stand.seats b) + more_missed ≤ (quality_of facts stand lower a).missed_preferences
         → ((quality_of facts stand lower a).wide_differences ≡ count_with_topscorers facts (misses Wide) (all_pairs stand.seats b)
         → (quality_of facts stand lower a).third_colours ≡ count_with_topscorers facts (misses Third) (all_pairs stand.seats b)
-        → count_in_pairs facts (misses StrongPreference) (all_pairs stand.seats b) + ms ≤ (quality_of facts stand lower a).missed_strong)
-        → is_better (quality_of facts stand lower a) (floor_with facts stand psd next m ms b) ≡ false }
+        → count_in_pairs facts (misses StrongPreference) (all_pairs stand.seats b) + more_missed_strong ≤ (quality_of facts stand lower a).missed_strong)
+        → is_better (quality_of facts stand lower a) (floor_with facts stand psd next more_missed more_missed_strong b) ≡ false }
+{}
+
+/// C.6: in a bracket whose residents have one score the PSD of an arrangement is known by its S1, and known at once where all S1 leave
+/// moved-down players with the same scores.
+pub fn psd_is_known()
+    ensures by_first { (facts : Facts) (stand : Stand) (lower : List ℕ) (shape : Shape) (a : Arrangement) → IsOf facts stand → IsFlat facts stand
+        → IsIn a (arrangements (frame_of facts stand) shape)
+        → (quality_of facts stand lower a).psd ≡ psd_with facts stand shape (score_at facts (seat_of stand.seats (stand.mdps + 1))) a.s1 }
+    ensures of_all { (facts : Facts) (stand : Stand) (lower : List ℕ) (shape : Shape) (a : Arrangement) → IsOf facts stand → IsFlat facts stand → IsUniform facts stand shape
+        → IsIn a (arrangements (frame_of facts stand) shape)
+        → (quality_of facts stand lower a).psd ≡ psd_with facts stand shape (score_at facts (seat_of stand.seats (stand.mdps + 1))) (numbers_from 1 shape.mdps) }
+{}
+
+/// Scores do not ascend, so the first and the last one tell whether all residents, or all moved-down players, have one score.
+pub fn the_ends_tell()
+    ensures flat { (facts : Facts) (stand : Stand) → IsOf facts stand → stand.mdps < length stand.seats
+        → score_at facts (seat_of stand.seats (stand.mdps + 1)) ≡ score_at facts (seat_of stand.seats (length stand.seats)) → IsFlat facts stand }
+    ensures uniform { (facts : Facts) (stand : Stand) (shape : Shape) → IsOf facts stand
+        → score_at facts (seat_of stand.seats 1) ≡ score_at facts (seat_of stand.seats stand.mdps) → IsUniform facts stand shape }
 {}
