@@ -1,10 +1,9 @@
 // The one search of all generators: a path of numbers that is filled place by place, goes back where no number fits, and can be
 // stopped before each trial.
 //
-// It may leave out all that lies below a beginning, where whoever asked for it knows that every whole path which begins so is idle,
-// that is, of no interest to him. So nothing but idle paths is ever left out, in whatever order the search goes, and it costs no step.
-// Mind, when changing it: a beginning is left only by setting the next number past all that its place tries, never by dropping a
-// path that was not asked about, and where nothing is idle each trial is still made and counted.
+// A beginning that leads to nothing of interest is left: all that lies below it is passed over where the caller knows that every whole
+// path which begins so is idle. So only idle paths are ever passed over, and it costs no step. Mind, when changing it: a path is left
+// only by setting its next number past all that its place tries, and where nothing is idle each trial is still made and counted.
 ghost use Rattle.std.specs.Prelude.{◌≡◌, ◌+◌, ◌-◌, ◌<◌, ◌≤◌, ℕ, List, None, [], ◌∷◌, ◌++◌, length, true, false};
 ghost use Rattle.dutch_order.specs.Trials.{Plan, Tried, entry, below, ahead, hits, trials, lower, lowest};
 ghost use Rattle.dutch_order.specs.Hints.{hint_after, first_hint};
@@ -330,8 +329,8 @@ pub fn climb_past<T: Tree, C: CutsPaths>(
     }
 }
 
-/// Goes on to the next whole path, which the walk then has, unless the budget or the search ends before it. It
-/// leaves nothing out.
+/// Goes on to the next whole path, which the walk then has, unless the budget or the search ends before it. Nothing
+/// is left out.
 pub fn climb_on<T: Tree>(tree: &T, walk: &mut Walk, budget: &mut Budget) -> Step<()>
     requires standing { Stands (T.plan tree.now) walk.old.path.items }
     requires few { (T.plan tree.now).places ≤ PLACES }
