@@ -1,9 +1,9 @@
 -- What is ahead of a search after each of its moves.
-use Rattle.std.proofs.Common.{◌≡◌, ℕ, zero, suc, ◌+◌, ◌-◌, ◌<◌, ◌≤◌, true, false, cond, List, [], ◌∷◌, ◌++◌, length, refl, sym, ◌∙◌, ap, append_assoc, arith, length-append, subst, take, drop}
+use Rattle.std.proofs.Common.{◌≡◌, ℕ, zero, suc, ◌+◌, ◌-◌, ◌<◌, ◌≤◌, true, false, cond, List, [], ◌∷◌, ◌++◌, length, refl, sym, ◌∙◌, ap, append_assoc, arith, length-append, subst, take, drop, Option, Some, None}
 use Rattle.std.specs.List.{flat_map, AllByRecursion}
 use Rattle.std.proofs.lemmas.List.{append-nil}
 use Rattle.dutch_order.specs.Choices.{numbers_from}
-use Rattle.dutch_order.specs.Trials.{Plan, Event, Tried, Hit, entry, below, after, ahead, trials}
+use Rattle.dutch_order.specs.Trials.{Plan, Event, Tried, Hit, entry, below, after, ahead, trials, lower, lowest}
 use Rattle.dutch_order.specs.Walks.{Walked}
 
 -- nothing follows the empty path
@@ -216,3 +216,23 @@ trials-nothing plan none =
     let whole : length {A = ℕ} [] ≡ plan.places = omega arith in
     ap trials (ahead-found plan [] whole)
     ∙ ap trials (ahead-end plan 1 (spent-whole plan [] 1 whole (omega arith)))
+
+-- the lowest of three
+pub lower-assoc : (a b c : Option ℕ) → lower (lower a b) c ≡ lower a (lower b c)
+lower-assoc None b c = refl
+lower-assoc (Some x) None c = refl
+lower-assoc (Some x) (Some y) None = refl
+lower-assoc (Some x) (Some y) (Some z) = ap Some (omega arith)
+
+-- the same place has the same ahead
+pub ahead-same : (plan : Plan) (path path' : List ℕ) (number number' : ℕ) → path ≡ path' → number ≡ number' → ahead plan path number ≡ ahead plan path' number'
+ahead-same plan path path' number number' same_path same_number =
+    ap (λ path. ahead plan path number) same_path ∙ ap (ahead plan path') same_number
+
+-- what lies beyond all trials is the same after one of them
+pub beyond-tried : (old new tried : Option ℕ) (before later : List Event) → new ≡ lower old tried → before ≡ Tried tried ∷ later → lower new (lowest later) ≡ lower old (lowest before)
+beyond-tried old new tried before later noted same =
+    ap (λ b. lower b (lowest later)) noted ∙ lower-assoc old tried (lowest later) ∙ ap (λ events. lower old (lowest events)) (sym same)
+
+pub beyond-same : (old new : Option ℕ) (before later : List Event) → new ≡ old → later ≡ before → lower new (lowest later) ≡ lower old (lowest before)
+beyond-same old new before later kept same = ap (λ b. lower b (lowest later)) kept ∙ ap (λ events. lower old (lowest events)) same

@@ -18,6 +18,7 @@ use Rattle.dutch_order.proofs.FoundPaths.{in-numbers, found-admitted, admitted-f
 use Rattle.dutch_order.proofs.LimboSets.{is_before-split, is_before-join, drop_front}
 use Rattle.dutch_order.proofs.Sets.{subsets-climb, subsets-map, subsets-ascend, ascending-sorted, Ascends-map}
 use Rattle.dutch_order.proofs.ExchangeSets.{v, v-raises, pool-is, set-is, set-in_pool, exchange_key-is, exchange-of}
+use Rattle.dutch_order.proofs.Moves.{lower-assoc}
 use Rattle.dutch_order.proofs.StageMoves.{sets-first}
 use Rattle.dutch_order.proofs.Reach.{out-falls, inn-raises, difference-least, difference-greatest, outs-fit, ins-fit, ins-exact, take_front_of}
 
@@ -54,12 +55,6 @@ barred_over least greatest first barred high =
       | inl over ↦ leb-false least first over
       | inr under ↦ absurd (omega (arith, leb-false first greatest under, high))
     ]
-
-lower-assoc : (a b c : Option ℕ) → lower (lower a b) c ≡ lower a (lower b c)
-lower-assoc None b c = refl
-lower-assoc (Some x) None c = refl
-lower-assoc (Some x) (Some y) None = refl
-lower-assoc (Some x) (Some y) (Some z) = ap Some (omega arith)
 
 stages-cases : (c : Bool) (here later other : List (List ℕ)) (set : List ℕ) → IsIn set (if c then here ++ later else other) → ((c ≡ true) × IsIn set here) ⊎ (((c ≡ true) × IsIn set later) ⊎ ((c ≡ false) × IsIn set other))
 stages-cases true here later other set m = elim (IsIn-append set here later m) [ inl front ↦ inl (refl, front) | inr back ↦ inr (inl (refl, back)) ]

@@ -14,6 +14,10 @@ use Rattle.dutch_order.specs.Choices.{tuples, without, all_meet, from_on, number
 use Rattle.dutch_order.specs.Transposition.{transpositions, short_beginnings, beginnings_below}
 use Rattle.dutch_order.specs.TranspositionSearch.{transposition_plan, numbers_at, place_in, places_in}
 use Rattle.dutch_order.specs.Hints.{hinted, first_hint}
+use Rattle.dutch_order.specs.Steps.{Passes}
+use Rattle.dutch_order.specs.Walks.{Stands}
+use Rattle.dutch_order.proofs.LeftOut.{passes-none, passes-more, passes-same, passes-map}
+use Rattle.dutch_order.proofs.Moves.{Walked-below}
 use Rattle.dutch_order.proofs.Lists.{map-flat_map, filter-flat_map, flat_map-filter, flat_map-below, map-numbers_from, map-same, filter-same, filter-filter, filter-all}
 use Rattle.dutch_order.specs.Keys.{is_before, sorted, IsIn, Ascends}
 use Rattle.dutch_order.proofs.HalfWalks.{Admitted}
@@ -318,3 +322,25 @@ tuple-trials-at meets first first' pool pool' hint hint' path number number' sam
     ∙ ap (λ hint. trials (ahead (hinted hint (transposition_plan meets first' pool')) path number)) same_hint
     ∙ ap (λ path. trials (ahead (hinted hint' (transposition_plan meets first' pool')) path number)) none
     ∙ ap (λ number. trials (ahead (hinted hint' (transposition_plan meets first' pool')) [] number)) same_number
+
+-- the same search, at the lists that the code has
+pub plan-at : (meets : ℕ → ℕ → Bool) (first first' pool pool' hint path : List ℕ) (number : ℕ) → first ≡ first' → pool ≡ pool' → hits (ahead (hinted hint (transposition_plan meets first pool)) path number) ≡ hits (ahead (hinted hint (transposition_plan meets first' pool')) path number)
+plan-at meets first first' pool pool' hint path number same_first same_pool =
+    ap (λ first. hits (ahead (hinted hint (transposition_plan meets first pool)) path number)) same_first
+    ∙ ap (λ pool. hits (ahead (hinted hint (transposition_plan meets first' pool)) path number)) same_pool
+
+-- where the paths that are passed have idle tuples, the tuples that are passed are idle
+pub tuples-passed : (Idle : List ℕ → Type 0) (pool pool' : List ℕ) (coming before before' later later' : List (List ℕ)) → map (numbers_at pool) before ≡ coming → pool' ≡ pool → before' ≡ before → later' ≡ later → Passes (λ path. Idle (numbers_at pool' path)) before' later' → Passes Idle coming (map (numbers_at pool) later)
+tuples-passed Idle pool pool' coming before before' later later' is same_pool same_before same_later passes =
+    passes-more Idle coming (map (numbers_at pool) before') (map (numbers_at pool) later)
+    (passes-none Idle coming (map (numbers_at pool) before') (sym is ∙ ap (map (numbers_at pool)) (sym same_before)))
+    (passes-same Idle (map (numbers_at pool) before') (map (numbers_at pool) later') (map (numbers_at pool) later)
+    (subst (λ l. Passes Idle (map (numbers_at l) before') (map (numbers_at l) later')) same_pool (passes-map Idle (numbers_at pool') before' later' passes))
+    (ap (map (numbers_at pool)) same_later))
+
+-- a path of the search is one of places of the pool, no longer than the first list
+pub stands-within : (meets : ℕ → ℕ → Bool) (first first' pool pool' pool'' hint path : List ℕ) → first' ≡ first → pool' ≡ pool → pool'' ≡ pool → Stands (hinted hint (transposition_plan meets first' pool')) path → AllByRecursion (λ place. place < length pool'') path × (length path ≤ length first)
+stands-within meets first first' pool pool' pool'' hint path same_first same_pool same_pool' stands = (
+  Walked-below (hinted hint (transposition_plan meets first' pool')) (length pool'') (λ path. omega (arith, ap length same_pool, ap length same_pool')) [] path stands.1,
+  omega (arith, ap length same_first, stands.0),
+)

@@ -18,3 +18,7 @@ IsOpen plan path = (length path < plan.places) × Walked plan [] path
 -- nothing is left below a path from a number on
 abbrev pub IsSpent : Plan → List ℕ → ℕ → Type 0
 IsSpent plan path number = below plan (plan.places - length path) path number ≡ []
+
+-- nothing is idle, so nothing is ever left out
+abbrev pub NoneIdle : {T : Type 0} → (T → Type 0) → Type 0
+NoneIdle {T} Idle = (x : T) → Idle x → ⊥

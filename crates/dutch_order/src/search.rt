@@ -1,10 +1,15 @@
 // The one search of all generators: a path of numbers that is filled place by place, goes back where no number fits, and can be
 // stopped before each trial.
-ghost use Rattle.std.specs.Prelude.{◌≡◌, ◌+◌, ◌-◌, ◌<◌, ◌≤◌, ℕ, None, [], ◌∷◌, ◌++◌, length, true, false};
+//
+// A beginning that leads to nothing of interest is left: all that lies below it is passed over where the caller knows that every whole
+// path which begins so is idle. So only idle paths are ever passed over, and it costs no step. Mind, when changing it: a path is left
+// only by setting its next number past all that its place tries, and where nothing is idle each trial is still made and counted.
+ghost use Rattle.std.specs.Prelude.{◌≡◌, ◌+◌, ◌-◌, ◌<◌, ◌≤◌, ℕ, List, None, [], ◌∷◌, ◌++◌, length, true, false};
 ghost use Rattle.dutch_order.specs.Trials.{Plan, Tried, entry, below, ahead, hits, trials, lower, lowest};
 ghost use Rattle.dutch_order.specs.Hints.{hint_after, first_hint};
-ghost use Rattle.dutch_order.specs.Steps.{MatchStep};
-ghost use Rattle.dutch_order.specs.Walks.{Stands, IsOpen, IsSpent};
+ghost use Rattle.dutch_order.specs.Prefixes.{GoesOn};
+ghost use Rattle.dutch_order.specs.Steps.{MatchStep, Passes};
+ghost use Rattle.dutch_order.specs.Walks.{Stands, IsOpen, IsSpent, NoneIdle};
 
 use crate::numbers::LIMIT;
 use crate::steps::{Budget, Step};
@@ -48,6 +53,34 @@ pub trait Tree {
 
     /// Every number tried is below the width.
     ghost within: { (tree : Self) (path : _) → (plan tree).stop path ≤ (plan tree).width };
+}
+
+/// Tells of beginnings of paths that all whole paths which begin so are idle.
+pub trait CutsPaths {
+    /// A whole path is idle.
+    ghost Idle: { Self → List ℕ → Type 0 };
+
+    /// A beginning can be asked about.
+    ghost MayAsk: { Self → List ℕ → Type 0 };
+
+    /// Whether all paths that begin so are known to be idle.
+    fn cuts(&self, begun: &[usize]) -> bool
+        requires { MayAsk self.now begun.now }
+        ensures { result ≡ true → (path : List ℕ) → GoesOn begun.now path → Idle self.now path };
+}
+
+/// Leaves nothing out.
+#[derive(Drop)]
+struct CutsNothing;
+
+impl CutsPaths for CutsNothing {
+    ghost Idle = { λ _ _. ⊥ };
+
+    ghost MayAsk = { λ _ _. Unit {0} };
+
+    fn cuts(&self, _begun: &[usize]) -> bool {
+        false
+    }
 }
 
 /// Puts places behind a path.
@@ -167,8 +200,36 @@ fn lower_of(one: Option<usize>, other: Option<usize>) -> Option<usize>
     }
 }
 
-/// Makes one trial: takes the number if it fits, and else goes on to the next one.
-fn try_number<T: Tree>(tree: &T, walk: &mut Walk)
+/// The end of the numbers to try after a path, 1 where the path is whole.
+fn end_number<T: Tree>(tree: &T, path: &[usize]) -> usize
+    requires { Stands (T.plan tree.now) path.now }
+    ensures { IsSpent (T.plan tree.now) path.now result }
+{
+    if path.len() < tree.places() {
+        tree.stop(path)
+    } else {
+        1
+    }
+}
+
+/// Leaves out all that is still to come below a path, where all of it is known to be idle.
+fn leave_idle<T: Tree, C: CutsPaths>(tree: &T, cuts: &C, walk: &mut Walk)
+    requires standing { Stands (T.plan tree.now) walk.old.path.items }
+    requires may_ask { (path : List ℕ) → Stands (T.plan tree.now) path → C.MayAsk cuts.now path }
+    ensures path { walk.new.path.items ≡ walk.old.path.items }
+    ensures beyond { walk.new.beyond ≡ walk.old.beyond }
+    ensures passes { Passes (C.Idle cuts.now) (hits (ahead (T.plan tree.now) walk.old.path.items walk.old.number))
+        (hits (ahead (T.plan tree.now) walk.new.path.items walk.new.number)) }
+    ensures number { NoneIdle (C.Idle cuts.now) → walk.new.number ≡ walk.old.number }
+{
+    let end = end_number(tree, &walk.path);
+    if walk.number < end && cuts.cuts(&walk.path) {
+        walk.number = end;
+    }
+}
+
+/// Makes one trial: takes the number if it fits, and else goes on to the next one. Whether it was taken.
+fn try_number<T: Tree>(tree: &T, walk: &mut Walk) -> bool
     requires opened { IsOpen (T.plan tree.now) walk.old.path.items }
     requires tried { walk.old.number < (T.plan tree.now).stop walk.old.path.items }
     requires few { (T.plan tree.now).places ≤ PLACES }
@@ -184,8 +245,10 @@ fn try_number<T: Tree>(tree: &T, walk: &mut Walk)
     if tree.admits(&walk.path, walk.number) {
         walk.path.push(walk.number);
         walk.number = first_number(tree, &walk.path);
+        true
     } else {
         walk.number += 1;
+        false
     }
 }
 
@@ -210,7 +273,64 @@ fn go_back<T: Tree>(tree: &T, walk: &mut Walk) -> bool
     }
 }
 
-/// Goes on to the next whole path, which the walk then has, unless the budget or the search ends before it.
+/// Goes on to the next whole path, which the walk then has, unless the budget or the search ends before it. It leaves out beginnings
+/// that are known to be idle: it asks at the start, and wherever a number was taken or given back. No question is a step.
+pub fn climb_past<T: Tree, C: CutsPaths>(
+    tree: &T,
+    cuts: &C,
+    walk: &mut Walk,
+    budget: &mut Budget,
+) -> Step<()>
+    requires standing { Stands (T.plan tree.now) walk.old.path.items }
+    requires few { (T.plan tree.now).places ≤ PLACES }
+    requires narrow { (T.plan tree.now).width ≤ PLACES }
+    requires may_ask { (path : List ℕ) → Stands (T.plan tree.now) path → C.MayAsk cuts.now path }
+    requires within { budget.old.used ≤ budget.old.limit }
+    ensures stands { Stands (T.plan tree.now) walk.new.path.items }
+    ensures answer { MatchStep result
+        (λ _. Passes (C.Idle cuts.now) (hits (ahead (T.plan tree.now) walk.old.path.items walk.old.number))
+        (walk.new.path.items ∷ hits (ahead (T.plan tree.now) walk.new.path.items walk.new.number))
+        × (length walk.new.path.items ≡ (T.plan tree.now).places))
+        (Passes (C.Idle cuts.now) (hits (ahead (T.plan tree.now) walk.old.path.items walk.old.number)) []
+        × (ahead (T.plan tree.now) walk.new.path.items walk.new.number ≡ []))
+        (Passes (C.Idle cuts.now) (hits (ahead (T.plan tree.now) walk.old.path.items walk.old.number))
+        (hits (ahead (T.plan tree.now) walk.new.path.items walk.new.number))
+        × (budget.new.used ≡ budget.new.limit)
+        × (0 < trials (ahead (T.plan tree.now) walk.new.path.items walk.new.number))) }
+    ensures steps { NoneIdle (C.Idle cuts.now) → budget.new.used + trials (ahead (T.plan tree.now) walk.new.path.items walk.new.number)
+        ≡ budget.old.used + trials (ahead (T.plan tree.now) walk.old.path.items walk.old.number) }
+    ensures beyond { NoneIdle (C.Idle cuts.now) → lower walk.new.beyond (lowest (ahead (T.plan tree.now) walk.new.path.items walk.new.number))
+        ≡ lower walk.old.beyond (lowest (ahead (T.plan tree.now) walk.old.path.items walk.old.number)) }
+    ensures limit { budget.new.limit ≡ budget.old.limit }
+    ensures rises { budget.old.used ≤ budget.new.used }
+    ensures within { budget.new.used ≤ budget.new.limit }
+{
+    leave_idle(tree, cuts, walk);
+    loop {
+        if walk.path.len() == tree.places() {
+            if walk.number == 0 {
+                walk.number = 1;
+                return Step::Found(());
+            }
+        } else if walk.number < tree.stop(&walk.path) {
+            if budget.used == budget.limit {
+                return Step::Undecided;
+            }
+            budget.used += 1;
+            if try_number(tree, walk) {
+                leave_idle(tree, cuts, walk);
+            }
+            continue;
+        }
+        if !go_back(tree, walk) {
+            return Step::End;
+        }
+        leave_idle(tree, cuts, walk);
+    }
+}
+
+/// Goes on to the next whole path, which the walk then has, unless the budget or the search ends before it. Nothing
+/// is left out.
 pub fn climb_on<T: Tree>(tree: &T, walk: &mut Walk, budget: &mut Budget) -> Step<()>
     requires standing { Stands (T.plan tree.now) walk.old.path.items }
     requires few { (T.plan tree.now).places ≤ PLACES }
@@ -235,22 +355,5 @@ pub fn climb_on<T: Tree>(tree: &T, walk: &mut Walk, budget: &mut Budget) -> Step
     ensures rises { budget.old.used ≤ budget.new.used }
     ensures within { budget.new.used ≤ budget.new.limit }
 {
-    loop {
-        if walk.path.len() == tree.places() {
-            if walk.number == 0 {
-                walk.number = 1;
-                return Step::Found(());
-            }
-        } else if walk.number < tree.stop(&walk.path) {
-            if budget.used == budget.limit {
-                return Step::Undecided;
-            }
-            budget.used += 1;
-            try_number(tree, walk);
-            continue;
-        }
-        if !go_back(tree, walk) {
-            return Step::End;
-        }
-    }
+    climb_past(tree, &CutsNothing, walk, budget)
 }

@@ -7,11 +7,12 @@ ghost use Rattle.dutch_order.specs.TranspositionSearch.{transposition_plan, numb
 ghost use Rattle.dutch_order.specs.Choices.{tuples, all_meet, from_on};
 ghost use Rattle.dutch_order.specs.Keys.{sorted, IsIn};
 ghost use Rattle.dutch_order.specs.Transposition.{tuple_key};
-ghost use Rattle.dutch_order.specs.Steps.{MatchStep};
+ghost use Rattle.dutch_order.specs.Steps.{MatchStep, Passes};
 
+use crate::cuts::CutsTuples;
 use crate::numbers::{LIMIT, Numbers, copied};
 use crate::rules::Rule;
-use crate::search::{Hinted, Path, Tree, Walk, climb_on, first_hint};
+use crate::search::{CutsPaths, Hinted, Path, Tree, Walk, climb_on, climb_past, first_hint};
 use crate::steps::{Budget, Step};
 use arrayvec::ArrayVec;
 use std::marker::Model;
@@ -91,6 +92,28 @@ impl<'a, R: Rule> Tree for Opponents<'a, R> {
             && self
                 .rule
                 .may_meet(self.first[path.len()], self.pool[number])
+    }
+}
+
+/// Tells of beginnings of paths that the tuples of their numbers are idle.
+#[derive(Clone, Copy)]
+struct CutsPlaces<'a, C> {
+    pool: &'a [u16],
+    cuts: &'a C,
+}
+
+impl<'a, C: CutsTuples> CutsPaths for CutsPlaces<'a, C> {
+    ghost use Rattle.dutch_order.specs.declared.numbers.TheConstants.{LIMIT};
+    ghost use Rattle.std.specs.Prelude.{◌<◌, ◌≤◌, length};
+    ghost use Rattle.std.specs.List.{AllByRecursion};
+    ghost use Rattle.dutch_order.specs.TranspositionSearch.{numbers_at};
+
+    ghost Idle = { λ t path. C.Idle t.cuts.now (numbers_at t.pool.now path) };
+
+    ghost MayAsk = { λ t path. AllByRecursion (λ place. place < length t.pool.now) path × (length path ≤ LIMIT) };
+
+    fn cuts(&self, begun: &[usize]) -> bool {
+        self.cuts.cuts(&picked(self.pool, begun))
     }
 }
 
@@ -190,5 +213,41 @@ impl<'a, R: Rule> Transpositions<'a, R> {
             Step::End => Step::End,
             Step::Undecided => Step::Undecided,
         }
+    }
+    /// The next list that is not idle, or one that the cuts do not know to be so: they are asked with the numbers of each beginning
+    /// at which the search arrives, and the lists that begin as they cut are skipped without a step. Where it is `Undecided` some of
+    /// the lists to come may have been skipped, and all of those were idle.
+    pub(crate) fn next_past<C: CutsTuples>(
+        &mut self,
+        cuts: &C,
+        budget: &mut Budget,
+    ) -> Step<Numbers>
+        requires { budget.old.used ≤ budget.old.limit }
+        ensures answer { MatchStep result
+            (λ numbers. Passes (C.Idle cuts.now) self.old.coming (numbers.items ∷ self.new.coming))
+            (Passes (C.Idle cuts.now) self.old.coming [] × (self.new.coming ≡ []))
+            (Passes (C.Idle cuts.now) self.old.coming self.new.coming × (budget.new.used ≡ budget.new.limit)) }
+        ensures limit { budget.new.limit ≡ budget.old.limit }
+        ensures rises { budget.old.used ≤ budget.new.used }
+        ensures within { budget.new.used ≤ budget.new.limit }
+    {
+        let tree = Hinted {
+            tree: Opponents {
+                first: &self.first,
+                pool: &self.pool,
+                rule: self.rule,
+            },
+            hint: &self.hint,
+        };
+        let places = CutsPlaces {
+            pool: &self.pool,
+            cuts,
+        };
+        match climb_past(&tree, &places, &mut self.walk, budget) {
+            Step::Found(()) => {}
+            Step::End => return Step::End,
+            Step::Undecided => return Step::Undecided,
+        }
+        Step::Found(picked(&self.pool, &self.walk.path))
     }
 }

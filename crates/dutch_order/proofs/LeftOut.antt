@@ -1,0 +1,103 @@
+-- What a search leaves out: all below a beginning goes on from it, so it is idle where all that begins so is.
+use Rattle.std.proofs.Common.{◌≡◌, ℕ, zero, suc, ◌-◌, Bool, true, false, cond, List, [], ◌∷◌, ◌++◌, length, map, Option, refl, sym, ◌∙◌, ap, append_assoc, subst}
+use Rattle.std.specs.List.{flat_map, AllByRecursion}
+use Rattle.std.proofs.lemmas.List.{append-nil, map-append}
+use Rattle.dutch_order.specs.Choices.{numbers_from}
+use Rattle.dutch_order.specs.Prefixes.{GoesOn}
+use Rattle.dutch_order.specs.Steps.{Passes, MatchStep}
+use Rattle.dutch_order.specs.Trials.{Plan, Event, Tried, hits, entry, below, after, ahead}
+use Rattle.dutch_order.specs.Walks.{IsSpent, NoneIdle}
+use Rattle.dutch_order.specs.declared.steps.Step.{Step}
+use Rattle.dutch_order.specs.declared.steps.Step.TheVariants.{Found, End, Undecided}
+use Rattle.dutch_order.proofs.Found.{hits-append}
+
+-- what holds of each of two lists holds of both behind one another
+pub all-append : {T : Type 0} (P : T → Type 0) (xs ys : List T) → AllByRecursion P xs → AllByRecursion P ys → AllByRecursion P (xs ++ ys)
+all-append P [] ys all more = more
+all-append P (x ∷ xs) ys all more = (all.0, all-append P xs ys all.1 more)
+
+-- and of what follows from it
+pub all-each : {T : Type 0} (P Q : T → Type 0) → ((x : T) → P x → Q x) → (xs : List T) → AllByRecursion P xs → AllByRecursion Q xs
+all-each P Q each [] all = tt
+all-each P Q each (x ∷ xs) all = (each x all.0, all-each P Q each xs all.1)
+
+module _ {T : Type 0} (Idle : T → Type 0) where
+  -- nothing is skipped
+  pub passes-none : (xs ys : List T) → xs ≡ ys → Passes Idle xs ys
+  passes-none xs ys same = ([], same, tt)
+
+  -- what skips and then skips more
+  pub passes-more : (xs ys zs : List T) → Passes Idle xs ys → Passes Idle ys zs → Passes Idle xs zs
+  passes-more xs ys zs (front, same, idle) (front', same', idle') = (
+    front ++ front',
+    same ∙ ap (λ rest. front ++ rest) same' ∙ sym (append_assoc front front' zs),
+    all-append Idle front front' idle idle',
+  )
+
+  -- what is left may be named otherwise
+  pub passes-same : (xs ys zs : List T) → Passes Idle xs ys → ys ≡ zs → Passes Idle xs zs
+  passes-same xs ys zs passes same = passes-more xs ys zs passes (passes-none ys zs same)
+
+  none-left_out : NoneIdle Idle → (front : List T) → AllByRecursion Idle front → front ≡ []
+  none-left_out none [] idle = refl
+  none-left_out none (x ∷ front) idle = absurd (none x idle.0)
+
+  -- where nothing is idle nothing is skipped
+  pub passes-nothing : NoneIdle Idle → (xs ys : List T) → Passes Idle xs ys → xs ≡ ys
+  passes-nothing none xs ys (front, same, idle) = same ∙ ap (λ list. list ++ ys) (none-left_out none front idle)
+
+all-map : {S T : Type 0} (P : T → Type 0) (f : S → T) (xs : List S) → AllByRecursion (λ x. P (f x)) xs → AllByRecursion P (map f xs)
+all-map P f [] all = tt
+all-map P f (x ∷ xs) all = (all.0, all-map P f xs all.1)
+
+-- what is skipped of a list is skipped of its values
+pub passes-map : {S T : Type 0} (Idle : T → Type 0) (f : S → T) (xs ys : List S) → Passes (λ x. Idle (f x)) xs ys → Passes Idle (map f xs) (map f ys)
+passes-map Idle f xs ys (front, same, idle) =
+    (map f front, ap (map f) same ∙ map-append f front ys, all-map Idle f front idle)
+
+-- what goes on from a longer path goes on from it
+goes-on-shorter : (path : List ℕ) (number : ℕ) (c : List ℕ) → GoesOn (path ++ number ∷ []) c → GoesOn path c
+goes-on-shorter path number c on = record { rest = number ∷ on.rest; is = on.is ∙ append_assoc path (number ∷ []) on.rest }
+
+begun-cond : (path : List ℕ) (beyond : Option ℕ) (fits : Bool) (events : List Event) → AllByRecursion (GoesOn path) (hits events) → AllByRecursion (GoesOn path) (hits (Tried beyond ∷ cond fits events []))
+begun-cond path beyond true events all = all
+begun-cond path beyond false events all = tt
+
+begun-each : (path : List ℕ) (brings : ℕ → List Event) → ((tried : ℕ) → AllByRecursion (GoesOn path) (hits (brings tried))) → (numbers : List ℕ) → AllByRecursion (GoesOn path) (hits (flat_map brings numbers))
+begun-each path brings each [] = tt
+begun-each path brings each (x ∷ numbers) =
+    subst (AllByRecursion (GoesOn path)) (sym (hits-append (brings x) (flat_map brings numbers)))
+    (all-append (GoesOn path) (hits (brings x)) (hits (flat_map brings numbers)) (each x) (begun-each path brings each numbers))
+
+-- each whole path below a path goes on from it
+pub below-begun : (plan : Plan) (open_places : ℕ) (path : List ℕ) (number : ℕ) → AllByRecursion (GoesOn path) (hits (below plan open_places path number))
+unfolding below
+below-begun plan zero path zero = (record { rest = []; is = sym (append-nil path) }, tt)
+below-begun plan zero path (suc number) = tt
+below-begun plan (suc open_places) path number =
+    begun-each path (λ tried. Tried (plan.beyond path tried) ∷ cond (plan.fits path tried) (below plan open_places (path ++ tried ∷ []) (entry plan open_places (path ++ tried ∷ []))) [])
+    (λ tried.
+    begun-cond path (plan.beyond path tried) (plan.fits path tried) (below plan open_places (path ++ tried ∷ []) (entry plan open_places (path ++ tried ∷ [])))
+    (all-each (GoesOn (path ++ tried ∷ [])) (GoesOn path) (goes-on-shorter path tried) (hits (below plan open_places (path ++ tried ∷ []) (entry plan open_places (path ++ tried ∷ []))))
+    (below-begun plan open_places (path ++ tried ∷ []) (entry plan open_places (path ++ tried ∷ [])))))
+    (numbers_from number (plan.stop path - number))
+
+-- ahead of a path is what is below it, and then what is ahead once nothing is left below it
+ahead-left : (plan : Plan) (path : List ℕ) (number end : ℕ) → IsSpent plan path end → ahead plan path number ≡ below plan (plan.places - length path) path number ++ ahead plan path end
+unfolding ahead
+ahead-left plan path number end spent =
+    ap (λ none. below plan (plan.places - length path) path number ++ (none ++ after plan plan.places [] path)) (sym spent)
+
+-- so where all that begins so is idle, what is below a path may be left out
+pub idle-left : (plan : Plan) (Idle : List ℕ → Type 0) (path : List ℕ) (number end : ℕ) → IsSpent plan path end → ((c : List ℕ) → GoesOn path c → Idle c) → Passes Idle (hits (ahead plan path number)) (hits (ahead plan path end))
+idle-left plan Idle path number end spent idle = (
+  hits (below plan (plan.places - length path) path number),
+  ap hits (ahead-left plan path number end spent) ∙ hits-append (below plan (plan.places - length path) path number) (ahead plan path end),
+  all-each (GoesOn path) Idle idle (hits (below plan (plan.places - length path) path number)) (below-begun plan (plan.places - length path) path number),
+)
+
+-- what follows of each answer follows of the answer
+pub step-each : {T : Type 0} (F F' : T → Type 0) (E E' U U' : Type 0) → ((x : T) → F x → F' x) → (E → E') → (U → U') → (answer : Step T) → MatchStep answer F E U → MatchStep answer F' E' U'
+step-each F F' E E' U U' f e u (Found x) given = f x given
+step-each F F' E E' U U' f e u End given = e given
+step-each F F' E E' U U' f e u Undecided given = u given

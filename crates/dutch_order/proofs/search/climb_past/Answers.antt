@@ -1,0 +1,82 @@
+use Rattle.std.proofs.Common.{◌∙◌, ◌∷◌, sym, ap, arith, rules, subst}
+use Rattle.dutch_order.specs.Trials.{Tried, ahead, hits, trials, lower, lowest}
+use Rattle.dutch_order.specs.Walks.{Stands}
+use Rattle.dutch_order.proofs.LeftOut.{passes-more, passes-same}
+use Rattle.dutch_order.proofs.Moves.{ahead-same, beyond-tried, beyond-same, ahead-whole, trials-positive, spent-place, spent-whole}
+use Rattle.dutch_order.proofs.search.climb_past.Goals as goal
+use Rattle.dutch_order.proofs.search.climb_past.Goals.{then-len-places+else-walk-eq0, else-len-places+else-walk-stop}
+
+pub returns-then-walk-eq0-clause-answer : goal.returns-then-walk-eq0-clause-answer
+returns-then-walk-eq0-clause-answer g c =
+    let whole = ahead-whole (g.T.Tree.plan c.args.tree.now) c.loop-walk.walk.path.items c.loop-walk.walk.number (search rules) c.if-walk-eq0.true in
+    let Idle = g.C.CutsPaths.Idle c.args.cuts.now in
+    (passes-more Idle _ _ _ c.leave_idle.ensures.passes (passes-same Idle _ _ _ c.loop-walk.invariant.passes (ap hits whole)), search rules)
+
+pub returns-then-walk-eq0-clause-steps : goal.returns-then-walk-eq0-clause-steps
+returns-then-walk-eq0-clause-steps g c = λ none.
+    let plan = g.T.Tree.plan c.args.tree.now in
+    let whole = ahead-whole plan c.loop-walk.walk.path.items c.loop-walk.walk.number (search rules) c.if-walk-eq0.true in
+    let first = ahead-same plan _ _ _ _ c.leave_idle.ensures.path (c.leave_idle.ensures.number none) in
+    omega (arith, ap trials whole, c.loop-walk.invariant.trials none, ap trials first)
+
+pub returns-then-walk-eq0-clause-beyond : goal.returns-then-walk-eq0-clause-beyond
+returns-then-walk-eq0-clause-beyond g c = λ none.
+    let plan = g.T.Tree.plan c.args.tree.now in
+    let whole = ahead-whole plan c.loop-walk.walk.path.items c.loop-walk.walk.number (search rules) c.if-walk-eq0.true in
+    sym (ap (λ o. lower c.loop-walk.walk.beyond o) (ap lowest whole))
+    ∙ c.loop-walk.invariant.beyond none
+    ∙ beyond-same c.args.walk.now.beyond c.leave_idle.new.walk.beyond
+    (ahead plan c.args.walk.now.path.items c.args.walk.now.number) (ahead plan c.leave_idle.new.walk.path.items c.leave_idle.new.walk.number)
+    c.leave_idle.ensures.beyond (ahead-same plan _ _ _ _ c.leave_idle.ensures.path (c.leave_idle.ensures.number none))
+
+pub returns-then-budget-clause-answer : goal.returns-then-budget-clause-answer
+returns-then-budget-clause-answer g c =
+    let Idle = g.C.CutsPaths.Idle c.args.cuts.now in
+    (passes-more Idle _ _ _ c.leave_idle.ensures.passes c.loop-walk.invariant.passes, search rules, trials-positive (g.T.Tree.plan c.args.tree.now) c.loop-walk.walk.path.items (omega arith) c.loop-walk.walk.number (search rules))
+
+pub go_back-requires-clause-spent : goal.go_back-requires-clause-spent
+go_back-requires-clause-spent g c =
+    elim c.if-len-places.branch [
+      | then-len-places+else-walk-eq0 w ↦ spent-whole (g.T.Tree.plan c.args.tree.now) c.loop-walk.walk.path.items c.loop-walk.walk.number (search rules) (omega arith)
+      | else-len-places+else-walk-stop w ↦ spent-place (g.T.Tree.plan c.args.tree.now) c.loop-walk.walk.path.items c.loop-walk.walk.number (omega arith) (search rules)
+    ]
+
+pub loop-walk-preserved-then-try_number : goal.loop-walk-preserved-then-try_number
+loop-walk-preserved-then-try_number g c =
+    let plan = g.T.Tree.plan c.args.tree.now in
+    let Idle = g.C.CutsPaths.Idle c.args.cuts.now in
+    let tried = c.try_number.ensures in
+    let left = c.leave_idle-then-try_number.ensures in
+    record {
+      stands = subst (Stands plan) (sym left.path) tried.stands;
+      passes = passes-more Idle _ _ _ (passes-same Idle _ _ _ c.loop-walk.invariant.passes (ap hits tried.goes_on)) left.passes;
+      trials = λ none. omega (arith, ap trials (ahead-same plan _ _ _ _ left.path (left.number none)), ap trials tried.goes_on, c.loop-walk.invariant.trials none);
+      beyond = λ none.
+          beyond-tried c.loop-walk.walk.beyond c.leave_idle-then-try_number.new.walk.beyond (plan.beyond c.loop-walk.walk.path.items c.loop-walk.walk.number)
+          (ahead plan c.loop-walk.walk.path.items c.loop-walk.walk.number) (ahead plan c.leave_idle-then-try_number.new.walk.path.items c.leave_idle-then-try_number.new.walk.number)
+          (left.beyond ∙ tried.beyond) (tried.goes_on ∙ ap (λ events. Tried (plan.beyond c.loop-walk.walk.path.items c.loop-walk.walk.number) ∷ events) (sym (ahead-same plan _ _ _ _ left.path (left.number none))))
+          ∙ c.loop-walk.invariant.beyond none;
+      within = omega (arith, c.loop-walk.invariant.within, c.if-budget.false);
+      limit = c.loop-walk.invariant.limit;
+      rises = omega (arith, c.loop-walk.invariant.rises);
+    }
+
+pub loop-walk-preserved : goal.loop-walk-preserved
+loop-walk-preserved g c =
+    let plan = g.T.Tree.plan c.args.tree.now in
+    let Idle = g.C.CutsPaths.Idle c.args.cuts.now in
+    let back = c.go_back.ensures in
+    let left = c.leave_idle-in-loop-walk.ensures in
+    record {
+      stands = subst (Stands plan) (sym left.path) back.stands;
+      passes = passes-more Idle _ _ _ (passes-same Idle _ _ _ c.loop-walk.invariant.passes (ap hits (sym back.same))) left.passes;
+      trials = λ none. omega (arith, ap trials (ahead-same plan _ _ _ _ left.path (left.number none)), ap trials back.same, c.loop-walk.invariant.trials none);
+      beyond = λ none.
+          beyond-same c.loop-walk.walk.beyond c.leave_idle-in-loop-walk.new.walk.beyond
+          (ahead plan c.loop-walk.walk.path.items c.loop-walk.walk.number) (ahead plan c.leave_idle-in-loop-walk.new.walk.path.items c.leave_idle-in-loop-walk.new.walk.number)
+          (left.beyond ∙ back.beyond) (ahead-same plan _ _ _ _ left.path (left.number none) ∙ back.same)
+          ∙ c.loop-walk.invariant.beyond none;
+      within = c.loop-walk.invariant.within;
+      limit = c.loop-walk.invariant.limit;
+      rises = c.loop-walk.invariant.rises;
+    }
