@@ -24,6 +24,7 @@ pub mod ShapeLemmas
 pub mod ShapeSearch
 pub mod TellLemmas
 pub mod WalkLemmas
+pub mod FixedPairs
 pub mod FirstLemmas
 pub mod WalkEnds
 pub mod GroupWalk
