@@ -2,6 +2,7 @@ pub mod AllLemmas
 pub mod ArrangementParts
 pub mod BestLemmas
 pub mod BoardLemmas
+pub mod C10Preferences
 pub mod ChoiceLemmas
 pub mod ColourSeats
 pub mod Copies
