@@ -36,3 +36,5 @@ pub mod WholeRounds
 pub mod NamedBoards
 pub mod NextRound
 pub mod OneBye
+pub mod GrantedColours
+pub mod C11StrongPreferences
