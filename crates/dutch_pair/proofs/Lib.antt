@@ -38,3 +38,4 @@ pub mod NextRound
 pub mod OneBye
 pub mod GrantedColours
 pub mod C11StrongPreferences
+pub mod FreePlayers
