@@ -39,3 +39,4 @@ pub mod OneBye
 pub mod GrantedColours
 pub mod C11StrongPreferences
 pub mod FreePlayers
+pub mod LegalPairs
