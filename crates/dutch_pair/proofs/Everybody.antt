@@ -70,7 +70,7 @@ module _ (w : ℕ → ℕ) (seats : List ℕ) where
 
 module _ (w : ℕ → ℕ) (facts : Facts) (stand : Stand) where
   -- the pairs of an arrangement of a bracket, and those whom it leaves over
-  bracket_whole : (shape : Shape) (a : Arrangement) → stand.mdps ≤ length stand.seats → IsIn a (arrangements (frame_of facts stand) shape)
+  pub bracket_whole : (shape : Shape) (a : Arrangement) → stand.mdps ≤ length stand.seats → IsIn a (arrangements (frame_of facts stand) shape)
       → pairs_total w (all_pairs stand.seats a) + total w (downfloaters facts stand a) ≡ total w stand.seats
   bracket_whole shape a within m =
       let frame : Frame = frame_of facts stand in

@@ -4,6 +4,7 @@ pub mod BestLemmas
 pub mod BoardLemmas
 pub mod C06Psd
 pub mod C08ToC19Fixed
+pub mod C10Preferences
 pub mod ChoiceLemmas
 pub mod ColourSeats
 pub mod Copies
@@ -39,3 +40,7 @@ pub mod WholeRounds
 pub mod NamedBoards
 pub mod NextRound
 pub mod OneBye
+pub mod GrantedColours
+pub mod C11StrongPreferences
+pub mod FreePlayers
+pub mod LegalPairs

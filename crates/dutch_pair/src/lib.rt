@@ -3,6 +3,7 @@
 
 pub mod boards;
 pub mod choice;
+mod colour_floor_laws;
 pub mod colours_missed;
 pub mod completion;
 pub mod differences;

@@ -1,0 +1,93 @@
+-- C.04.3 C.10: how many players miss their preference at least. Of a pair who both want one colour somebody misses it, since one has
+-- white and the other black. So where more free players want a colour than there are pairs to make and downfloaters, who need no
+-- colour, each one more misses it, whatever pairs are made.
+use Rattle.std.proofs.Common.{◌≡◌, ℕ, ◌+◌, ◌≤◌, Bool, true, false, not, nat_lt, if◌then◌else◌, List, [], ◌∷◌, length, max, Option, Some, None, sum_by, arith}
+use Rattle.std.specs.List.{AllByRecursion}
+use Rattle.std.specs.Option.{option_map_or}
+use Rattle.trf16.specs.declared.cell.Colour.{Colour}
+use Rattle.trf16.specs.declared.cell.Colour.TheVariants.{White, Black}
+use Rattle.dutch_order.specs.declared.bracket.Shape.{Shape}
+use Rattle.dutch_order.specs.Keys.{IsIn}
+use Rattle.dutch_order.specs.Arrangements.{Arrangement, arrangements}
+use Rattle.dutch_player.specs.declared.preference.Pref.{Pref}
+use Rattle.dutch_player.specs.Preferences.{is_same, preference}
+use Rattle.dutch_player.specs.Colours.{with_colour, colour_of_higher}
+use Rattle.dutch_player.specs.Facts.{Facts, seat_at}
+use Rattle.dutch_pair.specs.declared.colours_missed.Miss.TheVariants.{Preference}
+use Rattle.dutch_pair.specs.Seated.{all_pairs}
+use Rattle.dutch_pair.specs.Reached.{Stand, frame_of}
+use Rattle.dutch_pair.specs.Round.{quality_of}
+use Rattle.dutch_pair.specs.Quality.{one_if, misses, count_of_both, count_in, count_in_pairs}
+use Rattle.dutch_pair.specs.Beginnings.{HasPairsOf, in_both, free, room}
+use Rattle.dutch_pair.specs.ColourFloors.{wants, more_missed}
+use Rattle.dutch_pair.proofs.FixedPairs.{Beside, beside, others_of, sum_beside}
+use Rattle.dutch_pair.proofs.FreePlayers.{free_served}
+
+-- 1 where a preference is for a colour
+abbrev wanted : Colour → Option Pref → ℕ
+wanted c p = one_if (option_map_or (λ wish. is_same wish.colour c) p false)
+
+-- 1 where a colour is not that of a preference
+abbrev missed : Option Pref → Colour → ℕ
+missed p c = one_if (option_map_or (λ wish. not (is_same wish.colour c)) p false)
+
+pub at_most_one : (b : Bool) → one_if b ≤ 1
+at_most_one true = omega arith
+at_most_one false = omega arith
+
+-- of two who want colours one gets white and one black
+colours_served : (c d e : Colour) → one_if (is_same d c) + one_if (is_same e c) ≤ 1 + (one_if (not (is_same d White)) + one_if (not (is_same e Black)))
+colours_served White White White = omega arith
+colours_served White White Black = omega arith
+colours_served White Black White = omega arith
+colours_served White Black Black = omega arith
+colours_served Black White White = omega arith
+colours_served Black White Black = omega arith
+colours_served Black Black White = omega arith
+colours_served Black Black Black = omega arith
+
+one_served : (c : Colour) (p q : Option Pref) → wanted c p + wanted c q ≤ 1 + (missed p White + missed q Black)
+one_served c None None = omega arith
+one_served c None (Some y) = omega (arith, at_most_one (is_same y.colour c))
+one_served c (Some x) None = omega (arith, at_most_one (is_same x.colour c))
+one_served c (Some x) (Some y) = colours_served c x.colour y.colour
+
+-- whoever of two gets white
+either_way : (facts : Facts) (c : Colour) (a b : ℕ) (granted : Colour)
+    → wants facts c a + wants facts c b ≤ 1 + count_of_both facts (misses Preference) (with_colour a b granted)
+either_way facts c a b White = one_served c (preference (seat_at facts a).played) (preference (seat_at facts b).played)
+either_way facts c a b Black =
+    omega (arith, one_served c (preference (seat_at facts b).played) (preference (seat_at facts a).played))
+
+in_order : (facts : Facts) (c : Colour) (a b : ℕ) (first : Bool)
+    → wants facts c a + wants facts c b
+    ≤ 1 + count_of_both facts (misses Preference) (if first then with_colour a b (colour_of_higher facts a b) else with_colour b a (colour_of_higher facts b a))
+in_order facts c a b true = either_way facts c a b (colour_of_higher facts a b)
+in_order facts c a b false = omega (arith, either_way facts c b a (colour_of_higher facts b a))
+
+pub pair_misses : (facts : Facts) (c : Colour) (pair : ℕ × ℕ) → in_both (wants facts c) pair ≤ 1 + count_in facts (misses Preference) pair
+pair_misses facts c pair = in_order facts c pair.0 pair.1 (nat_lt pair.0 pair.1)
+
+-- each pair of a list
+each_misses : (facts : Facts) (c : Colour) (pairs : List (ℕ × ℕ)) → AllByRecursion (λ pair. in_both (wants facts c) pair ≤ 1 + count_in facts (misses Preference) pair) pairs
+each_misses facts c [] = tt
+each_misses facts c (pair ∷ pairs) = (pair_misses facts c pair, each_misses facts c pairs)
+
+module _ (facts : Facts) (stand : Stand) (shape : Shape) (b a : Arrangement) (within : stand.mdps ≤ length stand.seats) (m : IsIn a (arrangements (frame_of facts stand) shape)) where
+  served : (c : Colour) (others : Beside stand.seats b a)
+      → free (wants facts c) stand b ≤ room stand shape b + sum_by (count_in facts (misses Preference)) (others_of stand.seats b a others)
+  served c others =
+      free_served facts stand shape b a within m (wants facts c) (count_in facts (misses Preference))
+      (λ seat. at_most_one (option_map_or (λ wish. is_same wish.colour c) (preference (seat_at facts seat).played) false)) others
+      (each_misses facts c (others_of stand.seats b a others))
+
+  -- the pairs to come miss at least as many as there are free players too many
+  pub more_miss : HasPairsOf b a → count_in_pairs facts (misses Preference) (all_pairs stand.seats b) + more_missed facts stand shape b ≤ count_in_pairs facts (misses Preference) (all_pairs stand.seats a)
+  more_miss begins =
+      let others = beside stand.seats b a begins in
+      omega (arith, served White others, served Black others, sum_beside (count_in facts (misses Preference)) stand.seats b a others)
+
+pub beginning_misses : (facts : Facts) (stand : Stand) (lower : List ℕ) (shape : Shape) (b a : Arrangement) → stand.mdps ≤ length stand.seats
+    → IsIn a (arrangements (frame_of facts stand) shape) → HasPairsOf b a
+    → count_in_pairs facts (misses Preference) (all_pairs stand.seats b) + more_missed facts stand shape b ≤ (quality_of facts stand lower a).missed_preferences
+beginning_misses facts stand lower shape b a within m begins = more_miss facts stand shape b a within m begins

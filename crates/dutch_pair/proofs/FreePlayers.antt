@@ -1,0 +1,83 @@
+-- Who of the players in no pair of a beginning can be served at most: where each pair to make serves one of them, and beyond that
+-- only at a price, and each downfloater is served, more of them than there are pairs to make and downfloaters cost so much.
+use Rattle.std.proofs.Common.{◌≡◌, ℕ, ◌+◌, ◌-◌, ◌*◌, ◌≤◌, List, [], ◌∷◌, ◌++◌, length, sum_by, refl, sym, ap, ◌∙◌, arith, length-append}
+use Rattle.std.specs.List.{AllByRecursion}
+use Rattle.std.proofs.lemmas.List.{length-map}
+use Rattle.std.proofs.lemmas.List.Sums.{sum_by-cons}
+use Rattle.dutch_order.specs.declared.bracket.Shape.{Shape}
+use Rattle.dutch_order.specs.Keys.{IsIn}
+use Rattle.dutch_order.specs.Arrangements.{Arrangement, remainder_pairs, arrangements}
+use Rattle.dutch_player.specs.Facts.{Facts}
+use Rattle.dutch_pair.specs.Seated.{pairs_of, score_at, all_pairs}
+use Rattle.dutch_pair.specs.Reached.{Stand, frame_of}
+use Rattle.dutch_pair.specs.Round.{downfloaters}
+use Rattle.dutch_pair.specs.Beginnings.{in_both, free, room}
+use Rattle.dutch_pair.proofs.ArrangementParts.{parts_of}
+use Rattle.dutch_pair.proofs.Everybody.{pairs_total, bracket_whole}
+use Rattle.dutch_pair.proofs.FixedPairs.{Beside, others_of, sum_beside, length_beside}
+use Rattle.dutch_pair.proofs.Totals.{total, total_length}
+
+pub total_sum : (w : ℕ → ℕ) (xs : List ℕ) → total w xs ≡ sum_by w xs
+total_sum w [] = refl
+total_sum w (x ∷ xs) = omega (arith, sum_by-cons w x xs, total_sum w xs)
+
+pairs_sum : (w : ℕ → ℕ) (pairs : List (ℕ × ℕ)) → pairs_total w pairs ≡ sum_by (in_both w) pairs
+pairs_sum w [] = refl
+pairs_sum w (pair ∷ pairs) = omega (arith, sum_by-cons (in_both w) pair pairs, pairs_sum w pairs)
+
+-- where each weighs one, a pair weighs two
+two_each : (pairs : List (ℕ × ℕ)) → pairs_total (λ x. 1) pairs ≡ 2 * length pairs
+two_each [] = refl
+two_each (pair ∷ pairs) = omega (arith, two_each pairs)
+
+total_few : (w : ℕ → ℕ) → ((x : ℕ) → w x ≤ 1) → (xs : List ℕ) → total w xs ≤ length xs
+total_few w one [] = omega arith
+total_few w one (x ∷ xs) = omega (arith, one x, total_few w one xs)
+
+-- pairs of which each serves one, and beyond that at a price
+pairs_serve : (f g : ℕ × ℕ → ℕ) (pairs : List (ℕ × ℕ)) → AllByRecursion (λ pair. f pair ≤ 1 + g pair) pairs → sum_by f pairs ≤ length pairs + sum_by g pairs
+pairs_serve f g [] each = omega arith
+pairs_serve f g (pair ∷ pairs) each =
+    omega (arith, sum_by-cons f pair pairs, sum_by-cons g pair pairs, each.0, pairs_serve f g pairs each.1)
+
+pub length_pairs : (seats firsts seconds : List ℕ) → length firsts ≡ length seconds → length (pairs_of seats firsts seconds) ≡ length firsts
+length_pairs seats [] seconds equal = refl
+length_pairs seats (a ∷ firsts) [] equal = absurd (omega arith)
+length_pairs seats (a ∷ firsts) (b ∷ seconds) equal = omega (arith, length_pairs seats firsts seconds (omega arith))
+
+module _ (facts : Facts) (stand : Stand) (shape : Shape) (b a : Arrangement) (within : stand.mdps ≤ length stand.seats) (m : IsIn a (arrangements (frame_of facts stand) shape)) where
+  pairs_made : length (all_pairs stand.seats a) ≡ shape.mdps + (shape.pairs - shape.mdps)
+  pairs_made =
+      let seats : List ℕ = stand.seats in
+      let counted : length (frame_of facts stand).scores ≡ length seats = length-map seats (score_at facts) in
+      let parts = parts_of (frame_of facts stand) shape a (omega (arith, within, counted)) m in
+      omega (
+        arith,
+        length-append (pairs_of seats a.s1 a.s2) (pairs_of seats a.s1r a.s2r),
+        length_pairs seats a.s1 a.s2 (parts.s1_count ∙ sym parts.s2_count),
+        length_pairs seats a.s1r a.s2r (parts.s1r_count ∙ sym parts.s2r_count),
+        parts.s1_count,
+        parts.s1r_count,
+      )
+
+  pub free_served : (w : ℕ → ℕ) (g : ℕ × ℕ → ℕ) → ((x : ℕ) → w x ≤ 1) → (others : Beside stand.seats b a)
+      → AllByRecursion (λ pair. in_both w pair ≤ 1 + g pair) (others_of stand.seats b a others)
+      → free w stand b ≤ room stand shape b + sum_by g (others_of stand.seats b a others)
+  free_served w g one others each =
+      let seats : List ℕ = stand.seats in
+      let down : List ℕ = downfloaters facts stand a in
+      omega (
+        arith,
+        bracket_whole w facts stand shape a within m,
+        bracket_whole (λ x. 1) facts stand shape a within m,
+        total_sum w seats,
+        pairs_sum w (all_pairs seats a),
+        total_few w one down,
+        two_each (all_pairs seats a),
+        total_length down,
+        total_length seats,
+        pairs_made,
+        sum_beside (in_both w) seats b a others,
+        length_beside seats b a others,
+        pairs_serve (in_both w) g (others_of seats b a others) each,
+      )

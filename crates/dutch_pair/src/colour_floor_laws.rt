@@ -1,0 +1,47 @@
+// Laws of how many players miss their colour preference at least, whatever pairs are added to a beginning (C.04.3 C.10, C.11).
+ghost use Rattle.std.specs.Prelude.{◌≡◌, ◌≤◌, ◌+◌, ℕ, List, true, length};
+ghost use Rattle.trf16.specs.declared.cell.Colour.{Colour};
+ghost use Rattle.dutch_order.specs.declared.bracket.Shape.{Shape};
+ghost use Rattle.dutch_order.specs.Keys.{IsIn};
+ghost use Rattle.dutch_order.specs.Arrangements.{Arrangement, arrangements};
+ghost use Rattle.dutch_player.specs.Facts.{Facts};
+ghost use Rattle.dutch_player.specs.Meetings.{may_meet};
+ghost use Rattle.dutch_pair.specs.declared.colours_missed.Miss.TheVariants.{Wide, Third, Preference, StrongPreference};
+ghost use Rattle.dutch_pair.specs.Seated.{all_pairs};
+ghost use Rattle.dutch_pair.specs.Reached.{Stand, frame_of};
+ghost use Rattle.dutch_pair.specs.Round.{candidates_of, quality_of};
+ghost use Rattle.dutch_pair.specs.Quality.{misses, count_in, count_in_pairs, count_with_topscorers};
+ghost use Rattle.dutch_pair.specs.Beginnings.{HasPairsOf, in_both};
+ghost use Rattle.dutch_pair.specs.ColourFloors.{wants, wants_firmly, adds_top, more_missed, more_missed_strong};
+
+/// C.10: of a pair who both want a colour one misses it.
+#[tactic(auto, using(crate::proofs::C10Preferences::pair_misses))]
+pub fn a_pair_misses()
+    ensures { (facts : Facts) (c : Colour) (pair : ℕ × ℕ) → in_both (wants facts c) pair ≤ 1 + count_in facts (misses Preference) pair }
+{}
+
+/// C.11: of a pair who may meet and both have a firm preference for a colour one misses a strong one, or the pair counts for C.8 or
+/// C.9.
+#[tactic(auto, using(crate::proofs::C11StrongPreferences::pair_misses_firmly))]
+pub fn a_pair_misses_firmly()
+    ensures { (facts : Facts) (c : Colour) (a b : ℕ) → may_meet facts a b ≡ true
+        → wants_firmly facts c a + wants_firmly facts c b ≤ 1 + count_in facts (misses StrongPreference) (a, b) + adds_top facts (a, b) }
+{}
+
+/// C.10: how many miss their preference at least, with a beginning.
+pub fn a_beginning_misses()
+    ensures { (facts : Facts) (stand : Stand) (lower : List ℕ) (shape : Shape) (b a : Arrangement) → stand.mdps ≤ length stand.seats
+        → IsIn a (arrangements (frame_of facts stand) shape) → HasPairsOf b a
+        → count_in_pairs facts (misses Preference) (all_pairs stand.seats b) + more_missed facts stand shape b
+        ≤ (quality_of facts stand lower a).missed_preferences }
+{}
+
+/// C.11: how many miss a strong preference at least, with a beginning, where C.8 and C.9 are its own.
+pub fn a_beginning_misses_strongly()
+    ensures { (facts : Facts) (stand : Stand) (lower : List ℕ) (shape : Shape) (b a : Arrangement) → stand.mdps ≤ length stand.seats
+        → IsIn a (candidates_of facts stand shape) → HasPairsOf b a
+        → (quality_of facts stand lower a).wide_differences ≡ count_with_topscorers facts (misses Wide) (all_pairs stand.seats b)
+        → (quality_of facts stand lower a).third_colours ≡ count_with_topscorers facts (misses Third) (all_pairs stand.seats b)
+        → count_in_pairs facts (misses StrongPreference) (all_pairs stand.seats b) + more_missed_strong facts stand shape b
+        ≤ (quality_of facts stand lower a).missed_strong }
+{}
