@@ -1,6 +1,6 @@
 -- Players who can be paired out stay so where others of whom no fewer may meet stand in their places (C.04.3 A.9): the same pairs serve,
 -- place by place.
-use Rattle.std.proofs.Common.{◌≡◌, ℕ, zero, suc, ◌+◌, ◌<◌, Bool, true, false, ◌&&◌, ◌||◌, ◌⊎◌, inl, inr, List, [], ◌∷◌, ◌++◌, map, length, get_or, refl, sym, ap, ◌∙◌, arith, subst}
+use Rattle.std.proofs.Common.{◌≡◌, ℕ, zero, suc, ◌+◌, ◌<◌, Bool, true, false, ◌&&◌, ◌||◌, List, [], ◌∷◌, ◌++◌, map, length, get_or, refl, ap, ◌∙◌, arith, subst}
 use Rattle.dutch_order.specs.Choices.{numbers_from}
 use Rattle.dutch_pair.specs.Completion.{some_partner, nobody, can_cover}
 

@@ -4,19 +4,18 @@
 -- With a number of pairs each candidate leaves equally many downfloaters. A ghost stands for each, in his place: it meets whom some
 -- player of the bracket may meet, so whoever meets the downfloater meets the ghost, and it may have the bye if he may. A list of pairs
 -- that serves for the downfloaters with the lower players therefore serves for the ghosts with them.
-use Rattle.std.proofs.Common.{◌≡◌, ℕ, zero, suc, ◌+◌, ◌-◌, ◌*◌, ◌<◌, ◌≤◌, Bool, true, false, not, ◌&&◌, ◌||◌, nat_le, cond, ◌⊎◌, inl, inr, List, [], ◌∷◌, ◌++◌, map, filter, length, get_or, refl, sym, ap, ◌∙◌, arith, subst, length-append}
+use Rattle.std.proofs.Common.{◌≡◌, ℕ, zero, suc, ◌+◌, ◌-◌, ◌*◌, ◌<◌, ◌≤◌, Bool, true, false, not, ◌&&◌, nat_le, cond, ◌⊎◌, inl, inr, List, [], ◌∷◌, ◌++◌, map, filter, length, get_or, refl, sym, ap, ◌∙◌, arith, subst, length-append}
 use Rattle.std.specs.Prelude.{◌==◌, if◌then◌else◌, None}
 use Rattle.std.specs.List.{list_any}
-use Rattle.std.proofs.lemmas.List.{length-map, get_or-map}
+use Rattle.std.proofs.lemmas.List.{length-map}
 use Rattle.std.proofs.lemmas.List.Folds.{list_any_at}
 use Rattle.std.proofs.lemmas.Bool.Decides.{nat_tests}
-use Rattle.std.proofs.Math.Bool.{and_comm}
 use Rattle.dutch_order.specs.declared.bracket.Shape.{Shape}
 use Rattle.dutch_order.specs.Choices.{numbers_from, is_member}
 use Rattle.dutch_order.specs.Keys.{IsIn}
 use Rattle.dutch_order.specs.Arrangements.{Frame, Arrangement, left_of, remainder_pairs, arrangements, is_legal, down}
 use Rattle.dutch_order.proofs.Members.{climbs-filter, filter-length, length-numbers}
-use Rattle.dutch_player.specs.Facts.{Facts, seat_at}
+use Rattle.dutch_player.specs.Facts.{Facts}
 use Rattle.dutch_player.specs.Meetings.{may_meet}
 use Rattle.dutch_player.proofs.LawLemmas.{meeting_sym}
 use Rattle.dutch_pair.specs.Completion.{can_cover}
@@ -25,7 +24,8 @@ use Rattle.dutch_pair.specs.Seats.{is_seat, seats_meet, seats_may_be_left}
 use Rattle.dutch_pair.specs.Reached.{Stand, frame_of, numbers_meet, number_may_be_left}
 use Rattle.dutch_pair.specs.Shapes.{down_from, fits, shapes_with, has_member, first_with}
 use Rattle.dutch_pair.specs.Round.{is_penultimate, completable, downfloaters, candidates_of, eligible}
-use Rattle.dutch_pair.specs.Ghosts.{some_meets, is_upto, ghost_pair, ghosts_meet, may_bye, ghost_may_be_left, ghosts_can_complete}
+use Rattle.dutch_pair.specs.GhostLaws.{two_sides, low_low, low_high, high_low, high_high}
+use Rattle.dutch_pair.specs.Ghosts.{is_upto, ghost_pair, ghosts_meet, may_bye, ghost_may_be_left, ghosts_can_complete}
 use Rattle.dutch_pair.proofs.Along.{along_numbers, cover_along}
 use Rattle.dutch_pair.proofs.ArrangementParts.{parts_of}
 use Rattle.dutch_pair.proofs.DownLemmas.{down_numbers}
@@ -87,9 +87,6 @@ record StandsFor (bracket lower : List ℕ) (k : ℕ) (all : List ℕ) (a i : �
   ghost : i ≤ k → IsOneOf bracket a
   below : k < i → a ≡ seat_of lower (i - k)
 
-two_sides : (i k : ℕ) → (i ≤ k) ⊎ (k < i)
-two_sides i k = grind arith
-
 is_within : (n i : ℕ) → 1 ≤ i → i ≤ n → is_upto n i ≡ true
 is_within n i h g = and_true (nat_le 1 i) (nat_le i n) (grind (arith, nat_tests)) (grind (arith, nat_tests))
 
@@ -97,67 +94,20 @@ seat_differs : (a b : ℕ) → not (a == b) ≡ true → (a ≡ b) → ⊥
 seat_differs a b e same = grind (arith, nat_tests)
 
 module _ (facts : Facts) (bracket lower : List ℕ) (k : ℕ) where
-  low_low : (i j : ℕ) → i ≤ k → j ≤ k → ghost_pair facts bracket k lower i j ≡ true
-  low_low i j h g =
-      let first : nat_le i k ≡ true = grind (arith, nat_tests) in
-      let second : nat_le j k ≡ true = grind (arith, nat_tests) in
-      ap (λ t. cond t (nat_le j k || some_meets facts bracket (seat_of lower (j - k))) (cond (nat_le j k) (some_meets facts bracket (seat_of lower (i - k))) (may_meet facts (seat_of lower (i - k)) (seat_of lower (j - k))))) first
-      ∙ ap (λ t. t || some_meets facts bracket (seat_of lower (j - k))) second
-
-  low_high : (i j : ℕ) → i ≤ k → k < j → ghost_pair facts bracket k lower i j ≡ some_meets facts bracket (seat_of lower (j - k))
-  low_high i j h g =
-      let first : nat_le i k ≡ true = grind (arith, nat_tests) in
-      let second : nat_le j k ≡ false = grind (arith, nat_tests) in
-      ap (λ t. cond t (nat_le j k || some_meets facts bracket (seat_of lower (j - k))) (cond (nat_le j k) (some_meets facts bracket (seat_of lower (i - k))) (may_meet facts (seat_of lower (i - k)) (seat_of lower (j - k))))) first
-      ∙ ap (λ t. t || some_meets facts bracket (seat_of lower (j - k))) second
-
-  high_low : (i j : ℕ) → k < i → j ≤ k → ghost_pair facts bracket k lower i j ≡ some_meets facts bracket (seat_of lower (i - k))
-  high_low i j h g =
-      let first : nat_le i k ≡ false = grind (arith, nat_tests) in
-      let second : nat_le j k ≡ true = grind (arith, nat_tests) in
-      ap (λ t. cond t (nat_le j k || some_meets facts bracket (seat_of lower (j - k))) (cond (nat_le j k) (some_meets facts bracket (seat_of lower (i - k))) (may_meet facts (seat_of lower (i - k)) (seat_of lower (j - k))))) first
-      ∙ ap (λ t. cond t (some_meets facts bracket (seat_of lower (i - k))) (may_meet facts (seat_of lower (i - k)) (seat_of lower (j - k)))) second
-
-  high_high : (i j : ℕ) → k < i → k < j → ghost_pair facts bracket k lower i j ≡ may_meet facts (seat_of lower (i - k)) (seat_of lower (j - k))
-  high_high i j h g =
-      let first : nat_le i k ≡ false = grind (arith, nat_tests) in
-      let second : nat_le j k ≡ false = grind (arith, nat_tests) in
-      ap (λ t. cond t (nat_le j k || some_meets facts bracket (seat_of lower (j - k))) (cond (nat_le j k) (some_meets facts bracket (seat_of lower (i - k))) (may_meet facts (seat_of lower (i - k)) (seat_of lower (j - k))))) first
-      ∙ ap (λ t. cond t (some_meets facts bracket (seat_of lower (i - k))) (may_meet facts (seat_of lower (i - k)) (seat_of lower (j - k)))) second
-
   -- whoever meets meets the ghost, and ghosts meet
   pub pair_of : (a b i j : ℕ) → (i ≤ k → IsOneOf bracket a) → (k < i → a ≡ seat_of lower (i - k)) → (j ≤ k → IsOneOf bracket b) → (k < j → b ≡ seat_of lower (j - k))
       → may_meet facts a b ≡ true → ghost_pair facts bracket k lower i j ≡ true
   pair_of a b i j ga la gb lb e =
       elim (two_sides i k) [
         | inl h ↦ elim (two_sides j k) [
-          | inl g ↦ low_low i j h g
-          | inr g ↦ low_high i j h g ∙ some_passes (λ c. may_meet facts c (seat_of lower (j - k))) bracket a (ga h) (ap (may_meet facts a) (sym (lb g)) ∙ e)
+          | inl g ↦ low_low facts bracket lower k i j h g
+          | inr g ↦ low_high facts bracket lower k i j h g ∙ some_passes (λ c. may_meet facts c (seat_of lower (j - k))) bracket a (ga h) (ap (may_meet facts a) (sym (lb g)) ∙ e)
         ]
         | inr h ↦ elim (two_sides j k) [
-          | inl g ↦ high_low i j h g ∙ some_passes (λ c. may_meet facts c (seat_of lower (i - k))) bracket b (gb g) (ap (may_meet facts b) (sym (la h)) ∙ meeting_sym facts b a ∙ e)
-          | inr g ↦ high_high i j h g ∙ ap (λ c. may_meet facts c (seat_of lower (j - k))) (sym (la h)) ∙ ap (may_meet facts a) (sym (lb g)) ∙ e
+          | inl g ↦ high_low facts bracket lower k i j h g ∙ some_passes (λ c. may_meet facts c (seat_of lower (i - k))) bracket b (gb g) (ap (may_meet facts b) (sym (la h)) ∙ meeting_sym facts b a ∙ e)
+          | inr g ↦ high_high facts bracket lower k i j h g ∙ ap (λ c. may_meet facts c (seat_of lower (j - k))) (sym (la h)) ∙ ap (may_meet facts a) (sym (lb g)) ∙ e
         ]
       ]
-
-  pair_sym : (i j : ℕ) → ghost_pair facts bracket k lower i j ≡ ghost_pair facts bracket k lower j i
-  pair_sym i j =
-      elim (two_sides i k) [
-        | inl h ↦ elim (two_sides j k) [ inl g ↦ low_low i j h g ∙ sym (low_low j i g h) | inr g ↦ low_high i j h g ∙ sym (high_low j i g h) ]
-        | inr h ↦ elim (two_sides j k) [
-          | inl g ↦ high_low i j h g ∙ sym (low_high j i g h)
-          | inr g ↦ high_high i j h g ∙ meeting_sym facts (seat_of lower (i - k)) (seat_of lower (j - k)) ∙ sym (high_high j i g h)
-        ]
-      ]
-
-  -- whom a ghost meets meets it
-  pub ghosts_meet_sym : (i j : ℕ) → ghosts_meet facts bracket k lower i j ≡ ghosts_meet facts bracket k lower j i
-  ghosts_meet_sym i j =
-      let n = k + length lower in
-      let equal : (i == j) ≡ (j == i) = grind (arith, nat_tests) in
-      ap (λ t. t && (not (i == j) && ghost_pair facts bracket k lower i j)) (and_comm (is_upto n i) (is_upto n j))
-      ∙ ap (λ t. (is_upto n j && is_upto n i) && (not t && ghost_pair facts bracket k lower i j)) equal
-      ∙ ap (λ t. (is_upto n j && is_upto n i) && (not (j == i) && t)) (pair_sym i j)
 
   -- the bye of a ghost, and of a lower player
   pub left_of_ghost : (a i : ℕ) → (i ≤ k → IsOneOf bracket a) → (k < i → a ≡ seat_of lower (i - k)) → may_bye facts a ≡ true

@@ -10,6 +10,7 @@ pub mod eligible;
 pub mod examples;
 pub mod fault;
 pub mod floats;
+mod ghosts;
 pub mod group;
 pub mod laws;
 pub mod lookahead;
