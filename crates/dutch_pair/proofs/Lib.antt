@@ -1,4 +1,6 @@
 pub mod AllLemmas
+pub mod Along
+pub mod C04Ghosts
 pub mod ArrangementParts
 pub mod BestLemmas
 pub mod BoardLemmas

@@ -24,4 +24,6 @@ pub mod ColourFloors
 pub mod PsdFloors
 pub mod Floors
 pub mod Ghosts
+pub mod GhostRules
+pub mod GhostLaws
 pub mod Aims

@@ -12,6 +12,7 @@ pub mod examples;
 pub mod fault;
 pub mod floats;
 mod floor_laws;
+mod ghosts;
 pub mod group;
 pub mod laws;
 pub mod lookahead;
