@@ -95,8 +95,8 @@ impl<'a, R: Rule> Tree for Opponents<'a, R> {
     }
 }
 
-/// Tells of beginnings of paths that the tuples of their numbers are idle.
-#[derive(Clone, Copy)]
+/// Tells of beginnings of paths whether they are cut, by the numbers at their places.
+#[derive(Drop)]
 struct CutsPlaces<'a, C> {
     pool: &'a [u16],
     cuts: &'a C,
@@ -214,9 +214,9 @@ impl<'a, R: Rule> Transpositions<'a, R> {
             Step::Undecided => Step::Undecided,
         }
     }
-    /// The next list that is not idle, or one that the cuts do not know to be so: they are asked with the numbers of each beginning
-    /// at which the search arrives, and the lists that begin as they cut are skipped without a step. Where it is `Undecided` some of
-    /// the lists to come may have been skipped, and all of those were idle.
+
+    /// The next list, as `next` gives it, but lists that the cuts know to be idle may be skipped, at no step: they are asked with the
+    /// numbers of each beginning at which the search arrives. All that was skipped is idle, whatever the answer, `Undecided` too.
     pub(crate) fn next_past<C: CutsTuples>(
         &mut self,
         cuts: &C,
