@@ -7,8 +7,9 @@ ghost use Rattle.dutch_order.specs.TranspositionSearch.{transposition_plan, numb
 ghost use Rattle.dutch_order.specs.Choices.{tuples, all_meet, from_on};
 ghost use Rattle.dutch_order.specs.Keys.{sorted, IsIn};
 ghost use Rattle.dutch_order.specs.Transposition.{tuple_key};
-ghost use Rattle.dutch_order.specs.Steps.{MatchStep};
+ghost use Rattle.dutch_order.specs.Steps.{MatchStep, Passes};
 
+use crate::cuts::CutsTuples;
 use crate::numbers::{LIMIT, Numbers, copied};
 use crate::rules::Rule;
 use crate::search::{Hinted, Path, Tree, Walk, climb_on, first_hint};
@@ -190,5 +191,23 @@ impl<'a, R: Rule> Transpositions<'a, R> {
             Step::End => Step::End,
             Step::Undecided => Step::Undecided,
         }
+    }
+
+    /// The next list, where those may be skipped of which `cuts` tells.
+    pub(crate) fn next_past<C: CutsTuples>(
+        &mut self,
+        cuts: &C,
+        budget: &mut Budget,
+    ) -> Step<Numbers>
+        requires { budget.old.used ≤ budget.old.limit }
+        ensures answer { MatchStep result
+            (λ numbers. Passes (C.Idle cuts.now) self.old.coming (numbers.items ∷ self.new.coming))
+            (Passes (C.Idle cuts.now) self.old.coming [] × (self.new.coming ≡ []))
+            (Passes (C.Idle cuts.now) self.old.coming self.new.coming × (budget.new.used ≡ budget.new.limit)) }
+        ensures limit { budget.new.limit ≡ budget.old.limit }
+        ensures rises { budget.old.used ≤ budget.new.used }
+        ensures within { budget.new.used ≤ budget.new.limit }
+    {
+        self.next(budget)
     }
 }
