@@ -369,3 +369,25 @@ module _ (frame : Frame) (shape : Shape) where
 pub none-behind : (meets : ℕ → ℕ → Bool) (may_be_left : ℕ → Bool) (frame : Frame) (shape : Shape) (a : Arrangement) → candidates meets may_be_left frame shape ≡ [] → rest meets may_be_left frame shape a ≡ []
 none-behind meets may_be_left frame shape a none =
     behind-none (is_legal meets may_be_left frame) a (arrangements frame shape) none
+
+later-kept : (p : Arrangement → Bool) (x b : Arrangement) (xs : List Arrangement) → IsIn b (filter p xs) → IsIn b (filter p (x ∷ xs))
+later-kept p x b xs m =
+    elim (p x) as (λ t. IsIn b (cond t (x ∷ filter p xs) (filter p xs))) [
+      | true ↦ inr m
+      | false ↦ m
+    ]
+
+-- who passes a test and stands behind an arrangement of a list is one of those in the list who pass it
+behind-kept : (p : Arrangement → Bool) (a b : Arrangement) (xs : List Arrangement) → IsIn b (filter p (behind a xs)) → IsIn b (filter p xs)
+behind-kept p a b [] m = m
+behind-kept p a b (x ∷ xs) m =
+    elim (cases_Bool (is_same_arrangement x a)) [
+      | inl same ↦ later-kept p x b xs (subst (λ t. IsIn b (filter p (if t then xs else behind a xs))) same m)
+      | inr other ↦
+          later-kept p x b xs (behind-kept p a b xs (subst (λ t. IsIn b (filter p (if t then xs else behind a xs))) other m))
+    ]
+
+-- a candidate behind an arrangement is a candidate
+pub rest-in : (meets : ℕ → ℕ → Bool) (may_be_left : ℕ → Bool) (frame : Frame) (shape : Shape) (a b : Arrangement) → IsIn b (rest meets may_be_left frame shape a) → IsIn b (candidates meets may_be_left frame shape)
+rest-in meets may_be_left frame shape a b m =
+    behind-kept (is_legal meets may_be_left frame) a b (arrangements frame shape) m

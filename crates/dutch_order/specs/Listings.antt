@@ -1,17 +1,24 @@
 -- What a listing of candidates has still to give.
-use Rattle.std.specs.Prelude.{List, [], ◌∷◌, Option, Some, None}
+use Rattle.std.specs.Prelude.{Bool, true, false, List, [], ◌∷◌, Option, Some, None}
 use Rattle.dutch_order.specs.declared.bracket.Shape.{Shape}
 use Rattle.dutch_order.specs.Arrangements.{Frame, Arrangement}
 
--- the bracket and the shape whose candidates are listed, those still to come, and the arrangement behind which they stand, if there
--- is one: the candidate handed out last, or else the one from which the listing began
-pub record Listing : Type 0 where
+-- the bracket, the shape and the rule whose candidates are listed, those still to come, the arrangement behind which they stand, if
+-- there is one: the candidate handed out last, or else the one from which the listing began; and whether the end was told
+pub record Listing (R : Type 0) : Type 0 where
   pub frame : Frame
   pub shape : Shape
+  pub rule : R
   pub coming : List Arrangement
   pub latest : Option Arrangement
+  pub ended : Bool
 
 -- what there is, as a list
 abbrev pub listed : {T : Type 0} → Option T → List T
 listed None = []
 listed (Some x) = x ∷ []
+
+-- what is still to come of a list: nothing, once the end was told
+abbrev pub still_coming : {T : Type 0} → Bool → List T → List T
+still_coming true xs = []
+still_coming false xs = xs

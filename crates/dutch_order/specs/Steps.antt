@@ -1,6 +1,6 @@
 -- What a call that may stop at a limit answers.
-use Rattle.std.specs.Prelude.{◌≡◌, ℕ, Bool, true, false, List, [], ◌∷◌, ◌++◌}
-use Rattle.std.specs.List.{list_all, AllByRecursion}
+use Rattle.std.specs.Prelude.{◌≡◌, ℕ, List, [], ◌∷◌, ◌++◌}
+use Rattle.std.specs.List.{AllByRecursion}
 use Rattle.dutch_order.specs.declared.steps.Step.{Step}
 use Rattle.dutch_order.specs.declared.steps.Step.TheVariants.{Found, End, Undecided}
 
@@ -15,20 +15,12 @@ MatchStep (Found x) found ended undecided = found x
 MatchStep End found ended undecided = ended
 MatchStep Undecided found ended undecided = undecided
 
--- a list that goes on as another, once some of its beginning is skipped that is all without interest
-abbrev pub Skips : {T : Type 0} → (T → Bool) → List T → List T → Type 0
-Skips {T} dull before after = (skipped : List T) × (before ≡ skipped ++ after) × (list_all dull skipped ≡ true)
-
 -- a list that goes on as another, once some of its beginning is skipped of which each is idle
 abbrev pub Passes : {T : Type 0} → (T → Type 0) → List T → List T → Type 0
 Passes {T} Idle before after = (skipped : List T) × (before ≡ skipped ++ after) × AllByRecursion Idle skipped
 
--- what a call hands out of the list to come before it, where it may skip what is without interest
-abbrev pub HandsOut : {T : Type 0} → (T → Bool) → List T → List T → Step T → Type 0
-HandsOut dull before after (Found x) = Skips dull before (x ∷ after)
-HandsOut dull before after End = Skips dull before [] × (after ≡ [])
-HandsOut dull before after Undecided = Skips dull before after
-
--- nothing is without interest
-abbrev pub never : {T : Type 0} → T → Bool
-never x = false
+-- what a call hands out of the list to come before it, where it may skip what is idle: where it ends, all of it is idle
+abbrev pub HandsOut : {T : Type 0} → (T → Type 0) → List T → List T → Step T → Type 0
+HandsOut Idle before after (Found x) = Passes Idle before (x ∷ after)
+HandsOut Idle before after End = Passes Idle before []
+HandsOut Idle before after Undecided = Passes Idle before after

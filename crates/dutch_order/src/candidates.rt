@@ -3,18 +3,22 @@
 // Four levels list the arrangements whose pairs may meet. What is left here is the last question, whether those may be left over
 // whom an arrangement leaves: an arrangement that has been found is kept until that question is answered.
 ghost use Rattle.std.specs.Prelude.{◌≡◌, ◌≤◌, ◌++◌, ◌∷◌, [], Some, None, filter, length, not, ◌||◌, ◌&&◌, ◌-◌, ◌*◌, nat_lt, true, false};
+ghost use Rattle.std.specs.List.{AllByRecursion};
 ghost use Rattle.dutch_order.specs.Arrangements.{Fits, arrangements, candidates, down, leaves_one, rest};
 ghost use Rattle.dutch_order.specs.Keys.{IsIn};
 ghost use Rattle.dutch_order.specs.Levels.{may_leave};
 ghost use Rattle.dutch_order.specs.Listings.{listed};
-ghost use Rattle.dutch_order.specs.Steps.{HandsOut, MatchStep, never};
+ghost use Rattle.dutch_order.specs.Steps.{HandsOut, MatchStep, Passes};
 
+use crate::bound::Bound;
 use crate::bracket::{Bracket, Shape};
 use crate::candidate::Candidate;
 use crate::choices::ByS1;
 use crate::cursor::Cursor;
+use crate::cuts::{Cuts, NoCuts, Within};
 use crate::levels::{Arranges, Level};
 use crate::numbers::{Numbers, left_of};
+use crate::prefix::Prefix;
 use crate::rules::Rule;
 use crate::steps::{Budget, Step};
 use std::marker::Model;
@@ -71,13 +75,14 @@ fn leaves_too_many(bracket: &Bracket, shape: Shape) -> bool
 }
 
 /// The next arrangement: the one that is kept, or else the level's next.
-fn next_listed<L: Arranges>(
+fn next_listed<L: Arranges, C: Cuts>(
     ready: &mut Option<Cursor>,
     level: &mut L,
+    cuts: &C,
     budget: &mut Budget,
 ) -> Step<Cursor>
     requires { budget.old.used ≤ budget.old.limit }
-    ensures answer { HandsOut never (listed ready.old ++ L.coming level.old) (L.coming level.new) result }
+    ensures answer { HandsOut (C.Idle cuts.now) (listed ready.old ++ L.coming level.old) (L.coming level.new) result }
     ensures taken { ready.new ≡ None }
     ensures stopped { MatchStep result (λ _. Unit {0}) (Unit {0}) (budget.new.used ≡ budget.new.limit) }
     ensures limit { budget.new.limit ≡ budget.old.limit }
@@ -86,35 +91,36 @@ fn next_listed<L: Arranges>(
 {
     match ready.take() {
         Some(lists) => Step::Found(lists),
-        None => level.next(budget),
+        None => level.next(cuts, budget),
     }
 }
 
-/// The next arrangement that leaves over whom its bracket may leave.
-fn next_legal<R: Rule, L: Arranges>(
+/// The next arrangement that leaves over whom its bracket may leave, where those may be skipped of which `cuts` tells.
+fn next_legal<R: Rule, L: Arranges, C: Cuts>(
     bracket: &Bracket,
     rule: &R,
     ready: &mut Option<Cursor>,
     level: &mut L,
+    cuts: &C,
     budget: &mut Budget,
 ) -> Step<Candidate>
     requires { budget.old.used ≤ budget.old.limit }
     ensures answer { MatchStep result
-        (λ c.
-        (filter (may_leave (R.may_be_left rule.now) bracket.now) (listed ready.old ++ L.coming level.old)
-        ≡ c.lists ∷ filter (may_leave (R.may_be_left rule.now) bracket.now) (listed ready.new ++ L.coming level.new))
+        (λ c. Passes (C.Idle cuts.now)
+        (filter (may_leave (R.may_be_left rule.now) bracket.now) (listed ready.old ++ L.coming level.old))
+        (c.lists ∷ filter (may_leave (R.may_be_left rule.now) bracket.now) (listed ready.new ++ L.coming level.new))
         × (c.down ≡ down bracket.now c.lists))
-        ((filter (may_leave (R.may_be_left rule.now) bracket.now) (listed ready.old ++ L.coming level.old) ≡ [])
-        × (filter (may_leave (R.may_be_left rule.now) bracket.now) (listed ready.new ++ L.coming level.new) ≡ []))
-        ((filter (may_leave (R.may_be_left rule.now) bracket.now) (listed ready.new ++ L.coming level.new)
-        ≡ filter (may_leave (R.may_be_left rule.now) bracket.now) (listed ready.old ++ L.coming level.old))
+        (Passes (C.Idle cuts.now) (filter (may_leave (R.may_be_left rule.now) bracket.now) (listed ready.old ++ L.coming level.old)) [])
+        (Passes (C.Idle cuts.now)
+        (filter (may_leave (R.may_be_left rule.now) bracket.now) (listed ready.old ++ L.coming level.old))
+        (filter (may_leave (R.may_be_left rule.now) bracket.now) (listed ready.new ++ L.coming level.new))
         × (budget.new.used ≡ budget.new.limit)) }
     ensures limit { budget.new.limit ≡ budget.old.limit }
     ensures rises { budget.old.used ≤ budget.new.used }
     ensures within { budget.new.used ≤ budget.new.limit }
 {
     loop {
-        let lists = match next_listed(ready, level, budget) {
+        let lists = match next_listed(ready, level, cuts, budget) {
             Step::Found(lists) => lists,
             Step::End => return Step::End,
             Step::Undecided => return Step::Undecided,
@@ -141,6 +147,8 @@ pub struct Candidates<'a, R: Rule> {
     rule: &'a R,
     // nothing can be legal, which is known without a step
     hopeless: bool,
+    // `End` was answered
+    ended: bool,
     level: Level<ByS1<'a, R>>,
     // found, and not yet asked whether it leaves over whom it may
     ready: Option<Cursor>,
@@ -149,21 +157,28 @@ pub struct Candidates<'a, R: Rule> {
 
 impl<'a, R: Rule> Model for Candidates<'a, R> {
     ghost use Rattle.std.specs.Prelude.{◌≡◌, ◌++◌, ◌&&◌, ◌-◌, ◌*◌, [], filter, length, nat_lt, true};
+    ghost use Rattle.std.specs.List.{AllByRecursion};
+    ghost use Rattle.dutch_order.specs.Arrangements.{candidates};
+    ghost use Rattle.dutch_order.specs.Keys.{IsIn};
     ghost use Rattle.dutch_order.specs.Levels.{may_leave};
-    ghost use Rattle.dutch_order.specs.Listings.{Listing, listed};
+    ghost use Rattle.dutch_order.specs.Listings.{Listing, listed, still_coming};
 
-    ghost Value = { Listing };
+    ghost Value = { Listing R };
 
     ghost view = { λ l. record {
       frame = l.bracket.now;
       shape = l.shape;
-      coming = filter (may_leave (R.may_be_left l.rule.now) l.bracket.now) (listed l.ready ++ l.level);
+      rule = l.rule.now;
+      coming = still_coming l.ended (filter (may_leave (R.may_be_left l.rule.now) l.bracket.now) (listed l.ready ++ l.level));
       latest = l.latest;
+      ended = l.ended;
     } };
 
     ghost invariant = { λ l.
         (l.hopeless ≡ (l.bracket.now.last && nat_lt 1 (length l.bracket.now.scores - 2 * l.shape.pairs)))
-        × (l.hopeless ≡ true → filter (may_leave (R.may_be_left l.rule.now) l.bracket.now) (listed l.ready ++ l.level) ≡ []) };
+        × (l.hopeless ≡ true → filter (may_leave (R.may_be_left l.rule.now) l.bracket.now) (listed l.ready ++ l.level) ≡ [])
+        × AllByRecursion (λ a. IsIn a (candidates (R.meets l.rule.now) (R.may_be_left l.rule.now) l.bracket.now l.shape))
+        (still_coming l.ended (filter (may_leave (R.may_be_left l.rule.now) l.bracket.now) (listed l.ready ++ l.level))) };
 }
 
 impl<'a, R: Rule> Candidates<'a, R> {
@@ -173,6 +188,8 @@ impl<'a, R: Rule> Candidates<'a, R> {
         ensures coming { result.coming ≡ candidates (R.meets rule.now) (R.may_be_left rule.now) bracket.now shape }
         ensures frame { result.frame ≡ bracket.now }
         ensures shape { result.shape ≡ shape }
+        ensures rule { result.rule ≡ rule.now }
+        ensures ended { result.ended ≡ false }
         ensures latest { result.latest ≡ None }
     {
         let mdps = bracket.mdps();
@@ -188,6 +205,7 @@ impl<'a, R: Rule> Candidates<'a, R> {
             shape,
             rule,
             hopeless: leaves_too_many(bracket, shape),
+            ended: false,
             level: Level::new(blocks),
             ready: None,
             latest: None,
@@ -206,6 +224,8 @@ impl<'a, R: Rule> Candidates<'a, R> {
         ensures coming { result.coming ≡ rest (R.meets rule.now) (R.may_be_left rule.now) bracket.now shape cursor }
         ensures frame { result.frame ≡ bracket.now }
         ensures shape { result.shape ≡ shape }
+        ensures rule { result.rule ≡ rule.now }
+        ensures ended { result.ended ≡ false }
         ensures latest { result.latest ≡ Some cursor }
     {
         let mdps = bracket.mdps();
@@ -223,15 +243,63 @@ impl<'a, R: Rule> Candidates<'a, R> {
             shape,
             rule,
             hopeless: leaves_too_many(bracket, shape),
+            ended: false,
             level: Level::new(blocks),
             ready: None,
             latest,
         }
     }
 
+    // The next candidate, where those may be skipped of which `cuts` tells.
+    fn go_on<C: Cuts>(&mut self, cuts: &C, budget: &mut Budget) -> Step<Candidate>
+        requires { budget.old.used ≤ budget.old.limit }
+        ensures answer { MatchStep result
+            (λ c. Passes (C.Idle cuts.now) self.old.coming (c.lists ∷ self.new.coming) × (c.down ≡ down self.old.frame c.lists) × (self.new.latest ≡ Some c.lists))
+            (Passes (C.Idle cuts.now) self.old.coming [] × (self.new.coming ≡ []) × (self.new.latest ≡ self.old.latest))
+            (Passes (C.Idle cuts.now) self.old.coming self.new.coming × (self.new.latest ≡ self.old.latest) × (budget.new.used ≡ budget.new.limit)) }
+        ensures candidates { AllByRecursion (λ a. IsIn a (candidates (R.meets self.old.rule) (R.may_be_left self.old.rule) self.old.frame self.old.shape)) self.old.coming }
+        ensures hopeless { (self.old.frame.last && nat_lt 1 (length self.old.frame.scores - 2 * self.old.shape.pairs)) ≡ true
+            → MatchStep result (λ _. ⊥) (budget.new.used ≡ budget.old.used) ⊥ }
+        ensures ended { MatchStep result (λ _. self.new.ended ≡ self.old.ended) (self.new.ended ≡ true) (self.new.ended ≡ self.old.ended) }
+        ensures after_end { self.old.ended ≡ true → MatchStep result (λ _. ⊥) (budget.new.used ≡ budget.old.used) ⊥ }
+        ensures frame { self.new.frame ≡ self.old.frame }
+        ensures shape { self.new.shape ≡ self.old.shape }
+        ensures rule { self.new.rule ≡ self.old.rule }
+        ensures limit { budget.new.limit ≡ budget.old.limit }
+        ensures rises { budget.old.used ≤ budget.new.used }
+        ensures within { budget.new.used ≤ budget.new.limit }
+    {
+        if self.ended {
+            return Step::End;
+        }
+        if self.hopeless || cuts.cuts(&Prefix::nothing()) {
+            self.ended = true;
+            return Step::End;
+        }
+        match next_legal(
+            self.bracket,
+            self.rule,
+            &mut self.ready,
+            &mut self.level,
+            cuts,
+            budget,
+        ) {
+            Step::Found(candidate) => {
+                self.latest = Some(candidate.cursor());
+                Step::Found(candidate)
+            }
+            Step::End => {
+                self.ended = true;
+                Step::End
+            }
+            Step::Undecided => Step::Undecided,
+        }
+    }
+
     /// The next candidate. `Found` gives the first of those to come, `End` is answered where none is left, and `Undecided` where the
     /// budget is used up before the next one is found: what is to come is then as it was. Where the bracket may leave over at most
-    /// one player and the shape leaves more, `End` is answered without a step.
+    /// one player and the shape leaves more, `End` is answered without a step. After `End` every further call answers `End` without
+    /// a step.
     pub fn next(&mut self, budget: &mut Budget) -> Step<Candidate>
         requires { budget.old.used ≤ budget.old.limit }
         ensures answer { MatchStep result
@@ -240,29 +308,46 @@ impl<'a, R: Rule> Candidates<'a, R> {
             ((self.new.coming ≡ self.old.coming) × (self.new.latest ≡ self.old.latest) × (budget.new.used ≡ budget.new.limit)) }
         ensures hopeless { (self.old.frame.last && nat_lt 1 (length self.old.frame.scores - 2 * self.old.shape.pairs)) ≡ true
             → MatchStep result (λ _. ⊥) (budget.new.used ≡ budget.old.used) ⊥ }
+        ensures ended { MatchStep result (λ _. self.new.ended ≡ self.old.ended) (self.new.ended ≡ true) (self.new.ended ≡ self.old.ended) }
+        ensures after_end { self.old.ended ≡ true → MatchStep result (λ _. ⊥) (budget.new.used ≡ budget.old.used) ⊥ }
         ensures frame { self.new.frame ≡ self.old.frame }
         ensures shape { self.new.shape ≡ self.old.shape }
+        ensures rule { self.new.rule ≡ self.old.rule }
         ensures limit { budget.new.limit ≡ budget.old.limit }
         ensures rises { budget.old.used ≤ budget.new.used }
         ensures within { budget.new.used ≤ budget.new.limit }
     {
-        if self.hopeless {
-            return Step::End;
-        }
-        match next_legal(
-            self.bracket,
-            self.rule,
-            &mut self.ready,
-            &mut self.level,
-            budget,
-        ) {
-            Step::Found(candidate) => {
-                self.latest = Some(candidate.cursor());
-                Step::Found(candidate)
-            }
-            Step::End => Step::End,
-            Step::Undecided => Step::Undecided,
-        }
+        self.go_on(&NoCuts, budget)
+    }
+
+    /// The next candidate, where those may be left out of which the bound knows that they are without interest. It is asked about
+    /// beginnings of arrangements, which takes no step: about the empty one at each call, and about others while a list is filled.
+    /// `Found` gives a candidate before which all that were to come are without interest, and those behind it are still to come.
+    /// `End` is answered where all that were to come are without interest, and then none is to come. After `Undecided`, where the
+    /// budget is used up first, a part of what was to come is without interest and the rest is still to come. After `End` every
+    /// further call answers `End` without a step.
+    pub fn next_within<B: Bound>(&mut self, bound: &B, budget: &mut Budget) -> Step<Candidate>
+        requires frame { B.frame bound.now ≡ self.old.frame }
+        requires shape { B.shape bound.now ≡ self.old.shape }
+        requires meets { B.meets bound.now ≡ R.meets self.old.rule }
+        requires may_be_left { B.may_be_left bound.now ≡ R.may_be_left self.old.rule }
+        requires within { budget.old.used ≤ budget.old.limit }
+        ensures answer { MatchStep result
+            (λ c. Passes (λ a. B.is_dull bound.now a ≡ true) self.old.coming (c.lists ∷ self.new.coming) × (c.down ≡ down self.old.frame c.lists) × (self.new.latest ≡ Some c.lists))
+            (Passes (λ a. B.is_dull bound.now a ≡ true) self.old.coming [] × (self.new.coming ≡ []) × (self.new.latest ≡ self.old.latest))
+            (Passes (λ a. B.is_dull bound.now a ≡ true) self.old.coming self.new.coming × (self.new.latest ≡ self.old.latest) × (budget.new.used ≡ budget.new.limit)) }
+        ensures hopeless { (self.old.frame.last && nat_lt 1 (length self.old.frame.scores - 2 * self.old.shape.pairs)) ≡ true
+            → MatchStep result (λ _. ⊥) (budget.new.used ≡ budget.old.used) ⊥ }
+        ensures ended { MatchStep result (λ _. self.new.ended ≡ self.old.ended) (self.new.ended ≡ true) (self.new.ended ≡ self.old.ended) }
+        ensures after_end { self.old.ended ≡ true → MatchStep result (λ _. ⊥) (budget.new.used ≡ budget.old.used) ⊥ }
+        ensures frame { self.new.frame ≡ self.old.frame }
+        ensures shape { self.new.shape ≡ self.old.shape }
+        ensures rule { self.new.rule ≡ self.old.rule }
+        ensures limit { budget.new.limit ≡ budget.old.limit }
+        ensures rises { budget.old.used ≤ budget.new.used }
+        ensures within { budget.new.used ≤ budget.new.limit }
+    {
+        self.go_on(&Within { bound }, budget)
     }
 
     /// The candidate handed out last, or the one behind which the listing began: a later listing can go on behind it.

@@ -8,15 +8,17 @@ ghost use Rattle.dutch_order.specs.Exchange.{exchanges};
 ghost use Rattle.dutch_order.specs.Choices.{all_meet, from_on, subsets, tuples, numbers_from};
 ghost use Rattle.dutch_order.specs.Keys.{IsIn, sorted};
 ghost use Rattle.dutch_order.specs.Levels.{HasS1r, HasS2, HasS2r, behind_s2r, by_s1, by_s1r, by_s2, by_s2r, s1_blocks, s1r_blocks, s2_blocks, without_own};
-ghost use Rattle.dutch_order.specs.Steps.{MatchStep};
+ghost use Rattle.dutch_order.specs.Steps.{MatchStep, Passes};
 ghost use Rattle.dutch_order.specs.Limbo.{IsNonAscending, limbo_exchanges};
 ghost use Rattle.dutch_order.specs.Transposition.{transpositions, tuple_key};
 
 use crate::cursor::Cursor;
+use crate::cuts::{Cuts, CutsTuples, OfS2, OfS2r};
 use crate::exchange::Exchanges;
 use crate::levels::{Arranges, Blocks, Level};
 use crate::limbo::LimboExchanges;
 use crate::numbers::{Numbers, copied, is_same, left_of};
+use crate::prefix::{Filling, Prefix};
 use crate::rules::Rule;
 use crate::steps::{Budget, Step};
 use crate::transposition::Transpositions;
@@ -92,49 +94,60 @@ impl<'a, R: Rule> ByS2r<'a, R> {
     }
 }
 
-/// The next list but for a cursor's own, which may come first.
-fn next_other<R: Rule>(
+/// The next list but for a cursor's own, which may come first. None is skipped before the first one has come.
+fn next_other<R: Rule, C: CutsTuples>(
     lists: &mut Transpositions<'_, R>,
     resume: &mut Option<Cursor>,
+    cuts: &C,
     budget: &mut Budget,
 ) -> Step<Numbers>
     requires { budget.old.used ≤ budget.old.limit }
     ensures answer { MatchStep result
-        (λ numbers. without_own resume.old lists.old.coming ≡ numbers.items ∷ without_own resume.new lists.new.coming)
-        ((without_own resume.old lists.old.coming ≡ []) × (without_own resume.new lists.new.coming ≡ []))
-        ((without_own resume.new lists.new.coming ≡ without_own resume.old lists.old.coming) × (budget.new.used ≡ budget.new.limit)) }
+        (λ numbers. Passes (C.Idle cuts.now) (without_own resume.old lists.old.coming) (numbers.items ∷ without_own resume.new lists.new.coming))
+        (Passes (C.Idle cuts.now) (without_own resume.old lists.old.coming) [])
+        (Passes (C.Idle cuts.now) (without_own resume.old lists.old.coming) (without_own resume.new lists.new.coming) × (budget.new.used ≡ budget.new.limit)) }
     ensures limit { budget.new.limit ≡ budget.old.limit }
     ensures rises { budget.old.used ≤ budget.new.used }
     ensures within { budget.new.used ≤ budget.new.limit }
 {
+    let Some(cursor) = resume.take() else {
+        return lists.next_past(cuts, budget);
+    };
     let list = match lists.next(budget) {
         Step::Found(list) => list,
         Step::End => return Step::End,
-        Step::Undecided => return Step::Undecided,
-    };
-    let Some(cursor) = resume.take() else {
-        return Step::Found(list);
+        Step::Undecided => {
+            *resume = Some(cursor);
+            return Step::Undecided;
+        }
     };
     if !is_same(&list, &cursor.s2r) {
         return Step::Found(list);
     }
-    lists.next(budget)
+    lists.next_past(cuts, budget)
 }
 
 impl<'a, R: Rule> Arranges for ByS2r<'a, R> {
     ghost coming = { λ l. l };
 
-    fn next(&mut self, budget: &mut Budget) -> Step<Cursor> {
-        match next_other(&mut self.lists, &mut self.resume, budget) {
-            Step::Found(s2r) => Step::Found(Cursor {
-                s1: copied(&self.s1),
-                s2: copied(&self.s2),
-                s1r: copied(&self.s1r),
-                s2r,
-            }),
-            Step::End => Step::End,
-            Step::Undecided => Step::Undecided,
-        }
+    fn next<C: Cuts>(&mut self, cuts: &C, budget: &mut Budget) -> Step<Cursor> {
+        let tuples = OfS2r {
+            cuts,
+            s1: &self.s1,
+            s2: &self.s2,
+            s1r: &self.s1r,
+        };
+        let s2r = match next_other(&mut self.lists, &mut self.resume, &tuples, budget) {
+            Step::Found(s2r) => s2r,
+            Step::End => return Step::End,
+            Step::Undecided => return Step::Undecided,
+        };
+        Step::Found(Cursor {
+            s1: copied(&self.s1),
+            s2: copied(&self.s2),
+            s1r: copied(&self.s1r),
+            s2r,
+        })
     }
 }
 
@@ -219,7 +232,16 @@ impl<'a, R: Rule> Blocks for ByS1r<'a, R> {
 
     ghost blocks = { λ l. l };
 
-    fn next_block(&mut self, budget: &mut Budget) -> Step<ByS2r<'a, R>> {
+    fn next_block<C: Cuts>(&mut self, cuts: &C, budget: &mut Budget) -> Step<ByS2r<'a, R>> {
+        if cuts.cuts(&Prefix {
+            filling: Filling::S2,
+            s1: &self.s1,
+            s2: &self.s2,
+            s1r: &[],
+            s2r: &[],
+        }) {
+            return Step::End;
+        }
         match self.sets.next(budget) {
             Step::Found(s1r) => {
                 if let Some(cursor) = self.resume.take() {
@@ -317,32 +339,41 @@ impl<'a, R: Rule> Blocks for ByS2<'a, R> {
 
     ghost blocks = { λ l. l };
 
-    fn next_block(&mut self, budget: &mut Budget) -> Step<Level<ByS1r<'a, R>>> {
-        match self.lists.next(budget) {
-            Step::Found(s2) => {
-                if let Some(cursor) = self.resume.take() {
-                    if is_same(&s2, &cursor.s2) {
-                        return Step::Found(Level::new(ByS1r::from(
-                            self.k,
-                            &self.s1,
-                            &self.residents,
-                            s2,
-                            cursor,
-                            self.rule,
-                        )));
-                    }
-                }
-                Step::Found(Level::new(ByS1r::new(
-                    self.k,
-                    &self.s1,
-                    &self.residents,
-                    s2,
-                    self.rule,
-                )))
+    fn next_block<C: Cuts>(&mut self, cuts: &C, budget: &mut Budget) -> Step<Level<ByS1r<'a, R>>> {
+        let Some(cursor) = self.resume.take() else {
+            let tuples = OfS2 { cuts, s1: &self.s1 };
+            let s2 = match self.lists.next_past(&tuples, budget) {
+                Step::Found(s2) => s2,
+                Step::End => return Step::End,
+                Step::Undecided => return Step::Undecided,
+            };
+            return Step::Found(Level::new(ByS1r::new(
+                self.k,
+                &self.s1,
+                &self.residents,
+                s2,
+                self.rule,
+            )));
+        };
+        let s2 = match self.lists.next(budget) {
+            Step::Found(s2) => s2,
+            Step::End => return Step::End,
+            Step::Undecided => {
+                self.resume = Some(cursor);
+                return Step::Undecided;
             }
-            Step::End => Step::End,
-            Step::Undecided => Step::Undecided,
+        };
+        if is_same(&s2, &cursor.s2) {
+            return Step::Found(Level::new(ByS1r::from(
+                self.k,
+                &self.s1,
+                &self.residents,
+                s2,
+                cursor,
+                self.rule,
+            )));
         }
+        Step::Found(Level::new(ByS1r::new(self.k, &self.s1, &self.residents, s2, self.rule)))
     }
 }
 
@@ -432,7 +463,7 @@ impl<'a, R: Rule> Blocks for ByS1<'a, R> {
 
     ghost blocks = { λ l. l };
 
-    fn next_block(&mut self, budget: &mut Budget) -> Step<Level<ByS2<'a, R>>> {
+    fn next_block<C: Cuts>(&mut self, _cuts: &C, budget: &mut Budget) -> Step<Level<ByS2<'a, R>>> {
         match self.sets.next(budget) {
             Step::Found(s1) => {
                 if let Some(cursor) = self.resume.take() {

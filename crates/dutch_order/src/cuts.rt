@@ -1,9 +1,12 @@
 // What the levels of a listing and the search of their lists see of a bound: which beginnings lead to nothing of interest.
 ghost use Rattle.std.specs.Prelude.{◌≡◌, ℕ, List, true};
-ghost use Rattle.dutch_order.specs.Arrangements.{Arrangement};
+ghost use Rattle.dutch_order.specs.Arrangements.{Arrangement, candidates};
+ghost use Rattle.dutch_order.specs.Keys.{IsIn};
+ghost use Rattle.dutch_order.specs.Levels.{arranged};
 ghost use Rattle.dutch_order.specs.Prefixes.{Begins, GoesOn};
 
-use crate::prefix::Prefix;
+use crate::bound::Bound;
+use crate::prefix::{Filling, Prefix};
 
 /// Tells of beginnings of arrangements that all arrangements which begin so are idle.
 pub trait Cuts {
@@ -23,4 +26,76 @@ pub trait CutsTuples {
     /// Whether all tuples that begin so are known to be idle.
     fn cuts(&self, begun: &[u16]) -> bool
         ensures { result ≡ true → (tuple : List ℕ) → GoesOn begun.now tuple → Idle self.now tuple };
+}
+
+/// Tells of nothing: no arrangement is idle.
+#[derive(Drop)]
+pub struct NoCuts;
+
+impl Cuts for NoCuts {
+    ghost Idle = { λ _ _. ⊥ };
+
+    fn cuts(&self, _prefix: &Prefix<'_>) -> bool {
+        false
+    }
+}
+
+/// What a bound tells: an arrangement is idle if, where it is a candidate, it is without interest.
+#[derive(Drop)]
+pub struct Within<'b, B> {
+    pub bound: &'b B,
+}
+
+impl<'b, B: Bound> Cuts for Within<'b, B> {
+    ghost Idle = { λ w a.
+        IsIn a (candidates (B.meets w.bound.now) (B.may_be_left w.bound.now) (B.frame w.bound.now) (B.shape w.bound.now))
+        → B.is_dull w.bound.now a ≡ true };
+
+    fn cuts(&self, prefix: &Prefix<'_>) -> bool {
+        self.bound.cannot_win(prefix)
+    }
+}
+
+/// Where S1 is chosen, what is told of arrangements, told of their S2.
+#[derive(Drop)]
+pub struct OfS2<'c, C> {
+    pub cuts: &'c C,
+    pub s1: &'c [u16],
+}
+
+impl<'c, C: Cuts> CutsTuples for OfS2<'c, C> {
+    ghost Idle = { λ o s2. (a : Arrangement) → o.s1.now ≡ a.s1 → s2 ≡ a.s2 → C.Idle o.cuts.now a };
+
+    fn cuts(&self, begun: &[u16]) -> bool {
+        self.cuts.cuts(&Prefix {
+            filling: Filling::S2,
+            s1: self.s1,
+            s2: begun,
+            s1r: &[],
+            s2r: &[],
+        })
+    }
+}
+
+/// Where S1, S2 and S1R are chosen, what is told of arrangements, told of their S2R.
+#[derive(Drop)]
+pub struct OfS2r<'c, C> {
+    pub cuts: &'c C,
+    pub s1: &'c [u16],
+    pub s2: &'c [u16],
+    pub s1r: &'c [u16],
+}
+
+impl<'c, C: Cuts> CutsTuples for OfS2r<'c, C> {
+    ghost Idle = { λ o s2r. C.Idle o.cuts.now (arranged o.s1.now o.s2.now o.s1r.now s2r) };
+
+    fn cuts(&self, begun: &[u16]) -> bool {
+        self.cuts.cuts(&Prefix {
+            filling: Filling::S2r,
+            s1: self.s1,
+            s2: self.s2,
+            s1r: self.s1r,
+            s2r: begun,
+        })
+    }
 }

@@ -4,11 +4,13 @@
 // A level stands either in a block or between two of them, so one turn of its loop draws from the block or asks for the next one,
 // never both: where a draw is stopped, the level stands as it stood.
 ghost use Rattle.std.specs.Prelude.{◌≡◌, ◌≤◌, ℕ, List, [], ◌∷◌};
+ghost use Rattle.std.specs.List.{AllByRecursion};
 ghost use Rattle.dutch_order.specs.Arrangements.{Arrangement};
 ghost use Rattle.dutch_order.specs.Levels.{joined};
-ghost use Rattle.dutch_order.specs.Steps.{MatchStep, HandsOut, never};
+ghost use Rattle.dutch_order.specs.Steps.{MatchStep, HandsOut, Passes};
 
 use crate::cursor::Cursor;
+use crate::cuts::Cuts;
 use crate::steps::{Budget, Step};
 use std::marker::Model;
 
@@ -17,10 +19,11 @@ pub trait Arranges {
     /// The arrangements to come.
     ghost coming: { Self → List Arrangement };
 
-    /// The next arrangement.
-    fn next(&mut self, budget: &mut Budget) -> Step<Cursor>
+    /// The next arrangement, where those may be skipped of which `cuts` tells. `End` says that all to come are idle: what is to come
+    /// after it is nowhere said.
+    fn next<C: Cuts>(&mut self, cuts: &C, budget: &mut Budget) -> Step<Cursor>
         requires { budget.old.used ≤ budget.old.limit }
-        ensures answer { HandsOut never (coming self.old) (coming self.new) result }
+        ensures answer { HandsOut (C.Idle cuts.now) (coming self.old) (coming self.new) result }
         ensures stopped { MatchStep result (λ _. Unit {0}) (Unit {0}) (budget.new.used ≡ budget.new.limit) }
         ensures limit { budget.new.limit ≡ budget.old.limit }
         ensures rises { budget.old.used ≤ budget.new.used }
@@ -34,13 +37,13 @@ pub trait Blocks {
     /// The blocks to come, each with the arrangements in it.
     ghost blocks: { Self → List (List Arrangement) };
 
-    /// The next block.
-    fn next_block(&mut self, budget: &mut Budget) -> Step<Self::Block>
+    /// The next block, where those may be skipped in which all are idle.
+    fn next_block<C: Cuts>(&mut self, cuts: &C, budget: &mut Budget) -> Step<Self::Block>
         requires { budget.old.used ≤ budget.old.limit }
         ensures answer { MatchStep result
-            (λ block. blocks self.old ≡ Self.Block.coming block ∷ blocks self.new)
-            ((blocks self.old ≡ []) × (blocks self.new ≡ []))
-            ((blocks self.new ≡ blocks self.old) × (budget.new.used ≡ budget.new.limit)) }
+            (λ block. Passes (AllByRecursion (C.Idle cuts.now)) (blocks self.old) (Self.Block.coming block ∷ blocks self.new))
+            (Passes (AllByRecursion (C.Idle cuts.now)) (blocks self.old) [])
+            (Passes (AllByRecursion (C.Idle cuts.now)) (blocks self.old) (blocks self.new) × (budget.new.used ≡ budget.new.limit)) }
         ensures limit { budget.new.limit ≡ budget.old.limit }
         ensures rises { budget.old.used ≤ budget.new.used }
         ensures within { budget.new.used ≤ budget.new.limit };
@@ -78,11 +81,11 @@ impl<B: Blocks> Level<B> {
 impl<B: Blocks> Arranges for Level<B> {
     ghost coming = { λ l. l };
 
-    fn next(&mut self, budget: &mut Budget) -> Step<Cursor> {
+    fn next<C: Cuts>(&mut self, cuts: &C, budget: &mut Budget) -> Step<Cursor> {
         loop {
             match &mut self.block {
                 Some(block) => {
-                    match block.next(budget) {
+                    match block.next(cuts, budget) {
                         Step::Found(arrangement) => return Step::Found(arrangement),
                         Step::Undecided => return Step::Undecided,
                         Step::End => {}
@@ -92,7 +95,7 @@ impl<B: Blocks> Arranges for Level<B> {
                 }
                 None => {}
             }
-            match self.blocks.next_block(budget) {
+            match self.blocks.next_block(cuts, budget) {
                 Step::Found(block) => self.block = Some(block),
                 Step::Undecided => return Step::Undecided,
                 Step::End => return Step::End,

@@ -1,5 +1,6 @@
 // The beginning of an arrangement, specified by its lists.
 ghost use Rattle.std.specs.Prelude.{◌≡◌};
+ghost use Rattle.dutch_order.specs.declared.prefix.Filling.TheVariants.{S1};
 
 use std::marker::Model;
 
@@ -37,6 +38,19 @@ impl<'a> Model for Prefix<'a> {
 }
 
 impl<'a> Prefix<'a> {
+    /// The beginning of every arrangement.
+    pub(crate) fn nothing() -> Prefix<'a>
+        ensures { result.filling ≡ S1 }
+    {
+        Prefix {
+            filling: Filling::S1,
+            s1: &[],
+            s2: &[],
+            s1r: &[],
+            s2r: &[],
+        }
+    }
+
     /// Which list is being filled.
     pub fn filling(&self) -> Filling
         ensures { result ≡ self.now.filling }

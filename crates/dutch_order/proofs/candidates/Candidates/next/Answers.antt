@@ -1,54 +1,20 @@
-use Rattle.std.proofs.Common.{◌-◌, ◌*◌, ◌&&◌, Bool, nat_lt, length, refl, sym, ◌∙◌, ap}
-use Rattle.std.proofs.lemmas.Bool.{true≢false}
-use Rattle.dutch_order.specs.Arrangements.{down}
-use Rattle.dutch_order.specs.Listings.{Listing}
+use Rattle.std.proofs.Common.{◌≡◌, List, [], ◌∷◌, sym}
+use Rattle.dutch_order.specs.Arrangements.{Arrangement}
+use Rattle.dutch_order.specs.Draws.{Draw}
+use Rattle.dutch_order.specs.Steps.{MatchStep, Passes}
+use Rattle.dutch_order.specs.declared.steps.Step.{Step}
+use Rattle.dutch_order.specs.declared.steps.Step.TheVariants.{Found, End, Undecided}
+use Rattle.dutch_order.proofs.Skipping.{none-passed}
 use Rattle.dutch_order.proofs.candidates.Candidates.next.Goals as goal
 
--- whether nothing can be legal, as a listing tells it
-is_hopeless : Listing → Bool
-is_hopeless l = l.frame.last && nat_lt 1 (length l.frame.scores - 2 * l.shape.pairs)
+-- where nothing is idle, the first of those to come is handed out
+first-found : (answer : Step Draw) (before after : List Arrangement) (IsDown IsLatest : Draw → Type 0) (Same UsedUp : Type 0)
+    → MatchStep answer (λ c. Passes (λ _. ⊥) before (c.lists ∷ after) × IsDown c × IsLatest c) (Passes (λ _. ⊥) before [] × (after ≡ []) × Same) (Passes (λ _. ⊥) before after × Same × UsedUp)
+    → MatchStep answer (λ c. (before ≡ c.lists ∷ after) × IsDown c × IsLatest c) ((before ≡ []) × (after ≡ []) × Same) ((after ≡ before) × Same × UsedUp)
+first-found (Found c) before after IsDown IsLatest Same UsedUp told = (none-passed _ _ told.0, told.1, told.2)
+first-found End before after IsDown IsLatest Same UsedUp told = (none-passed _ _ told.0, told.1, told.2)
+first-found Undecided before after IsDown IsLatest Same UsedUp told = (sym (none-passed _ _ told.0), told.1, told.2)
 
-pub returns-then-self-clause-answer : goal.returns-then-self-clause-answer
-returns-then-self-clause-answer g c =
-    let nothing = sym (ap (λ (l : Listing). l.coming) c.self.view_is) ∙ c.self.invariant.1 c.if-self.true in
-    (nothing, nothing, refl)
-
-pub returns-in-Found-clause-answer : goal.returns-in-Found-clause-answer
-returns-in-Found-clause-answer g c = (
-  sym (ap (λ (l : Listing). l.coming) c.self.view_is) ∙ c.in-Found.ensures.answer.0,
-  c.in-Found.ensures.answer.1 ∙ ap (λ (l : Listing). down l.frame c.in-Found.candidate.lists) c.self.view_is,
-  cc,
-)
-
-pub returns-in-Found-clause-hopeless : goal.returns-in-Found-clause-hopeless
-unfolding is_hopeless
-returns-in-Found-clause-hopeless g c =
-    λ hopeless. true≢false (sym hopeless ∙ sym (c.self.invariant.0 ∙ ap is_hopeless c.self.view_is) ∙ c.if-self.false)
-
-pub returns-in-End-clause-answer : goal.returns-in-End-clause-answer
-returns-in-End-clause-answer g c = (
-  sym (ap (λ (l : Listing). l.coming) c.self.view_is) ∙ c.in-End.ensures.answer.0,
-  c.in-End.ensures.answer.1,
-  ap (λ (l : Listing). l.latest) c.self.view_is,
-)
-
-pub returns-in-Undecided-clause-answer : goal.returns-in-Undecided-clause-answer
-returns-in-Undecided-clause-answer g c = (
-  c.in-Undecided.ensures.answer.0 ∙ ap (λ (l : Listing). l.coming) c.self.view_is,
-  ap (λ (l : Listing). l.latest) c.self.view_is,
-  c.in-Undecided.ensures.answer.1,
-)
-
-pub returns-in-Undecided-clause-hopeless : goal.returns-in-Undecided-clause-hopeless
-unfolding is_hopeless
-returns-in-Undecided-clause-hopeless g c =
-    λ hopeless. true≢false (sym hopeless ∙ sym (c.self.invariant.0 ∙ ap is_hopeless c.self.view_is) ∙ c.if-self.false)
-
-pub invariant_of-self : goal.invariant_of-self
-invariant_of-self g c = (c.self.invariant.0, λ hopeless. absurd (true≢false (sym hopeless ∙ c.if-self.false)))
-
-pub invariant_of-self-in-End : goal.invariant_of-self-in-End
-invariant_of-self-in-End g c = (c.self.invariant.0, λ hopeless. absurd (true≢false (sym hopeless ∙ c.if-self.false)))
-
-pub invariant_of-self-in-Undecided : goal.invariant_of-self-in-Undecided
-invariant_of-self-in-Undecided g c = (c.self.invariant.0, λ hopeless. absurd (true≢false (sym hopeless ∙ c.if-self.false)))
+pub returns-clause-answer : goal.returns-clause-answer
+returns-clause-answer g c =
+    first-found c.go_on.result c.args.self.now.coming c.go_on.new.self.coming _ _ _ _ c.go_on.ensures.answer

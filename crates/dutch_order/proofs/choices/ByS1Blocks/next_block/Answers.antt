@@ -3,6 +3,8 @@ use Rattle.dutch_order.specs.Arrangements.{Arrangement}
 use Rattle.dutch_order.specs.Choices.{is_same}
 use Rattle.dutch_order.specs.Levels.{joined, by_s2, s1_blocks, behind_s2}
 use Rattle.dutch_order.specs.Transposition.{transpositions}
+use Rattle.std.specs.List.{AllByRecursion}
+use Rattle.dutch_order.proofs.Skipping.{passes-none}
 use Rattle.dutch_order.proofs.Blocks.{own-block, other-block, free-block}
 use Rattle.dutch_order.proofs.choices.ByS1Blocks.next_block.Goals as goal
 use Rattle.dutch_order.proofs.choices.ByS1Blocks.next_block.Goals.{in-Some+else-is_same, in_default}
@@ -18,11 +20,12 @@ returns-then-is_same-clause-answer g c =
     c.new.ensures
     ∙ ap joined c.from.ensures
     ∙ ap (λ residents. behind_s2 meets own.k residents c.in-Some.cursor c.in-Found.s1.items) c.deref-then-is_same.ensures.0 in
-    sym c.self.view_is
+    passes-none (AllByRecursion (g.C.Cuts.Idle c.args._cuts.now)) _ _
+    (sym c.self.view_is
     ∙ own-block (λ a. a.s1) (behind_s2 meets own.k own.residents.items) fresh
     own.resume c.in-Some.cursor c.in-Found.s1.items own.sets.coming c.next.new.self.coming (sym c.take.ensures.value ∙ c.in-Some.is) c.in-Found.ensures.answer same
     ∙ ap (λ block. block ∷ s1_blocks meets None own.k own.residents.items c.next.new.self.coming) (sym made)
-    ∙ ap (λ resume. c.new.result ∷ s1_blocks meets resume own.k own.residents.items c.next.new.self.coming) (sym c.take.ensures.after)
+    ∙ ap (λ resume. c.new.result ∷ s1_blocks meets resume own.k own.residents.items c.next.new.self.coming) (sym c.take.ensures.after))
 
 pub returns-after-take-clause-answer : goal.returns-after-take-clause-answer
 returns-after-take-clause-answer g c =
@@ -44,7 +47,8 @@ returns-after-take-clause-answer g c =
           free-block (λ a. a.s1) (behind_s2 meets own.k own.residents.items) fresh
           own.resume c.in-Found.s1.items own.sets.coming c.next.new.self.coming (sym c.take.ensures.value ∙ w.in_default.is) c.in-Found.ensures.answer
     ] in
-    sym c.self.view_is
+    passes-none (AllByRecursion (g.C.Cuts.Idle c.args._cuts.now)) _ _
+    (sym c.self.view_is
     ∙ blocks
     ∙ ap (λ block. block ∷ s1_blocks meets None own.k own.residents.items c.next.new.self.coming) (sym made)
-    ∙ ap (λ resume. c.new-in-Found-2.result ∷ s1_blocks meets resume own.k own.residents.items c.next.new.self.coming) (sym c.take.ensures.after)
+    ∙ ap (λ resume. c.new-in-Found-2.result ∷ s1_blocks meets resume own.k own.residents.items c.next.new.self.coming) (sym c.take.ensures.after))

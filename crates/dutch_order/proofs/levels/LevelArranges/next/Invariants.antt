@@ -1,12 +1,12 @@
 use Rattle.std.proofs.Common.{◌≡◌, ◌≤◌, ◌+◌, ◌*◌, length, ◌++◌}
 use Rattle.dutch_order.specs.Levels.{within, joined}
-use Rattle.dutch_order.specs.Steps.{Skips, never}
+use Rattle.dutch_order.specs.Steps.{Passes}
 use Rattle.dutch_order.proofs.Skipping.{one_in}
 use Rattle.dutch_order.proofs.levels.LevelArranges.next.Given as goal
 
 abbrev pub invariant-loop-self : goal.invariant-loop-self
 invariant-loop-self g l = record {
-  skips : Skips never (within g.B.Block.Arranges.coming l.initial.self-inside.block ++ joined (g.B.Blocks.blocks l.initial.self-inside.blocks))
+  passes : Passes (g.C.Cuts.Idle l.cuts) (within g.B.Block.Arranges.coming l.initial.self-inside.block ++ joined (g.B.Blocks.blocks l.initial.self-inside.blocks))
       (within g.B.Block.Arranges.coming l.self-inside.block ++ joined (g.B.Blocks.blocks l.self-inside.blocks));
   limit : l.budget.limit ≡ l.initial.budget.limit;
   rises : l.initial.budget.used ≤ l.budget.used;

@@ -1,0 +1,71 @@
+use Rattle.std.proofs.Common.{◌≡◌, ◌∙◌, ◌++◌, ap, sym, subst, refl, filter}
+use Rattle.std.specs.List.{AllByRecursion}
+use Rattle.std.proofs.lemmas.Bool.{true≢false}
+use Rattle.dutch_order.specs.Arrangements.{Arrangement, candidates}
+use Rattle.dutch_order.specs.Keys.{IsIn}
+use Rattle.dutch_order.specs.Levels.{may_leave}
+use Rattle.dutch_order.specs.Listings.{Listing, listed, still_coming}
+use Rattle.dutch_order.specs.Prefixes.{BeginsAt}
+use Rattle.dutch_order.proofs.Skipping.{passes-none, passes-all, all-of, passes-keeps}
+use Rattle.dutch_order.proofs.candidates.Candidates.go_on.Goals as goal
+use Rattle.dutch_order.proofs.candidates.Candidates.go_on.Goals.{then-self-2-via-then-self-2, then-self-2-via-else-self-2+then-cuts}
+
+pub returns-then-self-2-clause-answer : goal.returns-then-self-2-clause-answer
+returns-then-self-2-clause-answer g c =
+    let own = c.self.inside in
+    let Idle = g.C.Cuts.Idle c.args.cuts.now in
+    let before = filter (may_leave (g.R.Rule.may_be_left own.rule.now) own.bracket.now) (listed own.ready ++ own.level) in
+    let coming : before ≡ c.args.self.now.coming =
+    sym (ap (λ told. still_coming told before) c.if-self.false) ∙ ap (λ (l : Listing g.row.R.Denot). l.coming) c.self.view_is in (
+      elim c.then-self-2.branch [
+        | then-self-2-via-then-self-2 w ↦ passes-none Idle _ _ (sym coming ∙ c.self.invariant.1 w.if-self-2.true)
+        | then-self-2-via-else-self-2+then-cuts w ↦
+            passes-all Idle _
+            (all-of Idle _
+            (λ a. w.cuts.ensures w.if-cuts.true a (subst (λ filling. BeginsAt filling w.nothing.result.lists a) (sym w.nothing.ensures) (tt {0}))))
+      ],
+      refl,
+      ap (λ (l : Listing g.row.R.Denot). l.latest) c.self.view_is,
+    )
+
+pub returns-then-self-2-clause-candidates : goal.returns-then-self-2-clause-candidates
+returns-then-self-2-clause-candidates g c =
+    subst
+    (λ (l : Listing g.row.R.Denot). AllByRecursion (λ a. IsIn a (candidates (g.R.Rule.meets l.rule) (g.R.Rule.may_be_left l.rule) l.frame l.shape)) l.coming)
+    c.self.view_is
+    c.self.invariant.2
+
+pub returns-in-End-clause-candidates : goal.returns-in-End-clause-candidates
+returns-in-End-clause-candidates g c =
+    subst
+    (λ (l : Listing g.row.R.Denot). AllByRecursion (λ a. IsIn a (candidates (g.R.Rule.meets l.rule) (g.R.Rule.may_be_left l.rule) l.frame l.shape)) l.coming)
+    c.self.view_is
+    c.self.invariant.2
+
+pub invariant_of-self-in-Found : goal.invariant_of-self-in-Found
+invariant_of-self-in-Found g c =
+    let own = c.self.inside in
+    let may = may_leave (g.R.Rule.may_be_left own.rule.now) own.bracket.now in
+    let IsOne = λ (a : Arrangement). IsIn a (candidates (g.R.Rule.meets own.rule.now) (g.R.Rule.may_be_left own.rule.now) own.bracket.now own.shape) in
+    let before = filter may (listed own.ready ++ own.level) in
+    let after = filter may (listed c.next_legal.new.ready ++ c.next_legal.new.level) in
+    let all = subst (λ told. AllByRecursion IsOne (still_coming told before)) c.if-self.false c.self.invariant.2 in (
+      c.self.invariant.0,
+      λ hopeless. absurd (true≢false (sym hopeless ∙ c.if-self-2.false)),
+      subst (λ told. AllByRecursion IsOne (still_coming told after)) (sym c.if-self.false)
+          (passes-keeps (g.C.Cuts.Idle c.args.cuts.now) IsOne before _ c.in-Found.ensures.answer.0 all).1,
+    )
+
+pub invariant_of-self-in-Undecided : goal.invariant_of-self-in-Undecided
+invariant_of-self-in-Undecided g c =
+    let own = c.self.inside in
+    let may = may_leave (g.R.Rule.may_be_left own.rule.now) own.bracket.now in
+    let IsOne = λ (a : Arrangement). IsIn a (candidates (g.R.Rule.meets own.rule.now) (g.R.Rule.may_be_left own.rule.now) own.bracket.now own.shape) in
+    let before = filter may (listed own.ready ++ own.level) in
+    let after = filter may (listed c.next_legal.new.ready ++ c.next_legal.new.level) in
+    let all = subst (λ told. AllByRecursion IsOne (still_coming told before)) c.if-self.false c.self.invariant.2 in (
+      c.self.invariant.0,
+      λ hopeless. absurd (true≢false (sym hopeless ∙ c.if-self-2.false)),
+      subst (λ told. AllByRecursion IsOne (still_coming told after)) (sym c.if-self.false)
+          (passes-keeps (g.C.Cuts.Idle c.args.cuts.now) IsOne before after c.in-Undecided.ensures.answer.0 all),
+    )
