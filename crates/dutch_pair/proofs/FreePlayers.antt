@@ -30,7 +30,7 @@ two_each : (pairs : List (ℕ × ℕ)) → pairs_total (λ x. 1) pairs ≡ 2 * l
 two_each [] = refl
 two_each (pair ∷ pairs) = omega (arith, two_each pairs)
 
-total_few : (w : ℕ → ℕ) → ((x : ℕ) → w x ≤ 1) → (xs : List ℕ) → total w xs ≤ length xs
+pub total_few : (w : ℕ → ℕ) → ((x : ℕ) → w x ≤ 1) → (xs : List ℕ) → total w xs ≤ length xs
 total_few w one [] = omega arith
 total_few w one (x ∷ xs) = omega (arith, one x, total_few w one xs)
 
