@@ -1,7 +1,7 @@
 -- C.04.3 C.10: lonely players, where all but an end of S2R is chosen. Each player of S1R who still waits meets one of the pool. If he
 -- suits nobody there, his pair misses a preference, since the two may meet. Likewise whoever of the pool suits nobody who waits, but
 -- for residents who go down: so many of the pool meet nobody.
-use Rattle.std.proofs.Common.{◌≡◌, ℕ, zero, suc, ◌+◌, ◌-◌, ◌*◌, ◌≤◌, Bool, true, false, not, ◌&&◌, ◌||◌, ◌==◌, cond, List, [], ◌∷◌, ◌++◌, length, max, inl, inr, refl, sym, ap, ◌∙◌, subst, sum_by, map, arith, append-nil, length-append}
+use Rattle.std.proofs.Common.{◌≡◌, ℕ, zero, suc, ◌+◌, ◌-◌, ◌≤◌, Bool, true, false, not, ◌&&◌, ◌||◌, ◌==◌, cond, List, [], ◌∷◌, ◌++◌, length, max, inl, inr, refl, sym, ap, ◌∙◌, subst, sum_by, map, arith, append-nil, length-append}
 use Rattle.std.specs.Prelude.{filter}
 use Rattle.std.specs.List.{AllByRecursion, list_any}
 use Rattle.std.proofs.lemmas.Bool.{and_parts}
@@ -22,9 +22,10 @@ use Rattle.dutch_pair.specs.Quality.{one_if, misses, count_in, count_in_pairs}
 use Rattle.dutch_pair.specs.Beginnings.{LacksEndOfS2r}
 use Rattle.dutch_pair.specs.ColourFloors.{beyond, suits, lonely, lonely_first, lonely_second, residents_down, more_missed}
 use Rattle.dutch_pair.proofs.ArrangementParts.{left_none, numbers_rise, lists_of, parts_of, left_cons, tuple_members, tuple_whole}
-use Rattle.dutch_pair.proofs.C10Preferences.{at_most_one, beginning_misses}
+use Rattle.dutch_pair.proofs.C10Preferences.{beginning_misses}
 use Rattle.dutch_pair.proofs.FixedPairs.{Beside, has_pairs, pairs_on, sum_beside}
 use Rattle.dutch_pair.proofs.FreePlayers.{total_few}
+use Rattle.dutch_pair.proofs.GrantedColours.{at_most_one}
 use Rattle.dutch_pair.proofs.LegalPairs.{legal_of}
 use Rattle.dutch_pair.proofs.Totals.{total}
 
@@ -181,7 +182,7 @@ module _ (facts : Facts) (stand : Stand) (shape : Shape) (a : Arrangement) (with
         arith,
         counted (λ x. not (list_any (suits facts stand x) all)) waits,
         firsts_miss facts stand all waits rest waits_meet (omega (arith, as_many))
-        (tuple_members (λ y. IsIn y all) all rest_chosen.0 rest (all_members (λ y. IsIn y all) all (λ y h. h)) rest_chosen.1),
+            (tuple_members (λ y. IsIn y all) all rest_chosen.0 rest (all_members (λ y. IsIn y all) all (λ y h. h)) rest_chosen.1),
       )
 
   second_lonely : lonely_second facts stand (with_end a front) ≤ sum_by (missed_in facts stand) (pairs_of stand.seats waits rest) + residents_down stand shape
