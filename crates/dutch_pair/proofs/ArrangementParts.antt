@@ -21,7 +21,7 @@ use Rattle.dutch_pair.proofs.AllLemmas.{all_filter}
 use Rattle.dutch_pair.proofs.Totals.{total, total_length}
 
 -- what holds of a pool holds of what is chosen from it
-tuple_members : (P : ℕ → Type 0) (pool : List ℕ) (k : ℕ) (t : List ℕ) → AllByRecursion P pool → IsIn t (tuples pool k) → AllByRecursion P t
+pub tuple_members : (P : ℕ → Type 0) (pool : List ℕ) (k : ℕ) (t : List ℕ) → AllByRecursion P pool → IsIn t (tuples pool k) → AllByRecursion P t
 tuple_members P pool zero t all (inl same) = subst (AllByRecursion P) (sym same) tt
 tuple_members P pool zero t all (inr none) = absurd none
 tuple_members P pool (suc k) t all m =
@@ -58,10 +58,10 @@ left_one : (x : ℕ) (pool : List ℕ) → left_of pool (x ∷ []) ≡ without x
 left_one x pool =
     filter-same (λ y. not (eqb x y || false)) (λ y. not (eqb y x)) pool (λ y. grind (arith, nat_tests))
 
-left_cons : (x : ℕ) (t pool : List ℕ) → left_of pool (x ∷ t) ≡ left_of (without x pool) t
+pub left_cons : (x : ℕ) (t pool : List ℕ) → left_of pool (x ∷ t) ≡ left_of (without x pool) t
 left_cons x t pool = sym (left-append pool (x ∷ []) t) ∙ ap (λ rest. left_of rest t) (left_one x pool)
 
-left_none : (pool : List ℕ) → left_of pool [] ≡ pool
+pub left_none : (pool : List ℕ) → left_of pool [] ≡ pool
 left_none pool = filter-all pool
 
 module _ (w : ℕ → ℕ) where
@@ -78,7 +78,7 @@ module _ (w : ℕ → ℕ) where
       omega (arith, ap (total w) kept, without_one x ys rises.1 later)
 
   -- a tuple or a set with those whom it leaves
-  tuple_whole : (pool : List ℕ) (k : ℕ) (t : List ℕ) → Rises pool → IsIn t (tuples pool k) → total w (left_of pool t) + total w t ≡ total w pool
+  pub tuple_whole : (pool : List ℕ) (k : ℕ) (t : List ℕ) → Rises pool → IsIn t (tuples pool k) → total w (left_of pool t) + total w t ≡ total w pool
   tuple_whole pool zero t rises (inl same) =
       omega (arith, ap (λ s. total w (left_of pool s)) same, ap (total w) (left_none pool), ap (total w) same)
   tuple_whole pool zero t rises (inr none) = absurd none

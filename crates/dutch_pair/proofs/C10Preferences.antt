@@ -1,7 +1,7 @@
 -- C.04.3 C.10: how many players miss their preference at least. Of a pair who both want one colour somebody misses it, since one has
 -- white and the other black. So where more free players want a colour than there are pairs to make and downfloaters, who need no
 -- colour, each one more misses it, whatever pairs are made.
-use Rattle.std.proofs.Common.{◌≡◌, ℕ, ◌+◌, ◌≤◌, Bool, true, false, not, nat_lt, if◌then◌else◌, List, [], ◌∷◌, length, max, Option, Some, None, sum_by, arith}
+use Rattle.std.proofs.Common.{ℕ, ◌+◌, ◌≤◌, Bool, true, false, not, nat_lt, if◌then◌else◌, List, [], ◌∷◌, length, Option, Some, None, sum_by, arith}
 use Rattle.std.specs.List.{AllByRecursion}
 use Rattle.std.specs.Option.{option_map_or}
 use Rattle.trf16.specs.declared.cell.Colour.{Colour}
@@ -22,6 +22,7 @@ use Rattle.dutch_pair.specs.Beginnings.{HasPairsOf, in_both, free, room}
 use Rattle.dutch_pair.specs.ColourFloors.{wants, more_missed}
 use Rattle.dutch_pair.proofs.FixedPairs.{Beside, beside, others_of, sum_beside}
 use Rattle.dutch_pair.proofs.FreePlayers.{free_served}
+use Rattle.dutch_pair.proofs.GrantedColours.{at_most_one}
 
 -- 1 where a preference is for a colour
 abbrev wanted : Colour → Option Pref → ℕ
@@ -30,10 +31,6 @@ wanted c p = one_if (option_map_or (λ wish. is_same wish.colour c) p false)
 -- 1 where a colour is not that of a preference
 abbrev missed : Option Pref → Colour → ℕ
 missed p c = one_if (option_map_or (λ wish. not (is_same wish.colour c)) p false)
-
-pub at_most_one : (b : Bool) → one_if b ≤ 1
-at_most_one true = omega arith
-at_most_one false = omega arith
 
 -- of two who want colours one gets white and one black
 colours_served : (c d e : Colour) → one_if (is_same d c) + one_if (is_same e c) ≤ 1 + (one_if (not (is_same d White)) + one_if (not (is_same e Black)))

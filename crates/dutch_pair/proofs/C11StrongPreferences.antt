@@ -1,7 +1,7 @@
 -- C.04.3 C.11: how many players miss a strong preference at least, where C.8 and C.9 are those of the beginning. Of a pair who may
 -- meet and both have a firm preference for one colour somebody misses a strong one, or the pair counts for C.8 or C.9. So where more
 -- free players have a firm preference for a colour than there are pairs to make and downfloaters, each one more misses a strong one.
-use Rattle.std.proofs.Common.{◌≡◌, ℕ, ◌+◌, ◌≤◌, Bool, true, false, not, ◌&&◌, ◌||◌, nat_lt, cond, if◌then◌else◌, List, [], ◌∷◌, ◌++◌, length, filter, max, Option, Some, None, sum_by, refl, sym, ap, ◌∙◌, arith}
+use Rattle.std.proofs.Common.{◌≡◌, ℕ, ◌+◌, ◌≤◌, Bool, true, false, not, ◌&&◌, ◌||◌, nat_lt, cond, if◌then◌else◌, List, [], ◌∷◌, length, filter, Option, Some, None, sum_by, refl, ap, ◌∙◌, arith}
 use Rattle.std.specs.List.{AllByRecursion}
 use Rattle.std.specs.Option.{option_map_or}
 use Rattle.std.proofs.lemmas.Bool.{and_parts}
@@ -12,21 +12,20 @@ use Rattle.dutch_order.specs.declared.bracket.Shape.{Shape}
 use Rattle.dutch_order.specs.Keys.{IsIn}
 use Rattle.dutch_order.specs.Arrangements.{Arrangement}
 use Rattle.dutch_player.specs.declared.preference.Pref.{Pref}
-use Rattle.dutch_player.specs.Preferences.{other, is_same, preference}
-use Rattle.dutch_player.specs.Meetings.{is_topscorer, clash, have_met, colours_allow, may_meet}
+use Rattle.dutch_player.specs.Preferences.{is_same, preference}
+use Rattle.dutch_player.specs.Meetings.{clash, have_met, colours_allow, may_meet}
 use Rattle.dutch_player.specs.Colours.{with_colour, colour_of_higher}
 use Rattle.dutch_player.specs.Facts.{SeatFacts, Facts, seat_at}
 use Rattle.dutch_pair.specs.declared.colours_missed.Miss.TheVariants.{Wide, Third, StrongPreference}
 use Rattle.dutch_pair.specs.Seated.{all_pairs}
-use Rattle.dutch_pair.specs.Reached.{Stand, frame_of}
+use Rattle.dutch_pair.specs.Reached.{Stand}
 use Rattle.dutch_pair.specs.Round.{candidates_of, quality_of}
 use Rattle.dutch_pair.specs.Quality.{misses, count_of_both, count_in, has_topscorer, count_in_pairs, count_with_topscorers}
 use Rattle.dutch_pair.specs.Beginnings.{HasPairsOf, in_both, free, room}
 use Rattle.dutch_pair.specs.ColourFloors.{is_firm, wants_firmly, adds_top, more_missed_strong}
-use Rattle.dutch_pair.proofs.C10Preferences.{at_most_one}
 use Rattle.dutch_pair.proofs.FixedPairs.{Beside, beside, others_of, sum_beside}
 use Rattle.dutch_pair.proofs.FreePlayers.{free_served}
-use Rattle.dutch_pair.proofs.GrantedColours.{adds, firm_served}
+use Rattle.dutch_pair.proofs.GrantedColours.{at_most_one, adds, firm_served}
 use Rattle.dutch_pair.proofs.LegalPairs.{legal_of, others_meet}
 
 -- the colours clash in either order

@@ -1,12 +1,12 @@
 -- Who of the players in no pair of a beginning can be served at most: where each pair to make serves one of them, and beyond that
 -- only at a price, and each downfloater is served, more of them than there are pairs to make and downfloaters cost so much.
-use Rattle.std.proofs.Common.{◌≡◌, ℕ, ◌+◌, ◌-◌, ◌*◌, ◌≤◌, List, [], ◌∷◌, ◌++◌, length, sum_by, refl, sym, ap, ◌∙◌, arith, length-append}
+use Rattle.std.proofs.Common.{◌≡◌, ℕ, ◌+◌, ◌-◌, ◌*◌, ◌≤◌, List, [], ◌∷◌, length, sum_by, refl, sym, ◌∙◌, arith, length-append}
 use Rattle.std.specs.List.{AllByRecursion}
 use Rattle.std.proofs.lemmas.List.{length-map}
 use Rattle.std.proofs.lemmas.List.Sums.{sum_by-cons}
 use Rattle.dutch_order.specs.declared.bracket.Shape.{Shape}
 use Rattle.dutch_order.specs.Keys.{IsIn}
-use Rattle.dutch_order.specs.Arrangements.{Arrangement, remainder_pairs, arrangements}
+use Rattle.dutch_order.specs.Arrangements.{Arrangement, arrangements}
 use Rattle.dutch_player.specs.Facts.{Facts}
 use Rattle.dutch_pair.specs.Seated.{pairs_of, score_at, all_pairs}
 use Rattle.dutch_pair.specs.Reached.{Stand, frame_of}
@@ -17,7 +17,7 @@ use Rattle.dutch_pair.proofs.Everybody.{pairs_total, bracket_whole}
 use Rattle.dutch_pair.proofs.FixedPairs.{Beside, others_of, sum_beside, length_beside}
 use Rattle.dutch_pair.proofs.Totals.{total, total_length}
 
-pub total_sum : (w : ℕ → ℕ) (xs : List ℕ) → total w xs ≡ sum_by w xs
+total_sum : (w : ℕ → ℕ) (xs : List ℕ) → total w xs ≡ sum_by w xs
 total_sum w [] = refl
 total_sum w (x ∷ xs) = omega (arith, sum_by-cons w x xs, total_sum w xs)
 
@@ -30,7 +30,7 @@ two_each : (pairs : List (ℕ × ℕ)) → pairs_total (λ x. 1) pairs ≡ 2 * l
 two_each [] = refl
 two_each (pair ∷ pairs) = omega (arith, two_each pairs)
 
-total_few : (w : ℕ → ℕ) → ((x : ℕ) → w x ≤ 1) → (xs : List ℕ) → total w xs ≤ length xs
+pub total_few : (w : ℕ → ℕ) → ((x : ℕ) → w x ≤ 1) → (xs : List ℕ) → total w xs ≤ length xs
 total_few w one [] = omega arith
 total_few w one (x ∷ xs) = omega (arith, one x, total_few w one xs)
 
@@ -40,10 +40,10 @@ pairs_serve f g [] each = omega arith
 pairs_serve f g (pair ∷ pairs) each =
     omega (arith, sum_by-cons f pair pairs, sum_by-cons g pair pairs, each.0, pairs_serve f g pairs each.1)
 
-pub length_pairs : (seats firsts seconds : List ℕ) → length firsts ≡ length seconds → length (pairs_of seats firsts seconds) ≡ length firsts
-length_pairs seats [] seconds equal = refl
-length_pairs seats (a ∷ firsts) [] equal = absurd (omega arith)
-length_pairs seats (a ∷ firsts) (b ∷ seconds) equal = omega (arith, length_pairs seats firsts seconds (omega arith))
+pairs_counted : (seats firsts seconds : List ℕ) → length firsts ≡ length seconds → length (pairs_of seats firsts seconds) ≡ length firsts
+pairs_counted seats [] seconds equal = refl
+pairs_counted seats (a ∷ firsts) [] equal = absurd (omega arith)
+pairs_counted seats (a ∷ firsts) (b ∷ seconds) equal = omega (arith, pairs_counted seats firsts seconds (omega arith))
 
 module _ (facts : Facts) (stand : Stand) (shape : Shape) (b a : Arrangement) (within : stand.mdps ≤ length stand.seats) (m : IsIn a (arrangements (frame_of facts stand) shape)) where
   pairs_made : length (all_pairs stand.seats a) ≡ shape.mdps + (shape.pairs - shape.mdps)
@@ -54,8 +54,8 @@ module _ (facts : Facts) (stand : Stand) (shape : Shape) (b a : Arrangement) (wi
       omega (
         arith,
         length-append (pairs_of seats a.s1 a.s2) (pairs_of seats a.s1r a.s2r),
-        length_pairs seats a.s1 a.s2 (parts.s1_count ∙ sym parts.s2_count),
-        length_pairs seats a.s1r a.s2r (parts.s1r_count ∙ sym parts.s2r_count),
+        pairs_counted seats a.s1 a.s2 (parts.s1_count ∙ sym parts.s2_count),
+        pairs_counted seats a.s1r a.s2r (parts.s1r_count ∙ sym parts.s2r_count),
         parts.s1_count,
         parts.s1r_count,
       )

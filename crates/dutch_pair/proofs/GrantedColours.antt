@@ -17,7 +17,11 @@ use Rattle.dutch_player.specs.Facts.{SeatFacts}
 use Rattle.dutch_pair.specs.Quality.{one_if, is_wide, is_third, is_strong}
 use Rattle.dutch_pair.specs.ColourFloors.{is_firm}
 
--- how many games are one more with a colour
+pub at_most_one : (b : Bool) → one_if b ≤ 1
+at_most_one true = omega arith
+at_most_one false = omega arith
+
+-- a game more with a colour
 white_more : (played : List Colour) → (whites (White ∷ played) ≡ 1 + whites played) × (blacks (White ∷ played) ≡ blacks played)
 white_more played =
     (omega (arith, sum_by-cons (λ c. cond (is_white c) 1 0) White played), omega (arith, sum_by-cons (λ c. cond (is_black c) 1 0) White played))
@@ -140,10 +144,6 @@ two_firm initial high low Absolute Absolute White false e f p q allowed = absurd
 two_firm initial high low Absolute Absolute Black false e f p q allowed = absurd (cc)
 two_firm initial high low Absolute Absolute c true e f p q allowed =
     omega (arith, one_overdue high low c (granted initial high low (Some (for Absolute c)) (Some (for Absolute c))) p q)
-
-at_most_one : (b : Bool) → one_if b ≤ 1
-at_most_one true = omega arith
-at_most_one false = omega arith
 
 -- a preference counts for a colour only where it is firm and for it
 counts_only : (k : Kind) (d c : Colour) → (one_if (is_firm k && is_same d c) ≡ 0) ⊎ ((d ≡ c) × (is_firm k ≡ true))

@@ -1,5 +1,5 @@
 // Laws of how many players miss their colour preference at least, whatever pairs are added to a beginning (C.04.3 C.10, C.11).
-ghost use Rattle.std.specs.Prelude.{◌≡◌, ◌≤◌, ◌+◌, ℕ, List, true, length};
+ghost use Rattle.std.specs.Prelude.{◌≡◌, ◌≤◌, ◌+◌, ℕ, List, true, length, max};
 ghost use Rattle.trf16.specs.declared.cell.Colour.{Colour};
 ghost use Rattle.dutch_order.specs.declared.bracket.Shape.{Shape};
 ghost use Rattle.dutch_order.specs.Keys.{IsIn};
@@ -11,8 +11,8 @@ ghost use Rattle.dutch_pair.specs.Seated.{all_pairs};
 ghost use Rattle.dutch_pair.specs.Reached.{Stand, frame_of};
 ghost use Rattle.dutch_pair.specs.Round.{candidates_of, quality_of};
 ghost use Rattle.dutch_pair.specs.Quality.{misses, count_in, count_in_pairs, count_with_topscorers};
-ghost use Rattle.dutch_pair.specs.Beginnings.{HasPairsOf, in_both};
-ghost use Rattle.dutch_pair.specs.ColourFloors.{wants, wants_firmly, adds_top, more_missed, more_missed_strong};
+ghost use Rattle.dutch_pair.specs.Beginnings.{HasPairsOf, LacksEndOfS2r, in_both};
+ghost use Rattle.dutch_pair.specs.ColourFloors.{wants, wants_firmly, adds_top, more_missed, more_missed_strong, lonely};
 
 /// C.10: of a pair who both want a colour one misses it.
 #[tactic(auto, using(crate::proofs::C10Preferences::pair_misses))]
@@ -44,4 +44,20 @@ pub fn a_beginning_misses_strongly()
         → (quality_of facts stand lower a).third_colours ≡ count_with_topscorers facts (misses Third) (all_pairs stand.seats b)
         → count_in_pairs facts (misses StrongPreference) (all_pairs stand.seats b) + more_missed_strong facts stand shape b
         ≤ (quality_of facts stand lower a).missed_strong }
+{}
+
+/// C.10: lonely players miss their preference, where all but an end of S2R is chosen.
+pub fn lonely_players_miss()
+    ensures { (facts : Facts) (stand : Stand) (lower : List ℕ) (shape : Shape) (b a : Arrangement) → stand.mdps ≤ length stand.seats
+        → IsIn a (candidates_of facts stand shape) → LacksEndOfS2r b a
+        → count_in_pairs facts (misses Preference) (all_pairs stand.seats b) + lonely facts stand shape b
+        ≤ (quality_of facts stand lower a).missed_preferences }
+{}
+
+/// C.10: and so at least as many as each of the two bounds says.
+pub fn a_beginning_with_s1r_misses()
+    ensures { (facts : Facts) (stand : Stand) (lower : List ℕ) (shape : Shape) (b a : Arrangement) → stand.mdps ≤ length stand.seats
+        → IsIn a (candidates_of facts stand shape) → LacksEndOfS2r b a
+        → count_in_pairs facts (misses Preference) (all_pairs stand.seats b) + max (more_missed facts stand shape b) (lonely facts stand shape b)
+        ≤ (quality_of facts stand lower a).missed_preferences }
 {}
