@@ -3,6 +3,7 @@ pub mod Along
 pub mod C04Ghosts
 pub mod C07WeakerRules
 pub mod C07PsdFloor
+pub mod C07Ghosts
 pub mod ArrangementParts
 pub mod BestLemmas
 pub mod BoardLemmas
