@@ -59,12 +59,12 @@ down_count frame shape a inside within m =
     let left : length rest + (shape.mdps + (remainder_pairs shape + remainder_pairs shape)) ≡ n - q = parts.left in
     omega (arith, found, shared, counted, halves, left, parts.s1_count, inside, within)
 
-append_low : (xs ys : List ℕ) (i : ℕ) → i < length xs → get_or (xs ++ ys) i 0 ≡ get_or xs i 0
+pub append_low : (xs ys : List ℕ) (i : ℕ) → i < length xs → get_or (xs ++ ys) i 0 ≡ get_or xs i 0
 append_low [] ys i h = absurd (omega arith)
 append_low (x ∷ xs) ys zero h = refl
 append_low (x ∷ xs) ys (suc i) h = append_low xs ys i (omega arith)
 
-append_high : (xs ys : List ℕ) (i : ℕ) → length xs ≤ i → get_or (xs ++ ys) i 0 ≡ get_or ys (i - length xs) 0
+pub append_high : (xs ys : List ℕ) (i : ℕ) → length xs ≤ i → get_or (xs ++ ys) i 0 ≡ get_or ys (i - length xs) 0
 append_high [] ys i h = ap (λ k. get_or ys k 0) (let e : i ≡ i - 0 = omega arith in e)
 append_high (x ∷ xs) ys zero h = absurd (omega arith)
 append_high (x ∷ xs) ys (suc i) h =

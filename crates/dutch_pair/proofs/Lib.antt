@@ -1,6 +1,10 @@
 pub mod AllLemmas
 pub mod Along
 pub mod C04Ghosts
+pub mod C07WeakerRules
+pub mod C07PsdFloor
+pub mod C07Ghosts
+pub mod GhostBrackets
 pub mod ArrangementParts
 pub mod BestLemmas
 pub mod BoardLemmas
