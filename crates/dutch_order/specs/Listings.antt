@@ -3,11 +3,12 @@ use Rattle.std.specs.Prelude.{List, [], ◌∷◌, Option, Some, None}
 use Rattle.dutch_order.specs.declared.bracket.Shape.{Shape}
 use Rattle.dutch_order.specs.Arrangements.{Frame, Arrangement}
 
--- the bracket and the shape whose candidates are listed, those still to come, and the arrangement behind which they stand, if there
+-- the bracket, the shape and the rule whose candidates are listed, those still to come, and the arrangement behind which they stand, if there
 -- is one: the candidate handed out last, or else the one from which the listing began
-pub record Listing : Type 0 where
+pub record Listing (R : Type 0) : Type 0 where
   pub frame : Frame
   pub shape : Shape
+  pub rule : R
   pub coming : List Arrangement
   pub latest : Option Arrangement
 

@@ -7,8 +7,9 @@ ghost use Rattle.dutch_order.specs.Arrangements.{Fits, arrangements, candidates,
 ghost use Rattle.dutch_order.specs.Keys.{IsIn};
 ghost use Rattle.dutch_order.specs.Levels.{may_leave};
 ghost use Rattle.dutch_order.specs.Listings.{listed};
-ghost use Rattle.dutch_order.specs.Steps.{HandsOut, MatchStep, never};
+ghost use Rattle.dutch_order.specs.Steps.{HandsOut, MatchStep, Passes, never};
 
+use crate::bound::Bound;
 use crate::bracket::{Bracket, Shape};
 use crate::candidate::Candidate;
 use crate::choices::ByS1;
@@ -152,11 +153,12 @@ impl<'a, R: Rule> Model for Candidates<'a, R> {
     ghost use Rattle.dutch_order.specs.Levels.{may_leave};
     ghost use Rattle.dutch_order.specs.Listings.{Listing, listed};
 
-    ghost Value = { Listing };
+    ghost Value = { Listing R };
 
     ghost view = { λ l. record {
       frame = l.bracket.now;
       shape = l.shape;
+      rule = l.rule.now;
       coming = filter (may_leave (R.may_be_left l.rule.now) l.bracket.now) (listed l.ready ++ l.level);
       latest = l.latest;
     } };
@@ -173,6 +175,7 @@ impl<'a, R: Rule> Candidates<'a, R> {
         ensures coming { result.coming ≡ candidates (R.meets rule.now) (R.may_be_left rule.now) bracket.now shape }
         ensures frame { result.frame ≡ bracket.now }
         ensures shape { result.shape ≡ shape }
+        ensures rule { result.rule ≡ rule.now }
         ensures latest { result.latest ≡ None }
     {
         let mdps = bracket.mdps();
@@ -206,6 +209,7 @@ impl<'a, R: Rule> Candidates<'a, R> {
         ensures coming { result.coming ≡ rest (R.meets rule.now) (R.may_be_left rule.now) bracket.now shape cursor }
         ensures frame { result.frame ≡ bracket.now }
         ensures shape { result.shape ≡ shape }
+        ensures rule { result.rule ≡ rule.now }
         ensures latest { result.latest ≡ Some cursor }
     {
         let mdps = bracket.mdps();
@@ -242,6 +246,7 @@ impl<'a, R: Rule> Candidates<'a, R> {
             → MatchStep result (λ _. ⊥) (budget.new.used ≡ budget.old.used) ⊥ }
         ensures frame { self.new.frame ≡ self.old.frame }
         ensures shape { self.new.shape ≡ self.old.shape }
+        ensures rule { self.new.rule ≡ self.old.rule }
         ensures limit { budget.new.limit ≡ budget.old.limit }
         ensures rises { budget.old.used ≤ budget.new.used }
         ensures within { budget.new.used ≤ budget.new.limit }
@@ -263,6 +268,28 @@ impl<'a, R: Rule> Candidates<'a, R> {
             Step::End => Step::End,
             Step::Undecided => Step::Undecided,
         }
+    }
+
+    /// The next candidate, where those may be skipped that a bound tells to be without interest. It knows the candidates of this bracket
+    /// and shape, by this rule.
+    pub fn next_within<B: Bound>(&mut self, bound: &B, budget: &mut Budget) -> Step<Candidate>
+        requires frame { B.frame bound.now ≡ self.old.frame }
+        requires shape { B.shape bound.now ≡ self.old.shape }
+        requires meets { B.meets bound.now ≡ R.meets self.old.rule }
+        requires may_be_left { B.may_be_left bound.now ≡ R.may_be_left self.old.rule }
+        requires within { budget.old.used ≤ budget.old.limit }
+        ensures answer { MatchStep result
+            (λ c. Passes (λ a. B.is_dull bound.now a ≡ true) self.old.coming (c.lists ∷ self.new.coming) × (c.down ≡ down self.old.frame c.lists) × (self.new.latest ≡ Some c.lists))
+            (Passes (λ a. B.is_dull bound.now a ≡ true) self.old.coming [] × (self.new.coming ≡ []) × (self.new.latest ≡ self.old.latest))
+            (Passes (λ a. B.is_dull bound.now a ≡ true) self.old.coming self.new.coming × (self.new.latest ≡ self.old.latest) × (budget.new.used ≡ budget.new.limit)) }
+        ensures frame { self.new.frame ≡ self.old.frame }
+        ensures shape { self.new.shape ≡ self.old.shape }
+        ensures rule { self.new.rule ≡ self.old.rule }
+        ensures limit { budget.new.limit ≡ budget.old.limit }
+        ensures rises { budget.old.used ≤ budget.new.used }
+        ensures within { budget.new.used ≤ budget.new.limit }
+    {
+        self.next(budget)
     }
 
     /// The candidate handed out last, or the one behind which the listing began: a later listing can go on behind it.
