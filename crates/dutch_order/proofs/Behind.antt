@@ -171,16 +171,16 @@ first-differs p q h = ap (λ b. b && q) h
 
 module _ (frame : Frame) (shape : Shape) where
   -- the lists of a block's arrangements are those that were chosen
-  chosen-s1r : (s1 s2 s1r : List ℕ) (b : Arrangement) → IsIn b (with_s2r frame shape s1 s2 s1r) → b.s1r ≡ s1r
+  pub chosen-s1r : (s1 s2 s1r : List ℕ) (b : Arrangement) → IsIn b (with_s2r frame shape s1 s2 s1r) → b.s1r ≡ s1r
   chosen-s1r s1 s2 s1r b m =
       ap (λ c. c.s1r) (IsIn-map (arranged s1 s2 s1r) b (sorted tuple_key (tuples (left_of (left_of (residents_of frame) s2) s1r) (remainder_pairs shape))) m).1
 
-  chosen-s2 : (s1 s2 : List ℕ) (b : Arrangement) → IsIn b (with_s1r frame shape s1 s2) → b.s2 ≡ s2
+  pub chosen-s2 : (s1 s2 : List ℕ) (b : Arrangement) → IsIn b (with_s1r frame shape s1 s2) → b.s2 ≡ s2
   chosen-s2 s1 s2 b m =
       let by = IsIn-flat_map (with_s2r frame shape s1 s2) b (exchanges (left_of (residents_of frame) s2) (remainder_pairs shape)) m in
       ap (λ c. c.s2) (IsIn-map (arranged s1 s2 by.0) b (sorted tuple_key (tuples (left_of (left_of (residents_of frame) s2) by.0) (remainder_pairs shape))) by.2).1
 
-  chosen-s1 : (s1 : List ℕ) (b : Arrangement) → IsIn b (with_s2 frame shape s1) → b.s1 ≡ s1
+  pub chosen-s1 : (s1 : List ℕ) (b : Arrangement) → IsIn b (with_s2 frame shape s1) → b.s1 ≡ s1
   chosen-s1 s1 b m =
       let by = IsIn-flat_map (with_s1r frame shape s1) b (sorted tuple_key (tuples (residents_of frame) shape.mdps)) m in
       let by' = IsIn-flat_map (with_s2r frame shape s1 by.0) b (exchanges (left_of (residents_of frame) by.0) (remainder_pairs shape)) by.2 in

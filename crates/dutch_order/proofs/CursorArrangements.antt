@@ -15,14 +15,14 @@ use Rattle.dutch_order.proofs.Orders.{Rises, Rises-filter, all_members, IsIn-map
 use Rattle.dutch_order.proofs.Sets.{sorted-in, in-sorted}
 use Rattle.dutch_order.proofs.CursorSets.{subset-from, subset-to, tuple-from, tuple-to, are-set, are-tuple, numbers-within, AreLists, lists-are, left-within}
 
-rises-numbers : (first count : ℕ) → Rises (numbers_from first count)
+pub rises-numbers : (first count : ℕ) → Rises (numbers_from first count)
 rises-numbers first zero = tt
 rises-numbers first (suc count) = (
   all_members (λ y. first < y) (numbers_from (suc first) count) (λ y m. omega (arith, (numbers-within (suc first) count y m).0)),
   rises-numbers (suc first) count,
 )
 
-pool-rises : (frame : Frame) (taken : List ℕ) → Rises (left_of (residents_of frame) taken)
+pub pool-rises : (frame : Frame) (taken : List ℕ) → Rises (left_of (residents_of frame) taken)
 pool-rises frame taken =
     Rises-filter (λ x. not (is_member x taken)) (residents_of frame) (rises-numbers (frame.mdps + 1) (length frame.scores - frame.mdps))
 

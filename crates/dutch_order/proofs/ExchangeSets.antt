@@ -48,11 +48,11 @@ sum_of-append : (xs ys : List ℕ) → sum_of (xs ++ ys) ≡ sum_of xs + sum_of 
 sum_of-append [] ys = omega arith
 sum_of-append (x ∷ xs) ys = omega (arith, sum_of-append xs ys)
 
-sum_of-reverse : (xs : List ℕ) → sum_of (reverse xs) ≡ sum_of xs
+pub sum_of-reverse : (xs : List ℕ) → sum_of (reverse xs) ≡ sum_of xs
 sum_of-reverse [] = refl
 sum_of-reverse (x ∷ xs) = ap sum_of (reverse-append (x ∷ []) xs) ∙ sum_of-append (reverse xs) (x ∷ []) ∙ (let e = sum_of-reverse xs in omega (arith, e))
 
-sum_of-map : (f : ℕ → ℕ) (xs : List ℕ) → sum_of (map f xs) ≡ total f xs
+pub sum_of-map : (f : ℕ → ℕ) (xs : List ℕ) → sum_of (map f xs) ≡ total f xs
 sum_of-map f [] = refl
 sum_of-map f (x ∷ xs) = ap (λ n. f x + n) (sum_of-map f xs)
 

@@ -84,7 +84,7 @@ put-in-later : (c x y : List ℕ) (others ys : List (List ℕ)) → (IsIn c othe
 put-in-later c x y others ys later (inl same) = inr (inl same)
 put-in-later c x y others ys later (inr m) = elim (later m) [ inl same ↦ inl same | inr n ↦ inr (inr n) ]
 
-put-in : (key : List ℕ → List ℕ) (c x : List ℕ) (xs : List (List ℕ)) → IsIn c (put key x xs) → (c ≡ x) ⊎ IsIn c xs
+pub put-in : (key : List ℕ → List ℕ) (c x : List ℕ) (xs : List (List ℕ)) → IsIn c (put key x xs) → (c ≡ x) ⊎ IsIn c xs
 put-in key c x [] = λ m. m
 put-in key c x (y ∷ ys) =
     elim (is_before (key y) (key x)) as (λ b. IsIn c (cond b (y ∷ put key x ys) (x ∷ y ∷ ys)) → (c ≡ x) ⊎ IsIn c (y ∷ ys)) [

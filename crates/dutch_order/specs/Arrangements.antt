@@ -1,8 +1,7 @@
 -- The arrangements of a bracket (C.04.3 A.3, B.2 to B.7): who is paired with whom, in article D's order.
 use Rattle.std.specs.Prelude.{ℕ, ◌+◌, ◌-◌, ◌*◌, ◌<◌, ◌≤◌, Bool, true, false, not, ◌&&◌, ◌||◌, if◌then◌else◌, List, [], ◌∷◌, ◌++◌, map, filter, flat_map, length, take, slice_index}
-use Rattle.dutch_order.specs.Choices.{tuples, is_member, all_meet, is_same, numbers_from}
-use Rattle.dutch_order.specs.Keys.{sorted}
-use Rattle.dutch_order.specs.Transposition.{tuple_key}
+use Rattle.dutch_order.specs.Choices.{is_member, all_meet, is_same, numbers_from}
+use Rattle.dutch_order.specs.Transposition.{all_tuples}
 use Rattle.dutch_order.specs.Exchange.{exchanges}
 use Rattle.dutch_order.specs.Limbo.{limbo_exchanges, IsNonAscending}
 use Rattle.dutch_order.specs.declared.bracket.Shape.{Shape}
@@ -61,7 +60,7 @@ module _ (frame : Frame) (shape : Shape) where
   abbrev pub with_s2r : List ℕ → List ℕ → List ℕ → List Arrangement
   with_s2r s1 s2 s1r =
       map (λ s2r. record { s1 = s1; s2 = s2; s1r = s1r; s2r = s2r })
-      (sorted tuple_key (tuples (left_of (left_of (residents_of frame) s2) s1r) (remainder_pairs shape)))
+      (all_tuples (left_of (left_of (residents_of frame) s2) s1r) (remainder_pairs shape))
 
   -- D.2: where S1 and S2 are chosen, the sets of residents of the remainder
   abbrev pub with_s1r : List ℕ → List ℕ → List Arrangement
@@ -69,7 +68,7 @@ module _ (frame : Frame) (shape : Shape) where
 
   -- D.1: where S1 is chosen, the tuples of residents whom its players meet
   abbrev pub with_s2 : List ℕ → List Arrangement
-  with_s2 s1 = flat_map (with_s1r s1) (sorted tuple_key (tuples (residents_of frame) shape.mdps))
+  with_s2 s1 = flat_map (with_s1r s1) (all_tuples (residents_of frame) shape.mdps)
 
   -- B.6, B.7: all arrangements of a shape, in article D's order: S1 by D.3, then S2 by D.1, S1R by D.2, and S2R by D.1
   abbrev pub arrangements : List Arrangement

@@ -27,6 +27,11 @@ abbrev pub IsIn : {X : Type 0} → X → List X → Type 0
 IsIn x [] = ⊥
 IsIn x (y ∷ ys) = (x ≡ y) ⊎ IsIn x ys
 
+-- no member of a list comes twice
+abbrev pub HasEachOnce : {X : Type 0} → List X → Type 0
+HasEachOnce [] = Unit {0}
+HasEachOnce (x ∷ xs) = (¬ IsIn x xs) × HasEachOnce xs
+
 -- choices ascend by a key: the key of each is before the keys of all later ones
 abbrev pub Ascends : (List ℕ → List ℕ) → List (List ℕ) → Type 0
 Ascends key [] = Unit {0}

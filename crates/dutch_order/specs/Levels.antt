@@ -1,9 +1,9 @@
 -- What the levels of a listing have still to give: a model that carries the listing, and which a reader of its promise may pass by.
 use Rattle.std.specs.Prelude.{ℕ, Bool, not, ◌&&◌, ◌||◌, List, [], ◌∷◌, ◌++◌, map, filter, length, if◌then◌else◌, Option, Some, None}
 use Rattle.dutch_order.specs.Choices.{all_meet, is_same, from_on, subsets, tuples}
-use Rattle.dutch_order.specs.Keys.{sorted, IsIn}
+use Rattle.dutch_order.specs.Keys.{IsIn}
 use Rattle.dutch_order.specs.Arrangements.{Frame, Arrangement, left_of, down, leaves_one}
-use Rattle.dutch_order.specs.Transposition.{tuple_key, transpositions}
+use Rattle.dutch_order.specs.Transposition.{all_tuples, transpositions}
 use Rattle.dutch_order.specs.Exchange.{exchanges}
 
 -- what is left in a block, where there is one
@@ -56,7 +56,7 @@ module _ (meets : ℕ → ℕ → Bool) where
   abbrev pub behind_s2r : List ℕ → List ℕ → List ℕ → Arrangement → List ℕ → List Arrangement
   behind_s2r s1 s2 remainder own s1r =
       map (arranged s1 s2 s1r)
-      (without_own (Some own) (filter (all_meet meets s1r) (from_on own.s2r (sorted tuple_key (tuples (left_of remainder s1r) (length s1r))))))
+      (without_own (Some own) (filter (all_meet meets s1r) (from_on own.s2r (all_tuples (left_of remainder s1r) (length s1r)))))
 
   -- a block for each S1R; the first of them, if it is the cursor's own, is what stands behind the cursor's S2R
   abbrev pub s1r_blocks : Option Arrangement → List ℕ → List ℕ → List ℕ → List (List ℕ) → List (List Arrangement)
@@ -77,7 +77,7 @@ module _ (meets : ℕ → ℕ → Bool) where
   -- where S1 is the cursor's own: the arrangements behind it
   abbrev pub behind_s2 : ℕ → List ℕ → Arrangement → List ℕ → List Arrangement
   behind_s2 k residents own s1 =
-      joined (s2_blocks (Some own) k s1 residents (filter (all_meet meets s1) (from_on own.s2 (sorted tuple_key (tuples residents (length s1))))))
+      joined (s2_blocks (Some own) k s1 residents (filter (all_meet meets s1) (from_on own.s2 (all_tuples residents (length s1)))))
 
   -- a block for each S1; the first of them, if it is the cursor's own, is what stands behind the cursor's S2
   abbrev pub s1_blocks : Option Arrangement → ℕ → List ℕ → List (List ℕ) → List (List Arrangement)

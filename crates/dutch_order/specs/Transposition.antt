@@ -7,10 +7,14 @@ use Rattle.dutch_order.specs.Keys.{sorted}
 abbrev pub tuple_key : List ℕ → List ℕ
 tuple_key tuple = tuple
 
+-- D.1: all tuples of k numbers of the pool, sorted by their numbers
+abbrev pub all_tuples : List ℕ → ℕ → List (List ℕ)
+all_tuples pool k = sorted tuple_key (tuples pool k)
+
 -- the tuples of the pool that are as long as the first list, sorted by their numbers, whose players may meet those of the first
 -- list place by place
 abbrev pub transpositions : (ℕ → ℕ → Bool) → List ℕ → List ℕ → List (List ℕ)
-transpositions meets first pool = filter (all_meet meets first) (sorted tuple_key (tuples pool (length first)))
+transpositions meets first pool = filter (all_meet meets first) (all_tuples pool (length first))
 
 -- the beginnings shorter than k, the empty one among them: tuples of the pool whose players may meet the first ones so far
 abbrev pub beginnings_below : (ℕ → ℕ → Bool) → List ℕ → List ℕ → ℕ → List (List ℕ)

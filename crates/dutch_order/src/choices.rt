@@ -6,11 +6,11 @@ ghost use Rattle.dutch_order.specs.declared.numbers.TheConstants.{LIMIT};
 ghost use Rattle.dutch_order.specs.Arrangements.{Arrangement, left_of};
 ghost use Rattle.dutch_order.specs.Exchange.{exchanges};
 ghost use Rattle.dutch_order.specs.Choices.{all_meet, from_on, subsets, tuples, numbers_from};
-ghost use Rattle.dutch_order.specs.Keys.{IsIn, sorted};
+ghost use Rattle.dutch_order.specs.Keys.{IsIn};
 ghost use Rattle.dutch_order.specs.Levels.{HasS1r, HasS2, HasS2r, behind_s2r, by_s1, by_s1r, by_s2, by_s2r, s1_blocks, s1r_blocks, s2_blocks, without_own};
 ghost use Rattle.dutch_order.specs.Steps.{MatchStep, Passes};
 ghost use Rattle.dutch_order.specs.Limbo.{IsNonAscending, limbo_exchanges};
-ghost use Rattle.dutch_order.specs.Transposition.{transpositions, tuple_key};
+ghost use Rattle.dutch_order.specs.Transposition.{all_tuples, transpositions};
 
 use crate::cursor::Cursor;
 use crate::cuts::{Cuts, CutsTuples, OfS2, OfS2r};
@@ -320,7 +320,7 @@ impl<'a, R: Rule> ByS2<'a, R> {
         requires same { s1.items ≡ cursor.s1 }
         requires given { HasS2 k residents.now cursor }
         ensures { result ≡ s2_blocks (R.meets rule.now) (Some cursor) k s1.items residents.now
-            (filter (all_meet (R.meets rule.now) s1.items) (from_on cursor.s2 (sorted tuple_key (tuples residents.now (length s1.items))))) }
+            (filter (all_meet (R.meets rule.now) s1.items) (from_on cursor.s2 (all_tuples residents.now (length s1.items)))) }
     {
         let lists = Transpositions::from(&s1, residents, rule, &cursor.s2);
         ByS2 {

@@ -2,11 +2,10 @@
 ghost use Rattle.std.specs.Prelude.{◌≡◌, ◌+◌, ◌*◌, ◌<◌, ◌≤◌, ℕ, [], ◌∷◌, length, map, filter};
 ghost use Rattle.std.specs.List.{AllByRecursion};
 ghost use Rattle.std.specs.List.Sorted.{IsStrictlyIncreasing};
-ghost use Rattle.dutch_order.specs.Transposition.{transpositions, short_beginnings};
+ghost use Rattle.dutch_order.specs.Transposition.{all_tuples, transpositions, short_beginnings};
 ghost use Rattle.dutch_order.specs.TranspositionSearch.{transposition_plan, numbers_at, place_in, places_in};
 ghost use Rattle.dutch_order.specs.Choices.{tuples, all_meet, from_on};
-ghost use Rattle.dutch_order.specs.Keys.{sorted, IsIn};
-ghost use Rattle.dutch_order.specs.Transposition.{tuple_key};
+ghost use Rattle.dutch_order.specs.Keys.{IsIn};
 ghost use Rattle.dutch_order.specs.Steps.{MatchStep, Passes};
 
 use crate::cuts::CutsTuples;
@@ -175,7 +174,7 @@ impl<'a, R: Rule> Transpositions<'a, R> {
         requires few_first { length first.now ≤ LIMIT }
         requires few { length pool.now ≤ LIMIT }
         requires given { IsIn tuple.now (tuples pool.now (length first.now)) }
-        ensures coming { result.coming ≡ filter (all_meet (R.meets rule.now) first.now) (from_on tuple.now (sorted tuple_key (tuples pool.now (length first.now)))) }
+        ensures coming { result.coming ≡ filter (all_meet (R.meets rule.now) first.now) (from_on tuple.now (all_tuples pool.now (length first.now))) }
     {
         let hint = places_in(pool, tuple);
         Transpositions {

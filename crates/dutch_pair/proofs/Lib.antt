@@ -16,6 +16,7 @@ pub mod ChoiceLemmas
 pub mod ColourSeats
 pub mod Copies
 pub mod Covering
+pub mod Descents
 pub mod DownLemmas
 pub mod EligibleLemmas
 pub mod LeastPsd

@@ -16,6 +16,7 @@ mod ghosts;
 pub mod group;
 pub mod laws;
 pub mod lookahead;
+pub mod order_laws;
 pub mod quality;
 pub mod reached;
 pub mod round;

@@ -1,12 +1,13 @@
 -- The seats of a field are those of the present players of its report, by rank.
-use Rattle.std.proofs.Common.{◌≡◌, ℕ, ◌+◌, ◌<◌, ◌≤◌, Bool, true, false, cond, ◌==◌, nat_eq, nat_lt, List, [], ◌∷◌, ◌++◌, map, Option, Some, None, Result, Ok, Err, refl, sym, ap, ◌∙◌, subst, arith, append-nil}
-use Rattle.std.specs.Prelude.{All, IsPermutation, option_map}
+use Rattle.std.proofs.Common.{◌≡◌, ℕ, ◌+◌, ◌<◌, ◌≤◌, Bool, true, false, cond, ◌==◌, nat_eq, nat_lt, List, [], ◌∷◌, ◌++◌, map, Option, Some, None, Result, Ok, Err, ◌||◌, inl, inr, refl, sym, ap, ◌∙◌, subst, arith, append-nil}
+use Rattle.std.specs.Prelude.{All, Contains, IsPermutation, option_map, slice_index_or}
 use Rattle.std.specs.List.{AllByRecursion, IsDistinct, list_any}
 use Rattle.std.specs.Option.{ok_or}
-use Rattle.std.proofs.lemmas.Bool.{eq-eqb, or_left, or_right}
+use Rattle.std.proofs.lemmas.Bool.{eq-eqb, eqb-true, or_left, or_right, or_cases, true≢false}
 use Rattle.std.proofs.lemmas.Bool.Decides.{nat_tests}
 use Rattle.std.proofs.lemmas.List.Elements.{All-from_recursion, recursion_from_All}
-use Rattle.std.proofs.lemmas.List.Sorted.{All-permutation, IsPermutation-refl, IsPermutation-cons, IsPermutation-middle, IsPermutation-sym, IsPermutation-trans, IsPermutation-append_left, IsPermutation-map}
+use Rattle.std.proofs.lemmas.List.Folds.{Any-from_list_any}
+use Rattle.std.proofs.lemmas.List.Sorted.{All-permutation, IsPermutation-refl, IsPermutation-cons, IsPermutation-middle, IsPermutation-sym, IsPermutation-trans, IsPermutation-append_left, IsPermutation-map, list_any-IsPermutation}
 use Rattle.std.proofs.lemmas.Map.Keys.{IsDistinct-IsPermutation}
 use Rattle.trf16.specs.declared.cell.Colour.{Colour}
 use Rattle.trf16.specs.Sheet.{Entry, Sheet, known, rounds_played}
@@ -104,6 +105,37 @@ unfolding named_in
 known_ones sheet [] all = tt
 known_ones sheet (entry ∷ rest) all = (λ e. all.0, known_ones sheet rest all.1)
 
+-- whoever is named and not absent has a seat
+has_start : List ℕ → ℕ → Bool
+has_start all start = list_any (λ (other : ℕ). other == start) all
+
+present_seated_at : (sheet : Sheet) (entry : Entry) (rest : List SeatFacts) (start : ℕ) (t : Bool) → absent sheet entry.start ≡ t → absent sheet start ≡ false
+    → (entry.start == start || has_start (starts rest) start) ≡ true → has_start (starts (cond t rest (seat_of sheet entry ∷ rest))) start ≡ true
+unfolding starts has_start
+present_seated_at sheet entry rest start false is here h = h
+present_seated_at sheet entry rest start true is here h =
+    elim (or_cases (entry.start == start) (has_start (starts rest) start) h) [
+      | inl same ↦ absurd (true≢false (sym is ∙ ap (absent sheet) (eqb-true entry.start start same) ∙ here))
+      | inr later ↦ later
+    ]
+
+or_more : (b c d : Bool) → (c ≡ true → d ≡ true) → (b || c) ≡ true → (b || d) ≡ true
+or_more true c d more h = refl
+or_more false c d more h = more h
+
+present_seated : (sheet : Sheet) (entries : List Entry) (start : ℕ) → named_in entries start ≡ true → absent sheet start ≡ false → has_start (starts (seats_of sheet entries)) start ≡ true
+unfolding named_in
+present_seated sheet [] start named here = absurd (true≢false (sym named))
+present_seated sheet (entry ∷ rest) start named here =
+    present_seated_at sheet entry (seats_of sheet rest) start (absent sheet entry.start) refl here
+    (or_more (entry.start == start) (named_in rest start) (has_start (starts (seats_of sheet rest)) start) (λ n. present_seated sheet rest start n here) named)
+
+contains_start : (all : List ℕ) (start : ℕ) → has_start all start ≡ true → Contains all start
+unfolding has_start
+contains_start all start h =
+    let found = Any-from_list_any (λ (other : ℕ). other == start) all h in
+    (found.0, found.2, subst (λ (other : ℕ). slice_index_or all found.0 other ≡ other) (eqb-true found.1 start found.4) found.3)
+
 -- ---- the total of rounds
 
 not_ok : {A : Type 0} (fault : FieldFault) (x : A) → ◌≡◌ {A = Result A FieldFault} (Err fault) (Ok x) → ⊥
@@ -144,17 +176,20 @@ made sheet initial total =
 
 field_made : (sheet : Sheet) (asked : Option ℕ) (initial : Option Colour) (total : ℕ) → HasOwnStarts sheet → total_of sheet asked ≡ Some total
     → rounds_played sheet + 1 ≤ total → IsFieldOf sheet asked (made sheet initial total)
-unfolding made starts named_in
+unfolding made starts named_in has_start
 field_made sheet asked initial total own named time =
     let seats : List SeatFacts = seats_of sheet sheet.players in
     let order : IsPermutation (starts seats) (starts (ranked [] seats)) = IsPermutation-map (λ (seat : SeatFacts). seat.start) seats (ranked [] seats) (ranked_permutes [] seats) in
-    let all : (P : ℕ → Type 0) → AllByRecursion (λ (entry : Entry). absent sheet entry.start ≡ false → P entry.start) sheet.players → All P (starts (ranked [] seats)) =
+    let each_seat : (P : ℕ → Type 0) → AllByRecursion (λ (entry : Entry). absent sheet entry.start ≡ false → P entry.start) sheet.players → All P (starts (ranked [] seats)) =
     λ P each. All-permutation P (starts seats) (starts (ranked [] seats)) order (All-from_recursion P (starts seats) (seats_all sheet P sheet.players each)) in
     record {
-      players = all (λ start. known sheet start ≡ true) (known_ones sheet sheet.players (all_known sheet.players));
-      present = all (λ start. absent sheet start ≡ false) (present_ones sheet sheet.players);
+      players = each_seat (λ start. known sheet start ≡ true) (known_ones sheet sheet.players (all_known sheet.players));
+      present = each_seat (λ start. absent sheet start ≡ false) (present_ones sheet sheet.players);
+      all = λ start named here.
+          contains_start (starts (ranked [] seats)) start
+          (sym (list_any-IsPermutation (λ (other : ℕ). other == start) (starts seats) (starts (ranked [] seats)) order) ∙ present_seated sheet sheet.players start named here);
       once = IsDistinct-IsPermutation nat_eq flips (starts seats) (starts (ranked [] seats)) order (seats_distinct sheet sheet.players own.different);
-      from_one = all (λ start. 0 < start) (by_starts sheet (λ start. 0 < start) sheet.players
+      from_one = each_seat (λ start. 0 < start) (by_starts sheet (λ start. 0 < start) sheet.players
           (recursion_from_All (λ start. 0 < start) (starts_of sheet.players) (λ k d lt. (own.within k d lt).0)));
       next = refl;
       total = named;

@@ -1,5 +1,5 @@
 -- What holds of every field (C.04.3 A.6, C.1, C.3, E).
-use Rattle.std.specs.Prelude.{◌≡◌, ℕ, ◌+◌, ◌<◌, ◌≤◌, true, false, nat_eq, List, map, All, Option, Some}
+use Rattle.std.specs.Prelude.{◌≡◌, ℕ, ◌+◌, ◌<◌, ◌≤◌, true, false, nat_eq, List, map, All, Contains, Option, Some}
 use Rattle.std.specs.List.{IsDistinct}
 use Rattle.trf16.specs.Sheet.{Sheet, known, rounds_played}
 use Rattle.trf16.specs.Absence.{absent}
@@ -25,11 +25,12 @@ start_ranks facts = map (λ seat. seat.start) facts.seats
 abbrev pub CountFromOne : Facts → Type 0
 CountFromOne facts = All (λ start. 0 < start) (start_ranks facts)
 
--- the seats are players of a report who are present, each once; the round that is to be paired is the next one, and within the total
+-- the seats are the players of a report who are present, all of them and each once; the round that is to be paired is the next one, and within the total
 -- that is asked for or that the report names
 pub record IsFieldOf (sheet : Sheet) (asked : Option ℕ) (facts : Facts) : Type 0 where
   pub players : All (λ start. known sheet start ≡ true) (start_ranks facts)
   pub present : All (λ start. absent sheet start ≡ false) (start_ranks facts)
+  pub all : (start : ℕ) → known sheet start ≡ true → absent sheet start ≡ false → Contains (start_ranks facts) start
   pub once : IsDistinct nat_eq (start_ranks facts)
   pub from_one : CountFromOne facts
   pub next : facts.round ≡ rounds_played sheet + 1

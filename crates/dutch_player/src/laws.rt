@@ -50,7 +50,7 @@ pub fn scores_do_not_ascend(field: &Field)
     let _ = &field.seats;
 }
 
-/// Whoever has a seat is a player of the report who is present, and has one seat; the round that is to be paired is the report's next
+/// Each player of the report who is present has a seat, one alone, and nobody else has any; the round that is to be paired is the report's next
 /// one, and within the total.
 pub fn seats_are_present_players()
     ensures { (sheet : Sheet) (asked : Option ℕ) (initial : Option Colour) (facts : Facts) → HasOwnStarts sheet → facts_of sheet asked initial ≡ Ok facts

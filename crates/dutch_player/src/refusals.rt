@@ -1,5 +1,6 @@
 // Whether a further round can be paired from a report.
-ghost use Rattle.std.specs.Prelude.{◌≡◌};
+ghost use Rattle.std.specs.Prelude.{◌≡◌, ◌≢◌, IfErr};
+ghost use Rattle.dutch_player.specs.declared.fault.FieldFault.TheVariants.{OutOfMemory};
 ghost use Rattle.dutch_player.specs.Facts.{total_for};
 
 use crate::fault::FieldFault;
@@ -9,7 +10,8 @@ use trf16::report::Report;
 /// The total of rounds, where a further round can be paired.
 #[tactic(auto, unfolding(crate::specs::Facts::total_for))]
 pub(crate) fn total_for(report: &Report<'_>, asked: Option<u8>) -> Result<u8, FieldFault>
-    ensures { result ≡ total_for report.now asked }
+    ensures value { result ≡ total_for report.now asked }
+    ensures no_memory { IfErr result (λ fault. fault ≢ OutOfMemory) }
 {
     if let Some((player, round)) = report.unfinished() {
         return Err(FieldFault::Unfinished { player, round });

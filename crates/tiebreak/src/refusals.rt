@@ -1,5 +1,6 @@
 // Whether a report has standings.
-ghost use Rattle.std.specs.Prelude.{◌≡◌};
+ghost use Rattle.std.specs.Prelude.{◌≡◌, ◌≢◌, IfErr};
+ghost use Rattle.tiebreak.specs.declared.fault.TieFault.TheVariants.{OutOfMemory};
 ghost use Rattle.tiebreak.specs.Standings.{judged};
 
 use crate::fault::TieFault;
@@ -9,7 +10,8 @@ use trf16::report::Report;
 /// Refuses a game without a result, and other points for games.
 #[tactic(auto, unfolding(crate::specs::Standings::judged))]
 pub(crate) fn judged(report: &Report<'_>) -> Result<(), TieFault>
-    ensures { result ≡ judged report.now }
+    ensures value { result ≡ judged report.now }
+    ensures no_memory { IfErr result (λ fault. fault ≢ OutOfMemory) }
 {
     if let Some((player, round)) = report.unfinished() {
         return Err(TieFault::Unfinished { player, round });

@@ -35,6 +35,9 @@ pub trait Sink {
     // How many calls failed.
     ghost failures: { Self → ℕ };
 
+    // How many calls were made.
+    ghost calls: { Self → ℕ };
+
     // The bytes that are written, where they are known.
     ghost held: { Self → Option (List ℕ) } = { λ _. None };
 
@@ -44,6 +47,7 @@ pub trait Sink {
         ensures bound { IfOk result (λ n. n ≤ length piece.now) }
         ensures some { IfOk result (λ n. 0 < length piece.now → 0 < n) }
         ensures failures { CountsFailure (failures self.old) (failures self.new) result }
+        ensures calls { CountsOne (calls self.old) (calls self.new) }
         ensures bytes { WriteAppends (held self.old) (held self.new) result piece.now };
 }
 
@@ -99,6 +103,8 @@ impl<R: Read> Source for Counted<R> {
 
 impl<W: Write> Sink for Counted<W> {
     ghost failures = { failures_of };
+
+    ghost calls = { calls_of };
 
     ghost held = { λ counted. W.contents (inner_of counted) };
 

@@ -7,6 +7,9 @@ use Rattle.dutch_order.proofs.Orders.{IsIn-filter, filter-IsIn}
 use Rattle.dutch_order.proofs.Sets.{sorted-in, in-sorted}
 use Rattle.dutch_order.proofs.laws.choices_are_all.Goals as goal
 
+pub returns-clause-tuples : goal.returns-clause-tuples
+returns-clause-tuples c = λ pool k tuple. (sorted-in (λ t. t) tuple (tuples pool k), in-sorted (λ t. t) tuple (tuples pool k))
+
 pub returns-clause-transpositions : goal.returns-clause-transpositions
 returns-clause-transpositions c =
     λ meets first pool tuple. (

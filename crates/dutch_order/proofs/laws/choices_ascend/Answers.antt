@@ -10,6 +10,12 @@ use Rattle.dutch_order.proofs.StageSets.{exchange_key-apart, pool-ascend}
 use Rattle.dutch_order.proofs.TupleSearch.{tuples-ascend}
 use Rattle.dutch_order.proofs.laws.choices_ascend.Goals as goal
 
+pub returns-clause-tuples : goal.returns-clause-tuples
+returns-clause-tuples c =
+    λ pool k rises.
+    subst (Ascends (λ tuple. tuple)) (sym (sorted-ascending (λ tuple. tuple) (tuples pool k) (tuples-ascend k pool (Rises-from pool rises))))
+    (tuples-ascend k pool (Rises-from pool rises))
+
 pub returns-clause-transpositions : goal.returns-clause-transpositions
 returns-clause-transpositions c =
     λ meets first pool rises.
