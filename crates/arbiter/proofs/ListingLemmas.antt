@@ -122,7 +122,7 @@ not_listed options facts stand shape fault (Ok reply) e h = subst (λ x. Lists o
 not_listed options facts stand shape fault (Err error) e h = h
 
 -- what is answered to a bracket that is found
-pub told : (options : CandidatesOptions) (facts : Facts) (found : BracketAt) {E : Type 0} (r : Result Reply E) → IsFound facts options.steps options.bracket found
+pub told : (options : CandidatesOptions) (facts : Facts) (found : BracketAt) {E : Type 0} (r : Result Reply E) → IsBracketAt facts options.steps options.bracket found
     → IfOk r (λ reply. Tells options facts found (answer_of reply)) → IfOk r (λ reply. IsTold options facts (answer_of reply))
 told options facts found (Ok reply) is h = record { found = found; is = is; tells = h }
 told options facts found (Err error) is h = h
