@@ -34,3 +34,4 @@ pub mod WholeRounds
 pub mod NamedBoards
 pub mod NextRound
 pub mod OneBye
+pub mod ShapeLaws
