@@ -35,3 +35,5 @@ pub mod NamedBoards
 pub mod NextRound
 pub mod OneBye
 pub mod ShapeLaws
+pub mod BoardOrder
+pub mod GroupLaws

@@ -8,12 +8,14 @@ ghost use Rattle.trf16.specs.declared.cell.Colour.{Colour};
 ghost use Rattle.dutch_pair.specs.Quality.{Quality, is_better};
 ghost use Rattle.dutch_player.specs.Facts.{Facts, facts_of};
 ghost use Rattle.dutch_player.specs.Laws.{CountFromOne};
-ghost use Rattle.dutch_pair.specs.Boards.{boards};
+ghost use Rattle.std.specs.List.{AllByRecursion, concat};
+ghost use Rattle.dutch_pair.specs.Boards.{AreInOrder, boards, ordered};
+ghost use Rattle.dutch_pair.specs.Groups.{IsScoregroup, NeighboursDiffer};
 ghost use Rattle.dutch_pair.specs.Everybody.{NameEverybodyOnce};
 ghost use Rattle.dutch_order.specs.Arrangements.{Fits, Frame};
 ghost use Rattle.dutch_order.specs.declared.bracket.Shape.{Shape};
 ghost use Rattle.dutch_pair.specs.Reached.{Stand, frame_of};
-ghost use Rattle.dutch_pair.specs.Round.{Pairing, eligible, round, shape_of};
+ghost use Rattle.dutch_pair.specs.Round.{Pairing, eligible, round, scoregroups, shape_of};
 ghost use Rattle.dutch_pair.specs.Shapes.{IsGreater, fits, has_member};
 ghost use Rattle.dutch_pair.specs.Completion.{Completable, can_complete, most};
 
@@ -74,4 +76,16 @@ pub fn the_shape_is_the_greatest()
 /// A bracket has room for a shape exactly where the test says so.
 pub fn room_by_test()
     ensures { (frame : Frame) (shape : Shape) → Fits frame shape ↔ (fits frame shape ≡ true) }
+{}
+
+/// The scoregroups of seats: each is of one score, neighbours have different scores, and one behind the other they are all seats (A.3).
+pub fn scoregroups_part_the_seats()
+    ensures one_score { (facts : Facts) (seats : List ℕ) → AllByRecursion (IsScoregroup facts) (scoregroups facts seats) }
+    ensures differ { (facts : Facts) (seats : List ℕ) → NeighboursDiffer facts (scoregroups facts seats) }
+    ensures all { (facts : Facts) (seats : List ℕ) → concat (scoregroups facts seats) ≡ seats }
+{}
+
+/// The pairs of a round stand in the order of their boards: none goes before one that stands in front of it.
+pub fn boards_stand_in_order()
+    ensures { (facts : Facts) (pairs : List (ℕ × ℕ)) → AreInOrder facts (ordered facts pairs) }
 {}
