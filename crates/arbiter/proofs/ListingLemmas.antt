@@ -9,12 +9,12 @@ use Rattle.dutch_order.specs.Draws.{Draw}
 use Rattle.dutch_order.specs.Keys.{IsIn}
 use Rattle.dutch_order.specs.declared.bracket.Shape.{Shape}
 use Rattle.dutch_order.proofs.CursorReads.{read-is}
-use Rattle.dutch_pair.specs.Reached.{IsOf, Stand, frame_of}
-use Rattle.dutch_pair.specs.declared.round.BracketAt.TheVariants.{Bracket}
+use Rattle.dutch_pair.specs.Outcomes.{IsBracketAt}
+use Rattle.dutch_pair.specs.Reached.{Stand, frame_of}
 use Rattle.dutch_player.specs.Facts.{Facts}
 use Rattle.dutch_pair.specs.declared.round.BracketAt.{BracketAt}
 use Rattle.dutch_order.specs.declared.cursor.CursorFault.{CursorFault}
-use Rattle.arbiter.specs.CandidateAnswers.{IsFound, IsListing, IsTold, Lists, Tells, coming_of, ending_text, status_of}
+use Rattle.arbiter.specs.CandidateAnswers.{IsListing, IsTold, Lists, Tells, coming_of, ending_text, status_of}
 use Rattle.arbiter.specs.CandidateTexts.{bracket_text, draw_text, line_text, pairs_text}
 use Rattle.arbiter.specs.Replies.{answer_of}
 use Rattle.arbiter.specs.Statuses.{not_of_bracket}
@@ -70,16 +70,10 @@ none_left (x ∷ xs) (suc n) h e =
 
 -- the listing ends where none is left
 pub underway_end : (line : Arrangement → List ℕ) (all coming : List Arrangement) (done count : ℕ) (text : List ℕ)
-    → IsUnderway line all coming done text → coming ≡ [] → done < count → IsListing line all count AtEnd text
-underway_end line all coming done count text h e less =
+    → (steps : ℕ) → IsUnderway line all coming done text → coming ≡ [] → done < count → IsListing line all count steps AtEnd text
+underway_end line all coming done count text steps h e less =
     let none = none_left all done h.within (sym h.rest ∙ e) in
     (subst (λ n. n < count) (sym none.0) less, h.text_is ∙ ap (flat_map line) none.1)
-
--- a bracket that is found is one of the field, and its shape fits
-pub found_sound : (facts : Facts) (steps number : ℕ) (stand : Stand) (shape : Shape) → IsFound facts steps number (Bracket stand shape)
-    → IsOf facts stand × Fits (frame_of facts stand) shape
-found_sound facts steps zero stand shape h = cc
-found_sound facts steps (suc n) stand shape h = (h.1, h.2)
 
 -- a text that is read as a cursor is an arrangement of the bracket and shape
 pub cursor_is_in : (frame : Frame) (shape : Shape) (bytes : List ℕ) (a : Arrangement) → IsBracket frame.scores frame.mdps
@@ -100,21 +94,21 @@ pairs_end facts stand firsts seconds i old text e end =
 
 -- the listing is stopped
 pub underway_stopped : (line : Arrangement → List ℕ) (all coming : List Arrangement) (done count : ℕ) (text : List ℕ)
-    → IsUnderway line all coming done text → done < count → IsListing line all count Stopped text
-underway_stopped line all coming done count text h less = (done, less, h.within, h.text_is)
+    → (steps used : ℕ) → IsUnderway line all coming done text → done < count → used ≡ steps → IsListing line all count steps (Stopped used) text
+underway_stopped line all coming done count text steps used h less e = (e, (done, less, h.within, h.text_is))
 
 -- as many came as were asked for
 pub underway_count : (line : Arrangement → List ℕ) (all coming : List Arrangement) (done count : ℕ) (text : List ℕ)
-    → IsUnderway line all coming done text → done ≤ count → count ≤ done → IsListing line all count AtCount text
-underway_count line all coming done count text h low high =
+    → (steps : ℕ) → IsUnderway line all coming done text → done ≤ count → count ≤ done → IsListing line all count steps AtCount text
+underway_count line all coming done count text steps h low high =
     let same : done ≡ count = omega (arith, low, high) in
     (subst (λ n. n ≤ length all) same h.within, subst (λ n. text ≡ flat_map line (take n all)) same h.text_is)
 
 -- a listing is answered
 pub listed : (options : CandidatesOptions) (facts : Facts) (stand : Stand) (shape : Shape) (coming : List Arrangement) (status : Status)
     (text lines : List ℕ) (ending : Ending) → coming_of facts stand shape options.from ≡ Ok coming
-    → IsListing (line_text facts stand) coming options.count ending lines → status ≡ status_of ending
-    → text ≡ bracket_text options.bracket stand.kind shape ++ (lines ++ ending_text options.bracket options.steps ending)
+    → IsListing (line_text facts stand) coming options.count options.steps ending lines → status ≡ status_of ending
+    → text ≡ bracket_text options.bracket stand.kind shape ++ (lines ++ ending_text options.bracket ending)
     → Lists options facts stand shape (coming_of facts stand shape options.from) (record { status = status; text = text })
 listed options facts stand shape coming status text lines ending e listing s t =
     subst (λ r. Lists options facts stand shape r (record { status = status; text = text })) (sym e)
@@ -128,7 +122,7 @@ not_listed options facts stand shape fault (Ok reply) e h = subst (λ x. Lists o
 not_listed options facts stand shape fault (Err error) e h = h
 
 -- what is answered to a bracket that is found
-pub told : (options : CandidatesOptions) (facts : Facts) (found : BracketAt) {E : Type 0} (r : Result Reply E) → IsFound facts options.steps options.bracket found
+pub told : (options : CandidatesOptions) (facts : Facts) (found : BracketAt) {E : Type 0} (r : Result Reply E) → IsBracketAt facts options.steps options.bracket found
     → IfOk r (λ reply. Tells options facts found (answer_of reply)) → IfOk r (λ reply. IsTold options facts (answer_of reply))
 told options facts found (Ok reply) is h = record { found = found; is = is; tells = h }
 told options facts found (Err error) is h = h

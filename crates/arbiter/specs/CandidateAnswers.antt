@@ -1,5 +1,5 @@
 -- What `candidates` answers: a bracket, its shape, and the candidates of that shape in article D's order, from a cursor on or all.
-use Rattle.std.specs.Prelude.{◌≡◌, ℕ, zero, suc, ◌<◌, ◌≤◌, List, ◌++◌, length, take, Option, Some, None, Result, Ok, Err, codes}
+use Rattle.std.specs.Prelude.{◌≡◌, ℕ, ◌<◌, ◌≤◌, List, ◌++◌, length, take, Option, Some, None, Result, Ok, Err, codes}
 use Rattle.std.specs.List.{flat_map}
 use Rattle.dutch_order.specs.Arrangements.{Arrangement, candidates, rest}
 use Rattle.dutch_order.specs.Cursors.{cursor_of}
@@ -22,24 +22,25 @@ use Rattle.arbiter.specs.declared.options.CandidatesOptions.{CandidatesOptions}
 use Rattle.arbiter.specs.declared.reply.Status.{Status}
 use Rattle.arbiter.specs.declared.reply.Status.TheVariants.{Done, Undecided}
 
--- the lines of the first `count` of some candidates, by how the listing ends: all came and they are fewer; as many came; or it was
--- stopped before, behind any of them
-abbrev pub IsListing : (Arrangement → List ℕ) → List Arrangement → ℕ → Ending → List ℕ → Type 0
-IsListing line coming count AtEnd text = (length coming < count) × (text ≡ flat_map line coming)
-IsListing line coming count AtCount text = (count ≤ length coming) × (text ≡ flat_map line (take count coming))
-IsListing line coming count Stopped text = (k : ℕ) × (k < count) × (k ≤ length coming) × (text ≡ flat_map line (take k coming))
+-- the lines of the first `count` of some candidates, by how the listing ends: all came and they are fewer; as many came; or it had
+-- used so many steps as it may, before as many came
+abbrev pub IsListing : (Arrangement → List ℕ) → List Arrangement → ℕ → ℕ → Ending → List ℕ → Type 0
+IsListing line coming count steps AtEnd text = (length coming < count) × (text ≡ flat_map line coming)
+IsListing line coming count steps AtCount text = (count ≤ length coming) × (text ≡ flat_map line (take count coming))
+IsListing line coming count steps (Stopped used) text =
+    (used ≡ steps) × ((k : ℕ) × (k < count) × (k ≤ length coming) × (text ≡ flat_map line (take k coming)))
 
 -- the status of a listing
 abbrev pub status_of : Ending → Status
 status_of AtEnd = Done
 status_of AtCount = Done
-status_of Stopped = Undecided
+status_of (Stopped used) = Undecided
 
 -- the last line of a listing
-abbrev pub ending_text : ℕ → ℕ → Ending → List ℕ
-ending_text number steps AtEnd = codes "end\n"
-ending_text number steps AtCount = codes "more\n"
-ending_text number steps Stopped = undecided_text number steps
+abbrev pub ending_text : ℕ → Ending → List ℕ
+ending_text number AtEnd = codes "end\n"
+ending_text number AtCount = codes "more\n"
+ending_text number (Stopped used) = undecided_text number used
 
 -- the candidates behind a cursor
 abbrev pub behind_cursor : Facts → Stand → Shape → Result Arrangement CursorFault → Result (List Arrangement) CursorFault
@@ -55,19 +56,14 @@ coming_of facts stand shape (Some text) = behind_cursor facts stand shape (curso
 pub record IsListed (options : CandidatesOptions) (facts : Facts) (stand : Stand) (shape : Shape) (coming : List Arrangement) (answer : Answer) : Type 0 where
   pub ending : Ending
   pub lines : List ℕ
-  pub listing : IsListing (line_text facts stand) coming options.count ending lines
+  pub listing : IsListing (line_text facts stand) coming options.count options.steps ending lines
   pub status : answer.status ≡ status_of ending
-  pub text : answer.text ≡ bracket_text options.bracket stand.kind shape ++ (lines ++ ending_text options.bracket options.steps ending)
+  pub text : answer.text ≡ bracket_text options.bracket stand.kind shape ++ (lines ++ ending_text options.bracket ending)
 
 -- the same, where the cursor is one of the bracket; else that is told
 abbrev pub Lists : CandidatesOptions → Facts → Stand → Shape → Result (List Arrangement) CursorFault → Answer → Type 0
 Lists options facts stand shape (Ok coming) answer = IsListed options facts stand shape coming answer
 Lists options facts stand shape (Err fault) answer = answer ≡ not_of_bracket options.bracket
-
--- a bracket is found under a number, or why there is none; no bracket has the number 0
-abbrev pub IsFound : Facts → ℕ → ℕ → BracketAt → Type 0
-IsFound facts steps zero found = found ≡ NotReached
-IsFound facts steps (suc number) found = IsBracketAt facts steps (suc number) found
 
 -- what is answered to the bracket that is found
 abbrev pub Tells : CandidatesOptions → Facts → BracketAt → Answer → Type 0
@@ -79,7 +75,7 @@ Tells options facts (UndecidedAt number used) answer = answer ≡ undecided numb
 -- the bracket that is asked for is found, or not, and that is answered
 pub record IsTold (options : CandidatesOptions) (facts : Facts) (answer : Answer) : Type 0 where
   pub found : BracketAt
-  pub is : IsFound facts options.steps options.bracket found
+  pub is : IsBracketAt facts options.steps options.bracket found
   pub tells : Tells options facts found answer
 
 -- what is answered to a field, or why the round cannot be paired

@@ -2,8 +2,9 @@
 ghost use Rattle.std.specs.Prelude.{◌≡◌, ◌≤◌, IfOk, Ok, option_map};
 ghost use Rattle.trf16.specs.Verdict.{verdict};
 ghost use Rattle.dutch_order.specs.Arrangements.{Fits};
+ghost use Rattle.dutch_pair.specs.Outcomes.{IsBracketAt};
 ghost use Rattle.dutch_pair.specs.Reached.{IsOf, frame_of};
-ghost use Rattle.arbiter.specs.CandidateAnswers.{AnswersCandidates, InField, IsFound, Lists, Tells, coming_of};
+ghost use Rattle.arbiter.specs.CandidateAnswers.{AnswersCandidates, InField, Lists, Tells, coming_of};
 ghost use Rattle.arbiter.specs.Replies.{answer_of};
 ghost use Rattle.arbiter.specs.Statuses.{not_of_bracket, not_reached};
 
@@ -70,11 +71,8 @@ fn of_field(
 
 // The bracket of a number, or why there is none.
 fn find(alloc: Global, field: &Field, steps: u64, number: u16) -> Result<BracketAt, AllocError>
-    ensures { IfOk result (IsFound field.now steps number) }
+    ensures { IfOk result (IsBracketAt field.now steps number) }
 {
-    if number == 0 {
-        return Ok(BracketAt::NotReached);
-    }
     match bracket_at(alloc, field, steps, number) {
         Ok(found) => Ok(found),
         Err(PairFault::OutOfMemory) => Err(AllocError),
@@ -82,14 +80,13 @@ fn find(alloc: Global, field: &Field, steps: u64, number: u16) -> Result<Bracket
 }
 
 // What is said of it.
-#[tactic(auto, using(crate::proofs::ListingLemmas::found_sound))]
 fn tell(
     alloc: Global,
     options: &CandidatesOptions<'_>,
     field: &Field,
     found: &BracketAt,
 ) -> Result<Reply, AllocError>
-    requires { IsFound field.now options.now.steps options.now.bracket found.now }
+    requires { IsBracketAt field.now options.now.steps options.now.bracket found.now }
     ensures { IfOk result (λ reply. Tells options.now field.now found.now (answer_of reply)) }
 {
     match found {
@@ -150,7 +147,7 @@ fn list_coming<R: Rule>(
     let mut text = texts::bracket(alloc, options.bracket, reached.kind(), shape)?;
     let listed = lines(alloc, field, reached, coming, options.count, options.steps)?;
     text.push_str(listed.text.as_str())?;
-    let last = texts::ending(alloc, options.bracket, options.steps, listed.ending)?;
+    let last = texts::ending(alloc, options.bracket, listed.ending)?;
     text.push_str(last.as_str())?;
     Ok(Reply {
         status: listed.ending.status(),

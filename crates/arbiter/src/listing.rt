@@ -23,8 +23,8 @@ pub enum Ending {
     AtEnd,
     /// As many came as were asked for.
     AtCount,
-    /// The limit of steps was reached first.
-    Stopped,
+    /// The limit of steps, which is `used`, was reached first.
+    Stopped { used: u64 },
 }
 
 impl Ending {
@@ -34,7 +34,7 @@ impl Ending {
     {
         match self {
             Ending::AtEnd | Ending::AtCount => Status::Done,
-            Ending::Stopped => Status::Undecided,
+            Ending::Stopped { .. } => Status::Undecided,
         }
     }
 }
@@ -46,7 +46,7 @@ pub struct Listed {
     pub ending: Ending,
 }
 
-/// The lines of the next `count` candidates, or of fewer where none is left, or where the steps are used up.
+/// The lines of the next `count` candidates, or of fewer where none is left, or where all steps are used up before.
 #[tactic(auto, using(crate::proofs::ListingLemmas::underway_none, crate::proofs::ListingLemmas::underway_line, crate::proofs::ListingLemmas::underway_end, crate::proofs::ListingLemmas::underway_stopped, crate::proofs::ListingLemmas::underway_count))]
 pub fn lines<R: Rule>(
     alloc: Global,
@@ -59,7 +59,7 @@ pub fn lines<R: Rule>(
     requires of { IsOf field.now reached.now }
     requires frame { coming.frame ≡ frame_of field.now reached.now }
     ensures { IfOk result (λ listed.
-        IsListing (line_text field.now reached.now) coming.entry.coming count listed.ending (string_bytes listed.text)) }
+        IsListing (line_text field.now reached.now) coming.entry.coming count steps listed.ending (string_bytes listed.text)) }
 {
     let mut text = String::new(alloc);
     let mut budget = Budget {
@@ -75,7 +75,7 @@ pub fn lines<R: Rule>(
                 return Ok(Listed { text, ending });
             }
             Step::Undecided => {
-                let ending = Ending::Stopped;
+                let ending = Ending::Stopped { used: budget.used };
                 return Ok(Listed { text, ending });
             }
         }

@@ -142,13 +142,13 @@ pub fn bracket(
 }
 
 /// The last line of a listing.
-pub fn ending(alloc: Global, number: u16, steps: u64, ending: Ending) -> Result<String, AllocError>
-    ensures { IfOk result (λ text. string_bytes text ≡ ending_text number steps ending) }
+pub fn ending(alloc: Global, number: u16, ending: Ending) -> Result<String, AllocError>
+    ensures { IfOk result (λ text. string_bytes text ≡ ending_text number ending) }
 {
     match ending {
         Ending::AtEnd => String::from_str(alloc, "end\n"),
         Ending::AtCount => String::from_str(alloc, "more\n"),
-        Ending::Stopped => undecided(alloc, number, steps),
+        Ending::Stopped { used } => undecided(alloc, number, used),
     }
 }
 

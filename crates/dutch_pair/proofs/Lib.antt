@@ -54,3 +54,6 @@ pub mod C11StrongPreferences
 pub mod FreePlayers
 pub mod LegalPairs
 pub mod C10Lonely
+pub mod ShapeLaws
+pub mod BoardOrder
+pub mod GroupLaws

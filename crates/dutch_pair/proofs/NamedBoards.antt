@@ -35,9 +35,9 @@ module _ (facts : Facts) where
   placed_total w pair [] = refl
   placed_total w pair (first ∷ rest) = placed_at w pair first rest (goes_before facts first pair) (placed_total w pair rest)
 
-  ordered_total : (w : ℕ → ℕ) (front all : List (ℕ × ℕ)) → pairs_total w (ordered facts front all) ≡ pairs_total w front + pairs_total w all
-  ordered_total w front [] = omega arith
-  ordered_total w front (pair ∷ rest) = omega (arith, ordered_total w (placed facts pair front) rest, placed_total w pair front)
+  ordered_total : (w : ℕ → ℕ) (all : List (ℕ × ℕ)) → pairs_total w (ordered facts all) ≡ pairs_total w all
+  ordered_total w [] = refl
+  ordered_total w (pair ∷ rest) = omega (arith, ordered_total w rest, placed_total w pair (ordered facts rest))
 
   -- ---- whom a board names
 
@@ -140,12 +140,12 @@ module _ (facts : Facts) where
       let none = weighed outside pairing e in
       let empty = nobody_outside 0 (length facts.seats) (omega arith) in
       let inside : AllByRecursion (IsPair facts) pairing.pairs = pairs_inside pairing.pairs (omega (arith, none, empty)) in
-      let all : List (ℕ × ℕ) = ordered facts [] pairing.pairs in
-      let in_order : AllByRecursion (IsPair facts) all = pairs_ordered facts [] pairing.pairs tt inside in
+      let all : List (ℕ × ℕ) = ordered facts pairing.pairs in
+      let in_order : AllByRecursion (IsPair facts) all = pairs_ordered facts pairing.pairs inside in
       let whole = weighed by_start pairing e in
       let starts = ap (total w) (sym all_starts) ∙ total_map w start_of (everybody facts) in
       let split = named_append w (map (board_of facts) all) (map (bye_of facts) pairing.bye) in
-      omega (arith, whole, starts, split, named_pairs w all from in_order, named_byes w pairing.bye, ordered_total by_start [] pairing.pairs)
+      omega (arith, whole, starts, split, named_pairs w all from in_order, named_byes w pairing.bye, ordered_total by_start pairing.pairs)
 
   pub everybody_named : (pairing : Pairing) → CountFromOne facts → (round facts).pairing ≡ Some pairing → NameEverybodyOnce facts (boards facts pairing)
   everybody_named pairing from e =

@@ -1,5 +1,5 @@
 -- What the calls on a round answer.
-use Rattle.std.specs.Prelude.{◌≡◌, ℕ, zero, suc, ◌+◌, ◌-◌, ◌≤◌, true, List, [], ◌∷◌, length, Option, Some, None, option_map, is_some}
+use Rattle.std.specs.Prelude.{◌≡◌, ℕ, zero, suc, ◌+◌, ◌≤◌, true, List, [], ◌∷◌, length, Option, Some, None, option_map, is_some}
 use Rattle.dutch_order.specs.Arrangements.{Fits, down}
 use Rattle.dutch_player.specs.Facts.{Facts}
 use Rattle.dutch_pair.specs.declared.choice.Choice.{Choice}
@@ -17,6 +17,16 @@ abbrev pub visit_at : ℕ → List Visit → Option Visit
 visit_at place [] = None
 visit_at zero (visit ∷ visits) = Some visit
 visit_at (suc place) (visit ∷ visits) = visit_at place visits
+
+-- the bracket of a number, the first has 1; none has 0
+abbrev pub visit_of : ℕ → List Visit → Option Visit
+visit_of zero visits = None
+visit_of (suc place) visits = visit_at place visits
+
+-- the number that is looked for, where some bracket may have it
+abbrev pub asked_for : ℕ → Option ℕ
+asked_for zero = None
+asked_for (suc place) = Some (suc place)
 
 -- a call was stopped at its limit, in one of the brackets reached or in the one behind them
 abbrev pub IsStoppedIn : Facts → ℕ → ℕ → ℕ → Type 0
@@ -36,11 +46,11 @@ IsOutcome facts limit (Paired all) = option_map (boards facts) (round facts).pai
 IsOutcome facts limit NoPairing = (round facts).pairing ≡ None
 IsOutcome facts limit (Undecided bracket used) = IsStoppedIn facts limit bracket used
 
--- the bracket of a number, from 1, with its shape; or why there is none
+-- the bracket of a number, which it bears, with its shape; or why there is none
 abbrev pub IsBracketAt : Facts → ℕ → ℕ → BracketAt → Type 0
 IsBracketAt facts limit number (Bracket reached shape) =
-    (visit_at (number - 1) (round facts).reached ≡ Some (record { bracket = reached; shape = shape }))
+    (reached.number ≡ number) × (visit_of number (round facts).reached ≡ Some (record { bracket = reached; shape = shape }))
     × IsOf facts reached × Fits (frame_of facts reached) shape
-IsBracketAt facts limit number NotReached = (visit_at (number - 1) (round facts).reached ≡ None) × (is_some (round facts).pairing ≡ true)
-IsBracketAt facts limit number NoPairingAt = (visit_at (number - 1) (round facts).reached ≡ None) × ((round facts).pairing ≡ None)
+IsBracketAt facts limit number NotReached = (visit_of number (round facts).reached ≡ None) × (is_some (round facts).pairing ≡ true)
+IsBracketAt facts limit number NoPairingAt = (visit_of number (round facts).reached ≡ None) × ((round facts).pairing ≡ None)
 IsBracketAt facts limit number (UndecidedAt bracket used) = IsStoppedIn facts limit bracket used

@@ -71,6 +71,111 @@ impl Quality {
     {
         self.cmp(other).is_lt()
     }
+
+    /// C.6: the PSD, the differences of all pairs and all downfloaters in half points, the highest first.
+    pub fn psd(&self) -> &[u16]
+        ensures { result.now ≡ (quality_in self.now).psd }
+    {
+        &self.psd
+    }
+
+    /// C.7: how many pairs the next bracket can have; 0 where C.7 does not count.
+    pub fn next_pairs(&self) -> usize
+        ensures { result ≡ (quality_in self.now).next_pairs }
+    {
+        self.next_pairs.0
+    }
+
+    /// C.7: the least PSD of the next bracket with so many pairs, in half points, the highest first.
+    pub fn next_psd(&self) -> &[u16]
+        ensures { result.now ≡ (quality_in self.now).next_psd }
+    {
+        &self.next_psd
+    }
+
+    /// C.8: how many players in pairs with a topscorer get a colour difference over +2 or under -2.
+    pub fn wide_differences(&self) -> u16
+        ensures { result ≡ (quality_in self.now).wide_differences }
+    {
+        self.wide_differences
+    }
+
+    /// C.9: how many players in pairs with a topscorer get the colour of their last two games.
+    pub fn third_colours(&self) -> u16
+        ensures { result ≡ (quality_in self.now).third_colours }
+    {
+        self.third_colours
+    }
+
+    /// C.10: how many players in pairs do not get the colour of their preference.
+    pub fn missed_preferences(&self) -> u16
+        ensures { result ≡ (quality_in self.now).missed_preferences }
+    {
+        self.missed_preferences
+    }
+
+    /// C.11: how many players in pairs do not get the colour of a strong preference.
+    pub fn missed_strong(&self) -> u16
+        ensures { result ≡ (quality_in self.now).missed_strong }
+    {
+        self.missed_strong
+    }
+
+    /// C.12: how many players who go down had a downfloat in the last round.
+    pub fn down_again(&self) -> usize
+        ensures { result ≡ (quality_in self.now).down_again }
+    {
+        self.down_again
+    }
+
+    /// C.13: how many players who go up had an upfloat in the last round.
+    pub fn up_again(&self) -> usize
+        ensures { result ≡ (quality_in self.now).up_again }
+    {
+        self.up_again
+    }
+
+    /// C.14: how many players who go down had a downfloat in the round before the last.
+    pub fn down_again_before(&self) -> usize
+        ensures { result ≡ (quality_in self.now).down_again_before }
+    {
+        self.down_again_before
+    }
+
+    /// C.15: how many players who go up had an upfloat in the round before the last.
+    pub fn up_again_before(&self) -> usize
+        ensures { result ≡ (quality_in self.now).up_again_before }
+    {
+        self.up_again_before
+    }
+
+    /// C.16: the differences of the players of C.12 in half points, the highest first.
+    pub fn down_again_by(&self) -> &[u16]
+        ensures { result.now ≡ (quality_in self.now).down_again_by }
+    {
+        &self.down_again_by
+    }
+
+    /// C.17: the differences of the players of C.13 in half points, the highest first.
+    pub fn up_again_by(&self) -> &[u16]
+        ensures { result.now ≡ (quality_in self.now).up_again_by }
+    {
+        &self.up_again_by
+    }
+
+    /// C.18: the differences of the players of C.14 in half points, the highest first.
+    pub fn down_again_before_by(&self) -> &[u16]
+        ensures { result.now ≡ (quality_in self.now).down_again_before_by }
+    {
+        &self.down_again_before_by
+    }
+
+    /// C.19: the differences of the players of C.15 in half points, the highest first.
+    pub fn up_again_before_by(&self) -> &[u16]
+        ensures { result.now ≡ (quality_in self.now).up_again_before_by }
+    {
+        &self.up_again_before_by
+    }
 }
 
 /// The quality of a candidate of a bracket with these seats, for a value of the next bracket.

@@ -1,6 +1,6 @@
 // The round, bracket by bracket (C.04.3 A.3, A.9), specified by a recursion over the scoregroups.
-ghost use Rattle.std.specs.Prelude.{◌≤◌, IfOk};
-ghost use Rattle.dutch_pair.specs.Outcomes.{IsOutcome, IsBracketAt};
+ghost use Rattle.std.specs.Prelude.{◌≡◌, IfOk};
+ghost use Rattle.dutch_pair.specs.Outcomes.{IsOutcome, IsBracketAt, asked_for};
 
 use crate::boards::{Pair, boards};
 use crate::fault::PairFault;
@@ -50,18 +50,28 @@ pub fn pair_round(alloc: Global, field: &Field, limit: u64) -> Result<Outcome, P
     }
 }
 
-/// The bracket of a number, counted from 1 as the round reaches them, and its shape. Each bracket may make so many steps.
-#[tactic(auto, using(crate::proofs::RoundEnds::is_paired, crate::proofs::RoundEnds::stopped_in, crate::proofs::RoundEnds::visit_asked))]
+/// The number that is looked for, where some bracket may have it: none has 0.
+fn asked_for(number: u16) -> Option<u16>
+    ensures { result ≡ asked_for number }
+{
+    match number {
+        0 => None,
+        _ => Some(number),
+    }
+}
+
+/// The bracket of a number, counted from 1 as the round reaches them, and its shape. No bracket has the number 0. Each bracket may make
+/// so many steps.
+#[tactic(auto, using(crate::proofs::RoundEnds::is_paired, crate::proofs::RoundEnds::stopped_in, crate::proofs::RoundEnds::visit_asked, crate::proofs::RoundEnds::bears, crate::proofs::RoundEnds::missed))]
 pub fn bracket_at(
     alloc: Global,
     field: &Field,
     limit: u64,
     number: u16,
 ) -> Result<BracketAt, PairFault>
-    requires { 1 ≤ number }
     ensures { IfOk result (IsBracketAt field.now limit number) }
 {
-    match walk(alloc, field, limit, Some(number))? {
+    match walk(alloc, field, limit, asked_for(number))? {
         Ended::Asked { reached, shape } => Ok(BracketAt::Bracket { reached, shape }),
         Ended::Paired {
             pairs: _pairs,

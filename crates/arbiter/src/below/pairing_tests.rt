@@ -130,13 +130,13 @@ fn a_pair_is_given_up(rt: HostRuntime) -> Result<(), Fail> {
     Ok(())
 }
 
-// The kind of a bracket and its pairs, or that the round ends before it. Brackets are counted from 1.
+// The kind of a bracket and its pairs, or that the round does not reach it. Brackets are counted from 1.
 fn kind_and_pairs(
     alloc: Global,
     field: &Field,
     number: u16,
 ) -> Result<Option<(Kind, usize)>, Fail> {
-    match bracket_at(alloc, field, 1000, number.max(1))? {
+    match bracket_at(alloc, field, 1000, number)? {
         BracketAt::Bracket { reached, shape } => Ok(Some((reached.kind(), shape.pairs))),
         BracketAt::NotReached => Ok(None),
         _ => Err(Fail::new("not paired, or undecided")),
@@ -147,6 +147,7 @@ fn kind_and_pairs(
 fn brackets_of_a_pair_given_up(rt: HostRuntime) -> Result<(), Fail> {
     let field = field_of(rt.alloc(), &PAIR_GIVEN_UP, Some(3), Some(Colour::White))?;
     let table = [
+        (0, None),
         (1, Some((Kind::Ordinary, 1))),
         (3, Some((Kind::Collapsed, 2))),
         (4, None),

@@ -5,7 +5,7 @@ use Rattle.arbiter.proofs.listing.lines.Goals as goal
 
 pub returns-in-End : goal.returns-in-End
 returns-in-End g c =
-    underway_end (line_text c.args.field.now c.args.reached.now) _ c.loop-done.coming.coming c.loop-done.done c.args.count _ c.loop-done.invariant.underway c.in-End.ensures.answer.0 c.loop-done-test.true
+    underway_end (line_text c.args.field.now c.args.reached.now) _ c.loop-done.coming.coming c.loop-done.done c.args.count _ c.args.steps c.loop-done.invariant.underway c.in-End.ensures.answer.0 c.loop-done-test.true
 
 pub loop-done-preserved : goal.loop-done-preserved
 loop-done-preserved g c = record {
