@@ -1,11 +1,14 @@
 // The listings of small brackets, under limits that rise by one and from every cursor.
-ghost use Rattle.std.specs.Prelude.{◌≤◌};
+ghost use Rattle.std.specs.Prelude.{◌≡◌, ◌≤◌};
 ghost use Rattle.dutch_order.specs.Arrangements.{Fits};
 
 use crate::below::barred::{AMPLE, Barred, FREE, raised};
+use dutch_order::bound::Bound;
 use dutch_order::bracket::{Bracket, Shape};
 use dutch_order::candidate::Candidate;
 use dutch_order::candidates::Candidates;
+use dutch_order::prefix::{Filling, Prefix};
+use dutch_order::rules::Rule;
 use dutch_order::steps::{Budget, Step};
 use std::alloc::Global;
 use std::test::Fail;
@@ -213,5 +216,120 @@ fn the_resident_left_over_is_asked_about(rt: HostRuntime) -> Result<(), Fail> {
         right_rests(alloc, &bracket, shape, &STAYS, &numbers, ALL)?,
         6
     );
+    Ok(())
+}
+
+// A bound that keeps the candidates whose S1R is 1 and 2, or else all.
+#[derive(Drop)]
+struct Keeps<'a> {
+    bracket: &'a Bracket,
+    shape: Shape,
+    rule: &'a Barred,
+    all: bool,
+}
+
+impl<'a> Bound for Keeps<'a> {
+    ghost use Rattle.std.specs.Prelude.{not, ◌&&◌, [], ◌∷◌};
+    ghost use Rattle.dutch_order.specs.Choices.{is_same};
+
+    ghost frame = { λ k. k.bracket.now };
+
+    ghost shape = { λ k. k.shape };
+
+    ghost meets = { λ k. ⟦<Barred as Rule>⟧.meets k.rule.now };
+
+    ghost may_be_left = { λ k. ⟦<Barred as Rule>⟧.may_be_left k.rule.now };
+
+    ghost is_dull = { λ k a. not k.all && not (is_same a.s1r (1 ∷ 2 ∷ [])) };
+
+    fn cannot_win(&self, prefix: &Prefix<'_>) -> bool {
+        !self.all && prefix.filling() == Filling::S2r && prefix.s1r() != [1, 2].as_slice()
+    }
+}
+
+// Whether a listing within a bound gives candidates with these numbers and then ends.
+fn are_left<B: Bound>(
+    alloc: Global,
+    mut candidates: Candidates<'_, Barred>,
+    bound: &B,
+    numbers: &[u16],
+) -> Result<bool, Fail>
+    requires frame { B.frame bound.now ≡ candidates.frame }
+    requires shape { B.shape bound.now ≡ candidates.shape }
+    requires meets { B.meets bound.now ≡ ⟦<Barred as Rule>⟧.meets candidates.rule }
+    requires may_be_left { B.may_be_left bound.now ≡ ⟦<Barred as Rule>⟧.may_be_left candidates.rule }
+{
+    let mut budget = Budget {
+        limit: AMPLE,
+        used: 0,
+    };
+    let mut left = Vec::new(alloc);
+    for _turn in 0..100u32 {
+        match candidates.next_within(bound, &mut budget) {
+            Step::Found(candidate) => left.extend_from_slice(&numbers_of(alloc, &candidate)?)?,
+            Step::End => return Ok(left.as_slice() == numbers),
+            Step::Undecided => return Ok(false),
+        }
+    }
+    Ok(false)
+}
+
+#[test]
+fn a_bound_leaves_one_s1r(rt: HostRuntime) -> Result<(), Fail> {
+    let bracket = Bracket::new(&[0, 0, 0, 0], 0, true);
+    let shape = Shape { pairs: 2, mdps: 0 };
+    let bound = Keeps {
+        bracket: &bracket,
+        shape,
+        rule: &FREE,
+        all: false,
+    };
+    let candidates = Candidates::new(&bracket, shape, &FREE);
+    let numbers = [1, 2, 3, 4, 1, 2, 4, 3];
+    assert!(rt; are_left(rt.alloc(), candidates, &bound, &numbers)?);
+    Ok(())
+}
+
+#[test]
+fn a_bound_that_always_says_no_leaves_all(rt: HostRuntime) -> Result<(), Fail> {
+    let bracket = Bracket::new(&[0, 0, 0, 0], 0, true);
+    let shape = Shape { pairs: 2, mdps: 0 };
+    let bound = Keeps {
+        bracket: &bracket,
+        shape,
+        rule: &FREE,
+        all: true,
+    };
+    let candidates = Candidates::new(&bracket, shape, &FREE);
+    assert!(rt; are_left(rt.alloc(), candidates, &bound, &FOUR)?);
+    Ok(())
+}
+
+// Whether the next answer is the end, and no step is made.
+fn stays_at_the_end(candidates: &mut Candidates<'_, Barred>, limit: u64, used: u64) -> bool
+    requires { used ≤ limit }
+{
+    let mut budget = Budget { limit, used };
+    match candidates.next(&mut budget) {
+        Step::End => budget.used == used,
+        _ => false,
+    }
+}
+
+#[test]
+fn after_the_end_comes_the_end(rt: HostRuntime) -> Result<(), Fail> {
+    let bracket = Bracket::new(&[0, 0], 0, true);
+    let shape = Shape { pairs: 1, mdps: 0 };
+    let mut candidates = Candidates::new(&bracket, shape, &FREE);
+    let mut budget = Budget {
+        limit: AMPLE,
+        used: 0,
+    };
+    assert!(rt; matches!(candidates.next(&mut budget), Step::Found(_)));
+    assert!(rt; matches!(candidates.next(&mut budget), Step::Found(_)));
+    assert!(rt; matches!(candidates.next(&mut budget), Step::End));
+    assert!(rt; stays_at_the_end(&mut candidates, AMPLE, 0));
+    assert!(rt; stays_at_the_end(&mut candidates, budget.used, budget.used));
+    assert!(rt; stays_at_the_end(&mut candidates, 0, 0));
     Ok(())
 }
