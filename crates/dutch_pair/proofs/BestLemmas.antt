@@ -1,5 +1,6 @@
 -- One candidate more beside the best so far, and what is chosen in the end.
-use Rattle.std.proofs.Common.{◌≡◌, ℕ, Bool, true, false, List, [], ◌∷◌, Option, Some, None, is_some, option_map, refl, sym, ap, ◌∙◌, subst}
+use Rattle.std.proofs.Common.{◌≡◌, ℕ, Bool, true, false, not, ◌&&◌, List, [], ◌∷◌, Option, Some, None, is_some, option_map, refl, sym, ap, ◌∙◌, subst}
+use Rattle.std.proofs.lemmas.Bool.{or_parts}
 use Rattle.dutch_order.specs.declared.bracket.Shape.{Shape}
 use Rattle.dutch_order.specs.declared.steps.Step.{Step}
 use Rattle.dutch_order.specs.declared.steps.Step.TheVariants.{Found, End, Undecided}
@@ -12,13 +13,14 @@ use Rattle.dutch_pair.specs.Reached.{Stand, frame_of}
 use Rattle.dutch_pair.specs.Quality.{Quality, is_better}
 use Rattle.dutch_pair.specs.QualityIn.{quality_in}
 use Rattle.dutch_pair.specs.Shapes.{fits, shapes, has_member}
-use Rattle.dutch_pair.specs.Round.{Chosen, candidates_of, eligible, quality_of, choice_in, shape_of, choice}
+use Rattle.dutch_pair.specs.Round.{Chosen, eligible, quality_of, choice_in, shape_of, choice}
 use Rattle.dutch_pair.specs.Choice.{chosen, chosen_of_rest}
 use Rattle.dutch_pair.specs.Eligible.{can_be_chosen}
-use Rattle.dutch_pair.specs.Kept.{kept_draw, kept_lists, wins, IsKept, is_better_in, chosen_in, chosen_yet}
-use Rattle.dutch_pair.proofs.ChoiceLemmas.{IsOrder, order_of, chosen_wins, chosen_loses, chosen_alone, unfit_passed, first_kept, worse_passed, better_kept, kept_at_end}
+use Rattle.dutch_pair.specs.Kept.{kept_draw, kept_lists, wins, IsKept, is_better_in, chosen_in}
+use Rattle.dutch_pair.specs.Aims.{is_near, beats}
+use Rattle.dutch_pair.specs.AimedChoice.{is_idle, is_sought, chosen_yet}
+use Rattle.dutch_pair.proofs.ChoiceLemmas.{IsOrder, order_of, chosen_wins, chosen_loses, chosen_alone, unfit_passed, first_kept, better_kept, kept_at_end}
 use Rattle.dutch_pair.proofs.QualityOrder.{irreflexive, transitive, total}
-use Rattle.dutch_pair.proofs.EligibleLemmas.{eligible_is}
 use Rattle.dutch_pair.proofs.ShapeSearch.{first_has}
 
 module _ (better : Arrangement → Arrangement → Bool) (order : IsOrder better) where
@@ -40,43 +42,49 @@ module _ (facts : Facts) (stand : Stand) (lower : List ℕ) where
   pub order_in : IsOrder (is_better_in facts stand lower)
   order_in = order_of (quality_of facts stand lower) is_better irreflexive transitive total
 
-  -- a candidate that would not win is passed
-  pub loser_passed : (kept : Option Best) (quality : Quality) (lists : Arrangement) (coming : List Arrangement) → IsKept facts stand lower kept
-      → quality ≡ quality_of facts stand lower lists → wins quality kept ≡ false → chosen_yet facts stand lower kept coming ≡ chosen_yet facts stand lower kept (lists ∷ coming)
-  loser_passed None quality lists coming h e loses = let bad : true ≡ false = loses in absurd (cc)
-  loser_passed (Some best) quality lists coming h e loses =
-      sym (worse_passed (is_better_in facts stand lower) order_in (can_be_chosen facts stand lower) best.candidate.lists lists coming
-      (ap (λ q. is_better q (quality_of facts stand lower best.candidate.lists)) (sym e) ∙ ap (is_better quality) (sym h.1) ∙ loses))
+  both : (p q : Bool) → p ≡ true → q ≡ true → (p && q) ≡ true
+  both true q h g = g
+  both false q h g = h
 
-  -- one that would win and can be chosen is kept
-  pub winner_kept : (kept : Option Best) (best : Best) (lists : Arrangement) (coming : List Arrangement) → IsKept facts stand lower kept
-      → best.candidate.lists ≡ lists → quality_in best.quality ≡ quality_of facts stand lower lists → wins (quality_in best.quality) kept ≡ true
-      → can_be_chosen facts stand lower lists ≡ true → chosen_yet facts stand lower (Some best) coming ≡ chosen_yet facts stand lower kept (lists ∷ coming)
-  winner_kept None best lists coming h same e won fit =
-      ap (λ (c : Arrangement). chosen_of_rest (is_better_in facts stand lower) (can_be_chosen facts stand lower) (Some c) coming) same
-      ∙ sym (first_kept (is_better_in facts stand lower) order_in (can_be_chosen facts stand lower) lists coming fit)
-  winner_kept (Some other) best lists coming h same e won fit =
-      ap (λ (c : Arrangement). chosen_of_rest (is_better_in facts stand lower) (can_be_chosen facts stand lower) (Some c) coming) same
-      ∙ sym (better_kept (is_better_in facts stand lower) order_in (can_be_chosen facts stand lower) other.candidate.lists lists coming fit
-      (ap (λ q. is_better q (quality_of facts stand lower other.candidate.lists)) (sym e) ∙ ap (is_better (quality_in best.quality)) (sym h.1) ∙ won))
+  neither : (p q : Bool) → p ≡ false → (p && q) ≡ false
+  neither true q h = let bad : true ≡ false = h in absurd (cc)
+  neither false q h = refl
+
+  won_of : (b : Bool) → not b ≡ false → b ≡ true
+  won_of true h = refl
+  won_of false h = let bad : true ≡ false = h in absurd (cc)
+
+  near_of : (aim : Option Quality) (quality : Quality) (lists : Arrangement) → quality ≡ quality_of facts stand lower lists → beats aim quality ≡ false
+      → is_near facts stand lower aim lists ≡ true
+  near_of None quality lists e far = refl
+  near_of (Some aim) quality lists e far = ap (λ q. not (is_better aim q)) (sym e) ∙ ap not far
+
+  -- one that is of interest and can be chosen is kept
+  pub winner_kept : (aim : Option Quality) (kept : Option Best) (best : Best) (lists : Arrangement) (coming : List Arrangement) → IsKept facts stand lower kept
+      → best.candidate.lists ≡ lists → quality_in best.quality ≡ quality_of facts stand lower lists → is_idle aim kept (quality_in best.quality) ≡ false
+      → can_be_chosen facts stand lower lists ≡ true → chosen_yet facts stand lower aim (Some best) coming ≡ chosen_yet facts stand lower aim kept (lists ∷ coming)
+  winner_kept aim None best lists coming h same e won fit =
+      let near = near_of aim (quality_in best.quality) lists e (or_parts _ _ won).0 in
+      ap (λ (c : Arrangement). chosen_of_rest (is_better_in facts stand lower) (is_sought facts stand lower aim) (Some c) coming) same
+      ∙ sym (first_kept (is_better_in facts stand lower) order_in (is_sought facts stand lower aim) lists coming (both _ _ fit near))
+  winner_kept aim (Some other) best lists coming h same e won fit =
+      let parts = or_parts (beats aim (quality_in best.quality)) (not (wins (quality_in best.quality) (Some other))) won in
+      let near = near_of aim (quality_in best.quality) lists e parts.0 in
+      ap (λ (c : Arrangement). chosen_of_rest (is_better_in facts stand lower) (is_sought facts stand lower aim) (Some c) coming) same
+      ∙ sym (better_kept (is_better_in facts stand lower) order_in (is_sought facts stand lower aim) other.candidate.lists lists coming (both _ _ fit near)
+      (ap (λ q. is_better q (quality_of facts stand lower other.candidate.lists)) (sym e) ∙ ap (is_better (quality_in best.quality)) (sym h.1)
+      ∙ won_of (is_better (quality_in best.quality) (quality_in other.quality)) parts.1))
 
   -- and one that cannot be chosen is passed
-  pub unfit_is_passed : (kept : Option Best) (lists : Arrangement) (coming : List Arrangement) → can_be_chosen facts stand lower lists ≡ false
-      → chosen_yet facts stand lower kept coming ≡ chosen_yet facts stand lower kept (lists ∷ coming)
-  unfit_is_passed kept lists coming unfit =
-      sym (unfit_passed (is_better_in facts stand lower) order_in (can_be_chosen facts stand lower) (kept_lists kept) lists coming unfit)
-
-  -- before the first candidate all are to come
-  pub chosen_first : (shape : Shape) (coming : List Arrangement) → candidates_of facts stand shape ≡ coming → chosen_in facts stand lower shape ≡ chosen_yet facts stand lower None coming
-  chosen_first shape coming e =
-      ap (chosen (is_better_in facts stand lower)) (eligible_is facts stand lower shape)
-      ∙ ap (λ all. chosen_yet facts stand lower None all) e
+  pub unfit_is_passed : (aim : Option Quality) (kept : Option Best) (lists : Arrangement) (coming : List Arrangement) → can_be_chosen facts stand lower lists ≡ false
+      → chosen_yet facts stand lower aim kept coming ≡ chosen_yet facts stand lower aim kept (lists ∷ coming)
+  unfit_is_passed aim kept lists coming unfit =
+      sym (unfit_passed (is_better_in facts stand lower) order_in (is_sought facts stand lower aim) (kept_lists kept) lists coming
+      (neither _ (is_near facts stand lower aim lists) unfit))
 
   -- behind the last one the one that is kept is chosen
-  pub chosen_last : (kept : Option Best) (all : Option Arrangement) (coming : List Arrangement) → all ≡ chosen_yet facts stand lower kept coming → coming ≡ [] → all ≡ kept_lists kept
-  chosen_last kept all coming h e =
-      h ∙ ap (λ rest. chosen_yet facts stand lower kept rest) e
-      ∙ kept_at_end (is_better_in facts stand lower) order_in (can_be_chosen facts stand lower) (kept_lists kept)
+  pub chosen_last : (aim : Option Quality) (kept : Option Best) (all : Option Arrangement) → all ≡ chosen_yet facts stand lower aim kept [] → all ≡ kept_lists kept
+  chosen_last aim kept all h = h ∙ kept_at_end (is_better_in facts stand lower) order_in (is_sought facts stand lower aim) (kept_lists kept)
 
   -- what is handed out in the end
   pub handed : (kept : Option Best) (step : Step Draw) (all : Option Arrangement) (stopped : Type 0) → IsKept facts stand lower kept → all ≡ kept_lists kept

@@ -1,3 +1,4 @@
+pub mod AimLemmas
 pub mod AllLemmas
 pub mod ArrangementParts
 pub mod BestLemmas
@@ -22,6 +23,7 @@ pub mod QualityOrder
 pub mod CandidateSeats
 pub mod ShapeLemmas
 pub mod ShapeSearch
+pub mod SkippedLemmas
 pub mod TellLemmas
 pub mod WalkLemmas
 pub mod FirstLemmas

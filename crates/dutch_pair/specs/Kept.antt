@@ -9,8 +9,7 @@ use Rattle.dutch_pair.specs.Reached.{Stand, frame_of}
 use Rattle.dutch_pair.specs.Quality.{Quality, is_better}
 use Rattle.dutch_pair.specs.QualityIn.{quality_in}
 use Rattle.dutch_pair.specs.Round.{eligible, quality_of}
-use Rattle.dutch_pair.specs.Choice.{chosen, chosen_of_rest}
-use Rattle.dutch_pair.specs.Eligible.{can_be_chosen}
+use Rattle.dutch_pair.specs.Choice.{chosen}
 
 -- the candidate that is kept, if there is one
 abbrev pub kept_draw : Option Best → Option Draw
@@ -40,8 +39,3 @@ is_better_in facts stand lower c d = is_better (quality_of facts stand lower c) 
 -- B.8: what is chosen of a shape
 abbrev pub chosen_in : Facts → Stand → List ℕ → Shape → Option Arrangement
 chosen_in facts stand lower shape = chosen (is_better_in facts stand lower) (eligible facts stand lower shape)
-
--- what is chosen of the one that is kept and of those to come
-abbrev pub chosen_yet : Facts → Stand → List ℕ → Option Best → List Arrangement → Option Arrangement
-chosen_yet facts stand lower kept coming =
-    chosen_of_rest (is_better_in facts stand lower) (can_be_chosen facts stand lower) (kept_lists kept) coming

@@ -25,3 +25,4 @@ pub mod PsdFloors
 pub mod Floors
 pub mod Ghosts
 pub mod Aims
+pub mod AimedChoice

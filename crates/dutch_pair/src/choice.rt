@@ -7,7 +7,8 @@ ghost use Rattle.dutch_pair.specs.Reached.{IsAbove, frame_of};
 ghost use Rattle.dutch_pair.specs.NextBracket.{IsDraw};
 ghost use Rattle.dutch_pair.specs.QualityIn.{quality_in};
 ghost use Rattle.dutch_pair.specs.Round.{quality_of};
-ghost use Rattle.dutch_pair.specs.Kept.{kept_draw, wins, IsKept, chosen_in, chosen_yet};
+ghost use Rattle.dutch_pair.specs.Kept.{kept_draw, IsKept, chosen_in};
+ghost use Rattle.dutch_pair.specs.AimedChoice.{aim_in, chosen_near, chosen_yet};
 ghost use Rattle.dutch_pair.specs.Outcomes.{IsChoice};
 
 use crate::completion::Answer;
@@ -18,6 +19,7 @@ use crate::lookahead::quality;
 use crate::quality::Quality;
 use crate::reached::Reached;
 use crate::shape::shape_of;
+use crate::skipper::{Pass, Skipper, aim_of, is_idle};
 use dutch_order::bracket::Shape;
 use dutch_order::candidate::Candidate;
 use dutch_order::candidates::Candidates;
@@ -39,8 +41,8 @@ pub enum Choice {
 /// The best candidate so far, with its quality.
 #[derive(Debug, Drop)]
 pub(crate) struct Best {
-    candidate: Candidate,
-    quality: Quality,
+    pub(crate) candidate: Candidate,
+    pub(crate) quality: Quality,
 }
 
 /// The quality of a candidate above all lower seats; `None` where the budget's limit was reached first.
@@ -70,45 +72,33 @@ fn quality_of(
     )
 }
 
-/// Whether a quality is better than that of the candidate that is kept, if there is one.
-fn would_win(quality: &Quality, kept: &Option<Best>) -> bool
-    ensures { result ≡ wins (quality_in quality.now) kept.now }
-{
-    match kept {
-        Some(best) => quality.is_better(&best.quality),
-        None => true,
-    }
-}
-
-/// Keeps a candidate in place of the one before it if it is better and can be chosen. It says whether the budget sufficed for that.
-#[tactic(auto, using(crate::proofs::BestLemmas::loser_passed, crate::proofs::BestLemmas::winner_kept, crate::proofs::BestLemmas::unfit_is_passed))]
+/// Keeps a candidate in place of the one before it if it is of interest and can be chosen. It says whether the budget sufficed for that.
+#[tactic(auto, using(crate::proofs::AimLemmas::idle_passed, crate::proofs::BestLemmas::winner_kept, crate::proofs::BestLemmas::unfit_is_passed))]
 fn consider(
-    field: &Field,
-    reached: &Reached,
-    lower: &[u16],
+    pass: &Pass<'_>,
     candidate: Candidate,
     kept: &mut Option<Best>,
     budget: &mut Budget,
 ) -> bool
-    requires above { IsAbove field.now reached.now lower.now }
-    requires candidate { IsDraw field.now reached.now candidate }
-    requires kept { IsKept field.now reached.now lower.now kept.old }
+    requires candidate { IsDraw pass.now.field.now pass.now.reached.now candidate }
+    requires kept { IsKept pass.now.field.now pass.now.reached.now pass.now.lower.now kept.old }
     requires within { budget.old.used ≤ budget.old.limit }
-    ensures same { result ≡ true → (coming : List Arrangement) → chosen_yet field.now reached.now lower.now kept.new coming
-        ≡ chosen_yet field.now reached.now lower.now kept.old (candidate.lists ∷ coming) }
+    ensures same { result ≡ true → (coming : List Arrangement)
+        → chosen_yet pass.now.field.now pass.now.reached.now pass.now.lower.now (aim_in pass.now.aim) kept.new coming
+        ≡ chosen_yet pass.now.field.now pass.now.reached.now pass.now.lower.now (aim_in pass.now.aim) kept.old (candidate.lists ∷ coming) }
     ensures stopped { result ≡ false → budget.new.used ≡ budget.new.limit }
-    ensures kept { IsKept field.now reached.now lower.now kept.new }
+    ensures kept { IsKept pass.now.field.now pass.now.reached.now pass.now.lower.now kept.new }
     ensures limit { budget.new.limit ≡ budget.old.limit }
     ensures rises { budget.old.used ≤ budget.new.used }
     ensures within { budget.new.used ≤ budget.new.limit }
 {
-    let Some(quality) = quality_of(field, reached, lower, &candidate, budget) else {
+    let Some(quality) = quality_of(pass.field, pass.reached, pass.lower, &candidate, budget) else {
         return false;
     };
-    if !would_win(&quality, kept) {
+    if is_idle(&quality, &pass.aim, kept) {
         return true;
     }
-    match can_be_chosen(field, reached, lower, &candidate, budget) {
+    match can_be_chosen(pass.field, pass.reached, pass.lower, &candidate, budget) {
         Answer::Yes => {
             *kept = Some(Best { candidate, quality });
             true
@@ -128,12 +118,78 @@ fn handed_out(kept: Option<Best>) -> Step<Candidate>
     }
 }
 
+/// Of the candidates that a pass seeks, and that can be chosen, the first that none is better than. `End` is answered where there is
+/// none.
+fn best_near<'a>(pass: &'a Pass<'a>, budget: &mut Budget) -> Step<Candidate>
+    requires { budget.old.used ≤ budget.old.limit }
+    ensures answer { MatchStep result
+        (λ c. (chosen_near pass.now.field.now pass.now.reached.now pass.now.lower.now (aim_in pass.now.aim) pass.now.shape ≡ Some c.lists)
+        × (c.down ≡ down (frame_of pass.now.field.now pass.now.reached.now) c.lists))
+        (chosen_near pass.now.field.now pass.now.reached.now pass.now.lower.now (aim_in pass.now.aim) pass.now.shape ≡ None)
+        (budget.new.used ≡ budget.new.limit) }
+    ensures limit { budget.new.limit ≡ budget.old.limit }
+    ensures rises { budget.old.used ≤ budget.new.used }
+    ensures within { budget.new.used ≤ budget.new.limit }
+{
+    let bracket = pass.reached.frame(pass.field);
+    let rule = pass.reached.rule(pass.field);
+    let mut candidates = Candidates::new(&bracket, pass.shape, &rule);
+    let mut kept = None;
+    loop {
+        let skipper = Skipper { pass, kept: &kept };
+        match candidates.next_within(&skipper, budget) {
+            Step::Found(candidate) => {
+                if !consider(pass, candidate, &mut kept, budget) {
+                    return Step::Undecided;
+                }
+            }
+            Step::End => return handed_out(kept),
+            Step::Undecided => return Step::Undecided,
+        }
+    }
+}
+
+/// What a first pass with an aim chooses of a shape: the choice of all. `End` is answered where there is no aim, or where the pass finds
+/// none that can be chosen, which says nothing of the choice.
+#[tactic(auto, using(crate::proofs::AimLemmas::a_pass_serves))]
+fn best_by_aim<'a>(
+    field: &'a Field,
+    reached: &'a Reached,
+    lower: &'a [u16],
+    shape: Shape,
+    budget: &mut Budget,
+) -> Step<Candidate>
+    requires above { IsAbove field.now reached.now lower.now }
+    requires fits { Fits (frame_of field.now reached.now) shape }
+    requires within { budget.old.used ≤ budget.old.limit }
+    ensures answer { MatchStep result
+        (λ c. (chosen_in field.now reached.now lower.now shape ≡ Some c.lists) × (c.down ≡ down (frame_of field.now reached.now) c.lists))
+        (Unit {0})
+        (budget.new.used ≡ budget.new.limit) }
+    ensures limit { budget.new.limit ≡ budget.old.limit }
+    ensures rises { budget.old.used ≤ budget.new.used }
+    ensures within { budget.new.used ≤ budget.new.limit }
+{
+    let Some(aim) = aim_of(field, reached, lower, shape) else {
+        return Step::End;
+    };
+    let pass = Pass {
+        field,
+        reached,
+        lower,
+        shape,
+        aim: Some(aim),
+    };
+    best_near(&pass, budget)
+}
+
 /// Of the candidates of a shape that can be chosen the first that none is better than. `End` is answered where no candidate can be
 /// chosen.
-fn best_of(
-    field: &Field,
-    reached: &Reached,
-    lower: &[u16],
+#[tactic(auto, using(crate::proofs::AimLemmas::without_aim))]
+fn best_of<'a>(
+    field: &'a Field,
+    reached: &'a Reached,
+    lower: &'a [u16],
     shape: Shape,
     budget: &mut Budget,
 ) -> Step<Candidate>
@@ -148,21 +204,19 @@ fn best_of(
     ensures rises { budget.old.used ≤ budget.new.used }
     ensures within { budget.new.used ≤ budget.new.limit }
 {
-    let bracket = reached.frame(field);
-    let rule = reached.rule(field);
-    let mut candidates = Candidates::new(&bracket, shape, &rule);
-    let mut kept = None;
-    loop {
-        match candidates.next(budget) {
-            Step::Found(candidate) => {
-                if !consider(field, reached, lower, candidate, &mut kept, budget) {
-                    return Step::Undecided;
-                }
-            }
-            Step::End => return handed_out(kept),
-            Step::Undecided => return Step::Undecided,
-        }
+    match best_by_aim(field, reached, lower, shape, budget) {
+        Step::Found(candidate) => return Step::Found(candidate),
+        Step::Undecided => return Step::Undecided,
+        Step::End => {}
     }
+    let pass = Pass {
+        field,
+        reached,
+        lower,
+        shape,
+        aim: None,
+    };
+    best_near(&pass, budget)
 }
 
 /// The choice in a bracket of a field, above all lower seats by rank. In the penultimate bracket only those candidates count that

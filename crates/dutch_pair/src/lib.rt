@@ -19,4 +19,5 @@ pub mod round;
 pub mod seated;
 pub mod seats;
 pub mod shape;
+mod skipper;
 mod walk;

@@ -1,0 +1,248 @@
+-- What an aim and what is kept tell of candidates: of those that are near an aim one is chosen as of all, and a candidate that is of no
+-- interest changes nothing.
+use Rattle.std.proofs.Common.{◌≡◌, ℕ, Bool, true, false, not, ◌&&◌, ◌||◌, cond, List, [], ◌∷◌, ◌++◌, filter, Option, Some, None, refl, sym, ap, ◌∙◌}
+use Rattle.std.specs.List.{list_any, AllByRecursion}
+use Rattle.std.proofs.lemmas.Bool.{true≢false}
+use Rattle.dutch_order.specs.Steps.{Passes}
+use Rattle.dutch_order.specs.declared.bracket.Shape.{Shape}
+use Rattle.dutch_order.specs.Arrangements.{Arrangement}
+use Rattle.dutch_player.specs.Facts.{Facts}
+use Rattle.dutch_pair.specs.declared.choice.Best.{Best}
+use Rattle.dutch_pair.specs.Reached.{Stand}
+use Rattle.dutch_pair.specs.Quality.{Quality, is_better}
+use Rattle.dutch_pair.specs.QualityIn.{quality_in}
+use Rattle.dutch_pair.specs.Round.{quality_of, candidates_of}
+use Rattle.dutch_pair.specs.Choice.{first_unbeaten, chosen, chosen_of_rest}
+use Rattle.dutch_pair.specs.Eligible.{can_be_chosen}
+use Rattle.dutch_pair.specs.Kept.{kept_lists, wins, IsKept, is_better_in, chosen_in}
+use Rattle.dutch_pair.specs.Aims.{is_near, is_beaten, is_dull, beats}
+use Rattle.dutch_pair.specs.AimedChoice.{is_idle, chosen_yet, chosen_near}
+use Rattle.dutch_pair.proofs.ChoiceLemmas.{IsOrder, order_of, unfit_passed, worse_passed}
+use Rattle.dutch_pair.proofs.QualityOrder.{irreflexive, transitive, total}
+use Rattle.dutch_pair.proofs.BestLemmas.{order_in}
+use Rattle.dutch_pair.proofs.EligibleLemmas.{eligible_is}
+
+-- where each near one is better than each far one, the first unbeaten near one is the first unbeaten of all
+module _ {X : Type 0} (better : X → X → Bool) (order : IsOrder better) (near : X → Bool)
+    (split : (x y : X) → near x ≡ true → near y ≡ false → better x y ≡ true) where
+  not_far : (x y : X) (t : Bool) → near y ≡ t → near x ≡ true → better y x ≡ true → near y ≡ true
+  not_far x y true is h wins = is
+  not_far x y false is h wins =
+      absurd (true≢false (sym (order.transitive x y x (split x y h is) wins) ∙ order.irreflexive x))
+
+  drop_far : (x y : X) (rest : List X) (t : Bool) → near y ≡ t → near x ≡ true → list_any (λ d. better d x) (filter near rest) ≡ list_any (λ d. better d x) rest
+      → list_any (λ d. better d x) (cond t (y ∷ filter near rest) (filter near rest)) ≡ (better y x || list_any (λ d. better d x) rest)
+  drop_far x y rest true is h same = ap (λ t. better y x || t) same
+  drop_far x y rest false is h same = same ∙ passed (better y x) refl where
+    passed : (t : Bool) → better y x ≡ t → list_any (λ d. better d x) rest ≡ (t || list_any (λ d. better d x) rest)
+    passed false wins = refl
+    passed true wins = absurd (true≢false (sym (not_far x y false is h wins) ∙ is))
+
+  -- a near one is beaten by near ones alone
+  beaten_near : (x : X) (ys : List X) → near x ≡ true → list_any (λ d. better d x) (filter near ys) ≡ list_any (λ d. better d x) ys
+  beaten_near x [] h = refl
+  beaten_near x (y ∷ ys) h = drop_far x y ys (near y) refl h (beaten_near x ys h)
+
+  beaten_at : (x y : X) (rest : List X) (t : Bool) → near y ≡ t → near x ≡ false → (list_any near rest ≡ true → list_any (λ d. better d x) rest ≡ true)
+      → (t || list_any near rest) ≡ true → (better y x || list_any (λ d. better d x) rest) ≡ true
+  beaten_at x y rest true is h later some = ap (λ t. t || list_any (λ d. better d x) rest) (split y x is h)
+  beaten_at x y rest false is h later some = or_right (better y x) (list_any (λ d. better d x) rest) (later some) where
+    or_right : (p q : Bool) → q ≡ true → (p || q) ≡ true
+    or_right true q e = refl
+    or_right false q e = e
+
+  -- and a far one by each near one
+  beaten_far : (x : X) (ys : List X) → near x ≡ false → list_any near ys ≡ true → list_any (λ d. better d x) ys ≡ true
+  beaten_far x [] h some = absurd (true≢false (sym some))
+  beaten_far x (y ∷ ys) h some = beaten_at x y ys (near y) refl h (beaten_far x ys h) some
+
+  first_at : (all rest : List X) (y c : X) (t : Bool) → near y ≡ t → list_any near all ≡ true
+      → (first_unbeaten better (filter near all) (filter near rest) ≡ Some c → first_unbeaten better all rest ≡ Some c)
+      → first_unbeaten better (filter near all) (cond t (y ∷ filter near rest) (filter near rest)) ≡ Some c
+      → first_unbeaten better all (y ∷ rest) ≡ Some c
+  first_at all rest y c true is some later found =
+      unbeaten (list_any (λ d. better d y) all) (ap (λ t. cond (not t) (Some y) (first_unbeaten better (filter near all) (filter near rest))) (sym (beaten_near y all is)) ∙ found) where
+    unbeaten : (t : Bool) → cond (not t) (Some y) (first_unbeaten better (filter near all) (filter near rest)) ≡ Some c → cond (not t) (Some y) (first_unbeaten better all rest) ≡ Some c
+    unbeaten true found' = later found'
+    unbeaten false found' = found'
+  first_at all rest y c false is some later found =
+      ap (λ t. cond (not t) (Some y) (first_unbeaten better all rest)) (beaten_far y all is some) ∙ later found
+
+  first_near : (all ys : List X) (c : X) → list_any near all ≡ true → first_unbeaten better (filter near all) (filter near ys) ≡ Some c → first_unbeaten better all ys ≡ Some c
+  first_near all [] c some found = found
+  first_near all (y ∷ ys) c some found = first_at all ys y c (near y) refl some (first_near all ys c some) found
+
+  some_near_at : (others rest : List X) (y c : X) (t : Bool) → (first_unbeaten better others (filter near rest) ≡ Some c → list_any near rest ≡ true)
+      → first_unbeaten better others (cond t (y ∷ filter near rest) (filter near rest)) ≡ Some c → (t || list_any near rest) ≡ true
+  some_near_at others rest y c true later found = refl
+  some_near_at others rest y c false later found = later found
+
+  some_near : (others ys : List X) (c : X) → first_unbeaten better others (filter near ys) ≡ Some c → list_any near ys ≡ true
+  some_near others [] c found = let bad : None ≡ Some c = found in absurd (cc)
+  some_near others (y ∷ ys) c found = some_near_at others ys y c (near y) (some_near others ys c) found
+
+  -- what is chosen of the near ones is chosen of all
+  pub chosen_of_near : (ys : List X) (c : X) → chosen better (filter near ys) ≡ Some c → chosen better ys ≡ Some c
+  chosen_of_near ys c found = first_near ys ys c (some_near (filter near ys) ys c found) found
+
+filter_both_at : {X : Type 0} (p q : X → Bool) (x : X) (xs : List X) (s t : Bool) → q x ≡ t → filter (λ y. p y && q y) xs ≡ filter q (filter p xs)
+    → cond (s && t) (x ∷ filter (λ y. p y && q y) xs) (filter (λ y. p y && q y) xs) ≡ filter q (cond s (x ∷ filter p xs) (filter p xs))
+filter_both_at p q x xs false t e same = same
+filter_both_at p q x xs true true e same = ap (λ ys. x ∷ ys) same ∙ ap (λ t. cond t (x ∷ filter q (filter p xs)) (filter q (filter p xs))) (sym e)
+filter_both_at p q x xs true false e same = same ∙ ap (λ t. cond t (x ∷ filter q (filter p xs)) (filter q (filter p xs))) (sym e)
+
+filter_both : {X : Type 0} (p q : X → Bool) (xs : List X) → filter (λ y. p y && q y) xs ≡ filter q (filter p xs)
+filter_both p q [] = refl
+filter_both p q (x ∷ xs) = filter_both_at p q x xs (p x) (q x) refl (filter_both p q xs)
+
+always : (p : Bool) → (p && true) ≡ p
+always true = refl
+always false = refl
+
+filter_always : {X : Type 0} (p : X → Bool) (xs : List X) → filter (λ y. p y && true) xs ≡ filter p xs
+filter_always p [] = refl
+filter_always p (x ∷ xs) =
+    ap (λ t. cond t (x ∷ filter (λ y. p y && true) xs) (filter (λ y. p y && true) xs)) (always (p x)) ∙ ap (λ ys. cond (p x) (x ∷ ys) ys) (filter_always p xs)
+
+never : (p : Bool) → (p && false) ≡ false
+never true = refl
+never false = refl
+
+was_false : (b : Bool) → not b ≡ true → b ≡ false
+was_false true h = sym h
+was_false false h = refl
+
+was_true : (b : Bool) → not b ≡ false → b ≡ true
+was_true true h = refl
+was_true false h = sym h
+
+twice : (b : Bool) → b ≡ not (not b)
+twice true = refl
+twice false = refl
+
+or_first : (p q : Bool) → p ≡ true → (p || q) ≡ true
+or_first true q h = refl
+or_first false q h = absurd (true≢false (sym h))
+
+or_second : (p q : Bool) → q ≡ true → (p || q) ≡ true
+or_second true q h = refl
+or_second false q h = h
+
+quality_order : IsOrder is_better
+quality_order = order_of (λ (q : Quality). q) is_better irreflexive transitive total
+
+module _ (facts : Facts) (stand : Stand) (lower : List ℕ) where
+  near_before_far : (aim : Option Quality) (x y : Arrangement) → is_near facts stand lower aim x ≡ true → is_near facts stand lower aim y ≡ false
+      → is_better_in facts stand lower x y ≡ true
+  near_before_far None x y near far = absurd (true≢false far)
+  near_before_far (Some aim) x y near far =
+      quality_order.between aim (quality_of facts stand lower x) (quality_of facts stand lower y) (was_true _ far) (was_false _ near)
+
+  -- what is chosen of those that an aim is not better than is chosen of all
+  an_aim_serves : (aim : Option Quality) (fits : Arrangement → Bool) (xs : List Arrangement) (c : Arrangement)
+      → chosen (is_better_in facts stand lower) (filter (λ x. fits x && is_near facts stand lower aim x) xs) ≡ Some c
+      → chosen (is_better_in facts stand lower) (filter fits xs) ≡ Some c
+  an_aim_serves aim fits xs c found =
+      chosen_of_near (is_better_in facts stand lower) (order_in facts stand lower) (is_near facts stand lower aim) (near_before_far aim) (filter fits xs) c
+      (ap (chosen (is_better_in facts stand lower)) (sym (filter_both fits (is_near facts stand lower aim) xs)) ∙ found)
+
+  -- where a pass with an aim ends with a candidate, it is the choice
+  pub a_pass_serves : (aim : Option Quality) (shape : Shape) (c : Arrangement) → chosen_near facts stand lower aim shape ≡ Some c → chosen_in facts stand lower shape ≡ Some c
+  a_pass_serves aim shape c found =
+      ap (chosen (is_better_in facts stand lower)) (eligible_is facts stand lower shape)
+      ∙ an_aim_serves aim (can_be_chosen facts stand lower) (candidates_of facts stand shape) c found
+
+  -- without an aim a pass makes the choice
+  pub without_aim : (shape : Shape) → chosen_near facts stand lower None shape ≡ chosen_in facts stand lower shape
+  without_aim shape =
+      ap (chosen (is_better_in facts stand lower)) (filter_always (can_be_chosen facts stand lower) (candidates_of facts stand shape) ∙ sym (eligible_is facts stand lower shape))
+
+  beaten_passed : (aim : Option Quality) (fits : Arrangement → Bool) (kept : Option Arrangement) (d : Arrangement) (rest : List Arrangement)
+      → is_beaten facts stand lower kept d ≡ true
+      → chosen_of_rest (is_better_in facts stand lower) (λ x. fits x && is_near facts stand lower aim x) kept (d ∷ rest)
+      ≡ chosen_of_rest (is_better_in facts stand lower) (λ x. fits x && is_near facts stand lower aim x) kept rest
+  beaten_passed aim fits None d rest beaten = absurd (true≢false (sym beaten))
+  beaten_passed aim fits (Some c) d rest beaten =
+      worse_passed (is_better_in facts stand lower) (order_in facts stand lower) (λ x. fits x && is_near facts stand lower aim x) c d rest (was_false _ beaten)
+
+  dull_passed_at : (aim : Option Quality) (fits : Arrangement → Bool) (kept : Option Arrangement) (d : Arrangement) (rest : List Arrangement) (t : Bool)
+      → is_near facts stand lower aim d ≡ t → (not t || is_beaten facts stand lower kept d) ≡ true
+      → chosen_of_rest (is_better_in facts stand lower) (λ x. fits x && is_near facts stand lower aim x) kept (d ∷ rest)
+      ≡ chosen_of_rest (is_better_in facts stand lower) (λ x. fits x && is_near facts stand lower aim x) kept rest
+  dull_passed_at aim fits kept d rest true near dull = beaten_passed aim fits kept d rest dull
+  dull_passed_at aim fits kept d rest false far dull =
+      unfit_passed (is_better_in facts stand lower) (order_in facts stand lower) (λ x. fits x && is_near facts stand lower aim x) kept d rest
+      (ap (λ t. fits d && t) far ∙ never (fits d))
+
+  dull_passed : (aim : Option Quality) (fits : Arrangement → Bool) (kept : Option Arrangement) (d : Arrangement) (rest : List Arrangement)
+      → is_dull facts stand lower aim kept d ≡ true
+      → chosen_of_rest (is_better_in facts stand lower) (λ x. fits x && is_near facts stand lower aim x) kept (d ∷ rest)
+      ≡ chosen_of_rest (is_better_in facts stand lower) (λ x. fits x && is_near facts stand lower aim x) kept rest
+  dull_passed aim fits kept d rest dull = dull_passed_at aim fits kept d rest (is_near facts stand lower aim d) refl dull
+
+  -- a front that is all dull changes nothing
+  a_dull_front_is_passed : (aim : Option Quality) (fits : Arrangement → Bool) (kept : Option Arrangement) (skipped rest : List Arrangement)
+      → AllByRecursion (λ d. is_dull facts stand lower aim kept d ≡ true) skipped
+      → chosen_of_rest (is_better_in facts stand lower) (λ x. fits x && is_near facts stand lower aim x) kept (skipped ++ rest)
+      ≡ chosen_of_rest (is_better_in facts stand lower) (λ x. fits x && is_near facts stand lower aim x) kept rest
+  a_dull_front_is_passed aim fits kept [] rest all = refl
+  a_dull_front_is_passed aim fits kept (d ∷ skipped) rest all =
+      dull_passed aim fits kept d (skipped ++ rest) all.0 ∙ a_dull_front_is_passed aim fits kept skipped rest all.1
+
+  idle_near : (aim : Option Quality) (lists : Arrangement) → beats aim (quality_of facts stand lower lists) ≡ not (is_near facts stand lower aim lists)
+  idle_near None lists = refl
+  idle_near (Some aim) lists = twice (is_better aim (quality_of facts stand lower lists))
+
+  idle_beaten : (kept : Option Best) (lists : Arrangement) → IsKept facts stand lower kept
+      → not (wins (quality_of facts stand lower lists) kept) ≡ is_beaten facts stand lower (kept_lists kept) lists
+  idle_beaten None lists h = refl
+  idle_beaten (Some best) lists h = ap (λ q. not (is_better (quality_of facts stand lower lists) q)) h.1
+
+  -- a candidate is dull where its quality is of no interest
+  dull_is_idle : (aim : Option Quality) (kept : Option Best) (lists : Arrangement) → IsKept facts stand lower kept
+      → is_dull facts stand lower aim (kept_lists kept) lists ≡ is_idle aim kept (quality_of facts stand lower lists)
+  dull_is_idle aim kept lists h =
+      ap (λ t. t || is_beaten facts stand lower (kept_lists kept) lists) (sym (idle_near aim lists))
+      ∙ ap (λ t. beats aim (quality_of facts stand lower lists) || t) (sym (idle_beaten kept lists h))
+
+  all_dull : (aim : Option Quality) (kept : Option Best) (all : List Arrangement) → IsKept facts stand lower kept
+      → AllByRecursion (λ a. is_idle aim kept (quality_of facts stand lower a) ≡ true) all → AllByRecursion (λ a. is_dull facts stand lower aim (kept_lists kept) a ≡ true) all
+  all_dull aim kept [] h idle = tt
+  all_dull aim kept (a ∷ all) h idle = (dull_is_idle aim kept a h ∙ idle.0, all_dull aim kept all h idle.1)
+
+  -- what a listing skips changes nothing
+  pub skipped_same : (aim : Option Quality) (kept : Option Best) (before after : List Arrangement) → IsKept facts stand lower kept
+      → Passes (λ a. is_idle aim kept (quality_of facts stand lower a) ≡ true) before after
+      → chosen_yet facts stand lower aim kept before ≡ chosen_yet facts stand lower aim kept after
+  skipped_same aim kept before after h (skipped, same, idle) =
+      ap (λ coming. chosen_yet facts stand lower aim kept coming) same
+      ∙ a_dull_front_is_passed aim (can_be_chosen facts stand lower) (kept_lists kept) skipped after (all_dull aim kept skipped h idle)
+
+  -- a candidate whose quality is of no interest is passed
+  pub idle_passed : (aim : Option Quality) (kept : Option Best) (quality : Quality) (lists : Arrangement) (coming : List Arrangement) → IsKept facts stand lower kept
+      → quality ≡ quality_of facts stand lower lists → is_idle aim kept quality ≡ true
+      → chosen_yet facts stand lower aim kept coming ≡ chosen_yet facts stand lower aim kept (lists ∷ coming)
+  idle_passed aim kept quality lists coming h e idle =
+      sym (dull_passed aim (can_be_chosen facts stand lower) (kept_lists kept) lists coming (dull_is_idle aim kept lists h ∙ ap (is_idle aim kept) (sym e) ∙ idle))
+
+beyond_aim : (aim : Option Quality) (floor q : Quality) → is_better q floor ≡ false → beats aim floor ≡ true → beats aim q ≡ true
+beyond_aim None floor q low won = won
+beyond_aim (Some aim) floor q low won = quality_order.within aim q floor won low
+
+below_kept_at : (kept q floor : Quality) (t : Bool) → is_better q kept ≡ t → is_better q floor ≡ false → not (is_better floor kept) ≡ true → not t ≡ true
+below_kept_at kept q floor true won low lost =
+    absurd (true≢false (sym (quality_order.between q floor kept won low) ∙ was_false _ lost))
+below_kept_at kept q floor false won low lost = refl
+
+below_kept : (kept : Option Best) (floor q : Quality) → is_better q floor ≡ false → not (wins floor kept) ≡ true → not (wins q kept) ≡ true
+below_kept None floor q low lost = lost
+below_kept (Some best) floor q low lost = below_kept_at (quality_in best.quality) q floor (is_better q (quality_in best.quality)) refl low lost
+
+idle_by : (aim : Option Quality) (kept : Option Best) (floor q : Quality) (t : Bool) → beats aim floor ≡ t → is_better q floor ≡ false
+    → (t || not (wins floor kept)) ≡ true → is_idle aim kept q ≡ true
+idle_by aim kept floor q true won low idle = or_first _ (not (wins q kept)) (beyond_aim aim floor q low won)
+idle_by aim kept floor q false lost low idle = or_second (beats aim q) _ (below_kept kept floor q low idle)
+
+-- a quality is of no interest where a floor is that it is not better than
+pub idle_floor : (aim : Option Quality) (kept : Option Best) (floor q : Quality) → is_better q floor ≡ false → is_idle aim kept floor ≡ true → is_idle aim kept q ≡ true
+idle_floor aim kept floor q low idle = idle_by aim kept floor q (beats aim floor) refl low idle

@@ -1,0 +1,27 @@
+-- What is chosen of a shape is what is chosen of the candidate that is kept and of those to come.
+use Rattle.std.proofs.Common.{◌≡◌, ◌≤◌, length}
+use Rattle.dutch_order.specs.Arrangements.{Arrangement}
+use Rattle.dutch_order.specs.Keys.{IsIn}
+use Rattle.dutch_pair.specs.Reached.{frame_of}
+use Rattle.dutch_pair.specs.Round.{candidates_of}
+use Rattle.dutch_pair.specs.Kept.{IsKept}
+use Rattle.dutch_pair.specs.AimedChoice.{aim_in, chosen_near, chosen_yet}
+use Rattle.dutch_pair.proofs.choice.best_near.Given as goal
+
+abbrev pub decreases-loop-candidate : goal.decreases-loop-candidate
+decreases-loop-candidate l = length l.candidates.coming
+
+abbrev pub invariant-loop-candidate : goal.invariant-loop-candidate
+invariant-loop-candidate l = record {
+  chosen : chosen_near l.pass.field.now l.pass.reached.now l.pass.lower.now (aim_in l.pass.aim) l.pass.shape
+      ≡ chosen_yet l.pass.field.now l.pass.reached.now l.pass.lower.now (aim_in l.pass.aim) l.kept l.candidates.coming;
+  kept : IsKept l.pass.field.now l.pass.reached.now l.pass.lower.now l.kept;
+  inside : (lists : Arrangement) → IsIn lists l.candidates.coming → IsIn lists (candidates_of l.pass.field.now l.pass.reached.now l.pass.shape);
+  frame : l.candidates.frame ≡ frame_of l.pass.field.now l.pass.reached.now;
+  shape : l.candidates.shape ≡ l.pass.shape;
+  field : l.candidates.rule.field.now ≡ l.pass.field.now;
+  reached : l.candidates.rule.reached.now ≡ l.pass.reached.now;
+  limit : l.budget.limit ≡ l.initial.budget.limit;
+  rises : l.initial.budget.used ≤ l.budget.used;
+  within : l.budget.used ≤ l.budget.limit;
+}

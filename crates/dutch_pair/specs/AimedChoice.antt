@@ -1,0 +1,36 @@
+-- What one pass over the candidates of a shape chooses, where an aim leaves out those that it is better than (C.04.3 B.8).
+use Rattle.std.specs.Prelude.{ℕ, Bool, ◌&&◌, ◌||◌, not, List, Option, None, option_map}
+use Rattle.dutch_order.specs.declared.bracket.Shape.{Shape}
+use Rattle.dutch_order.specs.Arrangements.{Arrangement}
+use Rattle.dutch_player.specs.Facts.{Facts}
+use Rattle.dutch_pair.specs.declared.choice.Best.{Best}
+use Rattle.dutch_pair.specs.declared.quality.Quality.{Quality as Fields}
+use Rattle.dutch_pair.specs.Quality.{Quality}
+use Rattle.dutch_pair.specs.QualityIn.{quality_in}
+use Rattle.dutch_pair.specs.Reached.{Stand}
+use Rattle.dutch_pair.specs.Round.{candidates_of}
+use Rattle.dutch_pair.specs.Choice.{chosen_of_rest}
+use Rattle.dutch_pair.specs.Eligible.{can_be_chosen}
+use Rattle.dutch_pair.specs.Kept.{kept_lists, wins, is_better_in}
+use Rattle.dutch_pair.specs.Aims.{is_near, beats}
+
+-- the aim of a pass, if it has one
+abbrev pub aim_in : Option Fields → Option Quality
+aim_in aim = option_map quality_in aim
+
+-- a quality is of no interest: the aim is better, or it is not better than that of the candidate that is kept
+abbrev pub is_idle : Option Quality → Option Best → Quality → Bool
+is_idle aim kept quality = beats aim quality || not (wins quality kept)
+
+-- a candidate that can be chosen, and that the aim is not better than
+abbrev pub is_sought : Facts → Stand → List ℕ → Option Quality → Arrangement → Bool
+is_sought facts stand lower aim c = can_be_chosen facts stand lower c && is_near facts stand lower aim c
+
+-- what is chosen of the one that is kept and of those to come
+abbrev pub chosen_yet : Facts → Stand → List ℕ → Option Quality → Option Best → List Arrangement → Option Arrangement
+chosen_yet facts stand lower aim kept coming =
+    chosen_of_rest (is_better_in facts stand lower) (is_sought facts stand lower aim) (kept_lists kept) coming
+
+-- what is chosen of a shape by a pass with an aim
+abbrev pub chosen_near : Facts → Stand → List ℕ → Option Quality → Shape → Option Arrangement
+chosen_near facts stand lower aim shape = chosen_yet facts stand lower aim None (candidates_of facts stand shape)

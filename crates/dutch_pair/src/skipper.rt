@@ -1,0 +1,102 @@
+// What a pass over the candidates of a shape may skip (C.04.3 B.8): a beginning where no candidate with it is of interest, which the
+// floor of the beginning tells, specified by the candidates that are dull.
+//
+// A candidate is dull where the aim of the pass is better than it, or where it is not better than the candidate that is kept. Both hold
+// of it where they hold of a floor that it is not better than.
+ghost use Rattle.std.specs.Prelude.{◌≡◌, false};
+ghost use Rattle.std.specs.Option.{MatchOption};
+ghost use Rattle.dutch_order.specs.Arrangements.{Arrangement, Fits};
+ghost use Rattle.dutch_order.specs.Keys.{IsIn};
+ghost use Rattle.dutch_order.specs.Prefixes.{Begins};
+ghost use Rattle.dutch_pair.specs.Reached.{IsAbove, frame_of};
+ghost use Rattle.dutch_pair.specs.Quality.{is_better};
+ghost use Rattle.dutch_pair.specs.QualityIn.{quality_in};
+ghost use Rattle.dutch_pair.specs.Round.{candidates_of, quality_of};
+ghost use Rattle.dutch_pair.specs.AimedChoice.{aim_in, is_idle};
+
+use crate::choice::Best;
+use crate::quality::Quality;
+use crate::reached::Reached;
+use dutch_order::bound::Bound;
+use dutch_order::bracket::Shape;
+use dutch_order::prefix::Prefix;
+use dutch_player::field::Field;
+
+/// One pass over the candidates of a shape, in a bracket above all lower seats by rank. With an aim it seeks those alone that the aim
+/// is not better than.
+#[derive(Drop)]
+pub(crate) struct Pass<'a> {
+    pub(crate) field: &'a Field,
+    pub(crate) reached: &'a Reached,
+    pub(crate) lower: &'a [u16],
+    pub(crate) shape: Shape,
+    pub(crate) aim: Option<Quality>,
+    ghost above: { IsAbove field.now reached.now lower.now },
+    ghost fits: { Fits (frame_of field.now reached.now) shape },
+}
+
+/// The quality that a first pass aims at; `None` where there is no first pass. Any quality serves: what is chosen of the candidates
+/// that it is not better than is chosen of all.
+pub(crate) fn aim_of(
+    _field: &Field,
+    _reached: &Reached,
+    _lower: &[u16],
+    _shape: Shape,
+) -> Option<Quality> {
+    None
+}
+
+/// A quality that no candidate with a beginning is better than; `None` where none is known.
+fn floor_of_prefix(_pass: &Pass<'_>, _prefix: &Prefix<'_>) -> Option<Quality>
+    ensures { MatchOption result (Unit {0})
+        (λ floor. (a : Arrangement) → IsIn a (candidates_of _pass.now.field.now _pass.now.reached.now _pass.now.shape) → Begins _prefix.now a
+        → is_better (quality_of _pass.now.field.now _pass.now.reached.now _pass.now.lower.now a) (quality_in floor) ≡ false) }
+{
+    None
+}
+
+/// Whether a quality is of no interest: the aim is better, or it is not better than that of the candidate that is kept.
+pub(crate) fn is_idle(quality: &Quality, aim: &Option<Quality>, kept: &Option<Best>) -> bool
+    ensures { result ≡ is_idle (aim_in aim.now) kept.now (quality_in quality.now) }
+{
+    if let Some(aim) = aim {
+        if aim.is_better(quality) {
+            return true;
+        }
+    }
+    match kept {
+        Some(best) => !quality.is_better(&best.quality),
+        None => false,
+    }
+}
+
+/// Tells which beginnings a pass may skip, beside the candidate that it keeps.
+#[derive(Drop)]
+pub(crate) struct Skipper<'a, 'k> {
+    pub(crate) pass: &'a Pass<'a>,
+    pub(crate) kept: &'k Option<Best>,
+}
+
+impl<'a, 'k> Bound for Skipper<'a, 'k> {
+    ghost use Rattle.dutch_pair.specs.Reached.{frame_of, numbers_meet, number_may_be_left};
+    ghost use Rattle.dutch_pair.specs.Round.{quality_of};
+    ghost use Rattle.dutch_pair.specs.AimedChoice.{aim_in, is_idle};
+
+    ghost frame = { λ s. frame_of s.pass.now.field.now s.pass.now.reached.now };
+
+    ghost shape = { λ s. s.pass.now.shape };
+
+    ghost meets = { λ s. numbers_meet s.pass.now.field.now s.pass.now.reached.now };
+
+    ghost may_be_left = { λ s. number_may_be_left s.pass.now.field.now s.pass.now.reached.now };
+
+    ghost is_dull = { λ s a. is_idle (aim_in s.pass.now.aim) s.kept.now (quality_of s.pass.now.field.now s.pass.now.reached.now s.pass.now.lower.now a) };
+
+    #[tactic(auto, using(crate::proofs::AimLemmas::idle_floor))]
+    fn cannot_win(&self, prefix: &Prefix<'_>) -> bool {
+        match floor_of_prefix(self.pass, prefix) {
+            Some(floor) => is_idle(&floor, &self.pass.aim, self.kept),
+            None => false,
+        }
+    }
+}
