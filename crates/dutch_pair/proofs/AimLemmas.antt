@@ -12,11 +12,10 @@ use Rattle.dutch_pair.specs.Reached.{Stand}
 use Rattle.dutch_pair.specs.Quality.{Quality, is_better}
 use Rattle.dutch_pair.specs.QualityIn.{quality_in}
 use Rattle.dutch_pair.specs.Round.{quality_of, candidates_of}
-use Rattle.dutch_pair.specs.Choice.{first_unbeaten, chosen, chosen_of_rest}
+use Rattle.dutch_pair.specs.Choice.{first_unbeaten, chosen}
 use Rattle.dutch_pair.specs.Eligible.{can_be_chosen}
 use Rattle.dutch_pair.specs.Kept.{kept_lists, wins, IsKept, is_better_in, chosen_in}
-use Rattle.dutch_pair.specs.Aims.{is_near, is_beaten, is_dull, beats}
-use Rattle.dutch_pair.specs.AimedChoice.{is_idle, chosen_yet, chosen_near}
+use Rattle.dutch_pair.specs.Aims.{beats, is_idle, is_near, is_sought, chosen_yet, chosen_near}
 use Rattle.dutch_pair.proofs.ChoiceLemmas.{IsOrder, order_of, unfit_passed, worse_passed}
 use Rattle.dutch_pair.proofs.QualityOrder.{irreflexive, transitive, total}
 use Rattle.dutch_pair.proofs.BestLemmas.{order_in}
@@ -62,9 +61,9 @@ module _ {X : Type 0} (better : X → X → Bool) (order : IsOrder better) (near
       → first_unbeaten better all (y ∷ rest) ≡ Some c
   first_at all rest y c true is some later found =
       unbeaten (list_any (λ d. better d y) all) (ap (λ t. cond (not t) (Some y) (first_unbeaten better (filter near all) (filter near rest))) (sym (beaten_near y all is)) ∙ found) where
-    unbeaten : (t : Bool) → cond (not t) (Some y) (first_unbeaten better (filter near all) (filter near rest)) ≡ Some c → cond (not t) (Some y) (first_unbeaten better all rest) ≡ Some c
-    unbeaten true found' = later found'
-    unbeaten false found' = found'
+        unbeaten : (t : Bool) → cond (not t) (Some y) (first_unbeaten better (filter near all) (filter near rest)) ≡ Some c → cond (not t) (Some y) (first_unbeaten better all rest) ≡ Some c
+        unbeaten true found' = later found'
+        unbeaten false found' = found'
   first_at all rest y c false is some later found =
       ap (λ t. cond (not t) (Some y) (first_unbeaten better all rest)) (beaten_far y all is some) ∙ later found
 
@@ -116,10 +115,6 @@ was_true : (b : Bool) → not b ≡ false → b ≡ true
 was_true true h = refl
 was_true false h = sym h
 
-twice : (b : Bool) → b ≡ not (not b)
-twice true = refl
-twice false = refl
-
 or_first : (p q : Bool) → p ≡ true → (p || q) ≡ true
 or_first true q h = refl
 or_first false q h = absurd (true≢false (sym h))
@@ -157,73 +152,41 @@ module _ (facts : Facts) (stand : Stand) (lower : List ℕ) where
   without_aim shape =
       ap (chosen (is_better_in facts stand lower)) (filter_always (can_be_chosen facts stand lower) (candidates_of facts stand shape) ∙ sym (eligible_is facts stand lower shape))
 
-  beaten_passed : (aim : Option Quality) (fits : Arrangement → Bool) (kept : Option Arrangement) (d : Arrangement) (rest : List Arrangement)
-      → is_beaten facts stand lower kept d ≡ true
-      → chosen_of_rest (is_better_in facts stand lower) (λ x. fits x && is_near facts stand lower aim x) kept (d ∷ rest)
-      ≡ chosen_of_rest (is_better_in facts stand lower) (λ x. fits x && is_near facts stand lower aim x) kept rest
-  beaten_passed aim fits None d rest beaten = absurd (true≢false (sym beaten))
-  beaten_passed aim fits (Some c) d rest beaten =
-      worse_passed (is_better_in facts stand lower) (order_in facts stand lower) (λ x. fits x && is_near facts stand lower aim x) c d rest (was_false _ beaten)
+  beaten_passed : (aim : Option Quality) (kept : Option Best) (d : Arrangement) (rest : List Arrangement) → IsKept facts stand lower kept
+      → not (wins (quality_of facts stand lower d) kept) ≡ true → chosen_yet facts stand lower aim kept (d ∷ rest) ≡ chosen_yet facts stand lower aim kept rest
+  beaten_passed aim None d rest h lost = absurd (true≢false (sym lost))
+  beaten_passed aim (Some best) d rest h lost =
+      worse_passed (is_better_in facts stand lower) (order_in facts stand lower) (is_sought facts stand lower aim) best.candidate.lists d rest
+      (ap (is_better (quality_of facts stand lower d)) (sym h.1) ∙ was_false _ lost)
 
-  dull_passed_at : (aim : Option Quality) (fits : Arrangement → Bool) (kept : Option Arrangement) (d : Arrangement) (rest : List Arrangement) (t : Bool)
-      → is_near facts stand lower aim d ≡ t → (not t || is_beaten facts stand lower kept d) ≡ true
-      → chosen_of_rest (is_better_in facts stand lower) (λ x. fits x && is_near facts stand lower aim x) kept (d ∷ rest)
-      ≡ chosen_of_rest (is_better_in facts stand lower) (λ x. fits x && is_near facts stand lower aim x) kept rest
-  dull_passed_at aim fits kept d rest true near dull = beaten_passed aim fits kept d rest dull
-  dull_passed_at aim fits kept d rest false far dull =
-      unfit_passed (is_better_in facts stand lower) (order_in facts stand lower) (λ x. fits x && is_near facts stand lower aim x) kept d rest
-      (ap (λ t. fits d && t) far ∙ never (fits d))
+  idle_at : (aim : Option Quality) (kept : Option Best) (d : Arrangement) (rest : List Arrangement) (t : Bool) → beats aim (quality_of facts stand lower d) ≡ t
+      → IsKept facts stand lower kept → (t || not (wins (quality_of facts stand lower d) kept)) ≡ true
+      → chosen_yet facts stand lower aim kept (d ∷ rest) ≡ chosen_yet facts stand lower aim kept rest
+  idle_at aim kept d rest true far h idle =
+      unfit_passed (is_better_in facts stand lower) (order_in facts stand lower) (is_sought facts stand lower aim) (kept_lists kept) d rest
+      (ap (λ t. can_be_chosen facts stand lower d && not t) far ∙ never (can_be_chosen facts stand lower d))
+  idle_at aim kept d rest false near h idle = beaten_passed aim kept d rest h idle
 
-  dull_passed : (aim : Option Quality) (fits : Arrangement → Bool) (kept : Option Arrangement) (d : Arrangement) (rest : List Arrangement)
-      → is_dull facts stand lower aim kept d ≡ true
-      → chosen_of_rest (is_better_in facts stand lower) (λ x. fits x && is_near facts stand lower aim x) kept (d ∷ rest)
-      ≡ chosen_of_rest (is_better_in facts stand lower) (λ x. fits x && is_near facts stand lower aim x) kept rest
-  dull_passed aim fits kept d rest dull = dull_passed_at aim fits kept d rest (is_near facts stand lower aim d) refl dull
+  -- a candidate whose quality is of no interest is passed
+  pub idle_passed : (aim : Option Quality) (kept : Option Best) (quality : Quality) (d : Arrangement) (rest : List Arrangement) → IsKept facts stand lower kept
+      → quality ≡ quality_of facts stand lower d → is_idle aim kept quality ≡ true
+      → chosen_yet facts stand lower aim kept rest ≡ chosen_yet facts stand lower aim kept (d ∷ rest)
+  idle_passed aim kept quality d rest h e idle =
+      sym (idle_at aim kept d rest (beats aim (quality_of facts stand lower d)) refl h (ap (is_idle aim kept) (sym e) ∙ idle))
 
-  -- a front that is all dull changes nothing
-  a_dull_front_is_passed : (aim : Option Quality) (fits : Arrangement → Bool) (kept : Option Arrangement) (skipped rest : List Arrangement)
-      → AllByRecursion (λ d. is_dull facts stand lower aim kept d ≡ true) skipped
-      → chosen_of_rest (is_better_in facts stand lower) (λ x. fits x && is_near facts stand lower aim x) kept (skipped ++ rest)
-      ≡ chosen_of_rest (is_better_in facts stand lower) (λ x. fits x && is_near facts stand lower aim x) kept rest
-  a_dull_front_is_passed aim fits kept [] rest all = refl
-  a_dull_front_is_passed aim fits kept (d ∷ skipped) rest all =
-      dull_passed aim fits kept d (skipped ++ rest) all.0 ∙ a_dull_front_is_passed aim fits kept skipped rest all.1
-
-  idle_near : (aim : Option Quality) (lists : Arrangement) → beats aim (quality_of facts stand lower lists) ≡ not (is_near facts stand lower aim lists)
-  idle_near None lists = refl
-  idle_near (Some aim) lists = twice (is_better aim (quality_of facts stand lower lists))
-
-  idle_beaten : (kept : Option Best) (lists : Arrangement) → IsKept facts stand lower kept
-      → not (wins (quality_of facts stand lower lists) kept) ≡ is_beaten facts stand lower (kept_lists kept) lists
-  idle_beaten None lists h = refl
-  idle_beaten (Some best) lists h = ap (λ q. not (is_better (quality_of facts stand lower lists) q)) h.1
-
-  -- a candidate is dull where its quality is of no interest
-  dull_is_idle : (aim : Option Quality) (kept : Option Best) (lists : Arrangement) → IsKept facts stand lower kept
-      → is_dull facts stand lower aim (kept_lists kept) lists ≡ is_idle aim kept (quality_of facts stand lower lists)
-  dull_is_idle aim kept lists h =
-      ap (λ t. t || is_beaten facts stand lower (kept_lists kept) lists) (sym (idle_near aim lists))
-      ∙ ap (λ t. beats aim (quality_of facts stand lower lists) || t) (sym (idle_beaten kept lists h))
-
-  all_dull : (aim : Option Quality) (kept : Option Best) (all : List Arrangement) → IsKept facts stand lower kept
-      → AllByRecursion (λ a. is_idle aim kept (quality_of facts stand lower a) ≡ true) all → AllByRecursion (λ a. is_dull facts stand lower aim (kept_lists kept) a ≡ true) all
-  all_dull aim kept [] h idle = tt
-  all_dull aim kept (a ∷ all) h idle = (dull_is_idle aim kept a h ∙ idle.0, all_dull aim kept all h idle.1)
+  idle_front_passed : (aim : Option Quality) (kept : Option Best) (skipped rest : List Arrangement) → IsKept facts stand lower kept
+      → AllByRecursion (λ a. is_idle aim kept (quality_of facts stand lower a) ≡ true) skipped
+      → chosen_yet facts stand lower aim kept (skipped ++ rest) ≡ chosen_yet facts stand lower aim kept rest
+  idle_front_passed aim kept [] rest h idle = refl
+  idle_front_passed aim kept (d ∷ skipped) rest h idle =
+      sym (idle_passed aim kept (quality_of facts stand lower d) d (skipped ++ rest) h refl idle.0) ∙ idle_front_passed aim kept skipped rest h idle.1
 
   -- what a listing skips changes nothing
   pub skipped_same : (aim : Option Quality) (kept : Option Best) (before after : List Arrangement) → IsKept facts stand lower kept
       → Passes (λ a. is_idle aim kept (quality_of facts stand lower a) ≡ true) before after
       → chosen_yet facts stand lower aim kept before ≡ chosen_yet facts stand lower aim kept after
   skipped_same aim kept before after h (skipped, same, idle) =
-      ap (λ coming. chosen_yet facts stand lower aim kept coming) same
-      ∙ a_dull_front_is_passed aim (can_be_chosen facts stand lower) (kept_lists kept) skipped after (all_dull aim kept skipped h idle)
-
-  -- a candidate whose quality is of no interest is passed
-  pub idle_passed : (aim : Option Quality) (kept : Option Best) (quality : Quality) (lists : Arrangement) (coming : List Arrangement) → IsKept facts stand lower kept
-      → quality ≡ quality_of facts stand lower lists → is_idle aim kept quality ≡ true
-      → chosen_yet facts stand lower aim kept coming ≡ chosen_yet facts stand lower aim kept (lists ∷ coming)
-  idle_passed aim kept quality lists coming h e idle =
-      sym (dull_passed aim (can_be_chosen facts stand lower) (kept_lists kept) lists coming (dull_is_idle aim kept lists h ∙ ap (is_idle aim kept) (sym e) ∙ idle))
+      ap (λ coming. chosen_yet facts stand lower aim kept coming) same ∙ idle_front_passed aim kept skipped after h idle
 
 beyond_aim : (aim : Option Quality) (floor q : Quality) → is_better q floor ≡ false → beats aim floor ≡ true → beats aim q ≡ true
 beyond_aim None floor q low won = won

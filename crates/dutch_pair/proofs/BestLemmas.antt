@@ -17,8 +17,7 @@ use Rattle.dutch_pair.specs.Round.{Chosen, eligible, quality_of, choice_in, shap
 use Rattle.dutch_pair.specs.Choice.{chosen, chosen_of_rest}
 use Rattle.dutch_pair.specs.Eligible.{can_be_chosen}
 use Rattle.dutch_pair.specs.Kept.{kept_draw, kept_lists, wins, IsKept, is_better_in, chosen_in}
-use Rattle.dutch_pair.specs.Aims.{is_near, beats}
-use Rattle.dutch_pair.specs.AimedChoice.{is_idle, is_sought, chosen_yet}
+use Rattle.dutch_pair.specs.Aims.{beats, is_idle, is_near, is_sought, chosen_yet}
 use Rattle.dutch_pair.proofs.ChoiceLemmas.{IsOrder, order_of, chosen_wins, chosen_loses, chosen_alone, unfit_passed, first_kept, better_kept, kept_at_end}
 use Rattle.dutch_pair.proofs.QualityOrder.{irreflexive, transitive, total}
 use Rattle.dutch_pair.proofs.ShapeSearch.{first_has}
@@ -56,8 +55,7 @@ module _ (facts : Facts) (stand : Stand) (lower : List ℕ) where
 
   near_of : (aim : Option Quality) (quality : Quality) (lists : Arrangement) → quality ≡ quality_of facts stand lower lists → beats aim quality ≡ false
       → is_near facts stand lower aim lists ≡ true
-  near_of None quality lists e far = refl
-  near_of (Some aim) quality lists e far = ap (λ q. not (is_better aim q)) (sym e) ∙ ap not far
+  near_of aim quality lists e far = ap (λ q. not (beats aim q)) (sym e) ∙ ap not far
 
   -- one that is of interest and can be chosen is kept
   pub winner_kept : (aim : Option Quality) (kept : Option Best) (best : Best) (lists : Arrangement) (coming : List Arrangement) → IsKept facts stand lower kept

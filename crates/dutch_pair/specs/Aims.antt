@@ -1,33 +1,44 @@
--- Which candidates a choice may leave out: those that an aim is better than, in a pass that has one, and those that are not better
--- than the candidate that is kept (C.04.3 B.8).
-use Rattle.std.specs.Prelude.{ℕ, Bool, true, false, not, ◌||◌, List, Option, Some, None}
+-- What one pass over the candidates of a shape chooses, where an aim leaves out those that it is better than (C.04.3 B.8).
+use Rattle.std.specs.Prelude.{ℕ, Bool, false, not, ◌&&◌, ◌||◌, List, Option, Some, None, option_map}
+use Rattle.dutch_order.specs.declared.bracket.Shape.{Shape}
 use Rattle.dutch_order.specs.Arrangements.{Arrangement}
 use Rattle.dutch_player.specs.Facts.{Facts}
+use Rattle.dutch_pair.specs.declared.choice.Best.{Best}
+use Rattle.dutch_pair.specs.declared.quality.Quality.{Quality as Fields}
 use Rattle.dutch_pair.specs.Quality.{Quality, is_better}
+use Rattle.dutch_pair.specs.QualityIn.{quality_in}
 use Rattle.dutch_pair.specs.Reached.{Stand}
-use Rattle.dutch_pair.specs.Round.{quality_of}
-use Rattle.dutch_pair.specs.Kept.{is_better_in}
+use Rattle.dutch_pair.specs.Round.{quality_of, candidates_of}
+use Rattle.dutch_pair.specs.Choice.{chosen_of_rest}
+use Rattle.dutch_pair.specs.Eligible.{can_be_chosen}
+use Rattle.dutch_pair.specs.Kept.{kept_lists, wins, is_better_in}
+
+-- the aim of a pass, if it has one
+abbrev pub aim_in : Option Fields → Option Quality
+aim_in aim = option_map quality_in aim
+
+-- there is an aim, and it is better than a quality
+abbrev pub beats : Option Quality → Quality → Bool
+beats None quality = false
+beats (Some aim) quality = is_better aim quality
+
+-- a quality is of no interest: the aim is better, or something is kept that it is not better than
+abbrev pub is_idle : Option Quality → Option Best → Quality → Bool
+is_idle aim kept quality = beats aim quality || not (wins quality kept)
 
 -- an aim is not better than a candidate; where there is no aim all are near
 abbrev pub is_near : Facts → Stand → List ℕ → Option Quality → Arrangement → Bool
-is_near facts stand lower None c = true
-is_near facts stand lower (Some aim) c = not (is_better aim (quality_of facts stand lower c))
+is_near facts stand lower aim c = not (beats aim (quality_of facts stand lower c))
 
--- something is kept, and a candidate is not better
-abbrev pub is_beaten : Facts → Stand → List ℕ → Option Arrangement → Arrangement → Bool
-is_beaten facts stand lower None c = false
-is_beaten facts stand lower (Some kept) c = not (is_better_in facts stand lower c kept)
+-- a candidate that can be chosen, and that the aim is not better than
+abbrev pub is_sought : Facts → Stand → List ℕ → Option Quality → Arrangement → Bool
+is_sought facts stand lower aim c = can_be_chosen facts stand lower c && is_near facts stand lower aim c
 
--- a candidate of no interest
-abbrev pub is_dull : Facts → Stand → List ℕ → Option Quality → Option Arrangement → Arrangement → Bool
-is_dull facts stand lower aim kept c = not (is_near facts stand lower aim c) || is_beaten facts stand lower kept c
+-- what a pass chooses of the candidate that is kept and of those to come
+abbrev pub chosen_yet : Facts → Stand → List ℕ → Option Quality → Option Best → List Arrangement → Option Arrangement
+chosen_yet facts stand lower aim kept coming =
+    chosen_of_rest (is_better_in facts stand lower) (is_sought facts stand lower aim) (kept_lists kept) coming
 
--- the aim is better than a floor
-abbrev pub beats : Option Quality → Quality → Bool
-beats None floor = false
-beats (Some aim) floor = is_better aim floor
-
--- something is kept, and a floor is not better
-abbrev pub cannot_beat : Facts → Stand → List ℕ → Option Arrangement → Quality → Bool
-cannot_beat facts stand lower None floor = false
-cannot_beat facts stand lower (Some kept) floor = not (is_better floor (quality_of facts stand lower kept))
+-- what a pass chooses of a shape
+abbrev pub chosen_near : Facts → Stand → List ℕ → Option Quality → Shape → Option Arrangement
+chosen_near facts stand lower aim shape = chosen_yet facts stand lower aim None (candidates_of facts stand shape)

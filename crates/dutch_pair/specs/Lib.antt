@@ -25,4 +25,3 @@ pub mod PsdFloors
 pub mod Floors
 pub mod Ghosts
 pub mod Aims
-pub mod AimedChoice

@@ -8,7 +8,7 @@ ghost use Rattle.dutch_pair.specs.NextBracket.{IsDraw};
 ghost use Rattle.dutch_pair.specs.QualityIn.{quality_in};
 ghost use Rattle.dutch_pair.specs.Round.{quality_of};
 ghost use Rattle.dutch_pair.specs.Kept.{kept_draw, IsKept, chosen_in};
-ghost use Rattle.dutch_pair.specs.AimedChoice.{aim_in, chosen_near, chosen_yet};
+ghost use Rattle.dutch_pair.specs.Aims.{aim_in, chosen_near, chosen_yet, is_idle};
 ghost use Rattle.dutch_pair.specs.Outcomes.{IsChoice};
 
 use crate::completion::Answer;
@@ -19,7 +19,7 @@ use crate::lookahead::quality;
 use crate::quality::Quality;
 use crate::reached::Reached;
 use crate::shape::shape_of;
-use crate::skipper::{Pass, Skipper, aim_of, is_idle};
+use crate::skipper::{Pass, Skipper, aim_of};
 use dutch_order::bracket::Shape;
 use dutch_order::candidate::Candidate;
 use dutch_order::candidates::Candidates;
@@ -41,8 +41,8 @@ pub enum Choice {
 /// The best candidate so far, with its quality.
 #[derive(Debug, Drop)]
 pub(crate) struct Best {
-    pub(crate) candidate: Candidate,
-    pub(crate) quality: Quality,
+    candidate: Candidate,
+    quality: Quality,
 }
 
 /// The quality of a candidate above all lower seats; `None` where the budget's limit was reached first.
@@ -70,6 +70,21 @@ fn quality_of(
         split_first_group(field, lower).0,
         budget,
     )
+}
+
+/// Whether a quality is of no interest: the aim is better, or it is not better than that of the candidate that is kept.
+pub(crate) fn is_idle(quality: &Quality, aim: &Option<Quality>, kept: &Option<Best>) -> bool
+    ensures { result ≡ is_idle (aim_in aim.now) kept.now (quality_in quality.now) }
+{
+    if let Some(aim) = aim {
+        if aim.is_better(quality) {
+            return true;
+        }
+    }
+    match kept {
+        Some(best) => !quality.is_better(&best.quality),
+        None => false,
+    }
 }
 
 /// Keeps a candidate in place of the one before it if it is of interest and can be chosen. It says whether the budget sufficed for that.
@@ -149,42 +164,28 @@ fn best_near<'a>(pass: &'a Pass<'a>, budget: &mut Budget) -> Step<Candidate>
     }
 }
 
-/// What a first pass with an aim chooses of a shape: the choice of all. `End` is answered where there is no aim, or where the pass finds
-/// none that can be chosen, which says nothing of the choice.
+/// What a pass with an aim chooses: the choice of all. `End` is answered where there is no aim, or where the pass finds none that can be
+/// chosen, which says nothing of the choice.
 #[tactic(auto, using(crate::proofs::AimLemmas::a_pass_serves))]
-fn best_by_aim<'a>(
-    field: &'a Field,
-    reached: &'a Reached,
-    lower: &'a [u16],
-    shape: Shape,
-    budget: &mut Budget,
-) -> Step<Candidate>
-    requires above { IsAbove field.now reached.now lower.now }
-    requires fits { Fits (frame_of field.now reached.now) shape }
-    requires within { budget.old.used ≤ budget.old.limit }
+fn best_by_aim<'a>(pass: &'a Pass<'a>, budget: &mut Budget) -> Step<Candidate>
+    requires { budget.old.used ≤ budget.old.limit }
     ensures answer { MatchStep result
-        (λ c. (chosen_in field.now reached.now lower.now shape ≡ Some c.lists) × (c.down ≡ down (frame_of field.now reached.now) c.lists))
+        (λ c. (chosen_in pass.now.field.now pass.now.reached.now pass.now.lower.now pass.now.shape ≡ Some c.lists)
+        × (c.down ≡ down (frame_of pass.now.field.now pass.now.reached.now) c.lists))
         (Unit {0})
         (budget.new.used ≡ budget.new.limit) }
     ensures limit { budget.new.limit ≡ budget.old.limit }
     ensures rises { budget.old.used ≤ budget.new.used }
     ensures within { budget.new.used ≤ budget.new.limit }
 {
-    let Some(aim) = aim_of(field, reached, lower, shape) else {
+    if pass.aim.is_none() {
         return Step::End;
-    };
-    let pass = Pass {
-        field,
-        reached,
-        lower,
-        shape,
-        aim: Some(aim),
-    };
-    best_near(&pass, budget)
+    }
+    best_near(pass, budget)
 }
 
-/// Of the candidates of a shape that can be chosen the first that none is better than. `End` is answered where no candidate can be
-/// chosen.
+/// Of the candidates of a shape that can be chosen the first that none is better than: what a pass with an aim ends with, or else one
+/// without. `End` is answered where no candidate can be chosen.
 #[tactic(auto, using(crate::proofs::AimLemmas::without_aim))]
 fn best_of<'a>(
     field: &'a Field,
@@ -204,18 +205,19 @@ fn best_of<'a>(
     ensures rises { budget.old.used ≤ budget.new.used }
     ensures within { budget.new.used ≤ budget.new.limit }
 {
-    match best_by_aim(field, reached, lower, shape, budget) {
-        Step::Found(candidate) => return Step::Found(candidate),
-        Step::Undecided => return Step::Undecided,
-        Step::End => {}
-    }
-    let pass = Pass {
+    let mut pass = Pass {
         field,
         reached,
         lower,
         shape,
-        aim: None,
+        aim: aim_of(field, reached, lower, shape),
     };
+    match best_by_aim(&pass, budget) {
+        Step::Found(candidate) => return Step::Found(candidate),
+        Step::Undecided => return Step::Undecided,
+        Step::End => {}
+    }
+    pass.aim = None;
     best_near(&pass, budget)
 }
 

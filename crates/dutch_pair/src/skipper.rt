@@ -1,8 +1,7 @@
-// What a pass over the candidates of a shape may skip (C.04.3 B.8): a beginning where no candidate with it is of interest, which the
-// floor of the beginning tells, specified by the candidates that are dull.
+// What a pass over the candidates of a shape may skip (C.04.3 B.8), specified by the candidates that are of no interest.
 //
-// A candidate is dull where the aim of the pass is better than it, or where it is not better than the candidate that is kept. Both hold
-// of it where they hold of a floor that it is not better than.
+// A candidate is of no interest where the aim of the pass is better than it, or where it is not better than the candidate that is kept.
+// Both hold of each candidate with a beginning where they hold of a floor, a quality that none of them is better than.
 ghost use Rattle.std.specs.Prelude.{◌≡◌, false};
 ghost use Rattle.std.specs.Option.{MatchOption};
 ghost use Rattle.dutch_order.specs.Arrangements.{Arrangement, Fits};
@@ -12,9 +11,8 @@ ghost use Rattle.dutch_pair.specs.Reached.{IsAbove, frame_of};
 ghost use Rattle.dutch_pair.specs.Quality.{is_better};
 ghost use Rattle.dutch_pair.specs.QualityIn.{quality_in};
 ghost use Rattle.dutch_pair.specs.Round.{candidates_of, quality_of};
-ghost use Rattle.dutch_pair.specs.AimedChoice.{aim_in, is_idle};
 
-use crate::choice::Best;
+use crate::choice::{Best, is_idle};
 use crate::quality::Quality;
 use crate::reached::Reached;
 use dutch_order::bound::Bound;
@@ -47,27 +45,12 @@ pub(crate) fn aim_of(
 }
 
 /// A quality that no candidate with a beginning is better than; `None` where none is known.
-fn floor_of_prefix(_pass: &Pass<'_>, _prefix: &Prefix<'_>) -> Option<Quality>
+fn floor_of_prefix(pass: &Pass<'_>, prefix: &Prefix<'_>) -> Option<Quality>
     ensures { MatchOption result (Unit {0})
-        (λ floor. (a : Arrangement) → IsIn a (candidates_of _pass.now.field.now _pass.now.reached.now _pass.now.shape) → Begins _prefix.now a
-        → is_better (quality_of _pass.now.field.now _pass.now.reached.now _pass.now.lower.now a) (quality_in floor) ≡ false) }
+        (λ floor. (a : Arrangement) → IsIn a (candidates_of pass.now.field.now pass.now.reached.now pass.now.shape) → Begins prefix.now a
+        → is_better (quality_of pass.now.field.now pass.now.reached.now pass.now.lower.now a) (quality_in floor) ≡ false) }
 {
     None
-}
-
-/// Whether a quality is of no interest: the aim is better, or it is not better than that of the candidate that is kept.
-pub(crate) fn is_idle(quality: &Quality, aim: &Option<Quality>, kept: &Option<Best>) -> bool
-    ensures { result ≡ is_idle (aim_in aim.now) kept.now (quality_in quality.now) }
-{
-    if let Some(aim) = aim {
-        if aim.is_better(quality) {
-            return true;
-        }
-    }
-    match kept {
-        Some(best) => !quality.is_better(&best.quality),
-        None => false,
-    }
 }
 
 /// Tells which beginnings a pass may skip, beside the candidate that it keeps.
@@ -80,7 +63,7 @@ pub(crate) struct Skipper<'a, 'k> {
 impl<'a, 'k> Bound for Skipper<'a, 'k> {
     ghost use Rattle.dutch_pair.specs.Reached.{frame_of, numbers_meet, number_may_be_left};
     ghost use Rattle.dutch_pair.specs.Round.{quality_of};
-    ghost use Rattle.dutch_pair.specs.AimedChoice.{aim_in, is_idle};
+    ghost use Rattle.dutch_pair.specs.Aims.{aim_in, is_idle};
 
     ghost frame = { λ s. frame_of s.pass.now.field.now s.pass.now.reached.now };
 
@@ -94,6 +77,10 @@ impl<'a, 'k> Bound for Skipper<'a, 'k> {
 
     #[tactic(auto, using(crate::proofs::AimLemmas::idle_floor))]
     fn cannot_win(&self, prefix: &Prefix<'_>) -> bool {
+        // then all are of interest
+        if self.pass.aim.is_none() && self.kept.is_none() {
+            return false;
+        }
         match floor_of_prefix(self.pass, prefix) {
             Some(floor) => is_idle(&floor, &self.pass.aim, self.kept),
             None => false,

@@ -5,7 +5,7 @@ use Rattle.dutch_order.specs.Keys.{IsIn}
 use Rattle.dutch_pair.specs.declared.reached.ByNumber.{ByNumber}
 use Rattle.dutch_pair.specs.Reached.{frame_of, numbers_meet, number_may_be_left}
 use Rattle.dutch_pair.specs.Round.{candidates_of, quality_of}
-use Rattle.dutch_pair.specs.AimedChoice.{aim_in, is_idle, chosen_near, chosen_yet}
+use Rattle.dutch_pair.specs.Aims.{aim_in, is_idle, chosen_near, chosen_yet}
 use Rattle.dutch_pair.proofs.LeastPsd.{in_filter}
 use Rattle.dutch_pair.proofs.FlatBrackets.{listed_as}
 use Rattle.dutch_pair.proofs.BestLemmas.{chosen_last, handed}

@@ -5,7 +5,7 @@ use Rattle.dutch_order.specs.Keys.{IsIn}
 use Rattle.dutch_pair.specs.Reached.{frame_of}
 use Rattle.dutch_pair.specs.Round.{candidates_of}
 use Rattle.dutch_pair.specs.Kept.{IsKept}
-use Rattle.dutch_pair.specs.AimedChoice.{aim_in, chosen_near, chosen_yet}
+use Rattle.dutch_pair.specs.Aims.{aim_in, chosen_near, chosen_yet}
 use Rattle.dutch_pair.proofs.choice.best_near.Given as goal
 
 abbrev pub decreases-loop-candidate : goal.decreases-loop-candidate

@@ -1,6 +1,6 @@
 -- A candidate that is of interest and can be chosen is kept, and the same one is chosen in the end.
 use Rattle.std.proofs.Common.{refl, sym}
-use Rattle.dutch_pair.specs.AimedChoice.{aim_in}
+use Rattle.dutch_pair.specs.Aims.{aim_in}
 use Rattle.dutch_pair.proofs.BestLemmas.{winner_kept}
 use Rattle.dutch_pair.proofs.choice.consider.Goals as goal
 

@@ -2,7 +2,7 @@
 use Rattle.std.proofs.Common.{sym, ◌∙◌}
 use Rattle.dutch_pair.specs.QualityIn.{quality_in}
 use Rattle.dutch_pair.specs.Round.{quality_of}
-use Rattle.dutch_pair.specs.AimedChoice.{aim_in}
+use Rattle.dutch_pair.specs.Aims.{aim_in}
 use Rattle.dutch_pair.proofs.AimLemmas.{idle_floor}
 use Rattle.dutch_pair.proofs.skipper.SkipperBound.cannot_win.Goals as goal
 
