@@ -11,6 +11,7 @@ pub mod examples;
 pub mod fault;
 pub mod floats;
 mod ghosts;
+mod greatest;
 pub mod group;
 pub mod laws;
 pub mod lookahead;
