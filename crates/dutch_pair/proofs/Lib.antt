@@ -6,6 +6,7 @@ pub mod C07WeakerRules
 pub mod C07PsdFloor
 pub mod C07Ghosts
 pub mod GhostBrackets
+pub mod RepeatedLemmas
 pub mod ArrangementParts
 pub mod BestLemmas
 pub mod BoardLemmas

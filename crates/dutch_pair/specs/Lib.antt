@@ -26,4 +26,5 @@ pub mod Floors
 pub mod Ghosts
 pub mod GhostRules
 pub mod GhostLaws
+pub mod GhostValues
 pub mod Aims
