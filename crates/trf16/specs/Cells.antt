@@ -10,50 +10,51 @@ use Rattle.trf16.specs.declared.cell.Outcome.{Outcome}
 use Rattle.trf16.specs.declared.cell.Outcome.TheVariants.{Win, Draw, Loss}
 use Rattle.trf16.specs.declared.cell.Cell.{Cell}
 use Rattle.trf16.specs.declared.cell.Cell.TheVariants.{Blank, Bye, Game, Forfeit, Unfinished}
+use Rattle.std.specs.Str.{byte}
 
 -- what stands in one column, letters in upper case: a missing column is blank, and a character of several bytes is no mark
 abbrev pub mark_in : List ℕ → Option ℕ
-mark_in [] = Some 32
+mark_in [] = Some (byte " ")
 mark_in (b ∷ []) = Some (to_ascii_uppercase b)
 mark_in (b ∷ c ∷ rest) = None
 
 -- w or b
 abbrev pub colour_of : ℕ → Option Colour
-colour_of c = if c == 87 then Some White else (if c == 66 then Some Black else None)
+colour_of c = if c == byte "W" then Some White else (if c == byte "B" then Some Black else None)
 
 -- a dash or a blank
 abbrev pub is_no_colour : ℕ → Bool
-is_no_colour c = (c == 45) || (c == 32)
+is_no_colour c = (c == byte "-") || (c == byte " ")
 
 -- without an opponent: blank, H, F, U or Z
 abbrev pub bye_cell : ℕ → Option Cell
 bye_cell result =
-    if result == 32 then Some Blank
-    else (if result == 72 then Some (Bye Half)
-    else (if result == 70 then Some (Bye Full)
-    else (if result == 85 then Some (Bye Allocated)
-    else (if result == 90 then Some (Bye Zero) else None))))
+    if result == byte " " then Some Blank
+    else (if result == byte "H" then Some (Bye Half)
+    else (if result == byte "F" then Some (Bye Full)
+    else (if result == byte "U" then Some (Bye Allocated)
+    else (if result == byte "Z" then Some (Bye Zero) else None))))
 
 -- a game that was not played: + or -
 abbrev pub forfeit_cell : ℕ → Option Colour → ℕ → Option Cell
 forfeit_cell opponent colour result =
-    if result == 43 then Some (Forfeit opponent colour true)
-    else (if result == 45 then Some (Forfeit opponent colour false) else None)
+    if result == byte "+" then Some (Forfeit opponent colour true)
+    else (if result == byte "-" then Some (Forfeit opponent colour false) else None)
 
 -- whether a game is rated, and how it ended: 1, = or 0 where it is rated, W, D or L where it is not
 abbrev pub outcome_of : ℕ → Option (Bool × Outcome)
 outcome_of result =
-    if result == 49 then Some (true, Win)
-    else (if result == 61 then Some (true, Draw)
-    else (if result == 48 then Some (true, Loss)
-    else (if result == 87 then Some (false, Win)
-    else (if result == 68 then Some (false, Draw)
-    else (if result == 76 then Some (false, Loss) else None)))))
+    if result == byte "1" then Some (true, Win)
+    else (if result == byte "=" then Some (true, Draw)
+    else (if result == byte "0" then Some (true, Loss)
+    else (if result == byte "W" then Some (false, Win)
+    else (if result == byte "D" then Some (false, Draw)
+    else (if result == byte "L" then Some (false, Loss) else None)))))
 
 -- with an opponent and a colour: a game with its result, one without a result yet where that is blank, or a forfeit
 abbrev pub game_cell : ℕ → Colour → ℕ → Option Cell
 game_cell opponent colour result =
-    if result == 32 then Some (Unfinished opponent colour)
+    if result == byte " " then Some (Unfinished opponent colour)
     else option_map_or (λ played. Some (Game opponent colour played.0 played.1)) (outcome_of result) (forfeit_cell opponent (Some colour) result)
 
 -- the cell of an opponent or none, a colour and a result, where the three have one
