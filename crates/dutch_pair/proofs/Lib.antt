@@ -37,3 +37,5 @@ pub mod OneBye
 pub mod ShapeLaws
 pub mod BoardOrder
 pub mod GroupLaws
+pub mod LowerLemmas
+pub mod StandsAbove

@@ -13,6 +13,7 @@ pub mod floats;
 pub mod group;
 pub mod laws;
 pub mod lookahead;
+pub mod lower;
 pub mod quality;
 pub mod reached;
 pub mod round;
