@@ -58,3 +58,5 @@ pub mod C10Lonely
 pub mod ShapeLaws
 pub mod BoardOrder
 pub mod GroupLaws
+pub mod LowerLemmas
+pub mod StandsAbove

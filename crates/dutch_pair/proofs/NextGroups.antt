@@ -76,7 +76,7 @@ module _ (facts : Facts) where
     there = above.there;
   }
 
-  first_is_next : (stand : Stand) (lower : List ℕ) → IsAbove facts stand lower → IsNext facts stand (first_group facts (scoregroups facts lower))
+  pub first_is_next : (stand : Stand) (lower : List ℕ) → IsAbove facts stand lower → IsNext facts stand (first_group facts (scoregroups facts lower))
   first_is_next stand [] above = none_is_next stand above
   first_is_next stand (x ∷ xs) above =
       subst (λ groups. IsNext facts stand (first_group facts groups)) (sym (first_group_is facts x xs)) (group_is_next stand x xs above)

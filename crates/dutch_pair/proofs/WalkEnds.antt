@@ -73,6 +73,14 @@ module _ (facts : Facts) where
   drawn stand lower shape draw e left =
       record { lists = (shape, in_choice_in stand lower shape draw.lists (shape_of facts stand lower) e); down = left }
 
+  -- and so is each candidate
+  pub candidate_drawn : (stand : Stand) (shape : Shape) (draw : Draw) → IsIn draw.lists (candidates_of facts stand shape) → draw.down ≡ down (frame_of facts stand) draw.lists
+      → IsDraw facts stand draw
+  candidate_drawn stand shape draw m left = record {
+    lists = (shape, in_filter (is_legal (numbers_meet facts stand) (number_may_be_left facts stand) (frame_of facts stand)) draw.lists (arrangements (frame_of facts stand) shape) m);
+    down = left;
+  }
+
   pub candidate_is : (stand : Stand) (draw : Draw) → IsOf facts stand → IsDraw facts stand draw → IsCandidate stand.seats draw
   candidate_is stand draw of' drawn' = candidate_of facts stand drawn'.lists.0 draw of' drawn'.lists.1 drawn'.down
 

@@ -113,7 +113,7 @@ module _ (facts : Facts) where
         all_of (λ a. AllByRecursion (λ b. score_at facts b < score_at facts a) (xs ++ ys)) (λ a. AllByRecursion (λ b. score_at facts b < score_at facts a) xs) md
         (λ a g. all_front (λ b. score_at facts b < score_at facts a) xs ys g) h
 
-    above_back : (md xs ys : List ℕ) → AreAbove facts md (xs ++ ys) → AreAbove facts md ys
+    pub above_back : (md xs ys : List ℕ) → AreAbove facts md (xs ++ ys) → AreAbove facts md ys
     above_back md xs ys h =
         all_of (λ a. AllByRecursion (λ b. score_at facts b < score_at facts a) (xs ++ ys)) (λ a. AllByRecursion (λ b. score_at facts b < score_at facts a) ys) md
         (λ a g. all_back (λ b. score_at facts b < score_at facts a) xs ys g) h

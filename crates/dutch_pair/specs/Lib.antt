@@ -9,6 +9,7 @@ pub mod Seats
 pub mod Reached
 pub mod Choice
 pub mod Round
+pub mod Lower
 pub mod Boards
 pub mod Examples
 pub mod Groups

@@ -24,7 +24,7 @@ pub(crate) fn front_with(field: &Field, score: u16, seats: &[u16]) -> usize
 
 /// The first scoregroup of seats by rank, and the seats behind it; two empty lists where there is no seat.
 #[tactic(auto, using(crate::proofs::GroupLemmas::first_group_taken, crate::proofs::GroupLemmas::others_dropped))]
-pub(crate) fn split_first_group<'a>(field: &Field, seats: &'a [u16]) -> (&'a [u16], &'a [u16])
+pub fn split_first_group<'a>(field: &Field, seats: &'a [u16]) -> (&'a [u16], &'a [u16])
     requires inside { AreSeats field.now seats.now }
     ensures whole { result.0.now ++ result.1.now ≡ seats.now }
     ensures first { result.0.now ≡ first_group field.now (scoregroups field.now seats.now) }

@@ -12,12 +12,22 @@ ghost use Rattle.std.specs.List.{AllByRecursion, concat};
 ghost use Rattle.dutch_pair.specs.Boards.{AreInOrder, boards, ordered};
 ghost use Rattle.dutch_pair.specs.Groups.{IsScoregroup, NeighboursDiffer};
 ghost use Rattle.dutch_pair.specs.Everybody.{NameEverybodyOnce};
-ghost use Rattle.dutch_order.specs.Arrangements.{Fits, Frame};
+ghost use Rattle.dutch_order.specs.Arrangements.{Fits, Frame, down};
+ghost use Rattle.dutch_order.specs.Keys.{IsIn};
 ghost use Rattle.dutch_order.specs.declared.bracket.Shape.{Shape};
-ghost use Rattle.dutch_pair.specs.Reached.{Stand, frame_of};
-ghost use Rattle.dutch_pair.specs.Round.{Pairing, eligible, round, scoregroups, shape_of};
+ghost use Rattle.dutch_pair.specs.Lower.{lower_of};
+ghost use Rattle.dutch_pair.specs.NextBracket.{IsDraw, IsNext};
+ghost use Rattle.dutch_pair.specs.Outcomes.{visit_of};
+ghost use Rattle.dutch_pair.specs.Reached.{IsAbove, Stand, frame_of};
+ghost use Rattle.dutch_pair.specs.Round.{Pairing, candidates_of, eligible, first_group, round, scoregroups, shape_of};
 ghost use Rattle.dutch_pair.specs.Shapes.{IsGreater, fits, has_member};
 ghost use Rattle.dutch_pair.specs.Completion.{Completable, can_complete, most};
+
+use crate::reached::Reached;
+use dutch_order::bracket::Shape;
+use dutch_order::candidate::Candidate;
+use dutch_player::field::Field;
+use dutch_player::laws::scores_do_not_ascend;
 
 /// Of two qualities one is better, or they are the same: a strict and total order.
 #[tactic(auto, using(crate::proofs::QualityOrder::irreflexive, crate::proofs::QualityOrder::transitive, crate::proofs::QualityOrder::total))]
@@ -88,4 +98,29 @@ pub fn scoregroups_part_the_seats()
 /// The pairs of a round stand in the order of their boards: none goes before one that stands in front of it.
 pub fn boards_stand_in_order()
     ensures { (facts : Facts) (pairs : List (ℕ × ℕ)) → AreInOrder facts (ordered facts pairs) }
+{}
+
+/// A bracket of a round stands above the players below it, and above them it has its shape: whoever has asked for the bracket can ask
+/// for its choice.
+pub fn a_bracket_stands_above_the_lower(field: &Field, number: u16, reached: &Reached, shape: Shape)
+    requires { visit_of number (round field.now).reached ≡ Some (record { bracket = reached.now; shape = shape }) }
+    ensures above { IsAbove field.now reached.now (lower_of field.now reached.now) }
+    ensures shape { shape_of field.now reached.now (lower_of field.now reached.now) ≡ Some shape }
+{
+    scores_do_not_ascend(field);
+}
+
+/// The first scoregroup of the players below a bracket is the next one for its quality.
+#[tactic(auto, using(crate::proofs::NextGroups::first_is_next))]
+pub fn the_first_scoregroup_is_next(field: &Field, reached: &Reached, lower: &[u16])
+    requires { IsAbove field.now reached.now lower.now }
+    ensures { IsNext field.now reached.now (first_group field.now (scoregroups field.now lower.now)) }
+{}
+
+/// A candidate of a bracket and a shape is one whose quality can be asked for.
+#[tactic(auto, using(crate::proofs::WalkEnds::candidate_drawn))]
+pub fn candidates_are_draws(field: &Field, reached: &Reached, shape: Shape, candidate: &Candidate)
+    requires listed { IsIn candidate.now.lists (candidates_of field.now reached.now shape) }
+    requires left { candidate.now.down ≡ down (frame_of field.now reached.now) candidate.now.lists }
+    ensures { IsDraw field.now reached.now candidate.now }
 {}

@@ -19,6 +19,7 @@ pub mod group;
 pub mod laws;
 pub mod lookahead;
 pub mod order_laws;
+pub mod lower;
 pub mod quality;
 pub mod reached;
 pub mod round;

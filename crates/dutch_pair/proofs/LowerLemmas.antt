@@ -1,0 +1,145 @@
+-- The players below a bracket: seat by seat, and those that a round has not reached yet.
+use Rattle.std.proofs.Common.{◌≡◌, ℕ, ◌+◌, ◌<◌, ◌≤◌, ◌⊎◌, Bool, true, false, ◌&&◌, nat_lt, cond, List, [], ◌∷◌, ◌++◌, filter, length, get_or, drop, inl, inr, refl, sym, ap, ◌∙◌, subst, append_assoc, arith}
+use Rattle.std.specs.List.{AllByRecursion}
+use Rattle.std.proofs.lemmas.Bool.Decides.{nat_tests}
+use Rattle.std.proofs.lemmas.List.{drop_more, drop_all, append-nil}
+use Rattle.std.proofs.lemmas.List.Elements.{filter-append}
+use Rattle.dutch_order.specs.Keys.{IsIn}
+use Rattle.dutch_player.specs.Facts.{Facts}
+use Rattle.dutch_pair.specs.Seated.{score_at, AreSeats}
+use Rattle.dutch_pair.specs.Reached.{Stand}
+use Rattle.dutch_pair.specs.Walk.{AreAbove}
+use Rattle.dutch_pair.specs.Round.{everybody}
+use Rattle.dutch_pair.specs.Lower.{is_below, lower_of}
+use Rattle.dutch_pair.proofs.GroupWalk.{everybody_goes, rest_inside}
+
+module _ (facts : Facts) where
+  -- ---- one seat more
+
+  pub below_more : (seats : List ℕ) (seat i d : ℕ) → i < length seats → score_at facts seat < score_at facts (get_or seats i d)
+      → is_below facts (drop i seats) seat ≡ is_below facts (drop (i + 1) seats) seat
+  below_more seats seat i d lt low =
+      let test : nat_lt (score_at facts seat) (score_at facts (get_or seats i d)) ≡ true = grind (arith, nat_tests) in
+      ap (λ (xs : List ℕ). is_below facts xs seat) (drop_more seats i d lt) ∙ ap (λ (t : Bool). t && is_below facts (drop (i + 1) seats) seat) test
+
+  pub below_not : (seats : List ℕ) (seat i d : ℕ) → i < length seats → score_at facts (get_or seats i d) ≤ score_at facts seat
+      → is_below facts (drop i seats) seat ≡ false
+  below_not seats seat i d lt high =
+      let test : nat_lt (score_at facts seat) (score_at facts (get_or seats i d)) ≡ false = grind (arith, nat_tests) in
+      ap (λ (xs : List ℕ). is_below facts xs seat) (drop_more seats i d lt) ∙ ap (λ (t : Bool). t && is_below facts (drop (i + 1) seats) seat) test
+
+  pub below_end : (seats : List ℕ) (seat i : ℕ) → length seats ≤ i → is_below facts (drop i seats) seat ≡ true
+  below_end seats seat i le = ap (λ (xs : List ℕ). is_below facts xs seat) (drop_all i seats le)
+
+  -- those kept so far, and those to come that are below
+  abbrev pub kept_along : List ℕ → List ℕ → List ℕ → List ℕ
+  kept_along seats kept coming = kept ++ filter (is_below facts seats) coming
+
+  along_at : (seats kept coming : List ℕ) (seat : ℕ) (t : Bool) → is_below facts seats seat ≡ t
+      → kept_along seats kept (seat ∷ coming) ≡ cond t ((kept ++ seat ∷ []) ++ filter (is_below facts seats) coming) (kept_along seats kept coming)
+  along_at seats kept coming seat true e =
+      ap (λ (t : Bool). kept ++ cond t (seat ∷ filter (is_below facts seats) coming) (filter (is_below facts seats) coming)) e
+      ∙ sym (append_assoc kept (seat ∷ []) (filter (is_below facts seats) coming))
+  along_at seats kept coming seat false e =
+      ap (λ (t : Bool). kept ++ cond t (seat ∷ filter (is_below facts seats) coming) (filter (is_below facts seats) coming)) e
+
+  pub kept_more : (seats all kept after : List ℕ) (i d : ℕ) → i < length all → is_below facts seats (get_or all i d) ≡ true → after ≡ kept ++ get_or all i d ∷ []
+      → kept_along seats kept (drop i all) ≡ kept_along seats after (drop (i + 1) all)
+  kept_more seats all kept after i d lt e made =
+      ap (kept_along seats kept) (drop_more all i d lt) ∙ along_at seats kept (drop (i + 1) all) (get_or all i d) true e
+      ∙ ap (λ (xs : List ℕ). kept_along seats xs (drop (i + 1) all)) (sym made)
+
+  pub passed_over : (seats all kept : List ℕ) (i d : ℕ) → i < length all → is_below facts seats (get_or all i d) ≡ false
+      → kept_along seats kept (drop i all) ≡ kept_along seats kept (drop (i + 1) all)
+  passed_over seats all kept i d lt e =
+      ap (kept_along seats kept) (drop_more all i d lt) ∙ along_at seats kept (drop (i + 1) all) (get_or all i d) false e
+
+  pub kept_end : (seats all kept : List ℕ) (i : ℕ) → length all ≤ i → kept_along seats kept (drop i all) ≡ kept
+  kept_end seats all kept i le = ap (kept_along seats kept) (drop_all i all le) ∙ append-nil kept
+
+  pub everybody_inside : (all : List ℕ) → all ≡ everybody facts → AreSeats facts all
+  everybody_inside all e = rest_inside facts [] all (everybody_goes facts [] all refl e)
+
+  -- ---- what a test keeps
+
+  none_kept_at : (t : Bool) (y : ℕ) (ys : List ℕ) → t ≡ false → ys ≡ [] → cond t (y ∷ ys) ys ≡ []
+  none_kept_at true y ys e h = let bad : true ≡ false = e in cc
+  none_kept_at false y ys e h = h
+
+  none_kept : (p : ℕ → Bool) (ys : List ℕ) → ((y : ℕ) → IsIn y ys → p y ≡ false) → filter p ys ≡ []
+  none_kept p [] h = refl
+  none_kept p (y ∷ ys) h = none_kept_at (p y) y (filter p ys) (h y (inl refl)) (none_kept p ys (λ z m. h z (inr m)))
+
+  all_kept_at : (t : Bool) (y : ℕ) (kept ys : List ℕ) → t ≡ true → kept ≡ ys → cond t (y ∷ kept) kept ≡ y ∷ ys
+  all_kept_at true y kept ys e h = ap (λ (rest : List ℕ). y ∷ rest) h
+  all_kept_at false y kept ys e h = let bad : false ≡ true = e in cc
+
+  all_kept : (p : ℕ → Bool) (ys : List ℕ) → ((y : ℕ) → IsIn y ys → p y ≡ true) → filter p ys ≡ ys
+  all_kept p [] h = refl
+  all_kept p (y ∷ ys) h = all_kept_at (p y) y (filter p ys) ys (h y (inl refl)) (all_kept p ys (λ z m. h z (inr m)))
+
+  -- ---- members
+
+  pub in_front : (a : ℕ) (xs ys : List ℕ) → IsIn a xs → IsIn a (xs ++ ys)
+  in_front a [] ys m = absurd m
+  in_front a (x ∷ xs) ys (inl e) = inl e
+  in_front a (x ∷ xs) ys (inr m) = inr (in_front a xs ys m)
+
+  pub in_back : (a : ℕ) (xs ys : List ℕ) → IsIn a ys → IsIn a (xs ++ ys)
+  in_back a [] ys m = m
+  in_back a (x ∷ xs) ys m = inr (in_back a xs ys m)
+
+  in_either_more : (a x : ℕ) (xs ys : List ℕ) → IsIn a xs ⊎ IsIn a ys → IsIn a (x ∷ xs) ⊎ IsIn a ys
+  in_either_more a x xs ys (inl m) = inl (inr m)
+  in_either_more a x xs ys (inr m) = inr m
+
+  pub in_either : (a : ℕ) (xs ys : List ℕ) → IsIn a (xs ++ ys) → IsIn a xs ⊎ IsIn a ys
+  in_either a [] ys m = inr m
+  in_either a (x ∷ xs) ys (inl e) = inl (inl e)
+  in_either a (x ∷ xs) ys (inr m) = in_either_more a x xs ys (in_either a xs ys m)
+
+  all_at : (P : ℕ → Type 0) (a : ℕ) (xs : List ℕ) → AllByRecursion P xs → IsIn a xs → P a
+  all_at P a [] h m = absurd m
+  all_at P a (x ∷ xs) h (inl e) = subst P (sym e) h.0
+  all_at P a (x ∷ xs) h (inr m) = all_at P a xs h.1 m
+
+  pub above_in : (tops lows : List ℕ) (a b : ℕ) → AreAbove facts tops lows → IsIn a tops → IsIn b lows → score_at facts b < score_at facts a
+  above_in tops lows a b h m n =
+      all_at (λ (b : ℕ). score_at facts b < score_at facts a) b lows (all_at (λ (a : ℕ). AllByRecursion (λ b. score_at facts b < score_at facts a) lows) a tops h m) n
+
+  -- ---- a seat that is below all of some, or not
+
+  below_all : (seats : List ℕ) (seat : ℕ) → ((a : ℕ) → IsIn a seats → score_at facts seat < score_at facts a) → is_below facts seats seat ≡ true
+  below_all [] seat h = refl
+  below_all (a ∷ seats) seat h =
+      let low : score_at facts seat < score_at facts a = h a (inl refl) in
+      let test : nat_lt (score_at facts seat) (score_at facts a) ≡ true = grind (arith, nat_tests) in
+      ap (λ (t : Bool). t && is_below facts seats seat) test ∙ below_all seats seat (λ b m. h b (inr m))
+
+  and_false : (t u : Bool) → u ≡ false → (t && u) ≡ false
+  and_false true u e = e
+  and_false false u e = refl
+
+  below_some_not : (seats : List ℕ) (seat a : ℕ) → IsIn a seats → score_at facts a ≤ score_at facts seat → is_below facts seats seat ≡ false
+  below_some_not [] seat a m high = absurd m
+  below_some_not (b ∷ seats) seat a (inl e) high =
+      let same : score_at facts a ≡ score_at facts b = ap (score_at facts) e in
+      let test : nat_lt (score_at facts seat) (score_at facts b) ≡ false = grind (arith, nat_tests) in
+      ap (λ (t : Bool). t && is_below facts seats seat) test
+  below_some_not (b ∷ seats) seat a (inr m) high =
+      and_false (nat_lt (score_at facts seat) (score_at facts b)) (is_below facts seats seat) (below_some_not seats seat a m high)
+
+  -- ---- where the lower players begin
+
+  -- all players are some of which none is below a bracket, and behind them those who are
+  pub record EndsAt (seats tops lower : List ℕ) : Type 0 where
+    pub all : everybody facts ≡ tops ++ lower
+    pub reached : (y : ℕ) → IsIn y tops → (a : ℕ) × IsIn a seats × (score_at facts a ≤ score_at facts y)
+    pub below : (a b : ℕ) → IsIn a seats → IsIn b lower → score_at facts b < score_at facts a
+
+  pub lower_is : (stand : Stand) (tops lower : List ℕ) → EndsAt stand.seats tops lower → lower_of facts stand ≡ lower
+  lower_is stand tops lower h =
+      let p : ℕ → Bool = is_below facts stand.seats in
+      let none : filter p tops ≡ [] = none_kept p tops (λ y m. let a = h.reached y m in below_some_not stand.seats y a.0 a.1 a.2) in
+      let all : filter p lower ≡ lower = all_kept p lower (λ y m. below_all stand.seats y (λ a n. h.below a y n m)) in
+      ap (filter p) h.all ∙ filter-append p tops lower ∙ ap (λ (xs : List ℕ). xs ++ filter p lower) none ∙ all

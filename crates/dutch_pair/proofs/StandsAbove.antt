@@ -1,0 +1,219 @@
+-- Each bracket of a round stands above the players below it, above whom it has its shape.
+use Rattle.std.proofs.Common.{◌≡◌, ℕ, zero, suc, ◌+◌, ◌<◌, ◌≤◌, ◌⊎◌, Bool, true, false, cond, List, [], ◌∷◌, ◌++◌, length, drop, Option, Some, None, option_map, inl, inr, refl, sym, ap, ◌∙◌, subst, append_assoc, arith}
+use Rattle.std.specs.List.{AllByRecursion, concat}
+use Rattle.std.proofs.lemmas.List.{append-nil}
+use Rattle.dutch_order.specs.declared.bracket.Shape.{Shape}
+use Rattle.dutch_order.specs.Arrangements.{Arrangement}
+use Rattle.dutch_order.specs.Keys.{IsIn}
+use Rattle.dutch_player.specs.Facts.{Facts}
+use Rattle.dutch_pair.specs.declared.reached.Kind.TheVariants.{Ordinary, Last, Collapsed}
+use Rattle.dutch_pair.specs.Seated.{score_at}
+use Rattle.dutch_pair.specs.Reached.{Stand, IsAbove}
+use Rattle.dutch_pair.specs.Quality.{is_better}
+use Rattle.dutch_pair.specs.Choice.{chosen}
+use Rattle.dutch_pair.specs.Walk.{AreAbove, Goes}
+use Rattle.dutch_pair.specs.Ends.{LeftGoOn}
+use Rattle.dutch_pair.specs.Lower.{lower_of}
+use Rattle.dutch_pair.specs.Outcomes.{visit_at, visit_of}
+use Rattle.dutch_pair.specs.Round.{Round, Visit, Chosen, bracket, choice, choice_in, completable, downfloaters, eligible, everybody, first_group, quality_of, scoregroups, shape_of, no_pairing, passing, pairing_in, final_chosen, final_bracket, penultimate_chosen, penultimate_bracket, paired_again, ordinary_chosen, brackets, round}
+use Rattle.dutch_pair.proofs.AllLemmas.{all_join}
+use Rattle.dutch_pair.proofs.GroupLemmas.{concat_scoregroups}
+use Rattle.dutch_pair.proofs.GroupWalk.{IsParted, parted_by, last_above, ordinary_above, ordinary_left, everybody_goes}
+use Rattle.dutch_pair.proofs.LowerLemmas.{EndsAt, lower_is, in_front, in_back, in_either, above_in}
+use Rattle.dutch_pair.proofs.WalkEnds.{above_again, collapsed_above}
+use Rattle.dutch_pair.proofs.WalkLemmas.{Descends, above_back}
+
+module _ (facts : Facts) where
+  -- a bracket stands above the lower players, above whom it has its shape
+  abbrev pub StandsAbove : Visit → Type 0
+  StandsAbove visit =
+      IsAbove facts visit.bracket (lower_of facts visit.bracket) × (shape_of facts visit.bracket (lower_of facts visit.bracket) ≡ Some visit.shape)
+
+  abbrev AllStand : List Visit → Type 0
+  AllStand visits = AllByRecursion StandsAbove visits
+
+  none_there : (place : ℕ) → None ≡ visit_at place []
+  none_there zero = refl
+  none_there (suc place) = refl
+
+  -- ---- the shape of a choice
+
+  picked : (stand : Stand) (lower : List ℕ) (shape : Shape) (made : Chosen) (found : Option Arrangement)
+      → option_map (λ (lists : Arrangement). let one : Chosen = record { shape = shape; lists = lists } in one) found ≡ Some made → Some shape ≡ Some made.shape
+  picked stand lower shape made None e = let bad : None ≡ Some made = e in cc
+  picked stand lower shape made (Some lists) e =
+      let same : (let one : Chosen = record { shape = shape; lists = lists } in one) ≡ made = cc in ap (λ (c : Chosen). Some c.shape) same
+
+  shape_at : (stand : Stand) (lower : List ℕ) (made : Chosen) (found : Option Shape) → choice_in facts stand lower found ≡ Some made → found ≡ Some made.shape
+  shape_at stand lower made None e = let bad : None ≡ Some made = e in cc
+  shape_at stand lower made (Some shape) e =
+      picked stand lower shape made (chosen (λ c d. is_better (quality_of facts stand lower c) (quality_of facts stand lower d)) (eligible facts stand lower shape)) e
+
+  shape_chosen : (stand : Stand) (lower : List ℕ) (made : Chosen) → choice facts stand lower ≡ Some made → shape_of facts stand lower ≡ Some made.shape
+  shape_chosen stand lower made e = shape_at stand lower made (shape_of facts stand lower) e
+
+  stands : (stand : Stand) (lower : List ℕ) (made : Chosen) → lower_of facts stand ≡ lower → IsAbove facts stand lower → choice facts stand lower ≡ Some made
+      → StandsAbove (record { bracket = stand; shape = made.shape })
+  stands stand lower made e above has =
+      (subst (IsAbove facts stand) (sym e) above, ap (shape_of facts stand) e ∙ shape_chosen stand lower made has)
+
+  -- ---- the bracket that ends a round
+
+  final_at : (stand : Stand) (found : Option Chosen) → choice facts stand [] ≡ found → lower_of facts stand ≡ [] → IsAbove facts stand [] → AllStand (final_chosen facts stand found).reached
+  final_at stand None e none above = tt
+  final_at stand (Some made) e none above = (stands stand [] made none above e, tt)
+
+  final_stands : (stand : Stand) → lower_of facts stand ≡ [] → IsAbove facts stand [] → AllStand (final_bracket facts stand).reached
+  final_stands stand none above = final_at stand (choice facts stand []) refl none above
+
+  -- ---- a bracket above lower players, behind some who are above them too
+
+  record IsPlaced (stand : Stand) (tops lower : List ℕ) : Type 0 where
+    above : IsAbove facts stand lower
+    ends : EndsAt facts stand.seats tops lower
+    goes : LeftGoOn facts stand lower
+    high : AreAbove facts tops lower
+    some : 0 < length lower
+
+  some_in : (xs : List ℕ) → 0 < length xs → (x : ℕ) × IsIn x xs
+  some_in [] h = absurd (omega (arith, h))
+  some_in (x ∷ xs) h = (x, inl refl)
+
+  collapsed_reached : (left tops lower : List ℕ) (y : ℕ) → 0 < length lower → AreAbove facts tops lower → IsIn y tops ⊎ IsIn y lower
+      → (a : ℕ) × IsIn a (left ++ lower) × (score_at facts a ≤ score_at facts y)
+  collapsed_reached left tops lower y some above (inl m) =
+      let one = some_in lower some in
+      let lt : score_at facts one.0 < score_at facts y = above_in facts tops lower y one.0 above m one.1 in
+      (one.0, in_back facts one.0 left lower one.1, omega (arith, lt))
+  collapsed_reached left tops lower y some above (inr m) = (y, in_back facts y left lower m, omega arith)
+
+  -- below the collapsed bracket there is nobody
+  collapsed_none : (number : ℕ) (left tops lower : List ℕ) → 0 < length lower → AreAbove facts tops lower → everybody facts ≡ tops ++ lower
+      → lower_of facts (bracket number Collapsed left lower) ≡ []
+  collapsed_none number left tops lower some above all =
+      lower_is facts (bracket number Collapsed left lower) (tops ++ lower) []
+      (record {
+        all = all ∙ sym (append-nil (tops ++ lower));
+        reached = λ y m. collapsed_reached left tops lower y some above (in_either facts y tops lower m);
+        below = λ a b m n. absurd n;
+      })
+
+  module _ (descends : Descends facts) where
+    penultimate_at : (stand : Stand) (tops lower : List ℕ) (found : Option Chosen) → IsPlaced stand tops lower → choice facts (paired_again stand) lower ≡ found
+        → AllStand (penultimate_chosen facts (paired_again stand) lower found).reached
+    penultimate_at stand tops lower None placed e = tt
+    penultimate_at stand tops lower (Some made) placed e =
+        let left : List ℕ = downfloaters facts (paired_again stand) made.lists in (
+          stands (paired_again stand) lower made (lower_is facts (paired_again stand) tops lower placed.ends) (above_again facts stand lower placed.above) e,
+          final_stands (bracket ((stand.number + 1) + 1) Collapsed left lower)
+              (collapsed_none ((stand.number + 1) + 1) left tops lower placed.some placed.high placed.ends.all)
+              (collapsed_above facts stand lower left made.lists ((stand.number + 1) + 1) descends placed.goes refl),
+        )
+
+    penultimate_stands : (stand : Stand) (tops lower : List ℕ) → IsPlaced stand tops lower → AllStand (penultimate_bracket facts stand lower).reached
+    penultimate_stands stand tops lower placed = penultimate_at stand tops lower (choice facts (paired_again stand) lower) placed refl
+
+    kept_at : (stand : Stand) (tops lower : List ℕ) (goes_on : List ℕ → Round) (made : Chosen) (t : Bool) → IsPlaced stand tops lower → choice facts stand lower ≡ Some made
+        → AllStand (goes_on (downfloaters facts stand made.lists)).reached
+        → AllStand (cond t (pairing_in facts stand made (goes_on (downfloaters facts stand made.lists))) (passing facts stand made (penultimate_bracket facts stand lower))).reached
+    kept_at stand tops lower goes_on made true placed e later =
+        (stands stand lower made (lower_is facts stand tops lower placed.ends) placed.above e, later)
+    kept_at stand tops lower goes_on made false placed e later =
+        (stands stand lower made (lower_is facts stand tops lower placed.ends) placed.above e, penultimate_stands stand tops lower placed)
+
+    ordinary_at : (stand : Stand) (tops lower : List ℕ) (goes_on : List ℕ → Round) (found : Option Chosen) → IsPlaced stand tops lower → choice facts stand lower ≡ found
+        → ((left : List ℕ) → Goes facts left lower → AllStand (goes_on left).reached)
+        → AllStand (ordinary_chosen facts stand lower goes_on found).reached
+    ordinary_at stand tops lower goes_on None placed e later = tt
+    ordinary_at stand tops lower goes_on (Some made) placed e later =
+        kept_at stand tops lower goes_on made (completable facts (downfloaters facts stand made.lists ++ lower)) placed e
+        (later (downfloaters facts stand made.lists) (placed.goes made.lists))
+
+    -- ---- all brackets
+
+    some_rest : (rest group : List ℕ) (groups : List (List ℕ)) → group ∷ groups ≡ scoregroups facts rest → 0 < length rest
+    some_rest [] group groups e = let bad : group ∷ groups ≡ [] = e in absurd (cc)
+    some_rest (x ∷ xs) group groups e = omega arith
+
+    parted_at : (md rest group : List ℕ) (groups : List (List ℕ)) → Goes facts md rest → group ∷ groups ≡ scoregroups facts rest → IsParted facts md rest group (concat groups)
+    parted_at md rest group groups goes e =
+        parted_by facts descends goes (some_rest rest group groups e) (ap concat e ∙ concat_scoregroups facts rest) (ap (first_group facts) e)
+
+    ends_reached : (md front rest group : List ℕ) (y : ℕ) → 0 < length group → AreAbove facts front rest → ((g : ℕ) → IsIn g group → IsIn g rest)
+        → IsIn y front ⊎ IsIn y group → (a : ℕ) × IsIn a (md ++ group) × (score_at facts a ≤ score_at facts y)
+    ends_reached md front rest group y some above inside (inl m) =
+        let one = some_in group some in
+        let lt : score_at facts one.0 < score_at facts y = above_in facts front rest y one.0 above m (inside one.0 one.1) in
+        (one.0, in_back facts one.0 md group one.1, omega (arith, lt))
+    ends_reached md front rest group y some above inside (inr m) = (y, in_back facts y md group m, omega arith)
+
+    ends_below : (md group lower : List ℕ) (a b : ℕ) → AreAbove facts md (group ++ lower) → AreAbove facts group lower → IsIn a md ⊎ IsIn a group → IsIn b lower
+        → score_at facts b < score_at facts a
+    ends_below md group lower a b high above (inl m) n = above_in facts md (group ++ lower) a b high m (in_back facts b group lower n)
+    ends_below md group lower a b high above (inr m) n = above_in facts group lower a b above m n
+
+    whole_rest : (rest group : List ℕ) (groups : List (List ℕ)) → group ∷ groups ≡ scoregroups facts rest → group ++ concat groups ≡ rest
+    whole_rest rest group groups e = ap concat e ∙ concat_scoregroups facts rest
+
+    ends_at : (md front rest group : List ℕ) (groups : List (List ℕ)) → Goes facts md rest → everybody facts ≡ front ++ rest → AreAbove facts front rest
+        → group ∷ groups ≡ scoregroups facts rest → EndsAt facts (md ++ group) (front ++ group) (concat groups)
+    ends_at md front rest group groups goes all above e =
+        let parts = parted_at md rest group groups goes e in
+        let whole : group ++ concat groups ≡ rest = whole_rest rest group groups e in
+        record {
+          all = all ∙ (ap (λ (xs : List ℕ). front ++ xs) (sym whole) ∙ sym (append_assoc front group (concat groups)));
+          reached = λ y m. ends_reached md front rest group y parts.some above
+              (λ g n. subst (IsIn g) whole (in_front facts g group (concat groups) n)) (in_either facts y front group m);
+          below = λ a b m n. ends_below md group (concat groups) a b parts.goes.above parts.above (in_either facts a md group m) n;
+        }
+
+    tops_above : (md front rest group : List ℕ) (groups : List (List ℕ)) → Goes facts md rest → AreAbove facts front rest → group ∷ groups ≡ scoregroups facts rest
+        → AreAbove facts (front ++ group) (concat groups)
+    tops_above md front rest group groups goes above e =
+        let parts = parted_at md rest group groups goes e in
+        let whole : group ++ concat groups ≡ rest = whole_rest rest group groups e in
+        all_join (λ a. AllByRecursion (λ b. score_at facts b < score_at facts a) (concat groups)) front group
+        (above_back facts descends front group (concat groups) (subst (AreAbove facts front) (sym whole) above)) parts.above
+
+    last_stands : (number : ℕ) (md front rest group : List ℕ) → Goes facts md rest → everybody facts ≡ front ++ rest → AreAbove facts front rest
+        → group ∷ [] ≡ scoregroups facts rest → AllStand (final_bracket facts (bracket number Last md group)).reached
+    last_stands number md front rest group goes all above e =
+        let stand : Stand = bracket number Last md group in
+        final_stands stand (lower_is facts stand (front ++ group) [] (ends_at md front rest group [] goes all above e))
+        (last_above facts (parted_at md rest group [] goes e) number md stand refl refl refl)
+
+    brackets_stand : (number : ℕ) (md front rest : List ℕ) (groups : List (List ℕ)) → groups ≡ scoregroups facts rest → Goes facts md rest
+        → everybody facts ≡ front ++ rest → AreAbove facts front rest → AllStand (brackets facts number md groups).reached
+    brackets_stand number md front rest [] e goes all above = tt
+    brackets_stand number md front rest (group ∷ []) e goes all above = last_stands number md front rest group goes all above e
+    brackets_stand number md front rest (group ∷ next ∷ groups) e goes all above =
+        let stand : Stand = bracket number Ordinary md group in
+        let lower : List ℕ = concat (next ∷ groups) in
+        let parts = parted_at md rest group (next ∷ groups) goes e in
+        let others : next ∷ groups ≡ scoregroups facts lower = ap (drop 1) (e ∙ parts.groups) in
+        let some : 0 < length lower = some_rest lower next groups others in
+        let ends : EndsAt facts (md ++ group) (front ++ group) lower = ends_at md front rest group (next ∷ groups) goes all above e in
+        let tops : AreAbove facts (front ++ group) lower = tops_above md front rest group (next ∷ groups) goes above e in
+        ordinary_at stand (front ++ group) lower (λ left. brackets facts (number + 1) left (next ∷ groups)) (choice facts stand lower)
+        (record {
+          above = ordinary_above facts parts number md stand refl some refl;
+          ends = ends;
+          goes = ordinary_left facts parts number md stand refl refl;
+          high = tops;
+          some = some;
+        }) refl
+        (λ left goes'. brackets_stand (number + 1) left (front ++ group) lower (next ∷ groups) others goes' ends.all tops)
+
+    round_at : (t : Bool) → AllStand (cond t (brackets facts 1 [] (scoregroups facts (everybody facts))) (no_pairing facts)).reached
+    round_at true = brackets_stand 1 [] [] (everybody facts) (scoregroups facts (everybody facts)) refl (everybody_goes facts [] (everybody facts) refl refl) refl tt
+    round_at false = tt
+
+    at_place : (place : ℕ) (visits : List Visit) (visit : Visit) → AllStand visits → visit_at place visits ≡ Some visit → StandsAbove visit
+    at_place place [] visit all e = let bad : None ≡ Some visit = none_there place ∙ e in absurd (cc)
+    at_place zero (first ∷ visits) visit all e = let same : first ≡ visit = cc in subst StandsAbove same all.0
+    at_place (suc place) (first ∷ visits) visit all e = at_place place visits visit all.1 e
+
+    pub bracket_stands : (number : ℕ) (visit : Visit) → visit_of number (round facts).reached ≡ Some visit → StandsAbove visit
+    bracket_stands zero visit e = let bad : None ≡ Some visit = e in absurd (cc)
+    bracket_stands (suc place) visit e =
+        at_place place (round facts).reached visit (round_at (completable facts (everybody facts))) e
