@@ -229,8 +229,7 @@ struct Keeps<'a> {
 }
 
 impl<'a> Bound for Keeps<'a> {
-    ghost use Rattle.std.specs.Prelude.{not, ◌&&◌, [], ◌∷◌};
-    ghost use Rattle.dutch_order.specs.Choices.{is_same};
+    ghost use Rattle.std.specs.Prelude.{not, ◌==◌, ◌&&◌, ◌||◌, slice_index};
 
     ghost frame = { λ k. k.bracket.now };
 
@@ -240,10 +239,19 @@ impl<'a> Bound for Keeps<'a> {
 
     ghost may_be_left = { λ k. ⟦<Barred as Rule>⟧.may_be_left k.rule.now };
 
-    ghost is_dull = { λ k a. not k.all && not (is_same a.s1r (1 ∷ 2 ∷ [])) };
+    ghost is_dull = { λ k a. not k.all && (not (slice_index a.s1r 0 == 1) || not (slice_index a.s1r 1 == 2)) };
 
     fn cannot_win(&self, prefix: &Prefix<'_>) -> bool {
-        !self.all && prefix.filling() == Filling::S2r && prefix.s1r() != [1, 2].as_slice()
+        if self.all {
+            return false;
+        }
+        let Filling::S2r = prefix.filling() else {
+            return false;
+        };
+        let [one, two] = prefix.s1r() else {
+            return false;
+        };
+        *one != 1 || *two != 2
     }
 }
 
