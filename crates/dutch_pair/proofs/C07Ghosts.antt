@@ -46,7 +46,7 @@ in_filter p x (y ∷ ys) m =
       | false ↦ λ m. inr (in_filter p x ys m)
     ] m
 
-none_lower_than_none : (xs : List ℕ) → is_lower xs [] ≡ false
+pub none_lower_than_none : (xs : List ℕ) → is_lower xs [] ≡ false
 none_lower_than_none [] = refl
 none_lower_than_none (x ∷ xs) = refl
 
@@ -129,7 +129,7 @@ no_value_has_more_than_half_the_players_in_pairs facts stand = by_shape (greates
         subst (λ (o : Option Shape). IsNotBetter (value_of_shape facts stand o) (length stand.seats / 2) []) (sym e)
         (not_more (value_of_shape facts stand (Some s)) (subst (λ k. s.pairs ≤ k / 2) count few))
 
-all_same : (P : ℕ → Type 0) (f : ℕ → ℕ) (s : ℕ) → ((i : ℕ) → P i → f i ≡ s) → (xs : List ℕ) → AllByRecursion P xs → map f xs ≡ repeated s (length xs)
+pub all_same : (P : ℕ → Type 0) (f : ℕ → ℕ) (s : ℕ) → ((i : ℕ) → P i → f i ≡ s) → (xs : List ℕ) → AllByRecursion P xs → map f xs ≡ repeated s (length xs)
 all_same P f s each [] all = refl
 all_same P f s each (x ∷ xs) all = ap (λ y. y ∷ map f xs) (each x all.0) ∙ ap (λ ys. s ∷ ys) (all_same P f s each xs all.1)
 

@@ -10,6 +10,7 @@ pub mod eligible;
 pub mod examples;
 pub mod fault;
 pub mod floats;
+mod ghost_laws;
 mod ghost_value;
 mod ghosts;
 mod greatest;
