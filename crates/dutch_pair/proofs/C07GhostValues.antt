@@ -1,6 +1,6 @@
 -- No arrangement that leaves the Limbo of the first S1 has a better value of the next bracket than ghosts find (C.04.3 C.7); and in a
 -- bracket where all S1 leave the same scores, all arrangements do.
-use Rattle.std.proofs.Common.{◌≡◌, ℕ, zero, suc, ◌+◌, ◌-◌, ◌<◌, ◌≤◌, Bool, true, false, not, nat_lt, cond, List, [], ◌∷◌, map, filter, length, ◌⊎◌, inl, inr, Option, Some, None, refl, sym, ap, ◌∙◌, arith, subst}
+use Rattle.std.proofs.Common.{◌≡◌, ℕ, ◌+◌, ◌-◌, ◌<◌, ◌≤◌, true, not, nat_lt, cond, List, [], ◌∷◌, map, filter, length, inl, inr, Option, Some, None, refl, sym, ap, ◌∙◌, arith, subst}
 use Rattle.std.specs.Prelude.{slice_index}
 use Rattle.std.specs.List.{AllByRecursion}
 use Rattle.std.proofs.lemmas.List.{length-map}
@@ -15,7 +15,7 @@ use Rattle.dutch_pair.specs.declared.reached.Kind.TheVariants.{Ordinary}
 use Rattle.dutch_pair.specs.Seated.{seat_of, score_at}
 use Rattle.dutch_pair.specs.Reached.{Stand, IsOf, frame_of}
 use Rattle.dutch_pair.specs.Quality.{NextValue}
-use Rattle.dutch_pair.specs.NextBracket.{is_lower, value_in, IsFlat, IsNext}
+use Rattle.dutch_pair.specs.NextBracket.{value_in, IsFlat, IsNext}
 use Rattle.dutch_pair.specs.PsdFloors.{repeated, IsUniform}
 use Rattle.dutch_pair.specs.Round.{downfloaters}
 use Rattle.dutch_pair.specs.Ghosts.{IsNotBetter, ghosts_meet, ghost_may_be_left, ghost_frame, ghost_floor}
