@@ -3,7 +3,7 @@
 -- First for one bracket and a weaker rule: it finds as many pairs or more, and where as many, no PSD is below the floor. Then for the next
 -- bracket: ghosts with the scores of the downfloaters make the same bracket by scores, and whoever meets a downfloater meets the ghost in
 -- his place.
-use Rattle.std.proofs.Common.{◌≡◌, ℕ, zero, suc, ◌+◌, ◌-◌, ◌*◌, ◌/◌, ◌<◌, ◌≤◌, Bool, true, false, not, ◌&&◌, nat_le, cond, List, [], ◌∷◌, ◌++◌, map, filter, length, get_or, ◌⊎◌, inl, inr, Option, Some, None, refl, sym, ap, ◌∙◌, arith, subst, length-append}
+use Rattle.std.proofs.Common.{◌≡◌, ℕ, ◌+◌, ◌-◌, ◌*◌, ◌/◌, ◌<◌, ◌≤◌, Bool, true, false, not, ◌&&◌, nat_le, cond, List, [], ◌∷◌, ◌++◌, map, filter, length, get_or, ◌⊎◌, inl, inr, Option, Some, None, refl, sym, ap, ◌∙◌, arith, subst, length-append}
 use Rattle.std.specs.Prelude.{◌==◌, slice_index, if◌then◌else◌}
 use Rattle.std.specs.List.{AllByRecursion, list_any}
 use Rattle.std.proofs.lemmas.Bool.Decides.{nat_tests}
@@ -14,10 +14,10 @@ use Rattle.dutch_order.specs.Choices.{numbers_from, is_member}
 use Rattle.dutch_order.specs.Keys.{IsIn}
 use Rattle.dutch_order.specs.Draws.{Draw}
 use Rattle.dutch_order.specs.Arrangements.{Frame, Arrangement, left_of, remainder_pairs, arrangements, candidates, is_legal, down}
-use Rattle.dutch_player.specs.Facts.{Facts, seat_at}
+use Rattle.dutch_player.specs.Facts.{Facts}
 use Rattle.dutch_player.specs.Meetings.{may_meet}
 use Rattle.dutch_pair.specs.declared.reached.Kind.TheVariants.{Ordinary}
-use Rattle.dutch_pair.specs.Seated.{seat_of, score_at, AllNumbers}
+use Rattle.dutch_pair.specs.Seated.{seat_of, score_at}
 use Rattle.dutch_pair.specs.Reached.{Stand, IsOf, frame_of, is_number, numbers_meet, number_may_be_left}
 use Rattle.dutch_pair.specs.Quality.{NextValue, highest_first}
 use Rattle.dutch_pair.specs.Shapes.{has_member, greatest_shape}
@@ -33,7 +33,7 @@ use Rattle.dutch_pair.proofs.DownLemmas.{down_numbers}
 use Rattle.dutch_pair.proofs.NextBrackets.{next_of, next_flat}
 use Rattle.dutch_pair.proofs.PsdParts.{down_parts}
 use Rattle.dutch_order.proofs.Lists.{map-numbers_from}
-use Rattle.dutch_pair.proofs.C07WeakerRules.{either, a_weaker_rule_has_no_fewer_pairs, found_fits, found_few, always_a_shape}
+use Rattle.dutch_pair.proofs.C07WeakerRules.{a_weaker_rule_has_no_fewer_pairs, found_fits, found_few, always_a_shape}
 use Rattle.dutch_pair.proofs.C07PsdFloor.{no_psd_is_below_the_floor}
 use Rattle.dutch_pair.proofs.ShapeSearch.{fits_by_test, first_has}
 use Rattle.dutch_pair.specs.Shapes.{shapes}
@@ -46,7 +46,7 @@ in_filter p x (y ∷ ys) m =
       | false ↦ λ m. inr (in_filter p x ys m)
     ] m
 
-none_lower_than_none : (xs : List ℕ) → is_lower xs [] ≡ false
+pub none_lower_than_none : (xs : List ℕ) → is_lower xs [] ≡ false
 none_lower_than_none [] = refl
 none_lower_than_none (x ∷ xs) = refl
 
@@ -87,10 +87,10 @@ value_found facts stand of' flat most s e few =
       | inr same ↦ inr (
         same,
         ap (λ k. is_lower (value_of_shape facts stand (Some s)).psd (floor_psd facts stand (resident_score facts stand) k)) (sym same)
-        ∙ lowest_of (psd_in facts stand) (floor_psd facts stand (resident_score facts stand) s.pairs) (legal_in facts stand s)
-        (first_has (legal_in facts stand) (λ shape. true) (shapes frame) s e)
-        (λ a m. no_psd_is_below_the_floor facts stand of' flat s a (fits_by_test frame s (found_fits (legal_in facts stand) frame s e)).within_pairs
-        (in_filter (is_legal (numbers_meet facts stand) (number_may_be_left facts stand) frame) a (arrangements frame s) m)),
+            ∙ lowest_of (psd_in facts stand) (floor_psd facts stand (resident_score facts stand) s.pairs) (legal_in facts stand s)
+            (first_has (legal_in facts stand) (λ shape. true) (shapes frame) s e)
+            (λ a m. no_psd_is_below_the_floor facts stand of' flat s a (fits_by_test frame s (found_fits (legal_in facts stand) frame s e)).within_pairs
+            (in_filter (is_legal (numbers_meet facts stand) (number_may_be_left facts stand) frame) a (arrangements frame s) m)),
       )
     ]
 
@@ -119,6 +119,7 @@ no_value_has_more_than_half_the_players_in_pairs facts stand = by_shape (greates
   where
     not_more : (value : NextValue) → value.pairs ≤ length stand.seats / 2 → IsNotBetter value (length stand.seats / 2) []
     not_more value few = elim (two_ways value.pairs (length stand.seats / 2) few) [ inl less ↦ inl less | inr same ↦ inr (same, none_lower_than_none value.psd) ]
+
     by_shape : (o : Option Shape) → greatest_shape (legal_in facts stand) (frame_of facts stand) ≡ o
         → IsNotBetter (value_of_shape facts stand (greatest_shape (legal_in facts stand) (frame_of facts stand))) (length stand.seats / 2) []
     by_shape None e =
@@ -129,7 +130,7 @@ no_value_has_more_than_half_the_players_in_pairs facts stand = by_shape (greates
         subst (λ (o : Option Shape). IsNotBetter (value_of_shape facts stand o) (length stand.seats / 2) []) (sym e)
         (not_more (value_of_shape facts stand (Some s)) (subst (λ k. s.pairs ≤ k / 2) count few))
 
-all_same : (P : ℕ → Type 0) (f : ℕ → ℕ) (s : ℕ) → ((i : ℕ) → P i → f i ≡ s) → (xs : List ℕ) → AllByRecursion P xs → map f xs ≡ repeated s (length xs)
+pub all_same : (P : ℕ → Type 0) (f : ℕ → ℕ) (s : ℕ) → ((i : ℕ) → P i → f i ≡ s) → (xs : List ℕ) → AllByRecursion P xs → map f xs ≡ repeated s (length xs)
 all_same P f s each [] all = refl
 all_same P f s each (x ∷ xs) all = ap (λ y. y ∷ map f xs) (each x all.0) ∙ ap (λ ys. s ∷ ys) (all_same P f s each xs all.1)
 

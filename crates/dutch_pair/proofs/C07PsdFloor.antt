@@ -5,7 +5,7 @@
 -- them stand at the difference e in the floor. For e from 3 on the arrangement has h (e - 2) copies of e where the floor has h e. So if
 -- both agree above some d from 3 on, then h is zero from d - 1 on, since it is zero far out; and at d the arrangement has no fewer copies. If both agree
 -- above 2, nobody is left over at all, and the two lists are the same.
-use Rattle.std.proofs.Common.{◌≡◌, ℕ, zero, suc, ◌+◌, ◌-◌, ◌*◌, ◌<◌, ◌≤◌, true, false, cond, not, eqb, List, [], ◌∷◌, ◌++◌, map, filter, length, ◌⊎◌, inl, inr, refl, sym, ap, ◌∙◌, arith, subst, length-append}
+use Rattle.std.proofs.Common.{◌≡◌, ℕ, zero, suc, ◌+◌, ◌-◌, ◌*◌, ◌<◌, ◌≤◌, false, not, eqb, List, [], ◌∷◌, ◌++◌, map, filter, length, ◌⊎◌, inl, inr, refl, sym, ap, ◌∙◌, arith}
 use Rattle.std.specs.List.{AllByRecursion}
 use Rattle.std.proofs.lemmas.Bool.{ne_eqb, eq-eqb}
 use Rattle.std.proofs.lemmas.Bool.Decides.{nat_tests}

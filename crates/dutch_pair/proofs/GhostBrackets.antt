@@ -1,15 +1,15 @@
 -- Ghosts in front of the next scoregroup are a bracket (C.04.3 C.7): the scores of the Limbo, those of the residents who go down, and
 -- those of the next lower scoregroup do not ascend, and they are at most 256.
-use Rattle.std.proofs.Common.{◌≡◌, ℕ, zero, suc, ◌+◌, ◌-◌, ◌*◌, ◌<◌, ◌≤◌, min, List, [], ◌∷◌, ◌++◌, map, length, get_or, ◌⊎◌, inl, inr, refl, sym, ap, ◌∙◌, arith, length-append}
+use Rattle.std.proofs.Common.{◌≡◌, ℕ, zero, suc, ◌+◌, ◌-◌, ◌<◌, ◌≤◌, min, List, ◌++◌, map, length, get_or, ◌⊎◌, inl, inr, sym, ap, ◌∙◌, arith, length-append}
 use Rattle.std.specs.Prelude.{slice_index}
 use Rattle.std.proofs.lemmas.List.{length-map, get_or-map}
 use Rattle.dutch_order.specs.declared.bracket.Shape.{Shape}
 use Rattle.dutch_order.specs.Choices.{numbers_from}
-use Rattle.dutch_order.specs.Arrangements.{IsBracket, remainder_pairs}
+use Rattle.dutch_order.specs.Arrangements.{IsBracket}
 use Rattle.dutch_order.proofs.Members.{length-numbers}
 use Rattle.dutch_player.specs.Facts.{Facts}
 use Rattle.dutch_pair.specs.Seated.{seat_of, score_at}
-use Rattle.dutch_pair.specs.Reached.{Stand, IsOf, frame_of}
+use Rattle.dutch_pair.specs.Reached.{Stand, IsOf}
 use Rattle.dutch_pair.specs.NextBracket.{IsFlat, IsNext}
 use Rattle.dutch_pair.specs.ColourFloors.{residents_down}
 use Rattle.dutch_pair.specs.PsdFloors.{repeated}

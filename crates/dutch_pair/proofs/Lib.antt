@@ -5,6 +5,7 @@ pub mod C04Ghosts
 pub mod C07WeakerRules
 pub mod C07PsdFloor
 pub mod C07Ghosts
+pub mod C07GhostValues
 pub mod GhostBrackets
 pub mod RepeatedLemmas
 pub mod ArrangementParts

@@ -12,6 +12,7 @@ pub mod examples;
 pub mod fault;
 pub mod floats;
 mod floor_laws;
+mod ghost_laws;
 mod ghost_value;
 mod ghosts;
 mod greatest;

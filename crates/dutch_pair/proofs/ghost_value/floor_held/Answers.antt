@@ -1,5 +1,5 @@
 -- The three parts put one behind another are the floor.
-use Rattle.std.proofs.Common.{◌≡◌, ℕ, ◌+◌, ◌-◌, ◌*◌, ◌≤◌, true, false, nat_lt, cond, List, [], ◌++◌, map, length, ap, sym, ◌∙◌, arith}
+use Rattle.std.proofs.Common.{◌≡◌, ℕ, ◌+◌, ◌-◌, ◌*◌, ◌≤◌, false, nat_lt, cond, List, [], ◌++◌, map, length, ap, sym, ◌∙◌, arith}
 use Rattle.std.proofs.lemmas.Bool.Decides.{nat_tests}
 use Rattle.dutch_pair.specs.PsdFloors.{repeated}
 use Rattle.dutch_pair.specs.Quality.{placed_all}

@@ -1,5 +1,5 @@
 -- Ghosts with the scores of those whom the first S1 leaves are a bracket, and its greatest shape gives the value.
-use Rattle.std.proofs.Common.{◌≡◌, ℕ, ◌/◌, ◌≤◌, List, length, sym, ap, ◌∙◌, subst, arith}
+use Rattle.std.proofs.Common.{◌≡◌, ℕ, List, length, sym, ap, ◌∙◌, subst, arith}
 use Rattle.dutch_order.specs.Arrangements.{Frame, IsBracket}
 use Rattle.dutch_pair.specs.Ghosts.{ghost_frame}
 use Rattle.dutch_pair.specs.GhostValues.{first_ghosts}

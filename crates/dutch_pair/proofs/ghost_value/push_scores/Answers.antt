@@ -1,5 +1,5 @@
 -- One score more stands behind those added so far.
-use Rattle.std.proofs.Common.{◌≡◌, map, ap, ◌∙◌, ◌++◌, arith}
+use Rattle.std.proofs.Common.{map, ap, ◌∙◌, ◌++◌, arith}
 use Rattle.std.proofs.lemmas.List.{take_all}
 use Rattle.dutch_pair.specs.Seated.{score_at}
 use Rattle.dutch_pair.proofs.TakenSteps.{made_behind}
