@@ -1,6 +1,7 @@
 pub mod AllLemmas
 pub mod ArrangementParts
 pub mod BestLemmas
+pub mod BitLemmas
 pub mod BoardLemmas
 pub mod ChoiceLemmas
 pub mod ColourSeats
@@ -13,6 +14,8 @@ pub mod FlatBrackets
 pub mod GroupLemmas
 pub mod MoverSeats
 pub mod NextBrackets
+pub mod PairMisses
+pub mod PairPlaces
 pub mod PairSearch
 pub mod NextGroups
 pub mod TakenSteps

@@ -25,3 +25,5 @@ pub mod PsdFloors
 pub mod Floors
 pub mod Ghosts
 pub mod Aims
+pub mod BitTables
+pub mod PairFacts

@@ -24,7 +24,7 @@ pub enum Miss {
     StrongPreference,
 }
 
-fn is_same(mine: Colour, theirs: Colour) -> bool
+pub(crate) fn is_same(mine: Colour, theirs: Colour) -> bool
     ensures { result ≡ is_same mine theirs }
 {
     match (mine, theirs) {

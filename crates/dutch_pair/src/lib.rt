@@ -1,6 +1,7 @@
 // Pairings of a round by the FIDE (Dutch) System: who can be paired out, and who meets whom, specified by lists of pairs.
 #![tactic(auto)]
 
+mod bit_table;
 pub mod boards;
 pub mod choice;
 pub mod colours_missed;
@@ -13,6 +14,8 @@ pub mod floats;
 pub mod group;
 pub mod laws;
 pub mod lookahead;
+mod pair_facts;
+mod player_facts;
 pub mod quality;
 pub mod reached;
 pub mod round;
