@@ -1,5 +1,5 @@
 -- Of a pair one misses his preference where both want one colour, and else nobody.
-use Rattle.std.proofs.Common.{◌≡◌, ℕ, ◌+◌, ◌<◌, Bool, true, false, not, if◌then◌else◌, nat_lt, Option, Some, None, refl, sym, ap, ◌∙◌, arith}
+use Rattle.std.proofs.Common.{◌≡◌, ℕ, ◌+◌, ◌<◌, Bool, true, false, not, ◌&&◌, ◌≤◌, ◌*◌, if◌then◌else◌, nat_lt, Option, Some, None, refl, sym, ap, ◌∙◌, arith}
 use Rattle.std.specs.Option.{option_map_or}
 use Rattle.trf16.specs.declared.cell.Colour.{Colour}
 use Rattle.trf16.specs.declared.cell.Colour.TheVariants.{White, Black}
@@ -7,8 +7,8 @@ use Rattle.dutch_player.specs.declared.preference.Pref.{Pref}
 use Rattle.dutch_player.specs.Preferences.{other, is_same, preference}
 use Rattle.dutch_player.specs.Facts.{Facts, SeatFacts, seat_at}
 use Rattle.dutch_player.specs.Colours.{granted, with_colour, colour_of_higher, colours}
-use Rattle.dutch_pair.specs.declared.colours_missed.Miss.TheVariants.{Preference}
-use Rattle.dutch_pair.specs.Quality.{one_if, misses, count_of_both, count_in}
+use Rattle.dutch_pair.specs.declared.colours_missed.Miss.TheVariants.{Preference, StrongPreference}
+use Rattle.dutch_pair.specs.Quality.{one_if, is_strong, misses, count_of_both, count_in}
 use Rattle.dutch_pair.specs.PairFacts.{collide}
 
 -- a colour is not that of a preference
@@ -78,3 +78,26 @@ pair_misses facts a b = either_misses facts a b (nat_lt a b)
 pub pair_sym : (facts : Facts) (a b : ℕ) → count_in facts (misses Preference) (a, b) ≡ count_in facts (misses Preference) (b, a)
 pair_sym facts a b =
     pair_misses facts a b ∙ (ap one_if (collide_sym (wish facts a) (wish facts b)) ∙ sym (pair_misses facts b a))
+
+-- a strong preference that is missed is a preference that is missed
+and_less : (s t : Bool) → one_if (s && t) ≤ one_if t
+and_less true t = omega arith
+and_less false t = omega arith
+
+strong_less : (p : Option Pref) (colour : Colour)
+    → one_if (option_map_or (λ wanted. is_strong wanted.kind && not (is_same wanted.colour colour)) p false) ≤ one_if (unmet p colour)
+strong_less (Some p) colour = and_less (is_strong p.kind) (not (is_same p.colour colour))
+strong_less None colour = omega arith
+
+strong_in_both : (facts : Facts) (both : ℕ × ℕ) → count_of_both facts (misses StrongPreference) both ≤ count_of_both facts (misses Preference) both
+strong_in_both facts both =
+    let white = strong_less (wish facts both.0) White in
+    let black = strong_less (wish facts both.1) Black in
+    omega (arith, white, black)
+
+pub no_strong_miss : (facts : Facts) (pair : ℕ × ℕ) (test : Bool) → count_in facts (misses Preference) pair ≡ one_if test → test ≡ false
+    → 0 ≡ count_in facts (misses StrongPreference) pair
+no_strong_miss facts pair test e h =
+    let less = strong_in_both facts (colours facts pair.0 pair.1) in
+    let none : count_in facts (misses Preference) pair ≡ 0 = e ∙ ap one_if h in
+    omega (arith, less, none)

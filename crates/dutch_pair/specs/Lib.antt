@@ -27,3 +27,4 @@ pub mod Ghosts
 pub mod Aims
 pub mod BitTables
 pub mod PairFacts
+pub mod FloorOf

@@ -4,6 +4,7 @@
 mod bit_table;
 pub mod boards;
 pub mod choice;
+mod colour_floor;
 pub mod colours_missed;
 pub mod completion;
 pub mod differences;
