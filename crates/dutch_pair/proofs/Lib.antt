@@ -1,5 +1,6 @@
 pub mod AllLemmas
 pub mod ArrangementParts
+pub mod BegunLemmas
 pub mod BestLemmas
 pub mod BitLemmas
 pub mod BoardLemmas

@@ -1,5 +1,5 @@
 -- The floor of a beginning, by what is fixed in it: a quality that no candidate with it is better than (C.04.3 C.6 to C.19).
-use Rattle.std.specs.Prelude.{ℕ, ◌+◌, ◌-◌, ◌*◌, Bool, true, false, ◌&&◌, ◌||◌, ◌==◌, nat_lt, nat_le, if◌then◌else◌, List, [], ◌++◌, length, max, sum_by}
+use Rattle.std.specs.Prelude.{ℕ, ◌+◌, ◌-◌, ◌*◌, ◌≤◌, Bool, true, false, ◌&&◌, ◌||◌, ◌==◌, nat_lt, nat_le, if◌then◌else◌, List, [], ◌++◌, length, max, sum_by}
 use Rattle.std.specs.List.{list_all}
 use Rattle.trf16.specs.declared.cell.Colour.{Colour}
 use Rattle.trf16.specs.declared.cell.Colour.TheVariants.{White, Black}
@@ -12,7 +12,7 @@ use Rattle.dutch_order.specs.Prefixes.{Beginning}
 use Rattle.dutch_player.specs.Facts.{Facts}
 use Rattle.dutch_pair.specs.Quality.{Quality, NextValue, psd}
 use Rattle.dutch_pair.specs.Reached.{Stand, is_number}
-use Rattle.dutch_pair.specs.Seated.{seat_of, score_at}
+use Rattle.dutch_pair.specs.Seated.{seat_of, score_at, AllNumbers}
 use Rattle.dutch_pair.specs.Beginnings.{fixed, in_both}
 use Rattle.dutch_pair.specs.ColourFloors.{wants, wants_firmly, more_missed, more_missed_strong, lonely}
 use Rattle.dutch_pair.specs.PsdFloors.{psd_with}
@@ -54,11 +54,11 @@ is_uniform facts stand shape =
     (shape.mdps == 0) || ((shape.mdps == stand.mdps) || (score_at facts (seat_of stand.seats 1) == score_at facts (seat_of stand.seats stand.mdps)))
 
 -- C.6: what S1 tells where all residents have one score; else the differences of the pairs that are fixed
-abbrev pub psd_of : Ground → Beginning → List ℕ
-psd_of ground b =
+abbrev pub psd_by : Filling → Ground → Arrangement → List ℕ
+psd_by filling ground lists =
     if is_flat ground.facts ground.stand
-    then psd_with ground.facts ground.stand ground.shape (residents_score ground.facts ground.stand) (s1_by b.filling ground.shape b.lists.s1)
-    else psd ground.facts (fixed ground.facts ground.stand (fixed_lists b))
+    then psd_with ground.facts ground.stand ground.shape (residents_score ground.facts ground.stand) (s1_by filling ground.shape lists.s1)
+    else psd ground.facts (fixed ground.facts ground.stand lists)
 
 -- C.10: how many more miss than in the pairs that are fixed; lonely players are known where S1R is chosen
 abbrev pub more_by : Filling → Ground → Arrangement → ℕ
@@ -67,11 +67,15 @@ more_by S2 ground lists = more_missed ground.facts ground.stand ground.shape lis
 more_by S2r ground lists =
     max (more_missed ground.facts ground.stand ground.shape lists) (lonely ground.facts ground.stand ground.shape lists)
 
+-- the floor by the list that is being filled and those that are fixed
+abbrev pub floor_by : Filling → Ground → Arrangement → Quality
+floor_by filling ground lists =
+    floor_with ground.facts ground.stand (psd_by filling ground lists) ground.next (more_by filling ground lists)
+    (more_missed_strong ground.facts ground.stand ground.shape lists) lists
+
 -- the floor of a beginning
 abbrev pub floor_of : Ground → Beginning → Quality
-floor_of ground b =
-    floor_with ground.facts ground.stand (psd_of ground b) ground.next (more_by b.filling ground (fixed_lists b))
-    (more_missed_strong ground.facts ground.stand ground.shape (fixed_lists b)) (fixed_lists b)
+floor_of ground b = floor_by b.filling ground (fixed_lists b)
 
 -- all are numbers of a bracket
 abbrev pub are_numbers : Stand → List ℕ → Bool
@@ -108,3 +112,13 @@ surplus_in w stand shape pairs =
 abbrev pub more_in : Bool → Facts → Stand → Shape → List (ℕ × ℕ) → ℕ
 more_in firm facts stand shape pairs =
     max (surplus_in (wish_of firm facts White) stand shape pairs) (surplus_in (wish_of firm facts Black) stand shape pairs)
+
+-- lists of numbers of a bracket: of those who meet the second is not the longer one, and they make at most 256 pairs
+pub record HasNumbers (stand : Stand) (lists : Arrangement) : Type 0 where
+  pub s1 : AllNumbers stand.seats lists.s1
+  pub s2 : AllNumbers stand.seats lists.s2
+  pub s1r : AllNumbers stand.seats lists.s1r
+  pub s2r : AllNumbers stand.seats lists.s2r
+  pub moved_down : length lists.s2 ≤ length lists.s1
+  pub residents : length lists.s2r ≤ length lists.s1r
+  pub few : length lists.s2 + length lists.s2r ≤ 256

@@ -1,6 +1,7 @@
 // Pairings of a round by the FIDE (Dutch) System: who can be paired out, and who meets whom, specified by lists of pairs.
 #![tactic(auto)]
 
+mod begun;
 mod bit_table;
 pub mod boards;
 pub mod choice;
@@ -17,6 +18,7 @@ pub mod laws;
 pub mod lookahead;
 mod pair_facts;
 mod player_facts;
+mod psd_floor;
 pub mod quality;
 pub mod reached;
 pub mod round;

@@ -23,13 +23,14 @@ pub(crate) struct PairFacts<'a> {
 }
 
 impl<'a> Model for PairFacts<'a> {
+    ghost use Rattle.std.specs.Prelude.{◌≤◌, length};
     ghost use Rattle.dutch_pair.specs.PairFacts.{FieldBracket, KnowsPairs};
 
     ghost Value = { FieldBracket };
 
     ghost view = { λ p. p.players };
 
-    ghost invariant = { λ p. KnowsPairs p.players p.suiting };
+    ghost invariant = { λ p. (KnowsPairs p.players p.suiting) × (length p.players.stand.seats ≤ 256) };
 }
 
 /// Where the table has two numbers, which are 1 to 256.
@@ -115,11 +116,11 @@ impl<'a> PairFacts<'a> {
         ensures rises { budget.old.used ≤ budget.new.used }
         ensures within { budget.new.used ≤ budget.new.limit }
     {
-        let count = reached.seats().len() as u64;
-        if !spend(count * count.saturating_sub(1) / 2, budget) {
+        let players = PlayerFacts::new(field, reached);
+        let count = players.len();
+        if !spend((count * count.saturating_sub(1) / 2) as u64, budget) {
             return None;
         }
-        let players = PlayerFacts::new(field, reached);
         let suiting = noted(&players);
         Some(PairFacts { players, suiting })
     }
@@ -131,10 +132,10 @@ impl<'a> PairFacts<'a> {
         &self.players
     }
 
-    /// Whether two numbers, which are 1 to 256, suit each other. It says no of one that is not the bracket's.
+    /// Whether two numbers of the bracket suit each other.
     pub(crate) fn suits(&self, x: u16, y: u16) -> bool
-        requires first { (0 < x) × (x ≤ LIMIT) }
-        requires second { (0 < y) × (y ≤ LIMIT) }
+        requires first { (0 < x) × (x ≤ length self.now.stand.seats) }
+        requires second { (0 < y) × (y ≤ length self.now.stand.seats) }
         ensures { result ≡ suits self.now.facts self.now.stand x y }
     {
         self.suiting.has(place_of(x, y))

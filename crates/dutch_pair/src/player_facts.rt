@@ -4,7 +4,10 @@ ghost use Rattle.dutch_player.specs.Facts.{seat_at};
 ghost use Rattle.dutch_player.specs.Preferences.{preference, is_same};
 ghost use Rattle.dutch_pair.specs.declared.colours_missed.Miss.TheVariants.{Preference};
 ghost use Rattle.dutch_pair.specs.Quality.{one_if, misses, count_in};
+ghost use Rattle.arrayvec.specs.ArrayVec.{array_vec_len};
+ghost use Rattle.dutch_order.specs.Choices.{numbers_from};
 ghost use Rattle.dutch_pair.specs.Reached.{IsOf};
+ghost use Rattle.dutch_pair.specs.Seated.{seat_of, score_at, AllNumbers};
 ghost use Rattle.dutch_pair.specs.ColourFloors.{is_firm, wants, wants_firmly, suits};
 ghost use Rattle.dutch_pair.specs.PairFacts.{preferences_of, collide};
 
@@ -12,7 +15,7 @@ use crate::colours_missed::is_same;
 use crate::reached::Reached;
 use crate::seated::Pair;
 use arrayvec::ArrayVec;
-use dutch_order::numbers::LIMIT;
+use dutch_order::numbers::{LIMIT, Numbers, numbered_from};
 use dutch_order::rules::Rule;
 use dutch_player::field::Field;
 use dutch_player::preference::{Kind, Pref};
@@ -104,6 +107,24 @@ impl<'a> PlayerFacts<'a> {
         ensures few { result ≤ LIMIT }
     {
         self.reached.seats().len()
+    }
+
+    /// The score of a number of the bracket, in half points: at most 64.
+    pub(crate) fn score(&self, number: u16) -> u16
+        requires { (0 < number) × (number ≤ length self.now.stand.seats) }
+        ensures value { result ≡ score_at self.now.facts (seat_of self.now.stand.seats number) }
+        ensures few { result ≤ 64 }
+    {
+        self.field.score(self.reached.seat(number))
+    }
+
+    /// The numbers of the moved-down players.
+    pub(crate) fn moved_down(&self) -> Numbers
+        ensures items { result.items ≡ numbers_from 1 self.now.stand.mdps }
+        ensures len { array_vec_len result ≡ self.now.stand.mdps }
+        ensures numbers { AllNumbers self.now.stand.seats result.items }
+    {
+        numbered_from(1, self.reached().mdps())
     }
 
     fn preference(&self, seat: u16) -> Option<Pref>
