@@ -13,6 +13,7 @@ pub mod EligibleLemmas
 pub mod LeastPsd
 pub mod FlatBrackets
 pub mod GroupLemmas
+pub mod LonelyLemmas
 pub mod MoverSeats
 pub mod NextBrackets
 pub mod PairMisses

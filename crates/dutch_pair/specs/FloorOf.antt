@@ -122,3 +122,4 @@ pub record HasNumbers (stand : Stand) (lists : Arrangement) : Type 0 where
   pub moved_down : length lists.s2 ≤ length lists.s1
   pub residents : length lists.s2r ≤ length lists.s1r
   pub few : length lists.s2 + length lists.s2r ≤ 256
+  pub few_first : length lists.s1r ≤ 256
