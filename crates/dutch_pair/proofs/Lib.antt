@@ -30,6 +30,7 @@ pub mod ShapeSearch
 pub mod TellLemmas
 pub mod WalkLemmas
 pub mod FirstLemmas
+pub mod FloorLemmas
 pub mod WalkEnds
 pub mod GroupWalk
 pub mod RoundEnds

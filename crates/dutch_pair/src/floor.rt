@@ -1,12 +1,14 @@
 // The floor of a beginning: a quality that no candidate with it is better than (C.04.3 C.6 to C.19). It is asked at each beginning
 // that a choice comes to, so it takes no memory and looks at each player a few times.
-ghost use Rattle.std.specs.Prelude.{◌≡◌, ◌≤◌, ◌||◌, ◌&&◌, true, false, length, MatchOption};
+ghost use Rattle.std.specs.Prelude.{◌≡◌, ◌<◌, ◌≤◌, ◌||◌, ◌&&◌, true, false, length, MatchOption};
 ghost use Rattle.dutch_order.specs.Arrangements.{Fits};
 ghost use Rattle.dutch_order.specs.declared.numbers.TheConstants.{LIMIT};
 ghost use Rattle.dutch_pair.specs.QualityIn.{quality_in};
-ghost use Rattle.dutch_pair.specs.Reached.{frame_of};
-ghost use Rattle.dutch_pair.specs.Seated.{all_pairs, AllPairs};
-ghost use Rattle.dutch_pair.specs.FloorOf.{HasNumbers, is_flat, is_uniform, is_known, has_s1, psd_by, more_by, floor_by, floor_of};
+ghost use Rattle.dutch_pair.specs.Beginnings.{fixed};
+ghost use Rattle.dutch_pair.specs.PsdFloors.{psd_with};
+ghost use Rattle.dutch_pair.specs.Reached.{IsOf, frame_of};
+ghost use Rattle.dutch_pair.specs.Seated.{all_pairs, AllNumbers, AllPairs, HasSeats};
+ghost use Rattle.dutch_pair.specs.FloorOf.{HasNumbers, is_flat, is_uniform, is_known, has_s1, residents_score, psd_by, more_by, floor_by, floor_of};
 
 use crate::begun::{Begun, fixed, fixed_lists, is_of_shape};
 use crate::colour_floor::{missed, missed_strong, more_missed};
@@ -87,7 +89,7 @@ impl<'a> Floors<'a> {
     /// The floors of a shape, for the best that the next bracket can be.
     pub(crate) fn new(pairs: PairFacts<'a>, shape: Shape, next: NextValue) -> Floors<'a>
         requires { Fits (frame_of pairs.facts pairs.stand) shape }
-        ensures { result ≡ record { facts = pairs.facts; stand = pairs.stand; shape = shape; next = next } }
+        ensures { result ≡ record { facts = pairs.entry.facts; stand = pairs.entry.stand; shape = shape; next = next } }
     {
         let flat = is_flat(pairs.players());
         let uniform = is_uniform(pairs.players(), shape);
@@ -112,20 +114,102 @@ impl<'a> Floors<'a> {
         }
     }
 
+    /// The shape, and that the bracket has room for it.
+    #[tactic(auto, using(crate::proofs::FloorLemmas::small_pairs))]
+    fn shape(&self) -> Shape
+        ensures value { result ≡ self.now.shape }
+        ensures fits { Fits (frame_of self.now.facts self.now.stand) self.now.shape }
+        ensures of { IsOf self.now.facts self.now.stand }
+        ensures small { result.pairs ≤ LIMIT }
+    {
+        let _reached = self.pairs.players().reached();
+        self.shape
+    }
+
+    /// The PSD that S1 gives where all residents have one score.
+    #[tactic(auto, using(crate::proofs::FloorLemmas::has_room))]
+    fn psd_with(&self, s1: &[u16]) -> Numbers
+        requires resident { self.now.stand.mdps < length self.now.stand.seats }
+        requires numbers { AllNumbers self.now.stand.seats s1.now }
+        requires few { length s1.now ≤ self.now.shape.mdps }
+        ensures { result.items ≡ psd_with self.now.facts self.now.stand self.now.shape (residents_score self.now.facts self.now.stand) s1.now }
+    {
+        let players = self.pairs.players();
+        let score = players.score(players.reached().mdps() as u16 + 1);
+        psd_with(players, self.shape(), score, s1)
+    }
+
     /// How many more miss than in the pairs that are fixed (C.10).
     fn more_by(&self, filling: Filling, begun: &Begun<'_>, pairs: &[Pair]) -> usize
         requires numbers { HasNumbers self.now.stand begun.now }
         requires pairs { pairs.now ≡ all_pairs self.now.stand.seats begun.now }
         requires inside { AllPairs self.now.facts pairs.now }
         requires few { length pairs.now ≤ LIMIT }
-        requires small { self.now.shape.pairs ≤ LIMIT }
         ensures value { result ≡ more_by filling self.now begun.now }
         ensures few { result ≤ LIMIT }
     {
-        let more = more_missed(self.pairs.players(), self.shape, pairs, false);
+        let shape = self.shape();
+        let more = more_missed(self.pairs.players(), shape, pairs, false);
         match filling {
             Filling::S1 | Filling::S2 => return more,
-            Filling::S2r => return more.max(lonely(&self.pairs, self.shape, begun)),
+            Filling::S2r => return more.max(lonely(&self.pairs, shape, begun)),
         }
+    }
+
+    /// The PSD (C.6).
+    #[tactic(auto, using(crate::proofs::FloorLemmas::first_numbers))]
+    fn psd_by(&self, filling: Filling, begun: &Begun<'_>, seated: &Seated) -> Numbers
+        requires seated { seated.now ≡ fixed self.now.facts self.now.stand begun.now }
+        requires inside { HasSeats self.now.facts seated.now }
+        requires numbers { AllNumbers self.now.stand.seats begun.now.s1 }
+        requires few { length begun.now.s1 ≤ self.now.shape.mdps }
+        ensures { result.items ≡ psd_by filling self.now begun.now }
+    {
+        let shape = self.shape();
+        if !self.flat {
+            return psd(self.pairs.players().field(), seated);
+        }
+        match filling {
+            Filling::S1 => return self.psd_with(&numbered_from(1, shape.mdps)),
+            Filling::S2 | Filling::S2r => return self.psd_with(begun.s1),
+        }
+    }
+
+    /// The floor by the list that is being filled and those that are fixed.
+    fn floor_by(&self, filling: Filling, begun: &Begun<'_>) -> Quality
+        requires numbers { HasNumbers self.now.stand begun.now }
+        requires few { length begun.now.s1 ≤ self.now.shape.mdps }
+        ensures { quality_in result ≡ floor_by filling self.now begun.now }
+    {
+        let players = self.pairs.players();
+        let shape = self.shape();
+        let seated = fixed(players, begun);
+        let more = self.more_by(filling, begun, &seated.pairs);
+        let more_strong = more_missed(players, shape, &seated.pairs, true);
+        let given = Given {
+            psd: self.psd_by(filling, begun, &seated),
+            next: self.next(),
+            missed_preferences: missed(players, &seated.pairs) + more as u16,
+            missed_strong: missed_strong(players, &seated.pairs) + more_strong as u16,
+        };
+        quality_by(players.field(), &seated, given)
+    }
+
+    /// The floor of a beginning. None is known where its lists are not of the bracket and the shape, or where S1 is not chosen and
+    /// it matters which is.
+    #[tactic(auto, using(crate::proofs::FloorLemmas::numbers_fit, crate::proofs::FloorLemmas::first_few))]
+    pub(crate) fn floor(&self, prefix: &Prefix<'_>) -> Option<Quality>
+        ensures { MatchOption result (is_known self.now prefix.now ≡ false)
+            (λ f. (is_known self.now prefix.now ≡ true) × (quality_in f ≡ floor_of self.now prefix.now)) }
+    {
+        let begun = fixed_lists(prefix);
+        let shape = self.shape();
+        if !is_of_shape(self.pairs.players().reached(), shape, &begun) {
+            return None;
+        }
+        if !has_s1(prefix.filling()) && !self.uniform {
+            return None;
+        }
+        Some(self.floor_by(prefix.filling(), &begun))
     }
 }
