@@ -16,7 +16,7 @@ all_within facts seats [] p h i lt = absurd (omega arith)
 all_within facts seats (number ∷ numbers) p h zero lt = seat_within facts seats number p h.0
 all_within facts seats (number ∷ numbers) p h (suc i) lt = all_within facts seats numbers p h.1 i (omega arith)
 
-pairs_within : (facts : Facts) (seats firsts seconds : List ℕ) → AreSeats facts seats → AllNumbers seats firsts → AllNumbers seats seconds
+pub pairs_within : (facts : Facts) (seats firsts seconds : List ℕ) → AreSeats facts seats → AllNumbers seats firsts → AllNumbers seats seconds
     → AllPairs facts (pairs_of seats firsts seconds)
 pairs_within facts seats [] seconds p h g = tt
 pairs_within facts seats (a ∷ firsts) [] p h g = tt

@@ -9,7 +9,9 @@ pub mod C07GhostValues
 pub mod GhostBrackets
 pub mod RepeatedLemmas
 pub mod ArrangementParts
+pub mod BegunLemmas
 pub mod BestLemmas
+pub mod BitLemmas
 pub mod BoardLemmas
 pub mod C06Psd
 pub mod C08ToC19Fixed
@@ -25,8 +27,11 @@ pub mod LeastPsd
 pub mod FlatBrackets
 pub mod FloorOrder
 pub mod GroupLemmas
+pub mod LonelyLemmas
 pub mod MoverSeats
 pub mod NextBrackets
+pub mod PairMisses
+pub mod PairPlaces
 pub mod PairSearch
 pub mod PairsWithBeginning
 pub mod NextGroups
@@ -42,6 +47,7 @@ pub mod TellLemmas
 pub mod WalkLemmas
 pub mod FixedPairs
 pub mod FirstLemmas
+pub mod FloorLemmas
 pub mod WalkEnds
 pub mod GroupWalk
 pub mod RoundEnds

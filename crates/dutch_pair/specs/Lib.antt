@@ -29,3 +29,6 @@ pub mod GhostRules
 pub mod GhostLaws
 pub mod GhostValues
 pub mod Aims
+pub mod BitTables
+pub mod PairFacts
+pub mod FloorOf

@@ -1,6 +1,9 @@
 -- The items of a quality, as they stand in its fields.
 use Rattle.dutch_pair.specs.declared.quality.Quality.{Quality as Fields}
-use Rattle.dutch_pair.specs.Quality.{Quality}
+use Rattle.std.specs.Prelude.{ℕ, List}
+use Rattle.dutch_player.specs.Facts.{Facts}
+use Rattle.dutch_pair.specs.Seated.{Seated}
+use Rattle.dutch_pair.specs.Quality.{Quality, NextValue, quality_with}
 
 -- a quality by what stands in its fields
 abbrev pub quality_in : Fields → Quality
@@ -21,3 +24,16 @@ quality_in q = record {
   down_again_before_by = q.down_again_before_by.items;
   up_again_before_by = q.up_again_before_by.items;
 }
+
+-- what a quality says of the differences, of the next bracket, and of missed preferences: C.6, C.7, C.10, C.11
+pub record Given : Type 0 where
+  pub psd : List ℕ
+  pub next : NextValue
+  pub missed_preferences : ℕ
+  pub missed_strong : ℕ
+
+-- a quality with items that are given, the others being those of a candidate by seats
+abbrev pub quality_by : Facts → Seated → Given → Quality
+quality_by facts candidate given =
+    let k = quality_with facts candidate given.next in
+    record k { psd = given.psd; missed_preferences = given.missed_preferences; missed_strong = given.missed_strong }

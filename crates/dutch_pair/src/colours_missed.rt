@@ -24,7 +24,7 @@ pub enum Miss {
     StrongPreference,
 }
 
-fn is_same(mine: Colour, theirs: Colour) -> bool
+pub(crate) fn is_same(mine: Colour, theirs: Colour) -> bool
     ensures { result ≡ is_same mine theirs }
 {
     match (mine, theirs) {
@@ -100,7 +100,7 @@ fn misses(field: &Field, miss: Miss, seat: u16, colour: Colour) -> bool
 }
 
 /// How many of the two players of a pair miss so.
-fn count_in(field: &Field, miss: Miss, pair: Pair) -> u16
+pub(crate) fn count_in(field: &Field, miss: Miss, pair: Pair) -> u16
     requires first { pair.0 < length field.now.seats }
     requires second { pair.1 < length field.now.seats }
     ensures value { result ≡ count_in field.now (misses miss) pair }

@@ -1,9 +1,12 @@
 // Pairings of a round by the FIDE (Dutch) System: who can be paired out, and who meets whom, specified by lists of pairs.
 #![tactic(auto)]
 
+mod begun;
+mod bit_table;
 pub mod boards;
 pub mod choice;
 mod colour_floor_laws;
+mod colour_floor;
 pub mod colours_missed;
 pub mod completion;
 pub mod differences;
@@ -16,11 +19,16 @@ mod ghost_laws;
 mod ghost_value;
 mod ghosts;
 mod greatest;
+mod floor;
 pub mod group;
 pub mod laws;
+mod lonely;
 pub mod lookahead;
 pub mod order_laws;
 pub mod lower;
+mod pair_facts;
+mod player_facts;
+mod psd_floor;
 pub mod quality;
 pub mod reached;
 pub mod round;

@@ -1,14 +1,14 @@
 // The quality of a candidate, by which candidates of one shape are compared (C.04.3 C.6 to C.19), specified item by item.
 ghost use Rattle.std.specs.Prelude.{◌≡◌};
-ghost use Rattle.dutch_pair.specs.Seated.{by_seats, AreSeats, IsCandidate};
+ghost use Rattle.dutch_pair.specs.Seated.{by_seats, AreSeats, HasSeats, IsCandidate};
 ghost use Rattle.dutch_pair.specs.Quality.{quality_with, is_better};
 ghost use Rattle.dutch_pair.specs.NextBracket.{no_value};
-ghost use Rattle.dutch_pair.specs.QualityIn.{quality_in};
+ghost use Rattle.dutch_pair.specs.QualityIn.{quality_in, quality_by};
 
 use crate::colours_missed::{Miss, count_in_pairs, count_with_topscorers};
 use crate::differences::psd;
 use crate::floats::{again, going_down, going_up};
-use crate::seated::by_seats;
+use crate::seated::{Seated, by_seats};
 use dutch_order::candidate::Candidate;
 use dutch_order::numbers::Numbers;
 use dutch_player::field::Field;
@@ -178,28 +178,43 @@ impl Quality {
     }
 }
 
-/// The quality of a candidate of a bracket with these seats, for a value of the next bracket.
+/// What a quality says of the differences, of the next bracket, and of missed preferences (C.6, C.7, C.10, C.11).
+#[derive(Debug, Drop)]
+pub(crate) struct Given {
+    pub(crate) psd: Numbers,
+    pub(crate) next: NextValue,
+    pub(crate) missed_preferences: u16,
+    pub(crate) missed_strong: u16,
+}
+
+impl Model for Given {
+    ghost use Rattle.dutch_pair.specs.QualityIn.{Given};
+
+    ghost Value = { Given };
+
+    ghost view = { λ g. record { psd = g.psd.items; next = g.next; missed_preferences = g.missed_preferences; missed_strong = g.missed_strong } };
+}
+
+/// A quality with items that are given, the others being those of a candidate by seats.
 #[tactic(auto, using(crate::proofs::Places::length_differences))]
-pub fn quality_with(field: &Field, seats: &[u16], candidate: &Candidate, next: NextValue) -> Quality
-    requires bracket { AreSeats field.now seats.now }
-    requires candidate { IsCandidate seats.now candidate.now }
-    ensures { quality_in result ≡ quality_with field.now (by_seats field.now seats.now candidate.now) next }
+pub(crate) fn quality_by(field: &Field, candidate: &Seated, given: Given) -> Quality
+    requires { HasSeats field.now candidate.now }
+    ensures { quality_in result ≡ quality_by field.now candidate.now given }
 {
-    let candidate = by_seats(field, seats, candidate);
-    let down = going_down(field, &candidate);
-    let up = going_up(field, &candidate);
+    let down = going_down(field, candidate);
+    let up = going_up(field, candidate);
     let down_again_by = again(field, Float::Down, 1, &down);
     let up_again_by = again(field, Float::Up, 1, &up);
     let down_again_before_by = again(field, Float::Down, 2, &down);
     let up_again_before_by = again(field, Float::Up, 2, &up);
     Quality {
-        psd: psd(field, &candidate),
-        next_pairs: Reverse(next.pairs),
-        next_psd: next.psd,
+        psd: given.psd,
+        next_pairs: Reverse(given.next.pairs),
+        next_psd: given.next.psd,
         wide_differences: count_with_topscorers(field, Miss::Wide, &candidate.pairs),
         third_colours: count_with_topscorers(field, Miss::Third, &candidate.pairs),
-        missed_preferences: count_in_pairs(field, Miss::Preference, &candidate.pairs),
-        missed_strong: count_in_pairs(field, Miss::StrongPreference, &candidate.pairs),
+        missed_preferences: given.missed_preferences,
+        missed_strong: given.missed_strong,
         down_again: down_again_by.len(),
         up_again: up_again_by.len(),
         down_again_before: down_again_before_by.len(),
@@ -209,4 +224,20 @@ pub fn quality_with(field: &Field, seats: &[u16], candidate: &Candidate, next: N
         down_again_before_by,
         up_again_before_by,
     }
+}
+
+/// The quality of a candidate of a bracket with these seats, for a value of the next bracket.
+pub fn quality_with(field: &Field, seats: &[u16], candidate: &Candidate, next: NextValue) -> Quality
+    requires bracket { AreSeats field.now seats.now }
+    requires candidate { IsCandidate seats.now candidate.now }
+    ensures { quality_in result ≡ quality_with field.now (by_seats field.now seats.now candidate.now) next }
+{
+    let candidate = by_seats(field, seats, candidate);
+    let given = Given {
+        psd: psd(field, &candidate),
+        next,
+        missed_preferences: count_in_pairs(field, Miss::Preference, &candidate.pairs),
+        missed_strong: count_in_pairs(field, Miss::StrongPreference, &candidate.pairs),
+    };
+    quality_by(field, &candidate, given)
 }

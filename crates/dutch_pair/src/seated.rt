@@ -58,7 +58,7 @@ fn lowest_upto(field: &Field, least: u16, seats: &[u16]) -> u16
 }
 
 /// The lowest score of some seats.
-fn lowest(field: &Field, seats: &[u16]) -> u16
+pub(crate) fn lowest(field: &Field, seats: &[u16]) -> u16
     requires { AreSeats field.now seats.now }
     ensures { result ≡ lowest field.now seats.now }
 {
@@ -125,7 +125,7 @@ pub(crate) fn goes_up(field: &Field, pair: Pair) -> Mover
 }
 
 /// Adds the pairs of two lists of numbers, place by place.
-fn push_pairs(seats: &[u16], firsts: &[u16], seconds: &[u16], pairs: &mut ArrayVec<Pair, LIMIT>)
+pub(crate) fn push_pairs(seats: &[u16], firsts: &[u16], seconds: &[u16], pairs: &mut ArrayVec<Pair, LIMIT>)
     requires first { AllNumbers seats.now firsts.now }
     requires second { AllNumbers seats.now seconds.now }
     requires equal { length firsts.now ≡ length seconds.now }

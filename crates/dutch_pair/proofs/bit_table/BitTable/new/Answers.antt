@@ -1,0 +1,6 @@
+-- In words of zeros no bit is set.
+use Rattle.dutch_pair.proofs.BitLemmas.{none_set}
+use Rattle.dutch_pair.proofs.bit_table.BitTable.new.Goals as goal
+
+pub returns : goal.returns
+returns c = none_set 1024

@@ -1,0 +1,11 @@
+-- One of a pair misses where both want one colour.
+use Rattle.std.proofs.Common.{◌∙◌, ap, sym}
+use Rattle.dutch_pair.specs.Quality.{one_if}
+use Rattle.dutch_pair.specs.PairFacts.{collide}
+use Rattle.dutch_pair.proofs.PairMisses.{pair_misses}
+use Rattle.dutch_pair.proofs.player_facts.PlayerFacts.has_miss.Goals as goal
+
+pub returns : goal.returns
+returns c =
+    pair_misses c.args.self.now.facts c.args.pair.0 c.args.pair.1
+    ∙ ap one_if (sym (c.collide.ensures ∙ ap (λ p. collide p c.preference-2.result) c.preference.ensures ∙ ap (collide _) c.preference-2.ensures))

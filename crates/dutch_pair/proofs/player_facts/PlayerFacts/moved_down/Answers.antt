@@ -1,0 +1,22 @@
+-- The moved-down players are numbers of the bracket.
+use Rattle.std.proofs.Common.{◌≡◌, ◌∙◌, ℕ, ◌+◌, ◌≤◌, List, length, map, ap, sym, subst, arith}
+use Rattle.std.proofs.lemmas.List.{length-map}
+use Rattle.dutch_order.specs.Choices.{numbers_from}
+use Rattle.dutch_order.proofs.Members.{length-numbers}
+use Rattle.dutch_pair.specs.Reached.{Stand}
+use Rattle.dutch_pair.specs.Seated.{score_at, AllNumbers}
+use Rattle.dutch_pair.proofs.ArrangementParts.{numbers_within}
+use Rattle.dutch_pair.proofs.player_facts.PlayerFacts.moved_down.Goals as goal
+
+pub returns-clause-len : goal.returns-clause-len
+returns-clause-len c =
+    ap length c.numbered_from.ensures.items ∙ (length-numbers 1 c.mdps.result ∙ (c.mdps.ensures ∙ ap (λ (s : Stand). s.mdps) c.reached.ensures.value))
+
+pub returns-clause-numbers : goal.returns-clause-numbers
+returns-clause-numbers c =
+    let same : c.mdps.result ≡ c.args.self.now.stand.mdps = c.mdps.ensures ∙ ap (λ (s : Stand). s.mdps) c.reached.ensures.value in
+    let within : c.args.self.now.stand.mdps ≤ length (map (score_at c.args.self.now.facts) c.args.self.now.stand.seats) = c.reached.ensures.sound.sound.within in
+    let counted = length-map c.args.self.now.stand.seats (score_at c.args.self.now.facts) in
+    let few : c.mdps.result ≤ length c.args.self.now.stand.seats = omega (arith, same, within, counted) in
+    subst (AllNumbers c.args.self.now.stand.seats) (sym c.numbered_from.ensures.items)
+    (numbers_within 0 1 c.mdps.result (length c.args.self.now.stand.seats) (omega arith) (omega (arith, few)))

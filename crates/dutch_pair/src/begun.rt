@@ -1,0 +1,119 @@
+// The lists that a beginning fixes, and the pairs that they make (C.04.3 B.6, B.7).
+ghost use Rattle.std.specs.Prelude.{◌≡◌, ◌≤◌, ◌&&◌, true, length};
+ghost use Rattle.arrayvec.specs.ArrayVec.{array_vec_len};
+ghost use Rattle.dutch_order.specs.declared.numbers.TheConstants.{LIMIT};
+ghost use Rattle.dutch_pair.specs.Seated.{AllPairs, HasSeats, all_pairs};
+ghost use Rattle.dutch_pair.specs.Beginnings.{fixed};
+ghost use Rattle.dutch_pair.specs.FloorOf.{HasNumbers, fixed_lists, are_numbers, is_of_shape};
+
+use crate::player_facts::PlayerFacts;
+use crate::reached::Reached;
+use crate::seated::{Pair, Seated, lowest, push_pairs};
+use arrayvec::ArrayVec;
+use dutch_order::bracket::Shape;
+use dutch_order::numbers::{LIMIT, Numbers};
+use dutch_order::prefix::{Filling, Prefix};
+use std::marker::Model;
+
+/// The lists that a beginning fixes.
+#[derive(Drop)]
+pub(crate) struct Begun<'a> {
+    pub(crate) s1: &'a [u16],
+    pub(crate) s2: &'a [u16],
+    pub(crate) s1r: &'a [u16],
+    pub(crate) s2r: &'a [u16],
+}
+
+impl<'a> Model for Begun<'a> {
+    ghost use Rattle.dutch_order.specs.Arrangements.{Arrangement};
+
+    ghost Value = { Arrangement };
+
+    ghost view = { λ b. record { s1 = b.s1.now; s2 = b.s2.now; s1r = b.s1r.now; s2r = b.s2r.now } };
+}
+
+/// The lists that a beginning fixes.
+pub(crate) fn fixed_lists<'a>(prefix: &'a Prefix<'_>) -> Begun<'a>
+    ensures { result ≡ fixed_lists prefix.now }
+{
+    match prefix.filling() {
+        Filling::S1 => {
+            return Begun {
+                s1: &[],
+                s2: &[],
+                s1r: &[],
+                s2r: &[],
+            };
+        }
+        Filling::S2 => {
+            return Begun {
+                s1: prefix.s1(),
+                s2: prefix.s2(),
+                s1r: &[],
+                s2r: &[],
+            };
+        }
+        Filling::S2r => {
+            return Begun {
+                s1: prefix.s1(),
+                s2: prefix.s2(),
+                s1r: prefix.s1r(),
+                s2r: prefix.s2r(),
+            };
+        }
+    }
+}
+
+/// Whether all are numbers of a bracket.
+fn are_numbers(reached: &Reached, numbers: &[u16]) -> bool
+    ensures { result ≡ are_numbers reached.now numbers.now }
+{
+    for number in numbers {
+        if !reached.has(*number) {
+            return false;
+        }
+    }
+    true
+}
+
+/// Whether lists are of numbers of the bracket, and have room in a shape.
+pub(crate) fn is_of_shape(reached: &Reached, shape: Shape, begun: &Begun<'_>) -> bool
+    ensures { result ≡ is_of_shape reached.now shape begun.now }
+{
+    let numbers = are_numbers(reached, begun.s1)
+        && are_numbers(reached, begun.s2)
+        && are_numbers(reached, begun.s1r)
+        && are_numbers(reached, begun.s2r);
+    let moved_down = begun.s1.len() <= shape.mdps && begun.s2.len() <= begun.s1.len();
+    let residents = begun.s1r.len() <= shape.pairs.saturating_sub(shape.mdps)
+        && begun.s2r.len() <= begun.s1r.len();
+    numbers && (moved_down && residents)
+}
+
+/// The pairs that lists make, by seats.
+#[tactic(auto, using(crate::proofs::BegunLemmas::front_pairs, crate::proofs::BegunLemmas::front_numbers, crate::proofs::BegunLemmas::fixed_within))]
+pub(crate) fn fixed_pairs(players: &PlayerFacts<'_>, begun: &Begun<'_>) -> ArrayVec<Pair, LIMIT>
+    requires { HasNumbers players.now.stand begun.now }
+    ensures items { result.items ≡ all_pairs players.now.stand.seats begun.now }
+    ensures inside { AllPairs players.now.facts result.items }
+    ensures few { length result.items ≤ LIMIT }
+{
+    let seats = players.reached().seats();
+    let mut pairs = ArrayVec::new();
+    push_pairs(seats, &begun.s1[..begun.s2.len()], begun.s2, &mut pairs);
+    push_pairs(seats, &begun.s1r[..begun.s2r.len()], begun.s2r, &mut pairs);
+    pairs
+}
+
+/// Lists by seats: their pairs, and nobody who goes down.
+pub(crate) fn fixed(players: &PlayerFacts<'_>, begun: &Begun<'_>) -> Seated
+    requires { HasNumbers players.now.stand begun.now }
+    ensures value { result ≡ fixed players.now.facts players.now.stand begun.now }
+    ensures inside { HasSeats players.now.facts result }
+{
+    Seated {
+        pairs: fixed_pairs(players, begun),
+        down: Numbers::new(),
+        lowest: lowest(players.field(), players.reached().seats()),
+    }
+}

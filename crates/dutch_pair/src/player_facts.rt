@@ -1,0 +1,188 @@
+// What floors ask about the players of a bracket, read once (C.04.3 A.6, C.10, C.11).
+ghost use Rattle.std.specs.Prelude.{◌≡◌, ◌<◌, ◌≤◌, length};
+ghost use Rattle.dutch_player.specs.Facts.{seat_at};
+ghost use Rattle.dutch_player.specs.Preferences.{preference, is_same};
+ghost use Rattle.dutch_pair.specs.declared.colours_missed.Miss.TheVariants.{Preference};
+ghost use Rattle.dutch_pair.specs.Quality.{one_if, misses, count_in};
+ghost use Rattle.arrayvec.specs.ArrayVec.{array_vec_len};
+ghost use Rattle.dutch_order.specs.Choices.{numbers_from};
+ghost use Rattle.dutch_pair.specs.Reached.{IsOf};
+ghost use Rattle.dutch_pair.specs.Seated.{seat_of, score_at, AllNumbers};
+ghost use Rattle.dutch_pair.specs.ColourFloors.{is_firm, wants, wants_firmly, suits, residents_down};
+ghost use Rattle.dutch_pair.specs.PairFacts.{preferences_of, collide};
+
+use crate::colours_missed::is_same;
+use crate::reached::Reached;
+use crate::seated::Pair;
+use arrayvec::ArrayVec;
+use dutch_order::bracket::Shape;
+use dutch_order::numbers::{LIMIT, Numbers, numbered_from};
+use dutch_order::rules::Rule;
+use dutch_player::field::Field;
+use dutch_player::preference::{Kind, Pref};
+use std::marker::Model;
+use trf16::cell::Colour;
+
+/// A bracket of a field, and the colour preferences of the field's players.
+#[derive(Drop)]
+pub(crate) struct PlayerFacts<'a> {
+    field: &'a Field,
+    reached: &'a Reached,
+    // by seat
+    preferences: ArrayVec<Option<Pref>, LIMIT>,
+}
+
+impl<'a> Model for PlayerFacts<'a> {
+    ghost use Rattle.std.specs.Prelude.{◌≡◌};
+    ghost use Rattle.dutch_pair.specs.Reached.{IsOf};
+    ghost use Rattle.dutch_pair.specs.PairFacts.{FieldBracket, preferences_of};
+
+    ghost Value = { FieldBracket };
+
+    ghost view = { λ p. record { facts = p.field.now; stand = p.reached.now } };
+
+    ghost invariant = { λ p. (IsOf p.field.now p.reached.now) × (p.preferences.items ≡ preferences_of p.field.now) };
+}
+
+/// The colour preferences of a field's players, by seat.
+fn read_preferences(field: &Field) -> ArrayVec<Option<Pref>, LIMIT>
+    ensures { result.items ≡ preferences_of field.now }
+{
+    let mut own = ArrayVec::new();
+    for seat in 0..field.len() {
+        own.push(field.preference(seat as u16));
+    }
+    own
+}
+
+fn is_firm(kind: Kind) -> bool
+    ensures { result ≡ is_firm kind }
+{
+    match kind {
+        Kind::Absolute | Kind::Strong => true,
+        Kind::Mild => false,
+    }
+}
+
+/// Two preferences are for one colour.
+fn collide(one: Option<Pref>, other: Option<Pref>) -> bool
+    ensures { result ≡ collide one other }
+{
+    match (one, other) {
+        (Some(one), Some(other)) => is_same(one.colour, other.colour),
+        _ => false,
+    }
+}
+
+impl<'a> PlayerFacts<'a> {
+    /// Reads the preferences.
+    pub(crate) fn new(field: &'a Field, reached: &'a Reached) -> PlayerFacts<'a>
+        requires { IsOf field.now reached.now }
+        ensures { result ≡ record { facts = field.now; stand = reached.now } }
+    {
+        PlayerFacts {
+            field,
+            reached,
+            preferences: read_preferences(field),
+        }
+    }
+
+    /// The field.
+    pub(crate) fn field(&self) -> &Field
+        ensures { result.now ≡ self.now.facts }
+    {
+        self.field
+    }
+
+    /// The bracket.
+    pub(crate) fn reached(&self) -> &Reached
+        ensures value { result.now ≡ self.now.stand }
+        ensures sound { IsOf self.now.facts self.now.stand }
+    {
+        self.reached
+    }
+
+    /// How many players the bracket has.
+    pub(crate) fn len(&self) -> usize
+        ensures value { result ≡ length self.now.stand.seats }
+        ensures few { result ≤ LIMIT }
+    {
+        self.reached.seats().len()
+    }
+
+    /// The score of a number of the bracket, in half points: at most 64.
+    pub(crate) fn score(&self, number: u16) -> u16
+        requires { (0 < number) × (number ≤ length self.now.stand.seats) }
+        ensures value { result ≡ score_at self.now.facts (seat_of self.now.stand.seats number) }
+        ensures few { result ≤ 64 }
+    {
+        self.field.score(self.reached.seat(number))
+    }
+
+    /// How many residents go down with a shape.
+    pub(crate) fn residents_down(&self, shape: Shape) -> usize
+        requires { shape.pairs ≤ LIMIT }
+        ensures { result ≡ residents_down self.now.stand shape }
+    {
+        let residents = self.len().saturating_sub(self.reached.mdps());
+        let pairs = shape.pairs.saturating_sub(shape.mdps);
+        residents.saturating_sub(shape.mdps).saturating_sub(2 * pairs)
+    }
+
+    /// The numbers of the moved-down players.
+    pub(crate) fn moved_down(&self) -> Numbers
+        ensures items { result.items ≡ numbers_from 1 self.now.stand.mdps }
+        ensures len { array_vec_len result ≡ self.now.stand.mdps }
+        ensures numbers { AllNumbers self.now.stand.seats result.items }
+    {
+        numbered_from(1, self.reached().mdps())
+    }
+
+    fn preference(&self, seat: u16) -> Option<Pref>
+        requires { seat < length self.now.facts.seats }
+        ensures { result ≡ preference (seat_at self.now.facts seat).played }
+    {
+        self.preferences[usize::from(seat)]
+    }
+
+    /// 1 for a seat whose preference is this colour.
+    pub(crate) fn wants(&self, colour: Colour, seat: u16) -> u16
+        requires { seat < length self.now.facts.seats }
+        ensures value { result ≡ wants self.now.facts colour seat }
+        ensures one { result ≤ 1 }
+    {
+        match self.preference(seat) {
+            Some(wanted) => u16::from(is_same(wanted.colour, colour)),
+            None => 0,
+        }
+    }
+
+    /// 1 for a seat whose preference is this colour, and firm.
+    pub(crate) fn wants_firmly(&self, colour: Colour, seat: u16) -> u16
+        requires { seat < length self.now.facts.seats }
+        ensures value { result ≡ wants_firmly self.now.facts colour seat }
+        ensures one { result ≤ 1 }
+    {
+        match self.preference(seat) {
+            Some(wanted) => u16::from(is_firm(wanted.kind) && is_same(wanted.colour, colour)),
+            None => 0,
+        }
+    }
+
+    /// Whether one of a pair misses his preference (C.10): both never do.
+    pub(crate) fn has_miss(&self, pair: Pair) -> bool
+        requires first { pair.0 < length self.now.facts.seats }
+        requires second { pair.1 < length self.now.facts.seats }
+        ensures { count_in self.now.facts (misses Preference) pair ≡ one_if result }
+    {
+        collide(self.preference(pair.0), self.preference(pair.1))
+    }
+
+    /// Whether two numbers may meet, and neither misses his preference. It says no of a number that is not the bracket's.
+    pub(crate) fn suits(&self, x: u16, y: u16) -> bool
+        ensures { result ≡ suits self.now.facts self.now.stand x y }
+    {
+        self.reached.rule(self.field).may_meet(x, y)
+            && !self.has_miss((self.reached.seat(x), self.reached.seat(y)))
+    }
+}
