@@ -1,24 +1,19 @@
 -- The best that the next bracket can be, as it is known before any candidate is looked at (C.04.3 C.7).
-use Rattle.std.specs.Prelude.{◌≡◌, ℕ, ◌≤◌, Bool, false, ◌&&◌, if◌then◌else◌, List, map, Option, Some, None}
+use Rattle.std.specs.Prelude.{◌≡◌, ℕ, ◌≤◌, Bool, true, false, if◌then◌else◌, List, map, Option, Some, None}
 use Rattle.dutch_order.specs.declared.bracket.Shape.{Shape}
 use Rattle.dutch_order.specs.declared.prefix.Filling.{Filling}
 use Rattle.dutch_order.specs.declared.prefix.Filling.TheVariants.{S1, S2, S2r}
 use Rattle.dutch_order.specs.Arrangements.{Arrangement, arrangements, left_of}
 use Rattle.dutch_order.specs.Choices.{is_same, numbers_from}
 use Rattle.dutch_order.specs.Keys.{IsIn}
-use Rattle.dutch_order.specs.Prefixes.{Beginning}
 use Rattle.dutch_player.specs.Facts.{Facts}
+use Rattle.dutch_pair.specs.declared.outlook.Outlook.{Outlook}
+use Rattle.dutch_pair.specs.GhostValues.{first_limbo}
+use Rattle.dutch_pair.specs.NextBracket.{IsFlat, is_lower}
 use Rattle.dutch_pair.specs.Quality.{Quality, NextValue}
-use Rattle.dutch_pair.specs.NextBracket.{is_lower}
 use Rattle.dutch_pair.specs.Reached.{Stand, frame_of}
 use Rattle.dutch_pair.specs.Round.{quality_of}
 use Rattle.dutch_pair.specs.Seated.{seat_of, score_at}
-use Rattle.dutch_pair.specs.GhostValues.{first_limbo}
-
--- what the next bracket can be at best where the Limbo has the scores of the first one, if that is known, and in any case
-pub record Outlook : Type 0 where
-  pub first : Option NextValue
-  pub any : NextValue
 
 -- the scores of the moved-down players who are not in an S1
 abbrev pub limbo_scores : Facts → Stand → List ℕ → List ℕ
@@ -28,11 +23,28 @@ limbo_scores facts stand s1 = map (λ i. score_at facts (seat_of stand.seats i))
 abbrev pub leaves_first : Facts → Stand → Shape → List ℕ → Bool
 leaves_first facts stand shape s1 = is_same (limbo_scores facts stand s1) (first_limbo facts stand shape)
 
--- what is known of the next bracket, where it is known whether the Limbo is as the first one
-abbrev pub known_of : Outlook → Bool → NextValue
-known_of outlook false = outlook.any
-known_of outlook true = if◌then◌else◌ false outlook.any outlook.any
+-- and so does every S1, where a floor is known before one is chosen
+abbrev pub leaves_first_by : Filling → Facts → Stand → Shape → List ℕ → Bool
+leaves_first_by S1 facts stand shape s1 = true
+leaves_first_by S2 facts stand shape s1 = leaves_first facts stand shape s1
+leaves_first_by S2r facts stand shape s1 = leaves_first facts stand shape s1
+
+-- what is known where the Limbo is as the first one, if that is so
+abbrev pub known_by : Option NextValue → Bool → NextValue → NextValue
+known_by None same any = any
+known_by (Some first) same any = if same then first else any
+
+-- the best that the next bracket can be behind arrangements with an S1
+abbrev pub awaited : Facts → Stand → Shape → Outlook → Filling → List ℕ → NextValue
+awaited facts stand shape outlook filling s1 = known_by outlook.first (leaves_first_by filling facts stand shape s1) outlook.any
 
 -- a quality has no better value of the next bracket
-abbrev pub IsNoBetter : Quality → NextValue → Type 0
-IsNoBetter q next = (q.next_pairs ≤ next.pairs) × (q.next_pairs ≡ next.pairs → is_lower q.next_psd next.psd ≡ false)
+abbrev pub HasNoBetter : Quality → NextValue → Type 0
+HasNoBetter q next = (q.next_pairs ≤ next.pairs) × (q.next_pairs ≡ next.pairs → is_lower q.next_psd next.psd ≡ false)
+
+-- no arrangement has a better value of the next bracket than an outlook says: any at all, and those that leave the first Limbo
+pub record IsOutlook (facts : Facts) (stand : Stand) (lower : List ℕ) (shape : Shape) (outlook : Outlook) : Type 0 where
+  pub any : (a : Arrangement) → IsIn a (arrangements (frame_of facts stand) shape) → HasNoBetter (quality_of facts stand lower a) outlook.any
+  pub first : (value : NextValue) → outlook.first ≡ Some value
+      → IsFlat facts stand × ((a : Arrangement) → IsIn a (arrangements (frame_of facts stand) shape)
+      → limbo_scores facts stand a.s1 ≡ first_limbo facts stand shape → HasNoBetter (quality_of facts stand lower a) value)

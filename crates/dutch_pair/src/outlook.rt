@@ -1,0 +1,172 @@
+// The best that the next bracket can be, found before any candidate is looked at (C.04.3 C.7): by ghosts where the bracket's residents
+// have one score, and else by counting players.
+ghost use Rattle.std.specs.Prelude.{◌≡◌, ◌++◌, ◌≤◌, length, map, true};
+ghost use Rattle.std.specs.Option.{MatchOption};
+ghost use Rattle.arrayvec.specs.ArrayVec.{array_vec_len};
+ghost use Rattle.dutch_order.specs.Arrangements.{Fits, left_of};
+ghost use Rattle.dutch_order.specs.Choices.{numbers_from};
+ghost use Rattle.dutch_order.specs.declared.numbers.TheConstants.{LIMIT};
+ghost use Rattle.dutch_pair.specs.FloorOf.{is_flat};
+ghost use Rattle.dutch_pair.specs.Ghosts.{pairs_by_counts};
+ghost use Rattle.dutch_pair.specs.GhostValues.{first_limbo};
+ghost use Rattle.dutch_pair.specs.NextBracket.{IsNext};
+ghost use Rattle.dutch_pair.specs.Outlooks.{IsOutlook, awaited, leaves_first, leaves_first_by, limbo_scores};
+ghost use Rattle.dutch_pair.specs.Reached.{IsAbove, IsOf, frame_of};
+
+use crate::ghost_value::{ghost_value, limbo_scores as first_limbo};
+use crate::group::split_first_group;
+use crate::quality::NextValue;
+use crate::reached::{Kind, Reached, push_all};
+use arrayvec::ArrayVec;
+use dutch_order::bracket::Shape;
+use dutch_order::numbers::{Numbers, numbered_from};
+use dutch_order::prefix::Filling;
+use dutch_order::steps::Budget;
+use dutch_player::field::Field;
+
+/// What the next bracket can be at best.
+#[derive(Debug, Drop)]
+pub(crate) struct Outlook {
+    /// Where the Limbo has the scores of the first one, if that is known.
+    pub(crate) first: Option<NextValue>,
+    /// In any case.
+    pub(crate) any: NextValue,
+}
+
+/// A value once more.
+fn copied(value: &NextValue) -> NextValue
+    ensures { result ≡ value.now }
+{
+    let mut psd = Numbers::new();
+    push_all(&value.psd, &mut psd);
+    NextValue {
+        pairs: value.pairs,
+        psd,
+    }
+}
+
+/// The scores of the moved-down players who are not in an S1, in half points.
+fn limbo_scores(field: &Field, reached: &Reached, s1: &[u16]) -> Numbers
+    requires { IsOf field.now reached.now }
+    ensures { result.items ≡ limbo_scores field.now reached.now s1.now }
+{
+    let mut scores = ArrayVec::new();
+    for number in numbered_from(1, reached.mdps()) {
+        if !s1.contains(&number) {
+            scores.push(field.score(reached.seat(number)));
+        }
+    }
+    scores
+}
+
+/// Whether an S1 leaves a Limbo with the scores of the first one of a shape.
+fn leaves_first(field: &Field, reached: &Reached, shape: Shape, s1: &[u16]) -> bool
+    requires of { IsOf field.now reached.now }
+    requires fits { Fits (frame_of field.now reached.now) shape }
+    ensures { result ≡ leaves_first field.now reached.now shape s1.now }
+{
+    limbo_scores(field, reached, s1).as_slice() == first_limbo(field, reached, shape).as_slice()
+}
+
+/// The same, where it is known that every S1 does as long as none is chosen.
+fn leaves_first_by(field: &Field, reached: &Reached, shape: Shape, filling: Filling, s1: &[u16]) -> bool
+    requires of { IsOf field.now reached.now }
+    requires fits { Fits (frame_of field.now reached.now) shape }
+    ensures { result ≡ leaves_first_by filling field.now reached.now shape s1.now }
+{
+    match filling {
+        Filling::S1 => true,
+        Filling::S2 | Filling::S2r => leaves_first(field, reached, shape, s1),
+    }
+}
+
+/// What half of those who go down and of the next lower scoregroup come to in pairs.
+fn value_by_counts(reached: &Reached, shape: Shape, next: &[u16]) -> NextValue
+    requires small { 2 * shape.pairs ≤ length reached.now.seats }
+    ensures { result ≡ record { pairs = pairs_by_counts reached.now shape next.now; psd = [] } }
+{
+    let down = reached.seats().len() - 2 * shape.pairs;
+    NextValue {
+        pairs: (down + next.len()) / 2,
+        psd: Numbers::new(),
+    }
+}
+
+impl Outlook {
+    /// The best that the next bracket of a bracket and a shape can be: none where the budget's limit was reached first. In brackets that
+    /// are not ordinary the next one does not count.
+    #[tactic(auto, using(crate::proofs::C07Outlook::none_counts, crate::proofs::C07Outlook::by_counts, crate::proofs::C07Outlook::by_ghosts, crate::proofs::C07Outlook::few_pairs, crate::proofs::C07Outlook::flat_residents, crate::proofs::NextGroups::is_next))]
+    pub(crate) fn find(
+        field: &Field,
+        reached: &Reached,
+        lower: &[u16],
+        shape: Shape,
+        budget: &mut Budget,
+    ) -> Option<Outlook>
+        requires above { IsAbove field.now reached.now lower.now }
+        requires fits { Fits (frame_of field.now reached.now) shape }
+        requires within { budget.old.used ≤ budget.old.limit }
+        ensures answer { MatchOption result (budget.new.used ≡ budget.new.limit) (IsOutlook field.now reached.now lower.now shape) }
+        ensures limit { budget.new.limit ≡ budget.old.limit }
+        ensures rises { budget.old.used ≤ budget.new.used }
+        ensures within { budget.new.used ≤ budget.new.limit }
+    {
+        match reached.kind() {
+            Kind::Ordinary => {}
+            _ => {
+                return Some(Outlook {
+                    first: None,
+                    any: NextValue::none(),
+                });
+            }
+        }
+        let next = split_first_group(field, lower).0;
+        let any = value_by_counts(reached, shape, next);
+        if !is_flat(field, reached) {
+            return Some(Outlook { first: None, any });
+        }
+        let Some(first) = ghost_value(field, reached, shape, next, budget) else {
+            return None;
+        };
+        Some(Outlook {
+            first: Some(first),
+            any,
+        })
+    }
+
+    /// The best that the next bracket can be behind arrangements with an S1.
+    pub(crate) fn awaited(
+        &self,
+        field: &Field,
+        reached: &Reached,
+        shape: Shape,
+        filling: Filling,
+        s1: &[u16],
+    ) -> NextValue
+        requires of { IsOf field.now reached.now }
+        requires fits { Fits (frame_of field.now reached.now) shape }
+        ensures { result ≡ awaited field.now reached.now shape self.now filling s1.now }
+    {
+        match &self.first {
+            Some(first) => {
+                if leaves_first_by(field, reached, shape, filling, s1) {
+                    return copied(first);
+                }
+            }
+            None => {}
+        }
+        copied(&self.any)
+    }
+}
+
+/// Whether there is a resident, and all residents have one score.
+fn is_flat(field: &Field, reached: &Reached) -> bool
+    requires { IsOf field.now reached.now }
+    ensures { result ≡ is_flat field.now reached.now }
+{
+    let seats = reached.seats();
+    if seats.len() <= reached.mdps() {
+        return false;
+    }
+    field.score(seats[reached.mdps()]) == field.score(seats[seats.len() - 1])
+}
