@@ -13,6 +13,7 @@ pub mod EligibleLemmas
 pub mod LeastPsd
 pub mod FlatBrackets
 pub mod GroupLemmas
+pub mod LonelyLemmas
 pub mod MoverSeats
 pub mod NextBrackets
 pub mod PairMisses
@@ -29,6 +30,7 @@ pub mod ShapeSearch
 pub mod TellLemmas
 pub mod WalkLemmas
 pub mod FirstLemmas
+pub mod FloorLemmas
 pub mod WalkEnds
 pub mod GroupWalk
 pub mod RoundEnds

@@ -8,13 +8,14 @@ ghost use Rattle.arrayvec.specs.ArrayVec.{array_vec_len};
 ghost use Rattle.dutch_order.specs.Choices.{numbers_from};
 ghost use Rattle.dutch_pair.specs.Reached.{IsOf};
 ghost use Rattle.dutch_pair.specs.Seated.{seat_of, score_at, AllNumbers};
-ghost use Rattle.dutch_pair.specs.ColourFloors.{is_firm, wants, wants_firmly, suits};
+ghost use Rattle.dutch_pair.specs.ColourFloors.{is_firm, wants, wants_firmly, suits, residents_down};
 ghost use Rattle.dutch_pair.specs.PairFacts.{preferences_of, collide};
 
 use crate::colours_missed::is_same;
 use crate::reached::Reached;
 use crate::seated::Pair;
 use arrayvec::ArrayVec;
+use dutch_order::bracket::Shape;
 use dutch_order::numbers::{LIMIT, Numbers, numbered_from};
 use dutch_order::rules::Rule;
 use dutch_player::field::Field;
@@ -116,6 +117,18 @@ impl<'a> PlayerFacts<'a> {
         ensures few { result ≤ 64 }
     {
         self.field.score(self.reached.seat(number))
+    }
+
+    /// How many residents go down with a shape.
+    pub(crate) fn residents_down(&self, shape: Shape) -> usize
+        requires { shape.pairs ≤ LIMIT }
+        ensures { result ≡ residents_down self.now.stand shape }
+    {
+        let residents = self.len().saturating_sub(self.reached.mdps());
+        let pairs = shape.pairs.saturating_sub(shape.mdps);
+        residents
+            .saturating_sub(shape.mdps)
+            .saturating_sub(2 * pairs)
     }
 
     /// The numbers of the moved-down players.

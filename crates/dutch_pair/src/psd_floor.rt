@@ -88,11 +88,10 @@ pub(crate) fn psd_with(players: &PlayerFacts<'_>, shape: Shape, score: u16, s1: 
     ensures { result.items ≡ psd_with players.now.facts players.now.stand shape score s1.now }
 {
     let pairs = shape.pairs.saturating_sub(shape.mdps);
-    let residents = players.len().saturating_sub(players.reached().mdps()).saturating_sub(shape.mdps);
     let mut psd = ArrayVec::new();
     put_paired(players, score, s1, &mut psd);
     put_limbo(players, score, s1, &mut psd);
     put_times(0, pairs, &mut psd);
-    put_times(2, residents.saturating_sub(2 * pairs), &mut psd);
+    put_times(2, players.residents_down(shape), &mut psd);
     psd
 }

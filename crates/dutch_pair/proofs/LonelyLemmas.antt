@@ -1,0 +1,89 @@
+-- Numbers that are marked one by one, and those that are left.
+use Rattle.std.proofs.Common.{◌≡◌, ℕ, zero, suc, ◌+◌, ◌-◌, ◌<◌, ◌≤◌, Bool, true, false, not, ◌||◌, cond, List, [], ◌∷◌, length, map, get_or, drop, filter, inl, inr, refl, sym, ap, ◌∙◌, subst, arith}
+use Rattle.std.proofs.lemmas.Bool.{eq-eqb, ne_eqb, cases_eq}
+use Rattle.std.proofs.lemmas.List.{drop_more, length-map}
+use Rattle.dutch_order.specs.Choices.{is_member, numbers_from}
+use Rattle.dutch_order.specs.Arrangements.{left_of, Arrangement}
+use Rattle.dutch_player.specs.Facts.{Facts}
+use Rattle.dutch_pair.specs.Reached.{Stand}
+use Rattle.dutch_pair.specs.Seated.{score_at, AllNumbers}
+use Rattle.dutch_pair.specs.BitTables.{has_bit}
+use Rattle.dutch_pair.specs.ColourFloors.{beyond, pool}
+use Rattle.dutch_pair.proofs.AllLemmas.{all_filter}
+use Rattle.dutch_pair.proofs.ArrangementParts.{numbers_within}
+
+or_true : (t : Bool) → true ≡ (t || true)
+or_true true = refl
+or_true false = refl
+
+pub or_false : (t : Bool) → t ≡ (t || false)
+or_false true = refl
+or_false false = refl
+
+marked : (old new rest : List ℕ) (x i : ℕ) → has_bit new x ≡ true → ((j : ℕ) → ¬ (j ≡ x) → has_bit new j ≡ has_bit old j)
+    → (has_bit new i || is_member i rest) ≡ (has_bit old i || is_member i (x ∷ rest))
+marked old new rest x i set others =
+    elim (cases_eq i x) [
+      | inl same ↦ ap (λ t. t || is_member i rest) (ap (has_bit new) same ∙ set)
+          ∙ (or_true (has_bit old i) ∙ sym (ap (λ t. has_bit old i || (t || is_member i rest)) (eq-eqb x i (sym same))))
+      | inr other ↦ ap (λ t. t || is_member i rest) (others i other)
+          ∙ sym (ap (λ t. has_bit old i || (t || is_member i rest)) (ne_eqb x i (λ e. other (sym e))))
+    ]
+
+pub mark_more : (old new numbers : List ℕ) (k i : ℕ) → k < length numbers → has_bit new (get_or numbers k 0) ≡ true
+    → ((j : ℕ) → ¬ (j ≡ get_or numbers k 0) → has_bit new j ≡ has_bit old j)
+    → (has_bit new i || is_member i (drop (k + 1) numbers)) ≡ (has_bit old i || is_member i (drop k numbers))
+mark_more old new numbers k i lt set others =
+    marked old new (drop (k + 1) numbers) (get_or numbers k 0) i set others
+    ∙ ap (λ xs. has_bit old i || is_member i xs) (sym (drop_more numbers k 0 lt))
+
+yes : (p : ℕ → Bool) (x : ℕ) (xs : List ℕ) → p x ≡ true → filter p (x ∷ xs) ≡ x ∷ filter p xs
+yes p x xs h = ap (λ t. cond t (x ∷ filter p xs) (filter p xs)) h
+
+no : (p : ℕ → Bool) (x : ℕ) (xs : List ℕ) → p x ≡ false → filter p (x ∷ xs) ≡ filter p xs
+no p x xs h = ap (λ t. cond t (x ∷ filter p xs) (filter p xs)) h
+
+three : (p q r : ℕ → Bool) (x : ℕ) (xs ys : List ℕ) (a b c : Bool) → p x ≡ not a → q x ≡ not b → r x ≡ not c
+    → ys ≡ filter r (filter q (filter p xs)) → cond (not ((a || b) || c)) (x ∷ ys) ys ≡ filter r (filter q (filter p (x ∷ xs)))
+three p q r x xs ys false false false f g h e =
+    ap (λ zs. x ∷ zs) e ∙ sym (ap (λ zs. filter r (filter q zs)) (yes p x xs f)
+    ∙ (ap (filter r) (yes q x (filter p xs) g) ∙ yes r x (filter q (filter p xs)) h))
+three p q r x xs ys false false true f g h e =
+    e ∙ sym (ap (λ zs. filter r (filter q zs)) (yes p x xs f) ∙ (ap (filter r) (yes q x (filter p xs) g) ∙ no r x (filter q (filter p xs)) h))
+three p q r x xs ys false true c f g h e =
+    e ∙ sym (ap (λ zs. filter r (filter q zs)) (yes p x xs f) ∙ ap (filter r) (no q x (filter p xs) g))
+three p q r x xs ys true b c f g h e = e ∙ sym (ap (λ zs. filter r (filter q zs)) (no p x xs f))
+
+pub left_is : (table s2 s1r s2r xs : List ℕ) → ((i : ℕ) → has_bit table i ≡ ((is_member i s2 || is_member i s1r) || is_member i s2r))
+    → filter (λ x. not (has_bit table x)) xs ≡ left_of (left_of (left_of xs s2) s1r) s2r
+left_is table s2 s1r s2r [] h = refl
+left_is table s2 s1r s2r (x ∷ xs) h =
+    ap (λ t. cond (not t) (x ∷ filter (λ y. not (has_bit table y)) xs) (filter (λ y. not (has_bit table y)) xs)) (h x)
+    ∙ three (λ y. not (is_member y s2)) (λ y. not (is_member y s1r)) (λ y. not (is_member y s2r)) x xs (filter (λ y. not (has_bit table y)) xs)
+    (is_member x s2) (is_member x s1r) (is_member x s2r) refl refl refl (left_is table s2 s1r s2r xs h)
+
+pub pool_is : (facts : Facts) (stand : Stand) (b : Arrangement) (table xs : List ℕ) (count : ℕ) → count ≡ length stand.seats - stand.mdps
+    → ((i : ℕ) → has_bit table i ≡ ((is_member i b.s2 || is_member i b.s1r) || is_member i b.s2r))
+    → xs ≡ filter (λ x. not (has_bit table x)) (numbers_from (stand.mdps + 1) count) → xs ≡ pool facts stand b
+pool_is facts stand b table xs count e h is =
+    let counted : count ≡ length (map (score_at facts) stand.seats) - stand.mdps =
+    let l = length-map stand.seats (score_at facts) in omega (arith, l, e) in
+    is ∙ (left_is table b.s2 b.s1r b.s2r (numbers_from (stand.mdps + 1) count) h
+    ∙ ap (λ k. left_of (left_of (left_of (numbers_from (stand.mdps + 1) k) b.s2) b.s1r) b.s2r) counted)
+
+pub pool_numbers : (stand : Stand) (table xs : List ℕ) (count : ℕ) → stand.mdps ≤ length stand.seats → count ≡ length stand.seats - stand.mdps
+    → xs ≡ filter (λ x. not (has_bit table x)) (numbers_from (stand.mdps + 1) count) → AllNumbers stand.seats xs
+pool_numbers stand table xs count within e is =
+    subst (AllNumbers stand.seats) (sym is)
+    (all_filter (λ i. (0 < i) × (i ≤ length stand.seats)) (λ x. not (has_bit table x)) (numbers_from (stand.mdps + 1) count)
+    (numbers_within 0 (stand.mdps + 1) count (length stand.seats) (omega arith) (omega (arith, within, e))))
+
+pub beyond_is : (part xs : List ℕ) → drop (length part) xs ≡ beyond part xs
+beyond_is [] xs = refl
+beyond_is (y ∷ part) [] = refl
+beyond_is (y ∷ part) (x ∷ xs) = beyond_is part xs
+
+pub back_numbers : (seats numbers : List ℕ) (count : ℕ) → AllNumbers seats numbers → AllNumbers seats (drop count numbers)
+back_numbers seats numbers zero h = h
+back_numbers seats [] (suc count) h = tt
+back_numbers seats (x ∷ numbers) (suc count) h = back_numbers seats numbers count h.1

@@ -1,0 +1,26 @@
+-- The two counts are those of the definition.
+use Rattle.std.proofs.Common.{◌≡◌, ◌∙◌, ◌-◌, ℕ, List, max, not, filter, length, ap}
+use Rattle.std.specs.List.{list_any}
+use Rattle.dutch_pair.specs.ColourFloors.{suits, pool, lonely_first, lonely_second, residents_down}
+use Rattle.dutch_pair.specs.PairFacts.{FieldBracket}
+use Rattle.dutch_pair.proofs.lonely.lonely.Goals as goal
+
+pub returns-clause-value : goal.returns-clause-value
+returns-clause-value c =
+    let facts = c.args.pairs.now.facts in
+    let stand = c.args.pairs.now.stand in
+    let b = c.args.begun.now in
+    let pooled : c.pool-pool.result.items ≡ pool facts stand b =
+    c.pool-pool.ensures.items ∙ ap (λ (k : FieldBracket). pool k.facts k.stand b) c.players-players.ensures in
+    let first : c.lonely_first-first.result ≡ lonely_first facts stand b =
+    c.lonely_first-first.ensures.value
+    ∙ (ap (λ (p : List ℕ). length (filter (λ x. not (list_any (suits facts stand x) p)) c.waiting-waiting.result.now)) (c.deref.ensures.0 ∙ pooled)
+    ∙ ap (λ (w : List ℕ). length (filter (λ x. not (list_any (suits facts stand x) (pool facts stand b))) w)) c.waiting-waiting.ensures.items) in
+    let second : c.lonely_second-second.result ≡ lonely_second facts stand b =
+    c.lonely_second-second.ensures.value
+    ∙ (ap (λ (p : List ℕ). length (filter (λ y. not (list_any (λ x. suits facts stand x y) c.waiting-waiting.result.now)) p)) (c.deref-2.ensures.0 ∙ pooled)
+    ∙ ap (λ (w : List ℕ). length (filter (λ y. not (list_any (λ x. suits facts stand x y) w)) (pool facts stand b))) c.waiting-waiting.ensures.items) in
+    let down : c.residents_down.result ≡ residents_down stand c.args.shape =
+    c.residents_down.ensures ∙ ap (λ (k : FieldBracket). residents_down k.stand c.args.shape) c.players-players.ensures in
+    c.max.ensures ∙ (ap (λ n. max n c.saturating_sub.result) first
+    ∙ ap (max (lonely_first facts stand b)) (c.saturating_sub.ensures ∙ (ap (λ n. n - c.residents_down.result) second ∙ ap (λ n. lonely_second facts stand b - n) down)))

@@ -1,0 +1,215 @@
+// The floor of a beginning: a quality that no candidate with it is better than (C.04.3 C.6 to C.19). It is asked at each beginning
+// that a choice comes to, so it takes no memory and looks at each player a few times.
+ghost use Rattle.std.specs.Prelude.{◌≡◌, ◌<◌, ◌≤◌, ◌||◌, ◌&&◌, true, false, length, MatchOption};
+ghost use Rattle.dutch_order.specs.Arrangements.{Fits};
+ghost use Rattle.dutch_order.specs.declared.numbers.TheConstants.{LIMIT};
+ghost use Rattle.dutch_pair.specs.QualityIn.{quality_in};
+ghost use Rattle.dutch_pair.specs.Beginnings.{fixed};
+ghost use Rattle.dutch_pair.specs.PsdFloors.{psd_with};
+ghost use Rattle.dutch_pair.specs.Reached.{IsOf, frame_of};
+ghost use Rattle.dutch_pair.specs.Seated.{all_pairs, AllNumbers, AllPairs, HasSeats};
+ghost use Rattle.dutch_pair.specs.FloorOf.{HasNumbers, is_flat, is_uniform, is_known, has_s1, residents_score, psd_by, more_by, floor_by, floor_of};
+
+use crate::begun::{Begun, fixed, fixed_lists, is_of_shape};
+use crate::colour_floor::{missed, missed_strong, more_missed};
+use crate::differences::psd;
+use crate::lonely::lonely;
+use crate::pair_facts::PairFacts;
+use crate::player_facts::PlayerFacts;
+use crate::psd_floor::psd_with;
+use crate::quality::{Given, NextValue, Quality, quality_by};
+use crate::reached::push_all;
+use crate::seated::{Pair, Seated};
+use dutch_order::bracket::Shape;
+use dutch_order::numbers::{LIMIT, Numbers, numbered_from};
+use dutch_order::prefix::{Filling, Prefix};
+use std::marker::Model;
+
+/// What the floors of a bracket and a shape stand on, read once for a choice.
+#[derive(Drop)]
+pub(crate) struct Floors<'a> {
+    pairs: PairFacts<'a>,
+    shape: Shape,
+    // the best that the next bracket can be (C.7)
+    next: NextValue,
+    // there is a resident, and all residents have one score
+    flat: bool,
+    // all S1 leave moved-down players with the same scores
+    uniform: bool,
+}
+
+impl<'a> Model for Floors<'a> {
+    ghost use Rattle.std.specs.Prelude.{◌≡◌};
+    ghost use Rattle.dutch_order.specs.Arrangements.{Fits};
+    ghost use Rattle.dutch_pair.specs.Reached.{frame_of};
+    ghost use Rattle.dutch_pair.specs.FloorOf.{Basis, is_flat, is_uniform};
+
+    ghost Value = { Basis };
+
+    ghost view = { λ f. record { facts = f.pairs.facts; stand = f.pairs.stand; shape = f.shape; next = f.next } };
+
+    ghost invariant = { λ f. (Fits (frame_of f.pairs.facts f.pairs.stand) f.shape)
+        × (f.flat ≡ is_flat f.pairs.facts f.pairs.stand) × (f.uniform ≡ is_uniform f.pairs.facts f.pairs.stand f.shape) };
+}
+
+/// Whether there is a resident, and all residents have one score.
+fn is_flat(players: &PlayerFacts<'_>) -> bool
+    ensures { result ≡ is_flat players.now.facts players.now.stand }
+{
+    let (first, last) = (players.reached().mdps() + 1, players.len());
+    if last < first {
+        return false;
+    }
+    players.score(first as u16) == players.score(last as u16)
+}
+
+/// Whether all S1 of a shape leave moved-down players with the same scores.
+fn is_uniform(players: &PlayerFacts<'_>, shape: Shape) -> bool
+    requires { Fits (frame_of players.now.facts players.now.stand) shape }
+    ensures { result ≡ is_uniform players.now.facts players.now.stand shape }
+{
+    let mdps = players.reached().mdps();
+    if shape.mdps == 0 || shape.mdps == mdps {
+        return true;
+    }
+    players.score(1) == players.score(mdps as u16)
+}
+
+/// S1 is chosen.
+fn has_s1(filling: Filling) -> bool
+    ensures { result ≡ has_s1 filling }
+{
+    match filling {
+        Filling::S1 => false,
+        Filling::S2 | Filling::S2r => true,
+    }
+}
+
+impl<'a> Floors<'a> {
+    /// The floors of a shape, for the best that the next bracket can be.
+    pub(crate) fn new(pairs: PairFacts<'a>, shape: Shape, next: NextValue) -> Floors<'a>
+        requires { Fits (frame_of pairs.facts pairs.stand) shape }
+        ensures { result ≡ record { facts = pairs.entry.facts; stand = pairs.entry.stand; shape = shape; next = next } }
+    {
+        let flat = is_flat(pairs.players());
+        let uniform = is_uniform(pairs.players(), shape);
+        Floors {
+            pairs,
+            shape,
+            next,
+            flat,
+            uniform,
+        }
+    }
+
+    /// The best that the next bracket can be.
+    fn next(&self) -> NextValue
+        ensures { result ≡ self.now.next }
+    {
+        let mut psd = Numbers::new();
+        push_all(&self.next.psd, &mut psd);
+        NextValue {
+            pairs: self.next.pairs,
+            psd,
+        }
+    }
+
+    /// The shape, and that the bracket has room for it.
+    #[tactic(auto, using(crate::proofs::FloorLemmas::small_pairs))]
+    fn shape(&self) -> Shape
+        ensures value { result ≡ self.now.shape }
+        ensures fits { Fits (frame_of self.now.facts self.now.stand) self.now.shape }
+        ensures of { IsOf self.now.facts self.now.stand }
+        ensures small { result.pairs ≤ LIMIT }
+    {
+        let _reached = self.pairs.players().reached();
+        self.shape
+    }
+
+    /// The PSD that S1 gives where all residents have one score.
+    #[tactic(auto, using(crate::proofs::FloorLemmas::has_room))]
+    fn psd_with(&self, s1: &[u16]) -> Numbers
+        requires resident { self.now.stand.mdps < length self.now.stand.seats }
+        requires numbers { AllNumbers self.now.stand.seats s1.now }
+        requires few { length s1.now ≤ self.now.shape.mdps }
+        ensures { result.items ≡ psd_with self.now.facts self.now.stand self.now.shape (residents_score self.now.facts self.now.stand) s1.now }
+    {
+        let players = self.pairs.players();
+        let score = players.score(players.reached().mdps() as u16 + 1);
+        psd_with(players, self.shape(), score, s1)
+    }
+
+    /// How many more miss than in the pairs that are fixed (C.10).
+    fn more_by(&self, filling: Filling, begun: &Begun<'_>, pairs: &[Pair]) -> usize
+        requires numbers { HasNumbers self.now.stand begun.now }
+        requires pairs { pairs.now ≡ all_pairs self.now.stand.seats begun.now }
+        requires inside { AllPairs self.now.facts pairs.now }
+        requires few { length pairs.now ≤ LIMIT }
+        ensures value { result ≡ more_by filling self.now begun.now }
+        ensures few { result ≤ LIMIT }
+    {
+        let shape = self.shape();
+        let more = more_missed(self.pairs.players(), shape, pairs, false);
+        match filling {
+            Filling::S1 | Filling::S2 => return more,
+            Filling::S2r => return more.max(lonely(&self.pairs, shape, begun)),
+        }
+    }
+
+    /// The PSD (C.6).
+    #[tactic(auto, using(crate::proofs::FloorLemmas::first_numbers))]
+    fn psd_by(&self, filling: Filling, begun: &Begun<'_>, seated: &Seated) -> Numbers
+        requires seated { seated.now ≡ fixed self.now.facts self.now.stand begun.now }
+        requires inside { HasSeats self.now.facts seated.now }
+        requires numbers { AllNumbers self.now.stand.seats begun.now.s1 }
+        requires few { length begun.now.s1 ≤ self.now.shape.mdps }
+        ensures { result.items ≡ psd_by filling self.now begun.now }
+    {
+        let shape = self.shape();
+        if !self.flat {
+            return psd(self.pairs.players().field(), seated);
+        }
+        match filling {
+            Filling::S1 => return self.psd_with(&numbered_from(1, shape.mdps)),
+            Filling::S2 | Filling::S2r => return self.psd_with(begun.s1),
+        }
+    }
+
+    /// The floor by the list that is being filled and those that are fixed.
+    fn floor_by(&self, filling: Filling, begun: &Begun<'_>) -> Quality
+        requires numbers { HasNumbers self.now.stand begun.now }
+        requires few { length begun.now.s1 ≤ self.now.shape.mdps }
+        ensures { quality_in result ≡ floor_by filling self.now begun.now }
+    {
+        let players = self.pairs.players();
+        let shape = self.shape();
+        let seated = fixed(players, begun);
+        let more = self.more_by(filling, begun, &seated.pairs);
+        let more_strong = more_missed(players, shape, &seated.pairs, true);
+        let given = Given {
+            psd: self.psd_by(filling, begun, &seated),
+            next: self.next(),
+            missed_preferences: missed(players, &seated.pairs) + more as u16,
+            missed_strong: missed_strong(players, &seated.pairs) + more_strong as u16,
+        };
+        quality_by(players.field(), &seated, given)
+    }
+
+    /// The floor of a beginning. None is known where its lists are not of the bracket and the shape, or where S1 is not chosen and
+    /// it matters which is.
+    #[tactic(auto, using(crate::proofs::FloorLemmas::numbers_fit, crate::proofs::FloorLemmas::first_few))]
+    pub(crate) fn floor(&self, prefix: &Prefix<'_>) -> Option<Quality>
+        ensures { MatchOption result (is_known self.now prefix.now ≡ false)
+            (λ f. (is_known self.now prefix.now ≡ true) × (quality_in f ≡ floor_of self.now prefix.now)) }
+    {
+        let begun = fixed_lists(prefix);
+        let shape = self.shape();
+        if !is_of_shape(self.pairs.players().reached(), shape, &begun) {
+            return None;
+        }
+        if !has_s1(prefix.filling()) && !self.uniform {
+            return None;
+        }
+        Some(self.floor_by(prefix.filling(), &begun))
+    }
+}

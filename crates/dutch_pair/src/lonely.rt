@@ -1,0 +1,150 @@
+// Players who miss their preference whoever of those left is their opponent, once S1R is chosen (C.04.3 C.10).
+ghost use Rattle.std.specs.Prelude.{◌≡◌, ◌-◌, ◌<◌, ◌≤◌, ◌||◌, ◌++◌, ℕ, not, length, filter};
+ghost use Rattle.std.specs.List.{list_any};
+ghost use Rattle.arrayvec.specs.ArrayVec.{array_vec_len};
+ghost use Rattle.dutch_order.specs.declared.numbers.TheConstants.{LIMIT};
+ghost use Rattle.dutch_order.specs.Choices.{is_member, numbers_from};
+ghost use Rattle.dutch_pair.specs.Seated.{AllNumbers};
+ghost use Rattle.dutch_pair.specs.BitTables.{has_bit};
+ghost use Rattle.dutch_pair.specs.ColourFloors.{suits, waiting, pool, lonely};
+ghost use Rattle.dutch_pair.specs.FloorOf.{HasNumbers};
+
+use crate::begun::Begun;
+use crate::bit_table::BitTable;
+use crate::pair_facts::PairFacts;
+use crate::player_facts::PlayerFacts;
+use dutch_order::bracket::Shape;
+use dutch_order::numbers::{LIMIT, Numbers, numbered_from};
+
+/// Marks numbers.
+fn mark(numbers: &[u16], taken: &mut BitTable)
+    ensures { (i : ℕ) → has_bit taken.new i ≡ (has_bit taken.old i || is_member i numbers.now) }
+{
+    for number in numbers {
+        taken.set(usize::from(*number));
+    }
+}
+
+/// The residents who have a place.
+fn taken(begun: &Begun<'_>) -> BitTable
+    ensures { (i : ℕ) → has_bit result i ≡ ((is_member i begun.now.s2 || is_member i begun.now.s1r) || is_member i begun.now.s2r) }
+{
+    let mut taken = BitTable::new();
+    mark(begun.s2, &mut taken);
+    mark(begun.s1r, &mut taken);
+    mark(begun.s2r, &mut taken);
+    taken
+}
+
+/// Those of some numbers that are not marked.
+fn unmarked(numbers: &[u16], taken: &BitTable) -> Numbers
+    requires few { length numbers.now ≤ LIMIT }
+    ensures { result.items ≡ filter (λ x. not (has_bit taken.now x)) numbers.now }
+{
+    let mut left = Numbers::new();
+    for number in numbers {
+        if !taken.has(usize::from(*number)) {
+            left.push(*number);
+        }
+    }
+    left
+}
+
+/// The residents with whom S1R can still be paired.
+#[tactic(auto, using(crate::proofs::LonelyLemmas::pool_is, crate::proofs::LonelyLemmas::pool_numbers))]
+fn pool(players: &PlayerFacts<'_>, begun: &Begun<'_>) -> Numbers
+    ensures items { result.items ≡ pool players.now.facts players.now.stand begun.now }
+    ensures numbers { AllNumbers players.now.stand.seats result.items }
+    ensures few { length result.items ≤ LIMIT }
+{
+    let mdps = players.reached().mdps();
+    let residents = numbered_from(mdps + 1, players.len().saturating_sub(mdps));
+    unmarked(&residents, &taken(begun))
+}
+
+/// The players of S1R who have no opponent yet.
+#[tactic(auto, using(crate::proofs::LonelyLemmas::beyond_is, crate::proofs::LonelyLemmas::back_numbers))]
+fn waiting<'a>(players: &PlayerFacts<'_>, begun: &Begun<'a>) -> &'a [u16]
+    requires { HasNumbers players.now.stand begun.now }
+    ensures items { result.now ≡ waiting begun.now }
+    ensures numbers { AllNumbers players.now.stand.seats result.now }
+    ensures few { length result.now ≤ LIMIT }
+{
+    let _count = players.len();
+    begun.s1r.split_at(begun.s2r.len()).1
+}
+
+/// Whether a number suits one of some.
+fn suits_one(pairs: &PairFacts<'_>, x: u16, others: &[u16]) -> bool
+    requires number { (0 < x) × (x ≤ length pairs.now.stand.seats) }
+    requires others { AllNumbers pairs.now.stand.seats others.now }
+    ensures { result ≡ list_any (suits pairs.now.facts pairs.now.stand x) others.now }
+{
+    for other in others {
+        if pairs.suits(x, *other) {
+            return true;
+        }
+    }
+    false
+}
+
+/// Whether one of some suits a number.
+fn is_suited(pairs: &PairFacts<'_>, y: u16, others: &[u16]) -> bool
+    requires number { (0 < y) × (y ≤ length pairs.now.stand.seats) }
+    requires others { AllNumbers pairs.now.stand.seats others.now }
+    ensures { result ≡ list_any (λ x. suits pairs.now.facts pairs.now.stand x y) others.now }
+{
+    for other in others {
+        if pairs.suits(*other, y) {
+            return true;
+        }
+    }
+    false
+}
+
+/// How many of those who wait suit nobody of the pool.
+fn lonely_first(pairs: &PairFacts<'_>, waiting: &[u16], pool: &[u16]) -> usize
+    requires waiting { AllNumbers pairs.now.stand.seats waiting.now }
+    requires pool { AllNumbers pairs.now.stand.seats pool.now }
+    ensures value { result ≡ length (filter (λ x. not (list_any (suits pairs.now.facts pairs.now.stand x) pool.now)) waiting.now) }
+    ensures few { result ≤ length waiting.now }
+{
+    let mut count = 0;
+    for x in waiting {
+        if !suits_one(pairs, *x, pool) {
+            count += 1;
+        }
+    }
+    count
+}
+
+/// How many of the pool suit nobody who waits.
+fn lonely_second(pairs: &PairFacts<'_>, waiting: &[u16], pool: &[u16]) -> usize
+    requires waiting { AllNumbers pairs.now.stand.seats waiting.now }
+    requires pool { AllNumbers pairs.now.stand.seats pool.now }
+    ensures value { result ≡ length (filter (λ y. not (list_any (λ x. suits pairs.now.facts pairs.now.stand x y) waiting.now)) pool.now) }
+    ensures few { result ≤ length pool.now }
+{
+    let mut count = 0;
+    for y in pool {
+        if !is_suited(pairs, *y, waiting) {
+            count += 1;
+        }
+    }
+    count
+}
+
+/// How many miss at least for want of an opponent who suits.
+pub(crate) fn lonely(pairs: &PairFacts<'_>, shape: Shape, begun: &Begun<'_>) -> usize
+    requires numbers { HasNumbers pairs.now.stand begun.now }
+    requires small { shape.pairs ≤ LIMIT }
+    ensures value { result ≡ lonely pairs.now.facts pairs.now.stand shape begun.now }
+    ensures few { result ≤ LIMIT }
+{
+    let players = pairs.players();
+    let waiting = waiting(players, begun);
+    let pool = pool(players, begun);
+    let first = lonely_first(pairs, waiting, &pool);
+    let second = lonely_second(pairs, waiting, &pool);
+    first.max(second.saturating_sub(players.residents_down(shape)))
+}
