@@ -1,6 +1,6 @@
 -- What the next bracket can be at best, whatever arrangement is chosen (C.04.3 C.7): no more pairs than half of its players are, and no
 -- better value than ghosts find, where the arrangement leaves the Limbo that they stand for.
-use Rattle.std.proofs.Common.{◌≡◌, ◌≢◌, ℕ, ◌+◌, ◌-◌, ◌*◌, ◌/◌, ◌<◌, ◌≤◌, Bool, true, false, ◌&&◌, ◌||◌, ◌==◌, nat_lt, List, [], map, length, Option, Some, None, refl, sym, ap, subst, ◌∙◌, ◌⊎◌, inl, inr, arith}
+use Rattle.std.proofs.Common.{◌≡◌, ◌≢◌, ℕ, ◌+◌, ◌-◌, ◌*◌, ◌/◌, ◌<◌, ◌≤◌, Bool, true, false, ◌&&◌, ◌||◌, ◌==◌, nat_lt, List, [], ◌++◌, map, length, Option, Some, None, refl, sym, ap, subst, ◌∙◌, ◌⊎◌, inl, inr, arith}
 use Rattle.std.proofs.lemmas.Bool.{and_parts, eqb-true, ltb-true}
 use Rattle.std.proofs.lemmas.List.{length-map, length-append}
 use Rattle.dutch_order.specs.declared.bracket.Shape.{Shape}
@@ -24,3 +24,132 @@ use Rattle.dutch_pair.specs.Reached.{IsAbove, IsOf, Stand, frame_of}
 use Rattle.dutch_pair.specs.Round.{downfloaters, first_group, is_ordinary, quality_of, scoregroups}
 use Rattle.dutch_pair.specs.Seated.{score_at, seat_of}
 use Rattle.dutch_pair.proofs.C06Psd.{flat_by_ends}
+use Rattle.dutch_order.proofs.FromOn.{is_same-true}
+use Rattle.dutch_pair.proofs.C04Ghosts.{down_count}
+use Rattle.dutch_pair.proofs.C07Ghosts.{no_value_has_more_than_half_the_players_in_pairs}
+use Rattle.dutch_pair.proofs.C07GhostValues.{first_limbo_of_all, no_value_is_better_than_by_ghosts}
+use Rattle.dutch_pair.proofs.FloorOfBeginning.{uniform_of}
+use Rattle.dutch_pair.proofs.NextGroups.{first_is_next}
+
+not_better : (value next : NextValue) → IsNotBetter value next.pairs next.psd
+    → (value.pairs ≤ next.pairs) × (value.pairs ≡ next.pairs → is_lower value.psd next.psd ≡ false)
+not_better value next (inl less) = (omega (arith, less), λ e. absurd (omega (arith, less, e)))
+not_better value next (inr same) = (omega (arith, same.0), λ e. same.1)
+
+ordinary_of : (kind : Kind) → is_ordinary kind ≡ true → kind ≡ Ordinary
+ordinary_of Ordinary e = refl
+ordinary_of Last e = let bad : false ≡ true = e in absurd (cc)
+ordinary_of Penultimate e = let bad : false ≡ true = e in absurd (cc)
+ordinary_of Collapsed e = let bad : false ≡ true = e in absurd (cc)
+
+-- below an ordinary bracket there is a scoregroup
+first_there : (facts : Facts) (stand : Stand) (lower : List ℕ) → IsAbove facts stand lower → is_ordinary stand.kind ≡ true
+    → 0 < length (first_group facts (scoregroups facts lower))
+first_there facts stand lower above ordinary = (first_is_next facts stand lower above).there (ordinary_of stand.kind ordinary)
+
+pub below_ordinary : (facts : Facts) (stand : Stand) (lower next : List ℕ) → next ≡ first_group facts (scoregroups facts lower) → IsAbove facts stand lower
+    → is_ordinary stand.kind ≡ true → 0 < length next
+below_ordinary facts stand lower next e above ordinary = subst (λ xs. 0 < length xs) (sym e) (first_there facts stand lower above ordinary)
+
+pub flat_residents : (facts : Facts) (stand : Stand) → IsOf facts stand → is_flat facts stand ≡ true → IsFlat facts stand
+flat_residents facts stand of' h =
+    let parts = and_parts (nat_lt stand.mdps (length stand.seats)) _ h in
+    flat_by_ends facts stand of' (ltb-true stand.mdps (length stand.seats) parts.0)
+    (eqb-true (residents_score facts stand) (score_at facts (seat_of stand.seats (length stand.seats))) parts.1)
+
+-- a shape that fits has no more than half the players in pairs
+pub few_pairs : (facts : Facts) (stand : Stand) (shape : Shape) → IsOf facts stand → Fits (frame_of facts stand) shape → 2 * shape.pairs ≤ length stand.seats
+few_pairs facts stand shape of' fits =
+    let counted : length (frame_of facts stand).scores ≡ length stand.seats = length-map stand.seats (score_at facts) in
+    omega (arith, counted, of'.sound.within, fits.within_pairs, fits.within_moved_down, fits.residents_enough)
+
+module _ (facts : Facts) (stand : Stand) (lower : List ℕ) (shape : Shape) where
+  abbrev group : List ℕ
+  group = first_group facts (scoregroups facts lower)
+
+  abbrev value_at : Bool → Arrangement → NextValue
+  value_at ordinary a = value_in ordinary facts (downfloaters facts stand a) group
+
+  -- the value of a quality is that of the next bracket
+  from_value : (a : Arrangement) (next : NextValue) (t : Bool) → is_ordinary stand.kind ≡ t → IsNotBetter (value_at t a) next.pairs next.psd
+      → HasNoBetter (quality_of facts stand lower a) next
+  from_value a next t e h =
+      not_better (value_at (is_ordinary stand.kind) a) next (subst (λ b. IsNotBetter (value_at b a) next.pairs next.psd) (sym e) h)
+
+  nothing_better : (a : Arrangement) → is_ordinary stand.kind ≡ false → HasNoBetter (quality_of facts stand lower a) no_value
+  nothing_better a e = from_value a no_value false e (inr (refl, refl))
+
+  -- where the next bracket does not count
+  pub none_counts : (outlook : Outlook) → is_ordinary stand.kind ≡ false → outlook.first ≡ None → outlook.any ≡ no_value → IsOutlook facts stand lower shape outlook
+  none_counts outlook e first any = record {
+    any = λ a m. subst (HasNoBetter (quality_of facts stand lower a)) (sym any) (nothing_better a e);
+    first = λ value some. let bad : None ≡ Some value = sym first ∙ some in absurd (cc);
+  }
+
+  half_of : (a : Arrangement) → IsOf facts stand → Fits (frame_of facts stand) shape → IsIn a (arrangements (frame_of facts stand) shape)
+      → length (downfloaters facts stand a ++ group) / 2 ≡ pairs_by_counts stand shape group
+  half_of a of' fits m =
+      let counted : length (frame_of facts stand).scores ≡ length stand.seats = length-map stand.seats (score_at facts) in
+      let left = down_count (frame_of facts stand) shape a of'.sound.within fits.within_pairs m in
+      let many : length (downfloaters facts stand a) ≡ length stand.seats - 2 * shape.pairs =
+      length-map (down (frame_of facts stand) a) (seat_of stand.seats) ∙ (let e : length (down (frame_of facts stand) a) ≡ length stand.seats - 2 * shape.pairs = omega (arith, left, counted) in e) in
+      ap (λ n. n / 2) (length-append (downfloaters facts stand a) group ∙ ap (λ n. n + length group) many)
+
+  counts_hold : (a : Arrangement) (any : NextValue) → IsOf facts stand → Fits (frame_of facts stand) shape → is_ordinary stand.kind ≡ true
+      → any ≡ record { pairs = pairs_by_counts stand shape group; psd = [] } → IsIn a (arrangements (frame_of facts stand) shape)
+      → HasNoBetter (quality_of facts stand lower a) any
+  counts_hold a any of' fits e same m =
+      subst (HasNoBetter (quality_of facts stand lower a)) (sym same)
+      (from_value a (record { pairs = pairs_by_counts stand shape group; psd = [] }) true e
+      (subst (λ n. IsNotBetter (value_at true a) n []) (half_of a of' fits m)
+      (no_value_has_more_than_half_the_players_in_pairs facts (next_stand (downfloaters facts stand a) group))))
+
+  -- by counts alone
+  pub by_counts : (outlook : Outlook) (next : List ℕ) → next ≡ group → IsOf facts stand → Fits (frame_of facts stand) shape → is_ordinary stand.kind ≡ true
+      → outlook.first ≡ None → outlook.any ≡ record { pairs = pairs_by_counts stand shape next; psd = [] } → IsOutlook facts stand lower shape outlook
+  by_counts outlook next e of' fits ordinary first any = record {
+    any = λ a m. counts_hold a outlook.any of' fits ordinary (any ∙ ap (λ xs. record { pairs = pairs_by_counts stand shape xs; psd = [] }) e) m;
+    first = λ value some. let bad : None ≡ Some value = sym first ∙ some in absurd (cc);
+  }
+
+  -- and by ghosts, where all residents have one score
+  pub by_ghosts : (outlook : Outlook) (next : List ℕ) (value : NextValue) → next ≡ group → IsAbove facts stand lower → Fits (frame_of facts stand) shape
+      → is_ordinary stand.kind ≡ true → IsFlat facts stand → value ≡ ghost_value facts stand shape next → outlook.first ≡ Some value
+      → outlook.any ≡ record { pairs = pairs_by_counts stand shape next; psd = [] } → IsOutlook facts stand lower shape outlook
+  by_ghosts outlook next value e above fits ordinary flat by first any = record {
+    any = λ a m. counts_hold a outlook.any above.bracket fits ordinary (any ∙ ap (λ xs. record { pairs = pairs_by_counts stand shape xs; psd = [] }) e) m;
+    first = λ found some.
+        let same : found ≡ ghost_value facts stand shape group = (let one : Some value ≡ Some found = sym first ∙ some in let v : found ≡ value = cc in v) ∙ by ∙ ap (ghost_value facts stand shape) e in
+        (flat, λ a m limbo.
+        subst (HasNoBetter (quality_of facts stand lower a)) (sym same)
+        (from_value a (ghost_value facts stand shape group) true ordinary
+        (no_value_is_better_than_by_ghosts facts stand above.bracket flat shape a m (ordinary_of stand.kind ordinary) group (first_is_next facts stand lower above) limbo)));
+  }
+
+  -- an arrangement leaves the first Limbo where its beginning tells so
+  limbo_of : (filling : Filling) (lists a : Arrangement) → IsOf facts stand → IsFlat facts stand → IsIn a (arrangements (frame_of facts stand) shape)
+      → BeginsAt filling lists a → (has_s1 filling || is_uniform facts stand shape) ≡ true
+      → leaves_first_by filling facts stand shape (lists_by filling lists).s1 ≡ true → limbo_scores facts stand a.s1 ≡ first_limbo facts stand shape
+  limbo_of S1 lists a of' flat m h known t = first_limbo_of_all facts stand of' flat shape a m (uniform_of facts stand shape of' known)
+  limbo_of S2 lists a of' flat m h known t =
+      ap (limbo_scores facts stand) (sym h.0) ∙ is_same-true (limbo_scores facts stand lists.s1) (first_limbo facts stand shape) t
+  limbo_of S2r lists a of' flat m h known t =
+      ap (limbo_scores facts stand) (sym h.0) ∙ is_same-true (limbo_scores facts stand lists.s1) (first_limbo facts stand shape) t
+
+  module _ (outlook : Outlook) (of' : IsOf facts stand) (is : IsOutlook facts stand lower shape outlook) (filling : Filling) (lists a : Arrangement)
+      (m : IsIn a (arrangements (frame_of facts stand) shape)) (h : BeginsAt filling lists a) (known : (has_s1 filling || is_uniform facts stand shape) ≡ true) where
+    by_limbo : (value : NextValue) → outlook.first ≡ Some value → (t : Bool) → leaves_first_by filling facts stand shape (lists_by filling lists).s1 ≡ t
+        → HasNoBetter (quality_of facts stand lower a) (known_by (Some value) t outlook.any)
+    by_limbo value e true t =
+        let first = is.first value e in
+        first.1 a m (limbo_of filling lists a of' first.0 m h known t)
+    by_limbo value e false t = is.any a m
+
+    by_first : (o : Option NextValue) → outlook.first ≡ o
+        → HasNoBetter (quality_of facts stand lower a) (known_by o (leaves_first_by filling facts stand shape (lists_by filling lists).s1) outlook.any)
+    by_first None e = is.any a m
+    by_first (Some value) e = by_limbo value e (leaves_first_by filling facts stand shape (lists_by filling lists).s1) refl
+
+    -- what is awaited behind a beginning is no worse than what comes
+    pub awaited_holds : HasNoBetter (quality_of facts stand lower a) (awaited facts stand shape outlook filling (lists_by filling lists).s1)
+    awaited_holds = by_first outlook.first refl

@@ -67,3 +67,5 @@ pub mod BoardOrder
 pub mod GroupLaws
 pub mod LowerLemmas
 pub mod StandsAbove
+pub mod FloorOfBeginning
+pub mod C07Outlook

@@ -1,14 +1,14 @@
 -- Numbers that are marked one by one, and those that are left.
-use Rattle.std.proofs.Common.{◌≡◌, ℕ, zero, suc, ◌+◌, ◌-◌, ◌<◌, ◌≤◌, Bool, true, false, not, ◌&&◌, ◌||◌, eqb, cond, List, [], ◌∷◌, length, map, get_or, drop, filter, inl, inr, refl, sym, ap, ◌∙◌, subst, arith}
+use Rattle.std.proofs.Common.{◌≡◌, ℕ, zero, suc, ◌+◌, ◌-◌, ◌<◌, ◌≤◌, Bool, true, false, not, ◌||◌, cond, List, [], ◌∷◌, length, map, get_or, drop, filter, inl, inr, refl, sym, ap, ◌∙◌, subst, arith}
 use Rattle.std.proofs.lemmas.Bool.{eq-eqb, ne_eqb, cases_eq}
 use Rattle.std.proofs.lemmas.List.{drop_more, length-map}
 use Rattle.dutch_order.specs.Choices.{is_member, numbers_from}
-use Rattle.dutch_order.specs.Arrangements.{left_of, residents_of, Arrangement}
+use Rattle.dutch_order.specs.Arrangements.{left_of, Arrangement}
 use Rattle.dutch_player.specs.Facts.{Facts}
-use Rattle.dutch_pair.specs.Reached.{Stand, frame_of}
+use Rattle.dutch_pair.specs.Reached.{Stand}
 use Rattle.dutch_pair.specs.Seated.{score_at, AllNumbers}
 use Rattle.dutch_pair.specs.BitTables.{has_bit}
-use Rattle.dutch_pair.specs.ColourFloors.{beyond, pool, waiting}
+use Rattle.dutch_pair.specs.ColourFloors.{beyond, pool}
 use Rattle.dutch_pair.proofs.AllLemmas.{all_filter}
 use Rattle.dutch_pair.proofs.ArrangementParts.{numbers_within}
 
@@ -25,9 +25,9 @@ marked : (old new rest : List ℕ) (x i : ℕ) → has_bit new x ≡ true → ((
 marked old new rest x i set others =
     elim (cases_eq i x) [
       | inl same ↦ ap (λ t. t || is_member i rest) (ap (has_bit new) same ∙ set)
-        ∙ (or_true (has_bit old i) ∙ sym (ap (λ t. has_bit old i || (t || is_member i rest)) (eq-eqb x i (sym same))))
+          ∙ (or_true (has_bit old i) ∙ sym (ap (λ t. has_bit old i || (t || is_member i rest)) (eq-eqb x i (sym same))))
       | inr other ↦ ap (λ t. t || is_member i rest) (others i other)
-        ∙ sym (ap (λ t. has_bit old i || (t || is_member i rest)) (ne_eqb x i (λ e. other (sym e))))
+          ∙ sym (ap (λ t. has_bit old i || (t || is_member i rest)) (ne_eqb x i (λ e. other (sym e))))
     ]
 
 pub mark_more : (old new numbers : List ℕ) (k i : ℕ) → k < length numbers → has_bit new (get_or numbers k 0) ≡ true

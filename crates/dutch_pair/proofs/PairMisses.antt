@@ -1,5 +1,5 @@
 -- Of a pair one misses his preference where both want one colour, and else nobody.
-use Rattle.std.proofs.Common.{◌≡◌, ℕ, ◌+◌, ◌<◌, Bool, true, false, not, ◌&&◌, ◌≤◌, ◌*◌, if◌then◌else◌, nat_lt, Option, Some, None, refl, sym, ap, ◌∙◌, arith}
+use Rattle.std.proofs.Common.{◌≡◌, ℕ, ◌+◌, Bool, true, false, not, ◌&&◌, ◌≤◌, if◌then◌else◌, nat_lt, Option, Some, None, refl, sym, ap, ◌∙◌, arith}
 use Rattle.std.specs.Option.{option_map_or}
 use Rattle.trf16.specs.declared.cell.Colour.{Colour}
 use Rattle.trf16.specs.declared.cell.Colour.TheVariants.{White, Black}

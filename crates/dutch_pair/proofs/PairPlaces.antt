@@ -1,5 +1,5 @@
 -- A table of pairs that is filled place by place.
-use Rattle.std.proofs.Common.{◌≡◌, ℕ, ◌+◌, ◌-◌, ◌*◌, ◌/◌, ◌%◌, ◌<◌, ◌≤◌, ◌==◌, Bool, true, false, not, ◌&&◌, nat_lt, nat_le, List, length, inl, inr, refl, sym, ap, ◌∙◌, arith}
+use Rattle.std.proofs.Common.{◌≡◌, ℕ, ◌+◌, ◌*◌, ◌/◌, ◌%◌, ◌<◌, ◌≤◌, ◌==◌, Bool, true, false, not, ◌&&◌, nat_lt, nat_le, List, length, inl, inr, refl, sym, ap, ◌∙◌, arith}
 use Rattle.std.proofs.Math.Bool.{and_comm}
 use Rattle.std.proofs.lemmas.Bool.{lt-ltb, le-ltb, lt-leb, cases_lt, cases_eq}
 use Rattle.std.proofs.lemmas.Bool.Decides.{nat_tests}
@@ -48,7 +48,7 @@ pub set_more : (known : FieldBracket) (old new : List ℕ) (end : ℕ) → suits
 set_more known old new end suit set others noted i =
     elim (cases_eq i end) [
       | inl same ↦ ap (has_bit new) same ∙ (set ∙ sym (ap (λ j. nat_lt j (end + 1) && suits_at known j) same
-        ∙ (ap (λ t. nat_lt end (end + 1) && t) suit ∙ ap (λ t. t && true) (lt-ltb end (end + 1) (omega arith)))))
+          ∙ (ap (λ t. nat_lt end (end + 1) && t) suit ∙ ap (λ t. t && true) (lt-ltb end (end + 1) (omega arith)))))
       | inr other ↦ others i other ∙ (noted i ∙ ap (λ t. t && suits_at known i) (elim (cases_lt i end) [
         | inl lt ↦ lt-ltb i end lt ∙ sym (lt-ltb i (end + 1) (omega arith))
         | inr ge ↦ le-ltb i end ge ∙ sym (le-ltb i (end + 1) (more ge other))
@@ -114,6 +114,6 @@ pub knows_all : (known : FieldBracket) (table : List ℕ) → NotedUpto known ta
 knows_all known table noted x y p q =
     elim (cases_lt (length known.stand.seats) x) [
       | inl lt ↦ noted (place_of x y) ∙ (ap (λ t. t && suits_at known (place_of x y)) (le-ltb (place_of x y) (256 * length known.stand.seats) (omega arith))
-        ∙ sym (suits_sym known.facts known.stand x y ∙ beyond_suits known.facts known.stand y x lt))
+          ∙ sym (suits_sym known.facts known.stand x y ∙ beyond_suits known.facts known.stand y x lt))
       | inr le ↦ noted_at known table (256 * length known.stand.seats) x y p q (omega arith) noted
     ]

@@ -1,5 +1,5 @@
 -- The floor of a beginning, by what is fixed in it: a quality that no candidate with it is better than (C.04.3 C.6 to C.19).
-use Rattle.std.specs.Prelude.{ℕ, ◌+◌, ◌-◌, ◌*◌, ◌≤◌, Bool, true, false, ◌&&◌, ◌||◌, ◌==◌, nat_lt, nat_le, if◌then◌else◌, List, [], ◌++◌, length, max, sum_by}
+use Rattle.std.specs.Prelude.{ℕ, ◌+◌, ◌-◌, ◌*◌, ◌≤◌, Bool, true, false, ◌&&◌, ◌||◌, ◌==◌, nat_lt, nat_le, if◌then◌else◌, List, [], length, max, sum_by}
 use Rattle.std.specs.List.{list_all}
 use Rattle.trf16.specs.declared.cell.Colour.{Colour}
 use Rattle.trf16.specs.declared.cell.Colour.TheVariants.{White, Black}
@@ -19,7 +19,7 @@ use Rattle.dutch_pair.specs.PsdFloors.{psd_with}
 use Rattle.dutch_pair.specs.Floors.{floor_with}
 
 -- a bracket of a field, the shape of its arrangements, and the best that the next bracket can be
-pub record Ground : Type 0 where
+pub record Basis : Type 0 where
   pub facts : Facts
   pub stand : Stand
   pub shape : Shape
@@ -54,28 +54,28 @@ is_uniform facts stand shape =
     (shape.mdps == 0) || ((shape.mdps == stand.mdps) || (score_at facts (seat_of stand.seats 1) == score_at facts (seat_of stand.seats stand.mdps)))
 
 -- C.6: what S1 tells where all residents have one score; else the differences of the pairs that are fixed
-abbrev pub psd_by : Filling → Ground → Arrangement → List ℕ
-psd_by filling ground lists =
-    if is_flat ground.facts ground.stand
-    then psd_with ground.facts ground.stand ground.shape (residents_score ground.facts ground.stand) (s1_by filling ground.shape lists.s1)
-    else psd ground.facts (fixed ground.facts ground.stand lists)
+abbrev pub psd_by : Filling → Basis → Arrangement → List ℕ
+psd_by filling basis lists =
+    if is_flat basis.facts basis.stand
+    then psd_with basis.facts basis.stand basis.shape (residents_score basis.facts basis.stand) (s1_by filling basis.shape lists.s1)
+    else psd basis.facts (fixed basis.facts basis.stand lists)
 
 -- C.10: how many more miss than in the pairs that are fixed; lonely players are known where S1R is chosen
-abbrev pub more_by : Filling → Ground → Arrangement → ℕ
-more_by S1 ground lists = more_missed ground.facts ground.stand ground.shape lists
-more_by S2 ground lists = more_missed ground.facts ground.stand ground.shape lists
-more_by S2r ground lists =
-    max (more_missed ground.facts ground.stand ground.shape lists) (lonely ground.facts ground.stand ground.shape lists)
+abbrev pub more_by : Filling → Basis → Arrangement → ℕ
+more_by S1 basis lists = more_missed basis.facts basis.stand basis.shape lists
+more_by S2 basis lists = more_missed basis.facts basis.stand basis.shape lists
+more_by S2r basis lists =
+    max (more_missed basis.facts basis.stand basis.shape lists) (lonely basis.facts basis.stand basis.shape lists)
 
 -- the floor by the list that is being filled and those that are fixed
-abbrev pub floor_by : Filling → Ground → Arrangement → Quality
-floor_by filling ground lists =
-    floor_with ground.facts ground.stand (psd_by filling ground lists) ground.next (more_by filling ground lists)
-    (more_missed_strong ground.facts ground.stand ground.shape lists) lists
+abbrev pub floor_by : Filling → Basis → Arrangement → Quality
+floor_by filling basis lists =
+    floor_with basis.facts basis.stand (psd_by filling basis lists) basis.next (more_by filling basis lists)
+    (more_missed_strong basis.facts basis.stand basis.shape lists) lists
 
 -- the floor of a beginning
-abbrev pub floor_of : Ground → Beginning → Quality
-floor_of ground b = floor_by b.filling ground (fixed_lists b)
+abbrev pub floor_of : Basis → Beginning → Quality
+floor_of basis b = floor_by b.filling basis (fixed_lists b)
 
 -- all are numbers of a bracket
 abbrev pub are_numbers : Stand → List ℕ → Bool
@@ -95,9 +95,9 @@ has_s1 S2 = true
 has_s1 S2r = true
 
 -- a floor is known: the lists are those of the bracket and the shape, and S1 is chosen, or it does not matter which is
-abbrev pub is_known : Ground → Beginning → Bool
-is_known ground b =
-    is_of_shape ground.stand ground.shape (fixed_lists b) && (has_s1 b.filling || is_uniform ground.facts ground.stand ground.shape)
+abbrev pub is_known : Basis → Beginning → Bool
+is_known basis b =
+    is_of_shape basis.stand basis.shape (fixed_lists b) && (has_s1 b.filling || is_uniform basis.facts basis.stand basis.shape)
 
 -- 1 for a seat whose preference is a colour, or only where it is firm
 abbrev pub wish_of : Bool → Facts → Colour → ℕ → ℕ

@@ -32,3 +32,4 @@ pub mod Aims
 pub mod BitTables
 pub mod PairFacts
 pub mod FloorOf
+pub mod Outlooks

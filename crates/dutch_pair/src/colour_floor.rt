@@ -72,15 +72,26 @@ fn surplus(players: &PlayerFacts<'_>, shape: Shape, pairs: &[Pair], wish: Wish) 
 }
 
 /// How many miss more than in the pairs (C.10); of firm preferences alone (C.11).
-pub(crate) fn more_missed(players: &PlayerFacts<'_>, shape: Shape, pairs: &[Pair], firm: bool) -> usize
+pub(crate) fn more_missed(
+    players: &PlayerFacts<'_>,
+    shape: Shape,
+    pairs: &[Pair],
+    firm: bool,
+) -> usize
     requires inside { AllPairs players.now.facts pairs.now }
     requires few { length pairs.now ≤ LIMIT }
     requires small { shape.pairs ≤ LIMIT }
     ensures value { result ≡ more_in firm players.now.facts players.now.stand shape pairs.now }
     ensures few { result ≤ LIMIT }
 {
-    let white = Wish { colour: Colour::White, firm };
-    let black = Wish { colour: Colour::Black, firm };
+    let white = Wish {
+        colour: Colour::White,
+        firm,
+    };
+    let black = Wish {
+        colour: Colour::Black,
+        firm,
+    };
     surplus(players, shape, pairs, white).max(surplus(players, shape, pairs, black))
 }
 

@@ -42,9 +42,9 @@ impl<'a> Model for Floors<'a> {
     ghost use Rattle.std.specs.Prelude.{◌≡◌};
     ghost use Rattle.dutch_order.specs.Arrangements.{Fits};
     ghost use Rattle.dutch_pair.specs.Reached.{frame_of};
-    ghost use Rattle.dutch_pair.specs.FloorOf.{Ground, is_flat, is_uniform};
+    ghost use Rattle.dutch_pair.specs.FloorOf.{Basis, is_flat, is_uniform};
 
-    ghost Value = { Ground };
+    ghost Value = { Basis };
 
     ghost view = { λ f. record { facts = f.pairs.facts; stand = f.pairs.stand; shape = f.shape; next = f.next } };
 

@@ -35,7 +35,7 @@ fn residents_down(field: &Field, reached: &Reached, shape: Shape) -> usize
 }
 
 /// The scores of the moved-down players whom the first S1 of a shape leaves over, in half points.
-fn limbo_scores(field: &Field, reached: &Reached, shape: Shape) -> Numbers
+pub(crate) fn limbo_scores(field: &Field, reached: &Reached, shape: Shape) -> Numbers
     requires of { IsOf field.now reached.now }
     requires fits { Fits (frame_of field.now reached.now) shape }
     ensures items { result.items ≡ first_limbo field.now reached.now shape }

@@ -29,6 +29,7 @@ pub mod lower;
 mod pair_facts;
 mod player_facts;
 mod psd_floor;
+mod outlook;
 pub mod quality;
 pub mod reached;
 pub mod round;

@@ -12,6 +12,7 @@ ghost use Rattle.dutch_pair.specs.GhostValues.{first_limbo};
 ghost use Rattle.dutch_pair.specs.NextBracket.{IsNext};
 ghost use Rattle.dutch_pair.specs.Outlooks.{IsOutlook, awaited, leaves_first, leaves_first_by, limbo_scores};
 ghost use Rattle.dutch_pair.specs.Reached.{IsAbove, IsOf, frame_of};
+ghost use Rattle.dutch_pair.specs.Round.{is_ordinary};
 
 use crate::ghost_value::{ghost_value, limbo_scores as first_limbo};
 use crate::group::split_first_group;
@@ -80,6 +81,13 @@ fn leaves_first_by(field: &Field, reached: &Reached, shape: Shape, filling: Fill
     }
 }
 
+/// Whether the next bracket counts (C.7).
+fn is_ordinary(kind: Kind) -> bool
+    ensures { result ≡ is_ordinary kind }
+{
+    matches!(kind, Kind::Ordinary)
+}
+
 /// What half of those who go down and of the next lower scoregroup come to in pairs.
 fn value_by_counts(reached: &Reached, shape: Shape, next: &[u16]) -> NextValue
     requires small { 2 * shape.pairs ≤ length reached.now.seats }
@@ -95,7 +103,7 @@ fn value_by_counts(reached: &Reached, shape: Shape, next: &[u16]) -> NextValue
 impl Outlook {
     /// The best that the next bracket of a bracket and a shape can be: none where the budget's limit was reached first. In brackets that
     /// are not ordinary the next one does not count.
-    #[tactic(auto, using(crate::proofs::C07Outlook::none_counts, crate::proofs::C07Outlook::by_counts, crate::proofs::C07Outlook::by_ghosts, crate::proofs::C07Outlook::few_pairs, crate::proofs::C07Outlook::flat_residents, crate::proofs::NextGroups::is_next))]
+    #[tactic(auto, using(crate::proofs::C07Outlook::none_counts, crate::proofs::C07Outlook::by_counts, crate::proofs::C07Outlook::by_ghosts, crate::proofs::C07Outlook::few_pairs, crate::proofs::C07Outlook::flat_residents, crate::proofs::C07Outlook::below_ordinary, crate::proofs::NextGroups::is_next))]
     pub(crate) fn find(
         field: &Field,
         reached: &Reached,
@@ -111,14 +119,11 @@ impl Outlook {
         ensures rises { budget.old.used ≤ budget.new.used }
         ensures within { budget.new.used ≤ budget.new.limit }
     {
-        match reached.kind() {
-            Kind::Ordinary => {}
-            _ => {
-                return Some(Outlook {
-                    first: None,
-                    any: NextValue::none(),
-                });
-            }
+        if !is_ordinary(reached.kind()) {
+            return Some(Outlook {
+                first: None,
+                any: NextValue::none(),
+            });
         }
         let next = split_first_group(field, lower).0;
         let any = value_by_counts(reached, shape, next);

@@ -108,7 +108,11 @@ fn spend(steps: u64, budget: &mut Budget) -> bool
 
 impl<'a> PairFacts<'a> {
     /// Looks at all pairs of numbers of a bracket, a step a pair: none where the budget's limit would be passed.
-    pub(crate) fn read(field: &'a Field, reached: &'a Reached, budget: &mut Budget) -> Option<PairFacts<'a>>
+    pub(crate) fn read(
+        field: &'a Field,
+        reached: &'a Reached,
+        budget: &mut Budget,
+    ) -> Option<PairFacts<'a>>
         requires bracket { IsOf field.now reached.now }
         requires within { budget.old.used ≤ budget.old.limit }
         ensures answer { MatchOption result (budget.new.used ≡ budget.new.limit) (λ facts. facts ≡ record { facts = field.now; stand = reached.now }) }

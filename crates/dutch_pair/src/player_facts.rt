@@ -126,7 +126,9 @@ impl<'a> PlayerFacts<'a> {
     {
         let residents = self.len().saturating_sub(self.reached.mdps());
         let pairs = shape.pairs.saturating_sub(shape.mdps);
-        residents.saturating_sub(shape.mdps).saturating_sub(2 * pairs)
+        residents
+            .saturating_sub(shape.mdps)
+            .saturating_sub(2 * pairs)
     }
 
     /// The numbers of the moved-down players.

@@ -125,7 +125,12 @@ pub(crate) fn goes_up(field: &Field, pair: Pair) -> Mover
 }
 
 /// Adds the pairs of two lists of numbers, place by place.
-pub(crate) fn push_pairs(seats: &[u16], firsts: &[u16], seconds: &[u16], pairs: &mut ArrayVec<Pair, LIMIT>)
+pub(crate) fn push_pairs(
+    seats: &[u16],
+    firsts: &[u16],
+    seconds: &[u16],
+    pairs: &mut ArrayVec<Pair, LIMIT>,
+)
     requires first { AllNumbers seats.now firsts.now }
     requires second { AllNumbers seats.now seconds.now }
     requires equal { length firsts.now ≡ length seconds.now }

@@ -1,7 +1,7 @@
 -- The two counts are those of the definition.
 use Rattle.std.proofs.Common.{◌≡◌, ◌∙◌, ◌-◌, ℕ, List, max, not, filter, length, ap}
 use Rattle.std.specs.List.{list_any}
-use Rattle.dutch_pair.specs.ColourFloors.{suits, waiting, pool, lonely_first, lonely_second, residents_down}
+use Rattle.dutch_pair.specs.ColourFloors.{suits, pool, lonely_first, lonely_second, residents_down}
 use Rattle.dutch_pair.specs.PairFacts.{FieldBracket}
 use Rattle.dutch_pair.proofs.lonely.lonely.Goals as goal
 

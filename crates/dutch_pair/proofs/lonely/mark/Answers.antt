@@ -1,5 +1,5 @@
 -- One number more is marked.
-use Rattle.std.proofs.Common.{◌≡◌, ◌∙◌, ◌||◌, ℕ, Bool, List, get_or, sym, ap}
+use Rattle.std.proofs.Common.{◌≡◌, ◌∙◌, ◌||◌, ℕ, List, get_or, sym, ap}
 use Rattle.std.proofs.lemmas.List.{drop_all}
 use Rattle.dutch_order.specs.Choices.{is_member}
 use Rattle.dutch_pair.specs.BitTables.{has_bit}

@@ -1,5 +1,5 @@
 -- The three lists are marked one by one.
-use Rattle.std.proofs.Common.{◌≡◌, ◌∙◌, ◌||◌, Bool, ap}
+use Rattle.std.proofs.Common.{◌∙◌, ◌||◌, Bool, ap}
 use Rattle.dutch_order.specs.Arrangements.{Arrangement}
 use Rattle.dutch_order.specs.Choices.{is_member}
 use Rattle.dutch_pair.proofs.lonely.taken.Goals as goal

@@ -1,5 +1,5 @@
 -- Those of S1R behind as many as S2R has.
-use Rattle.std.proofs.Common.{◌≡◌, ◌∙◌, ap}
+use Rattle.std.proofs.Common.{◌∙◌, ap}
 use Rattle.dutch_pair.specs.ColourFloors.{waiting}
 use Rattle.dutch_pair.proofs.LonelyLemmas.{beyond_is}
 use Rattle.dutch_pair.proofs.lonely.waiting.Goals as goal

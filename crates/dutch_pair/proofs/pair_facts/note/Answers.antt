@@ -1,5 +1,5 @@
 -- One place more is noted.
-use Rattle.std.proofs.Common.{◌≡◌, ◌∙◌, ℕ, Bool, true, false, List, ap, sym, subst}
+use Rattle.std.proofs.Common.{◌∙◌, ap, sym}
 use Rattle.dutch_pair.specs.BitTables.{has_bit}
 use Rattle.dutch_pair.proofs.PairPlaces.{suits_more, suits_not}
 use Rattle.dutch_pair.proofs.pair_facts.note.Goals as goal

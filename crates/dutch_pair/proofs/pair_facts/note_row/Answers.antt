@@ -1,5 +1,5 @@
 -- Behind the last number of the row nobody suits.
-use Rattle.std.proofs.Common.{rules, ◌≡◌, ◌≤◌, ◌+◌, length, arith}
+use Rattle.std.proofs.Common.{◌+◌, arith}
 use Rattle.dutch_pair.specs.PairFacts.{place_of}
 use Rattle.dutch_pair.proofs.PairPlaces.{noted_same, row_end}
 use Rattle.dutch_pair.proofs.pair_facts.note_row.Goals as goal

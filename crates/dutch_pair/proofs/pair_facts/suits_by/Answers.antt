@@ -1,5 +1,5 @@
 -- The pair stands before, the other way round.
-use Rattle.std.proofs.Common.{◌≡◌, ◌∙◌, ap}
+use Rattle.std.proofs.Common.{◌∙◌, ap}
 use Rattle.dutch_pair.specs.BitTables.{has_bit}
 use Rattle.dutch_pair.proofs.PairPlaces.{noted_before}
 use Rattle.dutch_pair.proofs.pair_facts.suits_by.Goals as goal

@@ -1,0 +1,139 @@
+-- The floor of a beginning is beaten by no candidate that begins so (C.04.3 C.6 to C.19): what S1 tells of the PSD, or else the pairs
+-- that are fixed; the best that the next bracket can be; the items of the fixed pairs, and how many more must miss their colours.
+use Rattle.std.proofs.Common.{◌≡◌, ◌≢◌, ℕ, ◌+◌, ◌-◌, ◌<◌, ◌≤◌, Bool, true, false, ◌&&◌, ◌||◌, ◌==◌, nat_lt, if◌then◌else◌, List, [], ◌++◌, map, length, refl, sym, ap, subst, ◌∙◌, ◌⊎◌, inl, inr, cond, append-nil, arith}
+use Rattle.std.specs.Prelude.{max, sum_by}
+use Rattle.std.proofs.lemmas.Bool.{and_parts, eqb-true, ltb-true}
+use Rattle.dutch_order.specs.declared.bracket.Shape.{Shape}
+use Rattle.dutch_order.specs.declared.prefix.Filling.{Filling}
+use Rattle.dutch_order.specs.declared.prefix.Filling.TheVariants.{S1, S2, S2r}
+use Rattle.dutch_order.specs.Arrangements.{Arrangement, arrangements, left_of, remainder_pairs}
+use Rattle.dutch_order.specs.Choices.{numbers_from}
+use Rattle.dutch_order.specs.Keys.{IsIn}
+use Rattle.dutch_order.specs.Prefixes.{Begins, BeginsAt, Beginning, GoesOn}
+use Rattle.dutch_player.specs.Facts.{Facts}
+use Rattle.dutch_pair.specs.declared.colours_missed.Miss.TheVariants.{Wide, Third, Preference, StrongPreference}
+use Rattle.dutch_pair.specs.Beginnings.{HasPairsOf, LacksEndOfS2r, fixed}
+use Rattle.dutch_pair.specs.ColourFloors.{more_missed_strong, residents_down}
+use Rattle.dutch_pair.specs.FloorOf.{Basis, fixed_lists, floor_by, floor_of, has_s1, is_flat, is_known, is_of_shape, is_uniform, lists_by, more_by, psd_by, residents_score, s1_by}
+use Rattle.dutch_pair.specs.Floors.{floor_with}
+use Rattle.dutch_pair.specs.NextBracket.{IsFlat, is_lower}
+use Rattle.dutch_pair.specs.PsdFloors.{IsUniform, psd_with, repeated}
+use Rattle.dutch_pair.specs.Quality.{count_in_pairs, highest_first, is_better, misses, psd}
+use Rattle.dutch_pair.specs.Reached.{IsOf, Stand, frame_of}
+use Rattle.dutch_pair.specs.Round.{candidates_of, quality_of}
+use Rattle.dutch_pair.specs.Seated.{all_pairs, difference, score_at, seat_of}
+use Rattle.dutch_pair.proofs.C06Psd.{flat_by_ends, psd_by_first, psd_of_all, psd_of_beginning, uniform_by_ends}
+use Rattle.std.proofs.lemmas.List.{length-map}
+use Rattle.dutch_pair.proofs.C08ToC19Fixed.{more_copies}
+use Rattle.dutch_pair.proofs.C10Lonely.{most_miss}
+use Rattle.dutch_pair.proofs.C10Preferences.{beginning_misses}
+use Rattle.dutch_pair.proofs.C11StrongPreferences.{beginning_misses_strongly}
+use Rattle.dutch_pair.proofs.FixedPairs.{has_pairs}
+use Rattle.dutch_pair.proofs.FloorOrder.{floor_holds}
+use Rattle.dutch_pair.proofs.LegalPairs.{legal_of}
+
+-- a list goes on from nothing
+from_nothing : (xs : List ℕ) → GoesOn [] xs
+from_nothing xs = record { rest = xs; is = refl }
+
+lacking : (lists a : Arrangement) → BeginsAt S2r lists a → LacksEndOfS2r (lists_by S2r lists) a
+lacking lists a h = record { s1 = h.0; s2 = h.1; s1r = h.2; s2r = h.3 }
+
+-- what a beginning fixes are pairs of each arrangement that begins so
+pub begun_pairs : (filling : Filling) (lists a : Arrangement) → BeginsAt filling lists a → HasPairsOf (lists_by filling lists) a
+begun_pairs S1 lists a h =
+    record { s1 = inl refl; s2 = from_nothing a.s2; s1r = inl refl; s2r = from_nothing a.s2r }
+begun_pairs S2 lists a h = record { s1 = inr h.0; s2 = h.1; s1r = inl refl; s2r = from_nothing a.s2r }
+begun_pairs S2r lists a h = has_pairs (lists_by S2r lists) a (lacking lists a h)
+
+or_split : (x y : Bool) → (x || y) ≡ true → (x ≡ true) ⊎ (y ≡ true)
+or_split true y h = inl refl
+or_split false y h = inr h
+
+same_not_lower : (xs : List ℕ) → is_lower (highest_first xs) (highest_first xs) ≡ false
+same_not_lower xs = more_copies xs xs (λ d. omega arith)
+
+known_not_lower : (facts : Facts) (stand : Stand) (shape : Shape) (s : ℕ) (s1 : List ℕ)
+    → is_lower (psd_with facts stand shape s s1) (psd_with facts stand shape s s1) ≡ false
+known_not_lower facts stand shape s s1 =
+    same_not_lower (map (λ i. score_at facts (seat_of stand.seats i) - s) s1
+    ++ (map (λ i. (score_at facts (seat_of stand.seats i) - s) + 2) (left_of (numbers_from 1 stand.mdps) s1)
+    ++ (repeated 0 (remainder_pairs shape) ++ repeated 2 (residents_down stand shape))))
+
+module _ (facts : Facts) (stand : Stand) (shape : Shape) where
+  flat_of : IsOf facts stand → is_flat facts stand ≡ true → IsFlat facts stand
+  flat_of of' h =
+      let parts = and_parts (nat_lt stand.mdps (length stand.seats)) _ h in
+      flat_by_ends facts stand of' (ltb-true stand.mdps (length stand.seats) parts.0)
+      (eqb-true (residents_score facts stand) (score_at facts (seat_of stand.seats (length stand.seats))) parts.1)
+
+  pub uniform_of : IsOf facts stand → is_uniform facts stand shape ≡ true → IsUniform facts stand shape
+  uniform_of of' h = elim (or_split (shape.mdps == 0) _ h) [
+    | inl none ↦ inl (eqb-true shape.mdps 0 none)
+    | inr others ↦ elim (or_split (shape.mdps == stand.mdps) _ others) [
+      | inl all ↦ inr (inl (eqb-true shape.mdps stand.mdps all))
+      | inr one ↦ uniform_by_ends facts stand shape of' (eqb-true (score_at facts (seat_of stand.seats 1)) (score_at facts (seat_of stand.seats stand.mdps)) one)
+    ]
+  ]
+
+-- C.6, where all residents have one score
+psd_at : (basis : Basis) (lower : List ℕ) (filling : Filling) (lists a : Arrangement) → IsOf basis.facts basis.stand → IsFlat basis.facts basis.stand
+    → IsIn a (arrangements (frame_of basis.facts basis.stand) basis.shape) → BeginsAt filling lists a
+    → (has_s1 filling || is_uniform basis.facts basis.stand basis.shape) ≡ true
+    → (quality_of basis.facts basis.stand lower a).psd
+    ≡ psd_with basis.facts basis.stand basis.shape (residents_score basis.facts basis.stand) (s1_by filling basis.shape (lists_by filling lists).s1)
+psd_at basis lower S1 lists a of' flat m h known =
+    psd_of_all basis.facts basis.stand lower basis.shape a of' flat (uniform_of basis.facts basis.stand basis.shape of' known) m
+psd_at basis lower S2 lists a of' flat m h known =
+    psd_by_first basis.facts basis.stand lower basis.shape a of' flat m
+    ∙ ap (psd_with basis.facts basis.stand basis.shape (residents_score basis.facts basis.stand)) (sym h.0)
+psd_at basis lower S2r lists a of' flat m h known =
+    psd_by_first basis.facts basis.stand lower basis.shape a of' flat m
+    ∙ ap (psd_with basis.facts basis.stand basis.shape (residents_score basis.facts basis.stand)) (sym h.0)
+
+-- C.6: the PSD is not lower
+psd_holds : (basis : Basis) (lower : List ℕ) (filling : Filling) (lists a : Arrangement) → IsOf basis.facts basis.stand
+    → IsIn a (arrangements (frame_of basis.facts basis.stand) basis.shape) → BeginsAt filling lists a
+    → (has_s1 filling || is_uniform basis.facts basis.stand basis.shape) ≡ true
+    → (t : Bool) → is_flat basis.facts basis.stand ≡ t
+    → is_lower (quality_of basis.facts basis.stand lower a).psd (cond t
+    (psd_with basis.facts basis.stand basis.shape (residents_score basis.facts basis.stand) (s1_by filling basis.shape (lists_by filling lists).s1))
+    (psd basis.facts (fixed basis.facts basis.stand (lists_by filling lists)))) ≡ false
+psd_holds basis lower filling lists a of' m h known true flat =
+    let same = psd_at basis lower filling lists a of' (flat_of basis.facts basis.stand basis.shape of' flat) m h known in
+    ap (λ xs. is_lower xs (psd_with basis.facts basis.stand basis.shape (residents_score basis.facts basis.stand) (s1_by filling basis.shape (lists_by filling lists).s1))) same
+    ∙ known_not_lower basis.facts basis.stand basis.shape (residents_score basis.facts basis.stand) (s1_by filling basis.shape (lists_by filling lists).s1)
+psd_holds basis lower filling lists a of' m h known false uneven =
+    let by : List ℕ = map (difference basis.facts) (all_pairs basis.stand.seats (lists_by filling lists)) in
+    ap (λ xs. is_lower (quality_of basis.facts basis.stand lower a).psd (highest_first xs)) (append-nil by)
+    ∙ psd_of_beginning basis.facts basis.stand lower (lists_by filling lists) a (begun_pairs filling lists a h)
+
+-- C.10: so many more miss
+more_holds : (basis : Basis) (lower : List ℕ) (filling : Filling) (lists a : Arrangement) → basis.stand.mdps ≤ length basis.stand.seats
+    → IsIn a (candidates_of basis.facts basis.stand basis.shape) → BeginsAt filling lists a
+    → count_in_pairs basis.facts (misses Preference) (all_pairs basis.stand.seats (lists_by filling lists)) + more_by filling basis (lists_by filling lists)
+    ≤ (quality_of basis.facts basis.stand lower a).missed_preferences
+more_holds basis lower S1 lists a within m h =
+    beginning_misses basis.facts basis.stand lower basis.shape (lists_by S1 lists) a within (legal_of basis.facts basis.stand basis.shape a m).arranged (begun_pairs S1 lists a h)
+more_holds basis lower S2 lists a within m h =
+    beginning_misses basis.facts basis.stand lower basis.shape (lists_by S2 lists) a within (legal_of basis.facts basis.stand basis.shape a m).arranged (begun_pairs S2 lists a h)
+more_holds basis lower S2r lists a within m h =
+    most_miss basis.facts basis.stand lower basis.shape (lists_by S2r lists) a within m (lacking lists a h)
+
+-- C.6 to C.19: no candidate with a beginning is better than its floor, if the next bracket can be no better
+pub floor_stands : (basis : Basis) (lower : List ℕ) (b : Beginning) (a : Arrangement) → IsOf basis.facts basis.stand
+    → IsIn a (candidates_of basis.facts basis.stand basis.shape) → Begins b a
+    → (has_s1 b.filling || is_uniform basis.facts basis.stand basis.shape) ≡ true
+    → (quality_of basis.facts basis.stand lower a).next_pairs ≤ basis.next.pairs
+    → ((quality_of basis.facts basis.stand lower a).next_pairs ≡ basis.next.pairs → is_lower (quality_of basis.facts basis.stand lower a).next_psd basis.next.psd ≡ false)
+    → is_better (quality_of basis.facts basis.stand lower a) (floor_of basis b) ≡ false
+floor_stands basis lower b a of' m h known pairs later =
+    let legal = legal_of basis.facts basis.stand basis.shape a m in
+    let within : basis.stand.mdps ≤ length basis.stand.seats = subst (λ n. basis.stand.mdps ≤ n) (length-map basis.stand.seats (score_at basis.facts)) of'.sound.within in
+    floor_holds basis.facts basis.stand lower (psd_by b.filling basis (fixed_lists b)) basis.next (more_by b.filling basis (fixed_lists b))
+    (more_missed_strong basis.facts basis.stand basis.shape (fixed_lists b)) (fixed_lists b) a
+    (begun_pairs b.filling b.lists a h)
+    (psd_holds basis lower b.filling b.lists a of' legal.arranged h known (is_flat basis.facts basis.stand) refl)
+    pairs later
+    (more_holds basis lower b.filling b.lists a within m h)
+    (beginning_misses_strongly basis.facts basis.stand lower basis.shape (fixed_lists b) a within m (begun_pairs b.filling b.lists a h))
