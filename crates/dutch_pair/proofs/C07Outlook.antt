@@ -23,12 +23,12 @@ use Rattle.dutch_pair.specs.Quality.{NextValue}
 use Rattle.dutch_pair.specs.Reached.{IsAbove, IsOf, Stand, frame_of}
 use Rattle.dutch_pair.specs.Round.{downfloaters, first_group, is_ordinary, quality_of, scoregroups}
 use Rattle.dutch_pair.specs.Seated.{score_at, seat_of}
-use Rattle.dutch_pair.proofs.C06Psd.{flat_by_ends}
+use Rattle.dutch_pair.specs.PsdFloors.{IsUniform}
+use Rattle.dutch_pair.proofs.C06Psd.{flat_by_ends, uniform_by_ends}
 use Rattle.dutch_order.proofs.FromOn.{is_same-true}
 use Rattle.dutch_pair.proofs.C04Ghosts.{down_count}
 use Rattle.dutch_pair.proofs.C07Ghosts.{no_value_has_more_than_half_the_players_in_pairs}
 use Rattle.dutch_pair.proofs.C07GhostValues.{first_limbo_of_all, no_value_is_better_than_by_ghosts}
-use Rattle.dutch_pair.proofs.FloorOfBeginning.{uniform_of}
 use Rattle.dutch_pair.proofs.NextGroups.{first_is_next}
 
 not_better : (value next : NextValue) → IsNotBetter value next.pairs next.psd
@@ -56,6 +56,19 @@ flat_residents facts stand of' h =
     let parts = and_parts (nat_lt stand.mdps (length stand.seats)) _ h in
     flat_by_ends facts stand of' (ltb-true stand.mdps (length stand.seats) parts.0)
     (eqb-true (residents_score facts stand) (score_at facts (seat_of stand.seats (length stand.seats))) parts.1)
+
+or_split : (x y : Bool) → (x || y) ≡ true → (x ≡ true) ⊎ (y ≡ true)
+or_split true y h = inl refl
+or_split false y h = inr h
+
+pub uniform_of : (facts : Facts) (stand : Stand) (shape : Shape) → IsOf facts stand → is_uniform facts stand shape ≡ true → IsUniform facts stand shape
+uniform_of facts stand shape of' h = elim (or_split (shape.mdps == 0) _ h) [
+  | inl none ↦ inl (eqb-true shape.mdps 0 none)
+  | inr others ↦ elim (or_split (shape.mdps == stand.mdps) _ others) [
+    | inl all ↦ inr (inl (eqb-true shape.mdps stand.mdps all))
+    | inr one ↦ uniform_by_ends facts stand shape of' (eqb-true (score_at facts (seat_of stand.seats 1)) (score_at facts (seat_of stand.seats stand.mdps)) one)
+  ]
+]
 
 -- a shape that fits has no more than half the players in pairs
 pub few_pairs : (facts : Facts) (stand : Stand) (shape : Shape) → IsOf facts stand → Fits (frame_of facts stand) shape → 2 * shape.pairs ≤ length stand.seats

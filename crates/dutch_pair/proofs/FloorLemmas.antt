@@ -1,5 +1,5 @@
 -- What a floor is made of has room in a bracket.
-use Rattle.std.proofs.Common.{◌≡◌, ℕ, ◌+◌, ◌-◌, ◌*◌, ◌≤◌, Bool, true, false, ◌&&◌, nat_le, List, [], ◌∷◌, length, map, refl, arith}
+use Rattle.std.proofs.Common.{◌≡◌, ℕ, ◌+◌, ◌-◌, ◌*◌, ◌≤◌, Bool, true, false, ◌&&◌, nat_le, List, [], ◌∷◌, length, map, refl, ap, arith}
 use Rattle.std.specs.List.{list_all}
 use Rattle.std.proofs.lemmas.Bool.{leb-true}
 use Rattle.std.proofs.lemmas.List.{length-map}
@@ -11,6 +11,7 @@ use Rattle.dutch_pair.specs.Reached.{Stand, IsOf, is_number, frame_of}
 use Rattle.dutch_pair.specs.Seated.{score_at, AllNumbers}
 use Rattle.dutch_pair.specs.ColourFloors.{residents_down}
 use Rattle.dutch_pair.specs.FloorOf.{HasNumbers, are_numbers, is_of_shape}
+use Rattle.dutch_order.proofs.Members.{length-numbers}
 use Rattle.dutch_pair.proofs.ArrangementParts.{numbers_within}
 
 both : (s t : Bool) → (s && t) ≡ true → (s ≡ true) × (t ≡ true)
@@ -81,3 +82,7 @@ numbers_fit facts stand shape lists fits of e =
       few = omega (arith, s1_few, s2_few, s1r_few, s2r_few, small, less);
       few_first = omega (arith, s1r_few, small, less);
     }
+
+-- the first S1 has as many as are to be paired
+pub first_length : (shape : Shape) (xs : List ℕ) → xs ≡ numbers_from 1 shape.mdps → length xs ≤ shape.mdps
+first_length shape xs e = omega (arith, ap length e, length-numbers 1 shape.mdps)

@@ -14,15 +14,19 @@ use Rattle.dutch_player.specs.Facts.{Facts}
 use Rattle.dutch_pair.specs.declared.colours_missed.Miss.TheVariants.{Wide, Third, Preference, StrongPreference}
 use Rattle.dutch_pair.specs.Beginnings.{HasPairsOf, LacksEndOfS2r, fixed}
 use Rattle.dutch_pair.specs.ColourFloors.{more_missed_strong, residents_down}
-use Rattle.dutch_pair.specs.FloorOf.{Basis, fixed_lists, floor_by, floor_of, has_s1, is_flat, is_known, is_of_shape, is_uniform, lists_by, more_by, psd_by, residents_score, s1_by}
-use Rattle.dutch_pair.specs.Floors.{floor_with}
+use Rattle.dutch_pair.specs.FloorOf.{Basis, IsBasis, fixed_lists, floor_by, floor_of, has_s1, is_flat, is_known, is_of_shape, is_uniform, lists_by, more_by, psd_by, residents_score, s1_by}
+use Rattle.dutch_pair.specs.Outlooks.{IsOutlook, awaited}
 use Rattle.dutch_pair.specs.NextBracket.{IsFlat, is_lower}
 use Rattle.dutch_pair.specs.PsdFloors.{IsUniform, psd_with, repeated}
-use Rattle.dutch_pair.specs.Quality.{count_in_pairs, highest_first, is_better, misses, psd}
+use Rattle.dutch_pair.specs.Quality.{Quality, count_in_pairs, highest_first, is_better, misses, psd}
+use Rattle.std.specs.Prelude.{Option, Some, None, MatchOption}
+use Rattle.dutch_pair.specs.declared.quality.Quality.{Quality as Fields}
+use Rattle.dutch_pair.specs.QualityIn.{quality_in}
 use Rattle.dutch_pair.specs.Reached.{IsOf, Stand, frame_of}
 use Rattle.dutch_pair.specs.Round.{candidates_of, quality_of}
 use Rattle.dutch_pair.specs.Seated.{all_pairs, difference, score_at, seat_of}
-use Rattle.dutch_pair.proofs.C06Psd.{flat_by_ends, psd_by_first, psd_of_all, psd_of_beginning, uniform_by_ends}
+use Rattle.dutch_pair.proofs.C06Psd.{psd_by_first, psd_of_all, psd_of_beginning}
+use Rattle.dutch_pair.proofs.C07Outlook.{awaited_holds, flat_residents, uniform_of}
 use Rattle.std.proofs.lemmas.List.{length-map}
 use Rattle.dutch_pair.proofs.C08ToC19Fixed.{more_copies}
 use Rattle.dutch_pair.proofs.C10Lonely.{most_miss}
@@ -46,10 +50,6 @@ begun_pairs S1 lists a h =
 begun_pairs S2 lists a h = record { s1 = inr h.0; s2 = h.1; s1r = inl refl; s2r = from_nothing a.s2r }
 begun_pairs S2r lists a h = has_pairs (lists_by S2r lists) a (lacking lists a h)
 
-or_split : (x y : Bool) → (x || y) ≡ true → (x ≡ true) ⊎ (y ≡ true)
-or_split true y h = inl refl
-or_split false y h = inr h
-
 same_not_lower : (xs : List ℕ) → is_lower (highest_first xs) (highest_first xs) ≡ false
 same_not_lower xs = more_copies xs xs (λ d. omega arith)
 
@@ -59,22 +59,6 @@ known_not_lower facts stand shape s s1 =
     same_not_lower (map (λ i. score_at facts (seat_of stand.seats i) - s) s1
     ++ (map (λ i. (score_at facts (seat_of stand.seats i) - s) + 2) (left_of (numbers_from 1 stand.mdps) s1)
     ++ (repeated 0 (remainder_pairs shape) ++ repeated 2 (residents_down stand shape))))
-
-module _ (facts : Facts) (stand : Stand) (shape : Shape) where
-  flat_of : IsOf facts stand → is_flat facts stand ≡ true → IsFlat facts stand
-  flat_of of' h =
-      let parts = and_parts (nat_lt stand.mdps (length stand.seats)) _ h in
-      flat_by_ends facts stand of' (ltb-true stand.mdps (length stand.seats) parts.0)
-      (eqb-true (residents_score facts stand) (score_at facts (seat_of stand.seats (length stand.seats))) parts.1)
-
-  pub uniform_of : IsOf facts stand → is_uniform facts stand shape ≡ true → IsUniform facts stand shape
-  uniform_of of' h = elim (or_split (shape.mdps == 0) _ h) [
-    | inl none ↦ inl (eqb-true shape.mdps 0 none)
-    | inr others ↦ elim (or_split (shape.mdps == stand.mdps) _ others) [
-      | inl all ↦ inr (inl (eqb-true shape.mdps stand.mdps all))
-      | inr one ↦ uniform_by_ends facts stand shape of' (eqb-true (score_at facts (seat_of stand.seats 1)) (score_at facts (seat_of stand.seats stand.mdps)) one)
-    ]
-  ]
 
 -- C.6, where all residents have one score
 psd_at : (basis : Basis) (lower : List ℕ) (filling : Filling) (lists a : Arrangement) → IsOf basis.facts basis.stand → IsFlat basis.facts basis.stand
@@ -100,7 +84,7 @@ psd_holds : (basis : Basis) (lower : List ℕ) (filling : Filling) (lists a : Ar
     (psd_with basis.facts basis.stand basis.shape (residents_score basis.facts basis.stand) (s1_by filling basis.shape (lists_by filling lists).s1))
     (psd basis.facts (fixed basis.facts basis.stand (lists_by filling lists)))) ≡ false
 psd_holds basis lower filling lists a of' m h known true flat =
-    let same = psd_at basis lower filling lists a of' (flat_of basis.facts basis.stand basis.shape of' flat) m h known in
+    let same = psd_at basis lower filling lists a of' (flat_residents basis.facts basis.stand of' flat) m h known in
     ap (λ xs. is_lower xs (psd_with basis.facts basis.stand basis.shape (residents_score basis.facts basis.stand) (s1_by filling basis.shape (lists_by filling lists).s1))) same
     ∙ known_not_lower basis.facts basis.stand basis.shape (residents_score basis.facts basis.stand) (s1_by filling basis.shape (lists_by filling lists).s1)
 psd_holds basis lower filling lists a of' m h known false uneven =
@@ -120,20 +104,52 @@ more_holds basis lower S2 lists a within m h =
 more_holds basis lower S2r lists a within m h =
     most_miss basis.facts basis.stand lower basis.shape (lists_by S2r lists) a within m (lacking lists a h)
 
--- C.6 to C.19: no candidate with a beginning is better than its floor, if the next bracket can be no better
+-- C.6 to C.19: no candidate with a beginning is better than its floor
 pub floor_stands : (basis : Basis) (lower : List ℕ) (b : Beginning) (a : Arrangement) → IsOf basis.facts basis.stand
     → IsIn a (candidates_of basis.facts basis.stand basis.shape) → Begins b a
     → (has_s1 b.filling || is_uniform basis.facts basis.stand basis.shape) ≡ true
-    → (quality_of basis.facts basis.stand lower a).next_pairs ≤ basis.next.pairs
-    → ((quality_of basis.facts basis.stand lower a).next_pairs ≡ basis.next.pairs → is_lower (quality_of basis.facts basis.stand lower a).next_psd basis.next.psd ≡ false)
+    → IsOutlook basis.facts basis.stand lower basis.shape basis.outlook
     → is_better (quality_of basis.facts basis.stand lower a) (floor_of basis b) ≡ false
-floor_stands basis lower b a of' m h known pairs later =
+floor_stands basis lower b a of' m h known outlook =
     let legal = legal_of basis.facts basis.stand basis.shape a m in
     let within : basis.stand.mdps ≤ length basis.stand.seats = subst (λ n. basis.stand.mdps ≤ n) (length-map basis.stand.seats (score_at basis.facts)) of'.sound.within in
-    floor_holds basis.facts basis.stand lower (psd_by b.filling basis (fixed_lists b)) basis.next (more_by b.filling basis (fixed_lists b))
+    let later = awaited_holds basis.facts basis.stand lower basis.shape basis.outlook of' outlook b.filling b.lists a legal.arranged h known in
+    floor_holds basis.facts basis.stand lower (psd_by b.filling basis (fixed_lists b))
+    (awaited basis.facts basis.stand basis.shape basis.outlook b.filling (fixed_lists b).s1) (more_by b.filling basis (fixed_lists b))
     (more_missed_strong basis.facts basis.stand basis.shape (fixed_lists b)) (fixed_lists b) a
     (begun_pairs b.filling b.lists a h)
     (psd_holds basis lower b.filling b.lists a of' legal.arranged h known (is_flat basis.facts basis.stand) refl)
-    pairs later
+    later.0 later.1
     (more_holds basis lower b.filling b.lists a within m h)
     (beginning_misses_strongly basis.facts basis.stand lower basis.shape (fixed_lists b) a within m (begun_pairs b.filling b.lists a h))
+
+known_s1 : (basis : Basis) (b : Beginning) → is_known basis b ≡ true → (has_s1 b.filling || is_uniform basis.facts basis.stand basis.shape) ≡ true
+known_s1 basis b h = (and_parts (is_of_shape basis.stand basis.shape (fixed_lists b)) _ h).1
+
+-- the same of a pass over the candidates of a bracket
+pub no_better : (facts : Facts) (stand : Stand) (lower : List ℕ) (shape : Shape) (basis : Basis) (b : Beginning) (floor : Quality) → IsBasis facts stand lower shape basis
+    → IsOf facts stand → is_known basis b ≡ true → floor ≡ floor_of basis b
+    → (a : Arrangement) → IsIn a (candidates_of facts stand shape) → Begins b a → is_better (quality_of facts stand lower a) floor ≡ false
+no_better facts stand lower shape basis b floor is of' known e a m h =
+    let f = is.facts_are in
+    let s = is.stand_is in
+    let p = is.shape_is in
+    let of'' : IsOf basis.facts basis.stand = subst (λ fs. IsOf fs basis.stand) (sym f) (subst (λ st. IsOf facts st) (sym s) of') in
+    let m' : IsIn a (candidates_of basis.facts basis.stand basis.shape) =
+    subst (λ fs. IsIn a (candidates_of fs basis.stand basis.shape)) (sym f)
+    (subst (λ st. IsIn a (candidates_of facts st basis.shape)) (sym s) (subst (λ sh. IsIn a (candidates_of facts stand sh)) (sym p) m)) in
+    let outlook : IsOutlook basis.facts basis.stand lower basis.shape basis.outlook =
+    subst (λ fs. IsOutlook fs basis.stand lower basis.shape basis.outlook) (sym f)
+    (subst (λ st. IsOutlook facts st lower basis.shape basis.outlook) (sym s) (subst (λ sh. IsOutlook facts stand lower sh basis.outlook) (sym p) is.outlook)) in
+    ap (λ fs. is_better (quality_of fs stand lower a) floor) (sym f)
+    ∙ (ap (λ st. is_better (quality_of basis.facts st lower a) floor) (sym s)
+    ∙ (ap (λ q. is_better (quality_of basis.facts basis.stand lower a) q) e
+    ∙ floor_stands basis lower b a of'' m' h (known_s1 basis b known) outlook))
+
+-- and where none is known nothing is said
+pub known_or_none : (facts : Facts) (stand : Stand) (lower : List ℕ) (shape : Shape) (basis : Basis) (b : Beginning) (found : Option Fields)
+    → IsBasis facts stand lower shape basis → IsOf facts stand
+    → MatchOption found (is_known basis b ≡ false) (λ f. (is_known basis b ≡ true) × (quality_in f ≡ floor_of basis b))
+    → MatchOption found (Unit {0}) (λ f. (a : Arrangement) → IsIn a (candidates_of facts stand shape) → Begins b a → is_better (quality_of facts stand lower a) (quality_in f) ≡ false)
+known_or_none facts stand lower shape basis b None is of' h = tt {0}
+known_or_none facts stand lower shape basis b (Some f) is of' h = no_better facts stand lower shape basis b (quality_in f) is of' h.0 h.1

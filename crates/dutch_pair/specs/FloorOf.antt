@@ -1,5 +1,5 @@
 -- The floor of a beginning, by what is fixed in it: a quality that no candidate with it is better than (C.04.3 C.6 to C.19).
-use Rattle.std.specs.Prelude.{ℕ, ◌+◌, ◌-◌, ◌*◌, ◌≤◌, Bool, true, false, ◌&&◌, ◌||◌, ◌==◌, nat_lt, nat_le, if◌then◌else◌, List, [], length, max, sum_by}
+use Rattle.std.specs.Prelude.{◌≡◌, ℕ, ◌+◌, ◌-◌, ◌*◌, ◌≤◌, Bool, true, false, ◌&&◌, ◌||◌, ◌==◌, nat_lt, nat_le, if◌then◌else◌, List, [], length, max, sum_by}
 use Rattle.std.specs.List.{list_all}
 use Rattle.trf16.specs.declared.cell.Colour.{Colour}
 use Rattle.trf16.specs.declared.cell.Colour.TheVariants.{White, Black}
@@ -10,20 +10,22 @@ use Rattle.dutch_order.specs.Arrangements.{Arrangement, remainder_pairs}
 use Rattle.dutch_order.specs.Choices.{numbers_from}
 use Rattle.dutch_order.specs.Prefixes.{Beginning}
 use Rattle.dutch_player.specs.Facts.{Facts}
-use Rattle.dutch_pair.specs.Quality.{Quality, NextValue, psd}
+use Rattle.dutch_pair.specs.Quality.{Quality, psd}
 use Rattle.dutch_pair.specs.Reached.{Stand, is_number}
 use Rattle.dutch_pair.specs.Seated.{seat_of, score_at, AllNumbers}
 use Rattle.dutch_pair.specs.Beginnings.{fixed, in_both}
 use Rattle.dutch_pair.specs.ColourFloors.{wants, wants_firmly, more_missed, more_missed_strong, lonely}
 use Rattle.dutch_pair.specs.PsdFloors.{psd_with}
+use Rattle.dutch_pair.specs.declared.outlook.Outlook.{Outlook}
+use Rattle.dutch_pair.specs.Outlooks.{IsOutlook, awaited}
 use Rattle.dutch_pair.specs.Floors.{floor_with}
 
--- a bracket of a field, the shape of its arrangements, and the best that the next bracket can be
+-- a bracket of a field, the shape of its arrangements, and what the next bracket can be at best
 pub record Basis : Type 0 where
   pub facts : Facts
   pub stand : Stand
   pub shape : Shape
-  pub next : NextValue
+  pub outlook : Outlook
 
 -- the lists that a beginning fixes
 abbrev pub lists_by : Filling → Arrangement → Arrangement
@@ -70,7 +72,8 @@ more_by S2r basis lists =
 -- the floor by the list that is being filled and those that are fixed
 abbrev pub floor_by : Filling → Basis → Arrangement → Quality
 floor_by filling basis lists =
-    floor_with basis.facts basis.stand (psd_by filling basis lists) basis.next (more_by filling basis lists)
+    floor_with basis.facts basis.stand (psd_by filling basis lists)
+    (awaited basis.facts basis.stand basis.shape basis.outlook filling lists.s1) (more_by filling basis lists)
     (more_missed_strong basis.facts basis.stand basis.shape lists) lists
 
 -- the floor of a beginning
@@ -123,3 +126,10 @@ pub record HasNumbers (stand : Stand) (lists : Arrangement) : Type 0 where
   pub residents : length lists.s2r ≤ length lists.s1r
   pub few : length lists.s2 + length lists.s2r ≤ 256
   pub few_first : length lists.s1r ≤ 256
+
+-- floors stand on this bracket and shape, and on an outlook that holds of it
+pub record IsBasis (facts : Facts) (stand : Stand) (lower : List ℕ) (shape : Shape) (basis : Basis) : Type 0 where
+  pub facts_are : basis.facts ≡ facts
+  pub stand_is : basis.stand ≡ stand
+  pub shape_is : basis.shape ≡ shape
+  pub outlook : IsOutlook facts stand lower shape basis.outlook

@@ -14,12 +14,15 @@ ghost use Rattle.dutch_pair.specs.Outcomes.{IsChoice};
 use crate::completion::Answer;
 use crate::eligible::can_be_chosen;
 use crate::fault::PairFault;
+use crate::floor::Floors;
 use crate::group::split_first_group;
 use crate::lookahead::quality;
+use crate::outlook::Outlook;
+use crate::pair_facts::PairFacts;
 use crate::quality::Quality;
 use crate::reached::Reached;
 use crate::shape::shape_of;
-use crate::skipper::{Pass, Skipper, aim_of};
+use crate::skipper::{Pass, Skipper};
 use dutch_order::bracket::Shape;
 use dutch_order::candidate::Candidate;
 use dutch_order::candidates::Candidates;
@@ -205,12 +208,20 @@ fn best_of<'a>(
     ensures rises { budget.old.used ≤ budget.new.used }
     ensures within { budget.new.used ≤ budget.new.limit }
 {
+    let Some(pairs) = PairFacts::read(field, reached, budget) else {
+        return Step::Undecided;
+    };
+    let Some(outlook) = Outlook::find(field, reached, lower, shape, budget) else {
+        return Step::Undecided;
+    };
+    let floors = Floors::new(pairs, shape, outlook);
     let mut pass = Pass {
         field,
         reached,
         lower,
         shape,
-        aim: aim_of(field, reached, lower, shape),
+        aim: floors.aim(),
+        floors,
     };
     match best_by_aim(&pass, budget) {
         Step::Found(candidate) => return Step::Found(candidate),

@@ -8,17 +8,18 @@ ghost use Rattle.dutch_pair.specs.Beginnings.{fixed};
 ghost use Rattle.dutch_pair.specs.PsdFloors.{psd_with};
 ghost use Rattle.dutch_pair.specs.Reached.{IsOf, frame_of};
 ghost use Rattle.dutch_pair.specs.Seated.{all_pairs, AllNumbers, AllPairs, HasSeats};
+ghost use Rattle.dutch_pair.specs.Outlooks.{awaited};
 ghost use Rattle.dutch_pair.specs.FloorOf.{HasNumbers, is_flat, is_uniform, is_known, has_s1, residents_score, psd_by, more_by, floor_by, floor_of};
 
 use crate::begun::{Begun, fixed, fixed_lists, is_of_shape};
 use crate::colour_floor::{missed, missed_strong, more_missed};
 use crate::differences::psd;
 use crate::lonely::lonely;
+use crate::outlook::Outlook;
 use crate::pair_facts::PairFacts;
 use crate::player_facts::PlayerFacts;
 use crate::psd_floor::psd_with;
 use crate::quality::{Given, NextValue, Quality, quality_by};
-use crate::reached::push_all;
 use crate::seated::{Pair, Seated};
 use dutch_order::bracket::Shape;
 use dutch_order::numbers::{LIMIT, Numbers, numbered_from};
@@ -30,8 +31,8 @@ use std::marker::Model;
 pub(crate) struct Floors<'a> {
     pairs: PairFacts<'a>,
     shape: Shape,
-    // the best that the next bracket can be (C.7)
-    next: NextValue,
+    // what the next bracket can be at best (C.7)
+    outlook: Outlook,
     // there is a resident, and all residents have one score
     flat: bool,
     // all S1 leave moved-down players with the same scores
@@ -46,7 +47,7 @@ impl<'a> Model for Floors<'a> {
 
     ghost Value = { Basis };
 
-    ghost view = { λ f. record { facts = f.pairs.facts; stand = f.pairs.stand; shape = f.shape; next = f.next } };
+    ghost view = { λ f. record { facts = f.pairs.facts; stand = f.pairs.stand; shape = f.shape; outlook = f.outlook } };
 
     ghost invariant = { λ f. (Fits (frame_of f.pairs.facts f.pairs.stand) f.shape)
         × (f.flat ≡ is_flat f.pairs.facts f.pairs.stand) × (f.uniform ≡ is_uniform f.pairs.facts f.pairs.stand f.shape) };
@@ -86,31 +87,19 @@ fn has_s1(filling: Filling) -> bool
 }
 
 impl<'a> Floors<'a> {
-    /// The floors of a shape, for the best that the next bracket can be.
-    pub(crate) fn new(pairs: PairFacts<'a>, shape: Shape, next: NextValue) -> Floors<'a>
+    /// The floors of a shape, for what the next bracket can be at best.
+    pub(crate) fn new(pairs: PairFacts<'a>, shape: Shape, outlook: Outlook) -> Floors<'a>
         requires { Fits (frame_of pairs.facts pairs.stand) shape }
-        ensures { result ≡ record { facts = pairs.entry.facts; stand = pairs.entry.stand; shape = shape; next = next } }
+        ensures { result ≡ record { facts = pairs.entry.facts; stand = pairs.entry.stand; shape = shape; outlook = outlook } }
     {
         let flat = is_flat(pairs.players());
         let uniform = is_uniform(pairs.players(), shape);
         Floors {
             pairs,
             shape,
-            next,
+            outlook,
             flat,
             uniform,
-        }
-    }
-
-    /// The best that the next bracket can be.
-    fn next(&self) -> NextValue
-        ensures { result ≡ self.now.next }
-    {
-        let mut psd = Numbers::new();
-        push_all(&self.next.psd, &mut psd);
-        NextValue {
-            pairs: self.next.pairs,
-            psd,
         }
     }
 
@@ -137,6 +126,14 @@ impl<'a> Floors<'a> {
         let players = self.pairs.players();
         let score = players.score(players.reached().mdps() as u16 + 1);
         psd_with(players, self.shape(), score, s1)
+    }
+
+    /// The best that the next bracket can be behind arrangements with an S1 (C.7).
+    fn awaited(&self, filling: Filling, s1: &[u16]) -> NextValue
+        ensures { result ≡ awaited self.now.facts self.now.stand self.now.shape self.now.outlook filling s1.now }
+    {
+        self.outlook
+            .awaited(self.pairs.players(), self.shape(), filling, s1)
     }
 
     /// How many more miss than in the pairs that are fixed (C.10).
@@ -188,7 +185,7 @@ impl<'a> Floors<'a> {
         let more_strong = more_missed(players, shape, &seated.pairs, true);
         let given = Given {
             psd: self.psd_by(filling, begun, &seated),
-            next: self.next(),
+            next: self.awaited(filling, begun.s1),
             missed_preferences: missed(players, &seated.pairs) + more as u16,
             missed_strong: missed_strong(players, &seated.pairs) + more_strong as u16,
         };
@@ -211,5 +208,23 @@ impl<'a> Floors<'a> {
             return None;
         }
         Some(self.floor_by(prefix.filling(), &begun))
+    }
+
+    /// The quality that a first pass aims at, where all residents have one score: what a beginning with the first S1 promises up to
+    /// C.11. Any aim serves: what is chosen of the candidates that it is not better than is chosen of all.
+    #[tactic(auto, using(crate::proofs::FloorLemmas::first_length, crate::proofs::FloorLemmas::first_numbers))]
+    pub(crate) fn aim(&self) -> Option<Quality> {
+        if !self.flat {
+            return None;
+        }
+        let first = numbered_from(1, self.shape().mdps);
+        let begun = Begun {
+            s1: &first,
+            s2: &[],
+            s1r: &[],
+            s2r: &[],
+        };
+        let floor = self.floor_by(Filling::S2, &begun);
+        Some(floor.with_the_worst_floats())
     }
 }

@@ -1,26 +1,26 @@
 // The best that the next bracket can be, found before any candidate is looked at (C.04.3 C.7): by ghosts where the bracket's residents
 // have one score, and else by counting players.
-ghost use Rattle.std.specs.Prelude.{◌≡◌, ◌++◌, ◌≤◌, length, map, true};
+ghost use Rattle.std.specs.Prelude.{◌≡◌, ◌+◌, ◌*◌, ◌++◌, ◌≤◌, [], length, map};
 ghost use Rattle.std.specs.Option.{MatchOption};
 ghost use Rattle.arrayvec.specs.ArrayVec.{array_vec_len};
 ghost use Rattle.dutch_order.specs.Arrangements.{Fits, left_of};
-ghost use Rattle.dutch_order.specs.Choices.{numbers_from};
+ghost use Rattle.dutch_order.specs.Choices.{is_same};
 ghost use Rattle.dutch_order.specs.declared.numbers.TheConstants.{LIMIT};
 ghost use Rattle.dutch_pair.specs.FloorOf.{is_flat};
 ghost use Rattle.dutch_pair.specs.Ghosts.{pairs_by_counts};
-ghost use Rattle.dutch_pair.specs.GhostValues.{first_limbo};
-ghost use Rattle.dutch_pair.specs.NextBracket.{IsNext};
 ghost use Rattle.dutch_pair.specs.Outlooks.{IsOutlook, awaited, leaves_first, leaves_first_by, limbo_scores};
 ghost use Rattle.dutch_pair.specs.Reached.{IsAbove, IsOf, frame_of};
+ghost use Rattle.dutch_pair.specs.Seated.{AllNumbers, score_at, seat_of};
 ghost use Rattle.dutch_pair.specs.Round.{is_ordinary};
 
 use crate::ghost_value::{ghost_value, limbo_scores as first_limbo};
 use crate::group::split_first_group;
+use crate::player_facts::PlayerFacts;
 use crate::quality::NextValue;
 use crate::reached::{Kind, Reached, push_all};
 use arrayvec::ArrayVec;
 use dutch_order::bracket::Shape;
-use dutch_order::numbers::{Numbers, numbered_from};
+use dutch_order::numbers::Numbers;
 use dutch_order::prefix::Filling;
 use dutch_order::steps::Budget;
 use dutch_player::field::Field;
@@ -46,38 +46,55 @@ fn copied(value: &NextValue) -> NextValue
     }
 }
 
-/// The scores of the moved-down players who are not in an S1, in half points.
-fn limbo_scores(field: &Field, reached: &Reached, s1: &[u16]) -> Numbers
-    requires { IsOf field.now reached.now }
-    ensures { result.items ≡ limbo_scores field.now reached.now s1.now }
+/// Adds the scores of those of some numbers who are not in S1.
+fn push_left(players: &PlayerFacts<'_>, numbers: &[u16], s1: &[u16], scores: &mut Numbers)
+    requires numbers { AllNumbers players.now.stand.seats numbers.now }
+    requires room { array_vec_len scores.old + length numbers.now ≤ LIMIT }
+    ensures items { scores.new.items ≡ scores.old.items
+        ++ map (λ i. score_at players.now.facts (seat_of players.now.stand.seats i)) (left_of numbers.now s1.now) }
 {
-    let mut scores = ArrayVec::new();
-    for number in numbered_from(1, reached.mdps()) {
-        if !s1.contains(&number) {
-            scores.push(field.score(reached.seat(number)));
+    for number in numbers {
+        if !s1.contains(number) {
+            scores.push(players.score(*number));
         }
     }
+}
+
+/// The scores of the moved-down players who are not in an S1, in half points.
+fn limbo_scores(players: &PlayerFacts<'_>, s1: &[u16]) -> Numbers
+    ensures { result.items ≡ limbo_scores players.now.facts players.now.stand s1.now }
+{
+    let moved_down = players.moved_down();
+    let mut scores = ArrayVec::new();
+    push_left(players, &moved_down, s1, &mut scores);
     scores
 }
 
-/// Whether an S1 leaves a Limbo with the scores of the first one of a shape.
-fn leaves_first(field: &Field, reached: &Reached, shape: Shape, s1: &[u16]) -> bool
-    requires of { IsOf field.now reached.now }
-    requires fits { Fits (frame_of field.now reached.now) shape }
-    ensures { result ≡ leaves_first field.now reached.now shape s1.now }
+/// Whether two lists are the same.
+fn is_same(one: &[u16], other: &[u16]) -> bool
+    ensures { result ≡ is_same one.now other.now }
 {
-    limbo_scores(field, reached, s1).as_slice() == first_limbo(field, reached, shape).as_slice()
+    one == other
+}
+
+/// Whether an S1 leaves a Limbo with the scores of the first one of a shape.
+fn leaves_first(players: &PlayerFacts<'_>, shape: Shape, s1: &[u16]) -> bool
+    requires { Fits (frame_of players.now.facts players.now.stand) shape }
+    ensures { result ≡ leaves_first players.now.facts players.now.stand shape s1.now }
+{
+    let left = limbo_scores(players, s1);
+    let first = first_limbo(players.field(), players.reached(), shape);
+    is_same(&left, &first)
 }
 
 /// The same, where it is known that every S1 does as long as none is chosen.
-fn leaves_first_by(field: &Field, reached: &Reached, shape: Shape, filling: Filling, s1: &[u16]) -> bool
-    requires of { IsOf field.now reached.now }
-    requires fits { Fits (frame_of field.now reached.now) shape }
-    ensures { result ≡ leaves_first_by filling field.now reached.now shape s1.now }
+fn leaves_first_by(players: &PlayerFacts<'_>, shape: Shape, filling: Filling, s1: &[u16]) -> bool
+    requires { Fits (frame_of players.now.facts players.now.stand) shape }
+    ensures { result ≡ leaves_first_by filling players.now.facts players.now.stand shape s1.now }
 {
     match filling {
-        Filling::S1 => true,
-        Filling::S2 | Filling::S2r => leaves_first(field, reached, shape, s1),
+        Filling::S1 => return true,
+        Filling::S2 | Filling::S2r => return leaves_first(players, shape, s1),
     }
 }
 
@@ -142,25 +159,23 @@ impl Outlook {
     /// The best that the next bracket can be behind arrangements with an S1.
     pub(crate) fn awaited(
         &self,
-        field: &Field,
-        reached: &Reached,
+        players: &PlayerFacts<'_>,
         shape: Shape,
         filling: Filling,
         s1: &[u16],
     ) -> NextValue
-        requires of { IsOf field.now reached.now }
-        requires fits { Fits (frame_of field.now reached.now) shape }
-        ensures { result ≡ awaited field.now reached.now shape self.now filling s1.now }
+        requires { Fits (frame_of players.now.facts players.now.stand) shape }
+        ensures { result ≡ awaited players.now.facts players.now.stand shape self.now filling s1.now }
     {
         match &self.first {
             Some(first) => {
-                if leaves_first_by(field, reached, shape, filling, s1) {
+                if leaves_first_by(players, shape, filling, s1) {
                     return copied(first);
                 }
+                return copied(&self.any);
             }
-            None => {}
+            None => return copied(&self.any),
         }
-        copied(&self.any)
     }
 }
 

@@ -72,6 +72,13 @@ impl Quality {
         self.cmp(other).is_lt()
     }
 
+    /// The same quality, but worse than any other one in the first item that floats decide (C.12), so that none of those counts.
+    pub(crate) fn with_the_worst_floats(self) -> Quality {
+        let mut worst = self;
+        worst.down_again = usize::MAX;
+        worst
+    }
+
     /// C.6: the PSD, the differences of all pairs and all downfloaters in half points, the highest first.
     pub fn psd(&self) -> &[u16]
         ensures { result.now ≡ (quality_in self.now).psd }

@@ -8,11 +8,13 @@ ghost use Rattle.dutch_order.specs.Arrangements.{Arrangement, Fits};
 ghost use Rattle.dutch_order.specs.Keys.{IsIn};
 ghost use Rattle.dutch_order.specs.Prefixes.{Begins};
 ghost use Rattle.dutch_pair.specs.Reached.{IsAbove, frame_of};
+ghost use Rattle.dutch_pair.specs.FloorOf.{IsBasis};
 ghost use Rattle.dutch_pair.specs.Quality.{is_better};
 ghost use Rattle.dutch_pair.specs.QualityIn.{quality_in};
 ghost use Rattle.dutch_pair.specs.Round.{candidates_of, quality_of};
 
 use crate::choice::{Best, is_idle};
+use crate::floor::Floors;
 use crate::quality::Quality;
 use crate::reached::Reached;
 use dutch_order::bound::Bound;
@@ -29,19 +31,10 @@ pub(crate) struct Pass<'a> {
     pub(crate) lower: &'a [u16],
     pub(crate) shape: Shape,
     pub(crate) aim: Option<Quality>,
+    pub(crate) floors: Floors<'a>,
     ghost above: { IsAbove field.now reached.now lower.now },
     ghost fits: { Fits (frame_of field.now reached.now) shape },
-}
-
-/// The quality that a first pass aims at; `None` where there is no first pass. Any quality serves: what is chosen of the candidates
-/// that it is not better than is chosen of all.
-pub(crate) fn aim_of(
-    _field: &Field,
-    _reached: &Reached,
-    _lower: &[u16],
-    _shape: Shape,
-) -> Option<Quality> {
-    None
+    ghost basis: { IsBasis field.now reached.now lower.now shape floors },
 }
 
 /// A quality that no candidate with a beginning is better than; `None` where none is known.
@@ -50,7 +43,7 @@ fn floor_of_prefix(pass: &Pass<'_>, prefix: &Prefix<'_>) -> Option<Quality>
         (λ floor. (a : Arrangement) → IsIn a (candidates_of pass.now.field.now pass.now.reached.now pass.now.shape) → Begins prefix.now a
         → is_better (quality_of pass.now.field.now pass.now.reached.now pass.now.lower.now a) (quality_in floor) ≡ false) }
 {
-    None
+    pass.floors.floor(prefix)
 }
 
 /// Tells which beginnings a pass may skip, beside the candidate that it keeps.
