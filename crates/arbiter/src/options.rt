@@ -131,7 +131,7 @@ pub fn candidates_options<'a, S: CursorSyntax>(
     })
 }
 
-// `--initial`: the colour of the first player in the first round.
+// `--initial`: the colour of the higher-ranked of two players where nothing else decides and his start rank is odd (C.04.3 E.5).
 fn initial_in(matches: &ArgMatches<'_>) -> Result<Option<Colour>, WordFault>
     ensures { result ≡ initial_in (rows_in matches.now) }
 {
