@@ -49,7 +49,7 @@ read_by read fault (Some text) = option_map_or (λ value. Ok (Some value)) (read
 abbrev pub colour_named : Text → Option Colour
 colour_named text = if bytes_eq text (codes "white") then Some White else (if bytes_eq text (codes "black") then Some Black else None)
 
--- `--initial`: the colour of the first player in the first round
+-- `--initial`: the colour of the higher-ranked of two players where nothing else decides and his start rank is odd (C.04.3 E.5)
 abbrev pub initial_in : List Row → Result (Option Colour) WordFault
 initial_in rows = read_by colour_named BadColour (first_of (codes "initial") rows)
 

@@ -25,7 +25,7 @@ pub enum WordFault {
 pub struct PairOptions {
     /// The number of rounds of the tournament, where the words name it: at most 32.
     pub rounds: Option<u8>,
-    /// The colour of the first player in the first round, where the words name it.
+    /// The colour of an odd start rank where nothing else decides (C.04.3 E.5), where the words name it.
     pub initial: Option<Colour>,
     /// How many steps a bracket may take.
     pub steps: u64,
@@ -51,7 +51,7 @@ pub struct CandidatesOptions<'a> {
     pub count: usize,
     /// The number of rounds of the tournament, where the words name it.
     pub rounds: Option<u8>,
-    /// The colour of the first player in the first round, where the words name it.
+    /// The colour of an odd start rank where nothing else decides (C.04.3 E.5), where the words name it.
     pub initial: Option<Colour>,
     /// How many steps a bracket may take, and how many the enumeration may.
     pub steps: u64,
@@ -131,7 +131,7 @@ pub fn candidates_options<'a, S: CursorSyntax>(
     })
 }
 
-// `--initial`: the colour of the first player in the first round.
+// `--initial`: the colour of the higher-ranked of two players where nothing else decides and his start rank is odd (C.04.3 E.5).
 fn initial_in(matches: &ArgMatches<'_>) -> Result<Option<Colour>, WordFault>
     ensures { result ≡ initial_in (rows_in matches.now) }
 {

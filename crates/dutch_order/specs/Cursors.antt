@@ -2,7 +2,7 @@
 use Rattle.std.specs.Prelude.{ℕ, ◌+◌, ◌-◌, ◌*◌, Bool, true, false, not, ◌&&◌, ◌==◌, nat_le, ltb, if◌then◌else◌, List, [], ◌∷◌, ◌++◌, length, codes, Option, Some, None, is_some, Result, Ok, Err}
 use Rattle.std.specs.List.{list_all, flat_map}
 use Rattle.std.specs.Char.{is_ascii_digit}
-use Rattle.std.specs.Str.{bytes_eq}
+use Rattle.std.specs.Str.{byte, bytes_eq}
 use Rattle.std.specs.Fmt.{decimal}
 use Rattle.dutch_order.specs.Choices.{is_member, numbers_from}
 use Rattle.dutch_order.specs.Arrangements.{Frame, Arrangement, residents_of, left_of, remainder_pairs}
@@ -32,12 +32,12 @@ parts separator (b ∷ rest) = if b == separator then [] ∷ parts separator res
 -- the number that digits spell behind the digits of another
 abbrev pub number_after : ℕ → List ℕ → ℕ
 number_after front [] = front
-number_after front (digit ∷ rest) = number_after (10 * front + (digit - 48)) rest
+number_after front (digit ∷ rest) = number_after (10 * front + (digit - byte "0")) rest
 
 -- one to three digits, of which the first is not 0
 abbrev pub is_numeral : List ℕ → Bool
 is_numeral [] = false
-is_numeral (first ∷ rest) = not (first == 48) && (nat_le (length rest) 2 && list_all is_ascii_digit (first ∷ rest))
+is_numeral (first ∷ rest) = not (first == byte "0") && (nat_le (length rest) 2 && list_all is_ascii_digit (first ∷ rest))
 
 -- the number that a part of a list spells: 1 to 256, without leading zeros
 abbrev pub number_of : List ℕ → Option ℕ
@@ -59,7 +59,7 @@ numbers_of (word ∷ others) = do
 
 -- the list that a text is
 abbrev pub list_of : List ℕ → Option (List ℕ)
-list_of text = if bytes_eq text (codes "0") then Some [] else numbers_of (parts 44 text)
+list_of text = if bytes_eq text (codes "0") then Some [] else numbers_of (parts (byte ",") text)
 
 -- the arrangement that four texts are
 abbrev pub arrangement_of : List (List ℕ) → Option Arrangement
@@ -73,7 +73,7 @@ arrangement_of _ = None
 
 -- the arrangement that a text is, of whatever bracket
 abbrev pub parsed : List ℕ → Option Arrangement
-parsed bytes = arrangement_of (parts 47 bytes)
+parsed bytes = arrangement_of (parts (byte "/") bytes)
 
 -- whether a text has the form of a cursor
 abbrev pub has_syntax : List ℕ → Bool

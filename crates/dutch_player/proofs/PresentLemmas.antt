@@ -1,5 +1,5 @@
 -- The seats of a field are those of the present players of its report, by rank.
-use Rattle.std.proofs.Common.{◌≡◌, ℕ, ◌+◌, ◌<◌, ◌≤◌, Bool, true, false, cond, ◌==◌, nat_eq, nat_lt, List, [], ◌∷◌, ◌++◌, map, Option, Some, None, Result, Ok, Err, ◌||◌, inl, inr, refl, sym, ap, ◌∙◌, subst, arith, append-nil}
+use Rattle.std.proofs.Common.{◌≡◌, ℕ, ◌+◌, ◌<◌, ◌≤◌, Bool, true, false, cond, ◌==◌, nat_eq, nat_lt, List, [], ◌∷◌, map, Option, Some, None, Result, Ok, Err, ◌||◌, inl, inr, refl, sym, ap, ◌∙◌, subst, arith}
 use Rattle.std.specs.Prelude.{All, Contains, IsPermutation, option_map, slice_index_or}
 use Rattle.std.specs.List.{AllByRecursion, IsDistinct, list_any}
 use Rattle.std.specs.Option.{ok_or}
@@ -7,7 +7,7 @@ use Rattle.std.proofs.lemmas.Bool.{eq-eqb, eqb-true, or_left, or_right, or_cases
 use Rattle.std.proofs.lemmas.Bool.Decides.{nat_tests}
 use Rattle.std.proofs.lemmas.List.Elements.{All-from_recursion, recursion_from_All}
 use Rattle.std.proofs.lemmas.List.Folds.{Any-from_list_any}
-use Rattle.std.proofs.lemmas.List.Sorted.{All-permutation, IsPermutation-refl, IsPermutation-cons, IsPermutation-middle, IsPermutation-sym, IsPermutation-trans, IsPermutation-append_left, IsPermutation-map, list_any-IsPermutation}
+use Rattle.std.proofs.lemmas.List.Sorted.{All-permutation, IsPermutation-refl, IsPermutation-cons, IsPermutation-middle, IsPermutation-sym, IsPermutation-trans, IsPermutation-map, list_any-IsPermutation}
 use Rattle.std.proofs.lemmas.Map.Keys.{IsDistinct-IsPermutation}
 use Rattle.trf16.specs.declared.cell.Colour.{Colour}
 use Rattle.trf16.specs.Sheet.{Entry, Sheet, known, rounds_played}
@@ -34,15 +34,11 @@ placed_permutes : (seat : SeatFacts) (all : List SeatFacts) → IsPermutation (s
 placed_permutes seat [] = IsPermutation-refl (seat ∷ [])
 placed_permutes seat (first ∷ rest) = placed_at seat first rest (goes_before first seat) (placed_permutes seat rest)
 
-ranked_permutes : (front all : List SeatFacts) → IsPermutation (front ++ all) (ranked front all)
-ranked_permutes [] [] = IsPermutation-refl []
-ranked_permutes (seat ∷ front) [] =
-    subst (λ (seats : List SeatFacts). IsPermutation seats (seat ∷ front)) (sym (append-nil (seat ∷ front))) (IsPermutation-refl (seat ∷ front))
-ranked_permutes front (seat ∷ rest) =
-    IsPermutation-trans (front ++ seat ∷ rest) (placed seat front ++ rest) (ranked (placed seat front) rest)
-    (IsPermutation-trans (front ++ seat ∷ rest) (seat ∷ (front ++ rest)) (placed seat front ++ rest)
-    (IsPermutation-middle front seat rest) (IsPermutation-append_left rest (seat ∷ front) (placed seat front) (placed_permutes seat front)))
-    (ranked_permutes (placed seat front) rest)
+ranked_permutes : (all : List SeatFacts) → IsPermutation all (ranked all)
+ranked_permutes [] = IsPermutation-refl []
+ranked_permutes (seat ∷ rest) =
+    IsPermutation-trans (seat ∷ rest) (seat ∷ ranked rest) (ranked (seat ∷ rest))
+    (IsPermutation-cons seat rest (ranked rest) (ranked_permutes rest)) (placed_permutes seat (ranked rest))
 
 -- ---- who is present
 
@@ -172,23 +168,23 @@ total_is sheet asked total e =
 
 made : Sheet → Option Colour → ℕ → Facts
 made sheet initial total =
-    record { seats = ranked [] (seats_of sheet sheet.players); round = rounds_played sheet + 1; total = total; initial = initial_of sheet initial }
+    record { seats = ranked (seats_of sheet sheet.players); round = rounds_played sheet + 1; total = total; initial = initial_of sheet initial }
 
 field_made : (sheet : Sheet) (asked : Option ℕ) (initial : Option Colour) (total : ℕ) → HasOwnStarts sheet → total_of sheet asked ≡ Some total
     → rounds_played sheet + 1 ≤ total → IsFieldOf sheet asked (made sheet initial total)
 unfolding made starts named_in has_start
 field_made sheet asked initial total own named time =
     let seats : List SeatFacts = seats_of sheet sheet.players in
-    let order : IsPermutation (starts seats) (starts (ranked [] seats)) = IsPermutation-map (λ (seat : SeatFacts). seat.start) seats (ranked [] seats) (ranked_permutes [] seats) in
-    let each_seat : (P : ℕ → Type 0) → AllByRecursion (λ (entry : Entry). absent sheet entry.start ≡ false → P entry.start) sheet.players → All P (starts (ranked [] seats)) =
-    λ P each. All-permutation P (starts seats) (starts (ranked [] seats)) order (All-from_recursion P (starts seats) (seats_all sheet P sheet.players each)) in
+    let order : IsPermutation (starts seats) (starts (ranked seats)) = IsPermutation-map (λ (seat : SeatFacts). seat.start) seats (ranked seats) (ranked_permutes seats) in
+    let each_seat : (P : ℕ → Type 0) → AllByRecursion (λ (entry : Entry). absent sheet entry.start ≡ false → P entry.start) sheet.players → All P (starts (ranked seats)) =
+    λ P each. All-permutation P (starts seats) (starts (ranked seats)) order (All-from_recursion P (starts seats) (seats_all sheet P sheet.players each)) in
     record {
       players = each_seat (λ start. known sheet start ≡ true) (known_ones sheet sheet.players (all_known sheet.players));
       present = each_seat (λ start. absent sheet start ≡ false) (present_ones sheet sheet.players);
       all = λ start named here.
-          contains_start (starts (ranked [] seats)) start
-          (sym (list_any-IsPermutation (λ (other : ℕ). other == start) (starts seats) (starts (ranked [] seats)) order) ∙ present_seated sheet sheet.players start named here);
-      once = IsDistinct-IsPermutation nat_eq flips (starts seats) (starts (ranked [] seats)) order (seats_distinct sheet sheet.players own.different);
+          contains_start (starts (ranked seats)) start
+          (sym (list_any-IsPermutation (λ (other : ℕ). other == start) (starts seats) (starts (ranked seats)) order) ∙ present_seated sheet sheet.players start named here);
+      once = IsDistinct-IsPermutation nat_eq flips (starts seats) (starts (ranked seats)) order (seats_distinct sheet sheet.players own.different);
       from_one = each_seat (λ start. 0 < start) (by_starts sheet (λ start. 0 < start) sheet.players
           (recursion_from_All (λ start. 0 < start) (starts_of sheet.players) (λ k d lt. (own.within k d lt).0)));
       next = refl;

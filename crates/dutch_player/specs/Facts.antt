@@ -48,10 +48,10 @@ abbrev pub placed : SeatFacts → List SeatFacts → List SeatFacts
 placed seat [] = seat ∷ []
 placed seat (first ∷ rest) = if goes_before first seat then first ∷ placed seat rest else seat ∷ first ∷ rest
 
--- A.2: seats by rank, where those in front have been ranked already
-abbrev pub ranked : List SeatFacts → List SeatFacts → List SeatFacts
-ranked front [] = front
-ranked front (seat ∷ rest) = ranked (placed seat front) rest
+-- A.2: seats by rank: the first one put to its place among the others by rank
+abbrev pub ranked : List SeatFacts → List SeatFacts
+ranked [] = []
+ranked (seat ∷ rest) = placed seat (ranked rest)
 
 -- none of some seats goes before one
 abbrev pub NoneBefore : SeatFacts → List SeatFacts → Type 0
@@ -115,4 +115,4 @@ total_for sheet asked = do
 unfoldable pub facts_of : Sheet → Option ℕ → Option Colour → Result Facts FieldFault
 facts_of sheet asked initial = do
   total ← total_for sheet asked
-  Ok (record { seats = ranked [] (seats_of sheet sheet.players); round = rounds_played sheet + 1; total = total; initial = initial_of sheet initial })
+  Ok (record { seats = ranked (seats_of sheet sheet.players); round = rounds_played sheet + 1; total = total; initial = initial_of sheet initial })

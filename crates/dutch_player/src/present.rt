@@ -1,11 +1,11 @@
 // The present players of a report, by rank.
-ghost use Rattle.std.specs.Prelude.{◌≡◌, ◌≤◌, [], map, IfOk, vec_len};
+ghost use Rattle.std.specs.Prelude.{◌≡◌, ◌≤◌, map, IfOk, vec_len};
 ghost use Rattle.trf16.specs.Sheet.{entry_of, rounds_played};
 ghost use Rattle.dutch_player.specs.SeatOf.{facts_in};
 ghost use Rattle.dutch_player.specs.Facts.{seat_of, seats_of, ranked};
 
 use crate::history::{float_in, may_bye, opponents, played};
-use crate::ranking::insert_by_rank;
+use crate::ranking::ranked;
 use crate::seat::Seat;
 use std::alloc::{AllocError, Global};
 use trf16::cells::{front, points_of};
@@ -36,9 +36,9 @@ fn seat_of(
     })
 }
 
-/// The seats of the present players, by rank.
-pub(crate) fn seats_of(alloc: Global, report: &Report<'_>) -> Result<Vec<Seat>, AllocError>
-    ensures value { IfOk result (λ seats. map facts_in seats.items ≡ ranked [] (seats_of report.now report.now.players)) }
+// The seats of the present players, in the order of their lines.
+fn seats_in_lines(alloc: Global, report: &Report<'_>) -> Result<Vec<Seat>, AllocError>
+    ensures value { IfOk result (λ seats. map facts_in seats.items ≡ seats_of report.now report.now.players) }
     ensures few { IfOk result (λ seats. vec_len seats ≤ 256) }
 {
     let rounds = report.rounds_played();
@@ -46,8 +46,17 @@ pub(crate) fn seats_of(alloc: Global, report: &Report<'_>) -> Result<Vec<Seat>, 
     for player in report.players() {
         if !report.absent(player.start) {
             let seat = seat_of(alloc, report, player, rounds)?;
-            insert_by_rank(&mut seats, seat)?;
+            seats.push(seat)?;
         }
     }
     Ok(seats)
+}
+
+/// The seats of the present players, by rank.
+pub(crate) fn seats_of(alloc: Global, report: &Report<'_>) -> Result<Vec<Seat>, AllocError>
+    ensures value { IfOk result (λ seats. map facts_in seats.items ≡ ranked (seats_of report.now report.now.players)) }
+    ensures few { IfOk result (λ seats. vec_len seats ≤ 256) }
+{
+    let seats = seats_in_lines(alloc, report)?;
+    ranked(alloc, seats)
 }

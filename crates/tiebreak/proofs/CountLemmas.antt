@@ -30,14 +30,14 @@ have-keys sheet (key ∷ rest) rows n m e have =
 have-none : (sheet : Sheet) → Have 0 (map (row_of sheet) sheet.players)
 have-none sheet = All-map (λ (row : RowFacts). length row.values ≡ 0) (row_of sheet) sheet.players (λ k d lt. refl)
 
-have-all : (sheet : Sheet) (keys : List Key) → Have (length keys) (ranked [] (with_keys sheet keys (map (row_of sheet) sheet.players)))
+have-all : (sheet : Sheet) (keys : List Key) → Have (length keys) (ranked (with_keys sheet keys (map (row_of sheet) sheet.players)))
 have-all sheet keys =
     let rows = with_keys sheet keys (map (row_of sheet) sheet.players) in
-    All-permutation (λ (row : RowFacts). length row.values ≡ length keys) rows (ranked [] rows) (ranked-moves [] rows)
+    All-permutation (λ (row : RowFacts). length row.values ≡ length keys) rows (ranked rows) (ranked-moves rows)
     (have-keys sheet keys (map (row_of sheet) sheet.players) 0 (length keys) (omega arith) (have-none sheet))
 
 pub has_each_key : (sheet : Sheet) (keys : List Key) → HasEachKey sheet keys
 unfolding standings_of
 has_each_key sheet keys rows e =
-    let all = ranked [] (with_keys sheet keys (map (row_of sheet) sheet.players)) in
+    let all = ranked (with_keys sheet keys (map (row_of sheet) sheet.players)) in
     subst (λ (given : List RowFacts). Have (length keys) given) (rows-given all rows (judged sheet) e) (have-all sheet keys)

@@ -1,7 +1,7 @@
 -- No pass loses or doubles a row: keys leave the start ranks, and the order only moves rows.
-use Rattle.std.proofs.Common.{◌≡◌, ℕ, Bool, true, false, cond, List, [], ◌∷◌, ◌++◌, map, Option, Result, Ok, Err, refl, ap, ◌∙◌, subst, append-nil}
+use Rattle.std.proofs.Common.{◌≡◌, ℕ, Bool, true, false, cond, List, [], ◌∷◌, map, Option, Result, Ok, Err, refl, ap, ◌∙◌, subst}
 use Rattle.std.specs.Prelude.{IsPermutation}
-use Rattle.std.proofs.lemmas.List.Sorted.{IsPermutation-refl, IsPermutation-cons, IsPermutation-trans, IsPermutation-append_left, IsPermutation-map, IsPermutation-sym, IsPermutation-middle}
+use Rattle.std.proofs.lemmas.List.Sorted.{IsPermutation-refl, IsPermutation-cons, IsPermutation-trans, IsPermutation-map, IsPermutation-middle}
 use Rattle.trf16.specs.Sheet.{Entry, Sheet}
 use Rattle.tiebreak.specs.declared.key.Key.{Key}
 use Rattle.tiebreak.specs.declared.fault.TieFault.{TieFault}
@@ -36,23 +36,20 @@ placed-moves : (row : RowFacts) (all : List RowFacts) → IsPermutation (row ∷
 placed-moves row [] = IsPermutation-refl (row ∷ [])
 placed-moves row (first ∷ rest) = placed-moves-at row first rest (goes_before first row) (placed-moves row rest)
 
-pub ranked-moves : (front all : List RowFacts) → IsPermutation (front ++ all) (ranked front all)
-ranked-moves front [] = IsPermutation-sym (ranked front []) (front ++ []) (simp append-nil (IsPermutation-refl front))
-ranked-moves front (row ∷ rest) =
-    IsPermutation-trans (front ++ row ∷ rest) (row ∷ front ++ rest) (ranked (placed row front) rest)
-    (IsPermutation-middle front row rest)
-    (IsPermutation-trans (row ∷ front ++ rest) (placed row front ++ rest) (ranked (placed row front) rest)
-    (IsPermutation-append_left rest (row ∷ front) (placed row front) (placed-moves row front))
-    (ranked-moves (placed row front) rest))
+pub ranked-moves : (all : List RowFacts) → IsPermutation all (ranked all)
+ranked-moves [] = IsPermutation-refl []
+ranked-moves (row ∷ rest) =
+    IsPermutation-trans (row ∷ rest) (row ∷ ranked rest) (ranked (row ∷ rest))
+    (IsPermutation-cons row rest (ranked rest) (ranked-moves rest)) (placed-moves row (ranked rest))
 
-starts-ranked : (all : List RowFacts) → IsPermutation (starts all) (starts (ranked [] all))
-starts-ranked all = IsPermutation-map (λ row. row.start) all (ranked [] all) (ranked-moves [] all)
+starts-ranked : (all : List RowFacts) → IsPermutation (starts all) (starts (ranked all))
+starts-ranked all = IsPermutation-map (λ row. row.start) all (ranked all) (ranked-moves all)
 
-starts-all : (sheet : Sheet) (keys : List Key) → IsPermutation (map (λ entry. entry.start) sheet.players) (starts (ranked [] (with_keys sheet keys (map (row_of sheet) sheet.players))))
+starts-all : (sheet : Sheet) (keys : List Key) → IsPermutation (map (λ entry. entry.start) sheet.players) (starts (ranked (with_keys sheet keys (map (row_of sheet) sheet.players))))
 starts-all sheet keys =
     let rows = with_keys sheet keys (map (row_of sheet) sheet.players) in
     let same : starts rows ≡ map (λ entry. entry.start) sheet.players = starts-with_keys sheet keys (map (row_of sheet) sheet.players) ∙ starts-row_of sheet sheet.players in
-    subst (λ (before : List ℕ). IsPermutation before (starts (ranked [] rows))) same (starts-ranked rows)
+    subst (λ (before : List ℕ). IsPermutation before (starts (ranked rows))) same (starts-ranked rows)
 
 -- where a call gives rows, they are those of the definition
 pub rows-given : (all rows : List RowFacts) (first : Result (Unit {0}) TieFault) → (first >>= (λ _. Ok all)) ≡ Ok rows → all ≡ rows
@@ -62,5 +59,5 @@ rows-given all rows (Err fault) e = cc
 pub has_each_once : (sheet : Sheet) (keys : List Key) → HasEachOnce sheet keys
 unfolding standings_of
 has_each_once sheet keys rows e =
-    let all = ranked [] (with_keys sheet keys (map (row_of sheet) sheet.players)) in
+    let all = ranked (with_keys sheet keys (map (row_of sheet) sheet.players)) in
     subst (λ (given : List RowFacts). IsPermutation (map (λ entry. entry.start) sheet.players) (starts given)) (rows-given all rows (judged sheet) e) (starts-all sheet keys)

@@ -1,5 +1,5 @@
 -- The standings: the players by score, then by each key in its order, then by start rank.
-use Rattle.std.specs.Prelude.{◌≡◌, ℕ, ◌+◌, Bool, false, if◌then◌else◌, List, [], ◌∷◌, ◌++◌, map, Option, Some, None, option_map, Result, Ok, Err, slice_index_or}
+use Rattle.std.specs.Prelude.{◌≡◌, ℕ, Bool, false, if◌then◌else◌, List, [], ◌∷◌, ◌++◌, map, Option, Some, None, option_map, Result, Ok, Err, slice_index_or}
 use Rattle.std.specs.Option.{option_cmp}
 use Rattle.std.specs.Cmp.Lexicographic.{slice_cmp}
 use Rattle.std.specs.declared.cmp.Ordering.{Ordering}
@@ -46,10 +46,10 @@ abbrev pub placed : RowFacts → List RowFacts → List RowFacts
 placed row [] = row ∷ []
 placed row (first ∷ rest) = if goes_before first row then first ∷ placed row rest else row ∷ first ∷ rest
 
--- rows in order, where those in front have been placed already
-abbrev pub ranked : List RowFacts → List RowFacts → List RowFacts
-ranked front [] = front
-ranked front (row ∷ rest) = ranked (placed row front) rest
+-- rows in order: the first one put to its place among the others in order
+abbrev pub ranked : List RowFacts → List RowFacts
+ranked [] = []
+ranked (row ∷ rest) = placed row (ranked rest)
 
 -- none of some rows goes before one
 abbrev pub NoneBefore : RowFacts → List RowFacts → Type 0
@@ -84,4 +84,4 @@ judged sheet = do
 unfoldable pub standings_of : Sheet → List Key → Result (List RowFacts) TieFault
 standings_of sheet keys = do
   _ ← judged sheet
-  Ok (ranked [] (with_keys sheet keys (map (row_of sheet) sheet.players)))
+  Ok (ranked (with_keys sheet keys (map (row_of sheet) sheet.players)))

@@ -21,3 +21,4 @@ pub mod RoundLemmas
 pub mod PairedRound
 pub mod BoardLemmas
 pub mod StartRanks
+pub mod PointForms

@@ -1,5 +1,5 @@
 -- The rounds of a line: what is known of those that were read, and that they read back where they are written.
-use Rattle.std.proofs.Common.{◌≡◌, ℕ, zero, suc, ◌+◌, ◌-◌, ◌*◌, ◌<◌, ◌≤◌, Bool, true, false, ◌&&◌, ◌==◌, nat_lt, nat_le, cond, List, [], ◌∷◌, ◌++◌, length, take, drop, replicate, refl, sym, ap, ◌∙◌, arith, subst, ◌⊎◌, inl, inr, Option, Some, None, Ok, Err}
+use Rattle.std.proofs.Common.{Result, ◌≡◌, ℕ, zero, suc, ◌+◌, ◌-◌, ◌*◌, ◌<◌, ◌≤◌, Bool, true, false, ◌&&◌, ◌==◌, nat_lt, nat_le, cond, List, [], ◌∷◌, ◌++◌, length, take, drop, replicate, refl, sym, ap, ◌∙◌, arith, subst, ◌⊎◌, inl, inr, Option, Some, None, Ok, Err}
 use Rattle.std.specs.Prelude.{option_and_then}
 use Rattle.std.specs.List.{list_all, flat_map}
 use Rattle.std.specs.Option.{option_map_or, ok_or}
@@ -63,9 +63,25 @@ pub record IsRound (cols : List (List ℕ)) (cell : Cell) : Type 0 where
   pub blank10 : is_blank (text cols 10 10) ≡ true
   pub read : cell_from (text cols 1 4) (text cols 6 6) (text cols 8 8) ≡ Some cell
 
-pub round_from : (n : ℕ) (line : List (List ℕ)) (before : ℕ) (cell : Cell) → IsRound (drop (91 + 10 * before) line) cell → round_at n line before ≡ Ok cell
-unfolding round_at
-round_from n line before cell r =
+-- a round by the places behind the column before it
+unfoldable round_behind : ℕ → List (List ℕ) → ℕ → Result Cell Fault
+round_behind n line before = do
+  let at = 91 + 10 * before
+  _ ← blank_at n line (at + 5)
+  _ ← blank_at n line (at + 7)
+  _ ← blank_at n line (at + 9)
+  _ ← blank_at n line (at + 10)
+  ok_or (cell_from (text line (at + 1) (at + 4)) (text line (at + 6) (at + 6)) (text line (at + 8) (at + 8))) (BadCell n (before + 1))
+
+round_same : (n : ℕ) (line : List (List ℕ)) (before : ℕ) → round_at n line before ≡ round_behind n line before
+unfolding round_at round_behind
+round_same n line before =
+    let column : (k m : ℕ) → k ≡ 91 + m → k + 10 * before ≡ (91 + 10 * before) + m = λ k m e. omega (arith, e) in
+    rw (column 92 1 refl, column 95 4 refl, column 96 5 refl, column 97 6 refl, column 98 7 refl, column 99 8 refl, column 100 9 refl, column 101 10 refl) refl
+
+behind_from : (n : ℕ) (line : List (List ℕ)) (before : ℕ) (cell : Cell) → IsRound (drop (91 + 10 * before) line) cell → round_behind n line before ≡ Ok cell
+unfolding round_behind
+behind_from n line before cell r =
     let at = 91 + 10 * before in
     let D = drop at line in
     let at_blank : (k : ℕ) → 0 < k → is_blank (text D k k) ≡ true → blank_at n line (at + k) ≡ Ok tt =
@@ -81,9 +97,9 @@ round_from n line before cell r =
       r.read,
     ) refl
 
-pub round_is : (n : ℕ) (line : List (List ℕ)) (before : ℕ) (cell : Cell) → round_at n line before ≡ Ok cell → IsRound (drop (91 + 10 * before) line) cell
-unfolding round_at
-round_is n line before cell e =
+behind_is : (n : ℕ) (line : List (List ℕ)) (before : ℕ) (cell : Cell) → round_behind n line before ≡ Ok cell → IsRound (drop (91 + 10 * before) line) cell
+unfolding round_behind
+behind_is n line before cell e =
     let at = 91 + 10 * before in
     let D = drop at line in
     let fields = cell_from (text line (at + 1) (at + 4)) (text line (at + 6) (at + 6)) (text line (at + 8) (at + 8)) in
@@ -99,6 +115,12 @@ round_is n line before cell e =
       blank10 = ap is_blank (sym (text-behind line at 10 10 (omega arith))) ∙ blank_ok n line (at + 10) e10.0 e10.1;
       read = rw (← text-behind line at 1 4 (omega arith), ← text-behind line at 6 6 (omega arith), ← text-behind line at 8 8 (omega arith)) read;
     }
+
+pub round_from : (n : ℕ) (line : List (List ℕ)) (before : ℕ) (cell : Cell) → IsRound (drop (91 + 10 * before) line) cell → round_at n line before ≡ Ok cell
+round_from n line before cell r = round_same n line before ∙ behind_from n line before cell r
+
+pub round_is : (n : ℕ) (line : List (List ℕ)) (before : ℕ) (cell : Cell) → round_at n line before ≡ Ok cell → IsRound (drop (91 + 10 * before) line) cell
+round_is n line before cell e = behind_is n line before cell (sym (round_same n line before) ∙ e)
 
 -- written rounds
 

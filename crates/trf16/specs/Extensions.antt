@@ -1,5 +1,5 @@
 -- The extension lines XXR, XXC and XXZ, and the kinds of lines that are known and not supported.
-use Rattle.std.specs.Prelude.{ℕ, Bool, false, ◌&&◌, ◌||◌, ◌==◌, nat_lt, if◌then◌else◌, List, [], ◌∷◌, map, drop, codes, Option, Some, None, option_and_then}
+use Rattle.std.specs.Prelude.{ℕ, Bool, false, ◌&&◌, ◌==◌, nat_lt, if◌then◌else◌, List, [], ◌∷◌, map, drop, codes, Option, Some, None, option_and_then}
 use Rattle.std.specs.List.{list_all, list_any}
 use Rattle.std.specs.Option.{option_map_or}
 use Rattle.std.specs.Str.{bytes_eq}
@@ -29,14 +29,23 @@ positive n = if n == 0 then None else Some n
 abbrev pub rounds_in : List (List ℕ) → Option ℕ
 rounds_in all = option_and_then positive (number_in all)
 
--- XXC: the initial colour behind a word, of that in front of it: white1 and black1 name it, and not both; rank names none
-abbrev pub colour_behind : Option Colour → List ℕ → Option (Option Colour)
-colour_behind None word =
+-- XXC: what a word names: white1 the initial colour white, black1 black, and rank no colour
+abbrev pub colour_named : List ℕ → Option (Option Colour)
+colour_named word =
     if is_word word (codes "WHITE1") then Some (Some White)
     else (if is_word word (codes "BLACK1") then Some (Some Black)
     else (if is_word word (codes "RANK") then Some None else None))
-colour_behind (Some White) word = if is_word word (codes "WHITE1") || is_word word (codes "RANK") then Some (Some White) else None
-colour_behind (Some Black) word = if is_word word (codes "BLACK1") || is_word word (codes "RANK") then Some (Some Black) else None
+
+-- what two name together, who do not name both colours
+abbrev pub named_together : Option Colour → Option Colour → Option (Option Colour)
+named_together (Some White) (Some Black) = None
+named_together (Some Black) (Some White) = None
+named_together None named = Some named
+named_together (Some colour) _ = Some (Some colour)
+
+-- XXC: the initial colour that a word names together with what is named in front of it
+abbrev pub colour_behind : Option Colour → List ℕ → Option (Option Colour)
+colour_behind initial word = option_and_then (named_together initial) (colour_named word)
 
 -- the same behind some words
 abbrev pub colour_behind_all : Option Colour → List (List ℕ) → Option (Option Colour)

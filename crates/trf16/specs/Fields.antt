@@ -2,20 +2,21 @@
 use Rattle.std.specs.Prelude.{ℕ, ◌+◌, ◌-◌, ◌*◌, Bool, ◌&&◌, ◌||◌, ◌==◌, nat_le, if◌then◌else◌, List, [], ◌∷◌, length, Option, Some, None, option_and_then}
 use Rattle.std.specs.List.{list_all}
 use Rattle.std.specs.Char.{is_ascii_digit}
+use Rattle.std.specs.Str.{byte}
 use Rattle.trf16.specs.Lines.{onto_first}
 
 -- the words of a field, which blanks set apart
 abbrev pub words : List ℕ → List (List ℕ)
 words [] = []
-words (b ∷ []) = if b == 32 then [] else (b ∷ []) ∷ []
+words (b ∷ []) = if b == byte " " then [] else (b ∷ []) ∷ []
 words (b ∷ c ∷ rest) =
-    if b == 32 then words (c ∷ rest)
-    else (if c == 32 then (b ∷ []) ∷ words rest else onto_first b (words (c ∷ rest)))
+    if b == byte " " then words (c ∷ rest)
+    else (if c == byte " " then (b ∷ []) ∷ words rest else onto_first b (words (c ∷ rest)))
 
 -- the number that digits spell behind the digits of another
 abbrev pub number_after : ℕ → List ℕ → ℕ
 number_after front [] = front
-number_after front (digit ∷ rest) = number_after (10 * front + (digit - 48)) rest
+number_after front (digit ∷ rest) = number_after (10 * front + (digit - byte "0")) rest
 
 -- one to four digits
 abbrev pub is_number : List ℕ → Bool
@@ -32,15 +33,15 @@ number_in _ = None
 
 -- the half points behind a decimal point: one digit, 0 or 5
 abbrev pub half_after : ℕ → List ℕ → Option ℕ
-half_after whole (digit ∷ []) = if digit == 48 then Some (2 * whole) else (if digit == 53 then Some (2 * whole + 1) else None)
+half_after whole (digit ∷ []) = if digit == byte "0" then Some (2 * whole) else (if digit == byte "5" then Some (2 * whole + 1) else None)
 half_after whole _ = None
 
 -- the half points that a text spells, of which the whole points so far are read
 abbrev pub points_after : ℕ → List ℕ → Option ℕ
 points_after whole [] = Some (2 * whole)
 points_after whole (b ∷ rest) =
-    if is_ascii_digit b then points_after (10 * whole + (b - 48)) rest
-    else (if (b == 46) || (b == 44) then half_after whole rest else None)
+    if is_ascii_digit b then points_after (10 * whole + (b - byte "0")) rest
+    else (if (b == byte ".") || (b == byte ",") then half_after whole rest else None)
 
 -- the half points that a word of one to four bytes spells: digits; a point or comma and 0 or 5; or both
 abbrev pub points_of : List ℕ → Option ℕ
@@ -53,7 +54,7 @@ without_last test (x ∷ rest) = if list_all test (x ∷ rest) then [] else x �
 
 -- a text without the blanks at its end
 abbrev pub trimmed : List ℕ → List ℕ
-trimmed bytes = without_last (λ b. b == 32) bytes
+trimmed bytes = without_last (λ b. b == byte " ") bytes
 
 -- the points that the words of a field name, in half points: none where there is no word; no answer where they are no points
 abbrev pub points_in : List (List ℕ) → Option (Option ℕ)

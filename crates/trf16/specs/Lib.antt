@@ -16,3 +16,4 @@ pub mod Written
 pub mod Round
 pub mod Steps
 pub mod StartRanks
+pub mod Points

@@ -1,6 +1,7 @@
 -- The lines of a text, and the columns of a line.
 use Rattle.std.specs.Prelude.{ℕ, ◌-◌, Bool, ◌&&◌, ◌||◌, ◌==◌, nat_le, nat_lt, if◌then◌else◌, List, [], ◌∷◌, ◌++◌, slice_range}
 use Rattle.std.specs.List.{list_all}
+use Rattle.std.specs.Str.{byte}
 
 -- the text without the byte order marks in front of it, however many
 abbrev pub without_marks : List ℕ → List ℕ
@@ -9,7 +10,7 @@ without_marks bytes = bytes
 
 -- a carriage return or a line feed
 abbrev pub ends_line : ℕ → Bool
-ends_line b = (b == 13) || (b == 10)
+ends_line b = (b == byte "\r") || (b == byte "\n")
 
 -- a byte put in front of the first of some lists
 abbrev pub onto_first : ℕ → List (List ℕ) → List (List ℕ)
@@ -21,7 +22,7 @@ abbrev pub lines : List ℕ → List (List ℕ)
 lines [] = []
 lines (b ∷ []) = if ends_line b then [] ∷ [] else (b ∷ []) ∷ []
 lines (b ∷ c ∷ rest) =
-    if (b == 13) && (c == 10) then [] ∷ lines rest
+    if (b == byte "\r") && (c == byte "\n") then [] ∷ lines rest
     else (if ends_line b then [] ∷ lines (c ∷ rest) else onto_first b (lines (c ∷ rest)))
 
 -- a byte that goes on with a character of UTF-8
@@ -45,4 +46,4 @@ text line first last = joined (slice_range line (first - 1) last)
 
 -- nothing but blanks, which are space characters
 abbrev pub is_blank : List ℕ → Bool
-is_blank bytes = list_all (λ b. b == 32) bytes
+is_blank bytes = list_all (λ b. b == byte " ") bytes

@@ -2,6 +2,7 @@
 use Rattle.std.specs.Prelude.{◌≡◌, ℕ, ◌<◌, ◌≤◌, Bool, true, not, ◌&&◌, ◌==◌, nat_eq, if◌then◌else◌, List, [], ◌∷◌, ◌++◌, length, take, drop, slice_index, Option, Some, None}
 use Rattle.trf16.specs.Lines.{columns, joined}
 use Rattle.std.specs.List.{list_any}
+use Rattle.std.specs.Str.{byte}
 use Rattle.trf16.specs.Sheet.{Entry, Sheet, known}
 use Rattle.trf16.specs.Absence.{absent}
 use Rattle.trf16.specs.Written.{player_text}
@@ -10,7 +11,7 @@ use Rattle.trf16.specs.Written.{player_text}
 abbrev pub behind_end : List ℕ → List ℕ
 behind_end [] = []
 behind_end (b ∷ []) = []
-behind_end (b ∷ c ∷ rest) = if (b == 13) && (c == 10) then rest else c ∷ rest
+behind_end (b ∷ c ∷ rest) = if (b == byte "\r") && (c == byte "\n") then rest else c ∷ rest
 
 -- a column begins at this byte, and this many stand in front of it
 pub record IsStart (utf8 : Bool) (bytes : List ℕ) (before at : ℕ) : Type 0 where
@@ -24,9 +25,9 @@ AllStart utf8 bytes starts count = (k : ℕ) → k < count → IsStart utf8 byte
 
 -- the line that is put next: one that is carried, or that of the next player
 abbrev pub next_text : Bool → Option (List ℕ) → List Entry → List ℕ
-next_text utf8 (Some line) players = line ++ (10 ∷ [])
+next_text utf8 (Some line) players = line ++ (byte "\n" ∷ [])
 next_text utf8 None [] = []
-next_text utf8 None (entry ∷ players) = player_text utf8 entry ++ (10 ∷ [])
+next_text utf8 None (entry ∷ players) = player_text utf8 entry ++ (byte "\n" ∷ [])
 
 -- the players whose lines are put behind it
 abbrev pub players_behind : Option (List ℕ) → List Entry → List Entry

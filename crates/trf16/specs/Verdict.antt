@@ -36,16 +36,16 @@ start_at sheet n line = do
 unfoldable pub points_at : ℕ → List (List ℕ) → Result (Option ℕ) Fault
 points_at n line = ok_or (points_in (words (text line 81 84))) (BadNumber n)
 
--- the round that follows `before` others: opponent in columns 92 to 95, colour in 97 and result in 99, the others blank, and each
+-- the round that follows `before` others: opponent in columns 92 to 95, colour in 97 and result in 99, columns 96, 98, 100 and 101 blank, and each
 -- round stands ten columns further on
 unfoldable pub round_at : ℕ → List (List ℕ) → ℕ → Result Cell Fault
 round_at n line before = do
-  let at = 91 + 10 * before
-  _ ← blank_at n line (at + 5)
-  _ ← blank_at n line (at + 7)
-  _ ← blank_at n line (at + 9)
-  _ ← blank_at n line (at + 10)
-  ok_or (cell_from (text line (at + 1) (at + 4)) (text line (at + 6) (at + 6)) (text line (at + 8) (at + 8))) (BadCell n (before + 1))
+  let further = 10 * before
+  _ ← blank_at n line (96 + further)
+  _ ← blank_at n line (98 + further)
+  _ ← blank_at n line (100 + further)
+  _ ← blank_at n line (101 + further)
+  ok_or (cell_from (text line (92 + further) (95 + further)) (text line (97 + further) (97 + further)) (text line (99 + further) (99 + further))) (BadCell n (before + 1))
 
 -- some rounds one after the other, of which `before` others stand in front
 unfoldable pub rounds_at : ℕ → List (List ℕ) → ℕ → ℕ → Result (List Cell) Fault

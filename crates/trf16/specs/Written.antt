@@ -2,6 +2,7 @@
 use Rattle.std.specs.Prelude.{ℕ, ◌-◌, ◌/◌, ◌%◌, Bool, true, false, ◌==◌, if◌then◌else◌, List, [], ◌∷◌, ◌++◌, length, replicate, codes, Option, Some, None}
 use Rattle.std.specs.List.{flat_map}
 use Rattle.std.specs.Fmt.{decimal}
+use Rattle.std.specs.Str.{byte}
 use Rattle.trf16.specs.Lines.{columns}
 use Rattle.trf16.specs.Sheet.{Entry, Sheet}
 use Rattle.trf16.specs.declared.cell.Colour.{Colour}
@@ -15,7 +16,7 @@ use Rattle.trf16.specs.declared.cell.Cell.TheVariants.{Blank, Bye, Game, Forfeit
 
 -- some blanks
 abbrev pub blanks : ℕ → List ℕ
-blanks n = replicate n 32
+blanks n = replicate n (byte " ")
 
 -- a text at the right of four columns
 abbrev pub right_in_four : List ℕ → List ℕ
@@ -27,7 +28,7 @@ left_in utf8 width text = text ++ blanks (width - length (columns utf8 text))
 
 -- half points as points with one decimal
 abbrev pub points_text : ℕ → List ℕ
-points_text points = decimal (points / 2) ++ (46 ∷ (if points % 2 == 0 then 48 else 53) ∷ [])
+points_text points = decimal (points / 2) ++ (byte "." ∷ (if points % 2 == 0 then byte "0" else byte "5") ∷ [])
 
 -- the points field: blank, or the points
 abbrev pub points_field : Option ℕ → List ℕ
@@ -36,41 +37,41 @@ points_field (Some points) = right_in_four (points_text points)
 
 -- H, F, U and Z
 abbrev pub bye_letter : ByeKind → ℕ
-bye_letter Half = 72
-bye_letter Full = 70
-bye_letter Allocated = 85
-bye_letter Zero = 90
+bye_letter Half = byte "H"
+bye_letter Full = byte "F"
+bye_letter Allocated = byte "U"
+bye_letter Zero = byte "Z"
 
 -- w, b, or a dash where there is none
 abbrev pub colour_letter : Option Colour → ℕ
-colour_letter None = 45
-colour_letter (Some White) = 119
-colour_letter (Some Black) = 98
+colour_letter None = byte "-"
+colour_letter (Some White) = byte "w"
+colour_letter (Some Black) = byte "b"
 
 -- 1, = and 0 of a rated game, W, D and L of one that is not
 abbrev pub outcome_letter : Bool → Outcome → ℕ
-outcome_letter true Win = 49
-outcome_letter true Draw = 61
-outcome_letter true Loss = 48
-outcome_letter false Win = 87
-outcome_letter false Draw = 68
-outcome_letter false Loss = 76
+outcome_letter true Win = byte "1"
+outcome_letter true Draw = byte "="
+outcome_letter true Loss = byte "0"
+outcome_letter false Win = byte "W"
+outcome_letter false Draw = byte "D"
+outcome_letter false Loss = byte "L"
 
 -- opponent, colour and result in eight columns
 abbrev pub meeting_text : ℕ → Option Colour → ℕ → List ℕ
-meeting_text opponent colour result = right_in_four (decimal opponent) ++ (32 ∷ colour_letter colour ∷ 32 ∷ result ∷ [])
+meeting_text opponent colour result = right_in_four (decimal opponent) ++ (byte " " ∷ colour_letter colour ∷ byte " " ∷ result ∷ [])
 
 -- the eight columns of a cell
 abbrev pub cell_text : Cell → List ℕ
 cell_text Blank = blanks 8
 cell_text (Bye bye) = codes "0000 - " ++ (bye_letter bye ∷ [])
 cell_text (Game opponent colour rated got) = meeting_text opponent (Some colour) (outcome_letter rated got)
-cell_text (Forfeit opponent colour won) = meeting_text opponent colour (if won then 43 else 45)
-cell_text (Unfinished opponent colour) = meeting_text opponent (Some colour) 32
+cell_text (Forfeit opponent colour won) = meeting_text opponent colour (if won then byte "+" else byte "-")
+cell_text (Unfinished opponent colour) = meeting_text opponent (Some colour) (byte " ")
 
 -- a round: two blanks and the cell
 abbrev pub round_text : Cell → List ℕ
-round_text cell = 32 ∷ 32 ∷ cell_text cell
+round_text cell = codes "  " ++ cell_text cell
 
 -- the line of a player
 abbrev pub player_text : Bool → Entry → List ℕ
@@ -81,9 +82,9 @@ player_text utf8 entry =
 -- the lines: those that are carried as they stand, and those of the players in their places
 abbrev pub lines_text : Bool → List (Option (List ℕ)) → List Entry → List ℕ
 lines_text utf8 [] players = []
-lines_text utf8 (Some line ∷ rest) players = line ++ (10 ∷ lines_text utf8 rest players)
+lines_text utf8 (Some line ∷ rest) players = line ++ (byte "\n" ∷ lines_text utf8 rest players)
 lines_text utf8 (None ∷ rest) [] = lines_text utf8 rest []
-lines_text utf8 (None ∷ rest) (entry ∷ players) = player_text utf8 entry ++ (10 ∷ lines_text utf8 rest players)
+lines_text utf8 (None ∷ rest) (entry ∷ players) = player_text utf8 entry ++ (byte "\n" ∷ lines_text utf8 rest players)
 
 -- the canonical text of a report
 abbrev pub written : Sheet → List ℕ

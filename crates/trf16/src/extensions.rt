@@ -4,7 +4,7 @@ ghost use Rattle.std.specs.List.{list_any};
 ghost use Rattle.std.specs.Option.{option_map_or};
 ghost use Rattle.trf16.specs.Lines.{columns};
 ghost use Rattle.trf16.specs.Fields.{words, number_of};
-ghost use Rattle.trf16.specs.Extensions.{is_word, rounds_in, colour_behind, colour_behind_all, colour_in, are_start_ranks, names_absent};
+ghost use Rattle.trf16.specs.Extensions.{is_word, rounds_in, colour_named, named_together, colour_behind, colour_behind_all, colour_in, are_start_ranks, names_absent};
 ghost use Rattle.trf16.specs.Absence.{is_of};
 
 use crate::cell::Colour;
@@ -29,21 +29,39 @@ pub(crate) fn rounds_in(rest: &[u8]) -> Option<u16>
     }
 }
 
+// What a word of a line `XXC` names.
+fn colour_named(word: &[u8]) -> Option<Option<Colour>>
+    ensures { result ≡ colour_named word.now }
+{
+    if is_word(word, b"WHITE1") {
+        return Some(Some(Colour::White));
+    }
+    if is_word(word, b"BLACK1") {
+        return Some(Some(Colour::Black));
+    }
+    if is_word(word, b"RANK") {
+        return Some(None);
+    }
+    None
+}
+
+// What two name together, who do not name both colours.
+fn named_together(front: Option<Colour>, named: Option<Colour>) -> Option<Option<Colour>>
+    ensures { result ≡ named_together front named }
+{
+    match (front, named) {
+        (Some(Colour::White), Some(Colour::Black)) => None,
+        (Some(Colour::Black), Some(Colour::White)) => None,
+        (None, _) => Some(named),
+        (Some(_), _) => Some(front),
+    }
+}
+
 // The initial colour behind one word of a line `XXC`.
 fn colour_behind(initial: Option<Colour>, word: &[u8]) -> Option<Option<Colour>>
     ensures { result ≡ colour_behind initial word.now }
 {
-    let white = is_word(word, b"WHITE1");
-    let black = is_word(word, b"BLACK1");
-    let rank = is_word(word, b"RANK");
-    match initial {
-        None if white => Some(Some(Colour::White)),
-        None if black => Some(Some(Colour::Black)),
-        None if rank => Some(None),
-        Some(Colour::White) if white || rank => Some(initial),
-        Some(Colour::Black) if black || rank => Some(initial),
-        _ => None,
-    }
+    named_together(initial, colour_named(word)?)
 }
 
 // The initial colour behind all words of a line `XXC`.

@@ -1,12 +1,13 @@
 // Laws over the definitions of a report alone: each is a function with an empty body, and its contract is the law.
-ghost use Rattle.std.specs.Prelude.{◌≡◌, ℕ, ◌<◌, ◌≤◌, true, false, not, List, ◌∷◌, ◌++◌, [], length, map, slice_range, Some, Ok};
+ghost use Rattle.std.specs.Prelude.{◌≡◌, ℕ, ◌<◌, ◌≤◌, ◌↔◌, true, false, not, List, ◌∷◌, ◌++◌, [], length, map, slice_range, Some, Ok};
 ghost use Rattle.std.specs.Fmt.{decimal};
 ghost use Rattle.std.specs.List.{list_all};
-ghost use Rattle.std.specs.Str.{is_utf8, chars};
+ghost use Rattle.std.specs.Str.{byte, is_utf8, chars};
 ghost use Rattle.std.specs.Char.{encode_utf8};
 ghost use Rattle.trf16.specs.Lines.{ends_line, lines, columns};
 ghost use Rattle.trf16.specs.Cells.{cell_from};
-ghost use Rattle.trf16.specs.Fields.{words, number_in, points_in};
+ghost use Rattle.trf16.specs.Fields.{words, number_in, points_of, points_in};
+ghost use Rattle.trf16.specs.Points.{SpellsPoints};
 ghost use Rattle.trf16.specs.Sheet.{Sheet};
 ghost use Rattle.trf16.specs.StartRanks.{HasOwnStarts};
 ghost use Rattle.trf16.specs.Verdict.{verdict};
@@ -22,6 +23,12 @@ pub fn law_numbers()
 /// Half points under 100 points that are written at the right of four columns read back as themselves.
 pub fn law_points()
     ensures { (points : ℕ) → points < 200 → points_in (words (right_in_four (points_text points))) ≡ Some (Some points) }
+{}
+
+/// A word spells points exactly where it has one to four bytes and is digits, behind which nothing stands or a point or comma and then
+/// 0 or 5: twice the number and the half point.
+pub fn law_points_spelled()
+    ensures { (word : List ℕ) → (points : ℕ) → (points_of word ≡ Some points) ↔ ((1 ≤ length word) × (length word ≤ 4) × SpellsPoints 0 word points) }
 {}
 
 /// A cell that some fields spell has eight columns where it is written, and its fields there (opponent in columns 1 to 4 of the
@@ -40,7 +47,7 @@ pub fn law_columns()
 
 /// A line that is put in front of a text, with LF behind it, is the first of the lines, and the others are those of the text.
 pub fn law_lines()
-    ensures { (line : List ℕ) → (rest : List ℕ) → list_all (λ b. not (ends_line b)) line ≡ true → lines (line ++ (10 ∷ rest)) ≡ line ∷ lines rest }
+    ensures { (line : List ℕ) → (rest : List ℕ) → list_all (λ b. not (ends_line b)) line ≡ true → lines (line ++ (byte "\n" ∷ rest)) ≡ line ∷ lines rest }
 {}
 
 /// The canonical text of a report that was read reads back as that report, unless it is too long.

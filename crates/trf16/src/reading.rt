@@ -75,15 +75,15 @@ fn round_at(n: usize, line: &Line<'_>, before: usize) -> Result<Cell, Fault>
     requires { before < 32 }
     ensures { Gives (λ x. x) result (round_at n line.now before) }
 {
-    let at = 91 + 10 * before;
-    blank_at(n, line, at + 5)?;
-    blank_at(n, line, at + 7)?;
-    blank_at(n, line, at + 9)?;
-    blank_at(n, line, at + 10)?;
+    let further = 10 * before;
+    blank_at(n, line, 96 + further)?;
+    blank_at(n, line, 98 + further)?;
+    blank_at(n, line, 100 + further)?;
+    blank_at(n, line, 101 + further)?;
     match cell_from(
-        line.text(at + 1, at + 4),
-        line.text(at + 6, at + 6),
-        line.text(at + 8, at + 8),
+        line.text(92 + further, 95 + further),
+        line.text(97 + further, 97 + further),
+        line.text(99 + further, 99 + further),
     ) {
         None => Err(Fault::BadCell {
             line: n,
