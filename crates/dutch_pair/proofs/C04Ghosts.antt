@@ -29,17 +29,18 @@ use Rattle.dutch_pair.specs.Ghosts.{is_upto, ghost_pair, ghosts_meet, may_bye, g
 use Rattle.dutch_pair.proofs.Along.{along_numbers, cover_along}
 use Rattle.dutch_pair.proofs.ArrangementParts.{parts_of}
 use Rattle.dutch_pair.proofs.DownLemmas.{down_numbers}
+use Rattle.dutch_pair.proofs.LeastPsd.{in_filter}
 use Rattle.dutch_pair.proofs.PsdParts.{down_parts}
 use Rattle.dutch_pair.proofs.ShapeSearch.{shape_with, mdps_ended, mdps_passed, fits_by_test}
 
-both_true : (s t : Bool) → (s && t) ≡ true → (s ≡ true) × (t ≡ true)
+pub both_true : (s t : Bool) → (s && t) ≡ true → (s ≡ true) × (t ≡ true)
 both_true true t e = (refl, e)
 both_true false t e = let bad : false ≡ true = e in absurd (cc)
 
-and_true : (s t : Bool) → s ≡ true → t ≡ true → (s && t) ≡ true
+pub and_true : (s t : Bool) → s ≡ true → t ≡ true → (s && t) ≡ true
 and_true s t e f = ap (λ b. b && t) e ∙ f
 
-either : (t : Bool) → (t ≡ true) ⊎ (t ≡ false)
+pub either : (t : Bool) → (t ≡ true) ⊎ (t ≡ false)
 either true = inl refl
 either false = inr refl
 
@@ -183,14 +184,6 @@ none_passes p (a ∷ xs) none =
       | inl on ↦ absurd (none a (inl refl) on)
       | inr off ↦ ap (λ t. has_member (cond t (a ∷ filter p xs) (filter p xs))) off ∙ none_passes p xs (λ b m. none b (inr m))
     ]
-
-in_filter : (p : Arrangement → Bool) (x : Arrangement) (xs : List Arrangement) → IsIn x (filter p xs) → IsIn x xs
-in_filter p x [] m = m
-in_filter p x (y ∷ ys) m =
-    elim (p y) as (λ t. IsIn x (cond t (y ∷ filter p ys) (filter p ys)) → IsIn x (y ∷ ys)) [
-      | true ↦ λ m. elim m [ inl same ↦ inl same | inr later ↦ inr (in_filter p x ys later) ]
-      | false ↦ λ m. inr (in_filter p x ys m)
-    ] m
 
 module _ (facts : Facts) (stand : Stand) (lower : List ℕ) (penultimate : is_penultimate stand.kind ≡ true) (within : stand.mdps ≤ length stand.seats) where
   none_of : (shape : Shape) → fits (frame_of facts stand) shape ≡ true → ghosts_can_complete facts stand.seats (length stand.seats - 2 * shape.pairs) lower ≡ false

@@ -3,7 +3,7 @@
 -- First for one bracket and a weaker rule: it finds as many pairs or more, and where as many, no PSD is below the floor. Then for the next
 -- bracket: ghosts with the scores of the downfloaters make the same bracket by scores, and whoever meets a downfloater meets the ghost in
 -- his place.
-use Rattle.std.proofs.Common.{◌≡◌, ℕ, ◌+◌, ◌-◌, ◌*◌, ◌/◌, ◌<◌, ◌≤◌, Bool, true, false, not, ◌&&◌, nat_le, cond, List, [], ◌∷◌, ◌++◌, map, filter, length, get_or, ◌⊎◌, inl, inr, Option, Some, None, refl, sym, ap, ◌∙◌, arith, subst, length-append}
+use Rattle.std.proofs.Common.{◌≡◌, ℕ, ◌+◌, ◌-◌, ◌*◌, ◌/◌, ◌<◌, ◌≤◌, Bool, true, false, not, ◌&&◌, nat_le, cond, List, [], ◌∷◌, ◌++◌, map, length, get_or, ◌⊎◌, inl, inr, Option, Some, None, refl, sym, ap, ◌∙◌, arith, subst, length-append}
 use Rattle.std.specs.Prelude.{◌==◌, slice_index, if◌then◌else◌}
 use Rattle.std.specs.List.{AllByRecursion, list_any}
 use Rattle.std.proofs.lemmas.Bool.Decides.{nat_tests}
@@ -26,25 +26,18 @@ use Rattle.dutch_pair.specs.Round.{downfloaters}
 use Rattle.dutch_pair.specs.ColourFloors.{residents_down}
 use Rattle.dutch_pair.specs.PsdFloors.{repeated, floor_psd}
 use Rattle.dutch_pair.specs.Ghosts.{IsNotBetter, is_upto, ghost_pair, may_bye, ghosts_meet, ghost_may_be_left, ghost_scores, ghost_frame, ghost_floor}
-use Rattle.dutch_pair.proofs.C04Ghosts.{IsOneOf, append_low, append_high, numbers_are_seats, pair_of, left_of_ghost}
+use Rattle.dutch_pair.proofs.C04Ghosts.{both_true, and_true, IsOneOf, append_low, append_high, numbers_are_seats, pair_of, left_of_ghost}
 use Rattle.dutch_pair.proofs.AllLemmas.{all_filter}
 use Rattle.dutch_pair.proofs.ArrangementParts.{parts_of, numbers_within}
 use Rattle.dutch_pair.proofs.DownLemmas.{down_numbers}
 use Rattle.dutch_pair.proofs.NextBrackets.{next_of, next_flat}
+use Rattle.dutch_pair.proofs.LeastPsd.{in_filter}
 use Rattle.dutch_pair.proofs.PsdParts.{down_parts}
 use Rattle.dutch_order.proofs.Lists.{map-numbers_from}
 use Rattle.dutch_pair.proofs.C07WeakerRules.{a_weaker_rule_has_no_fewer_pairs, found_fits, found_few, always_a_shape}
 use Rattle.dutch_pair.proofs.C07PsdFloor.{no_psd_is_below_the_floor}
 use Rattle.dutch_pair.proofs.ShapeSearch.{fits_by_test, first_has}
 use Rattle.dutch_pair.specs.Shapes.{shapes}
-
-in_filter : (p : Arrangement → Bool) (x : Arrangement) (xs : List Arrangement) → IsIn x (filter p xs) → IsIn x xs
-in_filter p x [] m = m
-in_filter p x (y ∷ ys) m =
-    elim (p y) as (λ t. IsIn x (cond t (y ∷ filter p ys) (filter p ys)) → IsIn x (y ∷ ys)) [
-      | true ↦ λ m. elim m [ inl same ↦ inl same | inr later ↦ inr (in_filter p x ys later) ]
-      | false ↦ λ m. inr (in_filter p x ys m)
-    ] m
 
 pub none_lower_than_none : (xs : List ℕ) → is_lower xs [] ≡ false
 none_lower_than_none [] = refl
@@ -136,13 +129,6 @@ all_same P f s each (x ∷ xs) all = ap (λ y. y ∷ map f xs) (each x all.0) �
 
 sides : (i k : ℕ) → (i ≤ k) ⊎ (k < i)
 sides i k = grind arith
-
-both_true : (s t : Bool) → (s && t) ≡ true → (s ≡ true) × (t ≡ true)
-both_true true t e = (refl, e)
-both_true false t e = let bad : false ≡ true = e in absurd (cc)
-
-and_true : (s t : Bool) → s ≡ true → t ≡ true → (s && t) ≡ true
-and_true s t e f = ap (λ b. b && t) e ∙ f
 
 -- the most pairs of ghosts in a bracket of these scores
 abbrev most_of : Facts → List ℕ → List ℕ → ℕ → List ℕ → Option Shape

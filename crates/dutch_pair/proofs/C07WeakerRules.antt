@@ -2,7 +2,7 @@
 --
 -- Both rules choose from one list of shapes, in which the numbers of pairs do not rise, and each shape that has an arrangement by the
 -- stronger rule has one by the weaker. So the first shape that has one by the weaker rule stands no later in that list.
-use Rattle.std.proofs.Common.{◌≡◌, ℕ, zero, suc, ◌-◌, ◌/◌, ◌≤◌, Bool, true, false, not, ◌&&◌, ◌||◌, nat_lt, cond, ◌⊎◌, inl, inr, List, [], ◌∷◌, ◌++◌, map, filter, length, Some, None, refl, sym, ap, ◌∙◌, arith, subst}
+use Rattle.std.proofs.Common.{◌≡◌, ℕ, zero, suc, ◌-◌, ◌/◌, ◌≤◌, Bool, true, false, not, ◌&&◌, ◌||◌, nat_lt, cond, inl, inr, List, [], ◌∷◌, ◌++◌, map, filter, length, Some, None, refl, sym, ap, ◌∙◌, arith, subst}
 use Rattle.std.specs.List.{AllByRecursion}
 use Rattle.std.specs.Prelude.{flat_map}
 use Rattle.std.proofs.lemmas.Bool.Decides.{nat_tests}
@@ -12,6 +12,7 @@ use Rattle.dutch_order.specs.Keys.{IsIn}
 use Rattle.dutch_order.specs.Arrangements.{Frame, Arrangement, arrangements, candidates, is_legal, leaves_one, down}
 use Rattle.dutch_pair.specs.Shapes.{down_from, fits, shapes_with, shapes, has_member, first_with, greatest_shape}
 use Rattle.dutch_pair.proofs.AllLemmas.{all_join, all_filter}
+use Rattle.dutch_pair.proofs.C04Ghosts.{either}
 use Rattle.dutch_pair.proofs.ShapeSearch.{shape_with}
 
 and_weaker : (s t s' t' : Bool) → (s ≡ true → s' ≡ true) → (t ≡ true → t' ≡ true) → (s && t) ≡ true → (s' && t') ≡ true
@@ -21,10 +22,6 @@ and_weaker false t s' t' f g e = let bad : false ≡ true = e in absurd (cc)
 or_weaker : (s t t' : Bool) → (t ≡ true → t' ≡ true) → (s || t) ≡ true → (s || t') ≡ true
 or_weaker true t t' g e = refl
 or_weaker false t t' g e = g e
-
-pub either : (t : Bool) → (t ≡ true) ⊎ (t ≡ false)
-either true = inl refl
-either false = inr refl
 
 module _ (meets meets' : ℕ → ℕ → Bool) (left left' : ℕ → Bool) (more : (i j : ℕ) → meets i j ≡ true → meets' i j ≡ true) (may : (i : ℕ) → left i ≡ true → left' i ≡ true) where
   all_weaker : (xs ys : List ℕ) → all_meet meets xs ys ≡ true → all_meet meets' xs ys ≡ true
