@@ -3,7 +3,7 @@ use Rattle.std.proofs.Common.{◌≡◌, ◌∙◌, ◌≤◌, ◌<◌, ◌+◌,
 use Rattle.std.specs.List.{flat_map}
 use Rattle.std.proofs.lemmas.Grind.{flat_map-append}
 use Rattle.std.proofs.lemmas.List.{drop_all}
-use Rattle.dutch_order.specs.Arrangements.{Arrangement, Frame, Fits, IsBracket, arrangements, down}
+use Rattle.dutch_order.specs.Arrangements.{Arrangement, Frame, IsBracket, arrangements, down}
 use Rattle.dutch_order.specs.Cursors.{cursor_of}
 use Rattle.dutch_order.specs.Draws.{Draw}
 use Rattle.dutch_order.specs.Keys.{IsIn}
