@@ -43,7 +43,7 @@ pub fn completable_by_test()
         → Completable meets may_be_left players ↔ (can_complete meets may_be_left players ≡ true) }
 {}
 
-/// The most steps of up to six players, one of whom may be left out.
+/// The most steps of none to five players, one of whom may be left out.
 pub fn most_of_few()
     ensures none { most 0 true ≡ 0 }
     ensures one { most 1 true ≡ 1 }
