@@ -3,7 +3,7 @@ use Rattle.std.proofs.Common.{◌≡◌, ◌∙◌, ◌≤◌, ◌<◌, ◌+◌,
 use Rattle.std.specs.List.{flat_map}
 use Rattle.std.proofs.lemmas.Grind.{flat_map-append}
 use Rattle.std.proofs.lemmas.List.{drop_all}
-use Rattle.dutch_order.specs.Arrangements.{Arrangement, Frame, Fits, IsBracket, arrangements, down}
+use Rattle.dutch_order.specs.Arrangements.{Arrangement, Frame, IsBracket, arrangements, down}
 use Rattle.dutch_order.specs.Cursors.{cursor_of}
 use Rattle.dutch_order.specs.Draws.{Draw}
 use Rattle.dutch_order.specs.Keys.{IsIn}
@@ -14,7 +14,7 @@ use Rattle.dutch_pair.specs.Reached.{Stand, frame_of}
 use Rattle.dutch_player.specs.Facts.{Facts}
 use Rattle.dutch_pair.specs.declared.round.BracketAt.{BracketAt}
 use Rattle.dutch_order.specs.declared.cursor.CursorFault.{CursorFault}
-use Rattle.arbiter.specs.CandidateAnswers.{IsListing, IsTold, Lists, Tells, coming_of, ending_text, status_of}
+use Rattle.arbiter.specs.CandidateAnswers.{IsListing, IsAnswerToField, Lists, AnswersFound, coming_of, ending_text, status_of}
 use Rattle.arbiter.specs.CandidateTexts.{bracket_text, draw_text, line_text, pairs_text}
 use Rattle.arbiter.specs.Replies.{answer_of}
 use Rattle.arbiter.specs.Statuses.{not_of_bracket}
@@ -123,7 +123,7 @@ not_listed options facts stand shape fault (Err error) e h = h
 
 -- what is answered to a bracket that is found
 pub told : (options : CandidatesOptions) (facts : Facts) (found : BracketAt) {E : Type 0} (r : Result Reply E) → IsBracketAt facts options.steps options.bracket found
-    → IfOk r (λ reply. Tells options facts found (answer_of reply)) → IfOk r (λ reply. IsTold options facts (answer_of reply))
+    → IfOk r (λ reply. AnswersFound options facts found (answer_of reply)) → IfOk r (λ reply. IsAnswerToField options facts (answer_of reply))
 told options facts found (Ok reply) is h = record { found = found; is = is; tells = h }
 told options facts found (Err error) is h = h
 

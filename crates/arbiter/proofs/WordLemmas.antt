@@ -11,7 +11,7 @@ use Rattle.clap.specs.declared.parser.matches.ArgMatches.{ArgMatches}
 use Rattle.clap.specs.declared.parser.matches.ArgMatches.TheViews.{out-ArgMatches, out-SubCommand}
 use Rattle.arbiter.specs.Options.{rows_in}
 use Rattle.clap.proofs.OnLiterals.{clap_on_literals}
-use Rattle.arbiter.specs.Words.{ComesTo, Tells, arbiter_app, asked_by, is_mistake, is_shown, request_by}
+use Rattle.arbiter.specs.Words.{ComesTo, FitsKind, arbiter_app, asked_by, is_mistake, is_shown, request_by}
 use Rattle.arbiter.specs.declared.options.WordFault.{WordFault}
 use Rattle.arbiter.specs.declared.words.Request.{Request}
 use Rattle.arbiter.specs.declared.words.Asked.{Asked}
@@ -44,7 +44,7 @@ among_passes p k (x ∷ xs) (inl same) e = ap (λ y. p y || list_any p xs) (sym 
 among_passes p k (x ∷ xs) (inr later) e = ap (λ b. p x || b) (among_passes p k xs later e) ∙ or_true (p x)
 
 -- what an error of a parse comes to is what the words come to
-pub told_of_words : (words : List Text) (error : Error) (asked : Asked) → HasKind (fault_of arbiter_app words) error → Tells (kind_of error) asked → ComesTo words asked
+pub told_of_words : (words : List Text) (error : Error) (asked : Asked) → HasKind (fault_of arbiter_app words) error → FitsKind (kind_of error) asked → ComesTo words asked
 told_of_words words error (Command request) h told = absurd told
 told_of_words words error (Refused fault) h told = absurd told
 told_of_words words error (Help text) (inl memory) told = let bad : false ≡ true = sym (ap is_shown memory) ∙ told in cc

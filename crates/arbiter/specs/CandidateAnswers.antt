@@ -53,7 +53,7 @@ coming_of facts stand shape None = Ok (candidates (numbers_meet facts stand) (nu
 coming_of facts stand shape (Some text) = behind_cursor facts stand shape (cursor_of (frame_of facts stand) shape text)
 
 -- a bracket of this number and its candidates to come are listed
-pub record IsListed (options : CandidatesOptions) (facts : Facts) (stand : Stand) (shape : Shape) (coming : List Arrangement) (answer : Answer) : Type 0 where
+pub record IsListOfBracket (options : CandidatesOptions) (facts : Facts) (stand : Stand) (shape : Shape) (coming : List Arrangement) (answer : Answer) : Type 0 where
   pub ending : Ending
   pub lines : List ℕ
   pub listing : IsListing (line_text facts stand) coming options.count options.steps ending lines
@@ -62,25 +62,25 @@ pub record IsListed (options : CandidatesOptions) (facts : Facts) (stand : Stand
 
 -- the same, where the cursor is one of the bracket; else that is told
 abbrev pub Lists : CandidatesOptions → Facts → Stand → Shape → Result (List Arrangement) CursorFault → Answer → Type 0
-Lists options facts stand shape (Ok coming) answer = IsListed options facts stand shape coming answer
+Lists options facts stand shape (Ok coming) answer = IsListOfBracket options facts stand shape coming answer
 Lists options facts stand shape (Err fault) answer = answer ≡ not_of_bracket options.bracket
 
 -- what is answered to the bracket that is found
-abbrev pub Tells : CandidatesOptions → Facts → BracketAt → Answer → Type 0
-Tells options facts (Bracket stand shape) answer = Lists options facts stand shape (coming_of facts stand shape options.from) answer
-Tells options facts NotReached answer = answer ≡ not_reached options.bracket
-Tells options facts NoPairingAt answer = answer ≡ no_pairing
-Tells options facts (UndecidedAt number used) answer = answer ≡ undecided number used
+abbrev pub AnswersFound : CandidatesOptions → Facts → BracketAt → Answer → Type 0
+AnswersFound options facts (Bracket stand shape) answer = Lists options facts stand shape (coming_of facts stand shape options.from) answer
+AnswersFound options facts NotReached answer = answer ≡ not_reached options.bracket
+AnswersFound options facts NoPairingAt answer = answer ≡ no_pairing
+AnswersFound options facts (UndecidedAt number used) answer = answer ≡ undecided number used
 
 -- the bracket that is asked for is found, or not, and that is answered
-pub record IsTold (options : CandidatesOptions) (facts : Facts) (answer : Answer) : Type 0 where
+pub record IsAnswerToField (options : CandidatesOptions) (facts : Facts) (answer : Answer) : Type 0 where
   pub found : BracketAt
   pub is : IsBracketAt facts options.steps options.bracket found
-  pub tells : Tells options facts found answer
+  pub tells : AnswersFound options facts found answer
 
 -- what is answered to a field, or why the round cannot be paired
 abbrev pub InField : CandidatesOptions → Result Facts FieldFault → Answer → Type 0
-InField options (Ok facts) answer = IsTold options facts answer
+InField options (Ok facts) answer = IsAnswerToField options facts answer
 InField options (Err fault) answer = answer ≡ field_refusal fault
 
 -- `candidates`: what is answered to a report, or why it is refused

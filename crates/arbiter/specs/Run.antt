@@ -89,7 +89,7 @@ pub record IsCut (answer : Answer) (out err : Use) (status : Status) : Type 0 wh
   pub told : HasTextOrPart write_text err
 
 -- the answer stands on standard error unless that failed, and standard output is as it was
-pub record IsTold (answer : Answer) (out err : Use) (status : Status) : Type 0 where
+pub record IsOnStandardError (answer : Answer) (out err : Use) (status : Status) : Type 0 where
   pub ends : status ≡ answer.status
   pub silent : IsKept out
   pub told : HasTextOrPart answer.text err
@@ -97,7 +97,7 @@ pub record IsTold (answer : Answer) (out err : Use) (status : Status) : Type 0 w
 -- how an answer is written: to standard output (true), or to standard error (false)
 abbrev pub IsWrittenTo : Bool → Answer → Use → Use → Status → Type 0
 IsWrittenTo true answer out err status = IsPrinted answer out err status ⊎ IsCut answer out err status
-IsWrittenTo false answer out err status = IsTold answer out err status
+IsWrittenTo false answer out err status = IsOnStandardError answer out err status
 
 -- how an answer is written, by its status
 abbrev pub IsWritten : Answer → Use → Use → Status → Type 0

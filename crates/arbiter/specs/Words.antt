@@ -119,8 +119,8 @@ ComesTo words (Mistake text) = IsMistaken words
 ComesTo words (Refused fault) = AsksWrongly words fault
 
 -- the same of one error of clap's
-abbrev pub Tells : ErrorKind → Asked → Type 0
-Tells kind (Command request) = ⊥
-Tells kind (Help text) = is_shown kind ≡ true
-Tells kind (Mistake text) = is_mistake kind ≡ true
-Tells kind (Refused fault) = ⊥
+abbrev pub FitsKind : ErrorKind → Asked → Type 0
+FitsKind kind (Command request) = ⊥
+FitsKind kind (Help text) = is_shown kind ≡ true
+FitsKind kind (Mistake text) = is_mistake kind ≡ true
+FitsKind kind (Refused fault) = ⊥

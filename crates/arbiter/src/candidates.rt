@@ -4,7 +4,7 @@ ghost use Rattle.trf16.specs.Verdict.{verdict};
 ghost use Rattle.dutch_order.specs.Arrangements.{Fits};
 ghost use Rattle.dutch_pair.specs.Outcomes.{IsBracketAt};
 ghost use Rattle.dutch_pair.specs.Reached.{IsOf, frame_of};
-ghost use Rattle.arbiter.specs.CandidateAnswers.{AnswersCandidates, InField, Lists, Tells, coming_of};
+ghost use Rattle.arbiter.specs.CandidateAnswers.{AnswersCandidates, InField, Lists, AnswersFound, coming_of};
 ghost use Rattle.arbiter.specs.Replies.{answer_of};
 ghost use Rattle.arbiter.specs.Statuses.{not_of_bracket, not_reached};
 
@@ -87,7 +87,7 @@ fn tell(
     found: &BracketAt,
 ) -> Result<Reply, AllocError>
     requires { IsBracketAt field.now options.now.steps options.now.bracket found.now }
-    ensures { IfOk result (λ reply. Tells options.now field.now found.now (answer_of reply)) }
+    ensures { IfOk result (λ reply. AnswersFound options.now field.now found.now (answer_of reply)) }
 {
     match found {
         BracketAt::Bracket { reached, shape } => list(alloc, options, field, reached, *shape),

@@ -4,7 +4,7 @@ ghost use Rattle.clap.specs.declared.Command.{out-Command as fields_of};
 ghost use Rattle.clap.specs.Words.{app_of, kind_of, new_app, subcommand_rows_of};
 ghost use Rattle.dutch_order.specs.Cursors.{has_syntax};
 ghost use Rattle.arbiter.specs.Options.{rows_in};
-ghost use Rattle.arbiter.specs.Words.{ComesTo, Tells, asked_by, candidates_request, pair_request, request_by, request_of, standings_request, with_engine};
+ghost use Rattle.arbiter.specs.Words.{ComesTo, FitsKind, asked_by, candidates_request, pair_request, request_by, request_of, standings_request, with_engine};
 ghost use Rattle.arbiter.specs.Words.{arbiter_app, check_app, format_app, settled, versioned};
 
 use crate::commands::{candidates_command, pair_command, standings_command};
@@ -128,7 +128,7 @@ fn asked_by<'a>(request: Result<Request<'a>, WordFault>) -> Asked<'a>
 
 // What an error of clap's comes to.
 fn told<'a>(alloc: Global, error: &Error) -> Result<Asked<'a>, AllocError>
-    ensures { IfOk result (Tells (kind_of error.now)) }
+    ensures { IfOk result (FitsKind (kind_of error.now)) }
 {
     match error.kind() {
         ErrorKind::OutOfMemory => Err(AllocError),

@@ -1,27 +1,17 @@
 -- Whether a shape has a candidate that can be chosen, one candidate after another.
-use Rattle.std.proofs.Common.{◌≡◌, ℕ, Bool, true, false, not, ◌||◌, cond, List, [], ◌∷◌, ◌++◌, filter, refl, sym, ap, ◌∙◌}
+use Rattle.std.proofs.Common.{◌≡◌, ℕ, Bool, true, false, cond, List, [], ◌∷◌, filter, refl, ap, ◌∙◌}
 use Rattle.dutch_order.specs.Arrangements.{Arrangement}
 use Rattle.dutch_order.specs.declared.bracket.Shape.{Shape}
 use Rattle.dutch_player.specs.Facts.{Facts}
 use Rattle.dutch_pair.specs.Reached.{Stand}
 use Rattle.dutch_pair.specs.Shapes.{has_member}
-use Rattle.dutch_pair.specs.Round.{is_penultimate, completable, downfloaters, candidates_of, eligible}
+use Rattle.dutch_pair.specs.Round.{candidates_of, eligible}
 use Rattle.dutch_pair.specs.Eligible.{can_be_chosen}
-
-filter_all : {X : Type 0} (xs : List X) → filter (λ x. true) xs ≡ xs
-filter_all [] = refl
-filter_all (x ∷ xs) = ap (λ ys. x ∷ ys) (filter_all xs)
-
-eligible_at : (p : Arrangement → Bool) (all : List Arrangement) (penultimate : Bool)
-    → cond penultimate (filter p all) all ≡ filter (λ lists. not penultimate || p lists) all
-eligible_at p all true = refl
-eligible_at p all false = sym (filter_all all)
 
 -- those that can be chosen, by the test of each
 pub eligible_is : (facts : Facts) (stand : Stand) (lower : List ℕ) (shape : Shape)
     → eligible facts stand lower shape ≡ filter (can_be_chosen facts stand lower) (candidates_of facts stand shape)
-eligible_is facts stand lower shape =
-    eligible_at (λ lists. completable facts (downfloaters facts stand lists ++ lower)) (candidates_of facts stand shape) (is_penultimate stand.kind)
+eligible_is facts stand lower shape = refl
 
 module _ (p : Arrangement → Bool) where
   pub passes_unfit : (c : Arrangement) (old new : List Arrangement) → old ≡ c ∷ new → p c ≡ false → has_member (filter p old) ≡ has_member (filter p new)

@@ -13,7 +13,7 @@ use Rattle.dutch_pair.specs.declared.reached.Kind.TheVariants.{Ordinary, Last, C
 use Rattle.dutch_pair.specs.Choice.{chosen}
 use Rattle.dutch_pair.specs.Quality.{is_better}
 use Rattle.dutch_pair.specs.Reached.{Stand, ends_round, frame_of, numbers_meet, number_may_be_left}
-use Rattle.dutch_pair.specs.Round.{Round, Pairing, Chosen, bracket, candidates_of, choice, choice_in, completable, downfloaters, eligible, everybody, is_penultimate, quality_of, scoregroups, shape_of, pairing_in, passing, no_pairing, final_chosen, final_bracket, penultimate_chosen, penultimate_bracket, paired_again, ordinary_chosen, brackets, round}
+use Rattle.dutch_pair.specs.Round.{Round, Pairing, Chosen, bracket, candidates_of, choice, choice_in, completable, downfloaters, eligible, everybody, can_be_chosen, quality_of, scoregroups, shape_of, pairing_in, passing, no_pairing, final_chosen, final_bracket, penultimate_chosen, penultimate_bracket, paired_again, ordinary_chosen, brackets, round}
 use Rattle.dutch_pair.specs.Seated.{all_pairs, seat_of}
 use Rattle.dutch_pair.proofs.LeastPsd.{in_filter}
 use Rattle.dutch_pair.proofs.WalkEnds.{in_unbeaten}
@@ -36,14 +36,11 @@ module _ (facts : Facts) (stand : Stand) where
   legal : Arrangement → Bool
   legal a = is_legal (numbers_meet facts stand) (number_may_be_left facts stand) (frame_of facts stand) a
 
-  legal_of : (lower : List ℕ) (shape : Shape) (a : Arrangement) (t : Bool)
-      → IsIn a (cond t (filter (λ lists. completable facts (downfloaters facts stand lists ++ lower)) (candidates_of facts stand shape)) (candidates_of facts stand shape))
-      → legal a ≡ true
+  legal_of : (lower : List ℕ) (shape : Shape) (a : Arrangement) → IsIn a (eligible facts stand lower shape) → legal a ≡ true
   unfolding legal
-  legal_of lower shape a true m =
+  legal_of lower shape a m =
       in_passes (λ c. legal c) a (arrangements (frame_of facts stand) shape)
-      (in_filter (λ lists. completable facts (downfloaters facts stand lists ++ lower)) a (candidates_of facts stand shape) m)
-  legal_of lower shape a false m = in_passes (λ c. legal c) a (arrangements (frame_of facts stand) shape) m
+      (in_filter (can_be_chosen facts stand lower) a (candidates_of facts stand shape) m)
 
   legal_at : (shape : Shape) (found : Option Arrangement) (made : Chosen) → ((a : Arrangement) → found ≡ Some a → legal a ≡ true)
       → option_map (λ (lists : Arrangement). let one : Chosen = record { shape = shape; lists = lists } in one) found ≡ Some made → legal made.lists ≡ true
@@ -58,7 +55,7 @@ module _ (facts : Facts) (stand : Stand) where
       let better : Arrangement → Arrangement → Bool = λ c d. is_better (quality_of facts stand lower c) (quality_of facts stand lower d) in
       let all : List Arrangement = eligible facts stand lower shape in
       legal_at shape (chosen better all) made
-      (λ a is. legal_of lower shape a (is_penultimate stand.kind) (in_unbeaten better all all a is)) e
+      (λ a is. legal_of lower shape a (in_unbeaten better all all a is)) e
 
   -- who is left over by what is chosen, where at most one may be
   left_few : (lower : List ℕ) (made : Chosen) → ends_round stand.kind ≡ true → choice facts stand lower ≡ Some made → length (downfloaters facts stand made.lists) ≤ 1

@@ -1,5 +1,5 @@
 -- How the walk over the brackets ends, told from behind: a bracket more in front of a round that ends so.
-use Rattle.std.proofs.Common.{◌≡◌, ℕ, zero, suc, ◌+◌, ◌-◌, ◌≤◌, Bool, true, false, cond, List, [], ◌∷◌, ◌++◌, length, map, filter, inl, inr, Option, Some, None, option_map, refl, sym, ap, ◌∙◌, subst, arith, append-nil, append_assoc}
+use Rattle.std.proofs.Common.{◌≡◌, ℕ, zero, suc, ◌+◌, ◌-◌, ◌≤◌, Bool, true, false, cond, List, [], ◌∷◌, ◌++◌, length, map, inl, inr, Option, Some, None, option_map, refl, sym, ap, ◌∙◌, subst, arith, append-nil, append_assoc}
 use Rattle.std.specs.List.{AllByRecursion}
 use Rattle.std.proofs.lemmas.Bool.Decides.{nat_tests}
 use Rattle.std.proofs.lemmas.List.{length-map}
@@ -18,7 +18,7 @@ use Rattle.dutch_pair.specs.NextBracket.{IsDraw}
 use Rattle.dutch_pair.specs.Choice.{is_unbeaten, first_unbeaten, chosen}
 use Rattle.dutch_pair.specs.Quality.{is_better}
 use Rattle.dutch_pair.specs.Walk.{AreAbove, Goes}
-use Rattle.dutch_pair.specs.Round.{Round, Visit, Pairing, Chosen, is_penultimate, bracket, completable, downfloaters, candidates_of, eligible, quality_of, choice_in, choice, shape_of, no_pairing, passing, pairing_in, ending, final_chosen, final_bracket, penultimate_chosen, paired_again, penultimate_bracket, ordinary_chosen, ordinary_bracket}
+use Rattle.dutch_pair.specs.Round.{Round, Visit, Pairing, Chosen, bracket, can_be_chosen, completable, downfloaters, candidates_of, eligible, quality_of, choice_in, choice, shape_of, no_pairing, passing, pairing_in, ending, final_chosen, final_bracket, penultimate_chosen, paired_again, penultimate_bracket, ordinary_chosen, ordinary_bracket}
 use Rattle.dutch_pair.specs.Outcomes.{visit_at}
 use Rattle.dutch_pair.specs.Ends.{Ends, IsPaired, IsAhead, LeftGoOn, Misses, in_front, is_asked}
 use Rattle.dutch_pair.proofs.LeastPsd.{in_filter}
@@ -41,14 +41,10 @@ in_unbeaten better all [] a e = let bad : None ≡ Some a = e in cc
 in_unbeaten better all (c ∷ rest) a e = in_unbeaten_at better all c a rest (is_unbeaten better all c) (in_unbeaten better all rest a) e
 
 module _ (facts : Facts) where
-  in_eligible : (stand : Stand) (lower : List ℕ) (shape : Shape) (a : Arrangement) (t : Bool)
-      → IsIn a (cond t (filter (λ lists. completable facts (downfloaters facts stand lists ++ lower)) (candidates_of facts stand shape)) (candidates_of facts stand shape))
-      → IsIn a (arrangements (frame_of facts stand) shape)
-  in_eligible stand lower shape a true m =
+  in_eligible : (stand : Stand) (lower : List ℕ) (shape : Shape) (a : Arrangement) → IsIn a (eligible facts stand lower shape) → IsIn a (arrangements (frame_of facts stand) shape)
+  in_eligible stand lower shape a m =
       in_filter (is_legal (numbers_meet facts stand) (number_may_be_left facts stand) (frame_of facts stand)) a (arrangements (frame_of facts stand) shape)
-      (in_filter (λ lists. completable facts (downfloaters facts stand lists ++ lower)) a (candidates_of facts stand shape) m)
-  in_eligible stand lower shape a false m =
-      in_filter (is_legal (numbers_meet facts stand) (number_may_be_left facts stand) (frame_of facts stand)) a (arrangements (frame_of facts stand) shape) m
+      (in_filter (can_be_chosen facts stand lower) a (candidates_of facts stand shape) m)
 
   in_choice_at : (stand : Stand) (lower : List ℕ) (shape : Shape) (a : Arrangement) (found : Option Arrangement) (at' : Shape)
       → (found ≡ Some a → IsIn a (arrangements (frame_of facts stand) at'))
@@ -64,7 +60,7 @@ module _ (facts : Facts) where
   in_choice_in stand lower shape a None e = let bad : None ≡ Some (let made : Chosen = record { shape = shape; lists = a } in made) = e in cc
   in_choice_in stand lower shape a (Some at') e =
       in_choice_at stand lower shape a (chosen (λ c d. is_better (quality_of facts stand lower c) (quality_of facts stand lower d)) (eligible facts stand lower at')) at'
-      (λ h. in_eligible stand lower at' a (is_penultimate stand.kind)
+      (λ h. in_eligible stand lower at' a
       (in_unbeaten (λ c d. is_better (quality_of facts stand lower c) (quality_of facts stand lower d)) (eligible facts stand lower at') (eligible facts stand lower at') a h)) e
 
   -- what is chosen in a bracket is an arrangement of it

@@ -32,7 +32,7 @@ lowest_list (xs ∷ others) = lowest_list_upto xs others
 abbrev pub next_stand : List ℕ → List ℕ → Stand
 next_stand moved_down next = record { number = 0; kind = Ordinary; mdps = length moved_down; seats = moved_down ++ next }
 
--- the arrangements of a bracket that meet C.1 and C.3, and C.2 where it leaves over at most one player
+-- the arrangements of a bracket whose pairs meet C.1 and C.3; one that ends the round leaves over at most one player, who meets C.2
 abbrev pub legal_in : Facts → Stand → Shape → List Arrangement
 legal_in facts stand = candidates (numbers_meet facts stand) (number_may_be_left facts stand) (frame_of facts stand)
 

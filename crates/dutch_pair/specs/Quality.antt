@@ -19,22 +19,37 @@ use Rattle.dutch_pair.specs.declared.colours_missed.Miss.{Miss}
 use Rattle.dutch_pair.specs.declared.colours_missed.Miss.TheVariants.{Wide, Third, Preference, StrongPreference}
 use Rattle.dutch_pair.specs.Seated.{Seated, difference, difference_down, going_down, going_up}
 
--- the items in the order in which they count: C.6, the two of C.7, then one each for C.8 to C.19
+-- the items in the order in which they count
 pub record Quality : Type 0 where
+  -- C.6: the differences of pairs and downfloaters, the highest first
   pub psd : List ℕ
+  -- C.7: the most pairs of the next bracket
   pub next_pairs : ℕ
+  -- C.7: the least PSD with so many
   pub next_psd : List ℕ
+  -- C.8: in pairs with a topscorer, a colour difference over +2 or under -2
   pub wide_differences : ℕ
+  -- C.9: in pairs with a topscorer, the colour of the last two games again
   pub third_colours : ℕ
+  -- C.10: a preference that is not met
   pub missed_preferences : ℕ
+  -- C.11: a strong preference that is not met
   pub missed_strong : ℕ
+  -- C.12: going down after a downfloat in the last round
   pub down_again : ℕ
+  -- C.13: going up after an upfloat in the last round
   pub up_again : ℕ
+  -- C.14: going down after a downfloat in the round before
   pub down_again_before : ℕ
+  -- C.15: going up after an upfloat in the round before
   pub up_again_before : ℕ
+  -- C.16: the differences of those of C.12
   pub down_again_by : List ℕ
+  -- C.17: the differences of those of C.13
   pub up_again_by : List ℕ
+  -- C.18: the differences of those of C.14
   pub down_again_before_by : List ℕ
+  -- C.19: the differences of those of C.15
   pub up_again_before_by : List ℕ
 
 -- C.7: what the next bracket can be: its number of pairs and the least PSD for it

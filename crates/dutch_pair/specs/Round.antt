@@ -1,5 +1,5 @@
 -- The pairing of a round, scoregroup by scoregroup (C.04.3 A.3, A.9, B.8).
-use Rattle.std.specs.Prelude.{ℕ, ◌+◌, Bool, true, false, ◌==◌, if◌then◌else◌, cond, List, [], ◌∷◌, ◌++◌, map, filter, length, Option, Some, None, option_map}
+use Rattle.std.specs.Prelude.{ℕ, ◌+◌, Bool, true, false, not, ◌||◌, ◌==◌, if◌then◌else◌, List, [], ◌∷◌, ◌++◌, map, filter, length, Option, Some, None, option_map}
 use Rattle.std.specs.List.{concat}
 use Rattle.dutch_order.specs.declared.bracket.Shape.{Shape}
 use Rattle.dutch_order.specs.Choices.{numbers_from}
@@ -93,11 +93,14 @@ module _ (facts : Facts) where
   abbrev pub candidates_of : Stand → Shape → List Arrangement
   candidates_of stand shape = candidates (numbers_meet facts stand) (number_may_be_left facts stand) (frame_of facts stand) shape
 
-  -- C.4: the candidates that can be chosen; in the penultimate bracket those that leave players who can be paired out with all
-  -- lower ones
+  -- C.4: whether a candidate can be chosen: in the penultimate bracket only if it leaves players who can be paired out with all lower
+  -- ones
+  abbrev pub can_be_chosen : Stand → List ℕ → Arrangement → Bool
+  can_be_chosen stand lower lists = not (is_penultimate stand.kind) || completable (downfloaters stand lists ++ lower)
+
+  -- C.4: the candidates that can be chosen
   abbrev pub eligible : Stand → List ℕ → Shape → List Arrangement
-  eligible stand lower shape =
-      cond (is_penultimate stand.kind) (filter (λ lists. completable (downfloaters stand lists ++ lower)) (candidates_of stand shape)) (candidates_of stand shape)
+  eligible stand lower shape = filter (can_be_chosen stand lower) (candidates_of stand shape)
 
   -- C.6 to C.19: the quality of a candidate above all lower seats, of which the first scoregroup is the next bracket's
   abbrev pub quality_of : Stand → List ℕ → Arrangement → Quality

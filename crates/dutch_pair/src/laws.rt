@@ -1,5 +1,5 @@
-// Laws of the definitions alone: better qualities are in a strict and total order, the test of completable players is right, and
-// the most steps of a few players.
+// Laws over the definitions: of qualities, completable players, shapes, scoregroups, boards and rounds; and laws that give what the
+// calls on a bracket ask for.
 ghost use Rattle.std.specs.Prelude.{◌≡◌, ◌≤◌, ◌⊎◌, ◌↔◌, ℕ, Bool, IfSome, List, Ok, Option, None, Some, false, length, true};
 ghost use Rattle.trf16.specs.Round.{CanBePaired};
 ghost use Rattle.trf16.specs.Sheet.{Sheet};
@@ -43,7 +43,7 @@ pub fn completable_by_test()
         → Completable meets may_be_left players ↔ (can_complete meets may_be_left players ≡ true) }
 {}
 
-/// The most steps of up to six players, one of whom may be left out.
+/// The most steps of none to five players, one of whom may be left out.
 pub fn most_of_few()
     ensures none { most 0 true ≡ 0 }
     ensures one { most 1 true ≡ 1 }
