@@ -46,3 +46,4 @@ pub mod GrantedColours
 pub mod C11StrongPreferences
 pub mod FreePlayers
 pub mod LegalPairs
+pub mod ShapeLaws

@@ -1,6 +1,6 @@
 // Laws of the definitions alone: better qualities are in a strict and total order, the test of completable players is right, and
 // the most steps of a few players.
-ghost use Rattle.std.specs.Prelude.{◌≡◌, ◌≤◌, ◌⊎◌, ◌↔◌, ℕ, Bool, IfSome, List, Ok, Option, Some, false, length, true};
+ghost use Rattle.std.specs.Prelude.{◌≡◌, ◌≤◌, ◌⊎◌, ◌↔◌, ℕ, Bool, IfSome, List, Ok, Option, None, Some, false, length, true};
 ghost use Rattle.trf16.specs.Round.{CanBePaired};
 ghost use Rattle.trf16.specs.Sheet.{Sheet};
 ghost use Rattle.trf16.specs.Verdict.{verdict};
@@ -10,7 +10,11 @@ ghost use Rattle.dutch_player.specs.Facts.{Facts, facts_of};
 ghost use Rattle.dutch_player.specs.Laws.{CountFromOne};
 ghost use Rattle.dutch_pair.specs.Boards.{boards};
 ghost use Rattle.dutch_pair.specs.Everybody.{NameEverybodyOnce};
-ghost use Rattle.dutch_pair.specs.Round.{Pairing, round};
+ghost use Rattle.dutch_order.specs.Arrangements.{Fits, Frame};
+ghost use Rattle.dutch_order.specs.declared.bracket.Shape.{Shape};
+ghost use Rattle.dutch_pair.specs.Reached.{Stand, frame_of};
+ghost use Rattle.dutch_pair.specs.Round.{Pairing, eligible, round, shape_of};
+ghost use Rattle.dutch_pair.specs.Shapes.{IsGreater, fits, has_member};
 ghost use Rattle.dutch_pair.specs.Completion.{Completable, can_complete, most};
 
 /// Of two qualities one is better, or they are the same: a strict and total order.
@@ -53,4 +57,21 @@ pub fn boards_can_be_the_next_round()
     ensures { (bytes : List ℕ) (sheet : Sheet) (asked : Option ℕ) (initial : Option Colour) (facts : Facts) (pairing : Pairing) → verdict bytes ≡ Ok sheet
         → IfSome asked (λ total. total ≤ 32) → facts_of sheet asked initial ≡ Ok facts → (round facts).pairing ≡ Some pairing
         → CanBePaired (boards facts pairing) sheet }
+{}
+
+/// The shape of a bracket has room in it and a candidate that can be chosen, and no shape with room and such a candidate is greater;
+/// where there is none, no shape has both (C.5, B.1).
+pub fn the_shape_is_the_greatest()
+    ensures room { (facts : Facts) (stand : Stand) (lower : List ℕ) (s : Shape) → shape_of facts stand lower ≡ Some s → Fits (frame_of facts stand) s }
+    ensures candidate { (facts : Facts) (stand : Stand) (lower : List ℕ) (s : Shape) → shape_of facts stand lower ≡ Some s
+        → has_member (eligible facts stand lower s) ≡ true }
+    ensures greatest { (facts : Facts) (stand : Stand) (lower : List ℕ) (s t : Shape) → shape_of facts stand lower ≡ Some s
+        → Fits (frame_of facts stand) t → has_member (eligible facts stand lower t) ≡ true → ¬ IsGreater t s }
+    ensures none { (facts : Facts) (stand : Stand) (lower : List ℕ) (t : Shape) → shape_of facts stand lower ≡ None
+        → Fits (frame_of facts stand) t → ¬ (has_member (eligible facts stand lower t) ≡ true) }
+{}
+
+/// A bracket has room for a shape exactly where the test says so.
+pub fn room_by_test()
+    ensures { (frame : Frame) (shape : Shape) → Fits frame shape ↔ (fits frame shape ≡ true) }
 {}
