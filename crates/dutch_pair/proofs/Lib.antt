@@ -47,3 +47,9 @@ pub mod C11StrongPreferences
 pub mod FreePlayers
 pub mod LegalPairs
 pub mod ShapeLaws
+pub mod Mates
+pub mod MateLists
+pub mod FinalBrackets
+pub mod OnePairMore
+pub mod Downfloaters
+pub mod NoDeadEnd
