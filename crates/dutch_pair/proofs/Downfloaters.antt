@@ -1,18 +1,18 @@
 -- What is chosen in a bracket leaves over seats of the bracket, each once; two of them who may meet, not both moved down, would make
 -- one pair more, so there are no such two where the choice has the most pairs (C.04.3 C.5).
-use Rattle.std.proofs.Common.{◌≡◌, ℕ, zero, suc, ◌+◌, ◌-◌, ◌<◌, ◌≤◌, Bool, true, false, not, ◌&&◌, ◌==◌, nat_le, cond, List, [], ◌∷◌, ◌++◌, map, length, get_or, refl, sym, ap, ◌∙◌, arith, subst, inl, inr, ◌⊎◌, Option, Some, None, length-append}
+use Rattle.std.proofs.Common.{◌≡◌, ℕ, ◌-◌, ◌<◌, ◌≤◌, Bool, true, false, not, ◌&&◌, ◌==◌, nat_le, cond, List, [], ◌∷◌, ◌++◌, length, refl, sym, ap, ◌∙◌, arith, subst, inl, inr, Option, Some, None, length-append}
 use Rattle.std.specs.Prelude.{option_map}
 use Rattle.std.specs.List.{filter}
 use Rattle.std.proofs.lemmas.List.{length-map}
-use Rattle.std.proofs.lemmas.Bool.{cases_eq, cases_lt, cases_order, eq-eqb, ne_eqb, and_parts, and_from, not_from_false, not-true, le-leb, true≢false}
+use Rattle.std.proofs.lemmas.Bool.{cases_lt, cases_order, eq-eqb, ne_eqb, and_parts, and_from, not_from_false, not-true, le-leb, true≢false}
 use Rattle.dutch_order.specs.declared.bracket.Shape.{Shape}
-use Rattle.dutch_order.specs.Arrangements.{Arrangement, Fits, Frame, arrangements, down, is_legal, paired, players_of}
+use Rattle.dutch_order.specs.Arrangements.{Arrangement, Frame, arrangements, down, is_legal, paired, players_of}
 use Rattle.dutch_order.specs.Choices.{is_member}
 use Rattle.dutch_order.specs.Forms.{NoneTwice}
 use Rattle.dutch_order.specs.Keys.{IsIn}
 use Rattle.dutch_order.proofs.CursorSets.{numbers-within}
 use Rattle.dutch_order.proofs.NoneTwice.{in-left, rises-twice}
-use Rattle.dutch_order.proofs.Orders.{IsIn-map, Rises-filter, map-IsIn}
+use Rattle.dutch_order.proofs.Orders.{IsIn-map, Rises-filter}
 use Rattle.dutch_player.specs.Facts.{Facts}
 use Rattle.dutch_player.specs.Meetings.{may_meet}
 use Rattle.dutch_pair.specs.declared.reached.Kind.{Kind}

@@ -1,18 +1,18 @@
 -- Mates among the players of a bracket, of whom no two are moved down, are the pairs of an arrangement; its downfloaters are their
 -- own mates.
-use Rattle.std.proofs.Common.{◌≡◌, ℕ, zero, suc, ◌+◌, ◌-◌, ◌*◌, ◌<◌, ◌≤◌, Bool, true, false, not, ◌&&◌, ◌||◌, ◌==◌, ltb, cond, List, [], ◌∷◌, ◌++◌, map, length, refl, sym, ap, ◌∙◌, arith, subst, inl, inr, ◌⊎◌}
+use Rattle.std.proofs.Common.{◌≡◌, ℕ, ◌+◌, ◌-◌, ◌<◌, ◌≤◌, Bool, true, false, not, ◌||◌, ◌==◌, ltb, cond, List, [], ◌∷◌, ◌++◌, map, length, refl, sym, ap, ◌∙◌, arith, subst, inl, inr}
 use Rattle.std.specs.List.{filter}
 use Rattle.std.proofs.lemmas.List.{length-map}
 use Rattle.std.proofs.lemmas.Bool.{cases_eq, cases_order, cases_lt, eq-eqb, ne_eqb, ltb-true, lt-ltb, not_from_false, not-true, and_from, true≢false}
 use Rattle.dutch_order.specs.declared.bracket.Shape.{Shape}
-use Rattle.dutch_order.specs.Choices.{is_member, all_meet, numbers_from}
+use Rattle.dutch_order.specs.Choices.{is_member, all_meet}
 use Rattle.dutch_order.specs.Cursors.{moved_down_of}
 use Rattle.dutch_order.specs.Forms.{NoneTwice, IsMovedDown, IsResident}
 use Rattle.dutch_order.specs.Keys.{IsIn}
-use Rattle.dutch_order.specs.Arrangements.{Frame, Arrangement, Fits, arrangements, candidates, down, is_legal, leaves_one, left_of, paired, players_of, remainder_pairs, residents_of}
+use Rattle.dutch_order.specs.Arrangements.{Frame, Arrangement, Fits, arrangements, candidates, down, is_legal, leaves_one, left_of, paired, players_of, residents_of}
 use Rattle.dutch_order.proofs.CursorSets.{AreLists, kept-in, in-kept, numbers-within}
 use Rattle.dutch_order.proofs.FormArrangements.{in-lists, moved_down-in, in-moved_down, resident-in, in-residents}
-use Rattle.dutch_order.proofs.NoneTwice.{in-left, left-in, number-in, rises-twice, twice-different}
+use Rattle.dutch_order.proofs.NoneTwice.{in-left, left-in, rises-twice, twice-different}
 use Rattle.dutch_order.proofs.Orders.{Rises-filter, IsIn-front, IsIn-back, IsIn-map, map-IsIn}
 use Rattle.dutch_order.proofs.StageSets.{Climbs-length}
 use Rattle.dutch_pair.specs.Shapes.{has_member}

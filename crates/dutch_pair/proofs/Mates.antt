@@ -1,11 +1,11 @@
 -- Who is paired out with whom, as a map of each player to his mate; whoever is left out is his own mate.
-use Rattle.std.proofs.Common.{◌≡◌, ℕ, zero, suc, ◌+◌, ◌≤◌, Bool, true, false, ◌==◌, cond, List, [], ◌∷◌, ◌++◌, length, refl, sym, ap, ◌∙◌, arith, subst, inl, inr, ◌⊎◌}
+use Rattle.std.proofs.Common.{◌≡◌, ℕ, zero, suc, ◌≤◌, Bool, true, ◌==◌, cond, List, [], ◌∷◌, ◌++◌, length, refl, sym, ap, ◌∙◌, arith, subst, inl, inr, ◌⊎◌}
 use Rattle.std.proofs.lemmas.List.{length-append}
 use Rattle.std.proofs.lemmas.Bool.{cases_eq, eq-eqb, ne_eqb}
 use Rattle.dutch_order.specs.Keys.{IsIn}
 use Rattle.dutch_order.specs.Forms.{NoneTwice}
 use Rattle.dutch_order.proofs.Orders.{IsIn-append, IsIn-front, IsIn-back}
-use Rattle.dutch_order.proofs.NoneTwice.{twice-front, twice-back, twice-apart}
+use Rattle.dutch_order.proofs.NoneTwice.{twice-back, twice-apart}
 use Rattle.dutch_pair.specs.Completion.{Covers, MayBeLeftOut, Completable, nobody}
 use Rattle.dutch_pair.proofs.Covering.{with_left, with_pair}
 

@@ -1,8 +1,8 @@
 -- No dead end (C.04.3 A.9, C.5): where all players can be paired out, each bracket that the round reaches has a candidate that can be
 -- chosen, so the round is paired.
-use Rattle.std.proofs.Common.{◌≡◌, ℕ, zero, suc, ◌+◌, ◌-◌, ◌<◌, ◌≤◌, Bool, true, false, not, cond, List, [], ◌∷◌, ◌++◌, map, length, get_or, is_some, refl, sym, ap, ◌∙◌, arith, subst, inl, inr, ◌⊎◌, Option, Some, None, append_assoc}
+use Rattle.std.proofs.Common.{◌≡◌, ℕ, ◌+◌, ◌-◌, ◌<◌, Bool, true, false, cond, List, [], ◌∷◌, ◌++◌, map, length, get_or, is_some, refl, sym, ap, ◌∙◌, arith, subst, inl, inr, Option, Some, None, append_assoc}
 use Rattle.std.specs.Prelude.{option_map, ◌↔◌}
-use Rattle.std.specs.List.{concat, filter}
+use Rattle.std.specs.List.{concat}
 use Rattle.std.proofs.lemmas.List.{append-nil}
 use Rattle.std.proofs.lemmas.Bool.{cases_eq, cases_order}
 use Rattle.dutch_order.specs.declared.bracket.Shape.{Shape}
@@ -16,13 +16,14 @@ use Rattle.dutch_order.proofs.Lists.{filter-all, map-numbers_from}
 use Rattle.dutch_order.proofs.NoneTwice.{rises-twice, twice-apart, twice-back, twice-front, twice-join}
 use Rattle.dutch_order.proofs.Orders.{IsIn-append, IsIn-back, IsIn-front, IsIn-map, map-IsIn}
 use Rattle.dutch_player.specs.Facts.{Facts}
+use Rattle.dutch_pair.specs.Ends.{in_front}
 use Rattle.dutch_pair.specs.Completion.{Completable}
 use Rattle.dutch_pair.specs.declared.reached.Kind.{Kind}
 use Rattle.dutch_pair.specs.declared.reached.Kind.TheVariants.{Ordinary, Last, Penultimate, Collapsed}
 use Rattle.dutch_pair.specs.Reached.{Stand, ends_round, frame_of, numbers_meet, number_may_be_left}
 use Rattle.dutch_pair.specs.Round.{Chosen, Pairing, Round, bracket, brackets, candidates_of, choice, completable, downfloaters, eligible, everybody, final_bracket, final_chosen, is_penultimate, no_pairing, ordinary_bracket, ordinary_chosen, pairing_in, passing, penultimate_bracket, penultimate_chosen, round, scoregroups}
 use Rattle.dutch_pair.specs.SeatLaws.{seats_meet_sym}
-use Rattle.dutch_pair.specs.Seated.{seat_of, score_at, all_pairs}
+use Rattle.dutch_pair.specs.Seated.{seat_of, all_pairs}
 use Rattle.dutch_pair.specs.Seats.{seats_meet, seats_may_be_left}
 use Rattle.dutch_pair.specs.Shapes.{has_member}
 use Rattle.dutch_pair.proofs.ArrangementParts.{numbers_rise}
@@ -33,6 +34,7 @@ use Rattle.dutch_pair.proofs.GroupLemmas.{concat_scoregroups}
 use Rattle.dutch_pair.proofs.MateLists.{fits_arrangement, has_kept}
 use Rattle.dutch_pair.proofs.Mates.{AreMates, FoundMates, complete_mates, fewer_mates, mates_complete}
 use Rattle.dutch_pair.proofs.OnePairMore.{pairs_legal}
+use Rattle.dutch_pair.proofs.RoundEnds.{is_paired}
 
 module _ (facts : Facts) where
   -- those moved down and those below them can be paired out, each is there once, and no two of those moved down may meet
@@ -322,3 +324,35 @@ module _ (facts : Facts) where
   -- where everybody can be paired out, the round is paired
   pub round_goes : completable facts (everybody facts) ≡ true → is_some (round facts).pairing ≡ true
   round_goes = round_at (completable facts (everybody facts)) refl
+
+  -- where not everybody can be, it is not
+  test_of : (t : Bool) → completable facts (everybody facts) ≡ t → is_some (round facts).pairing ≡ true → completable facts (everybody facts) ≡ true
+  test_of true e h = e
+  test_of false e h =
+      let none : is_some (round facts).pairing ≡ false = ap (λ (t : Bool). is_some (cond t (brackets facts 1 [] (scoregroups facts (everybody facts))) (no_pairing facts)).pairing) e in
+      let bad : false ≡ true = sym none ∙ h in absurd (cc)
+
+  pub paired_exactly : Completable (seats_meet facts) (seats_may_be_left facts) (everybody facts) ↔ (is_some (round facts).pairing ≡ true)
+  paired_exactly = (
+    λ whole. round_goes ((by_test (everybody facts)).0 whole),
+    λ h. (by_test (everybody facts)).1 (test_of (completable facts (everybody facts)) refl h),
+  )
+
+  none_at : (t : Bool) → completable facts (everybody facts) ≡ t → (round facts).pairing ≡ None → completable facts (everybody facts) ≡ false
+  none_at true e h = let bad : true ≡ false = sym (round_goes e) ∙ ap is_some h in absurd (cc)
+  none_at false e h = e
+
+  pub unpaired_exactly : ((round facts).pairing ≡ None) ↔ (completable facts (everybody facts) ≡ false)
+  unpaired_exactly = (
+    none_at (completable facts (everybody facts)) refl,
+    λ e. ap (λ (t : Bool). (cond t (brackets facts 1 [] (scoregroups facts (everybody facts))) (no_pairing facts)).pairing) e,
+  )
+
+  -- ---- what the calls on a round answer
+
+  pub none_complete : (round facts).pairing ≡ None → Completable (seats_meet facts) (seats_may_be_left facts) (everybody facts) → ⊥
+  none_complete h whole = let bad : true ≡ false = sym (paired_exactly.0 whole) ∙ ap is_some h in cc
+
+  pub pairs_complete : (pairs : List (ℕ × ℕ)) (bye : List ℕ) → option_map (in_front []) (round facts).pairing ≡ Some (record { pairs = pairs; bye = bye })
+      → Completable (seats_meet facts) (seats_may_be_left facts) (everybody facts)
+  pairs_complete pairs bye e = paired_exactly.1 (is_paired facts pairs bye e)

@@ -1,17 +1,16 @@
 -- Two downfloaters of a candidate who may meet, not both moved down, make a candidate with one pair more (C.04.3 C.5).
-use Rattle.std.proofs.Common.{◌≡◌, ℕ, zero, suc, ◌+◌, ◌-◌, ◌<◌, ◌≤◌, Bool, true, false, not, ◌&&◌, ◌||◌, cond, List, [], ◌∷◌, ◌++◌, length, refl, sym, ap, ◌∙◌, arith, subst, inl, inr, ◌⊎◌}
+use Rattle.std.proofs.Common.{◌≡◌, ℕ, ◌+◌, ◌<◌, ◌≤◌, Bool, true, false, not, ◌||◌, List, [], ◌∷◌, ◌++◌, length, refl, sym, ap, ◌∙◌, arith, subst, inl, inr, ◌⊎◌}
 use Rattle.std.specs.List.{AllByRecursion}
 use Rattle.std.proofs.lemmas.Bool.{and_parts, and_from}
 use Rattle.dutch_order.specs.declared.bracket.Shape.{Shape}
-use Rattle.dutch_order.specs.Choices.{all_meet, numbers_from}
+use Rattle.dutch_order.specs.Choices.{all_meet}
 use Rattle.dutch_order.specs.Forms.{HasArrangement, HasOneMore, TakesPair, by_place, pairs_by_number, players_in}
 use Rattle.dutch_order.specs.Keys.{IsIn}
 use Rattle.dutch_order.specs.Arrangements.{Arrangement, Fits, Frame, arrangements, down, is_legal, leaves_one, paired, players_of}
 use Rattle.dutch_order.proofs.FormArrangements.{form-arrangement, lists-in, paired-pairs, pairs-paired}
 use Rattle.dutch_order.proofs.FormInsertions.{all-inserted, inserted-players, players-inserted, takes-pair}
 use Rattle.dutch_order.proofs.NoneTwice.{in-left, left-in}
-use Rattle.dutch_pair.proofs.AllLemmas.{all_join}
-use Rattle.dutch_pair.proofs.MateLists.{fits_arrangement, or_true}
+use Rattle.dutch_pair.proofs.MateLists.{fits_arrangement}
 use Rattle.dutch_pair.specs.Shapes.{IsGreater}
 
 module _ (meets : ℕ → ℕ → Bool) where

@@ -9,7 +9,9 @@ use Rattle.dutch_pair.specs.declared.round.Outcome.TheVariants.{Paired, NoPairin
 use Rattle.dutch_pair.specs.declared.round.BracketAt.{BracketAt}
 use Rattle.dutch_pair.specs.declared.round.BracketAt.TheVariants.{Bracket, NotReached, NoPairing as NoPairingAt, Undecided as UndecidedAt}
 use Rattle.dutch_pair.specs.Reached.{Stand, IsOf, frame_of}
-use Rattle.dutch_pair.specs.Round.{Visit, round, choice, shape_of}
+use Rattle.dutch_pair.specs.Round.{Visit, round, choice, everybody, shape_of}
+use Rattle.dutch_pair.specs.Completion.{Completable}
+use Rattle.dutch_pair.specs.Seats.{seats_meet, seats_may_be_left}
 use Rattle.dutch_pair.specs.Boards.{boards}
 
 -- the bracket at a place of a list, the first at 0
@@ -35,6 +37,12 @@ abbrev pub IsOutcome : Facts → ℕ → Outcome → Type 0
 IsOutcome facts limit (Paired all) = option_map (boards facts) (round facts).pairing ≡ Some all.items
 IsOutcome facts limit NoPairing = (round facts).pairing ≡ None
 IsOutcome facts limit (Undecided bracket used) = IsStoppedIn facts limit bracket used
+
+-- A.9: all present players can be paired out where a round is paired, and cannot where it has no pairing
+abbrev pub TellsCompletion : Facts → Outcome → Type 0
+TellsCompletion facts (Paired all) = Completable (seats_meet facts) (seats_may_be_left facts) (everybody facts)
+TellsCompletion facts NoPairing = ¬ Completable (seats_meet facts) (seats_may_be_left facts) (everybody facts)
+TellsCompletion facts (Undecided bracket used) = Unit {0}
 
 -- the bracket of a number, from 1, with its shape; or why there is none
 abbrev pub IsBracketAt : Facts → ℕ → ℕ → BracketAt → Type 0
