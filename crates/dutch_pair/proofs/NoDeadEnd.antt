@@ -17,11 +17,12 @@ use Rattle.dutch_order.proofs.NoneTwice.{rises-twice, twice-apart, twice-back, t
 use Rattle.dutch_order.proofs.Orders.{IsIn-append, IsIn-back, IsIn-front, IsIn-map, map-IsIn}
 use Rattle.dutch_player.specs.Facts.{Facts}
 use Rattle.dutch_pair.specs.Ends.{in_front}
+use Rattle.dutch_pair.specs.Outcomes.{visit_at}
 use Rattle.dutch_pair.specs.Completion.{Completable}
 use Rattle.dutch_pair.specs.declared.reached.Kind.{Kind}
 use Rattle.dutch_pair.specs.declared.reached.Kind.TheVariants.{Ordinary, Last, Penultimate, Collapsed}
 use Rattle.dutch_pair.specs.Reached.{Stand, ends_round, frame_of, numbers_meet, number_may_be_left}
-use Rattle.dutch_pair.specs.Round.{Chosen, Pairing, Round, bracket, brackets, candidates_of, choice, completable, downfloaters, eligible, everybody, final_bracket, final_chosen, is_penultimate, no_pairing, ordinary_bracket, ordinary_chosen, pairing_in, passing, penultimate_bracket, penultimate_chosen, round, scoregroups}
+use Rattle.dutch_pair.specs.Round.{Chosen, Visit, Pairing, Round, bracket, brackets, candidates_of, choice, completable, downfloaters, eligible, everybody, final_bracket, final_chosen, is_penultimate, no_pairing, ordinary_bracket, ordinary_chosen, pairing_in, passing, penultimate_bracket, penultimate_chosen, round, scoregroups}
 use Rattle.dutch_pair.specs.SeatLaws.{seats_meet_sym}
 use Rattle.dutch_pair.specs.Seated.{seat_of, all_pairs}
 use Rattle.dutch_pair.specs.Seats.{seats_meet, seats_may_be_left}
@@ -35,6 +36,7 @@ use Rattle.dutch_pair.proofs.MateLists.{fits_arrangement, has_kept}
 use Rattle.dutch_pair.proofs.Mates.{AreMates, FoundMates, complete_mates, fewer_mates, mates_complete}
 use Rattle.dutch_pair.proofs.OnePairMore.{pairs_legal}
 use Rattle.dutch_pair.proofs.RoundEnds.{is_paired}
+use Rattle.dutch_pair.proofs.WalkEnds.{visit_none}
 
 module _ (facts : Facts) where
   -- those moved down and those below them can be paired out, each is there once, and no two of those moved down may meet
@@ -356,3 +358,12 @@ module _ (facts : Facts) where
   pub pairs_complete : (pairs : List (ℕ × ℕ)) (bye : List ℕ) → option_map (in_front []) (round facts).pairing ≡ Some (record { pairs = pairs; bye = bye })
       → Completable (seats_meet facts) (seats_may_be_left facts) (everybody facts)
   pairs_complete pairs bye e = paired_exactly.1 (is_paired facts pairs bye e)
+
+  visit_at_test : (t : Bool) (place : ℕ) (visit : Visit) → completable facts (everybody facts) ≡ t → visit_at place (round facts).reached ≡ Some visit → completable facts (everybody facts) ≡ true
+  visit_at_test true place visit e h = e
+  visit_at_test false place visit e h =
+      let none : (round facts).reached ≡ [] = ap (λ (t : Bool). (cond t (brackets facts 1 [] (scoregroups facts (everybody facts))) (no_pairing facts)).reached) e in
+      let bad : None ≡ Some visit = sym (visit_none place) ∙ sym (ap (visit_at place) none) ∙ h in absurd (cc)
+
+  pub visit_complete : (place : ℕ) (visit : Visit) → visit_at place (round facts).reached ≡ Some visit → Completable (seats_meet facts) (seats_may_be_left facts) (everybody facts)
+  visit_complete place visit h = (by_test (everybody facts)).1 (visit_at_test (completable facts (everybody facts)) place visit refl h)

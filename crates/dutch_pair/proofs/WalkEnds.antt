@@ -85,7 +85,7 @@ pub ahead_more : (asked : Option ℕ) (n : ℕ) → IsAhead asked n → is_asked
 ahead_more None n h e = tt
 ahead_more (Some a) n h e = grind (arith, nat_tests)
 
-visit_none : (place : ℕ) → visit_at place [] ≡ None
+pub visit_none : (place : ℕ) → visit_at place [] ≡ None
 visit_none zero = refl
 visit_none (suc place) = refl
 

@@ -52,3 +52,10 @@ IsBracketAt facts limit number (Bracket reached shape) =
 IsBracketAt facts limit number NotReached = (visit_at (number - 1) (round facts).reached ≡ None) × (is_some (round facts).pairing ≡ true)
 IsBracketAt facts limit number NoPairingAt = (visit_at (number - 1) (round facts).reached ≡ None) × ((round facts).pairing ≡ None)
 IsBracketAt facts limit number (UndecidedAt bracket used) = IsStoppedIn facts limit bracket used
+
+-- A.9: all present players can be paired out where a bracket is reached or the round ends before it, and cannot where it has no pairing
+abbrev pub TellsCompletionAt : Facts → BracketAt → Type 0
+TellsCompletionAt facts (Bracket reached shape) = Completable (seats_meet facts) (seats_may_be_left facts) (everybody facts)
+TellsCompletionAt facts NotReached = Completable (seats_meet facts) (seats_may_be_left facts) (everybody facts)
+TellsCompletionAt facts NoPairingAt = ¬ Completable (seats_meet facts) (seats_may_be_left facts) (everybody facts)
+TellsCompletionAt facts (UndecidedAt bracket used) = Unit {0}

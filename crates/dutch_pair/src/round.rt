@@ -1,6 +1,6 @@
 // The round, bracket by bracket (C.04.3 A.3, A.9), specified by a recursion over the scoregroups.
 ghost use Rattle.std.specs.Prelude.{◌≤◌, IfOk};
-ghost use Rattle.dutch_pair.specs.Outcomes.{IsOutcome, IsBracketAt, TellsCompletion};
+ghost use Rattle.dutch_pair.specs.Outcomes.{IsOutcome, IsBracketAt, TellsCompletion, TellsCompletionAt};
 
 use crate::boards::{Pair, boards};
 use crate::fault::PairFault;
@@ -52,7 +52,7 @@ pub fn pair_round(alloc: Global, field: &Field, limit: u64) -> Result<Outcome, P
 }
 
 /// The bracket of a number, counted from 1 as the round reaches them, and its shape. Each bracket may make so many steps.
-#[tactic(auto, using(crate::proofs::RoundEnds::is_paired, crate::proofs::RoundEnds::stopped_in, crate::proofs::RoundEnds::visit_asked))]
+#[tactic(auto, using(crate::proofs::RoundEnds::is_paired, crate::proofs::RoundEnds::stopped_in, crate::proofs::RoundEnds::visit_asked, crate::proofs::NoDeadEnd::none_complete, crate::proofs::NoDeadEnd::pairs_complete, crate::proofs::NoDeadEnd::visit_complete))]
 pub fn bracket_at(
     alloc: Global,
     field: &Field,
@@ -60,7 +60,8 @@ pub fn bracket_at(
     number: u16,
 ) -> Result<BracketAt, PairFault>
     requires { 1 ≤ number }
-    ensures { IfOk result (IsBracketAt field.now limit number) }
+    ensures bracket { IfOk result (IsBracketAt field.now limit number) }
+    ensures completion { IfOk result (TellsCompletionAt field.now) }
 {
     match walk(alloc, field, limit, Some(number))? {
         Ended::Asked { reached, shape } => Ok(BracketAt::Bracket { reached, shape }),
