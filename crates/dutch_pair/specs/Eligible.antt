@@ -1,11 +1,19 @@
 -- Which candidates of a bracket can be chosen, as a test of each (C.04.3 C.4).
-use Rattle.std.specs.Prelude.{ℕ, Bool, not, ◌||◌, List, ◌++◌}
-use Rattle.dutch_order.specs.Arrangements.{Arrangement}
+use Rattle.std.specs.Prelude.{◌≡◌, ℕ, Bool, true, not, ◌||◌, List, ◌++◌}
+use Rattle.dutch_order.specs.Arrangements.{Arrangement, Fits}
+use Rattle.dutch_order.specs.declared.bracket.Shape.{Shape}
 use Rattle.dutch_player.specs.Facts.{Facts}
-use Rattle.dutch_pair.specs.Reached.{Stand}
-use Rattle.dutch_pair.specs.Round.{is_penultimate, completable, downfloaters}
+use Rattle.dutch_pair.specs.Reached.{Stand, frame_of}
+use Rattle.dutch_pair.specs.Round.{is_penultimate, completable, downfloaters, eligible}
+use Rattle.dutch_pair.specs.Shapes.{has_member}
 
 -- in the penultimate bracket those whom a candidate leaves over can be paired out with all lower players
 abbrev pub can_be_chosen : Facts → Stand → List ℕ → Arrangement → Bool
 can_be_chosen facts stand lower lists =
     not (is_penultimate stand.kind) || completable facts (downfloaters facts stand lists ++ lower)
+
+-- a bracket above some lower seats has a candidate that can be chosen: some shape that it has room for has one
+pub record HasCandidate (facts : Facts) (stand : Stand) (lower : List ℕ) : Type 0 where
+  pub shape : Shape
+  pub room : Fits (frame_of facts stand) shape
+  pub candidate : has_member (eligible facts stand lower shape) ≡ true
