@@ -57,7 +57,7 @@ of-in frame shape a within h =
     (flat_map-IsIn (with_s2r frame shape a.s1 a.s2) a a.s1r (exchanges pool k) three
     (map-IsIn (λ s2r. record { s1 = a.s1; s2 = a.s2; s1r = a.s1r; s2r = s2r }) a.s2r (sorted tuple_key (tuples others k)) four)))
 
-are-lists : (frame : Frame) (shape : Shape) (a : Arrangement) → AreLists frame shape a → is_of frame shape a ≡ true
+pub are-lists : (frame : Frame) (shape : Shape) (a : Arrangement) → AreLists frame shape a → is_of frame shape a ≡ true
 are-lists frame shape a are =
     let residents = residents_of frame in
     let k = remainder_pairs shape in

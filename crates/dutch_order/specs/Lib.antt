@@ -20,3 +20,4 @@ pub mod Listings
 pub mod Cursors
 pub mod CursorLists
 pub mod Prefixes
+pub mod Forms

@@ -76,7 +76,7 @@ module _ (meets : ℕ → ℕ → Bool) where
       }
 
   -- the first of some players left out
-  with_left : (may_be_left : ℕ → Bool) (a : ℕ) (later : List ℕ) → may_be_left a ≡ true → Completable meets nobody later → Completable meets may_be_left (a ∷ later)
+  pub with_left : (may_be_left : ℕ → Bool) (a : ℕ) (later : List ℕ) → may_be_left a ≡ true → Completable meets nobody later → Completable meets may_be_left (a ∷ later)
   with_left may_be_left a later may rest =
       record {
         pairs = rest.pairs;
@@ -86,7 +86,7 @@ module _ (meets : ℕ → ℕ → Bool) where
       }
 
   -- the first of some players paired
-  with_pair : (may_be_left : ℕ → Bool) (a : ℕ) (later : List ℕ) (b : ℕ) (between behind : List ℕ) → later ≡ between ++ b ∷ behind → meets a b ≡ true
+  pub with_pair : (may_be_left : ℕ → Bool) (a : ℕ) (later : List ℕ) (b : ℕ) (between behind : List ℕ) → later ≡ between ++ b ∷ behind → meets a b ≡ true
       → Completable meets may_be_left (between ++ behind) → Completable meets may_be_left (a ∷ later)
   with_pair may_be_left a later b between behind e may rest =
       record {

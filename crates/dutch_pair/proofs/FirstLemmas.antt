@@ -63,6 +63,3 @@ module _ (facts : Facts) (stand : Stand) (lower : List ℕ) where
       let has : has_member (eligible facts stand lower shape) ≡ true = has_first (eligible facts stand lower) (shapes (frame_of facts stand)) shape e in
       let one = with_member shape has (eligible facts stand lower shape) refl in
       (one.0, ap (choice_in facts stand lower) e ∙ one.1)
-
-  pub no_choice : shape_of facts stand lower ≡ None → choice facts stand lower ≡ None
-  no_choice e = ap (choice_in facts stand lower) e

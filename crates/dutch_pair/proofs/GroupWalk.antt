@@ -32,6 +32,13 @@ pub none_of : (xs : List ℕ) → length xs ≡ 0 → xs ≡ []
 none_of [] h = refl
 none_of (x ∷ xs) h = absurd (omega (arith, h))
 
+-- whether there is somebody, by a test
+pub none_by_test : (xs : List ℕ) → true ≡ (length xs == 0) → xs ≡ []
+none_by_test xs h = none_of xs (eq_of (length xs) 0 (sym h))
+
+pub some_by_test : (xs : List ℕ) → false ≡ (length xs == 0) → 0 < length xs
+some_by_test xs h = grind (arith, nat_tests)
+
 module _ (facts : Facts) where
   -- those at the front have the score
   front_at : (score y : ℕ) (ys : List ℕ) (t : Bool) → (score_at facts y == score) ≡ t → AllByRecursion (λ a. score_at facts a ≡ score) (take (front_with facts score ys) ys)

@@ -69,3 +69,9 @@ pub mod LowerLemmas
 pub mod StandsAbove
 pub mod FloorOfBeginning
 pub mod C07Outlook
+pub mod Mates
+pub mod MateLists
+pub mod FinalBrackets
+pub mod OnePairMore
+pub mod Downfloaters
+pub mod NoDeadEnd

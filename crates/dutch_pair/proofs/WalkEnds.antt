@@ -89,7 +89,7 @@ pub ahead_more : (asked : Option ℕ) (n : ℕ) → IsAhead asked n → is_asked
 ahead_more None n h e = tt
 ahead_more (Some a) n h e = grind (arith, nat_tests)
 
-visit_none : (place : ℕ) → visit_at place [] ≡ None
+pub visit_none : (place : ℕ) → visit_at place [] ≡ None
 visit_none zero = refl
 visit_none (suc place) = refl
 
@@ -216,11 +216,6 @@ module _ (facts : Facts) (limit : ℕ) (asked : Option ℕ) (stand : Stand) (fro
       let one = choice_of_shape facts stand [] shape e in
       ends_asked facts limit asked stand shape front (final_bracket facts stand) [] (ap (λ (c : Option Chosen). (final_chosen facts stand c).reached) one.1) is of' fits
 
-  pub final_nothing : choice facts stand [] ≡ None → Ends facts limit asked stand.number front (final_bracket facts stand) NoPairing
-  final_nothing e =
-      subst (λ (c : Option Chosen). Ends facts limit asked stand.number front (final_chosen facts stand c) NoPairing) (sym e)
-      (ends_nothing facts limit asked stand.number front)
-
 -- the penultimate bracket, and the collapsed one
 pub above_again : (facts : Facts) (stand : Stand) (lower : List ℕ) → IsAbove facts stand lower → IsAbove facts (paired_again stand) lower
 above_again facts stand lower above = record {
@@ -251,11 +246,6 @@ module _ (facts : Facts) (limit : ℕ) (asked : Option ℕ) (stand : Stand) (low
       let collapsed : Round = final_bracket facts (bracket ((stand.number + 1) + 1) Collapsed (downfloaters facts (paired_again stand) one.0) lower) in
       ends_asked facts limit asked (paired_again stand) shape front (penultimate_bracket facts stand lower) collapsed.reached
       (ap (λ (c : Option Chosen). (penultimate_chosen facts (paired_again stand) lower c).reached) one.1) is of' fits
-
-  pub penultimate_nothing : choice facts (paired_again stand) lower ≡ None → Ends facts limit asked (stand.number + 1) front (penultimate_bracket facts stand lower) NoPairing
-  penultimate_nothing e =
-      subst (λ (c : Option Chosen). Ends facts limit asked (stand.number + 1) front (penultimate_chosen facts (paired_again stand) lower c) NoPairing) (sym e)
-      (ends_nothing facts limit asked (stand.number + 1) front)
 
   pub penultimate_goes_on : (shape : Shape) (lists : Arrangement) (all : List (ℕ × ℕ)) (left : List ℕ) (ended : Ended)
       → choice facts (paired_again stand) lower ≡ Some (record { shape = shape; lists = lists }) → all ≡ front ++ all_pairs stand.seats lists
@@ -288,12 +278,6 @@ module _ (facts : Facts) (limit : ℕ) (asked : Option ℕ) (stand : Stand) (low
       let chosen' : Chosen = record { shape = shape; lists = one.0 } in
       subst (λ (c : Option Chosen). Ends facts limit asked stand.number front (ordinary_chosen facts stand lower goes_on c) (Asked stand shape)) (sym one.1)
       (ordinary_reached chosen' (goes_on (downfloaters facts stand one.0)) (completable facts (downfloaters facts stand one.0 ++ lower)) shape refl is of' fits)
-
-  pub ordinary_nothing : (goes_on : List ℕ → Round) → choice facts stand lower ≡ None
-      → Ends facts limit asked stand.number front (ordinary_bracket facts stand lower goes_on) NoPairing
-  ordinary_nothing goes_on e =
-      subst (λ (c : Option Chosen). Ends facts limit asked stand.number front (ordinary_chosen facts stand lower goes_on c) NoPairing) (sym e)
-      (ends_nothing facts limit asked stand.number front)
 
   pub ordinary_goes_on : (shape : Shape) (lists : Arrangement) (all : List (ℕ × ℕ)) (left : List ℕ) (goes_on : List ℕ → Round) (ended : Ended)
       → choice facts stand lower ≡ Some (record { shape = shape; lists = lists }) → all ≡ front ++ all_pairs stand.seats lists

@@ -8,12 +8,13 @@ use Rattle.dutch_pair.specs.declared.walk.Ended.TheVariants.{Asked, Paired, NoPa
 use Rattle.dutch_pair.specs.declared.walk.Turn.{Turn}
 use Rattle.dutch_pair.specs.declared.walk.Turn.TheVariants.{Ended as IsEnded, GoesOn}
 use Rattle.dutch_pair.specs.declared.walk.Settled.{Settled}
-use Rattle.dutch_pair.specs.declared.walk.Settled.TheVariants.{Asked as ShapeAsked, Chosen as IsChosen, Nothing, Undecided as SettledUndecided}
+use Rattle.dutch_pair.specs.declared.walk.Settled.TheVariants.{Asked as ShapeAsked, Chosen as IsChosen, Undecided as SettledUndecided}
 use Rattle.dutch_pair.specs.Boards.{IsPair}
 use Rattle.dutch_pair.specs.Seated.{AreSeats}
 use Rattle.dutch_pair.specs.Reached.{Stand, IsOf, frame_of}
 use Rattle.dutch_pair.specs.Round.{Round, Pairing, choice, shape_of, downfloaters, ordinary_bracket}
 use Rattle.dutch_pair.specs.Walk.{Goes}
+use Rattle.dutch_pair.specs.WaysOut.{GoesOut}
 use Rattle.dutch_pair.specs.Outcomes.{visit_at}
 
 -- whether a number is the one that is asked for
@@ -58,7 +59,6 @@ Settles facts stand lower asked stopped (ShapeAsked shape) =
 Settles facts stand lower asked stopped (IsChosen shape candidate) =
     (is_asked asked stand.number ≡ false) × (choice facts stand lower ≡ Some (record { shape = shape; lists = candidate.lists }))
     × (candidate.down ≡ down (frame_of facts stand) candidate.lists) × Fits (frame_of facts stand) shape
-Settles facts stand lower asked stopped Nothing = choice facts stand lower ≡ None
 Settles facts stand lower asked stopped SettledUndecided = stopped
 
 -- whoever is left over by a bracket goes on above the lower seats
@@ -72,7 +72,7 @@ Turns facts limit asked stand lower pairs (IsEnded ended) =
 Turns facts limit asked stand lower pairs (GoesOn left all) =
     ((goes_on : List ℕ → Round) (ended : Ended) → Ends facts limit asked (stand.number + 1) all.items (goes_on left.items) ended
     → Ends facts limit asked stand.number pairs (ordinary_bracket facts stand lower goes_on) ended)
-    × IsAhead asked (stand.number + 1) × Goes facts left.items lower × AllByRecursion (IsPair facts) all.items
+    × IsAhead asked (stand.number + 1) × Goes facts left.items lower × AllByRecursion (IsPair facts) all.items × GoesOut facts left.items lower
 
 -- the walk was stopped in a bracket
 abbrev pub stopped : Stand → ℕ → Ended

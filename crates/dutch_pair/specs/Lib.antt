@@ -33,3 +33,4 @@ pub mod BitTables
 pub mod PairFacts
 pub mod FloorOf
 pub mod Outlooks
+pub mod WaysOut

@@ -9,7 +9,9 @@ use Rattle.dutch_pair.specs.declared.round.Outcome.TheVariants.{Paired, NoPairin
 use Rattle.dutch_pair.specs.declared.round.BracketAt.{BracketAt}
 use Rattle.dutch_pair.specs.declared.round.BracketAt.TheVariants.{Bracket, NotReached, NoPairing as NoPairingAt, Undecided as UndecidedAt}
 use Rattle.dutch_pair.specs.Reached.{Stand, IsOf, frame_of}
-use Rattle.dutch_pair.specs.Round.{Visit, round, choice, shape_of}
+use Rattle.dutch_pair.specs.Round.{Visit, round, choice, everybody, shape_of}
+use Rattle.dutch_pair.specs.Completion.{Completable}
+use Rattle.dutch_pair.specs.Seats.{seats_meet, seats_may_be_left}
 use Rattle.dutch_pair.specs.Boards.{boards}
 
 -- the bracket at a place of a list, the first at 0
@@ -46,6 +48,12 @@ IsOutcome facts limit (Paired all) = option_map (boards facts) (round facts).pai
 IsOutcome facts limit NoPairing = (round facts).pairing ≡ None
 IsOutcome facts limit (Undecided bracket used) = IsStoppedIn facts limit bracket used
 
+-- A.9: all present players can be paired out where a round is paired, and cannot where it has no pairing
+abbrev pub TellsCompletion : Facts → Outcome → Type 0
+TellsCompletion facts (Paired all) = Completable (seats_meet facts) (seats_may_be_left facts) (everybody facts)
+TellsCompletion facts NoPairing = ¬ Completable (seats_meet facts) (seats_may_be_left facts) (everybody facts)
+TellsCompletion facts (Undecided bracket used) = Unit {0}
+
 -- the bracket of a number, which it bears, with its shape; or why there is none
 abbrev pub IsBracketAt : Facts → ℕ → ℕ → BracketAt → Type 0
 IsBracketAt facts limit number (Bracket reached shape) =
@@ -54,3 +62,10 @@ IsBracketAt facts limit number (Bracket reached shape) =
 IsBracketAt facts limit number NotReached = (visit_of number (round facts).reached ≡ None) × (is_some (round facts).pairing ≡ true)
 IsBracketAt facts limit number NoPairingAt = (visit_of number (round facts).reached ≡ None) × ((round facts).pairing ≡ None)
 IsBracketAt facts limit number (UndecidedAt bracket used) = IsStoppedIn facts limit bracket used
+
+-- A.9: all present players can be paired out where a bracket is reached or the round ends before it, and cannot where it has no pairing
+abbrev pub TellsCompletionAt : Facts → BracketAt → Type 0
+TellsCompletionAt facts (Bracket reached shape) = Completable (seats_meet facts) (seats_may_be_left facts) (everybody facts)
+TellsCompletionAt facts NotReached = Completable (seats_meet facts) (seats_may_be_left facts) (everybody facts)
+TellsCompletionAt facts NoPairingAt = ¬ Completable (seats_meet facts) (seats_may_be_left facts) (everybody facts)
+TellsCompletionAt facts (UndecidedAt bracket used) = Unit {0}

@@ -9,6 +9,7 @@ mod colour_floor_laws;
 mod colour_floor;
 pub mod colours_missed;
 pub mod completion;
+pub mod completion_laws;
 pub mod differences;
 pub mod eligible;
 pub mod examples;

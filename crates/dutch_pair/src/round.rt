@@ -1,6 +1,6 @@
 // The round, bracket by bracket (C.04.3 A.3, A.9), specified by a recursion over the scoregroups.
 ghost use Rattle.std.specs.Prelude.{◌≡◌, IfOk};
-ghost use Rattle.dutch_pair.specs.Outcomes.{IsOutcome, IsBracketAt, asked_for};
+ghost use Rattle.dutch_pair.specs.Outcomes.{IsOutcome, IsBracketAt, TellsCompletion, TellsCompletionAt, asked_for};
 
 use crate::boards::{Pair, boards};
 use crate::fault::PairFault;
@@ -35,9 +35,10 @@ pub enum BracketAt {
 }
 
 /// Pairs the next round of a field. Each bracket may make so many steps.
-#[tactic(auto, using(crate::proofs::RoundEnds::boards_are, crate::proofs::RoundEnds::stopped_in, crate::proofs::RoundEnds::none_asked))]
+#[tactic(auto, using(crate::proofs::RoundEnds::boards_are, crate::proofs::RoundEnds::stopped_in, crate::proofs::RoundEnds::none_asked, crate::proofs::NoDeadEnd::none_complete, crate::proofs::NoDeadEnd::pairs_complete))]
 pub fn pair_round(alloc: Global, field: &Field, limit: u64) -> Result<Outcome, PairFault>
-    ensures { IfOk result (IsOutcome field.now limit) }
+    ensures outcome { IfOk result (IsOutcome field.now limit) }
+    ensures completion { IfOk result (TellsCompletion field.now) }
 {
     match walk(alloc, field, limit, None)? {
         Ended::Paired { pairs, bye } => {
@@ -62,14 +63,15 @@ fn asked_for(number: u16) -> Option<u16>
 
 /// The bracket of a number, counted from 1 as the round reaches them, and its shape. No bracket has the number 0. Each bracket may make
 /// so many steps.
-#[tactic(auto, using(crate::proofs::RoundEnds::is_paired, crate::proofs::RoundEnds::stopped_in, crate::proofs::RoundEnds::visit_asked, crate::proofs::RoundEnds::bears, crate::proofs::RoundEnds::missed))]
+#[tactic(auto, using(crate::proofs::RoundEnds::is_paired, crate::proofs::RoundEnds::stopped_in, crate::proofs::RoundEnds::visit_asked, crate::proofs::RoundEnds::bears, crate::proofs::RoundEnds::missed, crate::proofs::NoDeadEnd::none_complete, crate::proofs::NoDeadEnd::pairs_complete, crate::proofs::NoDeadEnd::visit_complete))]
 pub fn bracket_at(
     alloc: Global,
     field: &Field,
     limit: u64,
     number: u16,
 ) -> Result<BracketAt, PairFault>
-    ensures { IfOk result (IsBracketAt field.now limit number) }
+    ensures bracket { IfOk result (IsBracketAt field.now limit number) }
+    ensures completion { IfOk result (TellsCompletionAt field.now) }
 {
     match walk(alloc, field, limit, asked_for(number))? {
         Ended::Asked { reached, shape } => Ok(BracketAt::Bracket { reached, shape }),

@@ -2,7 +2,8 @@
 //
 // One walk serves both questions: which pairs the round has, and which bracket has a number. A bracket that is asked for is only asked
 // for its shape; in every other one its choice is made. What the walk keeps is told from behind: however the round from a bracket on
-// ends, the whole round ends so, with the pairs made so far in front.
+// ends, the whole round ends so, with the pairs made so far in front. It keeps too that those moved down and those below them can be
+// paired out, and that no two of those moved down may meet: so each bracket has a candidate that can be chosen.
 ghost use Rattle.std.specs.Prelude.{◌≡◌, ◌+◌, ◌<◌, ◌≤◌, ◌++◌, [], IfOk};
 ghost use Rattle.std.specs.List.{AllByRecursion};
 ghost use Rattle.dutch_pair.specs.Boards.{IsPair};
@@ -10,6 +11,8 @@ ghost use Rattle.dutch_pair.specs.NextBracket.{IsDraw};
 ghost use Rattle.dutch_pair.specs.Reached.{IsOf, IsAbove};
 ghost use Rattle.dutch_pair.specs.Round.{everybody, round, brackets, scoregroups, final_bracket, paired_again, penultimate_bracket};
 ghost use Rattle.dutch_pair.specs.Seated.{all_pairs};
+ghost use Rattle.dutch_pair.specs.Eligible.{HasCandidate};
+ghost use Rattle.dutch_pair.specs.WaysOut.{GoesOut, StandsIn};
 ghost use Rattle.dutch_pair.specs.Ends.{Ends, IsAhead, LeftGoOn, Settles, Turns, is_asked, stopped};
 
 use crate::boards::Pair;
@@ -36,7 +39,7 @@ pub(crate) enum Ended {
     Asked { reached: Reached, shape: Shape },
     /// The round's pairs by seat, and who has the bye.
     Paired { pairs: Vec<Pair>, bye: Seats },
-    /// Some bracket has no candidate, or not all players can be paired out.
+    /// Not all players can be paired out.
     NoPairing,
     /// The steps of a bracket reached the limit.
     Undecided { bracket: u16, used: u64 },
@@ -58,8 +61,6 @@ pub(crate) enum Settled {
     Asked { shape: Shape },
     /// It is another one, and this is chosen in it.
     Chosen { shape: Shape, candidate: Candidate },
-    /// No shape has a candidate.
-    Nothing,
     /// The budget's limit was reached first.
     Undecided,
 }
@@ -81,7 +82,6 @@ fn is_asked(asked: Option<u16>, number: u16) -> bool
 }
 
 /// Settles a bracket: its shape alone if it is asked for, and else its choice.
-#[tactic(auto, using(crate::proofs::FirstLemmas::no_choice))]
 fn settle(
     alloc: Global,
     field: &Field,
@@ -91,6 +91,7 @@ fn settle(
     budget: &mut Budget,
 ) -> Result<Settled, PairFault>
     requires above { IsAbove field.now reached.now lower.now }
+    requires candidate { HasCandidate field.now reached.now lower.now }
     requires within { budget.old.used ≤ budget.old.limit }
     ensures answer { IfOk result (Settles field.now reached.now lower.now asked (budget.new.used ≡ budget.new.limit)) }
     ensures limit { budget.new.limit ≡ budget.old.limit }
@@ -99,13 +100,13 @@ fn settle(
     if is_asked(asked, reached.number()) {
         return match shape_of(field, reached, lower, budget) {
             Step::Found(shape) => Ok(Settled::Asked { shape }),
-            Step::End => Ok(Settled::Nothing),
+            Step::End => unreachable!(),
             Step::Undecided => Ok(Settled::Undecided),
         };
     }
     match choose(alloc, field, reached, lower, budget)? {
         Choice::Chosen { shape, candidate } => Ok(Settled::Chosen { shape, candidate }),
-        Choice::NoCandidate => Ok(Settled::Nothing),
+        Choice::NoCandidate => unreachable!(),
         Choice::Undecided => Ok(Settled::Undecided),
     }
 }
@@ -157,6 +158,7 @@ fn final_bracket(
     pairs: Vec<Pair>,
 ) -> Result<Ended, PairFault>
     requires above { IsAbove field.now reached [] }
+    requires candidate { HasCandidate field.now reached [] }
     requires ahead { IsAhead asked reached.number }
     requires within { budget.used ≤ budget.limit }
     requires pairs { AllByRecursion (IsPair field.now) pairs.items }
@@ -173,7 +175,6 @@ fn final_bracket(
             let bye = seats_of(reached.seats(), candidate.down());
             Ok(Ended::Paired { pairs: all, bye })
         }
-        Settled::Nothing => Ok(Ended::NoPairing),
         Settled::Undecided => Ok(stopped(&reached, budget.used)),
     }
 }
@@ -203,6 +204,7 @@ fn penultimate_bracket(
 ) -> Result<Ended, PairFault>
     requires above { IsAbove field.now reached lower.now }
     requires goes { LeftGoOn field.now reached lower.now }
+    requires stands { StandsIn field.now reached lower.now }
     requires ahead { IsAhead asked (reached.number + 1) }
     requires small { reached.number < 65534 }
     requires pairs { AllByRecursion (IsPair field.now) pairs.items }
@@ -223,7 +225,6 @@ fn penultimate_bracket(
             let budget = Budget { limit, used: 0 };
             final_bracket(alloc, field, collapsed, asked, budget, all)
         }
-        Settled::Nothing => Ok(Ended::NoPairing),
         Settled::Undecided => Ok(stopped(&reached, budget.used)),
     }
 }
@@ -241,6 +242,7 @@ fn ordinary_bracket(
 ) -> Result<Turn, PairFault>
     requires above { IsAbove field.now reached lower.now }
     requires goes { LeftGoOn field.now reached lower.now }
+    requires stands { StandsIn field.now reached lower.now }
     requires ahead { IsAhead asked reached.number }
     requires small { reached.number < 65534 }
     requires within { budget.used ≤ budget.limit }
@@ -255,7 +257,6 @@ fn ordinary_bracket(
             candidate,
         } => candidate,
         Settled::Asked { shape } => return Ok(Turn::Ended(Ended::Asked { reached, shape })),
-        Settled::Nothing => return Ok(Turn::Ended(Ended::NoPairing)),
         Settled::Undecided => return Ok(Turn::Ended(stopped(&reached, budget.used))),
     };
     match leaves_completable(field, &reached, lower, &candidate, &mut budget) {
@@ -281,6 +282,7 @@ fn walk_on(
     budget: Budget,
 ) -> Result<Ended, PairFault>
     requires all { all.now ≡ everybody field.now }
+    requires out { GoesOut field.now [] all.now }
     requires ahead { IsAhead asked 1 }
     requires within { budget.used ≤ budget.limit }
     ensures { IfOk result (Ends field.now budget.limit asked 1 [] (brackets field.now 1 [] (scoregroups field.now (everybody field.now)))) }

@@ -5,7 +5,11 @@ use Rattle.dutch_pair.specs.Walk.{Goes}
 use Rattle.dutch_pair.specs.Round.{completable}
 use Rattle.dutch_pair.specs.Ends.{Settles}
 use Rattle.dutch_pair.proofs.WalkEnds.{drawn, numbers_left, few_left, left_is, ahead_more, ordinary_asked, ordinary_goes_on, ordinary_again}
+use Rattle.dutch_pair.proofs.NoDeadEnd.{ordinary_candidate, ordinary_out}
 use Rattle.dutch_pair.proofs.walk.ordinary_bracket.Goals as goal
+
+pub settle-requires-clause-candidate : goal.settle-requires-clause-candidate
+settle-requires-clause-candidate c = ordinary_candidate c.args.field.now c.args.reached c.args.lower.now c.requires.stands
 
 pub returns-in-Asked : goal.returns-in-Asked
 returns-in-Asked c =
@@ -55,6 +59,7 @@ returns-in_ok-all-in-Yes c =
       ahead,
       subst (λ (xs : List ℕ). Goes facts xs lower) (sym left) (c.requires.goes lists),
       c.in_ok-all-in-Yes.ensures.pairs,
+      ordinary_out facts c.args.reached lower c.seats_of-left.result.items (record { shape = c.in-Chosen.shape; lists = lists }) c.requires.stands h.1 left test,
     )
 
 pub returns-in_ok-ended-in-No : goal.returns-in_ok-ended-in-No

@@ -2,11 +2,35 @@
 use Rattle.std.proofs.Common.{◌≡◌, ◌+◌, ◌≤◌, length, sym, ap, ◌∙◌, subst}
 use Rattle.std.proofs.lemmas.Result.{IfOk-weaker}
 use Rattle.dutch_pair.specs.declared.reached.Kind.TheVariants.{Collapsed}
-use Rattle.dutch_pair.specs.Reached.{Stand}
+use Rattle.dutch_pair.specs.Reached.{IsAbove, IsOf, Stand}
 use Rattle.dutch_pair.specs.Round.{bracket, final_bracket, penultimate_bracket}
 use Rattle.dutch_pair.specs.Ends.{Ends, Settles}
-use Rattle.dutch_pair.proofs.WalkEnds.{drawn, numbers_left, left_is, left_few, left_above, asked_again, goes_on_again}
+use Rattle.dutch_pair.proofs.WalkEnds.{above_again, drawn, numbers_left, left_is, left_few, left_above, asked_again, goes_on_again}
+use Rattle.dutch_pair.proofs.NoDeadEnd.{collapsed_candidate, penultimate_candidate}
 use Rattle.dutch_pair.proofs.walk.penultimate_bracket.Goals as goal
+
+pub settle-requires-clause-above : goal.settle-requires-clause-above
+settle-requires-clause-above c =
+    subst (λ (s : Stand). IsAbove c.args.field.now s c.args.lower.now) (sym c.again-reached.ensures) (above_again c.args.field.now c.args.reached c.args.lower.now c.requires.above)
+
+pub with_pairs-requires-clause-of : goal.with_pairs-requires-clause-of
+with_pairs-requires-clause-of c =
+    subst (λ (s : Stand). IsOf c.args.field.now s) (sym c.again-reached.ensures) (above_again c.args.field.now c.args.reached c.args.lower.now c.requires.above).bracket
+
+pub settle-requires-clause-candidate : goal.settle-requires-clause-candidate
+settle-requires-clause-candidate c =
+    penultimate_candidate c.args.field.now c.args.reached c.again-reached.result c.args.lower.now c.requires.stands c.again-reached.ensures
+
+pub final_bracket-requires-clause-candidate : goal.final_bracket-requires-clause-candidate
+final_bracket-requires-clause-candidate c =
+    let r = c.again-reached.result in
+    let stopped = c.settle.new.budget.used ≡ c.settle.new.budget.limit in
+    let h = subst (λ s. Settles c.args.field.now r c.args.lower.now c.args.asked stopped s) c.in-Chosen.is c.in_ok-shape.ensures.answer in
+    let left = left_is c.args.field.now r c.in-Chosen.candidate.lists c.seats.result.now c.down.result.now c.seats_of-left.result.items
+    c.seats.ensures (c.down.ensures ∙ h.2) c.seats_of-left.ensures in
+    collapsed_candidate c.args.field.now c.args.reached r c.bracket-collapsed.result c.args.lower.now c.deref.result.now
+    (record { shape = c.in-Chosen.shape; lists = c.in-Chosen.candidate.lists }) (c.number.result + 1) c.requires.stands c.again-reached.ensures h.1
+    (c.deref.ensures.0 ∙ left) c.bracket-collapsed.ensures
 
 pub with_pairs-requires-clause-candidate : goal.with_pairs-requires-clause-candidate
 with_pairs-requires-clause-candidate c =

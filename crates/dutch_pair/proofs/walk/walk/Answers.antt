@@ -1,10 +1,17 @@
 -- How the walk ends, by the test of all present players.
-use Rattle.std.proofs.Common.{[], ◌∙◌}
+use Rattle.std.proofs.Common.{[], ap, sym, ◌∙◌}
 use Rattle.std.proofs.lemmas.Result.{IfOk-weaker}
-use Rattle.dutch_pair.specs.Round.{brackets, everybody, round, scoregroups}
+use Rattle.dutch_pair.specs.Round.{brackets, completable, everybody, round, scoregroups}
 use Rattle.dutch_pair.specs.Ends.{Ends}
 use Rattle.dutch_pair.proofs.GroupWalk.{round_walked, round_nothing}
+use Rattle.dutch_pair.proofs.NoDeadEnd.{everybody_out}
 use Rattle.dutch_pair.proofs.walk.walk.Goals as goal
+
+pub walk_on-requires-clause-out : goal.walk_on-requires-clause-out
+walk_on-requires-clause-out c =
+    let facts = c.args.field.now in
+    everybody_out facts c.deref-in-Yes.result.now (c.deref-in-Yes.ensures.0 ∙ c.everybody-all.ensures)
+    (ap (completable facts) (c.deref-in-Yes.ensures.0 ∙ sym c.deref.ensures.0) ∙ c.in-Yes.ensures.answer)
 
 pub returns-in-Yes : goal.returns-in-Yes
 returns-in-Yes c =

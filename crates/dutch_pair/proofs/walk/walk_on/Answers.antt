@@ -1,15 +1,16 @@
 -- One bracket more of the walk, and its end.
 use Rattle.std.proofs.Common.{◌≡◌, ℕ, ◌+◌, ◌<◌, ◌≤◌, [], List, length, refl, sym, ap, subst, arith}
-use Rattle.std.proofs.lemmas.Bool.Decides.{nat_tests}
 use Rattle.std.proofs.lemmas.Result.{IfOk-weaker}
 use Rattle.std.specs.List.{AllByRecursion}
 use Rattle.dutch_pair.specs.declared.walk.Ended.TheVariants.{Paired}
 use Rattle.dutch_pair.specs.Boards.{IsPair}
 use Rattle.dutch_pair.specs.Reached.{Stand}
 use Rattle.dutch_pair.specs.Round.{Round, brackets, everybody, scoregroups, final_bracket, ordinary_bracket}
+use Rattle.dutch_pair.specs.WaysOut.{GoesOut}
 use Rattle.dutch_pair.specs.Ends.{Ends, IsAhead, IsPaired, Turns}
 use Rattle.dutch_pair.proofs.WalkEnds.{paired_ending}
-use Rattle.dutch_pair.proofs.GroupWalk.{parted_by, rest_inside, moved_inside, few_parted, last_above, last_is, ordinary_above, ordinary_left, ordinary_is, everybody_goes, everybody_few, none_of, ends_first, goes_further, shrinks}
+use Rattle.dutch_pair.proofs.GroupWalk.{parted_by, rest_inside, moved_inside, few_parted, last_above, last_is, ordinary_above, ordinary_left, ordinary_is, everybody_goes, everybody_few, none_by_test, some_by_test, ends_first, goes_further, shrinks}
+use Rattle.dutch_pair.proofs.NoDeadEnd.{group_stands, last_candidate}
 use Rattle.dutch_pair.proofs.walk.walk_on.Goals as goal
 
 pub loop-rest-init : goal.loop-rest-init
@@ -26,6 +27,7 @@ loop-rest-init c =
       within = c.requires.within;
       limit = refl;
       pairs = subst (AllByRecursion (IsPair facts)) (sym c.new-pairs.ensures.items) tt;
+      out = subst (λ (xs : List ℕ). GoesOut facts xs c.args.all.now) (sym c.new-moved_down.ensures) c.requires.out;
     }
 
 pub returns-then-is_empty : goal.returns-then-is_empty
@@ -33,7 +35,7 @@ returns-then-is_empty c =
     let facts = c.args.field.now in
     let md = c.loop-rest.moved_down.items in
     let empty = c.if-is_empty.ensures in
-    let none : c.loop-rest.rest.now ≡ [] = none_of c.loop-rest.rest.now (grind (arith, nat_tests)) in
+    let none : c.loop-rest.rest.now ≡ [] = none_by_test c.loop-rest.rest.now empty in
     c.loop-rest.invariant.tells (Paired c.loop-rest.pairs c.loop-rest.moved_down)
     (subst (λ (rest : List ℕ). IsPaired facts c.args.asked c.loop-rest.number c.loop-rest.pairs.items (brackets facts c.loop-rest.number md (scoregroups facts rest)) c.loop-rest.pairs.items md)
     (sym none)
@@ -47,7 +49,7 @@ pub bracket-last-requires : goal.bracket-last-requires
 bracket-last-requires c =
     let facts = c.args.field.now in
     let test = c.if-is_empty.ensures in
-    let some : 0 < length c.loop-rest.rest.now = grind (arith, nat_tests) in
+    let some : 0 < length c.loop-rest.rest.now = some_by_test c.loop-rest.rest.now test in
     let parts = parted_by facts (record { falls = c.scores_do_not_ascend.ensures.scores; few = c.scores_do_not_ascend.ensures.few })
     c.loop-rest.invariant.goes some c.split_first_group.ensures.whole c.split_first_group.ensures.first in
     few_parted facts parts c.deref.result.now c.deref.ensures.0
@@ -56,22 +58,22 @@ pub final_bracket-requires-clause-above : goal.final_bracket-requires-clause-abo
 final_bracket-requires-clause-above c =
     let facts = c.args.field.now in
     let test = c.if-is_empty.ensures in
-    let some : 0 < length c.loop-rest.rest.now = grind (arith, nat_tests) in
+    let some : 0 < length c.loop-rest.rest.now = some_by_test c.loop-rest.rest.now test in
     let parts = parted_by facts (record { falls = c.scores_do_not_ascend.ensures.scores; few = c.scores_do_not_ascend.ensures.few })
     c.loop-rest.invariant.goes some c.split_first_group.ensures.whole c.split_first_group.ensures.first in
     let empty = c.if-is_empty-2.ensures in
-    let none : c.split_first_group.result.1.now ≡ [] = none_of c.split_first_group.result.1.now (grind (arith, nat_tests)) in
+    let none : c.split_first_group.result.1.now ≡ [] = none_by_test c.split_first_group.result.1.now empty in
     last_above facts parts c.loop-rest.number c.deref.result.now c.bracket-last.result c.deref.ensures.0 none c.bracket-last.ensures
 
 pub returns-then-is_empty-2 : goal.returns-then-is_empty-2
 returns-then-is_empty-2 c =
     let facts = c.args.field.now in
     let test = c.if-is_empty.ensures in
-    let some : 0 < length c.loop-rest.rest.now = grind (arith, nat_tests) in
+    let some : 0 < length c.loop-rest.rest.now = some_by_test c.loop-rest.rest.now test in
     let parts = parted_by facts (record { falls = c.scores_do_not_ascend.ensures.scores; few = c.scores_do_not_ascend.ensures.few })
     c.loop-rest.invariant.goes some c.split_first_group.ensures.whole c.split_first_group.ensures.first in
     let empty = c.if-is_empty-2.ensures in
-    let none : c.split_first_group.result.1.now ≡ [] = none_of c.split_first_group.result.1.now (grind (arith, nat_tests)) in
+    let none : c.split_first_group.result.1.now ≡ [] = none_by_test c.split_first_group.result.1.now empty in
     let same = last_is facts parts c.loop-rest.number c.deref.result.now c.bracket-last.result c.deref.ensures.0 none c.bracket-last.ensures in
     let at' = ap (λ (b : Stand). b.number) c.bracket-last.ensures in
     let whole : Round = brackets facts 1 [] (scoregroups facts (everybody facts)) in
@@ -87,7 +89,7 @@ pub bracket-reached-requires : goal.bracket-reached-requires
 bracket-reached-requires c =
     let facts = c.args.field.now in
     let test = c.if-is_empty.ensures in
-    let some : 0 < length c.loop-rest.rest.now = grind (arith, nat_tests) in
+    let some : 0 < length c.loop-rest.rest.now = some_by_test c.loop-rest.rest.now test in
     let parts = parted_by facts (record { falls = c.scores_do_not_ascend.ensures.scores; few = c.scores_do_not_ascend.ensures.few })
     c.loop-rest.invariant.goes some c.split_first_group.ensures.whole c.split_first_group.ensures.first in
     few_parted facts parts c.deref-in-loop-rest.result.now c.deref-in-loop-rest.ensures.0
@@ -96,18 +98,18 @@ pub ordinary_bracket-requires-clause-above : goal.ordinary_bracket-requires-clau
 ordinary_bracket-requires-clause-above c =
     let facts = c.args.field.now in
     let test = c.if-is_empty.ensures in
-    let some : 0 < length c.loop-rest.rest.now = grind (arith, nat_tests) in
+    let some : 0 < length c.loop-rest.rest.now = some_by_test c.loop-rest.rest.now test in
     let parts = parted_by facts (record { falls = c.scores_do_not_ascend.ensures.scores; few = c.scores_do_not_ascend.ensures.few })
     c.loop-rest.invariant.goes some c.split_first_group.ensures.whole c.split_first_group.ensures.first in
     let empty = c.if-is_empty-2.ensures in
-    let there : 0 < length c.split_first_group.result.1.now = grind (arith, nat_tests) in
+    let there : 0 < length c.split_first_group.result.1.now = some_by_test c.split_first_group.result.1.now empty in
     ordinary_above facts parts c.loop-rest.number c.deref-in-loop-rest.result.now c.bracket-reached.result c.deref-in-loop-rest.ensures.0 there c.bracket-reached.ensures
 
 pub ordinary_bracket-requires-clause-goes : goal.ordinary_bracket-requires-clause-goes
 ordinary_bracket-requires-clause-goes c =
     let facts = c.args.field.now in
     let test = c.if-is_empty.ensures in
-    let some : 0 < length c.loop-rest.rest.now = grind (arith, nat_tests) in
+    let some : 0 < length c.loop-rest.rest.now = some_by_test c.loop-rest.rest.now test in
     let parts = parted_by facts (record { falls = c.scores_do_not_ascend.ensures.scores; few = c.scores_do_not_ascend.ensures.few })
     c.loop-rest.invariant.goes some c.split_first_group.ensures.whole c.split_first_group.ensures.first in
     ordinary_left facts parts c.loop-rest.number c.deref-in-loop-rest.result.now c.bracket-reached.result c.deref-in-loop-rest.ensures.0 c.bracket-reached.ensures
@@ -116,11 +118,11 @@ pub returns-in-Ended : goal.returns-in-Ended
 returns-in-Ended c =
     let facts = c.args.field.now in
     let test = c.if-is_empty.ensures in
-    let some : 0 < length c.loop-rest.rest.now = grind (arith, nat_tests) in
+    let some : 0 < length c.loop-rest.rest.now = some_by_test c.loop-rest.rest.now test in
     let parts = parted_by facts (record { falls = c.scores_do_not_ascend.ensures.scores; few = c.scores_do_not_ascend.ensures.few })
     c.loop-rest.invariant.goes some c.split_first_group.ensures.whole c.split_first_group.ensures.first in
     let empty = c.if-is_empty-2.ensures in
-    let there : 0 < length c.split_first_group.result.1.now = grind (arith, nat_tests) in
+    let there : 0 < length c.split_first_group.result.1.now = some_by_test c.split_first_group.result.1.now empty in
     let number = c.loop-rest.number in
     let lower = c.split_first_group.result.1.now in
     let goes_on = λ (left : List ℕ). brackets facts (number + 1) left (scoregroups facts lower) in
@@ -136,7 +138,7 @@ pub loop-rest-smaller : goal.loop-rest-smaller
 loop-rest-smaller c =
     let facts = c.args.field.now in
     let test = c.if-is_empty.ensures in
-    let some : 0 < length c.loop-rest.rest.now = grind (arith, nat_tests) in
+    let some : 0 < length c.loop-rest.rest.now = some_by_test c.loop-rest.rest.now test in
     let parts = parted_by facts (record { falls = c.scores_do_not_ascend.ensures.scores; few = c.scores_do_not_ascend.ensures.few })
     c.loop-rest.invariant.goes some c.split_first_group.ensures.whole c.split_first_group.ensures.first in
     let count = parts.count in
@@ -147,11 +149,11 @@ pub loop-rest-preserved : goal.loop-rest-preserved
 loop-rest-preserved c =
     let facts = c.args.field.now in
     let test = c.if-is_empty.ensures in
-    let some : 0 < length c.loop-rest.rest.now = grind (arith, nat_tests) in
+    let some : 0 < length c.loop-rest.rest.now = some_by_test c.loop-rest.rest.now test in
     let parts = parted_by facts (record { falls = c.scores_do_not_ascend.ensures.scores; few = c.scores_do_not_ascend.ensures.few })
     c.loop-rest.invariant.goes some c.split_first_group.ensures.whole c.split_first_group.ensures.first in
     let empty = c.if-is_empty-2.ensures in
-    let there : 0 < length c.split_first_group.result.1.now = grind (arith, nat_tests) in
+    let there : 0 < length c.split_first_group.result.1.now = some_by_test c.split_first_group.result.1.now empty in
     let number = c.loop-rest.number in
     let lower = c.split_first_group.result.1.now in
     let goes_on = λ (left : List ℕ). brackets facts (number + 1) left (scoregroups facts lower) in
@@ -172,4 +174,18 @@ loop-rest-preserved c =
       within = omega arith;
       limit = refl;
       pairs = turn.3;
+      out = turn.4;
     }
+
+pub final_bracket-requires-clause-candidate : goal.final_bracket-requires-clause-candidate
+final_bracket-requires-clause-candidate c =
+    let empty = c.if-is_empty-2.ensures in
+    let none : c.split_first_group.result.1.now ≡ [] = none_by_test c.split_first_group.result.1.now empty in
+    last_candidate c.args.field.now c.loop-rest.number c.loop-rest.moved_down.items c.deref.result.now c.split_first_group.result.0.now c.split_first_group.result.1.now
+    c.loop-rest.rest.now c.bracket-last.result c.loop-rest.invariant.out c.split_first_group.ensures.whole none c.deref.ensures.0 c.bracket-last.ensures
+
+pub ordinary_bracket-requires-clause-stands : goal.ordinary_bracket-requires-clause-stands
+ordinary_bracket-requires-clause-stands c =
+    group_stands c.args.field.now c.loop-rest.number c.loop-rest.moved_down.items c.deref-in-loop-rest.result.now c.split_first_group.result.0.now
+    c.split_first_group.result.1.now c.loop-rest.rest.now c.bracket-reached.result c.loop-rest.invariant.out c.split_first_group.ensures.whole
+    c.deref-in-loop-rest.ensures.0 c.bracket-reached.ensures

@@ -3,6 +3,7 @@ use Rattle.std.proofs.Common.{◌≡◌, ◌+◌, ◌≤◌, [], length}
 use Rattle.std.specs.List.{AllByRecursion}
 use Rattle.dutch_pair.specs.Boards.{IsPair}
 use Rattle.dutch_pair.specs.Walk.{Goes}
+use Rattle.dutch_pair.specs.WaysOut.{GoesOut}
 use Rattle.dutch_pair.specs.Round.{brackets, everybody, scoregroups}
 use Rattle.dutch_pair.specs.declared.walk.Ended.{Ended}
 use Rattle.dutch_pair.specs.Ends.{Ends, IsAhead}
@@ -18,6 +19,7 @@ invariant-loop-rest l = record {
   within : l.budget.used ≤ l.budget.limit;
   limit : l.budget.limit ≡ l.limit;
   pairs : AllByRecursion (IsPair l.field) l.pairs.items;
+  out : GoesOut l.field l.moved_down.items l.rest;
 }
 
 abbrev pub decreases-loop-rest : goal.decreases-loop-rest

@@ -1,0 +1,215 @@
+-- What is chosen in a bracket leaves over seats of the bracket, each once; two of them who may meet, not both moved down, would make
+-- one pair more, so there are no such two where the choice has the most pairs (C.04.3 C.5).
+use Rattle.std.proofs.Common.{◌≡◌, ℕ, ◌-◌, ◌<◌, ◌≤◌, Bool, true, false, not, ◌&&◌, ◌==◌, nat_le, cond, List, [], ◌∷◌, ◌++◌, length, refl, sym, ap, ◌∙◌, arith, subst, inl, inr, Option, Some, None, length-append}
+use Rattle.std.specs.Prelude.{option_map}
+use Rattle.std.specs.List.{filter}
+use Rattle.std.proofs.lemmas.List.{length-map}
+use Rattle.std.proofs.lemmas.Bool.{cases_lt, cases_order, eq-eqb, ne_eqb, and_parts, and_from, not_from_false, not-true, le-leb, true≢false}
+use Rattle.dutch_order.specs.declared.bracket.Shape.{Shape}
+use Rattle.dutch_order.specs.Arrangements.{Arrangement, Frame, arrangements, down, is_legal, paired, players_of}
+use Rattle.dutch_order.specs.Choices.{is_member}
+use Rattle.dutch_order.specs.Forms.{NoneTwice}
+use Rattle.dutch_order.specs.Keys.{IsIn}
+use Rattle.dutch_order.proofs.CursorSets.{numbers-within}
+use Rattle.dutch_order.proofs.NoneTwice.{in-left, rises-twice}
+use Rattle.dutch_order.proofs.Orders.{IsIn-map, Rises-filter}
+use Rattle.dutch_player.specs.Facts.{Facts}
+use Rattle.dutch_player.specs.Meetings.{may_meet}
+use Rattle.dutch_pair.specs.declared.reached.Kind.{Kind}
+use Rattle.dutch_pair.specs.Reached.{Stand, ends_round, frame_of, is_number, numbers_meet, number_may_be_left}
+use Rattle.dutch_pair.specs.Round.{Chosen, bracket, candidates_of, choice, choice_in, completable, downfloaters, eligible, is_penultimate, shape_of}
+use Rattle.dutch_pair.specs.Seated.{seat_of, score_at}
+use Rattle.dutch_pair.specs.Seats.{is_seat, seats_meet}
+use Rattle.dutch_pair.specs.Shapes.{has_member}
+use Rattle.dutch_pair.specs.Kept.{chosen_in, is_better_in}
+use Rattle.dutch_pair.proofs.ArrangementParts.{numbers_rise}
+use Rattle.dutch_pair.proofs.FinalBrackets.{get_front, get_in, get_place, place_of}
+use Rattle.dutch_pair.proofs.MateLists.{IsNumber, has_kept, twice_map}
+use Rattle.dutch_pair.proofs.OnePairMore.{Larger, one_larger}
+use Rattle.dutch_pair.specs.SeatLaws.{seats_meet_sym}
+use Rattle.dutch_pair.proofs.ShapeLaws.{has_room, none_is_greater}
+use Rattle.dutch_pair.proofs.WalkEnds.{in_unbeaten}
+
+-- ---- lists of arrangements
+
+pub kept_at : (p : Arrangement → Bool) (a b : Arrangement) (all : List Arrangement) (t : Bool) → p b ≡ t → (IsIn a (filter p all) → IsIn a all × (p a ≡ true)) → IsIn a (cond t (b ∷ filter p all) (filter p all))
+    → IsIn a (b ∷ all) × (p a ≡ true)
+kept_at p a b all true e later (inl same) = (inl same, ap p same ∙ e)
+kept_at p a b all true e later (inr m) = let rest = later m in (inr rest.0, rest.1)
+kept_at p a b all false e later m = let rest = later m in (inr rest.0, rest.1)
+
+-- what a test keeps
+pub kept_of : (p : Arrangement → Bool) (a : Arrangement) (all : List Arrangement) → IsIn a (filter p all) → IsIn a all × (p a ≡ true)
+kept_of p a [] m = absurd m
+kept_of p a (b ∷ all) m = kept_at p a b all (p b) refl (kept_of p a all) m
+
+pub of_kept : (p : Arrangement → Bool) (a : Arrangement) (all : List Arrangement) → IsIn a all → p a ≡ true → IsIn a (filter p all)
+of_kept p a [] m e = absurd m
+of_kept p a (b ∷ all) (inl same) e = subst (λ t. IsIn a (cond t (b ∷ filter p all) (filter p all))) (sym e ∙ ap p same) (inl same)
+of_kept p a (b ∷ all) (inr m) e =
+    elim (p b) as (λ t. IsIn a (cond t (b ∷ filter p all) (filter p all))) [ true ↦ inr (of_kept p a all m e) | false ↦ of_kept p a all m e ]
+
+-- ---- what is chosen
+
+filter_all : {X : Type 0} (xs : List X) → filter (λ x. true) xs ≡ xs
+filter_all [] = refl
+filter_all (x ∷ xs) = ap (λ ys. x ∷ ys) (filter_all xs)
+
+module _ (facts : Facts) (stand : Stand) (lower : List ℕ) where
+  abbrev IsChosen : Option Shape → Chosen → Type 0
+  IsChosen o chosen = (o ≡ Some chosen.shape) × IsIn chosen.lists (eligible facts stand lower chosen.shape)
+
+  chosen_from : (chosen : Chosen) (shape : Shape) (o : Option Arrangement) → chosen_in facts stand lower shape ≡ o
+      → option_map (λ (lists : Arrangement). let made : Chosen = record { shape = shape; lists = lists } in made) o ≡ Some chosen → IsChosen (Some shape) chosen
+  chosen_from chosen shape None e h = let bad : None ≡ Some chosen = h in absurd (cc)
+  chosen_from chosen shape (Some lists) e h =
+      let same : (let made : Chosen = record { shape = shape; lists = lists } in made) ≡ chosen = cc in
+      subst (IsChosen (Some shape)) same (refl, in_unbeaten (is_better_in facts stand lower) (eligible facts stand lower shape) (eligible facts stand lower shape) lists e)
+
+  chosen_at : (chosen : Chosen) (o : Option Shape) → choice_in facts stand lower o ≡ Some chosen → IsChosen o chosen
+  chosen_at chosen None h = let bad : None ≡ Some chosen = h in absurd (cc)
+  chosen_at chosen (Some shape) h = chosen_from chosen shape (chosen_in facts stand lower shape) refl h
+
+  -- what is chosen is of the bracket's shape, and can be chosen
+  pub chosen_is : (chosen : Chosen) → choice facts stand lower ≡ Some chosen → IsChosen (shape_of facts stand lower) chosen
+  chosen_is chosen = chosen_at chosen (shape_of facts stand lower)
+
+  -- elsewhere than in the penultimate bracket all candidates can be chosen
+  pub eligible_all : (shape : Shape) → is_penultimate stand.kind ≡ false → eligible facts stand lower shape ≡ candidates_of facts stand shape
+  eligible_all shape e =
+      ap (λ t. filter (λ lists. not t || completable facts (downfloaters facts stand lists ++ lower)) (candidates_of facts stand shape)) e
+      ∙ filter_all (candidates_of facts stand shape)
+
+  -- in it those that leave players who can be paired out with the lower ones
+  pub eligible_some : (shape : Shape) → is_penultimate stand.kind ≡ true
+      → eligible facts stand lower shape ≡ filter (λ lists. completable facts (downfloaters facts stand lists ++ lower)) (candidates_of facts stand shape)
+  eligible_some shape e =
+      ap (λ t. filter (λ lists. not t || completable facts (downfloaters facts stand lists ++ lower)) (candidates_of facts stand shape)) e
+
+-- a seat does not meet itself
+pub meets_other : (facts : Facts) (s t : ℕ) → seats_meet facts s t ≡ true → s ≡ t → ⊥
+meets_other facts s t h same =
+    let first = and_parts (is_seat facts s && is_seat facts t && not (s == t)) (may_meet facts s t) h in
+    let second = and_parts (is_seat facts s && is_seat facts t) (not (s == t)) first.0 in
+    true≢false (sym (eq-eqb s t same) ∙ not-true (s == t) second.1)
+
+-- ---- the downfloaters of a bracket
+
+module _ (facts : Facts) (number : ℕ) (kind : Kind) (md residents : List ℕ) (twice : NoneTwice (md ++ residents)) where
+  abbrev stand : Stand
+  stand = bracket number kind md residents
+
+  abbrev seats : List ℕ
+  seats = md ++ residents
+
+  abbrev frame : Frame
+  frame = frame_of facts stand
+
+  pub count : length frame.scores ≡ length seats
+  count = length-map seats (score_at facts)
+
+  pub within : frame.mdps ≤ length frame.scores
+  within = omega (arith, count, length-append md residents)
+
+  before : (x : ℕ) → IsNumber frame x → x - 1 < length seats
+  before x h = omega (arith, h.0, h.1, count)
+
+  seat_in : (x : ℕ) → IsNumber frame x → IsIn (seat_of seats x) seats
+  seat_in x h = get_in seats (x - 1) (before x h)
+
+  pub same_number : (x y : ℕ) → IsNumber frame x → IsNumber frame y → seat_of seats x ≡ seat_of seats y → x ≡ y
+  same_number x y h g e =
+      let same : x - 1 ≡ y - 1 = sym (get_place seats (x - 1) twice (before x h)) ∙ ap (λ s. place_of s seats) e ∙ get_place seats (y - 1) twice (before y g) in
+      omega (arith, same, h.0, g.0)
+
+  low_seat : (x : ℕ) → IsNumber frame x → x ≤ length md → IsIn (seat_of seats x) md
+  low_seat x h low = get_front md residents (x - 1) (omega (arith, h.0, low))
+
+  pub down_number : (a : Arrangement) (x : ℕ) → IsIn x (down frame a) → IsNumber frame x
+  down_number a x m =
+      let h = numbers-within 1 (length frame.scores) x (in-left x (players_of frame) (paired a) m).0 in (omega (arith, h.0), omega (arith, h.1))
+
+  -- each of them once
+  pub down_twice : (a : Arrangement) → NoneTwice (downfloaters facts stand a)
+  down_twice a =
+      twice_map (seat_of seats) (down frame a) (rises-twice (down frame a) (Rises-filter (λ x. not (is_member x (paired a))) (players_of frame) (numbers_rise 1 (length frame.scores))))
+      (λ x y m n e. same_number x y (down_number a x m) (down_number a y n) e)
+
+  -- they are the bracket's
+  pub down_seats : (a : Arrangement) (s : ℕ) → IsIn s (downfloaters facts stand a) → IsIn s seats
+  down_seats a s m =
+      let from = IsIn-map (seat_of seats) s (down frame a) m in subst (λ t. IsIn t seats) (sym from.1) (seat_in from.0 (down_number a from.0 from.2))
+
+  is_number_true : (x : ℕ) → IsNumber frame x → is_number stand x ≡ true
+  is_number_true x h =
+      and_from (nat_le 1 x) (nat_le x (length seats)) (le-leb 1 x (omega (arith, h.0))) (le-leb x (length seats) (omega (arith, h.1, count)))
+
+  meet_numbers : (x y : ℕ) → IsNumber frame x → IsNumber frame y → seats_meet facts (seat_of seats x) (seat_of seats y) ≡ true → numbers_meet facts stand x y ≡ true
+  meet_numbers x y h g may =
+      let s = seat_of seats x in
+      let t = seat_of seats y in
+      let last = and_parts (is_seat facts s && is_seat facts t && not (s == t)) (may_meet facts s t) may in
+      and_from (is_number stand x && is_number stand y) _ (and_from (is_number stand x) (is_number stand y) (is_number_true x h) (is_number_true y g))
+      (and_from (not (x == y)) (may_meet facts s t) (not_from_false (x == y) (ne_eqb x y (λ e. meets_other facts s t may (ap (seat_of seats) e)))) last.1)
+
+  -- no two of those moved down may meet
+  abbrev pub Strangers : List ℕ → Type 0
+  Strangers players = (s t : ℕ) → IsIn s players → IsIn t players → seats_meet facts s t ≡ true → ⊥
+
+  module _ (lower : List ℕ) (chosen : Chosen) (is : choice facts stand lower ≡ Some chosen) (not_last : ends_round kind ≡ false) (strangers : Strangers md) where
+    -- a candidate with one pair more, by two downfloaters
+    abbrev pub More : ℕ → ℕ → Type 0
+    More x y = Larger (numbers_meet facts stand) (number_may_be_left facts stand) frame not_last chosen.shape chosen.lists x y
+
+    -- it cannot be chosen
+    pub no_more : (x y : ℕ) (more : More x y) → has_member (eligible facts stand lower more.larger) ≡ true → ⊥
+    no_more x y more has = none_is_greater facts stand lower chosen.shape more.larger (chosen_is facts stand lower chosen is).0 more.fits has more.greater
+
+    of_candidates_at : (t : Bool) → is_penultimate kind ≡ t → IsIn chosen.lists (candidates_of facts stand chosen.shape)
+    of_candidates_at true e =
+        (kept_of (λ lists. completable facts (downfloaters facts stand lists ++ lower)) chosen.lists (candidates_of facts stand chosen.shape)
+        (subst (IsIn chosen.lists) (eligible_some facts stand lower chosen.shape e) (chosen_is facts stand lower chosen is).1)).0
+    of_candidates_at false e = subst (IsIn chosen.lists) (eligible_all facts stand lower chosen.shape e) (chosen_is facts stand lower chosen is).1
+
+    of_candidates : IsIn chosen.lists (candidates_of facts stand chosen.shape)
+    of_candidates = of_candidates_at (is_penultimate kind) refl
+
+    pub more_of : (x y : ℕ) → IsIn x (down frame chosen.lists) → IsIn y (down frame chosen.lists) → x < y → seats_meet facts (seat_of seats x) (seat_of seats y) ≡ true → More x y
+    more_of x y m n rises may =
+        let legal = kept_of (is_legal (numbers_meet facts stand) (number_may_be_left facts stand) frame) chosen.lists (arrangements frame chosen.shape) of_candidates in
+        let h = down_number chosen.lists x m in
+        let g = down_number chosen.lists y n in
+        let resident : length md < y = elim (cases_lt (length md) y) [
+          | inl above ↦ above
+          | inr low ↦ absurd (strangers (seat_of seats x) (seat_of seats y) (low_seat x h (omega (arith, low, rises))) (low_seat y g low) may)
+        ] in
+        one_larger (numbers_meet facts stand) (number_may_be_left facts stand) frame not_last within chosen.shape chosen.lists x y
+        (has_room facts stand lower chosen.shape (chosen_is facts stand lower chosen is).0).within_pairs legal.0 legal.1 m n rises resident
+        (meet_numbers x y h g may)
+
+    -- it is a candidate
+    pub more_candidate : (x y : ℕ) (more : More x y) → IsIn more.lists (candidates_of facts stand more.larger)
+    more_candidate x y more = of_kept (is_legal (numbers_meet facts stand) (number_may_be_left facts stand) frame) more.lists (arrangements frame more.larger) more.arranged more.legal
+
+    -- where no two downfloaters in the order of their numbers may meet, no two may at all
+    ordered_strangers : ((x y : ℕ) → IsIn x (down frame chosen.lists) → IsIn y (down frame chosen.lists) → x < y → seats_meet facts (seat_of seats x) (seat_of seats y) ≡ true → ⊥)
+        → Strangers (downfloaters facts stand chosen.lists)
+    ordered_strangers none s t m n may =
+        let one = IsIn-map (seat_of seats) s (down frame chosen.lists) m in
+        let two = IsIn-map (seat_of seats) t (down frame chosen.lists) n in
+        let x = one.0 in
+        let y = two.0 in
+        let may' : seats_meet facts (seat_of seats x) (seat_of seats y) ≡ true = subst (λ w. seats_meet facts (seat_of seats x) w ≡ true) two.1 (subst (λ w. seats_meet facts w t ≡ true) one.1 may) in
+        elim (cases_order x y) [
+          | inl same ↦ meets_other facts (seat_of seats x) (seat_of seats y) may' (ap (seat_of seats) same)
+          | inr (inl lower') ↦ none x y one.2 two.2 lower' may'
+          | inr (inr higher) ↦ none y x two.2 one.2 higher (seats_meet_sym facts (seat_of seats y) (seat_of seats x) ∙ may')
+        ]
+
+    -- C.5: no two downfloaters of a bracket that is not paired again may meet
+    pub down_strangers : is_penultimate kind ≡ false → Strangers (downfloaters facts stand chosen.lists)
+    down_strangers first =
+        ordered_strangers (λ x y m n rises may.
+        let more = more_of x y m n rises may in
+        no_more x y more (ap has_member (eligible_all facts stand lower more.larger first)
+        ∙ has_kept (is_legal (numbers_meet facts stand) (number_may_be_left facts stand) frame) more.lists (arrangements frame more.larger) more.arranged more.legal))

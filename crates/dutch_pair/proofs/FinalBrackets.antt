@@ -1,0 +1,183 @@
+-- A bracket whose players have mates, of whom no two are moved down, has a candidate that leaves over those who are their own mates.
+use Rattle.std.proofs.Common.{◌≡◌, ℕ, zero, suc, ◌-◌, ◌<◌, ◌≤◌, true, not, ◌&&◌, ◌==◌, nat_le, cond, List, [], ◌∷◌, ◌++◌, length, get_or, refl, sym, ap, ◌∙◌, arith, subst, inl, inr, Option, Some, None, length-append}
+use Rattle.std.proofs.lemmas.List.{length-map}
+use Rattle.std.proofs.lemmas.Bool.{cases_eq, eq-eqb, ne_eqb, and_parts, and_from, not_from_false, le-leb}
+use Rattle.dutch_order.specs.declared.bracket.Shape.{Shape}
+use Rattle.dutch_order.specs.Arrangements.{Arrangement, Fits, Frame}
+use Rattle.dutch_order.specs.Forms.{NoneTwice, IsMovedDown}
+use Rattle.dutch_order.specs.Keys.{IsIn}
+use Rattle.dutch_player.specs.Facts.{Facts, seat_at}
+use Rattle.dutch_player.specs.Meetings.{may_meet}
+use Rattle.dutch_pair.specs.declared.reached.Kind.{Kind}
+use Rattle.dutch_pair.specs.Reached.{Stand, frame_of, is_number, numbers_meet, number_may_be_left}
+use Rattle.dutch_pair.specs.Round.{Chosen, bracket, candidates_of, choice, eligible, shape_of}
+use Rattle.dutch_pair.specs.Seated.{seat_of, score_at}
+use Rattle.dutch_pair.specs.Seats.{is_seat, seats_meet, seats_may_be_left}
+use Rattle.dutch_pair.specs.Shapes.{has_member}
+use Rattle.dutch_pair.specs.Kept.{chosen_in}
+use Rattle.dutch_pair.proofs.BestLemmas.{choice_is, shape_has_chosen}
+use Rattle.dutch_pair.proofs.MateLists.{IsNumber, NumberMates, mates_candidate, mates_fit, mates_shape}
+use Rattle.dutch_pair.proofs.Mates.{AreMates}
+use Rattle.dutch_pair.proofs.ShapeLaws.{none_has_one}
+
+-- ---- where a seat stands
+
+abbrev pub place_of : ℕ → List ℕ → ℕ
+place_of s [] = 0
+place_of s (x ∷ xs) = cond (x == s) 0 (suc (place_of s xs))
+
+place_here : (s x : ℕ) (xs : List ℕ) → x ≡ s → place_of s (x ∷ xs) ≡ 0
+place_here s x xs same = ap (λ t. cond t 0 (suc (place_of s xs))) (eq-eqb x s same)
+
+place_later : (s x : ℕ) (xs : List ℕ) → (x ≡ s → ⊥) → place_of s (x ∷ xs) ≡ suc (place_of s xs)
+place_later s x xs ne = ap (λ t. cond t 0 (suc (place_of s xs))) (ne_eqb x s ne)
+
+pub place_get : (s : ℕ) (xs : List ℕ) → IsIn s xs → (place_of s xs < length xs) × (get_or xs (place_of s xs) 0 ≡ s)
+place_get s [] m = absurd m
+place_get s (x ∷ xs) m =
+    elim (cases_eq x s) [
+      | inl same ↦
+          subst (λ k. (k < length (x ∷ xs)) × (get_or (x ∷ xs) k 0 ≡ s)) (sym (place_here s x xs same)) (omega arith, same)
+      | inr ne ↦
+          let later = place_get s xs (elim m [ inl same ↦ absurd (ne (sym same)) | inr more ↦ more ]) in
+          subst (λ k. (k < length (x ∷ xs)) × (get_or (x ∷ xs) k 0 ≡ s)) (sym (place_later s x xs ne)) (omega (arith, later.0), later.1)
+    ]
+
+pub get_in : (xs : List ℕ) (i : ℕ) → i < length xs → IsIn (get_or xs i 0) xs
+get_in [] i lt = absurd (omega (arith, lt))
+get_in (x ∷ xs) zero lt = inl refl
+get_in (x ∷ xs) (suc i) lt = inr (get_in xs i (omega (arith, lt)))
+
+pub get_place : (xs : List ℕ) (i : ℕ) → NoneTwice xs → i < length xs → place_of (get_or xs i 0) xs ≡ i
+get_place [] i twice lt = absurd (omega (arith, lt))
+get_place (x ∷ xs) zero twice lt = place_here x x xs refl
+get_place (x ∷ xs) (suc i) twice lt =
+    place_later (get_or xs i 0) x xs (λ same. twice.0 (subst (λ y. IsIn y xs) (sym same) (get_in xs i (omega (arith, lt)))))
+    ∙ ap suc (get_place xs i twice.1 (omega (arith, lt)))
+
+pub get_front : (xs ys : List ℕ) (i : ℕ) → i < length xs → IsIn (get_or (xs ++ ys) i 0) xs
+get_front [] ys i lt = absurd (omega (arith, lt))
+get_front (x ∷ xs) ys zero lt = inl refl
+get_front (x ∷ xs) ys (suc i) lt = inr (get_front xs ys i (omega (arith, lt)))
+
+-- ---- the mates of a bracket
+
+module _ (facts : Facts) (number : ℕ) (kind : Kind) (md residents : List ℕ) (twice : NoneTwice (md ++ residents)) (mate : ℕ → ℕ)
+    (are : AreMates (seats_meet facts) (seats_may_be_left facts) (md ++ residents) mate) (apart : (s : ℕ) → IsIn s md → IsIn (mate s) md → mate s ≡ s) where
+  abbrev stand : Stand
+  stand = bracket number kind md residents
+
+  abbrev seats : List ℕ
+  seats = md ++ residents
+
+  abbrev frame : Frame
+  frame = frame_of facts stand
+
+  -- the number of a player's mate
+  abbrev number_mate : ℕ → ℕ
+  number_mate x = suc (place_of (mate (seat_of seats x)) seats)
+
+  count : length frame.scores ≡ length seats
+  count = length-map seats (score_at facts)
+
+  pub within : frame.mdps ≤ length frame.scores
+  within = omega (arith, count, length-append md residents)
+
+  before : (x : ℕ) → IsNumber frame x → x - 1 < length seats
+  before x h = omega (arith, h.0, h.1, count)
+
+  seat_in : (x : ℕ) → IsNumber frame x → IsIn (seat_of seats x) seats
+  seat_in x h = get_in seats (x - 1) (before x h)
+
+  mate_in : (x : ℕ) → IsNumber frame x → IsIn (mate (seat_of seats x)) seats
+  mate_in x h = are.inside (seat_of seats x) (seat_in x h)
+
+  -- the seat of the mate's number is the mate's
+  mate_seat : (x : ℕ) → IsNumber frame x → seat_of seats (number_mate x) ≡ mate (seat_of seats x)
+  mate_seat x h =
+      ap (λ k. get_or seats k 0) (let e : number_mate x - 1 ≡ place_of (mate (seat_of seats x)) seats = omega arith in e)
+      ∙ (place_get (mate (seat_of seats x)) seats (mate_in x h)).1
+
+  number_of_seat : (x : ℕ) → IsNumber frame x → suc (place_of (seat_of seats x) seats) ≡ x
+  number_of_seat x h = let e = get_place seats (x - 1) twice (before x h) in omega (arith, e, h.0)
+
+  same_number : (x y : ℕ) → IsNumber frame x → IsNumber frame y → seat_of seats x ≡ seat_of seats y → x ≡ y
+  same_number x y h g e = sym (number_of_seat x h) ∙ ap (λ s. suc (place_of s seats)) e ∙ number_of_seat y g
+
+  inside : (x : ℕ) → IsNumber frame x → IsNumber frame (number_mate x)
+  inside x h = (omega arith, let lt = (place_get (mate (seat_of seats x)) seats (mate_in x h)).0 in omega (arith, lt, count))
+
+  -- who has no mate by number has none by seat, and the other way round
+  alone_seat : (x : ℕ) → IsNumber frame x → number_mate x ≡ x → mate (seat_of seats x) ≡ seat_of seats x
+  alone_seat x h e = sym (mate_seat x h) ∙ ap (seat_of seats) e
+
+  alone_number : (x : ℕ) → IsNumber frame x → mate (seat_of seats x) ≡ seat_of seats x → number_mate x ≡ x
+  alone_number x h e = ap (λ s. suc (place_of s seats)) e ∙ number_of_seat x h
+
+  low_seat : (x : ℕ) → IsMovedDown frame x → IsIn (seat_of seats x) md
+  low_seat x h = get_front md residents (x - 1) (omega (arith, h.0, h.1))
+
+  pub number_mates : NumberMates frame number_mate
+  number_mates = record {
+    inside = inside;
+    back = λ x h.
+        ap (λ s. suc (place_of (mate s) seats)) (mate_seat x h) ∙ ap (λ s. suc (place_of s seats)) (are.back (seat_of seats x) (seat_in x h)) ∙ number_of_seat x h;
+    apart = λ x h low.
+        let number : IsNumber frame x = (h.0, omega (arith, h.1, within)) in
+        let there = low_seat (number_mate x) (omega arith, low) in
+        alone_number x number (apart (seat_of seats x) (low_seat x h) (subst (λ s. IsIn s md) (mate_seat x number) there));
+  }
+
+  is_number_true : (x : ℕ) → IsNumber frame x → is_number stand x ≡ true
+  is_number_true x h =
+      and_from (nat_le 1 x) (nat_le x (length seats)) (le-leb 1 x (omega (arith, h.0))) (le-leb x (length seats) (omega (arith, h.1, count)))
+
+  met : (x : ℕ) → IsNumber frame x → (number_mate x ≡ x → ⊥) → numbers_meet facts stand x (number_mate x) ≡ true
+  met x h ne =
+      let s = seat_of seats x in
+      let may : seats_meet facts s (mate s) ≡ true = are.met s (seat_in x h) (λ e. ne (alone_number x h e)) in
+      let last = and_parts (is_seat facts s && is_seat facts (mate s) && not (s == mate s)) (may_meet facts s (mate s)) may in
+      and_from (is_number stand x && is_number stand (number_mate x)) _
+      (and_from (is_number stand x) (is_number stand (number_mate x)) (is_number_true x h) (is_number_true (number_mate x) (inside x h)))
+      (and_from (not (x == number_mate x)) _ (not_from_false (x == number_mate x) (ne_eqb x (number_mate x) (λ e. ne (sym e))))
+      (ap (may_meet facts s) (mate_seat x h) ∙ last.1))
+
+  may : (x : ℕ) → IsNumber frame x → number_mate x ≡ x → number_may_be_left facts stand x ≡ true
+  may x h e =
+      let s = seat_of seats x in
+      let left : seats_may_be_left facts s ≡ true = are.left s (seat_in x h) (alone_seat x h e) in
+      and_from (is_number stand x) ((seat_at facts s).may_bye) (is_number_true x h) (and_parts (is_seat facts s) ((seat_at facts s).may_bye) left).1
+
+  one : (x y : ℕ) → IsNumber frame x → IsNumber frame y → number_mate x ≡ x → number_mate y ≡ y → x ≡ y
+  one x y h g e f =
+      same_number x y h g (are.one (seat_of seats x) (seat_of seats y) (seat_in x h) (seat_in y g) (alone_seat x h e) (alone_seat y g f))
+
+  -- the shape of the mates
+  abbrev pub final_shape : Shape
+  final_shape = mates_shape frame number_mate within number_mates
+
+  pub final_fits : Fits frame final_shape
+  final_fits = mates_fit frame number_mate within number_mates
+
+  pub final_candidate : has_member (candidates_of facts stand final_shape) ≡ true
+  final_candidate =
+      mates_candidate frame number_mate within number_mates (numbers_meet facts stand) (number_may_be_left facts stand) met one may
+
+-- ---- a shape with a candidate makes a choice
+
+module _ (facts : Facts) (stand : Stand) (lower : List ℕ) where
+  pub record Chooses : Type 0 where
+    pub chosen : Chosen
+    pub is : choice facts stand lower ≡ Some chosen
+
+  chooses_of : (shape : Shape) (o : Option Arrangement) → shape_of facts stand lower ≡ Some shape → chosen_in facts stand lower shape ≡ o → Chooses
+  chooses_of shape None found e = absurd (shape_has_chosen facts stand lower shape found e)
+  chooses_of shape (Some lists) found e = record { chosen = record { shape = shape; lists = lists }; is = choice_is facts stand lower shape lists found e }
+
+  chooses_at : (t : Shape) (o : Option Shape) → shape_of facts stand lower ≡ o → Fits (frame_of facts stand) t → has_member (eligible facts stand lower t) ≡ true → Chooses
+  chooses_at t None e fit has = absurd (none_has_one facts stand lower t e fit has)
+  chooses_at t (Some shape) e fit has = chooses_of shape (chosen_in facts stand lower shape) e refl
+
+  -- B.8: where a shape with room has a candidate that can be chosen, there is a choice
+  pub chooses : (t : Shape) → Fits (frame_of facts stand) t → has_member (eligible facts stand lower t) ≡ true → Chooses
+  chooses t = chooses_at t (shape_of facts stand lower) refl

@@ -1,0 +1,439 @@
+-- No dead end (C.04.3 A.9, C.5): where all players can be paired out, each bracket that the round reaches has a candidate that can be
+-- chosen, so the round is paired.
+use Rattle.std.proofs.Common.{◌≡◌, ℕ, ◌+◌, ◌-◌, ◌<◌, Bool, true, false, cond, List, [], ◌∷◌, ◌++◌, map, length, get_or, is_some, refl, sym, ap, ◌∙◌, arith, subst, inl, inr, Option, Some, None, append_assoc}
+use Rattle.std.specs.Prelude.{option_map, ◌↔◌}
+use Rattle.std.specs.List.{concat}
+use Rattle.std.proofs.lemmas.List.{append-nil}
+use Rattle.std.proofs.lemmas.Bool.{cases_eq, cases_order}
+use Rattle.dutch_order.specs.declared.bracket.Shape.{Shape}
+use Rattle.dutch_order.specs.Arrangements.{Arrangement, Fits, Frame, arrangements, down, is_legal}
+use Rattle.dutch_order.specs.Choices.{numbers_from}
+use Rattle.dutch_order.specs.Forms.{NoneTwice}
+use Rattle.dutch_order.specs.Keys.{IsIn}
+use Rattle.dutch_order.proofs.CursorSets.{AreLists}
+use Rattle.dutch_order.proofs.FormArrangements.{in-lists}
+use Rattle.dutch_order.proofs.Lists.{filter-all, map-numbers_from}
+use Rattle.dutch_order.proofs.NoneTwice.{rises-twice, twice-apart, twice-back, twice-front, twice-join}
+use Rattle.dutch_order.proofs.Orders.{IsIn-append, IsIn-back, IsIn-front, IsIn-map, map-IsIn}
+use Rattle.dutch_player.specs.Facts.{Facts}
+use Rattle.dutch_pair.specs.Eligible.{HasCandidate}
+use Rattle.dutch_pair.specs.Ends.{in_front}
+use Rattle.dutch_pair.specs.Outcomes.{visit_at}
+use Rattle.dutch_pair.specs.Completion.{Completable}
+use Rattle.dutch_pair.specs.declared.reached.Kind.{Kind}
+use Rattle.dutch_pair.specs.declared.reached.Kind.TheVariants.{Ordinary, Last, Penultimate, Collapsed}
+use Rattle.dutch_pair.specs.Reached.{Stand, ends_round, frame_of, numbers_meet, number_may_be_left}
+use Rattle.dutch_pair.specs.Round.{Chosen, Visit, Pairing, Round, bracket, brackets, candidates_of, shape_of, paired_again, choice, completable, downfloaters, eligible, everybody, final_bracket, final_chosen, is_penultimate, no_pairing, ordinary_bracket, ordinary_chosen, pairing_in, passing, penultimate_bracket, penultimate_chosen, round, scoregroups}
+use Rattle.dutch_pair.specs.SeatLaws.{seats_meet_sym}
+use Rattle.dutch_pair.specs.Seated.{seat_of, all_pairs}
+use Rattle.dutch_pair.specs.Seats.{seats_meet, seats_may_be_left}
+use Rattle.dutch_pair.specs.Shapes.{has_member}
+use Rattle.dutch_pair.specs.WaysOut.{GoesOut, StandsIn}
+use Rattle.dutch_pair.proofs.ArrangementParts.{numbers_rise}
+use Rattle.dutch_pair.proofs.Covering.{completable_by_test}
+use Rattle.dutch_pair.proofs.Downfloaters.{chosen_is, count, down_number, down_seats, down_strangers, down_twice, eligible_all, eligible_some, kept_of, more_candidate, more_of, no_more, of_kept, same_number, within}
+use Rattle.dutch_pair.proofs.FinalBrackets.{Chooses, chooses, final_candidate, final_fits, final_shape}
+use Rattle.dutch_pair.proofs.GroupLemmas.{concat_scoregroups}
+use Rattle.dutch_pair.proofs.MateLists.{fits_arrangement, has_kept}
+use Rattle.dutch_pair.proofs.Mates.{AreMates, FoundMates, complete_mates, fewer_mates, mates_complete}
+use Rattle.dutch_pair.proofs.OnePairMore.{pairs_legal}
+use Rattle.dutch_pair.proofs.RoundEnds.{is_paired}
+use Rattle.dutch_pair.proofs.ShapeLaws.{none_has_one}
+use Rattle.dutch_pair.proofs.WalkEnds.{visit_none}
+
+module _ (facts : Facts) where
+  -- a round has a pairing
+  abbrev IsPaired : Round → Type 0
+  IsPaired round = is_some round.pairing ≡ true
+
+  abbrev Mates : List ℕ → (ℕ → ℕ) → Type 0
+  Mates = AreMates (seats_meet facts) (seats_may_be_left facts)
+
+  mates_of : (players : List ℕ) → NoneTwice players → Completable (seats_meet facts) (seats_may_be_left facts) players → FoundMates (seats_meet facts) (seats_meet_sym facts) (seats_may_be_left facts) players
+  mates_of = complete_mates (seats_meet facts) (seats_meet_sym facts) (seats_may_be_left facts)
+
+  by_test : (players : List ℕ) → Completable (seats_meet facts) (seats_may_be_left facts) players ↔ (completable facts players ≡ true)
+  by_test = completable_by_test (seats_meet facts) (seats_may_be_left facts)
+
+  some_more : (f : Pairing → Pairing) (o : Option Pairing) → is_some o ≡ true → is_some (option_map f o) ≡ true
+  some_more f None h = h
+  some_more f (Some pairing) h = refl
+
+  more_paired : (stand : Stand) (chosen : Chosen) (rest : Round) → IsPaired rest → IsPaired (pairing_in facts stand chosen rest)
+  more_paired stand chosen rest = some_more (λ later. record { pairs = all_pairs stand.seats chosen.lists ++ later.pairs; bye = later.bye }) rest.pairing
+
+  -- ---- the bracket that ends a round
+
+  final_is : (stand : Stand) → Chooses facts stand [] → IsPaired (final_bracket facts stand)
+  final_is stand found = subst (λ o. IsPaired (final_chosen facts stand o)) (sym found.is) refl
+
+  -- a bracket with a candidate has a choice, and no bracket without one has a shape
+  has_choice : (stand : Stand) (lower : List ℕ) → HasCandidate facts stand lower → Chooses facts stand lower
+  has_choice stand lower has = chooses facts stand lower has.shape has.room has.candidate
+
+  pub shape_there : (stand : Stand) (lower : List ℕ) → HasCandidate facts stand lower → shape_of facts stand lower ≡ None → ⊥
+  shape_there stand lower has none = none_has_one facts stand lower has.shape none has.room has.candidate
+
+  final_has : (number : ℕ) (kind : Kind) (md residents : List ℕ) → is_penultimate kind ≡ false → (twice : NoneTwice (md ++ residents)) → (mate : ℕ → ℕ)
+      → (are : Mates (md ++ residents) mate) → (apart : (s : ℕ) → IsIn s md → IsIn (mate s) md → mate s ≡ s) → HasCandidate facts (bracket number kind md residents) []
+  final_has number kind md residents first twice mate are apart =
+      let shape = final_shape facts number kind md residents twice mate are apart in
+      record {
+        shape = shape;
+        room = final_fits facts number kind md residents twice mate are apart;
+        candidate = ap has_member (eligible_all facts (bracket number kind md residents) [] shape first) ∙ final_candidate facts number kind md residents twice mate are apart;
+      }
+
+  last_has : (number : ℕ) (md residents : List ℕ) → GoesOut facts md residents → HasCandidate facts (bracket number Last md residents) []
+  last_has number md residents goes =
+      let found = mates_of (md ++ residents) goes.twice goes.complete in
+      final_has number Last md residents refl goes.twice found.mate found.are
+      (λ s m n. elim (cases_eq (found.mate s) s) [
+        | inl same ↦ same
+        | inr ne ↦ absurd (goes.strangers s (found.mate s) m n (found.are.met s (IsIn-front s md residents m) ne))
+      ])
+
+  -- ---- a bracket always has the candidate that pairs nobody
+
+  abbrev nobody_paired : Arrangement
+  nobody_paired = record { s1 = []; s2 = []; s1r = []; s2r = [] }
+
+  abbrev no_pairs : Shape
+  no_pairs = record { pairs = 0; mdps = 0 }
+
+  module _ (number : ℕ) (kind : Kind) (md residents lower : List ℕ) (twice : NoneTwice (md ++ residents)) (not_last : ends_round kind ≡ false) where
+    abbrev here : Stand
+    here = bracket number kind md residents
+
+    empty_lists : AreLists (frame_of facts here) no_pairs nobody_paired
+    empty_lists = record {
+      s1 = record { rises = tt; within = λ z m. absurd m; count = refl };
+      s2 = record { different = refl; within = λ z m. absurd m; count = refl };
+      s1r = record { rises = tt; within = λ z m. absurd m; count = refl };
+      s2r = record { different = refl; within = λ z m. absurd m; count = refl };
+    }
+
+    empty_in : IsIn nobody_paired (arrangements (frame_of facts here) no_pairs)
+    empty_in = in-lists (frame_of facts here) no_pairs nobody_paired (within facts number kind md residents twice) empty_lists
+
+    empty_fits : Fits (frame_of facts here) no_pairs
+    empty_fits = fits_arrangement (frame_of facts here) no_pairs nobody_paired (within facts number kind md residents twice) (omega arith) empty_in
+
+    empty_legal : is_legal (numbers_meet facts here) (number_may_be_left facts here) (frame_of facts here) nobody_paired ≡ true
+    empty_legal = pairs_legal (numbers_meet facts here) (number_may_be_left facts here) (frame_of facts here) not_last nobody_paired tt
+
+    empty_candidate : IsIn nobody_paired (candidates_of facts here no_pairs)
+    empty_candidate =
+        of_kept (is_legal (numbers_meet facts here) (number_may_be_left facts here) (frame_of facts here)) nobody_paired (arrangements (frame_of facts here) no_pairs) empty_in empty_legal
+
+    -- it leaves over all
+    empty_down : downfloaters facts here nobody_paired ≡ md ++ residents
+    empty_down =
+        ap (map (seat_of (md ++ residents))) (filter-all (numbers_from 1 (length (frame_of facts here).scores)))
+        ∙ ap (λ n. map (seat_of (md ++ residents)) (numbers_from 1 n)) (count facts number kind md residents twice)
+        ∙ map-numbers_from (seat_of (md ++ residents)) (md ++ residents) 1 (λ j lt. ap (λ k. get_or (md ++ residents) k 0) (let e : (1 + j) - 1 ≡ j = omega arith in e))
+
+    -- whom a candidate leaves over is above the lower players
+    all_down : NoneTwice ((md ++ residents) ++ lower) → (a : Arrangement) → NoneTwice (downfloaters facts here a ++ lower)
+    all_down all a =
+        twice-join (downfloaters facts here a) lower (down_twice facts number kind md residents twice a) (twice-back (md ++ residents) lower all)
+        (λ z m n. twice-apart (md ++ residents) lower all z (down_seats facts number kind md residents twice a z m) n)
+
+  -- ---- the penultimate bracket
+
+  module _ (number : ℕ) (md residents lower : List ℕ) (goes : GoesOut facts md (residents ++ lower)) where
+    abbrev stand : Stand
+    stand = bracket number Penultimate md residents
+
+    abbrev seats : List ℕ
+    seats = md ++ residents
+
+    abbrev complete_below : Arrangement → Bool
+    complete_below lists = completable facts (downfloaters facts stand lists ++ lower)
+
+    all_twice : NoneTwice (seats ++ lower)
+    all_twice = subst NoneTwice (sym (append_assoc md residents lower)) goes.twice
+
+    own_twice : NoneTwice seats
+    own_twice = twice-front seats lower all_twice
+
+    left_twice : (a : Arrangement) → NoneTwice (downfloaters facts stand a ++ lower)
+    left_twice = all_down number Penultimate md residents lower own_twice refl all_twice
+
+    empty_complete : complete_below nobody_paired ≡ true
+    empty_complete =
+        ap (λ left. completable facts (left ++ lower)) (empty_down number Penultimate md residents lower own_twice refl)
+        ∙ (by_test (seats ++ lower)).0 (subst (Completable (seats_meet facts) (seats_may_be_left facts)) (sym (append_assoc md residents lower)) goes.complete)
+
+    empty_eligible : has_member (eligible facts stand lower no_pairs) ≡ true
+    empty_eligible =
+        ap has_member (eligible_some facts stand lower no_pairs refl)
+        ∙ has_kept complete_below nobody_paired (candidates_of facts stand no_pairs) (empty_candidate number Penultimate md residents lower own_twice refl) empty_complete
+
+    again_has : HasCandidate facts stand lower
+    again_has = record { shape = no_pairs; room = empty_fits number Penultimate md residents lower own_twice refl; candidate = empty_eligible }
+
+    module _ (chosen : Chosen) (is' : choice facts stand lower ≡ Some chosen) where
+      abbrev lists : Arrangement
+      lists = chosen.lists
+
+      abbrev left : List ℕ
+      left = downfloaters facts stand lists
+
+      left_complete : completable facts (left ++ lower) ≡ true
+      left_complete =
+          (kept_of complete_below lists (candidates_of facts stand chosen.shape)
+          (subst (IsIn lists) (eligible_some facts stand lower chosen.shape refl) (chosen_is facts stand lower chosen is').1)).1
+
+      module _ (mate : ℕ → ℕ) (are : Mates (left ++ lower) mate) where
+        abbrev frame : Frame
+        frame = frame_of facts stand
+
+        seat_differs : (x y : ℕ) → IsIn x (down frame lists) → IsIn y (down frame lists) → (x ≡ y → ⊥) → seat_of seats x ≡ seat_of seats y → ⊥
+        seat_differs x y m n ne e =
+            ne (same_number facts number Penultimate md residents own_twice x y (down_number facts number Penultimate md residents own_twice lists x m)
+            (down_number facts number Penultimate md residents own_twice lists y n) e)
+
+        -- A.9, C.5: no list of pairs that pairs out the downfloaters with all lower players has two of them in a pair
+        no_two : (x y : ℕ) → IsIn x (down frame lists) → IsIn y (down frame lists) → x < y → mate (seat_of seats x) ≡ seat_of seats y → ⊥
+        no_two x y m n rises is =
+            let s = seat_of seats x in
+            let t = seat_of seats y in
+            let apart : s ≡ t → ⊥ = seat_differs x y m n (λ e. omega (arith, e, rises)) in
+            let s_left : IsIn s left = map-IsIn (seat_of seats) x (down frame lists) m in
+            let t_left : IsIn t left = map-IsIn (seat_of seats) y (down frame lists) n in
+            let s_in : IsIn s (left ++ lower) = IsIn-front s left lower s_left in
+            let met : seats_meet facts s (mate s) ≡ true = are.met s s_in (λ e. apart (sym e ∙ is)) in
+            let may : seats_meet facts s t ≡ true = subst (λ w. seats_meet facts s w ≡ true) is met in
+            let more = more_of facts number Penultimate md residents own_twice lower chosen is' refl goes.strangers x y m n rises may in
+            let few : List ℕ = downfloaters facts stand more.lists in
+            let back : mate t ≡ s = ap mate (sym is) ∙ are.back s s_in in
+            let few_in : (b : ℕ) → IsIn b few → IsIn b left × (b ≡ s → ⊥) × (b ≡ t → ⊥) = λ b k.
+            let from = IsIn-map (seat_of seats) b (down frame more.lists) k in
+            let still = more.still_down from.0 from.2 in (
+              subst (λ c. IsIn c left) (sym from.1) (map-IsIn (seat_of seats) from.0 (down frame lists) still.0),
+              λ e. seat_differs from.0 x still.0 m still.1 (sym from.1 ∙ e),
+              λ e. seat_differs from.0 y still.0 n still.2 (sym from.1 ∙ e),
+            ) in
+            let in_few : (b : ℕ) → IsIn b left → (b ≡ s → ⊥) → (b ≡ t → ⊥) → IsIn b few = λ b k ne ne'.
+            let from = IsIn-map (seat_of seats) b (down frame lists) k in
+            subst (λ c. IsIn c few) (sym from.1)
+            (map-IsIn (seat_of seats) from.0 (down frame more.lists)
+            (more.down_still from.0 from.2 (λ e. ne (from.1 ∙ ap (seat_of seats) e)) (λ e. ne' (from.1 ∙ ap (seat_of seats) e)))) in
+            let lower_apart : (b : ℕ) → IsIn b left → IsIn b lower → ⊥ = twice-apart left lower (left_twice lists) in
+            let among : (b : ℕ) → IsIn b (few ++ lower) → IsIn b (left ++ lower) × (b ≡ s → ⊥) × (b ≡ t → ⊥) = λ b k.
+            elim (IsIn-append b few lower k) [
+              | inl front ↦ (let h = few_in b front in (IsIn-front b left lower h.0, h.1, h.2))
+              | inr low ↦ (
+                IsIn-back b left lower low,
+                λ e. lower_apart b (subst (λ c. IsIn c left) (sym e) s_left) low,
+                λ e. lower_apart b (subst (λ c. IsIn c left) (sym e) t_left) low,
+              )
+            ] in
+            let closed : (b : ℕ) → IsIn b (few ++ lower) → IsIn (mate b) (few ++ lower) = λ b k.
+            let h = among b k in
+            let own = are.back b h.0 in
+            elim (IsIn-append (mate b) left lower (are.inside b h.0)) [
+              | inl front ↦
+                  IsIn-front (mate b) few lower
+                  (in_few (mate b) front (λ e. h.2 (sym own ∙ ap mate e ∙ is)) (λ e. h.1 (sym own ∙ ap mate e ∙ back)))
+              | inr low ↦ IsIn-back (mate b) few lower low
+            ] in
+            let few_are : Mates (few ++ lower) mate =
+            fewer_mates (seats_meet facts) (seats_may_be_left facts) (seats_may_be_left facts) (left ++ lower) (few ++ lower) mate are (λ b k. (among b k).0) closed
+            (λ b k e. are.left b (among b k).0 e) in
+            let complete : complete_below more.lists ≡ true =
+            (by_test (few ++ lower)).0 (mates_complete (seats_meet facts) (seats_may_be_left facts) (few ++ lower) mate (left_twice more.lists) few_are) in
+            no_more facts number Penultimate md residents own_twice lower chosen is' refl goes.strangers x y more
+            (ap has_member (eligible_some facts stand lower more.larger refl)
+            ∙ has_kept complete_below more.lists (candidates_of facts stand more.larger)
+            (more_candidate facts number Penultimate md residents own_twice lower chosen is' refl goes.strangers x y more) complete)
+
+        no_mates : (s : ℕ) → IsIn s left → IsIn (mate s) left → mate s ≡ s
+        no_mates s m n =
+            let one = IsIn-map (seat_of seats) s (down frame lists) m in
+            let two = IsIn-map (seat_of seats) (mate s) (down frame lists) n in
+            let x = one.0 in
+            let y = two.0 in
+            elim (cases_order x y) [
+              | inl same ↦ two.1 ∙ ap (seat_of seats) (sym same) ∙ sym one.1
+              | inr (inl lower') ↦ absurd (no_two x y one.2 two.2 lower' (ap mate (sym one.1) ∙ two.1))
+              | inr (inr higher) ↦
+                  absurd (no_two y x two.2 one.2 higher (ap mate (sym two.1) ∙ are.back s (IsIn-front s left lower m) ∙ one.1))
+            ]
+
+      collapsed_has : (place : ℕ) → HasCandidate facts (bracket place Collapsed left lower) []
+      collapsed_has place =
+          let mates = mates_of (left ++ lower) (left_twice lists) ((by_test (left ++ lower)).1 left_complete) in
+          final_has place Collapsed left lower refl (left_twice lists) mates.mate mates.are (no_mates mates.mate mates.are)
+
+    again_goes : IsPaired (penultimate_chosen facts stand lower (choice facts stand lower))
+    again_goes =
+        let found = has_choice stand lower again_has in
+        let collapsed = bracket (number + 1) Collapsed (downfloaters facts stand found.chosen.lists) lower in
+        subst (λ o. IsPaired (penultimate_chosen facts stand lower o)) (sym found.is)
+        (more_paired stand found.chosen (final_bracket facts collapsed)
+        (final_is collapsed (has_choice collapsed [] (collapsed_has found.chosen found.is (number + 1)))))
+
+  penultimate_goes : (number : ℕ) (md residents lower : List ℕ) → GoesOut facts md (residents ++ lower) → IsPaired (penultimate_bracket facts (bracket number Ordinary md residents) lower)
+  penultimate_goes number md residents lower goes = again_goes (number + 1) md residents lower goes
+
+  -- ---- an ordinary bracket
+
+  module _ (number : ℕ) (md residents lower : List ℕ) (goes : GoesOut facts md (residents ++ lower)) where
+    abbrev first : Stand
+    first = bracket number Ordinary md residents
+
+    first_all : NoneTwice ((md ++ residents) ++ lower)
+    first_all = subst NoneTwice (sym (append_assoc md residents lower)) goes.twice
+
+    first_twice : NoneTwice (md ++ residents)
+    first_twice = twice-front (md ++ residents) lower first_all
+
+    first_has : HasCandidate facts first lower
+    first_has = record {
+      shape = no_pairs;
+      room = empty_fits number Ordinary md residents lower first_twice refl;
+      candidate = ap has_member (eligible_all facts first lower no_pairs refl)
+          ∙ has_kept (is_legal (numbers_meet facts first) (number_may_be_left facts first) (frame_of facts first)) nobody_paired (arrangements (frame_of facts first) no_pairs)
+          (empty_in number Ordinary md residents lower first_twice refl) (empty_legal number Ordinary md residents lower first_twice refl);
+    }
+
+    -- those whom it leaves over go out with the lower seats where they can be paired out with them
+    first_out : (chosen : Chosen) → choice facts first lower ≡ Some chosen → completable facts (downfloaters facts first chosen.lists ++ lower) ≡ true
+        → GoesOut facts (downfloaters facts first chosen.lists) lower
+    first_out chosen is' e = record {
+      twice = all_down number Ordinary md residents lower first_twice refl first_all chosen.lists;
+      strangers = down_strangers facts number Ordinary md residents first_twice lower chosen is' refl goes.strangers refl;
+      complete = (by_test (downfloaters facts first chosen.lists ++ lower)).1 e;
+    }
+
+    module _ (goes_on : List ℕ → Round) (later : (left : List ℕ) → GoesOut facts left lower → IsPaired (goes_on left)) where
+      kept_on : (chosen : Chosen) → choice facts first lower ≡ Some chosen → (t : Bool) → completable facts (downfloaters facts first chosen.lists ++ lower) ≡ t
+          → IsPaired (cond t (pairing_in facts first chosen (goes_on (downfloaters facts first chosen.lists))) (passing facts first chosen (penultimate_bracket facts first lower)))
+      kept_on chosen is' true e =
+          let left = downfloaters facts first chosen.lists in
+          more_paired first chosen (goes_on left) (later left (first_out chosen is' e))
+      kept_on chosen is' false e = penultimate_goes number md residents lower goes
+
+      ordinary_goes : IsPaired (ordinary_bracket facts first lower goes_on)
+      ordinary_goes =
+          let found = has_choice first lower first_has in
+          subst (λ o. IsPaired (ordinary_chosen facts first lower goes_on o)) (sym found.is)
+          (kept_on found.chosen found.is (completable facts (downfloaters facts first found.chosen.lists ++ lower)) refl)
+
+  -- ---- all brackets
+
+  brackets_go : (number : ℕ) (md : List ℕ) (groups : List (List ℕ)) → GoesOut facts md (concat groups) → IsPaired (brackets facts number md groups)
+  brackets_go number md [] goes = refl
+  brackets_go number md (group ∷ []) goes = final_is (bracket number Last md group) (has_choice (bracket number Last md group) [] (last_has number md group (subst (GoesOut facts md) (append-nil group) goes)))
+  brackets_go number md (group ∷ next ∷ groups) goes =
+      ordinary_goes number md group (concat (next ∷ groups)) goes (λ left. brackets facts (number + 1) left (next ∷ groups))
+      (λ left goes'. brackets_go (number + 1) left (next ∷ groups) goes')
+
+  round_at : (t : Bool) → completable facts (everybody facts) ≡ t → completable facts (everybody facts) ≡ true
+      → IsPaired (cond t (brackets facts 1 [] (scoregroups facts (everybody facts))) (no_pairing facts))
+  round_at true e h =
+      let all : List ℕ = everybody facts in
+      brackets_go 1 [] (scoregroups facts all)
+      (subst (GoesOut facts []) (sym (concat_scoregroups facts all)) (record {
+        twice = rises-twice all (numbers_rise 0 (length facts.seats));
+        strangers = λ s t m n may. absurd m;
+        complete = (by_test all).1 h;
+      }))
+  round_at false e h = let bad : false ≡ true = sym e ∙ h in absurd (cc)
+
+  -- where everybody can be paired out, the round is paired
+  pub round_goes : completable facts (everybody facts) ≡ true → is_some (round facts).pairing ≡ true
+  round_goes = round_at (completable facts (everybody facts)) refl
+
+  -- where not everybody can be, it is not
+  test_of : (t : Bool) → completable facts (everybody facts) ≡ t → is_some (round facts).pairing ≡ true → completable facts (everybody facts) ≡ true
+  test_of true e h = e
+  test_of false e h =
+      let none : is_some (round facts).pairing ≡ false = ap (λ (t : Bool). is_some (cond t (brackets facts 1 [] (scoregroups facts (everybody facts))) (no_pairing facts)).pairing) e in
+      let bad : false ≡ true = sym none ∙ h in absurd (cc)
+
+  pub paired_exactly : Completable (seats_meet facts) (seats_may_be_left facts) (everybody facts) ↔ (is_some (round facts).pairing ≡ true)
+  paired_exactly = (
+    λ whole. round_goes ((by_test (everybody facts)).0 whole),
+    λ h. (by_test (everybody facts)).1 (test_of (completable facts (everybody facts)) refl h),
+  )
+
+  none_at : (t : Bool) → completable facts (everybody facts) ≡ t → (round facts).pairing ≡ None → completable facts (everybody facts) ≡ false
+  none_at true e h = let bad : true ≡ false = sym (round_goes e) ∙ ap is_some h in absurd (cc)
+  none_at false e h = e
+
+  pub unpaired_exactly : ((round facts).pairing ≡ None) ↔ (completable facts (everybody facts) ≡ false)
+  unpaired_exactly = (
+    none_at (completable facts (everybody facts)) refl,
+    λ e. ap (λ (t : Bool). (cond t (brackets facts 1 [] (scoregroups facts (everybody facts))) (no_pairing facts)).pairing) e,
+  )
+
+  -- ---- what the calls on a round answer
+
+  pub none_complete : (round facts).pairing ≡ None → Completable (seats_meet facts) (seats_may_be_left facts) (everybody facts) → ⊥
+  none_complete h whole = let bad : true ≡ false = sym (paired_exactly.0 whole) ∙ ap is_some h in cc
+
+  pub pairs_complete : (pairs : List (ℕ × ℕ)) (bye : List ℕ) → option_map (in_front []) (round facts).pairing ≡ Some (record { pairs = pairs; bye = bye })
+      → Completable (seats_meet facts) (seats_may_be_left facts) (everybody facts)
+  pairs_complete pairs bye e = paired_exactly.1 (is_paired facts pairs bye e)
+
+  visit_at_test : (t : Bool) (place : ℕ) (visit : Visit) → completable facts (everybody facts) ≡ t → visit_at place (round facts).reached ≡ Some visit → completable facts (everybody facts) ≡ true
+  visit_at_test true place visit e h = e
+  visit_at_test false place visit e h =
+      let none : (round facts).reached ≡ [] = ap (λ (t : Bool). (cond t (brackets facts 1 [] (scoregroups facts (everybody facts))) (no_pairing facts)).reached) e in
+      let bad : None ≡ Some visit = sym (visit_none place) ∙ sym (ap (visit_at place) none) ∙ h in absurd (cc)
+
+  pub visit_complete : (place : ℕ) (visit : Visit) → visit_at place (round facts).reached ≡ Some visit → Completable (seats_meet facts) (seats_may_be_left facts) (everybody facts)
+  visit_complete place visit h = (by_test (everybody facts)).1 (visit_at_test (completable facts (everybody facts)) place visit refl h)
+
+  -- ---- along the walk
+
+  pub everybody_out : (all : List ℕ) → all ≡ everybody facts → completable facts all ≡ true → GoesOut facts [] all
+  everybody_out all same e = record {
+    twice = subst NoneTwice (sym same) (rises-twice (everybody facts) (numbers_rise 0 (length facts.seats)));
+    strangers = λ s t m n may. absurd m;
+    complete = (by_test all).1 e;
+  }
+
+  pub last_candidate : (number : ℕ) (md now group lower rest : List ℕ) (reached : Stand) → GoesOut facts md rest → group ++ lower ≡ rest → lower ≡ [] → now ≡ md
+      → reached ≡ bracket number Last now group → HasCandidate facts reached []
+  last_candidate number md now group lower rest reached goes whole none same is' =
+      subst (λ (s : Stand). HasCandidate facts s []) (sym (is' ∙ ap (λ xs. bracket number Last xs group) same))
+      (last_has number md group (subst (GoesOut facts md) (sym whole ∙ ap (λ xs. group ++ xs) none ∙ append-nil group) goes))
+
+  pub group_stands : (number : ℕ) (md now group lower rest : List ℕ) (reached : Stand) → GoesOut facts md rest → group ++ lower ≡ rest → now ≡ md
+      → reached ≡ bracket number Ordinary now group → StandsIn facts reached lower
+  group_stands number md now group lower rest reached goes whole same is' =
+      let own = is' ∙ ap (λ xs. bracket number Ordinary xs group) same in
+      record {
+        md = md;
+        residents = group;
+        is = own ∙ ap (λ n. bracket n Ordinary md group) (sym (ap (λ (s : Stand). s.number) own));
+        out = subst (GoesOut facts md) (sym whole) goes;
+      }
+
+  pub ordinary_candidate : (stand : Stand) (lower : List ℕ) → StandsIn facts stand lower → HasCandidate facts stand lower
+  ordinary_candidate stand lower h =
+      subst (λ (s : Stand). HasCandidate facts s lower) (sym h.is) (first_has stand.number h.md h.residents lower h.out)
+
+  pub ordinary_out : (stand : Stand) (lower left : List ℕ) (chosen : Chosen) → StandsIn facts stand lower → choice facts stand lower ≡ Some chosen
+      → left ≡ downfloaters facts stand chosen.lists → completable facts (left ++ lower) ≡ true → GoesOut facts left lower
+  ordinary_out stand lower left chosen h is' same e =
+      let own : left ≡ downfloaters facts (bracket stand.number Ordinary h.md h.residents) chosen.lists = same ∙ ap (λ (s : Stand). downfloaters facts s chosen.lists) h.is in
+      subst (λ xs. GoesOut facts xs lower) (sym own)
+      (first_out stand.number h.md h.residents lower h.out chosen (ap (λ (s : Stand). choice facts s lower) (sym h.is) ∙ is')
+      (ap (λ xs. completable facts (xs ++ lower)) (sym own) ∙ e))
+
+  pub penultimate_candidate : (stand r : Stand) (lower : List ℕ) → StandsIn facts stand lower → r ≡ paired_again stand → HasCandidate facts r lower
+  penultimate_candidate stand r lower h same =
+      subst (λ (s : Stand). HasCandidate facts s lower) (sym (same ∙ ap paired_again h.is)) (again_has (stand.number + 1) h.md h.residents lower h.out)
+
+  pub collapsed_candidate : (stand r collapsed : Stand) (lower left : List ℕ) (chosen : Chosen) (number : ℕ) → StandsIn facts stand lower → r ≡ paired_again stand
+      → choice facts r lower ≡ Some chosen → left ≡ downfloaters facts r chosen.lists → collapsed ≡ bracket number Collapsed left lower → HasCandidate facts collapsed []
+  collapsed_candidate stand r collapsed lower left chosen number h same is' left_is made =
+      let own : r ≡ bracket (stand.number + 1) Penultimate h.md h.residents = same ∙ ap paired_again h.is in
+      let over : left ≡ downfloaters facts (bracket (stand.number + 1) Penultimate h.md h.residents) chosen.lists = left_is ∙ ap (λ (s : Stand). downfloaters facts s chosen.lists) own in
+      subst (λ (s : Stand). HasCandidate facts s []) (sym (made ∙ ap (λ xs. bracket number Collapsed xs lower) over))
+      (collapsed_has (stand.number + 1) h.md h.residents lower h.out chosen (ap (λ (s : Stand). choice facts s lower) (sym own) ∙ is') number)
