@@ -4,7 +4,7 @@
 -- With a number of pairs each candidate leaves equally many downfloaters. A ghost stands for each, in his place: it meets whom some
 -- player of the bracket may meet, so whoever meets the downfloater meets the ghost, and it may have the bye if he may. A list of pairs
 -- that serves for the downfloaters with the lower players therefore serves for the ghosts with them.
-use Rattle.std.proofs.Common.{◌≡◌, ℕ, zero, suc, ◌+◌, ◌-◌, ◌*◌, ◌<◌, ◌≤◌, Bool, true, false, not, ◌&&◌, nat_le, cond, ◌⊎◌, inl, inr, List, [], ◌∷◌, ◌++◌, map, filter, length, get_or, refl, sym, ap, ◌∙◌, arith, subst, length-append}
+use Rattle.std.proofs.Common.{◌≡◌, ℕ, zero, suc, ◌+◌, ◌-◌, ◌*◌, ◌<◌, ◌≤◌, Bool, true, false, not, ◌&&◌, ◌||◌, nat_le, cond, ◌⊎◌, inl, inr, List, [], ◌∷◌, ◌++◌, map, filter, length, get_or, refl, sym, ap, ◌∙◌, arith, subst, length-append}
 use Rattle.std.specs.Prelude.{◌==◌, if◌then◌else◌, None}
 use Rattle.std.specs.List.{list_any}
 use Rattle.std.proofs.lemmas.List.{length-map}
@@ -193,7 +193,7 @@ module _ (facts : Facts) (stand : Stand) (lower : List ℕ) (penultimate : is_pe
       let count : length frame.scores ≡ length stand.seats = length-map stand.seats (score_at facts) in
       let leaves : Arrangement → Bool = λ lists. completable facts (downfloaters facts stand lists ++ lower) in
       let legal : Arrangement → Bool = is_legal (numbers_meet facts stand) (number_may_be_left facts stand) frame in
-      ap (λ t. has_member (cond t (filter leaves (candidates_of facts stand shape)) (candidates_of facts stand shape))) penultimate
+      ap (λ t. has_member (filter (λ lists. not t || leaves lists) (candidates_of facts stand shape))) penultimate
       ∙ none_passes leaves (candidates_of facts stand shape) (λ a m yes.
       let left = down_count frame shape a (omega (arith, within, count)) (fits_by_test frame shape room).within_pairs (in_filter legal a (arrangements frame shape) m) in
       let many : length (downfloaters facts stand a) ≡ length stand.seats - 2 * shape.pairs =
