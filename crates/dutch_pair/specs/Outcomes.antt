@@ -3,13 +3,13 @@ use Rattle.std.specs.Prelude.{◌≡◌, ℕ, zero, suc, ◌+◌, ◌≤◌, tru
 use Rattle.dutch_order.specs.Arrangements.{Fits, down}
 use Rattle.dutch_player.specs.Facts.{Facts}
 use Rattle.dutch_pair.specs.declared.choice.Choice.{Choice}
-use Rattle.dutch_pair.specs.declared.choice.Choice.TheVariants.{Chosen as IsChosen, NoCandidate, Undecided as ChoiceUndecided}
+use Rattle.dutch_pair.specs.declared.choice.Choice.TheVariants.{Chosen as IsChosen, Undecided as ChoiceUndecided}
 use Rattle.dutch_pair.specs.declared.round.Outcome.{Outcome}
 use Rattle.dutch_pair.specs.declared.round.Outcome.TheVariants.{Paired, NoPairing, Undecided}
 use Rattle.dutch_pair.specs.declared.round.BracketAt.{BracketAt}
 use Rattle.dutch_pair.specs.declared.round.BracketAt.TheVariants.{Bracket, NotReached, NoPairing as NoPairingAt, Undecided as UndecidedAt}
 use Rattle.dutch_pair.specs.Reached.{Stand, IsOf, frame_of}
-use Rattle.dutch_pair.specs.Round.{Visit, round, choice, everybody, shape_of}
+use Rattle.dutch_pair.specs.Round.{Visit, round, choice, everybody}
 use Rattle.dutch_pair.specs.Completion.{Completable}
 use Rattle.dutch_pair.specs.Seats.{seats_meet, seats_may_be_left}
 use Rattle.dutch_pair.specs.Boards.{boards}
@@ -39,7 +39,6 @@ abbrev pub IsChoice : Facts → Stand → List ℕ → Type 0 → Choice → Typ
 IsChoice facts stand lower stopped (IsChosen shape candidate) =
     (choice facts stand lower ≡ Some (record { shape = shape; lists = candidate.lists })) × (candidate.down ≡ down (frame_of facts stand) candidate.lists)
     × Fits (frame_of facts stand) shape
-IsChoice facts stand lower stopped NoCandidate = shape_of facts stand lower ≡ None
 IsChoice facts stand lower stopped ChoiceUndecided = stopped
 
 -- the outcome of a round

@@ -7,6 +7,7 @@ ghost use Rattle.dutch_pair.specs.Reached.{IsAbove, frame_of};
 ghost use Rattle.dutch_pair.specs.NextBracket.{IsDraw};
 ghost use Rattle.dutch_pair.specs.QualityIn.{quality_in};
 ghost use Rattle.dutch_pair.specs.Round.{quality_of};
+ghost use Rattle.dutch_pair.specs.Eligible.{HasCandidate};
 ghost use Rattle.dutch_pair.specs.Kept.{kept_draw, IsKept, chosen_in};
 ghost use Rattle.dutch_pair.specs.Aims.{aim_in, chosen_near, chosen_yet, is_idle};
 ghost use Rattle.dutch_pair.specs.Outcomes.{IsChoice};
@@ -35,8 +36,6 @@ use std::alloc::Global;
 pub enum Choice {
     /// The shape, and the first candidate of it that none is better than.
     Chosen { shape: Shape, candidate: Candidate },
-    /// No shape has a candidate.
-    NoCandidate,
     /// The budget's limit was reached first.
     Undecided,
 }
@@ -232,7 +231,7 @@ fn best_of<'a>(
     best_near(&pass, budget)
 }
 
-/// The choice in a bracket of a field, above all lower seats by rank. In the penultimate bracket only those candidates count that
+/// The choice in a bracket of a field that has a candidate, above all lower seats by rank. In the penultimate bracket only those candidates count that
 /// leave over players who can be paired out with all lower ones (C.4).
 #[tactic(auto, using(crate::proofs::BestLemmas::choice_is, crate::proofs::BestLemmas::shape_has_chosen))]
 pub fn choose(
@@ -243,6 +242,7 @@ pub fn choose(
     budget: &mut Budget,
 ) -> Result<Choice, PairFault>
     requires above { IsAbove field.now reached.now lower.now }
+    requires candidate { HasCandidate field.now reached.now lower.now }
     requires within { budget.old.used ≤ budget.old.limit }
     ensures answer { IfOk result (IsChoice field.now reached.now lower.now (budget.new.used ≡ budget.new.limit)) }
     ensures limit { budget.new.limit ≡ budget.old.limit }
@@ -251,12 +251,12 @@ pub fn choose(
 {
     let shape = match shape_of(field, reached, lower, budget) {
         Step::Found(shape) => shape,
-        Step::End => return Ok(Choice::NoCandidate),
+        Step::End => unreachable!(),
         Step::Undecided => return Ok(Choice::Undecided),
     };
     match best_of(field, reached, lower, shape, budget) {
         Step::Found(candidate) => Ok(Choice::Chosen { shape, candidate }),
-        Step::End => Ok(Choice::NoCandidate),
+        Step::End => unreachable!(),
         Step::Undecided => Ok(Choice::Undecided),
     }
 }

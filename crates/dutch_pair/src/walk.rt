@@ -106,7 +106,6 @@ fn settle(
     }
     match choose(alloc, field, reached, lower, budget)? {
         Choice::Chosen { shape, candidate } => Ok(Settled::Chosen { shape, candidate }),
-        Choice::NoCandidate => unreachable!(),
         Choice::Undecided => Ok(Settled::Undecided),
     }
 }
