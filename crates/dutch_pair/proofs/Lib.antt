@@ -18,6 +18,7 @@ pub mod FlatBrackets
 pub mod FloorOrder
 pub mod GroupLemmas
 pub mod MoverSeats
+pub mod KeptValues
 pub mod NextBrackets
 pub mod PairSearch
 pub mod PairsWithBeginning

@@ -27,3 +27,4 @@ pub mod Ghosts
 pub mod GhostRules
 pub mod GhostLaws
 pub mod Aims
+pub mod Remembered

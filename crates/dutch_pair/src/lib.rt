@@ -18,6 +18,7 @@ pub mod laws;
 pub mod lookahead;
 pub mod quality;
 pub mod reached;
+pub mod remembered;
 pub mod round;
 pub mod seated;
 pub mod seats;
