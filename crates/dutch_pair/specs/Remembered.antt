@@ -1,5 +1,5 @@
 -- What the next bracket can be (C.04.3 C.7), remembered for the last lists of downfloaters that were asked about.
-use Rattle.std.specs.Prelude.{◌≡◌, ℕ, Bool, true, false, ◌||◌, if◌then◌else◌, List, [], ◌∷◌, map, take, nat_eq, Contains, ◌⊎◌}
+use Rattle.std.specs.Prelude.{◌≡◌, ℕ, Bool, true, false, ◌||◌, if◌then◌else◌, List, [], ◌∷◌, map, take, nat_eq, Contains, ◌⊎◌, Option, Some, None}
 use Rattle.std.specs.Cmp.Lexicographic.{pointwise}
 use Rattle.arrayvec.specs.ArrayVec.{ArrayVec}
 use Rattle.lru.specs.LruCache.{LruCache}
@@ -11,6 +11,7 @@ use Rattle.dutch_pair.specs.declared.remembered.Look.TheVariants.{Value, Undecid
 use Rattle.dutch_pair.specs.Seated.{seat_of}
 use Rattle.dutch_pair.specs.Reached.{Stand, IsOf}
 use Rattle.dutch_pair.specs.Quality.{NextValue}
+use Rattle.dutch_pair.specs.Round.{is_ordinary, first_group, scoregroups}
 use Rattle.dutch_pair.specs.NextBracket.{IsNext, value_in}
 
 -- a look-ahead: the bracket that it looks down from, the next lower scoregroup, and the lists of downfloaters for which it keeps values,
@@ -53,6 +54,24 @@ IsLook value stopped Undecided = stopped
 abbrev pub IsKeptAfter : List ℕ → Remembered → Remembered → Look → Type 0
 IsKeptAfter down old new (Value pairs psd) = (new ≡ after_use down old) ⊎ ((is_kept down old.kept ≡ false) × (new ≡ old))
 IsKeptAfter down old new Undecided = new ≡ old
+
+-- a look-ahead still looks from its bracket to its next scoregroup, whatever it keeps
+pub record LooksOn (old new : Remembered) : Type 0 where
+  pub facts : new.facts ≡ old.facts
+  pub stand : new.stand ≡ old.stand
+  pub next : new.next ≡ old.next
+
+-- a look-ahead of an ordinary bracket above lower seats: it looks to their first scoregroup
+pub record LooksFrom (facts : Facts) (stand : Stand) (lower : List ℕ) (look : Remembered) : Type 0 where
+  pub ordinary : is_ordinary stand.kind ≡ true
+  pub field : look.facts ≡ facts
+  pub bracket : look.stand ≡ stand
+  pub group : look.next ≡ first_group facts (scoregroups facts lower)
+
+-- there is a look-ahead in an ordinary bracket, and none in another one
+abbrev pub LooksBelow : Facts → Stand → List ℕ → Option Remembered → Type 0
+LooksBelow facts stand lower None = is_ordinary stand.kind ≡ false
+LooksBelow facts stand lower (Some look) = LooksFrom facts stand lower look
 
 -- the lists for which values are kept
 abbrev pub lists_kept : List (ArrayVec ℕ × NextValue) → List (List ℕ)

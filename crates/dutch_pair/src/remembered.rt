@@ -6,14 +6,19 @@ ghost use Rattle.std.specs.Prelude.{◌≡◌, ◌≤◌, true, false, [], lengt
 ghost use Rattle.std.specs.Map.{lookup};
 ghost use Rattle.lru.specs.LruCache.{lru_cache, promoted, put_entries};
 ghost use Rattle.dutch_pair.specs.declared.reached.Kind.TheVariants.{Ordinary};
-ghost use Rattle.dutch_pair.specs.Reached.{IsOf};
-ghost use Rattle.dutch_pair.specs.NextBracket.{IsNext, AreLeft};
-ghost use Rattle.dutch_pair.specs.Remembered.{value_below, is_kept, is_key, IsLook, IsKeptAfter};
+ghost use Rattle.std.specs.Option.{MatchOption};
+ghost use Rattle.dutch_pair.specs.Reached.{IsOf, IsAbove};
+ghost use Rattle.dutch_pair.specs.NextBracket.{IsNext, IsDraw, AreLeft, quality};
+ghost use Rattle.dutch_pair.specs.QualityIn.{quality_in};
+ghost use Rattle.dutch_pair.specs.Round.{quality_of};
+ghost use Rattle.dutch_pair.specs.Remembered.{value_below, is_kept, is_key, IsLook, IsKeptAfter, LooksOn, LooksBelow};
 
 use crate::fault::PairFault;
-use crate::lookahead::value_below;
-use crate::quality::NextValue;
-use crate::reached::{Reached, Seats, push_all};
+use crate::group::split_first_group;
+use crate::lookahead::{quality, value_below};
+use crate::quality::{NextValue, Quality, quality_with};
+use crate::reached::{Kind, Reached, Seats, push_all};
+use dutch_order::candidate::Candidate;
 use dutch_order::numbers::{LIMIT, Numbers};
 use dutch_order::steps::Budget;
 use dutch_player::field::Field;
@@ -169,11 +174,89 @@ impl<'a> LookAhead<'a> {
         }
     }
 
+    /// The quality of a candidate of the bracket; `None` where the budget's limit was reached first.
+    #[tactic(auto, using(crate::proofs::NextBrackets::left_by_draw))]
+    fn quality(&mut self, candidate: &Candidate, budget: &mut Budget) -> Option<Quality>
+        requires candidate { IsDraw self.old.facts self.old.stand candidate.now }
+        requires within { budget.old.used ≤ budget.old.limit }
+        ensures answer { MatchOption result (budget.new.used ≡ budget.new.limit)
+            (λ q. quality_in q ≡ quality self.old.facts self.old.stand.seats true self.old.next candidate.now) }
+        ensures looks_on { LooksOn self.old self.new }
+        ensures limit { budget.new.limit ≡ budget.old.limit }
+        ensures rises { budget.old.used ≤ budget.new.used }
+        ensures within { budget.new.used ≤ budget.new.limit }
+    {
+        let (field, reached) = (self.field, self.reached);
+        match self.value(candidate.down(), budget) {
+            Look::Value { pairs, psd } => Some(quality_with(
+                field,
+                reached.seats(),
+                candidate,
+                NextValue { pairs, psd },
+            )),
+            Look::Undecided => None,
+        }
+    }
+
     /// How many values are kept.
     pub fn len(&self) -> usize
         ensures len { result ≡ length self.now.kept }
         ensures most { result ≤ MOST }
     {
         self.values.len()
+    }
+}
+
+/// The look-ahead of a bracket above all lower seats: one for an ordinary bracket, and none for another kind.
+#[tactic(auto, using(crate::proofs::NextGroups::is_next))]
+pub(crate) fn look_below<'a>(
+    alloc: Global,
+    field: &'a Field,
+    reached: &'a Reached,
+    lower: &[u16],
+) -> Result<Option<LookAhead<'a>>, PairFault>
+    requires { IsAbove field.now reached.now lower.now }
+    ensures { IfOk result (LooksBelow field.now reached.now lower.now) }
+{
+    match reached.kind() {
+        Kind::Ordinary => {
+            let next = split_first_group(field, lower).0;
+            Ok(Some(LookAhead::new(alloc, field, reached, next)?))
+        }
+        _ => Ok(None),
+    }
+}
+
+/// The quality of a candidate above all lower seats, by the look-ahead of its bracket; `None` where the budget's limit was reached
+/// first.
+#[tactic(auto, using(crate::proofs::NextGroups::is_next, crate::proofs::NextGroups::quality_at))]
+pub(crate) fn quality_by(
+    field: &Field,
+    reached: &Reached,
+    lower: &[u16],
+    candidate: &Candidate,
+    look: &mut Option<LookAhead<'_>>,
+    budget: &mut Budget,
+) -> Option<Quality>
+    requires above { IsAbove field.now reached.now lower.now }
+    requires candidate { IsDraw field.now reached.now candidate.now }
+    requires look { LooksBelow field.now reached.now lower.now look.old }
+    requires within { budget.old.used ≤ budget.old.limit }
+    ensures answer { MatchOption result (budget.new.used ≡ budget.new.limit)
+        (λ found. quality_in found ≡ quality_of field.now reached.now lower.now candidate.now.lists) }
+    ensures look { LooksBelow field.now reached.now lower.now look.new }
+    ensures limit { budget.new.limit ≡ budget.old.limit }
+    ensures rises { budget.old.used ≤ budget.new.used }
+    ensures within { budget.new.used ≤ budget.new.limit }
+{
+    match look {
+        Some(look) => look.quality(candidate, budget),
+        None => quality(
+            field,
+            reached,
+            candidate,
+            split_first_group(field, lower).0,
+            budget,
+        ),
     }
 }
