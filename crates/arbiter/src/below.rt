@@ -8,6 +8,7 @@ mod lines;
 mod order_tests;
 mod pairing_tests;
 mod player_tests;
+mod remembered_tests;
 mod report_tests;
 mod round_tests;
 mod standings_tests;

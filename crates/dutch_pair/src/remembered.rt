@@ -73,7 +73,7 @@ fn key_of(down: &[u16]) -> Numbers
 
 /// An empty cache.
 fn no_values(alloc: Global) -> Result<Values, PairFault>
-    ensures { IfOk result (λ values. values ≡ lru_cache [] MOST) }
+    ensures { IfOk result (λ values. values ≡ lru_cache [] 64) }
 {
     let most = NonZeroUsize::new(MOST).unwrap();
     Ok(LruCache::new(alloc, most)?)
@@ -201,7 +201,7 @@ impl<'a> LookAhead<'a> {
     /// How many values are kept.
     pub fn len(&self) -> usize
         ensures len { result ≡ length self.now.kept }
-        ensures most { result ≤ MOST }
+        ensures most { result ≤ 64 }
     {
         self.values.len()
     }

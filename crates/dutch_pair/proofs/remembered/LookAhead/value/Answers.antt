@@ -28,7 +28,7 @@ returns-in-Some-clause-answer c =
     let found : lookup (is_key c.key_of-key.result) c.self.inside.values.entries ≡ Some c.in-Some.value = sym c.in-Some.ensures.value in
     let own = found_value c.key_of-key.result c.self.inside.field.now c.self.inside.reached.now c.self.inside.next.items c.self.inside.values c.self.invariant c.in-Some.value found in
     look_is c.in-Some.value (value_below c.args.self.now.facts c.args.self.now.stand c.args.self.now.next c.args.down.now)
-    ((is_kept c.args.down.now c.args.self.now.kept ≡ false) × (c.args.budget.now.used ≡ c.args.budget.now.limit)) c.told.result c.told.ensures
+    _ c.told.result c.told.ensures
     (own ∙ ap (λ l. value_below c.self.inside.field.now c.self.inside.reached.now c.self.inside.next.items l) c.key_of-key.ensures
     ∙ ap (λ r. value_below r.facts r.stand r.next c.args.down.now) c.self.view_is)
 
