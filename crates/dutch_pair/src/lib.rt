@@ -6,6 +6,7 @@ pub mod choice;
 mod colour_floor_laws;
 pub mod colours_missed;
 pub mod completion;
+pub mod conditions;
 pub mod differences;
 pub mod eligible;
 pub mod examples;

@@ -1,9 +1,12 @@
 // The look-ahead from a bracket of eight to a scoregroup of four, and which of its values are kept.
+ghost use Rattle.std.specs.Prelude.{◌≡◌, ◌≤◌, IfOk};
+ghost use Rattle.dutch_pair.specs.Reached.{IsOf};
 
 use crate::below::lines::{Line, field_of};
 use dutch_order::numbers::Numbers;
 use dutch_order::steps::Budget;
-use dutch_pair::reached::Reached;
+use dutch_pair::conditions::{are_left, is_next};
+use dutch_pair::reached::{Kind, Reached};
 use dutch_pair::remembered::{Look, LookAhead};
 use dutch_pair::round::{BracketAt, bracket_at};
 use dutch_player::field::Field;
@@ -31,7 +34,9 @@ const TWELVE: [Line<'static>; 12] = [
 const FOUR: [u16; 4] = [8, 9, 10, 11];
 
 // The bracket of the eight.
-fn eight(alloc: Global, field: &Field) -> Result<Reached, Fail> {
+fn eight(alloc: Global, field: &Field) -> Result<Reached, Fail>
+    ensures { IfOk result (λ reached. IsOf field.now reached) }
+{
     match bracket_at(alloc, field, 100_000, 1)? {
         BracketAt::Bracket {
             reached,
@@ -39,6 +44,25 @@ fn eight(alloc: Global, field: &Field) -> Result<Reached, Fail> {
         } => Ok(reached),
         _ => Err(Fail::new("no bracket")),
     }
+}
+
+// The look-ahead from the eight to the four.
+fn look_at_four<'a>(
+    alloc: Global,
+    field: &'a Field,
+    reached: &'a Reached,
+) -> Result<LookAhead<'a>, Fail>
+    requires { IsOf field.now reached.now }
+    ensures { IfOk result (λ look. look.stand ≡ reached.now) }
+{
+    match reached.kind() {
+        Kind::Ordinary => {}
+        _ => return Err(Fail::new("not ordinary")),
+    }
+    if !is_next(field, reached, &FOUR) {
+        return Err(Fail::new("no next scoregroup"));
+    }
+    Ok(LookAhead::new(alloc, field, reached, &FOUR)?)
 }
 
 // The places of the ones of a number, counted from 1: lists that differ, of numbers up to 8.
@@ -52,13 +76,40 @@ fn places_of_ones(alloc: Global, number: u16) -> Result<Vec<u16>, Fail> {
     Ok(places)
 }
 
+// What the look-ahead answers for numbers of its bracket.
+fn look_of(
+    look: &mut LookAhead<'_>,
+    reached: &Reached,
+    down: &[u16],
+    budget: &mut Budget,
+) -> Result<Look, Fail>
+    requires stand { look.old.stand ≡ reached.now }
+    requires within { budget.old.used ≤ budget.old.limit }
+    ensures stand { look.new.stand ≡ reached.now }
+    ensures within { budget.new.used ≤ budget.new.limit }
+{
+    if !are_left(reached, down) {
+        return Err(Fail::new("not numbers of the bracket"));
+    }
+    match look.value(down, budget) {
+        Look::Value { pairs, psd } => Ok(Look::Value { pairs, psd }),
+        Look::Undecided => Ok(Look::Undecided),
+    }
+}
+
 // A value; it fails where the limit was reached.
 fn value_of(
     look: &mut LookAhead<'_>,
+    reached: &Reached,
     down: &[u16],
     budget: &mut Budget,
-) -> Result<(usize, Numbers), Fail> {
-    match look.value(down, budget) {
+) -> Result<(usize, Numbers), Fail>
+    requires stand { look.old.stand ≡ reached.now }
+    requires within { budget.old.used ≤ budget.old.limit }
+    ensures stand { look.new.stand ≡ reached.now }
+    ensures within { budget.new.used ≤ budget.new.limit }
+{
+    match look_of(look, reached, down, budget)? {
         Look::Value { pairs, psd } => Ok((pairs, psd)),
         Look::Undecided => Err(Fail::new("undecided")),
     }
@@ -68,12 +119,12 @@ fn value_of(
 fn a_value_that_is_kept_takes_no_step(rt: HostRuntime) -> Result<(), Fail> {
     let field = field_of(rt.alloc(), &TWELVE, Some(5), Some(Colour::White))?;
     let reached = eight(rt.alloc(), &field)?;
-    let mut look = LookAhead::new(rt.alloc(), &field, &reached, &FOUR)?;
+    let mut look = look_at_four(rt.alloc(), &field, &reached)?;
     let mut budget = Budget {
         limit: 100_000,
         used: 0,
     };
-    let (pairs, psd) = value_of(&mut look, &[3, 8], &mut budget)?;
+    let (pairs, psd) = value_of(&mut look, &reached, &[3, 8], &mut budget)?;
     assert_eq!(rt; pairs, 3);
     assert_eq!(rt; psd.as_slice(), [1, 1, 0].as_slice());
     assert!(rt; budget.used > 0);
@@ -81,7 +132,7 @@ fn a_value_that_is_kept_takes_no_step(rt: HostRuntime) -> Result<(), Fail> {
         limit: budget.used,
         used: budget.used,
     };
-    match look.value(&[3, 8], &mut spent) {
+    match look_of(&mut look, &reached, &[3, 8], &mut spent)? {
         Look::Value {
             pairs: same,
             psd: again,
@@ -99,21 +150,21 @@ fn a_value_that_is_kept_takes_no_step(rt: HostRuntime) -> Result<(), Fail> {
 fn the_last_64_values_are_kept(rt: HostRuntime) -> Result<(), Fail> {
     let field = field_of(rt.alloc(), &TWELVE, Some(5), Some(Colour::White))?;
     let reached = eight(rt.alloc(), &field)?;
-    let mut look = LookAhead::new(rt.alloc(), &field, &reached, &FOUR)?;
+    let mut look = look_at_four(rt.alloc(), &field, &reached)?;
     let mut budget = Budget {
         limit: 1_000_000,
         used: 0,
     };
     for number in 1..66 {
         let down = places_of_ones(rt.alloc(), number)?;
-        value_of(&mut look, &down, &mut budget)?;
+        value_of(&mut look, &reached, &down, &mut budget)?;
         if look.len() < usize::from(number.min(64)) {
             return Err(Fail::new("out of memory"));
         }
     }
     assert_eq!(rt; look.len(), 64);
     let before = budget.used;
-    value_of(&mut look, &[1], &mut budget)?;
+    value_of(&mut look, &reached, &[1], &mut budget)?;
     assert!(rt; budget.used > before);
     Ok(())
 }
@@ -122,9 +173,12 @@ fn the_last_64_values_are_kept(rt: HostRuntime) -> Result<(), Fail> {
 fn an_undecided_value_is_not_kept(rt: HostRuntime) -> Result<(), Fail> {
     let field = field_of(rt.alloc(), &TWELVE, Some(5), Some(Colour::White))?;
     let reached = eight(rt.alloc(), &field)?;
-    let mut look = LookAhead::new(rt.alloc(), &field, &reached, &FOUR)?;
+    let mut look = look_at_four(rt.alloc(), &field, &reached)?;
     let mut none = Budget { limit: 0, used: 0 };
-    assert!(rt; matches!(&look.value(&[1], &mut none), Look::Undecided));
+    match look_of(&mut look, &reached, &[1], &mut none)? {
+        Look::Value { .. } => assert!(rt; false, "decided"),
+        Look::Undecided => {}
+    }
     assert_eq!(rt; look.len(), 0);
     Ok(())
 }

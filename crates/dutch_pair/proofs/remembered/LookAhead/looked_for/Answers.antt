@@ -35,6 +35,8 @@ returns-in-Some-clause-kept c =
           ∙ ap (λ l. record { facts = c.self.inside.field.now; stand = c.self.inside.reached.now; next = c.self.inside.next.items; kept = l })
           (put_kept c.args.down c.self.inside.values c.copied.result c.self.invariant.most unknown)
           ∙ ap (λ r. after_use c.args.down.items r) c.self.view_is)
-      | inr same ↦ inr (c.requires.unknown,
-          ap (λ v. record { facts = c.self.inside.field.now; stand = c.self.inside.reached.now; next = c.self.inside.next.items; kept = lists_kept v.entries }) same ∙ c.self.view_is)
+      | inr same ↦ inr (
+        c.requires.unknown,
+        ap (λ v. record { facts = c.self.inside.field.now; stand = c.self.inside.reached.now; next = c.self.inside.next.items; kept = lists_kept v.entries }) same ∙ c.self.view_is,
+      )
     ])
