@@ -3,7 +3,7 @@ use Rattle.std.proofs.Common.{◌≡◌, ◌≤◌}
 use Rattle.arbiter.proofs.below.remembered_tests.the_last_64_values_are_kept.Given as goal
 
 abbrev pub invariant-loop-number : goal.invariant-loop-number
-invariant-loop-number l = record {
-  stand : l.look.stand ≡ l.reached;
+invariant-loop-number g l = record {
+  stand : l.look.stand ≡ l.initial.look.stand;
   within : l.budget.used ≤ l.budget.limit;
 }
