@@ -9,6 +9,7 @@ mod order_tests;
 mod pairing_tests;
 mod player_tests;
 mod quality_tests;
+mod remembered_tests;
 mod report_tests;
 mod round_tests;
 mod standings_tests;

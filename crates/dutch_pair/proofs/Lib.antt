@@ -29,6 +29,7 @@ pub mod FloorOrder
 pub mod GroupLemmas
 pub mod LonelyLemmas
 pub mod MoverSeats
+pub mod KeptValues
 pub mod NextBrackets
 pub mod PairMisses
 pub mod PairPlaces

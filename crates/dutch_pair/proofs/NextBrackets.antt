@@ -2,23 +2,25 @@
 use Rattle.std.proofs.Common.{◌≡◌, ℕ, zero, suc, ◌+◌, ◌-◌, ◌<◌, ◌≤◌, not, List, [], ◌∷◌, ◌++◌, map, length, get_or, ◌⊎◌, inl, inr, refl, sym, ap, ◌∙◌, subst, arith, length-append}
 use Rattle.std.specs.List.{AllByRecursion}
 use Rattle.std.specs.Prelude.{slice_index}
+use Rattle.std.specs.List.Sorted.{IsStrictlyIncreasing}
 use Rattle.std.proofs.lemmas.List.{length-map, get_or-map, map-append}
+use Rattle.std.proofs.lemmas.List.Kept.{IsStrictlyIncreasing-filter}
 use Rattle.std.proofs.lemmas.Simd.{map-map}
 use Rattle.dutch_order.specs.Choices.{numbers_from, is_member}
 use Rattle.dutch_order.specs.Draws.{Draw}
 use Rattle.dutch_order.specs.Limbo.{IsNonAscending}
 use Rattle.dutch_order.specs.Arrangements.{paired}
-use Rattle.dutch_order.proofs.Orders.{Rises, Rises-filter}
+use Rattle.dutch_order.proofs.Counts.{numbers-rise}
+use Rattle.dutch_order.proofs.Orders.{Rises, Rises-from}
 use Rattle.dutch_order.proofs.Turns.{at_index}
 use Rattle.dutch_player.specs.Facts.{Facts}
 use Rattle.dutch_pair.specs.declared.reached.Kind.TheVariants.{Ordinary}
 use Rattle.dutch_pair.specs.Seated.{seat_of, score_at, AreSeats, AllNumbers}
 use Rattle.dutch_pair.specs.Reached.{Stand, frame_of, IsOf}
-use Rattle.dutch_pair.specs.NextBracket.{next_stand, IsFlat, IsDraw, IsNext}
+use Rattle.dutch_pair.specs.NextBracket.{next_stand, IsFlat, IsDraw, AreLeft, IsNext}
 use Rattle.dutch_pair.proofs.AllLemmas.{all_join}
-use Rattle.dutch_pair.proofs.ArrangementParts.{numbers_rise}
 use Rattle.dutch_pair.proofs.CandidateSeats.{all_within}
-use Rattle.dutch_pair.proofs.DownLemmas.{down_numbers, down_few}
+use Rattle.dutch_pair.proofs.DownLemmas.{down_numbers}
 use Rattle.dutch_pair.proofs.FlatBrackets.{seats_fall}
 use Rattle.dutch_pair.proofs.Copies.{Falls}
 
@@ -71,89 +73,112 @@ rising_falls : (f : ℕ → ℕ) (n : ℕ) (xs : List ℕ) → ((i j : ℕ) → 
 rising_falls f n [] falling rises all = tt
 rising_falls f n (x ∷ xs) falling rises all = (later_below f n x xs all.0.0 falling rises.0 all.1, rising_falls f n xs falling rises.1 all.1)
 
-module _ (facts : Facts) (stand : Stand) (draw : Draw) (next : List ℕ) (of' : IsOf facts stand) (drawn : IsDraw facts stand draw) (below : IsNext facts stand next) where
-  pub numbers : AllNumbers stand.seats draw.down
-  numbers = subst (AllNumbers stand.seats) (sym drawn.down) (down_numbers facts stand draw.lists)
+-- numbers that rise up to a last one are no more than this
+rising_few : (n x : ℕ) (xs : List ℕ) → Rises (x ∷ xs) → AllByRecursion (λ y. (0 < y) × (y ≤ n)) (x ∷ xs) → x + length xs ≤ n
+rising_few n x [] rises all = let le : x ≤ n = all.0.1 in omega (arith, le)
+rising_few n x (y ∷ xs) rises all =
+    let lt : x < y = rises.0.0 in
+    let few : y + length xs ≤ n = rising_few n y xs rises.1 all.1 in
+    omega (arith, lt, few)
 
-  pub down_short : length draw.down ≤ length stand.seats
-  down_short = let few = down_few facts stand draw.lists in omega (arith, few, ap length drawn.down)
+numbers_few : (n : ℕ) (xs : List ℕ) → Rises xs → AllByRecursion (λ y. (0 < y) × (y ≤ n)) xs → length xs ≤ n
+numbers_few n [] rises all = omega arith
+numbers_few n (x ∷ xs) rises all =
+    let first : 0 < x = all.0.0 in
+    let few : x + length xs ≤ n = rising_few n x xs rises all in
+    omega (arith, first, few)
 
-  rises : Rises draw.down
-  rises = subst Rises (sym drawn.down) (Rises-filter (λ x. not (is_member x (paired draw.lists))) (numbers_from 1 (length (frame_of facts stand).scores)) (numbers_rise 1 (length (frame_of facts stand).scores)))
+-- those whom an arrangement leaves over, by number, ascend
+pub left_by_draw : (facts : Facts) (stand : Stand) (draw : Draw) → IsDraw facts stand draw → AreLeft stand draw.down
+left_by_draw facts stand draw drawn = record {
+  numbers = subst (AllNumbers stand.seats) (sym drawn.down) (down_numbers facts stand draw.lists);
+  ascend = subst IsStrictlyIncreasing (sym drawn.down)
+      (IsStrictlyIncreasing-filter (λ x. not (is_member x (paired draw.lists))) (numbers_from 1 (length (frame_of facts stand).scores)) (numbers-rise 1 (length (frame_of facts stand).scores)));
+}
 
-  count : length (map (seat_of stand.seats) draw.down) ≡ length draw.down
-  count = length-map draw.down (seat_of stand.seats)
+module _ (facts : Facts) (stand : Stand) (left next : List ℕ) (of' : IsOf facts stand) (are : AreLeft stand left) (below : IsNext facts stand next) where
+  pub numbers : AllNumbers stand.seats left
+  numbers = are.numbers
 
-  moved_at : (i : ℕ) → i < length draw.down → get_or (map (seat_of stand.seats) draw.down) i 0 ≡ seat_of stand.seats (get_or draw.down i 0)
-  moved_at i h = get_or-map (seat_of stand.seats) draw.down i 0 0 h
+  rises : Rises left
+  rises = Rises-from left are.ascend
+
+  pub down_short : length left ≤ length stand.seats
+  down_short = numbers_few (length stand.seats) left rises numbers
+
+  count : length (map (seat_of stand.seats) left) ≡ length left
+  count = length-map left (seat_of stand.seats)
+
+  moved_at : (i : ℕ) → i < length left → get_or (map (seat_of stand.seats) left) i 0 ≡ seat_of stand.seats (get_or left i 0)
+  moved_at i h = get_or-map (seat_of stand.seats) left i 0 0 h
 
   -- the scores of those who move down are above those of the next scoregroup
-  apart : (i j : ℕ) → i < length draw.down → j < length next → score_at facts (get_or next j 0) < score_at facts (get_or (map (seat_of stand.seats) draw.down) i 0)
+  apart : (i j : ℕ) → i < length left → j < length next → score_at facts (get_or next j 0) < score_at facts (get_or (map (seat_of stand.seats) left) i 0)
   apart i j h g =
-      let number = at_index (λ n. (0 < n) × (n ≤ length stand.seats)) draw.down i numbers h in
-      let lower : score_at facts (get_or next j 0) < score_at facts (seat_of stand.seats (get_or draw.down i 0)) = below.below (get_or draw.down i 0 - 1) j (omega (arith, number.0, number.1)) g in
+      let number = at_index (λ n. (0 < n) × (n ≤ length stand.seats)) left i numbers h in
+      let lower : score_at facts (get_or next j 0) < score_at facts (seat_of stand.seats (get_or left i 0)) = below.below (get_or left i 0 - 1) j (omega (arith, number.0, number.1)) g in
       omega (arith, lower, ap (score_at facts) (moved_at i h))
 
-  moved_falls : Falls (map (score_at facts) (map (seat_of stand.seats) draw.down))
-  moved_falls = subst Falls (sym (map-map (score_at facts) (seat_of stand.seats) draw.down)) (rising_falls (λ i. score_at facts (seat_of stand.seats i)) (length stand.seats) draw.down (seats_fall facts stand of') rises numbers)
+  moved_falls : Falls (map (score_at facts) (map (seat_of stand.seats) left))
+  moved_falls = subst Falls (sym (map-map (score_at facts) (seat_of stand.seats) left)) (rising_falls (λ i. score_at facts (seat_of stand.seats i)) (length stand.seats) left (seats_fall facts stand of') rises numbers)
 
-  all_fall : Falls (map (score_at facts) (map (seat_of stand.seats) draw.down ++ next))
+  all_fall : Falls (map (score_at facts) (map (seat_of stand.seats) left ++ next))
   all_fall =
-      subst Falls (sym (map-append (score_at facts) (map (seat_of stand.seats) draw.down) next))
-      (falls_append (map (score_at facts) (map (seat_of stand.seats) draw.down)) (map (score_at facts) next) moved_falls (flat_falls (score_at facts) next below.same)
+      subst Falls (sym (map-append (score_at facts) (map (seat_of stand.seats) left) next))
+      (falls_append (map (score_at facts) (map (seat_of stand.seats) left)) (map (score_at facts) next) moved_falls (flat_falls (score_at facts) next below.same)
       (λ i j h g.
-      let lh : i < length draw.down = (let e = length-map (map (seat_of stand.seats) draw.down) (score_at facts) in omega (arith, h, e, count)) in
+      let lh : i < length left = (let e = length-map (map (seat_of stand.seats) left) (score_at facts) in omega (arith, h, e, count)) in
       let lg : j < length next = (let e = length-map next (score_at facts) in omega (arith, g, e)) in
-      let lm : i < length (map (seat_of stand.seats) draw.down) = omega (arith, lh, count) in
-      omega (arith, apart i j lh lg, get_or-map (score_at facts) (map (seat_of stand.seats) draw.down) i 0 0 lm, get_or-map (score_at facts) next j 0 0 lg)))
+      let lm : i < length (map (seat_of stand.seats) left) = omega (arith, lh, count) in
+      omega (arith, apart i j lh lg, get_or-map (score_at facts) (map (seat_of stand.seats) left) i 0 0 lm, get_or-map (score_at facts) next j 0 0 lg)))
 
-  long : length (map (seat_of stand.seats) draw.down ++ next) ≡ length draw.down + length next
-  long = length-append (map (seat_of stand.seats) draw.down) next ∙ ap (λ k. k + length next) count
+  long : length (map (seat_of stand.seats) left ++ next) ≡ length left + length next
+  long = length-append (map (seat_of stand.seats) left) next ∙ ap (λ k. k + length next) count
 
-  inside : AreSeats facts (map (seat_of stand.seats) draw.down ++ next)
+  inside : AreSeats facts (map (seat_of stand.seats) left ++ next)
   inside i h =
-      elim (sides i (length draw.down)) [
+      elim (sides i (length left)) [
         | inl low ↦
-            let lt : i < length (map (seat_of stand.seats) draw.down) = omega (arith, low, count) in
-            let seat : slice_index (map (seat_of stand.seats) draw.down) i < length facts.seats = all_within facts stand.seats draw.down of'.inside numbers i lt in
-            omega (arith, seat, append_low (map (seat_of stand.seats) draw.down) next i lt)
+            let lt : i < length (map (seat_of stand.seats) left) = omega (arith, low, count) in
+            let seat : slice_index (map (seat_of stand.seats) left) i < length facts.seats = all_within facts stand.seats left of'.inside numbers i lt in
+            omega (arith, seat, append_low (map (seat_of stand.seats) left) next i lt)
         | inr high ↦
-            let seat : slice_index next (i - length (map (seat_of stand.seats) draw.down)) < length facts.seats = below.inside (i - length (map (seat_of stand.seats) draw.down)) (omega (arith, h, high, count, long)) in
-            omega (arith, seat, append_high (map (seat_of stand.seats) draw.down) next i (omega (arith, high, count)))
+            let seat : slice_index next (i - length (map (seat_of stand.seats) left)) < length facts.seats = below.inside (i - length (map (seat_of stand.seats) left)) (omega (arith, h, high, count, long)) in
+            omega (arith, seat, append_high (map (seat_of stand.seats) left) next i (omega (arith, high, count)))
       ]
 
-  score_in : (i : ℕ) → i < length draw.down + length next → slice_index (map (score_at facts) (map (seat_of stand.seats) draw.down ++ next)) i ≡ score_at facts (get_or (map (seat_of stand.seats) draw.down ++ next) i 0)
-  score_in i h = get_or-map (score_at facts) (map (seat_of stand.seats) draw.down ++ next) i 0 0 (omega (arith, h, long))
+  score_in : (i : ℕ) → i < length left + length next → slice_index (map (score_at facts) (map (seat_of stand.seats) left ++ next)) i ≡ score_at facts (get_or (map (seat_of stand.seats) left ++ next) i 0)
+  score_in i h = get_or-map (score_at facts) (map (seat_of stand.seats) left ++ next) i 0 0 (omega (arith, h, long))
 
-  pub next_of : IsOf facts (next_stand (map (seat_of stand.seats) draw.down) next)
+  pub next_of : IsOf facts (next_stand (map (seat_of stand.seats) left) next)
   next_of = record {
     inside = inside;
     sound =
-        let scored : length (map (score_at facts) (map (seat_of stand.seats) draw.down ++ next)) ≡ length draw.down + length next =
-        length-map (map (seat_of stand.seats) draw.down ++ next) (score_at facts) ∙ long in
+        let scored : length (map (score_at facts) (map (seat_of stand.seats) left ++ next)) ≡ length left + length next =
+        length-map (map (seat_of stand.seats) left ++ next) (score_at facts) ∙ long in
         record {
           few = omega (arith, scored, down_short, below.few);
           within = omega (arith, scored, count);
-          descends = falls_index (map (score_at facts) (map (seat_of stand.seats) draw.down ++ next)) all_fall;
+          descends = falls_index (map (score_at facts) (map (seat_of stand.seats) left ++ next)) all_fall;
           above = λ i j h g k.
-              let low : i < length draw.down = omega (arith, h, count) in
-              let one : score_at facts (get_or next (j - length (map (seat_of stand.seats) draw.down)) 0) < score_at facts (get_or (map (seat_of stand.seats) draw.down) i 0) =
-              apart i (j - length (map (seat_of stand.seats) draw.down)) low (omega (arith, g, k, scored, count)) in
+              let low : i < length left = omega (arith, h, count) in
+              let one : score_at facts (get_or next (j - length (map (seat_of stand.seats) left)) 0) < score_at facts (get_or (map (seat_of stand.seats) left) i 0) =
+              apart i (j - length (map (seat_of stand.seats) left)) low (omega (arith, g, k, scored, count)) in
               omega (
                 arith,
                 one,
                 score_in i (omega (arith, low)),
                 score_in j (omega (arith, k, scored)),
-                ap (score_at facts) (append_low (map (seat_of stand.seats) draw.down) next i h),
-                ap (score_at facts) (append_high (map (seat_of stand.seats) draw.down) next j g),
+                ap (score_at facts) (append_low (map (seat_of stand.seats) left) next i h),
+                ap (score_at facts) (append_high (map (seat_of stand.seats) left) next j g),
               );
         };
   }
 
-  pub next_flat : stand.kind ≡ Ordinary → IsFlat facts (next_stand (map (seat_of stand.seats) draw.down) next)
+  pub next_flat : stand.kind ≡ Ordinary → IsFlat facts (next_stand (map (seat_of stand.seats) left) next)
   next_flat ordinary =
       let some : 0 < length next = below.there ordinary in
-      let md : List ℕ = map (seat_of stand.seats) draw.down in
+      let md : List ℕ = map (seat_of stand.seats) left in
       record {
         resident = omega (arith, some, long, count);
         same = λ i h g.

@@ -1,6 +1,6 @@
 -- Beginnings of arrangements by the seats of a bracket: which pairs are fixed, and what is still free (C.04.3 B.6, B.7). What bounds
 -- the choice by beginnings stands on these; a reader of its promise may pass them by.
-use Rattle.std.specs.Prelude.{◌≡◌, ℕ, ◌+◌, ◌-◌, ◌*◌, ◌⊎◌, List, [], length, sum_by}
+use Rattle.std.specs.Prelude.{◌≡◌, ℕ, ◌+◌, ◌-◌, ◌*◌, ◌⊎◌, [], length, sum_by}
 use Rattle.dutch_order.specs.declared.bracket.Shape.{Shape}
 use Rattle.dutch_order.specs.Arrangements.{Arrangement}
 use Rattle.dutch_order.specs.Prefixes.{GoesOn}

@@ -1,5 +1,5 @@
 -- How many players miss their colour preference at least, whatever pairs are added to a beginning (C.04.3 C.10, C.11).
-use Rattle.std.specs.Prelude.{◌≡◌, ℕ, ◌+◌, ◌-◌, ◌*◌, ◌==◌, Bool, true, false, not, ◌&&◌, List, [], ◌∷◌, filter, length, max, zero, suc}
+use Rattle.std.specs.Prelude.{ℕ, ◌+◌, ◌-◌, ◌*◌, ◌==◌, Bool, true, false, not, ◌&&◌, List, [], ◌∷◌, filter, length, max}
 use Rattle.std.specs.List.{list_any}
 use Rattle.std.specs.Option.{option_map_or}
 use Rattle.trf16.specs.declared.cell.Colour.{Colour}
@@ -10,7 +10,7 @@ use Rattle.dutch_player.specs.declared.preference.Kind.{Kind}
 use Rattle.dutch_player.specs.declared.preference.Kind.TheVariants.{Absolute, Strong, Mild}
 use Rattle.dutch_player.specs.Preferences.{is_same, preference}
 use Rattle.dutch_player.specs.Facts.{Facts, seat_at}
-use Rattle.dutch_pair.specs.declared.colours_missed.Miss.TheVariants.{Wide, Third, Preference, StrongPreference}
+use Rattle.dutch_pair.specs.declared.colours_missed.Miss.TheVariants.{Wide, Third, Preference}
 use Rattle.dutch_pair.specs.Quality.{one_if, misses, count_in, count_with_topscorers}
 use Rattle.dutch_pair.specs.Reached.{Stand, frame_of, numbers_meet}
 use Rattle.dutch_pair.specs.Seated.{seat_of}

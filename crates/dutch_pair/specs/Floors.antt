@@ -1,7 +1,5 @@
 -- The quality that no candidate with a beginning is better than (C.04.3 C.6 to C.19).
 use Rattle.std.specs.Prelude.{◌≡◌, ℕ, ◌+◌, ◌≤◌, false, List, length}
-use Rattle.std.specs.Cmp.Lexicographic.{slice_cmp}
-use Rattle.dutch_order.specs.declared.bracket.Shape.{Shape}
 use Rattle.dutch_order.specs.Arrangements.{Arrangement}
 use Rattle.dutch_player.specs.declared.float.Float.TheVariants.{Up, Down}
 use Rattle.dutch_player.specs.Facts.{Facts}

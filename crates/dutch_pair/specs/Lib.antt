@@ -34,3 +34,4 @@ pub mod PairFacts
 pub mod FloorOf
 pub mod Outlooks
 pub mod WaysOut
+pub mod Remembered

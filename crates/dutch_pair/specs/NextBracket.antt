@@ -1,5 +1,6 @@
 -- What a candidate leaves for the next bracket (C.04.3 C.7), and its whole quality.
 use Rattle.std.specs.Prelude.{◌≡◌, ℕ, ◌+◌, ◌<◌, ◌≤◌, Bool, if◌then◌else◌, List, [], ◌∷◌, ◌++◌, map, filter, length, slice_index, Option, Some, None, option_map}
+use Rattle.std.specs.List.Sorted.{IsStrictlyIncreasing}
 use Rattle.std.specs.Ordering.{nat_cmp, is_lt}
 use Rattle.std.specs.Cmp.Lexicographic.{slice_cmp}
 use Rattle.dutch_order.specs.declared.bracket.Shape.{Shape}
@@ -8,7 +9,7 @@ use Rattle.dutch_order.specs.Keys.{IsIn}
 use Rattle.dutch_order.specs.Draws.{Draw}
 use Rattle.dutch_player.specs.Facts.{Facts}
 use Rattle.dutch_pair.specs.declared.reached.Kind.TheVariants.{Ordinary}
-use Rattle.dutch_pair.specs.Seated.{seat_of, score_at, by_seats, AreSeats}
+use Rattle.dutch_pair.specs.Seated.{seat_of, score_at, by_seats, AreSeats, AllNumbers}
 use Rattle.dutch_pair.specs.Reached.{Stand, frame_of, numbers_meet, number_may_be_left}
 use Rattle.dutch_pair.specs.Shapes.{fits, first_with, greatest_shape}
 use Rattle.dutch_pair.specs.Quality.{Quality, NextValue, psd, quality_with}
@@ -80,6 +81,11 @@ value_among facts stand shapes = option_map (λ shape. value_of_shape facts stan
 pub record IsDraw (facts : Facts) (stand : Stand) (draw : Draw) : Type 0 where
   pub lists : (shape : Shape) × IsIn draw.lists (arrangements (frame_of facts stand) shape)
   pub down : draw.down ≡ down (frame_of facts stand) draw.lists
+
+-- numbers of a bracket, ascending, as those of its downfloaters
+pub record AreLeft (stand : Stand) (down : List ℕ) : Type 0 where
+  pub numbers : AllNumbers stand.seats down
+  pub ascend : IsStrictlyIncreasing down
 
 -- the next lower scoregroup: seats with one score, below those of a bracket with which it has at most 256 players; below an ordinary
 -- bracket there is one

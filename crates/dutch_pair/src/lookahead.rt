@@ -6,11 +6,12 @@ ghost use Rattle.std.specs.Prelude.{◌≡◌, map, ℕ, slice_index, ◌<◌, �
 ghost use Rattle.dutch_order.specs.Arrangements.{Fits, down};
 ghost use Rattle.dutch_order.specs.Steps.{MatchStep};
 ghost use Rattle.dutch_pair.specs.Seated.{seat_of};
+ghost use Rattle.dutch_pair.specs.declared.reached.Kind.TheVariants.{Ordinary};
 ghost use Rattle.dutch_pair.specs.Reached.{IsOf, frame_of};
 ghost use Rattle.dutch_pair.specs.QualityIn.{quality_in};
 ghost use Rattle.dutch_pair.specs.Round.{is_ordinary};
 ghost use Rattle.dutch_pair.specs.Shapes.{down_from, shapes_with, has_member};
-ghost use Rattle.dutch_pair.specs.NextBracket.{IsDraw, IsFlat, IsNext, legal_in, next_stand, value_of_shape, value_among, value_in, value_of, quality};
+ghost use Rattle.dutch_pair.specs.NextBracket.{IsDraw, IsFlat, AreLeft, IsNext, legal_in, next_stand, value_of_shape, value_among, value_in, value_of, quality};
 
 use crate::differences::psd;
 use crate::quality::{NextValue, Quality, quality_with};
@@ -166,19 +167,42 @@ pub(crate) fn value_of(field: &Field, reached: &Reached, budget: &mut Budget) ->
     }
 }
 
-/// The bracket that the downfloaters of a candidate make with the next lower scoregroup.
-#[tactic(auto, using(crate::proofs::NextBrackets::numbers, crate::proofs::NextBrackets::down_short))]
-fn next_bracket(field: &Field, reached: &Reached, candidate: &Candidate, next: &[u16]) -> Reached
+/// The bracket that downfloaters make with the next lower scoregroup.
+#[tactic(auto, using(crate::proofs::NextBrackets::down_short))]
+fn next_bracket(field: &Field, reached: &Reached, down: &[u16], next: &[u16]) -> Reached
     requires of { IsOf field.now reached.now }
-    requires candidate { IsDraw field.now reached.now candidate.now }
+    requires down { AreLeft reached.now down.now }
     requires next { IsNext field.now reached.now next.now }
-    ensures { result ≡ next_stand (map (seat_of reached.now.seats) candidate.now.down) next.now }
+    ensures { result ≡ next_stand (map (seat_of reached.now.seats) down.now) next.now }
 {
-    let moved_down = seats_of(reached.seats(), candidate.down());
+    let moved_down = seats_of(reached.seats(), down);
     bracket(0, Kind::Ordinary, &moved_down, next)
 }
 
+/// What the next bracket can be for downfloaters of an ordinary bracket (C.7): none where the budget's limit was reached first.
+pub(crate) fn value_below(
+    field: &Field,
+    reached: &Reached,
+    down: &[u16],
+    next: &[u16],
+    budget: &mut Budget,
+) -> Option<NextValue>
+    requires of { IsOf field.now reached.now }
+    requires ordinary { reached.now.kind ≡ Ordinary }
+    requires down { AreLeft reached.now down.now }
+    requires next { IsNext field.now reached.now next.now }
+    requires within { budget.old.used ≤ budget.old.limit }
+    ensures answer { MatchOption result (budget.new.used ≡ budget.new.limit)
+        (λ v. v ≡ value_in true field.now (map (seat_of reached.now.seats) down.now) next.now) }
+    ensures limit { budget.new.limit ≡ budget.old.limit }
+    ensures rises { budget.old.used ≤ budget.new.used }
+    ensures within { budget.new.used ≤ budget.new.limit }
+{
+    value_of(field, &next_bracket(field, reached, down, next), budget)
+}
+
 /// The value of the next bracket for a candidate (C.7): in ordinary brackets alone.
+#[tactic(auto, using(crate::proofs::NextBrackets::left_by_draw))]
 fn next_value(
     field: &Field,
     reached: &Reached,
@@ -197,11 +221,7 @@ fn next_value(
     ensures within { budget.new.used ≤ budget.new.limit }
 {
     match reached.kind() {
-        Kind::Ordinary => value_of(
-            field,
-            &next_bracket(field, reached, candidate, next),
-            budget,
-        ),
+        Kind::Ordinary => value_below(field, reached, candidate.down(), next, budget),
         _ => Some(NextValue::none()),
     }
 }

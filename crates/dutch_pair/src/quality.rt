@@ -8,6 +8,7 @@ ghost use Rattle.dutch_pair.specs.QualityIn.{quality_in, quality_by};
 use crate::colours_missed::{Miss, count_in_pairs, count_with_topscorers};
 use crate::differences::psd;
 use crate::floats::{again, going_down, going_up};
+use crate::reached::push_all;
 use crate::seated::{Seated, by_seats};
 use dutch_order::candidate::Candidate;
 use dutch_order::numbers::Numbers;
@@ -39,6 +40,18 @@ impl NextValue {
         NextValue {
             pairs: 0,
             psd: Numbers::new(),
+        }
+    }
+
+    /// The same value once more.
+    pub(crate) fn copied(&self) -> NextValue
+        ensures { result ≡ self.now }
+    {
+        let mut psd = Numbers::new();
+        push_all(&self.psd, &mut psd);
+        NextValue {
+            pairs: self.pairs,
+            psd,
         }
     }
 }

@@ -7,5 +7,5 @@ use Rattle.dutch_pair.proofs.lookahead.next_bracket.Goals as goal
 
 pub bracket-requires : goal.bracket-requires
 bracket-requires c =
-    let short = down_short c.args.field.now c.args.reached.now c.args.candidate.now c.args.next.now c.requires.of c.requires.candidate c.requires.next in
-    omega (arith, short, c.requires.next.few, ap length c.deref.ensures.0, ap length c.seats_of-moved_down.ensures, length-map c.down.result.now (seat_of c.seats.result.now), ap length c.down.ensures)
+    let short = down_short c.args.field.now c.args.reached.now c.args.down.now c.args.next.now c.requires.of c.requires.down c.requires.next in
+    omega (arith, short, c.requires.next.few, ap length c.deref.ensures.0, ap length c.seats_of-moved_down.ensures, length-map c.args.down.now (seat_of c.seats.result.now))

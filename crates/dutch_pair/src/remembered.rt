@@ -1,0 +1,262 @@
+// What the next bracket can be (C.04.3 C.7), remembered by downfloaters, specified by the value of each list and by which lists are kept.
+//
+// Candidates of a bracket that leave over the same players have one value, so it is looked for once. The values of the last 64 lists
+// that were used are kept, in a cache that is made once for a bracket. Where it cannot grow, the value is looked for each time.
+ghost use Rattle.std.specs.Prelude.{◌≡◌, ◌≤◌, true, false, [], length, map, take, IfOk, ◌⊎◌};
+ghost use Rattle.std.specs.Map.{lookup};
+ghost use Rattle.lru.specs.LruCache.{lru_cache, promoted, put_entries};
+ghost use Rattle.dutch_pair.specs.declared.reached.Kind.TheVariants.{Ordinary};
+ghost use Rattle.std.specs.Option.{MatchOption};
+ghost use Rattle.dutch_pair.specs.Reached.{IsOf, IsAbove};
+ghost use Rattle.dutch_pair.specs.NextBracket.{IsNext, IsDraw, AreLeft, quality};
+ghost use Rattle.dutch_pair.specs.QualityIn.{quality_in};
+ghost use Rattle.dutch_pair.specs.Round.{quality_of};
+ghost use Rattle.dutch_pair.specs.Remembered.{value_below, is_kept, is_key, IsLook, IsKeptAfter, LooksOn, LooksBelow};
+
+use crate::fault::PairFault;
+use crate::group::split_first_group;
+use crate::lookahead::{quality, value_below};
+use crate::quality::{NextValue, Quality, quality_with};
+use crate::reached::{Kind, Reached, Seats, push_all};
+use dutch_order::candidate::Candidate;
+use dutch_order::numbers::{LIMIT, Numbers};
+use dutch_order::steps::Budget;
+use dutch_player::field::Field;
+use lru::LruCache;
+use std::alloc::Global;
+use std::marker::Model;
+use std::num::NonZeroUsize;
+
+/// The most values that are kept.
+const MOST: usize = 64;
+
+/// What a look at the next bracket gives.
+#[derive(Debug, Drop)]
+pub enum Look {
+    /// The most pairs, and the least PSD for them, the highest difference first (in half points).
+    Value { pairs: usize, psd: Numbers },
+    /// The budget's limit was reached first.
+    Undecided,
+}
+
+/// The values that are kept, by the numbers of the downfloaters.
+type Values = LruCache<Numbers, NextValue>;
+
+/// The values of the next bracket for downfloaters of one ordinary bracket, of which the last used are kept.
+#[derive(Drop)]
+pub struct LookAhead<'a> {
+    field: &'a Field,
+    reached: &'a Reached,
+    next: Seats,
+    values: Values,
+}
+
+impl<'a> Model for LookAhead<'a> {
+    ghost use Rattle.dutch_pair.specs.Remembered.{Remembered, AreValues, lists_kept};
+
+    ghost Value = { Remembered };
+
+    ghost view = { λ a. record { facts = a.field.now; stand = a.reached.now; next = a.next.items; kept = lists_kept a.values.entries } };
+
+    ghost invariant = { λ a. AreValues a.field.now a.reached.now a.next.items a.values };
+}
+
+/// Downfloaters as a key.
+fn key_of(down: &[u16]) -> Numbers
+    requires { length down.now ≤ LIMIT }
+    ensures { result.items ≡ down.now }
+{
+    let mut key = Numbers::new();
+    push_all(down, &mut key);
+    key
+}
+
+/// An empty cache.
+fn no_values(alloc: Global) -> Result<Values, PairFault>
+    ensures { IfOk result (λ values. values ≡ lru_cache [] 64) }
+{
+    let most = NonZeroUsize::new(MOST).unwrap();
+    Ok(LruCache::new(alloc, most)?)
+}
+
+/// The value that is kept for downfloaters, who are then the last used.
+fn recalled(values: &mut Values, down: &Numbers) -> Option<NextValue>
+    ensures value { result ≡ lookup (is_key down.now) values.old.entries }
+    ensures kept { values.new ≡ lru_cache (promoted (is_key down.now) values.old.entries) values.old.cap }
+{
+    match values.get(down) {
+        Some(value) => Some(value.copied()),
+        None => None,
+    }
+}
+
+/// Keeps a value for downfloaters. Where memory is refused nothing changes.
+fn keep(values: &mut Values, down: Numbers, value: NextValue)
+    ensures { (values.new ≡ lru_cache (put_entries is_key values.old down value) values.old.cap) ⊎ (values.new ≡ values.old) }
+{
+    match values.put(down, value) {
+        Ok(_) => {}
+        Err(_) => {}
+    }
+}
+
+/// A value, told.
+fn told(value: NextValue) -> Look
+    ensures { IsLook value ⊥ result }
+{
+    Look::Value {
+        pairs: value.pairs,
+        psd: value.psd,
+    }
+}
+
+impl<'a> LookAhead<'a> {
+    /// A look-ahead from an ordinary bracket of a field to the next lower scoregroup, with no value kept.
+    pub fn new(
+        alloc: Global,
+        field: &'a Field,
+        reached: &'a Reached,
+        next: &[u16],
+    ) -> Result<LookAhead<'a>, PairFault>
+        requires of { IsOf field.now reached.now }
+        requires ordinary { reached.now.kind ≡ Ordinary }
+        requires next { IsNext field.now reached.now next.now }
+        ensures { IfOk result (λ ahead. ahead ≡ record { facts = field.now; stand = reached.now; next = next.now; kept = [] }) }
+    {
+        let mut seats = Seats::new();
+        push_all(next, &mut seats);
+        Ok(LookAhead {
+            field,
+            reached,
+            next: seats,
+            values: no_values(alloc)?,
+        })
+    }
+
+    /// What the next bracket can be for downfloaters for whom no value is kept.
+    fn looked_for(&mut self, down: Numbers, budget: &mut Budget) -> Look
+        requires unknown { is_kept down.items self.old.kept ≡ false }
+        requires down { AreLeft self.old.stand down.items }
+        requires within { budget.old.used ≤ budget.old.limit }
+        ensures answer { IsLook (value_below self.old.facts self.old.stand self.old.next down.items) (budget.new.used ≡ budget.new.limit) result }
+        ensures kept { IsKeptAfter down.items self.old self.new result }
+        ensures limit { budget.new.limit ≡ budget.old.limit }
+        ensures rises { budget.old.used ≤ budget.new.used }
+        ensures within { budget.new.used ≤ budget.new.limit }
+    {
+        match value_below(self.field, self.reached, &down, &self.next, budget) {
+            Some(value) => {
+                keep(&mut self.values, down, value.copied());
+                told(value)
+            }
+            None => Look::Undecided,
+        }
+    }
+
+    /// What the next bracket can be for downfloaters, by their numbers in the bracket. A value that is kept takes no step. Where memory
+    /// is refused the value is not kept.
+    pub fn value(&mut self, down: &[u16], budget: &mut Budget) -> Look
+        requires down { AreLeft self.old.stand down.now }
+        requires within { budget.old.used ≤ budget.old.limit }
+        ensures answer { IsLook (value_below self.old.facts self.old.stand self.old.next down.now)
+            ((is_kept down.now self.old.kept ≡ false) × (budget.new.used ≡ budget.new.limit)) result }
+        ensures free { is_kept down.now self.old.kept ≡ true → budget.new.used ≡ budget.old.used }
+        ensures kept { IsKeptAfter down.now self.old self.new result }
+        ensures limit { budget.new.limit ≡ budget.old.limit }
+        ensures rises { budget.old.used ≤ budget.new.used }
+        ensures within { budget.new.used ≤ budget.new.limit }
+    {
+        let _field = self.field;
+        let key = key_of(down);
+        match recalled(&mut self.values, &key) {
+            Some(value) => told(value),
+            None => self.looked_for(key, budget),
+        }
+    }
+
+    /// The quality of a candidate of the bracket; `None` where the budget's limit was reached first.
+    #[tactic(auto, using(crate::proofs::NextBrackets::left_by_draw))]
+    fn quality(&mut self, candidate: &Candidate, budget: &mut Budget) -> Option<Quality>
+        requires candidate { IsDraw self.old.facts self.old.stand candidate.now }
+        requires within { budget.old.used ≤ budget.old.limit }
+        ensures answer { MatchOption result (budget.new.used ≡ budget.new.limit)
+            (λ q. quality_in q ≡ quality self.old.facts self.old.stand.seats true self.old.next candidate.now) }
+        ensures looks_on { LooksOn self.old self.new }
+        ensures limit { budget.new.limit ≡ budget.old.limit }
+        ensures rises { budget.old.used ≤ budget.new.used }
+        ensures within { budget.new.used ≤ budget.new.limit }
+    {
+        let (field, reached) = (self.field, self.reached);
+        match self.value(candidate.down(), budget) {
+            Look::Value { pairs, psd } => Some(quality_with(
+                field,
+                reached.seats(),
+                candidate,
+                NextValue { pairs, psd },
+            )),
+            Look::Undecided => None,
+        }
+    }
+
+    /// How many values are kept.
+    pub fn len(&self) -> usize
+        ensures len { result ≡ length self.now.kept }
+        ensures most { result ≤ 64 }
+    {
+        self.values.len()
+    }
+}
+
+/// The look-ahead of a bracket above all lower seats: one for an ordinary bracket, and none for another kind.
+#[tactic(auto, using(crate::proofs::NextGroups::is_next))]
+pub(crate) fn look_below<'a>(
+    alloc: Global,
+    field: &'a Field,
+    reached: &'a Reached,
+    lower: &[u16],
+) -> Result<Option<LookAhead<'a>>, PairFault>
+    requires { IsAbove field.now reached.now lower.now }
+    ensures { IfOk result (LooksBelow field.now reached.now lower.now) }
+{
+    match reached.kind() {
+        Kind::Ordinary => {
+            let next = split_first_group(field, lower).0;
+            Ok(Some(LookAhead::new(alloc, field, reached, next)?))
+        }
+        _ => Ok(None),
+    }
+}
+
+/// The quality of a candidate above all lower seats, by the look-ahead of its bracket; `None` where the budget's limit was reached
+/// first.
+#[tactic(auto, using(crate::proofs::NextGroups::is_next, crate::proofs::NextGroups::quality_at))]
+pub(crate) fn quality_by(
+    field: &Field,
+    reached: &Reached,
+    lower: &[u16],
+    candidate: &Candidate,
+    look: &mut Option<LookAhead<'_>>,
+    budget: &mut Budget,
+) -> Option<Quality>
+    requires above { IsAbove field.now reached.now lower.now }
+    requires candidate { IsDraw field.now reached.now candidate.now }
+    requires look { LooksBelow field.now reached.now lower.now look.old }
+    requires within { budget.old.used ≤ budget.old.limit }
+    ensures answer { MatchOption result (budget.new.used ≡ budget.new.limit)
+        (λ found. quality_in found ≡ quality_of field.now reached.now lower.now candidate.now.lists) }
+    ensures look { LooksBelow field.now reached.now lower.now look.new }
+    ensures limit { budget.new.limit ≡ budget.old.limit }
+    ensures rises { budget.old.used ≤ budget.new.used }
+    ensures within { budget.new.used ≤ budget.new.limit }
+{
+    match look {
+        Some(look) => look.quality(candidate, budget),
+        None => quality(
+            field,
+            reached,
+            candidate,
+            split_first_group(field, lower).0,
+            budget,
+        ),
+    }
+}
