@@ -30,7 +30,7 @@ use Rattle.dutch_pair.proofs.C04Ghosts.{both_true, and_true, IsOneOf, append_low
 use Rattle.dutch_pair.proofs.AllLemmas.{all_filter}
 use Rattle.dutch_pair.proofs.ArrangementParts.{parts_of, numbers_within}
 use Rattle.dutch_pair.proofs.DownLemmas.{down_numbers}
-use Rattle.dutch_pair.proofs.NextBrackets.{next_of, next_flat}
+use Rattle.dutch_pair.proofs.NextBrackets.{left_by_draw, next_of, next_flat}
 use Rattle.dutch_pair.proofs.LeastPsd.{in_filter}
 use Rattle.dutch_pair.proofs.PsdParts.{down_parts}
 use Rattle.dutch_order.proofs.Lists.{map-numbers_from}
@@ -252,7 +252,7 @@ module _ (facts : Facts) (stand : Stand) (of' : IsOf facts stand) (flat : IsFlat
       ∙ found in
       let at_next : score_at facts (seat_of (floats ++ next) (length floats + 1)) ≡ score_at facts (slice_index next 0) =
       ap (score_at facts) (append_high floats next ((length floats + 1) - 1) (omega arith) ∙ ap (λ k. get_or next k 0) (let e : ((length floats + 1) - 1) - length floats ≡ 0 = omega arith in e)) in
-      let value = no_value_is_better_than_by_a_weaker_rule facts stand' (next_of facts stand draw next of' drawn below) (next_flat facts stand draw next of' drawn below ordinary) refl
+      let value = no_value_is_better_than_by_a_weaker_rule facts stand' (next_of facts stand draw.down next of' (left_by_draw facts stand draw drawn) below) (next_flat facts stand draw.down next of' (left_by_draw facts stand draw drawn) below ordinary) refl
       (ghosts_meet facts stand.seats (length floats) next) (ghost_may_be_left facts stand.seats (length floats) next) meet_for left_for most most_here in
       subst (λ (floor : List ℕ). IsNotBetter (value_of facts stand') most.pairs floor)
       (ap (λ s. floor_psd facts stand' s most.pairs) at_next

@@ -1,13 +1,12 @@
 -- What the next bracket can be at best, whatever arrangement is chosen (C.04.3 C.7): no more pairs than half of its players are, and no
 -- better value than ghosts find, where the arrangement leaves the Limbo that they stand for.
-use Rattle.std.proofs.Common.{◌≡◌, ◌≢◌, ℕ, ◌+◌, ◌-◌, ◌*◌, ◌/◌, ◌<◌, ◌≤◌, Bool, true, false, ◌&&◌, ◌||◌, ◌==◌, nat_lt, List, [], ◌++◌, map, length, Option, Some, None, refl, sym, ap, subst, ◌∙◌, ◌⊎◌, inl, inr, arith}
+use Rattle.std.proofs.Common.{◌≡◌, ℕ, ◌+◌, ◌-◌, ◌*◌, ◌/◌, ◌<◌, ◌≤◌, Bool, true, false, ◌||◌, ◌==◌, nat_lt, List, [], ◌++◌, length, Option, Some, None, refl, sym, ap, subst, ◌∙◌, ◌⊎◌, inl, inr, arith}
 use Rattle.std.proofs.lemmas.Bool.{and_parts, eqb-true, ltb-true}
 use Rattle.std.proofs.lemmas.List.{length-map, length-append}
 use Rattle.dutch_order.specs.declared.bracket.Shape.{Shape}
 use Rattle.dutch_order.specs.declared.prefix.Filling.{Filling}
 use Rattle.dutch_order.specs.declared.prefix.Filling.TheVariants.{S1, S2, S2r}
 use Rattle.dutch_order.specs.Arrangements.{Arrangement, Fits, arrangements, down}
-use Rattle.dutch_order.specs.Choices.{is_same}
 use Rattle.dutch_order.specs.Keys.{IsIn}
 use Rattle.dutch_order.specs.Prefixes.{BeginsAt}
 use Rattle.dutch_player.specs.Facts.{Facts}
@@ -17,8 +16,8 @@ use Rattle.dutch_pair.specs.declared.reached.Kind.TheVariants.{Ordinary, Last, P
 use Rattle.dutch_pair.specs.FloorOf.{has_s1, is_flat, is_uniform, lists_by, residents_score}
 use Rattle.dutch_pair.specs.Ghosts.{IsNotBetter, pairs_by_counts}
 use Rattle.dutch_pair.specs.GhostValues.{first_limbo, ghost_value}
-use Rattle.dutch_pair.specs.NextBracket.{IsFlat, is_lower, next_stand, no_value, value_in, value_of}
-use Rattle.dutch_pair.specs.Outlooks.{HasNoBetter, IsOutlook, awaited, known_by, leaves_first, leaves_first_by, limbo_scores}
+use Rattle.dutch_pair.specs.NextBracket.{IsFlat, is_lower, next_stand, no_value, value_in}
+use Rattle.dutch_pair.specs.Outlooks.{HasNoBetter, IsOutlook, awaited, known_by, leaves_first_by, limbo_scores}
 use Rattle.dutch_pair.specs.Quality.{NextValue}
 use Rattle.dutch_pair.specs.Reached.{IsAbove, IsOf, Stand, frame_of}
 use Rattle.dutch_pair.specs.Round.{downfloaters, first_group, is_ordinary, quality_of, scoregroups}
@@ -132,11 +131,13 @@ module _ (facts : Facts) (stand : Stand) (lower : List ℕ) (shape : Shape) wher
   by_ghosts outlook next value e above fits ordinary flat by first any = record {
     any = λ a m. counts_hold a outlook.any above.bracket fits ordinary (any ∙ ap (λ xs. record { pairs = pairs_by_counts stand shape xs; psd = [] }) e) m;
     first = λ found some.
-        let same : found ≡ ghost_value facts stand shape group = (let one : Some value ≡ Some found = sym first ∙ some in let v : found ≡ value = cc in v) ∙ by ∙ ap (ghost_value facts stand shape) e in
-        (flat, λ a m limbo.
-        subst (HasNoBetter (quality_of facts stand lower a)) (sym same)
-        (from_value a (ghost_value facts stand shape group) true ordinary
-        (no_value_is_better_than_by_ghosts facts stand above.bracket flat shape a m (ordinary_of stand.kind ordinary) group (first_is_next facts stand lower above) limbo)));
+        let same : found ≡ ghost_value facts stand shape group = (let one : Some value ≡ Some found = sym first ∙ some in let v : found ≡ value = cc in v) ∙ by ∙ ap (ghost_value facts stand shape) e in (
+          flat,
+          λ a m limbo.
+              subst (HasNoBetter (quality_of facts stand lower a)) (sym same)
+              (from_value a (ghost_value facts stand shape group) true ordinary
+              (no_value_is_better_than_by_ghosts facts stand above.bracket flat shape a m (ordinary_of stand.kind ordinary) group (first_is_next facts stand lower above) limbo)),
+        );
   }
 
   -- an arrangement leaves the first Limbo where its beginning tells so

@@ -1,8 +1,7 @@
 -- The floor of a beginning is beaten by no candidate that begins so (C.04.3 C.6 to C.19): what S1 tells of the PSD, or else the pairs
 -- that are fixed; the best that the next bracket can be; the items of the fixed pairs, and how many more must miss their colours.
-use Rattle.std.proofs.Common.{◌≡◌, ◌≢◌, ℕ, ◌+◌, ◌-◌, ◌<◌, ◌≤◌, Bool, true, false, ◌&&◌, ◌||◌, ◌==◌, nat_lt, if◌then◌else◌, List, [], ◌++◌, map, length, refl, sym, ap, subst, ◌∙◌, ◌⊎◌, inl, inr, cond, append-nil, arith}
-use Rattle.std.specs.Prelude.{max, sum_by}
-use Rattle.std.proofs.lemmas.Bool.{and_parts, eqb-true, ltb-true}
+use Rattle.std.proofs.Common.{◌≡◌, ℕ, ◌+◌, ◌-◌, ◌≤◌, Bool, true, false, ◌||◌, List, [], ◌++◌, map, length, refl, sym, ap, subst, ◌∙◌, inl, inr, cond, append-nil, arith}
+use Rattle.std.proofs.lemmas.Bool.{and_parts}
 use Rattle.dutch_order.specs.declared.bracket.Shape.{Shape}
 use Rattle.dutch_order.specs.declared.prefix.Filling.{Filling}
 use Rattle.dutch_order.specs.declared.prefix.Filling.TheVariants.{S1, S2, S2r}
@@ -11,13 +10,13 @@ use Rattle.dutch_order.specs.Choices.{numbers_from}
 use Rattle.dutch_order.specs.Keys.{IsIn}
 use Rattle.dutch_order.specs.Prefixes.{Begins, BeginsAt, Beginning, GoesOn}
 use Rattle.dutch_player.specs.Facts.{Facts}
-use Rattle.dutch_pair.specs.declared.colours_missed.Miss.TheVariants.{Wide, Third, Preference, StrongPreference}
+use Rattle.dutch_pair.specs.declared.colours_missed.Miss.TheVariants.{Preference}
 use Rattle.dutch_pair.specs.Beginnings.{HasPairsOf, LacksEndOfS2r, fixed}
 use Rattle.dutch_pair.specs.ColourFloors.{more_missed_strong, residents_down}
-use Rattle.dutch_pair.specs.FloorOf.{Basis, IsBasis, fixed_lists, floor_by, floor_of, has_s1, is_flat, is_known, is_of_shape, is_uniform, lists_by, more_by, psd_by, residents_score, s1_by}
+use Rattle.dutch_pair.specs.FloorOf.{Basis, IsBasis, fixed_lists, floor_of, has_s1, is_flat, is_known, is_of_shape, is_uniform, lists_by, more_by, psd_by, residents_score, s1_by}
 use Rattle.dutch_pair.specs.Outlooks.{IsOutlook, awaited}
 use Rattle.dutch_pair.specs.NextBracket.{IsFlat, is_lower}
-use Rattle.dutch_pair.specs.PsdFloors.{IsUniform, psd_with, repeated}
+use Rattle.dutch_pair.specs.PsdFloors.{psd_with, repeated}
 use Rattle.dutch_pair.specs.Quality.{Quality, count_in_pairs, highest_first, is_better, misses, psd}
 use Rattle.std.specs.Prelude.{Option, Some, None, MatchOption}
 use Rattle.dutch_pair.specs.declared.quality.Quality.{Quality as Fields}

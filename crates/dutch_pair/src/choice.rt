@@ -11,17 +11,17 @@ ghost use Rattle.dutch_pair.specs.Eligible.{HasCandidate};
 ghost use Rattle.dutch_pair.specs.Kept.{kept_draw, IsKept, chosen_in};
 ghost use Rattle.dutch_pair.specs.Aims.{aim_in, chosen_near, chosen_yet, is_idle};
 ghost use Rattle.dutch_pair.specs.Outcomes.{IsChoice};
+ghost use Rattle.dutch_pair.specs.Remembered.{LooksBelow};
 
 use crate::completion::Answer;
 use crate::eligible::can_be_chosen;
 use crate::fault::PairFault;
 use crate::floor::Floors;
-use crate::group::split_first_group;
-use crate::lookahead::quality;
 use crate::outlook::Outlook;
 use crate::pair_facts::PairFacts;
 use crate::quality::Quality;
 use crate::reached::Reached;
+use crate::remembered::{LookAhead, look_below, remembered_quality};
 use crate::shape::shape_of;
 use crate::skipper::{Pass, Skipper};
 use dutch_order::bracket::Shape;
@@ -47,33 +47,6 @@ pub(crate) struct Best {
     quality: Quality,
 }
 
-/// The quality of a candidate above all lower seats; `None` where the budget's limit was reached first.
-#[tactic(auto, using(crate::proofs::NextGroups::is_next, crate::proofs::NextGroups::quality_at))]
-fn quality_of(
-    field: &Field,
-    reached: &Reached,
-    lower: &[u16],
-    candidate: &Candidate,
-    budget: &mut Budget,
-) -> Option<Quality>
-    requires above { IsAbove field.now reached.now lower.now }
-    requires candidate { IsDraw field.now reached.now candidate.now }
-    requires within { budget.old.used ≤ budget.old.limit }
-    ensures answer { MatchOption result (budget.new.used ≡ budget.new.limit)
-        (λ found. quality_in found ≡ quality_of field.now reached.now lower.now candidate.now.lists) }
-    ensures limit { budget.new.limit ≡ budget.old.limit }
-    ensures rises { budget.old.used ≤ budget.new.used }
-    ensures within { budget.new.used ≤ budget.new.limit }
-{
-    quality(
-        field,
-        reached,
-        candidate,
-        split_first_group(field, lower).0,
-        budget,
-    )
-}
-
 /// Whether a quality is of no interest: the aim is better, or it is not better than that of the candidate that is kept.
 pub(crate) fn is_idle(quality: &Quality, aim: &Option<Quality>, kept: &Option<Best>) -> bool
     ensures { result ≡ is_idle (aim_in aim.now) kept.now (quality_in quality.now) }
@@ -95,21 +68,31 @@ fn consider(
     pass: &Pass<'_>,
     candidate: Candidate,
     kept: &mut Option<Best>,
+    look: &mut Option<LookAhead<'_>>,
     budget: &mut Budget,
 ) -> bool
     requires candidate { IsDraw pass.now.field.now pass.now.reached.now candidate }
     requires kept { IsKept pass.now.field.now pass.now.reached.now pass.now.lower.now kept.old }
+    requires look { LooksBelow pass.now.field.now pass.now.reached.now pass.now.lower.now look.old }
     requires within { budget.old.used ≤ budget.old.limit }
     ensures same { result ≡ true → (coming : List Arrangement)
         → chosen_yet pass.now.field.now pass.now.reached.now pass.now.lower.now (aim_in pass.now.aim) kept.new coming
         ≡ chosen_yet pass.now.field.now pass.now.reached.now pass.now.lower.now (aim_in pass.now.aim) kept.old (candidate.lists ∷ coming) }
     ensures stopped { result ≡ false → budget.new.used ≡ budget.new.limit }
     ensures kept { IsKept pass.now.field.now pass.now.reached.now pass.now.lower.now kept.new }
+    ensures look { LooksBelow pass.now.field.now pass.now.reached.now pass.now.lower.now look.new }
     ensures limit { budget.new.limit ≡ budget.old.limit }
     ensures rises { budget.old.used ≤ budget.new.used }
     ensures within { budget.new.used ≤ budget.new.limit }
 {
-    let Some(quality) = quality_of(pass.field, pass.reached, pass.lower, &candidate, budget) else {
+    let Some(quality) = remembered_quality(
+        pass.field,
+        pass.reached,
+        pass.lower,
+        &candidate,
+        look,
+        budget,
+    ) else {
         return false;
     };
     if is_idle(&quality, &pass.aim, kept) {
@@ -137,13 +120,19 @@ fn handed_out(kept: Option<Best>) -> Step<Candidate>
 
 /// Of the candidates that a pass seeks, and that can be chosen, the first that none is better than. `End` is answered where there is
 /// none.
-fn best_near<'a>(pass: &'a Pass<'a>, budget: &mut Budget) -> Step<Candidate>
-    requires { budget.old.used ≤ budget.old.limit }
+fn best_near<'a>(
+    pass: &'a Pass<'a>,
+    look: &mut Option<LookAhead<'_>>,
+    budget: &mut Budget,
+) -> Step<Candidate>
+    requires look { LooksBelow pass.now.field.now pass.now.reached.now pass.now.lower.now look.old }
+    requires within { budget.old.used ≤ budget.old.limit }
     ensures answer { MatchStep result
         (λ c. (chosen_near pass.now.field.now pass.now.reached.now pass.now.lower.now (aim_in pass.now.aim) pass.now.shape ≡ Some c.lists)
         × (c.down ≡ down (frame_of pass.now.field.now pass.now.reached.now) c.lists))
         (chosen_near pass.now.field.now pass.now.reached.now pass.now.lower.now (aim_in pass.now.aim) pass.now.shape ≡ None)
         (budget.new.used ≡ budget.new.limit) }
+    ensures look { LooksBelow pass.now.field.now pass.now.reached.now pass.now.lower.now look.new }
     ensures limit { budget.new.limit ≡ budget.old.limit }
     ensures rises { budget.old.used ≤ budget.new.used }
     ensures within { budget.new.used ≤ budget.new.limit }
@@ -156,7 +145,7 @@ fn best_near<'a>(pass: &'a Pass<'a>, budget: &mut Budget) -> Step<Candidate>
         let skipper = Skipper { pass, kept: &kept };
         match candidates.next_within(&skipper, budget) {
             Step::Found(candidate) => {
-                if !consider(pass, candidate, &mut kept, budget) {
+                if !consider(pass, candidate, &mut kept, look, budget) {
                     return Step::Undecided;
                 }
             }
@@ -169,13 +158,19 @@ fn best_near<'a>(pass: &'a Pass<'a>, budget: &mut Budget) -> Step<Candidate>
 /// What a pass with an aim chooses: the choice of all. `End` is answered where there is no aim, or where the pass finds none that can be
 /// chosen, which says nothing of the choice.
 #[tactic(auto, using(crate::proofs::AimLemmas::a_pass_serves))]
-fn best_by_aim<'a>(pass: &'a Pass<'a>, budget: &mut Budget) -> Step<Candidate>
-    requires { budget.old.used ≤ budget.old.limit }
+fn best_by_aim<'a>(
+    pass: &'a Pass<'a>,
+    look: &mut Option<LookAhead<'_>>,
+    budget: &mut Budget,
+) -> Step<Candidate>
+    requires look { LooksBelow pass.now.field.now pass.now.reached.now pass.now.lower.now look.old }
+    requires within { budget.old.used ≤ budget.old.limit }
     ensures answer { MatchStep result
         (λ c. (chosen_in pass.now.field.now pass.now.reached.now pass.now.lower.now pass.now.shape ≡ Some c.lists)
         × (c.down ≡ down (frame_of pass.now.field.now pass.now.reached.now) c.lists))
         (Unit {0})
         (budget.new.used ≡ budget.new.limit) }
+    ensures look { LooksBelow pass.now.field.now pass.now.reached.now pass.now.lower.now look.new }
     ensures limit { budget.new.limit ≡ budget.old.limit }
     ensures rises { budget.old.used ≤ budget.new.used }
     ensures within { budget.new.used ≤ budget.new.limit }
@@ -183,7 +178,7 @@ fn best_by_aim<'a>(pass: &'a Pass<'a>, budget: &mut Budget) -> Step<Candidate>
     if pass.aim.is_none() {
         return Step::End;
     }
-    best_near(pass, budget)
+    best_near(pass, look, budget)
 }
 
 /// Of the candidates of a shape that can be chosen the first that none is better than: what a pass with an aim ends with, or else one
@@ -194,9 +189,11 @@ fn best_of<'a>(
     reached: &'a Reached,
     lower: &'a [u16],
     shape: Shape,
+    look: &mut Option<LookAhead<'_>>,
     budget: &mut Budget,
 ) -> Step<Candidate>
     requires above { IsAbove field.now reached.now lower.now }
+    requires look { LooksBelow field.now reached.now lower.now look.old }
     requires fits { Fits (frame_of field.now reached.now) shape }
     requires within { budget.old.used ≤ budget.old.limit }
     ensures answer { MatchStep result
@@ -222,20 +219,20 @@ fn best_of<'a>(
         aim: floors.aim(),
         floors,
     };
-    match best_by_aim(&pass, budget) {
+    match best_by_aim(&pass, look, budget) {
         Step::Found(candidate) => return Step::Found(candidate),
         Step::Undecided => return Step::Undecided,
         Step::End => {}
     }
     pass.aim = None;
-    best_near(&pass, budget)
+    best_near(&pass, look, budget)
 }
 
 /// The choice in a bracket of a field that has a candidate, above all lower seats by rank. In the penultimate bracket only those candidates count that
 /// leave over players who can be paired out with all lower ones (C.4).
 #[tactic(auto, using(crate::proofs::BestLemmas::choice_is, crate::proofs::BestLemmas::shape_has_chosen))]
 pub fn choose(
-    _alloc: Global,
+    alloc: Global,
     field: &Field,
     reached: &Reached,
     lower: &[u16],
@@ -254,7 +251,8 @@ pub fn choose(
         Step::End => unreachable!(),
         Step::Undecided => return Ok(Choice::Undecided),
     };
-    match best_of(field, reached, lower, shape, budget) {
+    let mut look = look_below(alloc, field, reached, lower)?;
+    match best_of(field, reached, lower, shape, &mut look, budget) {
         Step::Found(candidate) => Ok(Choice::Chosen { shape, candidate }),
         Step::End => unreachable!(),
         Step::Undecided => Ok(Choice::Undecided),

@@ -230,7 +230,7 @@ pub(crate) fn look_below<'a>(
 /// The quality of a candidate above all lower seats, by the look-ahead of its bracket; `None` where the budget's limit was reached
 /// first.
 #[tactic(auto, using(crate::proofs::NextGroups::is_next, crate::proofs::NextGroups::quality_at))]
-pub(crate) fn quality_by(
+pub(crate) fn remembered_quality(
     field: &Field,
     reached: &Reached,
     lower: &[u16],

@@ -32,7 +32,8 @@ loop-candidate-init c =
       reached = ap (λ (rule : ByNumber). rule.reached.now) c.new-candidates.ensures.rule ∙ c.rule-rule.ensures.reached;
       limit = refl;
       rises = omega arith;
-      within = c.requires;
+      look = c.requires.look;
+      within = c.requires.within;
     }
 
 pub consider-requires-clause-candidate : goal.consider-requires-clause-candidate
@@ -73,6 +74,7 @@ loop-candidate-preserved c =
       reached = ap (λ (rule : ByNumber). rule.reached.now) c.in-Found.ensures.rule ∙ c.loop-candidate.invariant.reached;
       limit = c.if-not-consider.ensures.limit ∙ c.in-Found.ensures.limit ∙ c.loop-candidate.invariant.limit;
       rises = omega (arith, c.if-not-consider.ensures.rises, c.in-Found.ensures.rises, c.loop-candidate.invariant.rises);
+      look = c.if-not-consider.ensures.look;
       within = c.if-not-consider.ensures.within;
     }
 

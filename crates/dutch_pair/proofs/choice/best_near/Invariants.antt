@@ -6,6 +6,7 @@ use Rattle.dutch_pair.specs.Reached.{frame_of}
 use Rattle.dutch_pair.specs.Round.{candidates_of}
 use Rattle.dutch_pair.specs.Kept.{IsKept}
 use Rattle.dutch_pair.specs.Aims.{aim_in, chosen_near, chosen_yet}
+use Rattle.dutch_pair.specs.Remembered.{LooksBelow}
 use Rattle.dutch_pair.proofs.choice.best_near.Given as goal
 
 abbrev pub decreases-loop-candidate : goal.decreases-loop-candidate
@@ -21,6 +22,7 @@ invariant-loop-candidate l = record {
   shape : l.candidates.shape ≡ l.pass.shape;
   field : l.candidates.rule.field.now ≡ l.pass.field.now;
   reached : l.candidates.rule.reached.now ≡ l.pass.reached.now;
+  look : LooksBelow l.pass.field.now l.pass.reached.now l.pass.lower.now l.look;
   limit : l.budget.limit ≡ l.initial.budget.limit;
   rises : l.initial.budget.used ≤ l.budget.used;
   within : l.budget.used ≤ l.budget.limit;
