@@ -15,6 +15,7 @@ ghost use Rattle.dutch_pair.specs.Everybody.{NameEverybodyOnce};
 ghost use Rattle.dutch_order.specs.Arrangements.{Fits, Frame, down};
 ghost use Rattle.dutch_order.specs.Keys.{IsIn};
 ghost use Rattle.dutch_order.specs.declared.bracket.Shape.{Shape};
+ghost use Rattle.dutch_pair.specs.Eligible.{HasCandidate};
 ghost use Rattle.dutch_pair.specs.Lower.{lower_of};
 ghost use Rattle.dutch_pair.specs.NextBracket.{IsDraw, IsNext};
 ghost use Rattle.dutch_pair.specs.Outcomes.{visit_of};
@@ -106,6 +107,7 @@ pub fn a_bracket_stands_above_the_lower(field: &Field, number: u16, reached: &Re
     requires { visit_of number (round field.now).reached ≡ Some (record { bracket = reached.now; shape = shape }) }
     ensures above { IsAbove field.now reached.now (lower_of field.now reached.now) }
     ensures shape { shape_of field.now reached.now (lower_of field.now reached.now) ≡ Some shape }
+    ensures candidate { HasCandidate field.now reached.now (lower_of field.now reached.now) }
 {
     scores_do_not_ascend(field);
 }

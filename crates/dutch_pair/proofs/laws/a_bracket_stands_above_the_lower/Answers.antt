@@ -1,4 +1,6 @@
 -- The law is the lemma on the brackets of a round, in a field whose scores do not ascend.
+use Rattle.dutch_pair.specs.Lower.{lower_of}
+use Rattle.dutch_pair.proofs.ShapeLaws.{has_one, has_room}
 use Rattle.dutch_pair.proofs.StandsAbove.{bracket_stands}
 use Rattle.dutch_pair.proofs.laws.a_bracket_stands_above_the_lower.Goals as goal
 
@@ -7,7 +9,13 @@ returns c =
     let stands =
     bracket_stands c.args.field.now (record { falls = c.scores_do_not_ascend.ensures.scores; few = c.scores_do_not_ascend.ensures.few }) c.args.number
     (record { bracket = c.args.reached.now; shape = c.args.shape }) c.requires in
+    let lower = lower_of c.args.field.now c.args.reached.now in
     record {
       above = stands.0;
       shape = stands.1;
+      candidate = record {
+        shape = c.args.shape;
+        room = has_room c.args.field.now c.args.reached.now lower c.args.shape stands.1;
+        candidate = has_one c.args.field.now c.args.reached.now lower c.args.shape stands.1;
+      };
     }
