@@ -157,3 +157,61 @@ fn brackets_of_a_pair_given_up(rt: HostRuntime) -> Result<(), Fail> {
     }
     Ok(())
 }
+
+// Four who have all met.
+const ALL_HAVE_MET: [Line<'static>; 4] = [
+    ("001    1", "   3 w =     2 b =     4 w ="),
+    ("001    2", "   4 b =     1 w =     3 w ="),
+    ("001    3", "   1 b =     4 w =     2 b ="),
+    ("001    4", "   2 w =     3 b =     1 b ="),
+];
+
+// Two who have won twice, two who have one win, and two who have lost twice.
+const SIX: [Line<'static>; 6] = [
+    ("001    1", "   3 w 1     5 w 1"),
+    ("001    2", "   4 w 1     6 w 1"),
+    ("001    3", "   1 b 0     4 w ="),
+    ("001    4", "   2 b 0     3 b ="),
+    ("001    5", "   6 w =     1 b 0"),
+    ("001    6", "   5 b =     2 b 0"),
+];
+
+// Whether the round of a field has a pairing.
+fn is_paired(alloc: Global, field: &Field) -> Result<bool, Fail> {
+    match pair_round(alloc, field, 100_000)? {
+        Outcome::Paired(_) => Ok(true),
+        Outcome::NoPairing => Ok(false),
+        Outcome::Undecided { .. } => Err(Fail::new("undecided")),
+    }
+}
+
+// There is no pairing exactly where the players cannot be paired out.
+#[test]
+fn no_pairing_is_told_where_none_is_complete(rt: HostRuntime) -> Result<(), Fail> {
+    let alloc = rt.alloc();
+    let table = [
+        (&FOUR, 5, true),
+        (&PAIR_GIVEN_UP, 3, true),
+        (&ALL_HAVE_MET, 4, false),
+    ];
+    for (lines, total, paired) in table {
+        let field = field_of(alloc, lines, Some(total), None)?;
+        let mut budget = Budget {
+            limit: 1000,
+            used: 0,
+        };
+        let answer = completes(&[0, 1, 2, 3], &seats(&field), &mut budget);
+        let wanted = if paired { Answer::Yes } else { Answer::No };
+        assert_eq!(rt; answer, wanted);
+        assert_eq!(rt; is_paired(alloc, &field)?, paired);
+    }
+    let field = field_of(alloc, &SIX, Some(3), None)?;
+    let mut budget = Budget {
+        limit: 1000,
+        used: 0,
+    };
+    let answer = completes(&[0, 1, 2, 3, 4, 5], &seats(&field), &mut budget);
+    assert_eq!(rt; answer, Answer::Yes);
+    assert!(rt; is_paired(alloc, &field)?);
+    Ok(())
+}

@@ -20,6 +20,16 @@ fn first_round_pairs_the_upper_half_with_the_lower(rt: HostRuntime) -> Result<()
     Ok(())
 }
 
+// A walk over all candidates would look at 332,640 of them.
+#[test]
+fn eleven_newcomers_are_decided(rt: HostRuntime) -> Result<(), AllocError> {
+    let alloc = rt.alloc();
+    let players = newcomers(alloc, 11)?;
+    let ended = run_over(alloc, "pair --rounds 5 --steps 300000", &players)?;
+    assert!(rt; has_printed(&ended, "6\n1 6\n7 2\n3 8\n9 4\n5 10\n11 0\n"));
+    Ok(())
+}
+
 #[test]
 fn nobody_present_makes_no_board(rt: HostRuntime) -> Result<(), AllocError> {
     let alloc = rt.alloc();
