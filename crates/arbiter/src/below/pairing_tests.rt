@@ -176,6 +176,48 @@ const SIX: [Line<'static>; 6] = [
     ("001    6", "   5 b =     2 b 0"),
 ];
 
+// Five who come anew.
+const NEWCOMERS: [Line<'static>; 5] = [
+    ("001    1", ""),
+    ("001    2", ""),
+    ("001    3", ""),
+    ("001    4", ""),
+    ("001    5", ""),
+];
+
+// One has won, and moves down.
+const ONE_HAS_WON: [Line<'static>; 4] = [
+    ("001    1", "   3 w 1"),
+    ("001    2", "   4 b ="),
+    ("001    3", "   1 b 0"),
+    ("001    4", "   2 w ="),
+];
+
+// Two who have met, and two who had half a point.
+const TWO_HALF_BYES: [Line<'static>; 4] = [
+    ("001    1", "   3 w ="),
+    ("001    2", "0000 - H"),
+    ("001    3", "   1 b ="),
+    ("001    4", "0000 - H"),
+];
+
+// Three of six are absent, and one of the others has won by forfeit.
+const THREE_ARE_ABSENT: [Line<'static>; 7] = [
+    ("XXZ 4 5 6", ""),
+    ("001    1", "   5 w 1"),
+    ("001    2", "   6 b 1"),
+    ("001    3", "   4 w +"),
+    ("001    4", "   3 b -"),
+    ("001    5", "   1 b 0"),
+    ("001    6", "   2 w 0"),
+];
+
+// Steps enough for each of them.
+const ENOUGH: Budget = Budget {
+    limit: 1000,
+    used: 0,
+};
+
 // Whether the round of a field has a pairing.
 fn is_paired(alloc: Global, field: &Field) -> Result<bool, Fail> {
     match pair_round(alloc, field, 100_000)? {
@@ -193,25 +235,40 @@ fn no_pairing_is_told_where_none_is_complete(rt: HostRuntime) -> Result<(), Fail
         (&FOUR, 5, true),
         (&PAIR_GIVEN_UP, 3, true),
         (&ALL_HAVE_MET, 4, false),
+        (&ONE_HAS_WON, 5, true),
+        (&TWO_HALF_BYES, 5, true),
     ];
     for (lines, total, paired) in table {
         let field = field_of(alloc, lines, Some(total), None)?;
-        let mut budget = Budget {
-            limit: 1000,
-            used: 0,
-        };
+        let mut budget = ENOUGH;
         let answer = completes(&[0, 1, 2, 3], &seats(&field), &mut budget);
         let wanted = if paired { Answer::Yes } else { Answer::No };
         assert_eq!(rt; answer, wanted);
         assert_eq!(rt; is_paired(alloc, &field)?, paired);
     }
-    let field = field_of(alloc, &SIX, Some(3), None)?;
-    let mut budget = Budget {
-        limit: 1000,
-        used: 0,
-    };
-    let answer = completes(&[0, 1, 2, 3, 4, 5], &seats(&field), &mut budget);
+    Ok(())
+}
+
+// The same of three, five and six players who are present.
+#[test]
+fn all_are_paired_where_a_pairing_is_complete(rt: HostRuntime) -> Result<(), Fail> {
+    let alloc = rt.alloc();
+    let five = field_of(alloc, &NEWCOMERS, Some(5), None)?;
+    let mut budget = ENOUGH;
+    let answer = completes(&[0, 1, 2, 3, 4], &seats(&five), &mut budget);
     assert_eq!(rt; answer, Answer::Yes);
-    assert!(rt; is_paired(alloc, &field)?);
+    assert!(rt; is_paired(alloc, &five)?);
+    let three = field_of(alloc, &THREE_ARE_ABSENT, Some(5), None)?;
+    let mut budget = ENOUGH;
+    let answer = completes(&[0, 1, 2], &seats(&three), &mut budget);
+    assert_eq!(rt; answer, Answer::Yes);
+    assert!(rt; is_paired(alloc, &three)?);
+    for total in [3, 4] {
+        let six = field_of(alloc, &SIX, Some(total), None)?;
+        let mut budget = ENOUGH;
+        let answer = completes(&[0, 1, 2, 3, 4, 5], &seats(&six), &mut budget);
+        assert_eq!(rt; answer, Answer::Yes);
+        assert!(rt; is_paired(alloc, &six)?);
+    }
     Ok(())
 }
