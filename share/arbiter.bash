@@ -1,0 +1,23 @@
+# Completions of arbiter for bash.
+_arbiter() {
+    local word=${COMP_WORDS[COMP_CWORD]} before=${COMP_WORDS[COMP_CWORD - 1]} words= front=
+    COMPREPLY=()
+    case $before in
+        '<' | '>' | '>>') compopt -o default; return ;;
+        --rounds | --steps | --bracket | --from | --count) return ;;
+        --initial) words="white black" ;;
+        --by) words="direct buchholz sb" front=${word%"${word##*,}"} ;;
+        *)
+            case ${COMP_CWORD},${COMP_WORDS[1]} in
+                1,*) words="check format pair candidates standings --help --version" ;;
+                *,check) words="--help" ;;
+                *,format) words="--help" ;;
+                *,pair) words="--rounds --initial --steps --report --help" ;;
+                *,candidates) words="--bracket --from --count --rounds --initial --steps --help" ;;
+                *,standings) words="--by --help" ;;
+            esac
+            ;;
+    esac
+    mapfile -t COMPREPLY < <(compgen -P "$front" -W "$words" -- "${word#"$front"}")
+}
+complete -F _arbiter arbiter

@@ -1,0 +1,17 @@
+# Completions of arbiter for fish.
+complete -c arbiter -f
+complete -c arbiter -n __fish_use_subcommand -a check -d 'Tell how many players and rounds the report has'
+complete -c arbiter -n __fish_use_subcommand -a format -d 'Write the report in canonical columns'
+complete -c arbiter -n __fish_use_subcommand -a pair -d 'Pair the next round'
+complete -c arbiter -n __fish_use_subcommand -a candidates -d 'List the legal candidates of a bracket'
+complete -c arbiter -n __fish_use_subcommand -a standings -d 'Rank the players'
+complete -c arbiter -l help -s h -d 'Print help'
+complete -c arbiter -n __fish_use_subcommand -l version -s V -d 'Print the version'
+complete -c arbiter -n '__fish_seen_subcommand_from pair candidates' -l rounds -x -d 'Rounds of the whole tournament'
+complete -c arbiter -n '__fish_seen_subcommand_from pair candidates' -l initial -x -a 'white black' -d 'The initial colour'
+complete -c arbiter -n '__fish_seen_subcommand_from pair candidates' -l steps -x -d 'Steps that a bracket may take'
+complete -c arbiter -n '__fish_seen_subcommand_from pair' -l report -d 'Print the report with the new round'
+complete -c arbiter -n '__fish_seen_subcommand_from candidates' -l bracket -x -d 'The number of the bracket'
+complete -c arbiter -n '__fish_seen_subcommand_from candidates' -l from -x -d 'Begin behind this cursor'
+complete -c arbiter -n '__fish_seen_subcommand_from candidates' -l count -x -d 'How many candidates to print at most'
+complete -c arbiter -n '__fish_seen_subcommand_from standings' -l by -x -a 'direct,buchholz,sb direct buchholz sb' -d 'What tells players of one score apart'
