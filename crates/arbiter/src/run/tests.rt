@@ -228,7 +228,10 @@ fn help_and_version_are_printed(rt: HostRuntime) {
     let table = [
         (["--help"].as_slice(), "Usage: arbiter <COMMAND>"),
         (["check", "--help"].as_slice(), "Usage: arbiter check"),
-        (["--version"].as_slice(), "arbiter 1.1 (FIDE C.04.3, 2017; TRF16)\n"),
+        (
+            ["--version"].as_slice(),
+            "arbiter 1.1 (FIDE C.04.3, 2017; TRF16)\n",
+        ),
     ];
     for (words, part) in table {
         let ended = run_on(rt.alloc(), words, Breaking(Dripping(b"")), 1000, 0);
