@@ -22,7 +22,7 @@ use Rattle.dutch_pair.specs.Ghosts.{IsNotBetter, ghosts_meet, ghost_may_be_left,
 use Rattle.dutch_pair.specs.GhostValues.{first_limbo, first_ghosts, shape_by_ghosts, floor_length, floor_held, value_with_floor, ghost_value}
 use Rattle.dutch_pair.proofs.AllLemmas.{all_filter}
 use Rattle.dutch_pair.proofs.ArrangementParts.{parts_of, numbers_within}
-use Rattle.dutch_pair.proofs.C04Ghosts.{either}
+use Rattle.dutch_pair.proofs.GhostPairs.{either}
 use Rattle.dutch_pair.proofs.C07WeakerRules.{always_a_shape}
 use Rattle.dutch_pair.proofs.C07Ghosts.{all_same, none_lower_than_none, ghosts_tell_of_the_next_bracket}
 

@@ -26,7 +26,7 @@ use Rattle.dutch_pair.specs.Round.{downfloaters}
 use Rattle.dutch_pair.specs.ColourFloors.{residents_down}
 use Rattle.dutch_pair.specs.PsdFloors.{repeated, floor_psd}
 use Rattle.dutch_pair.specs.Ghosts.{IsNotBetter, is_upto, ghost_pair, may_bye, ghosts_meet, ghost_may_be_left, ghost_scores, ghost_frame, ghost_floor}
-use Rattle.dutch_pair.proofs.C04Ghosts.{both_true, and_true, IsOneOf, append_low, append_high, numbers_are_seats, pair_of, left_of_ghost}
+use Rattle.dutch_pair.proofs.GhostPairs.{both_true, and_true, IsOneOf, append_low, append_high, numbers_are_seats, pair_of, left_of_ghost}
 use Rattle.dutch_pair.proofs.AllLemmas.{all_filter}
 use Rattle.dutch_pair.proofs.ArrangementParts.{parts_of, numbers_within}
 use Rattle.dutch_pair.proofs.DownLemmas.{down_numbers}

@@ -25,7 +25,7 @@ use Rattle.dutch_pair.specs.Seated.{score_at, seat_of}
 use Rattle.dutch_pair.specs.PsdFloors.{IsUniform}
 use Rattle.dutch_pair.proofs.C06Psd.{flat_by_ends, uniform_by_ends}
 use Rattle.dutch_order.proofs.FromOn.{is_same-true}
-use Rattle.dutch_pair.proofs.C04Ghosts.{down_count}
+use Rattle.dutch_pair.proofs.GhostPairs.{down_count}
 use Rattle.dutch_pair.proofs.C07Ghosts.{no_value_has_more_than_half_the_players_in_pairs}
 use Rattle.dutch_pair.proofs.C07GhostValues.{first_limbo_of_all, no_value_is_better_than_by_ghosts}
 use Rattle.dutch_pair.proofs.NextGroups.{first_is_next}

@@ -12,7 +12,7 @@ use Rattle.dutch_order.specs.Keys.{IsIn}
 use Rattle.dutch_order.specs.Arrangements.{Frame, Arrangement, arrangements, candidates, is_legal, leaves_one, down}
 use Rattle.dutch_pair.specs.Shapes.{down_from, fits, shapes_with, shapes, has_member, first_with, greatest_shape}
 use Rattle.dutch_pair.proofs.AllLemmas.{all_join, all_filter}
-use Rattle.dutch_pair.proofs.C04Ghosts.{either}
+use Rattle.dutch_pair.proofs.GhostPairs.{either}
 use Rattle.dutch_pair.proofs.ShapeSearch.{shape_with}
 
 and_weaker : (s t s' t' : Bool) → (s ≡ true → s' ≡ true) → (t ≡ true → t' ≡ true) → (s && t) ≡ true → (s' && t') ≡ true

@@ -5,34 +5,34 @@ use Rattle.dutch_pair.specs.declared.completion.Answer.{Answer}
 use Rattle.dutch_pair.specs.declared.completion.Answer.TheVariants.{Yes, No, Undecided}
 use Rattle.dutch_pair.specs.Completion.{Covers, MayBeLeftOut, Completable, some_partner, nobody, can_cover, can_complete, MatchAnswer, Tells}
 
-or_either : (s t : Bool) → (s || t) ≡ true → (s ≡ true) ⊎ (t ≡ true)
+pub or_either : (s t : Bool) → (s || t) ≡ true → (s ≡ true) ⊎ (t ≡ true)
 or_either true t e = inl refl
 or_either false t e = inr e
 
-and_both : (s t : Bool) → (s && t) ≡ true → (s ≡ true) × (t ≡ true)
+pub and_both : (s t : Bool) → (s && t) ≡ true → (s ≡ true) × (t ≡ true)
 and_both true t e = (refl, e)
 and_both false t e = absurd (cc)
 
-both_and : (s t : Bool) → s ≡ true → t ≡ true → (s && t) ≡ true
+pub both_and : (s t : Bool) → s ≡ true → t ≡ true → (s && t) ≡ true
 both_and s t e f = ap (λ b. b && t) e ∙ f
 
-or_first : (s t : Bool) → s ≡ true → (s || t) ≡ true
+pub or_first : (s t : Bool) → s ≡ true → (s || t) ≡ true
 or_first s t e = ap (λ b. b || t) e
 
-or_second : (s t : Bool) → t ≡ true → (s || t) ≡ true
+pub or_second : (s t : Bool) → t ≡ true → (s || t) ≡ true
 or_second true t e = refl
 or_second false t e = e
 
 -- what a partner that serves is found by
-record IsPartner (meets : ℕ → Bool) (holds : List ℕ → Bool) (players : List ℕ) : Type 0 where
-  partner : ℕ
-  front : List ℕ
-  behind : List ℕ
-  players_are : players ≡ front ++ partner ∷ behind
-  may_meet : meets partner ≡ true
-  others_hold : holds (front ++ behind) ≡ true
+pub record IsPartner (meets : ℕ → Bool) (holds : List ℕ → Bool) (players : List ℕ) : Type 0 where
+  pub partner : ℕ
+  pub front : List ℕ
+  pub behind : List ℕ
+  pub players_are : players ≡ front ++ partner ∷ behind
+  pub may_meet : meets partner ≡ true
+  pub others_hold : holds (front ++ behind) ≡ true
 
-partner_of : (meets : ℕ → Bool) (holds : List ℕ → Bool) (between later : List ℕ) → some_partner meets holds between later ≡ true → IsPartner meets holds (between ++ later)
+pub partner_of : (meets : ℕ → Bool) (holds : List ℕ → Bool) (between later : List ℕ) → some_partner meets holds between later ≡ true → IsPartner meets holds (between ++ later)
 partner_of meets holds between [] e = absurd (cc)
 partner_of meets holds between (b ∷ behind) e =
     elim (or_either (meets b && holds (between ++ behind)) (some_partner meets holds (between ++ b ∷ []) behind) e) [
@@ -43,7 +43,7 @@ partner_of meets holds between (b ∷ behind) e =
           subst (IsPartner meets holds) (append_assoc between (b ∷ []) behind) (partner_of meets holds (between ++ b ∷ []) behind further)
     ]
 
-partner_serves : (meets : ℕ → Bool) (holds : List ℕ → Bool) (between front : List ℕ) (b : ℕ) (behind : List ℕ) → meets b ≡ true → holds (between ++ (front ++ behind)) ≡ true
+pub partner_serves : (meets : ℕ → Bool) (holds : List ℕ → Bool) (between front : List ℕ) (b : ℕ) (behind : List ℕ) → meets b ≡ true → holds (between ++ (front ++ behind)) ≡ true
     → some_partner meets holds between (front ++ b ∷ behind) ≡ true
 partner_serves meets holds between [] b behind may hold =
     or_first (meets b && holds (between ++ behind)) (some_partner meets holds (between ++ b ∷ []) behind) (both_and (meets b) (holds (between ++ behind)) may hold)

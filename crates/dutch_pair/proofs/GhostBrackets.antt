@@ -15,7 +15,7 @@ use Rattle.dutch_pair.specs.ColourFloors.{residents_down}
 use Rattle.dutch_pair.specs.PsdFloors.{repeated}
 use Rattle.dutch_pair.specs.Ghosts.{ghost_frame}
 use Rattle.dutch_pair.specs.GhostValues.{first_limbo, first_ghosts}
-use Rattle.dutch_pair.proofs.C04Ghosts.{append_low, append_high}
+use Rattle.dutch_pair.proofs.GhostPairs.{append_low, append_high}
 use Rattle.dutch_pair.proofs.FlatBrackets.{seats_fall}
 use Rattle.dutch_pair.proofs.RepeatedLemmas.{length-repeated, repeated_at}
 

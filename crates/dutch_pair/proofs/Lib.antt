@@ -1,12 +1,13 @@
 pub mod AimLemmas
 pub mod AllLemmas
 pub mod Along
-pub mod C04Ghosts
+pub mod C04Takers
 pub mod C07WeakerRules
 pub mod C07PsdFloor
 pub mod C07Ghosts
 pub mod C07GhostValues
 pub mod GhostBrackets
+pub mod GhostPairs
 pub mod RepeatedLemmas
 pub mod ArrangementParts
 pub mod BegunLemmas
@@ -37,6 +38,7 @@ pub mod PairSearch
 pub mod PairsWithBeginning
 pub mod NextGroups
 pub mod TakenSteps
+pub mod TakersSearch
 pub mod Places
 pub mod PsdParts
 pub mod QualityOrder

@@ -156,7 +156,7 @@ some_partner-none meets holds none between (b ∷ after) =
     ∙ and-false-or (meets b) (some_partner meets holds (between ++ b ∷ []) after) (some_partner-none meets holds none (between ++ b ∷ []) after)
 
 -- an odd number of players cannot be paired
-odd_uncovered : (meets : ℕ → ℕ → Bool) (n : ℕ) → n % 2 ≡ 1 → (players : List ℕ) → can_cover meets nobody n players ≡ false
+pub odd_uncovered : (meets : ℕ → ℕ → Bool) (n : ℕ) → n % 2 ≡ 1 → (players : List ℕ) → can_cover meets nobody n players ≡ false
 odd_uncovered meets zero odd players = absurd (omega (arith, odd))
 odd_uncovered meets (suc zero) odd [] = refl
 odd_uncovered meets (suc zero) odd (a ∷ later) = refl

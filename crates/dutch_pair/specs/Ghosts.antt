@@ -1,13 +1,11 @@
 -- Ghosts: players who stand for whatever downfloaters a bracket may leave, and who meet whom some player of the bracket may meet. What
--- ghosts cannot do, no downfloaters can (C.04.3 C.4, C.7).
+-- ghosts cannot do, no downfloaters can (C.04.3 C.7).
 use Rattle.std.specs.Prelude.{◌≡◌, ℕ, ◌+◌, ◌-◌, ◌*◌, ◌/◌, ◌⊎◌, ◌<◌, ◌==◌, Bool, false, not, ◌&&◌, ◌||◌, nat_le, if◌then◌else◌, List, ◌++◌, map, length}
 use Rattle.std.specs.List.{list_any}
 use Rattle.dutch_order.specs.declared.bracket.Shape.{Shape}
-use Rattle.dutch_order.specs.Choices.{numbers_from}
 use Rattle.dutch_order.specs.Arrangements.{Frame}
 use Rattle.dutch_player.specs.Facts.{Facts, seat_at}
 use Rattle.dutch_player.specs.Meetings.{may_meet}
-use Rattle.dutch_pair.specs.Completion.{can_complete}
 use Rattle.dutch_pair.specs.NextBracket.{is_lower}
 use Rattle.dutch_pair.specs.Quality.{NextValue, highest_first}
 use Rattle.dutch_pair.specs.Reached.{Stand}
@@ -42,11 +40,6 @@ may_bye facts a = (seat_at facts a).may_bye
 abbrev pub ghost_may_be_left : Facts → List ℕ → ℕ → List ℕ → ℕ → Bool
 ghost_may_be_left facts seats k lower i =
     is_upto (k + length lower) i && (if nat_le i k then list_any (may_bye facts) seats else may_bye facts (seat_of lower (i - k)))
-
--- whether so many ghosts and the lower players can be paired out
-abbrev pub ghosts_can_complete : Facts → List ℕ → ℕ → List ℕ → Bool
-ghosts_can_complete facts seats k lower =
-    can_complete (ghosts_meet facts seats k lower) (ghost_may_be_left facts seats k lower) (numbers_from 1 (k + length lower))
 
 -- C.7: a value has fewer pairs, or as many and a PSD that is not lower
 abbrev pub IsNotBetter : NextValue → ℕ → List ℕ → Type 0

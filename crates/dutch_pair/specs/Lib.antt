@@ -26,6 +26,7 @@ pub mod PsdFloors
 pub mod Floors
 pub mod Ghosts
 pub mod GhostRules
+pub mod Takers
 pub mod GhostLaws
 pub mod GhostValues
 pub mod Aims

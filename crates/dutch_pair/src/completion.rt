@@ -32,7 +32,7 @@ pub fn completes<R: Rule>(players: &[u16], rule: &R, budget: &mut Budget) -> Ans
 }
 
 /// The players of a list but for the one at a place.
-fn without(players: &[u16], place: usize) -> Numbers
+pub(crate) fn without(players: &[u16], place: usize) -> Numbers
     requires few { length players.now ≤ LIMIT }
     requires inside { place < length players.now }
     ensures { result.items ≡ take place players.now ++ drop (place + 1) players.now }

@@ -13,8 +13,9 @@ ghost use Rattle.dutch_pair.specs.Shapes.{fits, shapes_with, first_with, greates
 ghost use Rattle.dutch_pair.specs.NextBracket.{IsFlat, IsNext, is_lower, psd_in, value_of, value_in};
 ghost use Rattle.dutch_pair.specs.Round.{is_penultimate, downfloaters, eligible};
 ghost use Rattle.dutch_pair.specs.PsdFloors.{IsUniform, floor_psd};
-ghost use Rattle.dutch_pair.specs.Ghosts.{IsNotBetter, ghosts_can_complete, ghosts_meet, ghost_may_be_left, ghost_scores, ghost_frame, ghost_floor};
+ghost use Rattle.dutch_pair.specs.Ghosts.{IsNotBetter, ghosts_meet, ghost_may_be_left, ghost_scores, ghost_frame, ghost_floor};
 ghost use Rattle.dutch_pair.specs.GhostValues.{first_limbo, first_ghosts, ghost_value};
+ghost use Rattle.dutch_pair.specs.Takers.{can_go_out};
 
 /// Completable players stay so where a function takes them to others of whom no fewer may meet.
 pub fn completable_players_stay_so()
@@ -23,11 +24,11 @@ pub fn completable_players_stay_so()
         → (n : ℕ) (xs : List ℕ) → can_cover meets left n xs ≡ true → can_cover meets' left' n (map f xs) ≡ true }
 {}
 
-/// Where ghosts in place of its downfloaters cannot be paired out with the lower players, a penultimate bracket has no candidate with
-/// so many pairs.
-pub fn ghosts_tell_of_pairs()
+/// Where as many downfloaters as a number of pairs leaves cannot be paired out with the lower players, whoever they are, a penultimate
+/// bracket has no candidate with so many pairs.
+pub fn a_count_of_downfloaters_tells_of_pairs()
     ensures { (facts : Facts) (stand : Stand) (lower : List ℕ) → is_penultimate stand.kind ≡ true → stand.mdps ≤ length stand.seats → (pairs : ℕ)
-        → ghosts_can_complete facts stand.seats (length stand.seats - 2 * pairs) lower ≡ false
+        → can_go_out facts stand.seats (length stand.seats - 2 * pairs) lower ≡ false
         → first_with (eligible facts stand lower) (filter (fits (frame_of facts stand)) (shapes_with pairs)) ≡ None }
 {}
 

@@ -1,18 +1,16 @@
 // Ghosts: players who stand for whatever downfloaters a bracket may leave, and who meet whom some player of the bracket may meet
-// (C.04.3 C.4, C.7). Whom some player may meet is read once, so that a question costs no walk over the bracket.
+// (C.04.3 C.7). Whom some player may meet is read once, so that a question costs no walk over the bracket.
 ghost use Rattle.std.specs.Prelude.{◌≡◌, ◌+◌, ◌-◌, ◌*◌, ◌<◌, ◌≤◌, ◌&&◌, true, false, map, slice_index, length};
 ghost use Rattle.std.specs.List.{list_any};
 ghost use Rattle.std.specs.Option.{MatchOption};
 ghost use Rattle.dutch_order.specs.declared.numbers.TheConstants.{LIMIT};
 ghost use Rattle.dutch_player.specs.Meetings.{may_meet};
 ghost use Rattle.dutch_pair.specs.Seated.{AreSeats};
-ghost use Rattle.dutch_pair.specs.Completion.{Tells};
-ghost use Rattle.dutch_pair.specs.Ghosts.{is_upto, some_meets, may_bye, ghosts_meet, ghost_may_be_left, ghosts_can_complete};
+ghost use Rattle.dutch_pair.specs.Ghosts.{is_upto, some_meets, may_bye, ghosts_meet, ghost_may_be_left};
 ghost use Rattle.dutch_pair.specs.GhostRules.{IsRead};
 
-use crate::completion::{Answer, completes};
 use arrayvec::ArrayVec;
-use dutch_order::numbers::{LIMIT, numbered_from};
+use dutch_order::numbers::LIMIT;
 use dutch_order::rules::Rule;
 use dutch_order::steps::Budget;
 use dutch_player::field::Field;
@@ -136,19 +134,6 @@ impl<'a> Ghosts<'a> {
             ghosts: self,
             count,
         }
-    }
-
-    /// Whether so many ghosts can be paired out with the lower players (A.9).
-    pub(crate) fn can_complete(&self, count: usize, budget: &mut Budget) -> Answer
-        requires few { count + length self.now.lower ≤ LIMIT }
-        requires within { budget.old.used ≤ budget.old.limit }
-        ensures answer { Tells result (ghosts_can_complete self.now.facts self.now.seats count self.now.lower) (budget.new.used ≡ budget.new.limit) }
-        ensures limit { budget.new.limit ≡ budget.old.limit }
-        ensures rises { budget.old.used ≤ budget.new.used }
-        ensures within { budget.new.used ≤ budget.new.limit }
-    {
-        let players = numbered_from(1, count + self.lower.len());
-        completes(&players, &self.rule(count), budget)
     }
 
     /// How many lower players there are.

@@ -40,4 +40,5 @@ pub mod seated;
 pub mod seats;
 pub mod shape;
 mod skipper;
+mod takers;
 mod walk;

@@ -1,5 +1,5 @@
 // Players who miss their preference whoever of those left is their opponent, once S1R is chosen (C.04.3 C.10).
-ghost use Rattle.std.specs.Prelude.{◌≡◌, ◌-◌, ◌<◌, ◌≤◌, ◌||◌, ◌++◌, ℕ, not, length, filter};
+ghost use Rattle.std.specs.Prelude.{◌≡◌, ◌-◌, ◌<◌, ◌≤◌, ◌||◌, ◌++◌, ℕ, not, length, filter, max};
 ghost use Rattle.std.specs.List.{list_any};
 ghost use Rattle.arrayvec.specs.ArrayVec.{array_vec_len};
 ghost use Rattle.dutch_order.specs.declared.numbers.TheConstants.{LIMIT};
@@ -134,6 +134,16 @@ fn lonely_second(pairs: &PairFacts<'_>, waiting: &[u16], pool: &[u16]) -> usize
     count
 }
 
+/// The greater of two counts of lonely players, of which so many of the second may go down: a pair may have one of each.
+fn more_lonely(first: usize, second: usize, down: usize) -> usize
+    requires first { first ≤ LIMIT }
+    requires second { second ≤ LIMIT }
+    ensures value { result ≡ max first (second - down) }
+    ensures few { result ≤ LIMIT }
+{
+    first.max(second.saturating_sub(down))
+}
+
 /// How many miss at least for want of an opponent who suits.
 pub(crate) fn lonely(pairs: &PairFacts<'_>, shape: Shape, begun: &Begun<'_>) -> usize
     requires numbers { HasNumbers pairs.now.stand begun.now }
@@ -146,5 +156,5 @@ pub(crate) fn lonely(pairs: &PairFacts<'_>, shape: Shape, begun: &Begun<'_>) -> 
     let pool = pool(players, begun);
     let first = lonely_first(pairs, waiting, &pool);
     let second = lonely_second(pairs, waiting, &pool);
-    first.max(second.saturating_sub(players.residents_down(shape)))
+    more_lonely(first, second, players.residents_down(shape))
 }

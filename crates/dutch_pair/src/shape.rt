@@ -4,14 +4,13 @@ ghost use Rattle.dutch_order.specs.Arrangements.{Fits};
 ghost use Rattle.dutch_order.specs.Steps.{MatchStep};
 ghost use Rattle.dutch_pair.specs.Reached.{IsOf, IsAbove, frame_of};
 ghost use Rattle.dutch_pair.specs.Completion.{Tells};
-ghost use Rattle.dutch_pair.specs.GhostRules.{AreGhostsOf};
 ghost use Rattle.dutch_pair.specs.Shapes.{fits, shapes_with, has_member, first_with};
 ghost use Rattle.dutch_pair.specs.Round.{eligible, shape_of};
 
 use crate::completion::Answer;
 use crate::eligible::has_candidate;
-use crate::ghosts::Ghosts;
 use crate::reached::Reached;
+use crate::takers::can_go_out;
 use dutch_order::bracket::Shape;
 use dutch_order::steps::{Budget, Step};
 use dutch_player::field::Field;
@@ -88,45 +87,18 @@ fn shape_with(
     }
 }
 
-/// Ghosts for the downfloaters of a penultimate bracket; `End` for another one.
-fn ghosts_of<'a>(
-    field: &'a Field,
-    reached: &'a Reached,
-    lower: &'a [u16],
-    budget: &mut Budget,
-) -> Step<Ghosts<'a>>
-    requires above { IsAbove field.now reached.now lower.now }
-    requires within { budget.old.used ≤ budget.old.limit }
-    ensures answer { MatchStep result
-        (λ ghosts. AreGhostsOf field.now reached.now lower.now (Some ghosts))
-        (AreGhostsOf field.now reached.now lower.now None)
-        (budget.new.used ≡ budget.new.limit) }
-    ensures limit { budget.new.limit ≡ budget.old.limit }
-    ensures rises { budget.old.used ≤ budget.new.used }
-    ensures within { budget.new.used ≤ budget.new.limit }
-{
-    if !reached.kind().is_penultimate() {
-        return Step::End;
-    }
-    match Ghosts::read(field, reached.seats(), lower, budget) {
-        Some(ghosts) => Step::Found(ghosts),
-        None => Step::Undecided,
-    }
-}
-
-/// Of the shapes with a number of pairs the one with the most moved-down players that has a candidate. Where ghosts in place of those
-/// whom so many pairs leave cannot be paired out with the lower players, there is none, and no candidate is looked at (C.4).
-#[tactic(auto, using(crate::proofs::C04Ghosts::no_shape_with))]
-fn shape_by_ghosts(
+/// Of the shapes with a number of pairs the one with the most moved-down players that has a candidate. Where as many
+/// downfloaters as so many pairs leave in a penultimate bracket cannot be paired out with the lower players, whoever they are, there is
+/// none, and no candidate is looked at (C.4).
+#[tactic(auto, using(crate::proofs::C04Takers::no_shape_with))]
+fn shape_by_count(
     field: &Field,
     reached: &Reached,
     lower: &[u16],
-    ghosts: &Option<Ghosts>,
     pairs: usize,
     budget: &mut Budget,
 ) -> Step<Shape>
     requires above { IsAbove field.now reached.now lower.now }
-    requires ghosts { AreGhostsOf field.now reached.now lower.now ghosts.now }
     requires small { 2 * pairs ≤ length reached.now.seats }
     requires within { budget.old.used ≤ budget.old.limit }
     ensures answer { MatchStep result
@@ -138,8 +110,9 @@ fn shape_by_ghosts(
     ensures rises { budget.old.used ≤ budget.new.used }
     ensures within { budget.new.used ≤ budget.new.limit }
 {
-    if let Some(ghosts) = ghosts {
-        match ghosts.can_complete(reached.seats().len() - 2 * pairs, budget) {
+    if reached.kind().is_penultimate() {
+        let takers = reached.seats().len() - 2 * pairs;
+        match can_go_out(field, reached.seats(), takers, lower, budget) {
             Answer::Yes => {}
             Answer::No => return Step::End,
             Answer::Undecided => return Step::Undecided,
@@ -166,14 +139,9 @@ pub(crate) fn shape_of(
     ensures rises { budget.old.used ≤ budget.new.used }
     ensures within { budget.new.used ≤ budget.new.limit }
 {
-    let ghosts = match ghosts_of(field, reached, lower, budget) {
-        Step::Found(ghosts) => Some(ghosts),
-        Step::End => None,
-        Step::Undecided => return Step::Undecided,
-    };
     let mut pairs = reached.seats().len() / 2;
     loop {
-        match shape_by_ghosts(field, reached, lower, &ghosts, pairs, budget) {
+        match shape_by_count(field, reached, lower, pairs, budget) {
             Step::Found(shape) => return Step::Found(shape),
             Step::End => {}
             Step::Undecided => return Step::Undecided,

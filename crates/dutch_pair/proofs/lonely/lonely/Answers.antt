@@ -22,5 +22,6 @@ returns-clause-value c =
     ∙ ap (λ (w : List ℕ). length (filter (λ y. not (list_any (λ x. suits facts stand x y) w)) (pool facts stand b))) c.waiting-waiting.ensures.items) in
     let down : c.residents_down.result ≡ residents_down stand c.args.shape =
     c.residents_down.ensures ∙ ap (λ (k : FieldBracket). residents_down k.stand c.args.shape) c.players-players.ensures in
-    c.max.ensures ∙ (ap (λ n. max n c.saturating_sub.result) first
-    ∙ ap (max (lonely_first facts stand b)) (c.saturating_sub.ensures ∙ (ap (λ n. n - c.residents_down.result) second ∙ ap (λ n. lonely_second facts stand b - n) down)))
+    c.more_lonely.ensures.value
+    ∙ (ap (λ n. max n (c.lonely_second-second.result - c.residents_down.result)) first
+    ∙ ap (max (lonely_first facts stand b)) (ap (λ n. n - c.residents_down.result) second ∙ ap (λ n. lonely_second facts stand b - n) down))

@@ -1,0 +1,32 @@
+-- No partner tried so far leaves players who can be paired out.
+use Rattle.std.proofs.Common.{◌≡◌, ◌+◌, ◌*◌, ◌-◌, ◌≤◌, take, drop, length, []}
+use Rattle.dutch_pair.specs.Completion.{some_partner}
+use Rattle.dutch_pair.specs.Seats.{seats_meet}
+use Rattle.dutch_pair.specs.Takers.{can_take_out}
+use Rattle.dutch_pair.proofs.takers.+search.Given as goal
+
+abbrev pub decreases-can_pair : goal.decreases-can_pair
+decreases-can_pair l = 3 * length l.players.now
+
+abbrev pub decreases-pair_first : goal.decreases-pair_first
+decreases-pair_first l = 3 * length l.later.now + 2
+
+abbrev pub decreases-pair_with : goal.decreases-pair_with
+decreases-pair_with l = 3 * length l.later.now + 1
+
+abbrev pub decreases-take_first : goal.decreases-take_first
+decreases-take_first l = 3 * length l.later.now + 1
+
+abbrev pub decreases-leave_first : goal.decreases-leave_first
+decreases-leave_first l = 3 * length l.later.now + 1
+
+abbrev pub invariant-pair_first-loop-place : goal.invariant-pair_first-loop-place
+invariant-pair_first-loop-place l =
+    let meets = seats_meet l.above.facts l.first in
+    let holds = can_take_out l.above.facts l.above.seats l.room.bye (length l.later - 1) l.room.takers in
+    record {
+      same : some_partner meets holds (take l.place l.later) (drop l.place l.later) ≡ some_partner meets holds [] l.later;
+      limit : l.budget.limit ≡ l.initial.budget.limit;
+      rises : l.initial.budget.used ≤ l.budget.used;
+      within : l.budget.used ≤ l.budget.limit;
+    }
