@@ -1,6 +1,7 @@
 -- What the rounds that were paired say of a player: score (C.04.3 A.2), floats (A.4), colours (A.6), opponents (C.1), the bye (C.2).
 use Rattle.std.specs.Prelude.{ℕ, ◌-◌, Bool, true, false, not, ◌==◌, nat_lt, if◌then◌else◌, List, reverse, take, Option, Some, None, sum_by}
 use Rattle.std.specs.List.{filter_map, list_any}
+use Rattle.std.specs.Option.{option_map_or}
 use Rattle.trf16.specs.declared.cell.Colour.{Colour}
 use Rattle.trf16.specs.declared.cell.Bye.TheVariants.{Full, Allocated}
 use Rattle.trf16.specs.declared.cell.Cell.{Cell}
@@ -46,11 +47,11 @@ may_bye cells = not (list_any bars_bye cells)
 abbrev pub float_between : ℕ → ℕ → Option Float
 float_between mine theirs = if nat_lt theirs mine then Some Down else (if nat_lt mine theirs then Some Up else None)
 
--- A.4: the float of a round with some rounds before it, by the scores as they stood then. Who does not play a game has a
--- downfloat, also in rounds that he missed before a late entry (our own choice)
+-- A.4: the float of a round with some rounds before it: against whom he played, by the scores as they stood then; without a game
+-- played, down, also in rounds that he missed before a late entry (our own choice)
 abbrev pub float_by : Sheet → List Cell → ℕ → Cell → Option Float
-float_by sheet cells before (Game opponent colour rated got) = float_between (score (take before cells)) (points_upto sheet opponent before)
-float_by sheet cells before _ = Some Down
+float_by sheet cells before cell =
+    option_map_or (λ opponent. float_between (score (take before cells)) (points_upto sheet opponent before)) (opponent_played cell) (Some Down)
 
 -- A.4: the float of a round; before round 1 there is none
 abbrev pub float_in : Sheet → List Cell → ℕ → Option Float

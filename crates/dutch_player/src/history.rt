@@ -85,12 +85,12 @@ fn float_by(report: &Report<'_>, cells: &[Cell], before: u8, cell: &Cell) -> Opt
     requires { length cells.now ≤ 32 }
     ensures { result ≡ float_by report.now cells.now before cell.now }
 {
-    match cell {
-        Cell::Game { opponent, .. } => float_between(
+    match opponent_played(cell) {
+        Some(opponent) => float_between(
             points_of(front(cells, before)),
-            report.points(*opponent, before),
+            report.points(opponent, before),
         ),
-        _ => Some(Float::Down),
+        None => Some(Float::Down),
     }
 }
 

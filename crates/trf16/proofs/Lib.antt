@@ -5,6 +5,8 @@ pub mod StepLemmas
 pub mod ReadingLemmas
 pub mod ReportLemmas
 pub mod AnsweringLemmas
+pub mod NoteLemmas
+pub mod MarkLemmas
 pub mod MeetingLemmas
 pub mod Characters
 pub mod WrittenNumbers

@@ -81,56 +81,65 @@ same_sheet : (sheet next : Sheet) → done sheet ≡ done next → sheet ≡ nex
 unfolding done
 same_sheet sheet next e = cc
 
--- a step that changes a sheet by `change` only, and keeps what a column is
-stays_so : {X : Type 0} (sheet next : Sheet) (change : X → Sheet) (read : Result X Fault) → ((x : X) → (change x).utf8 ≡ sheet.utf8)
-    → (read >>= λ x. Ok (change x)) ≡ Ok next → next.utf8 ≡ sheet.utf8
+-- a sheet of the same text: its columns and its lines
+abbrev pub SameText : Sheet → Sheet → Type 0
+SameText sheet next = (next.utf8 ≡ sheet.utf8) × (next.carried ≡ sheet.carried)
+
+same_text : (sheet next : Sheet) → sheet ≡ next → SameText sheet next
+same_text sheet next e = (ap (λ (s : Sheet). s.utf8) (sym e), ap (λ (s : Sheet). s.carried) (sym e))
+
+-- a step that changes a sheet by `change` only, and keeps its text
+stays_so : {X : Type 0} (sheet next : Sheet) (change : X → Sheet) (read : Result X Fault) → ((x : X) → SameText sheet (change x))
+    → (read >>= λ x. Ok (change x)) ≡ Ok next → SameText sheet next
 unfolding done failed
-stays_so sheet next change (Ok x) keeps e = ap (λ (s : Sheet). s.utf8) (sym (same_sheet (change x) next e)) ∙ keeps x
+stays_so sheet next change (Ok x) keeps e =
+    let same = same_text (change x) next (same_sheet (change x) next e) in
+    (same.0 ∙ (keeps x).0, same.1 ∙ (keeps x).1)
 stays_so sheet next change (Err fault) keeps e = absurd (differ fault next e)
 
-player_onto-utf8 : (sheet : Sheet) (n : ℕ) (line : List (List ℕ)) (next : Sheet) → player_onto sheet n line ≡ Ok next → next.utf8 ≡ sheet.utf8
+player_onto-text : (sheet : Sheet) (n : ℕ) (line : List (List ℕ)) (next : Sheet) → player_onto sheet n line ≡ Ok next → SameText sheet next
 unfolding player_onto
-player_onto-utf8 sheet n line next e = stays_so sheet next (with_player sheet) (player_at sheet n line) (λ x. refl) e
+player_onto-text sheet n line next e = stays_so sheet next (with_player sheet) (player_at sheet n line) (λ x. (refl, refl)) e
 
-colour_onto-utf8 : (sheet : Sheet) (n : ℕ) (line : List (List ℕ)) (next : Sheet) → colour_onto sheet n line ≡ Ok next → next.utf8 ≡ sheet.utf8
+colour_onto-text : (sheet : Sheet) (n : ℕ) (line : List (List ℕ)) (next : Sheet) → colour_onto sheet n line ≡ Ok next → SameText sheet next
 unfolding colour_onto
-colour_onto-utf8 sheet n line next e =
-    stays_so sheet next (λ initial. record sheet { initial = initial }) (ok_or (colour_in sheet.initial (words_of line)) (BadExtension n)) (λ x. refl) e
+colour_onto-text sheet n line next e =
+    stays_so sheet next (λ initial. record sheet { initial = initial }) (ok_or (colour_in sheet.initial (words_of line)) (BadExtension n)) (λ x. (refl, refl)) e
 
 rounds_named : (sheet next : Sheet) (n : ℕ) (named : Bool) (read : Result ℕ Fault)
-    → (read >>= λ rounds. cond named (Err (Duplicate n)) (Ok (record sheet { total = Some rounds }))) ≡ Ok next → next.utf8 ≡ sheet.utf8
+    → (read >>= λ rounds. cond named (Err (Duplicate n)) (Ok (record sheet { total = Some rounds }))) ≡ Ok next → SameText sheet next
 unfolding done failed
 rounds_named sheet next n true (Ok rounds) e = absurd (differ (Duplicate n) next e)
-rounds_named sheet next n false (Ok rounds) e = ap (λ (s : Sheet). s.utf8) (sym (same_sheet (record sheet { total = Some rounds }) next e))
+rounds_named sheet next n false (Ok rounds) e = same_text (record sheet { total = Some rounds }) next (same_sheet (record sheet { total = Some rounds }) next e)
 rounds_named sheet next n named (Err fault) e = absurd (differ fault next e)
 
-rounds_onto-utf8 : (sheet : Sheet) (n : ℕ) (line : List (List ℕ)) (next : Sheet) → rounds_onto sheet n line ≡ Ok next → next.utf8 ≡ sheet.utf8
+rounds_onto-text : (sheet : Sheet) (n : ℕ) (line : List (List ℕ)) (next : Sheet) → rounds_onto sheet n line ≡ Ok next → SameText sheet next
 unfolding rounds_onto
-rounds_onto-utf8 sheet n line next e = rounds_named sheet next n (is_some sheet.total) (ok_or (rounds_in (words_of line)) (BadExtension n)) e
+rounds_onto-text sheet n line next e = rounds_named sheet next n (is_some sheet.total) (ok_or (rounds_in (words_of line)) (BadExtension n)) e
 
-absence_named : (sheet next : Sheet) (n : ℕ) (fits : Bool) → cond fits (Ok sheet) (Err (BadExtension n)) ≡ Ok next → next.utf8 ≡ sheet.utf8
+absence_named : (sheet next : Sheet) (n : ℕ) (fits : Bool) → cond fits (Ok sheet) (Err (BadExtension n)) ≡ Ok next → SameText sheet next
 unfolding done failed
-absence_named sheet next n true e = ap (λ (s : Sheet). s.utf8) (sym (same_sheet sheet next e))
+absence_named sheet next n true e = same_text sheet next (same_sheet sheet next e)
 absence_named sheet next n false e = absurd (differ (BadExtension n) next e)
 
-absence_onto-utf8 : (sheet : Sheet) (n : ℕ) (line : List (List ℕ)) (next : Sheet) → absence_onto sheet n line ≡ Ok next → next.utf8 ≡ sheet.utf8
+absence_onto-text : (sheet : Sheet) (n : ℕ) (line : List (List ℕ)) (next : Sheet) → absence_onto sheet n line ≡ Ok next → SameText sheet next
 unfolding absence_onto
-absence_onto-utf8 sheet n line next e = absence_named sheet next n (are_start_ranks (words_of line)) e
+absence_onto-text sheet n line next e = absence_named sheet next n (are_start_ranks (words_of line)) e
 
 by_kind : (sheet : Sheet) (n : ℕ) (line : List (List ℕ)) (next : Sheet) (player rounds colour absence : Bool)
     → cond player (player_onto sheet n line) (cond rounds (rounds_onto sheet n line) (cond colour (colour_onto sheet n line)
-    (cond absence (absence_onto sheet n line) (Ok sheet)))) ≡ Ok next → next.utf8 ≡ sheet.utf8
+    (cond absence (absence_onto sheet n line) (Ok sheet)))) ≡ Ok next → SameText sheet next
 unfolding done
-by_kind sheet n line next true rounds colour absence e = player_onto-utf8 sheet n line next e
-by_kind sheet n line next false true colour absence e = rounds_onto-utf8 sheet n line next e
-by_kind sheet n line next false false true absence e = colour_onto-utf8 sheet n line next e
-by_kind sheet n line next false false false true e = absence_onto-utf8 sheet n line next e
-by_kind sheet n line next false false false false e = ap (λ (s : Sheet). s.utf8) (sym (same_sheet sheet next e))
+by_kind sheet n line next true rounds colour absence e = player_onto-text sheet n line next e
+by_kind sheet n line next false true colour absence e = rounds_onto-text sheet n line next e
+by_kind sheet n line next false false true absence e = colour_onto-text sheet n line next e
+by_kind sheet n line next false false false true e = absence_onto-text sheet n line next e
+by_kind sheet n line next false false false false e = same_text sheet next (same_sheet sheet next e)
 
--- what a line adds does not change what a column is
-pub line_onto-utf8 : (sheet : Sheet) (n : ℕ) (line : List (List ℕ)) (next : Sheet) → line_onto sheet n line ≡ Ok next → next.utf8 ≡ sheet.utf8
+-- what a line adds does not change the text
+pub line_onto-text : (sheet : Sheet) (n : ℕ) (line : List (List ℕ)) (next : Sheet) → line_onto sheet n line ≡ Ok next → SameText sheet next
 unfolding line_onto
-line_onto-utf8 sheet n line next e =
+line_onto-text sheet n line next e =
     by_kind sheet n line next (is_player line) (is_kind (codes "XXR") line) (is_kind (codes "XXC") line) (is_kind (codes "XXZ") line) e
 
 pub lines-go_on : (sheet next : Sheet) (n : ℕ) (line : List ℕ) (rest : List (List ℕ)) → line_onto sheet n (columns sheet.utf8 line) ≡ Ok next

@@ -1,9 +1,8 @@
 -- The rules on two players who name each other in a round, and on the sum of a player's points (our own choices).
 use Rattle.std.specs.Prelude.{ℕ, ◌+◌, Bool, true, false, not, ◌&&◌, ◌||◌, ◌==◌, nat_le, nat_lt, if◌then◌else◌, List, [], ◌∷◌, codes, Option, Some, sum_by, take, Result, Ok, Err}
-use Rattle.std.specs.List.{list_any}
 use Rattle.std.specs.Option.{option_map_or}
-use Rattle.trf16.specs.Lines.{columns}
 use Rattle.trf16.specs.Extensions.{is_kind}
+use Rattle.trf16.specs.Absence.{some_carried}
 use Rattle.trf16.specs.Sheet.{Entry, Sheet, known, cell_in, half_points, opponent_in_cell, colour_in_cell, rounds_played}
 use Rattle.trf16.specs.Outcomes.{◌>>=◌}
 use Rattle.trf16.specs.declared.cell.Colour.{Colour}
@@ -59,7 +58,7 @@ cells_fit sheet start round (cell ∷ rest) = do
 
 -- a line XXS says that games have other points
 abbrev pub has_other_points : Sheet → Bool
-has_other_points sheet = list_any (λ line. option_map_or (λ bytes. is_kind (codes "XXS") (columns sheet.utf8 bytes)) line false) sheet.carried
+has_other_points sheet = some_carried (is_kind (codes "XXS")) sheet
 
 -- the points field of a player is blank, or the sum over the rounds that were paired or over all; where games have other points,
 -- any value under 100 points

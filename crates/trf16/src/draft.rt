@@ -4,11 +4,13 @@ ghost use Rattle.trf16.specs.Lines.{lines};
 ghost use Rattle.trf16.specs.Outcomes.{Gives};
 ghost use Rattle.trf16.specs.Sheet.{entry_of, with_player, known};
 ghost use Rattle.trf16.specs.Verdict.{without_players, names_too_many_rounds};
+ghost use Rattle.trf16.specs.Notes.{Tells};
 
 use crate::cell::Colour;
 use crate::fault::Fault;
+use crate::notes::Notes;
 use crate::player::Player;
-use crate::report::Report;
+use crate::report::{Report, last_round_of};
 use indexmap::IndexMap;
 use std::alloc::Global;
 use std::marker::Model;
@@ -126,8 +128,9 @@ impl<'a> Draft<'a> {
         }
     }
 
-    /// The report, once its limits are looked at.
-    pub(crate) fn into_report(self) -> Report<'a>
+    /// The report, once its limits are looked at and all of its lines are noted.
+    pub(crate) fn into_report(self, notes: Notes) -> Report<'a>
+        requires noted { Tells notes self }
         requires few_players { length self.players ≤ 256 }
         requires few_rounds { names_too_many_rounds self ≡ false }
         ensures { result ≡ self.entry }
@@ -139,12 +142,15 @@ impl<'a> Draft<'a> {
             total,
             initial,
         } = self;
+        let rounds = last_round_of(&players);
         Report {
             utf8,
             text,
             players,
             total: total.map(|rounds| rounds as u8),
             initial,
+            rounds,
+            notes,
         }
     }
 }

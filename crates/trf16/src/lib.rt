@@ -15,6 +15,8 @@ pub mod kind;
 pub mod laws;
 mod lines;
 pub mod meetings;
+mod notes;
+mod noting;
 pub mod output;
 pub mod player;
 mod queries;

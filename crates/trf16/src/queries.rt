@@ -1,15 +1,15 @@
 // What a report says of the round that comes next: who is absent, the points so far, which game has no result, and what is
 // not supported.
-ghost use Rattle.std.specs.Prelude.{◌≡◌};
+ghost use Rattle.std.specs.Prelude.{◌≡◌, ◌∷◌, []};
 ghost use Rattle.trf16.specs.Absence.{is_absence, is_named_absent, absent, first_of};
 ghost use Rattle.trf16.specs.Sheet.{points_upto};
+ghost use Rattle.trf16.specs.Answering.{has_other_points};
 ghost use Rattle.trf16.specs.Unfinished.{unfinished};
 
 use crate::cell::{Bye, Cell};
 use crate::cells::{first_unfinished, front, points_of};
-use crate::extensions::{is_of_some, names_absent};
 use crate::kind::Kind;
-use crate::lines::next_line;
+use crate::noting::earlier;
 use crate::report::Report;
 
 // A cell that says that a player does not play.
@@ -27,19 +27,25 @@ impl<'a> Report<'a> {
     fn is_named_absent(&self, start: u16) -> bool
         ensures { result ≡ is_named_absent self.now start }
     {
-        let mut rest = self.text;
-        while !rest.is_empty() {
-            let (line, after) = next_line(rest);
-            if names_absent(line, self.utf8, start) {
-                return true;
-            }
-            rest = after;
-        }
-        false
+        self.notes.is_absent(start)
+    }
+
+    // The first line of a kind.
+    fn first_line(&self, kind: Kind) -> Option<usize>
+        ensures { result ≡ first_of (kind ∷ []) self.now }
+    {
+        self.notes.first(kind)
+    }
+
+    // Whether a line `XXS` says that games have other points.
+    pub(crate) fn has_other_points(&self) -> bool
+        ensures { result ≡ has_other_points self.now }
+    {
+        self.first_line(Kind::Xxs).is_some()
     }
 
     /// Whether a player is absent from the round behind the last that was paired: a line `XXZ` names him, or his cell there is
-    /// `H`, `F` or `Z`. It takes time in step with the text.
+    /// `H`, `F` or `Z`.
     pub fn absent(&self, start: u16) -> bool
         ensures { result ≡ absent self.now start }
     {
@@ -68,20 +74,14 @@ impl<'a> Report<'a> {
         None
     }
 
-    /// The number of the first line of one of some kinds, from 1. It takes time in step with the text.
+    /// The number of the first line of one of some kinds, from 1.
     pub fn unsupported(&self, kinds: &[Kind]) -> Option<usize>
         ensures { result ≡ first_of kinds.now self.now }
     {
-        let mut rest = self.text;
-        let mut n = 1;
-        while !rest.is_empty() {
-            let (line, after) = next_line(rest);
-            if is_of_some(line, self.utf8, kinds) {
-                return Some(n);
-            }
-            rest = after;
-            n += 1;
+        let mut first = None;
+        for kind in kinds {
+            first = earlier(first, self.first_line(*kind));
         }
-        None
+        first
     }
 }

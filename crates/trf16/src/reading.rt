@@ -1,11 +1,12 @@
 // Reading a report from its text, line by line, with the first rule that it breaks.
-ghost use Rattle.std.specs.Prelude.{◌≡◌, ◌+◌, ◌<◌, ◌≤◌, ◌&&◌, false, IfOk, length, take, vec_len};
+ghost use Rattle.std.specs.Prelude.{◌≡◌, ℕ, ◌+◌, ◌<◌, ◌≤◌, ◌&&◌, false, IfOk, None, length, take, vec_len};
 ghost use Rattle.std.specs.Str.{is_utf8};
 ghost use Rattle.trf16.specs.Lines.{lines, columns};
 ghost use Rattle.trf16.specs.Fields.{without_last};
 ghost use Rattle.trf16.specs.Outcomes.{Gives};
 ghost use Rattle.trf16.specs.Sheet.{entry_of, known};
-ghost use Rattle.trf16.specs.Verdict.{blank_at, start_number_at, start_at, points_at, round_at, rounds_at, is_blank_cell, cells_at, player_at, is_player, is_too_long, player_onto, rounds_onto, colour_onto, absence_onto, line_onto, lines_onto, has_too_many_rounds, sized, report_of, verdict};
+ghost use Rattle.trf16.specs.Notes.{is_marked, first_noted, Tells};
+ghost use Rattle.trf16.specs.Verdict.{blank_at, start_number_at, start_at, points_at, round_at, rounds_at, is_blank_cell, cells_at, player_at, is_player, is_too_long, player_onto, rounds_onto, colour_onto, absence_onto, line_onto, lines_onto, has_too_many_rounds, without_players, sized, report_of, verdict};
 
 use crate::answering::players_fit;
 use crate::cell::Cell;
@@ -15,7 +16,9 @@ use crate::extensions::{are_start_ranks, colour_in, is_word, rounds_in};
 use crate::fault::{Excess, Fault};
 use crate::fields::{number_in, points_in, trimmed};
 use crate::grammar::cell_from;
+use crate::kind::Kind;
 use crate::lines::{next_line, skip_marks};
+use crate::notes::Notes;
 use crate::player::Player;
 use crate::report::Report;
 use std::alloc::Global;
@@ -249,11 +252,21 @@ fn line_onto<'a>(
     Ok(false)
 }
 
-// Reads all lines onto a report, and tells whether a player's line goes on behind the last round.
-fn lines_onto<'a>(alloc: Global, draft: &mut Draft<'a>, text: &'a [u8]) -> Result<bool, Fault>
+// Reads all lines onto a report, notes what they say, and tells whether a player's line goes on behind the last round.
+fn lines_onto<'a>(
+    alloc: Global,
+    draft: &mut Draft<'a>,
+    notes: &mut Notes,
+    text: &'a [u8],
+) -> Result<bool, Fault>
+    requires absent { (start : ℕ) → is_marked notes.old start ≡ false }
+    requires firsts { (kind : Kind) → first_noted notes.old kind ≡ None }
     ensures given { Gives (λ _. draft.new) result (lines_onto draft.old 1 (lines text.now)) }
     ensures long { IfOk result (λ long. long ≡ has_too_many_rounds draft.old.utf8 (lines text.now)) }
+    ensures same { IfOk result (λ _. (draft.new.utf8 ≡ draft.old.utf8) × (draft.new.carried ≡ draft.old.carried)) }
+    ensures noted { IfOk result (λ _. Tells notes.new (without_players draft.old.utf8 (lines text.now))) }
 {
+    let utf8 = draft.is_utf8();
     let mut rest = text;
     let mut n = 1;
     let mut long = false;
@@ -261,6 +274,7 @@ fn lines_onto<'a>(alloc: Global, draft: &mut Draft<'a>, text: &'a [u8]) -> Resul
         let (line, after) = next_line(rest);
         let too_long = line_onto(alloc, draft, n, line)?;
         long = long || too_long;
+        notes.note(n, line, utf8);
         rest = after;
         n += 1;
     }
@@ -275,7 +289,8 @@ fn is_utf8(bytes: &[u8]) -> bool
 
 // The report, where it is not too large and has players.
 #[tactic(auto, unfolding(crate::specs::Verdict::sized))]
-fn sized<'a>(draft: Draft<'a>, too_long: bool) -> Result<Report<'a>, Fault>
+fn sized<'a>(draft: Draft<'a>, notes: Notes, too_long: bool) -> Result<Report<'a>, Fault>
+    requires { Tells notes draft }
     ensures { Gives (λ r. r) result (sized draft.entry too_long) }
 {
     let count = draft.count();
@@ -289,7 +304,7 @@ fn sized<'a>(draft: Draft<'a>, too_long: bool) -> Result<Report<'a>, Fault>
     if count == 0 {
         return Err(Fault::NoPlayers);
     }
-    Ok(draft.into_report())
+    Ok(draft.into_report(notes))
 }
 
 /// Reads a report of at most 1,048,576 bytes, 256 players and 32 rounds: the report that the text is, or the first rule that it
@@ -308,8 +323,9 @@ pub fn read<'a>(alloc: Global, bytes: &'a [u8]) -> Result<Report<'a>, Fault>
     }
     let text = skip_marks(bytes);
     let mut draft = Draft::new(alloc, text, is_utf8(text));
-    let too_long = lines_onto(alloc, &mut draft, text)?;
-    let report = sized(draft, too_long)?;
+    let mut notes = Notes::new(alloc)?;
+    let too_long = lines_onto(alloc, &mut draft, &mut notes, text)?;
+    let report = sized(draft, notes, too_long)?;
     players_fit(&report)?;
     Ok(report)
 }

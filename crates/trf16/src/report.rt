@@ -1,15 +1,14 @@
 // A report that was accepted, and what it says.
 ghost use Rattle.std.specs.Prelude.{◌≡◌, ◌<◌, ◌≤◌, map, length, option_copied, IfSome, []};
 ghost use Rattle.std.specs.Option.{option_map_or};
-ghost use Rattle.trf16.specs.Sheet.{entry_of, known, cells_of, cell_in, carried_in, rounds_played};
-ghost use Rattle.trf16.specs.Answering.{has_other_points};
+ghost use Rattle.trf16.specs.Sheet.{entry_of, known, cells_of, cell_in, carried_in, last_paired_of, rounds_played};
 ghost use Rattle.trf16.specs.Verdict.{carried_line};
 
 use crate::cell::{Cell, Colour};
 use crate::cells::{cell_at, last_paired};
 use crate::columns::split_kind;
-use crate::extensions::is_word;
 use crate::lines::next_line;
+use crate::notes::Notes;
 use crate::player::Player;
 use indexmap::IndexMap;
 use indexmap::map::Values;
@@ -24,6 +23,10 @@ pub struct Report<'a> {
     pub(crate) players: IndexMap<u16, Player<'a>>,
     pub(crate) total: Option<u8>,
     pub(crate) initial: Option<Colour>,
+    // the last round that was paired
+    pub(crate) rounds: u8,
+    // what the carried lines say beside total and colour
+    pub(crate) notes: Notes,
 }
 
 impl<'a> Model for Report<'a> {
@@ -31,9 +34,9 @@ impl<'a> Model for Report<'a> {
     ghost use Rattle.std.specs.Option.{ForSome};
     ghost use Rattle.std.specs.Map.{keys_of};
     ghost use Rattle.trf16.specs.Lines.{lines};
-    ghost use Rattle.trf16.specs.Sheet.{Sheet, entry_of};
-    ghost use Rattle.trf16.specs.Answering.{has_other_points};
-    ghost use Rattle.trf16.specs.Verdict.{carried_line};
+    ghost use Rattle.trf16.specs.Sheet.{Sheet, entry_of, last_paired_of};
+    ghost use Rattle.trf16.specs.Notes.{Tells};
+    ghost use Rattle.trf16.specs.Verdict.{carried_line, without_players};
 
     ghost Value = { Sheet };
 
@@ -46,7 +49,9 @@ impl<'a> Model for Report<'a> {
     } };
 
     ghost invariant = { λ r. (keys_of r.players.entries ≡ map (λ e. e.1.start) r.players.entries)
-        × (length r.players.entries ≤ 256) × ForSome r.total (λ total. total ≤ 32) };
+        × (length r.players.entries ≤ 256) × ForSome r.total (λ total. total ≤ 32)
+        × (r.rounds ≡ last_paired_of (map (λ e. entry_of e.1) r.players.entries)) × (r.rounds ≤ 32)
+        × Tells r.notes (without_players r.utf8 (lines r.text.now)) };
 }
 
 impl<'a> Report<'a> {
@@ -103,11 +108,7 @@ impl<'a> Report<'a> {
         ensures value { result ≡ rounds_played self.now }
         ensures few { result ≤ 32 }
     {
-        let mut last = 0u8;
-        for player in self.players() {
-            last = last.max(last_paired(&player.cells));
-        }
-        last
+        self.rounds
     }
 
     /// A line that is carried as it stands, which counts from 1: not that of a player. It takes time in step with the text.
@@ -127,22 +128,18 @@ impl<'a> Report<'a> {
         }
         None
     }
+}
 
-    // Whether a line `XXS` says that games have other points. It takes time in step with the text.
-    pub(crate) fn has_other_points(&self) -> bool
-        ensures { result ≡ has_other_points self.now }
-    {
-        let mut rest = self.text;
-        while !rest.is_empty() {
-            let (line, after) = next_line(rest);
-            let (kind, _) = split_kind(line, self.utf8);
-            if is_word(kind, b"XXS") {
-                return true;
-            }
-            rest = after;
-        }
-        false
+/// The last round in which one of some players is paired.
+pub(crate) fn last_round_of(players: &IndexMap<u16, Player<'_>>) -> u8
+    ensures value { result ≡ last_paired_of (map (λ e. entry_of e.1) players.now.entries) }
+    ensures few { result ≤ 32 }
+{
+    let mut last = 0u8;
+    for player in players.values() {
+        last = last.max(last_paired(&player.cells));
     }
+    last
 }
 
 // A line, unless it is a player's.

@@ -8,7 +8,7 @@ ghost use Rattle.trf16.specs.Round.{CanBePaired, named_by, cell_on, cell_by, wit
 use crate::cell::{Bye, Cell, Colour};
 use crate::cells::{front, points_of};
 use crate::player::Player;
-use crate::report::Report;
+use crate::report::{Report, last_round_of};
 use indexmap::IndexMap;
 use std::alloc::{AllocError, Global};
 
@@ -161,7 +161,7 @@ impl<'a> Report<'a> {
     }
 
     /// Whether some boards can be the next round: whoever they name is a player of the report, is present, and is named once; and no
-    /// round comes behind the 32nd. It takes time in step with the text for each player named.
+    /// round comes behind the 32nd.
     pub fn can_be_paired(&self, boards: &[(u16, u16)]) -> bool
         ensures { IsTrue result ↔ CanBePaired boards.now self.now }
     {
@@ -186,17 +186,21 @@ impl<'a> Report<'a> {
         ensures { IfOk result (λ report. report ≡ with_round boards.now self.now) }
     {
         let before = self.rounds_played();
+        let notes = self.notes.copy(alloc)?;
         let mut players = IndexMap::with_capacity(alloc, self.players.len())?;
         for player in self.players() {
             let paired = player_with(alloc, boards, before, player)?;
             players.insert(player.start, paired)?;
         }
+        let rounds = last_round_of(&players);
         Ok(Report {
             utf8: self.utf8,
             text: self.text,
             players,
             total: self.total,
             initial: self.initial,
+            rounds,
+            notes,
         })
     }
 }

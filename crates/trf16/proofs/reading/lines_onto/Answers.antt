@@ -1,9 +1,14 @@
-use Rattle.std.proofs.Common.{◌≡◌, ℕ, List, [], ◌&&◌, ◌+◌, ◌||◌, Bool, ap, sym, ◌∙◌, arith}
+use Rattle.std.proofs.Common.{◌≡◌, ℕ, List, [], ◌∷◌, subst, ◌&&◌, ◌+◌, ◌||◌, Bool, ap, sym, ◌∙◌, arith}
 use Rattle.std.proofs.lemmas.Bool.{eqb-true}
 use Rattle.std.proofs.lemmas.Result.{err_from_is_err_and}
 use Rattle.trf16.specs.Lines.{lines, columns}
 use Rattle.trf16.specs.Verdict.{is_player, is_too_long, line_onto, lines_onto, has_too_many_rounds}
-use Rattle.trf16.proofs.ReadingLemmas.{Fails-on, line_onto-utf8, lines-go_on, lines-fail, lines-end, stays_long, becomes_long, nil_from_length}
+use Rattle.trf16.proofs.ReadingLemmas.{Fails-on, SameText, line_onto-text, lines-go_on, lines-fail, lines-end, stays_long, becomes_long, nil_from_length}
+use Rattle.trf16.specs.Extensions.{names_absent}
+use Rattle.trf16.specs.Absence.{is_of}
+use Rattle.trf16.specs.declared.kind.Kind.{Kind}
+use Rattle.trf16.specs.Notes.{is_marked, first_noted, noted_first}
+use Rattle.trf16.proofs.NoteLemmas.{AreNoted, noted-none, noted-more, noted-all}
 use Rattle.trf16.proofs.reading.lines_onto.Goals as goal
 use Rattle.trf16.proofs.reading.lines_onto.Goals.{then-long, else-long}
 
@@ -26,7 +31,8 @@ loop-rest-preserved c =
     let given = c.in_ok-too_long.ensures.given in
     let read : lines_onto next (c.loop-rest.n + 1) after ≡ lines_onto c.args.draft.now 1 (lines c.args.text.now) =
     sym (lines-go_on sheet next c.loop-rest.n line after given) ∙ ap (lines_onto sheet c.loop-rest.n) (sym c.next_line.ensures.first) ∙ c.loop-rest.invariant.0 in
-    let same : next.utf8 ≡ c.args.draft.now.utf8 = line_onto-utf8 sheet c.loop-rest.n (columns sheet.utf8 line) next given ∙ c.loop-rest.invariant.2 in
+    let one = line_onto-text sheet c.loop-rest.n (columns sheet.utf8 line) next given in
+    let same : SameText c.args.draft.now next = (one.0 ∙ c.loop-rest.invariant.2.0, one.1 ∙ c.loop-rest.invariant.2.1) in
     let utf8 = c.args.draft.now.utf8 in
     let long = c.loop-rest.long in
     let here = is_player (columns utf8 line) && is_too_long (columns utf8 line) in
@@ -34,11 +40,16 @@ loop-rest-preserved c =
     let total = has_too_many_rounds utf8 (lines c.args.text.now) in
     let so_far : (long || (here || others)) ≡ total = ap (λ (ls : List (List ℕ)). long || has_too_many_rounds utf8 ls) (sym c.next_line.ensures.first) ∙ c.loop-rest.invariant.1 in
     let told : c.in_ok-too_long.too_long ≡ here =
-    c.in_ok-too_long.ensures.long ∙ ap (λ (u : Bool). is_player (columns u line) && is_too_long (columns u line)) c.loop-rest.invariant.2 in (
+    c.in_ok-too_long.ensures.long ∙ ap (λ (u : Bool). is_player (columns u line) && is_too_long (columns u line)) c.loop-rest.invariant.2.0 in
+    let noted : AreNoted c.loop-rest.notes utf8 c.loop-rest.n (line ∷ after) (lines c.args.text.now) =
+    subst (λ (ls : List (List ℕ)). AreNoted c.loop-rest.notes utf8 c.loop-rest.n ls (lines c.args.text.now)) c.next_line.ensures.first c.loop-rest.invariant.4 in (
       read,
       elim c.if-long.branch [ then-long w ↦ stays_long _ long here others total w.long-is w.if-long.true so_far | else-long w ↦ becomes_long _ long here others total (w.long-is ∙ told) w.if-long.false so_far ],
       same,
       omega (arith, c.next_line.ensures.shorter, c.loop-rest.invariant.3),
+      noted-more c.loop-rest.notes c.note.new.self utf8 c.loop-rest.n line after (lines c.args.text.now) noted
+          (subst (λ (u : Bool). (start : ℕ) → is_marked c.note.new.self start ≡ (is_marked c.loop-rest.notes start || names_absent start (columns u line))) c.is_utf8-utf8.ensures c.note.ensures.absent)
+          (subst (λ (u : Bool). (kind : Kind) → first_noted c.note.new.self kind ≡ noted_first (first_noted c.loop-rest.notes kind) (is_of (columns u line) kind) c.loop-rest.n) c.is_utf8-utf8.ensures c.note.ensures.firsts),
     )
 
 pub returns-clause-given : goal.returns-clause-given

@@ -1,8 +1,15 @@
-use Rattle.std.proofs.Common.{◌≡◌, ℕ, ◌<◌, nat_lt, true, length, refl, arith, rules}
+use Rattle.std.proofs.Common.{◌≡◌, ℕ, ◌<◌, nat_lt, true, length, refl, arith, rules, Bool, List, sym, ap, ◌∙◌}
 use Rattle.std.proofs.lemmas.Bool.Decides.{nat_tests}
 use Rattle.std.proofs.lemmas.Grind.{common_steps}
-use Rattle.trf16.specs.Verdict.{verdict, report_of}
+use Rattle.trf16.specs.Verdict.{verdict, report_of, without_players}
+use Rattle.trf16.specs.Lines.{lines}
+use Rattle.trf16.specs.Sheet.{Sheet}
+use Rattle.trf16.proofs.NoteLemmas.{tells_same}
 use Rattle.trf16.proofs.reading.read.Goals as goal
+
+-- a sheet whose players are still to be read carries the lines of its own columns
+lines_of : (sheet : Sheet) (utf8 : Bool) (all : List (List ℕ)) → sheet ≡ without_players utf8 all → sheet.carried ≡ (without_players sheet.utf8 all).carried
+lines_of sheet utf8 all e = rw e refl
 
 above : (most count : ℕ) → most < count → nat_lt most count ≡ true
 above most count lt = grind (arith, nat_tests)
@@ -26,3 +33,11 @@ returns-in_err-players_fit c = grind (arith, common_steps)
 pub returns : goal.returns
 unfolding verdict report_of
 returns c = search rules
+
+pub sized-requires : goal.sized-requires
+sized-requires c =
+    let text = c.skip_marks-text.result.now in
+    tells_same c.lines_onto.new.notes (without_players c.new-draft.result.utf8 (lines text)) c.lines_onto.new.draft
+    c.in_ok-too_long.ensures.same.0
+    (c.in_ok-too_long.ensures.same.1 ∙ lines_of c.new-draft.result c.is_utf8.result (lines text) c.new-draft.ensures)
+    c.in_ok-too_long.ensures.noted

@@ -1,15 +1,8 @@
-use Rattle.std.proofs.Common.{◌≡◌, ◌+◌, ◌≤◌, length, map}
-use Rattle.std.specs.List.{list_any}
-use Rattle.trf16.specs.Lines.{lines}
-use Rattle.trf16.specs.Absence.{is_of, first_at}
-use Rattle.trf16.specs.Verdict.{carried_line}
+-- The first line so far, and that of the kinds to come, are together that of all kinds.
+use Rattle.std.proofs.Common.{◌≡◌, drop}
+use Rattle.trf16.specs.Absence.{first_of}
+use Rattle.trf16.specs.Notes.{earlier}
 use Rattle.trf16.proofs.report.Report.unsupported.Given as goal
 
-abbrev pub invariant-loop-rest : goal.invariant-loop-rest
-invariant-loop-rest l =
-    (first_at (λ line. list_any (is_of line) l.kinds) l.self-inside.utf8 l.n (map (carried_line l.self-inside.utf8) (lines l.rest))
-    ≡ first_at (λ line. list_any (is_of line) l.kinds) l.self-inside.utf8 1 (map (carried_line l.self-inside.utf8) (lines l.self-inside.text.now)))
-    × (l.n + length l.rest ≤ length l.self-inside.text.now + 1)
-
-abbrev pub decreases-loop-rest : goal.decreases-loop-rest
-decreases-loop-rest l = length l.rest
+abbrev pub invariant-loop-kind : goal.invariant-loop-kind
+invariant-loop-kind l = earlier l.first (first_of (drop l.kind-index l.kinds) l.self) ≡ first_of l.kinds l.self

@@ -3,10 +3,11 @@ use Rattle.std.proofs.lemmas.List.{length-map}
 use Rattle.std.specs.List.{IsDistinct}
 use Rattle.trf16.specs.declared.player.Player.{Player}
 use Rattle.trf16.specs.Lines.{lines}
-use Rattle.trf16.specs.Verdict.{carried_line}
+use Rattle.trf16.specs.Verdict.{carried_line, without_players}
 use Rattle.trf16.specs.Sheet.{Entry, Sheet, entry_of, rounds_played}
 use Rattle.trf16.specs.Round.{entry_with, with_round}
 use Rattle.trf16.proofs.RoundLemmas.{paired-insert, paired-end, paired-length, starts-entries}
+use Rattle.trf16.proofs.NoteLemmas.{tells_again}
 use Rattle.trf16.proofs.report.Report.with_round.Goals as goal
 
 pub loop-player-preserved-in_ok-insert : goal.loop-player-preserved-in_ok-insert
@@ -35,7 +36,14 @@ invariant_of-result c =
     paired-length c.args.boards.now c.rounds_played-before.result done all same ∙ ap (λ (sheet : Sheet). length sheet.players) (sym c.self.view_is)
     ∙ length-map c.self.inside.players.entries (λ (e : ℕ × Player). entry_of e.1) in
     let few : length c.self.inside.players.entries ≤ 256 = c.self.invariant.1 in
-    (c.loop-player.invariant.keyed, omega arith, c.self.invariant.2)
+    (
+      c.loop-player.invariant.keyed,
+      omega arith,
+      c.self.invariant.2,
+      c.last_round_of-rounds.ensures.value,
+      c.last_round_of-rounds.ensures.few,
+      tells_again c.self.inside.notes c.in_ok-notes.notes (without_players c.self.inside.utf8 (lines c.self.inside.text.now)) c.in_ok-notes.ensures.absent c.in_ok-notes.ensures.firsts c.self.invariant.5,
+    )
 
 pub returns : goal.returns
 returns c =

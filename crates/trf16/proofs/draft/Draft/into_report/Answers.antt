@@ -1,0 +1,23 @@
+use Rattle.std.proofs.Common.{rules, ◌≡◌, ℕ, ◌≤◌, length, ap, sym, ◌∙◌, arith, Option, Some}
+use Rattle.std.proofs.lemmas.List.{length-map}
+use Rattle.trf16.specs.Lines.{lines}
+use Rattle.trf16.specs.declared.player.Player.{Player}
+use Rattle.trf16.specs.Sheet.{Sheet, entry_of}
+use Rattle.trf16.specs.Verdict.{without_players, names_too_many_rounds}
+use Rattle.trf16.proofs.NoteLemmas.{tells_same}
+use Rattle.trf16.proofs.draft.Draft.into_report.Goals as goal
+
+pub invariant_of-result : goal.invariant_of-result
+invariant_of-result c =
+    let r = c.self.inside in
+    let size : length r.players.entries ≡ length c.args.self.players =
+    sym (length-map r.players.entries (λ (e : ℕ × Player). entry_of e.1)) ∙ ap (λ (sheet : Sheet). length sheet.players) c.self.view_is in
+    let few : length c.args.self.players ≤ 256 = c.requires.few_players in (
+      c.self.invariant,
+      omega (arith, size, few),
+      search rules,
+      c.last_round_of-rounds.ensures.value,
+      c.last_round_of-rounds.ensures.few,
+      tells_same c.args.notes c.args.self (without_players r.utf8 (lines r.text.now))
+          (ap (λ (sheet : Sheet). sheet.utf8) c.self.view_is) (ap (λ (sheet : Sheet). sheet.carried) c.self.view_is) c.requires.noted,
+    )

@@ -1,0 +1,7 @@
+use Rattle.std.proofs.Common.{◌≡◌, ◌≤◌, max, map}
+use Rattle.trf16.specs.Sheet.{entry_of, last_paired_of}
+use Rattle.trf16.proofs.report.last_round_of.Given as goal
+
+abbrev pub invariant-loop-player : goal.invariant-loop-player
+invariant-loop-player l =
+    (max l.last (last_paired_of (map entry_of l.player-iterator)) ≡ last_paired_of (map (λ e. entry_of e.1) l.players.entries)) × (l.last ≤ 32)

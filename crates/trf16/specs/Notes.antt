@@ -1,0 +1,47 @@
+-- What is noted of the carried lines while they are read, and what it must agree with.
+use Rattle.std.specs.Prelude.{◌≡◌, ℕ, Bool, true, false, nat_lt, if◌then◌else◌, List, [], ◌∷◌, Option, Some, None, slice_index_or}
+use Rattle.std.specs.Option.{option_or}
+use Rattle.trf16.specs.Sheet.{Sheet}
+use Rattle.trf16.specs.Absence.{is_named_absent, first_of}
+use Rattle.trf16.specs.declared.kind.Kind.{Kind}
+use Rattle.trf16.specs.declared.kind.Kind.TheVariants.{Xxa, Xxs, Xxp, Rank}
+use Rattle.trf16.specs.declared.notes.Notes.{Notes}
+
+-- whether a start rank is noted as that of somebody absent
+abbrev pub is_marked : Notes → ℕ → Bool
+is_marked notes start = slice_index_or notes.absent.items start false
+
+-- the first line of a kind that is noted
+abbrev pub first_noted : Notes → Kind → Option ℕ
+first_noted notes Xxa = notes.xxa
+first_noted notes Xxs = notes.xxs
+first_noted notes Xxp = notes.xxp
+first_noted notes Rank = notes.rank
+
+-- whether two kinds are one
+abbrev pub is_same_kind : Kind → Kind → Bool
+is_same_kind Xxa Xxa = true
+is_same_kind Xxs Xxs = true
+is_same_kind Xxp Xxp = true
+is_same_kind Rank Rank = true
+is_same_kind _ _ = false
+
+-- whether what was found is a kind
+abbrev pub is_kind_of : Option Kind → Kind → Bool
+is_kind_of None kind = false
+is_kind_of (Some found) kind = is_same_kind found kind
+
+-- the first line of a kind behind line n, of that in front of it
+abbrev pub noted_first : Option ℕ → Bool → ℕ → Option ℕ
+noted_first before here n = option_or before (if here then Some n else None)
+
+-- the smaller of two numbers, where there are two
+abbrev pub earlier : Option ℕ → Option ℕ → Option ℕ
+earlier (Some a) (Some b) = Some (if nat_lt b a then b else a)
+earlier None found = found
+earlier found None = found
+
+-- what is noted is what the carried lines of a report say
+pub record Tells (notes : Notes) (sheet : Sheet) : Type 0 where
+  pub absent : (start : ℕ) → is_marked notes start ≡ is_named_absent sheet start
+  pub first : (kind : Kind) → first_noted notes kind ≡ first_of (kind ∷ []) sheet
