@@ -1,6 +1,6 @@
--- A request that words make can be answered: the total of rounds that it names is at most 32.
-use Rattle.std.proofs.Common.{◌≡◌, ◌&&◌, ◌≤◌, ◌^◌, cond, refl, subst, ℕ, Bool, true, false, nat_le, nat_lt, List, Option, Some, None, Result, Ok, Err}
-use Rattle.std.specs.Prelude.{IfSome, codes, option_and_then}
+-- A task that words make can be answered: the total of rounds that it names is at most 32, and the pairing-allocated bye gives at most 2.
+use Rattle.std.proofs.Common.{◌≡◌, ◌&&◌, ◌≤◌, ◌^◌, cond, refl, sym, ap, arith, subst, ℕ, Bool, true, false, nat_le, nat_lt, List, Option, Some, None, Result, Ok, Err}
+use Rattle.std.specs.Prelude.{IfSome, codes, option_and_then, option_map, unwrap_or}
 use Rattle.std.specs.Str.{bytes_eq}
 use Rattle.std.specs.Str.Parse.{digits_value, without_leading_plus}
 use Rattle.std.proofs.lemmas.Bool.{leb-true, and_parts}
@@ -9,10 +9,11 @@ use Rattle.clap.specs.Words.{Row, Text, one_of, subcommand_of}
 use Rattle.dutch_order.specs.Cursors.{has_syntax}
 use Rattle.trf16.specs.declared.cell.Colour.{Colour}
 use Rattle.arbiter.specs.Known.{CanBeAnswered, HasFewRounds}
-use Rattle.arbiter.specs.Options.{◌>>=◌, candidates_options, flag_in, initial_in, number_of, pair_options, rounds_in, standings_options, steps_in}
-use Rattle.arbiter.specs.Words.{AsksFor, arbiter_app, candidates_request, pair_request, request_by, standings_request}
+use Rattle.arbiter.specs.Options.{◌>>=◌, bye_in, candidates_options, flag_in, initial_in, number_in, number_of, pair_options, rounds_in, standings_options, steps_in}
+use Rattle.arbiter.specs.Words.{AsksFor, arbiter_app, candidates_request, pair_request, request_of, standings_request, task_by, with_bye}
 use Rattle.arbiter.specs.declared.options.PairOptions.{PairOptions}
 use Rattle.arbiter.specs.declared.options.WordFault.{WordFault}
+use Rattle.arbiter.specs.declared.words.Task.{Task}
 use Rattle.arbiter.specs.declared.words.Request.{Request}
 use Rattle.arbiter.specs.declared.words.Request.TheVariants.{Check, Format, Pair, Candidates, Standings}
 
@@ -85,11 +86,45 @@ asked_at rows request false false false true standings e = candidates_asked rows
 asked_at rows request false false false false true e = standings_asked rows request (some_ok (standings_request rows) (Ok request) e)
 asked_at rows request false false false false false e = let bad : None ≡ Some (let made : Result Request WordFault = Ok request in made) = e in cc
 
-asked_by : (command : Option (Text × List Row)) (request : Request) → request_by command ≡ Some (Ok request) → CanBeAnswered request
-asked_by None request e = let bad : None ≡ Some (let made : Result Request WordFault = Ok request in made) = e in cc
-asked_by (Some command) request e =
+command_asked : (command : Text × List Row) (request : Request) → request_of command.0 command.1 ≡ Some (Ok request) → CanBeAnswered request
+command_asked command request e =
     let name : Text = command.0 in
     asked_at command.1 request (bytes_eq name (codes "check")) (bytes_eq name (codes "format")) (bytes_eq name (codes "pair")) (bytes_eq name (codes "candidates")) (bytes_eq name (codes "standings")) e
 
-pub can_be_answered : (words : List Text) (request : Request) → AsksFor words request → CanBeAnswered request
-can_be_answered words request asks = asked_by (subcommand_of arbiter_app words) request asks.named
+-- what a command comes to
+abbrev asks : Request → Option (Result Request WordFault)
+asks request = Some (Ok request)
+
+abbrev gives : Task → Option (Result Task WordFault)
+gives task = Some (Ok task)
+
+-- a task has the request that its command makes, and what the pairing-allocated bye gives by its rows
+made_of : (bye : ℕ) (o : Option (Result Request WordFault)) (task : Task) → option_map (with_bye bye) o ≡ gives task → (o ≡ asks task.request) × (task.bye ≡ bye)
+made_of bye None task e = cc
+made_of bye (Some (Err fault)) task e = cc
+made_of bye (Some (Ok request)) task e =
+    let made : Task = record { request = request; bye = bye } in
+    let same : made ≡ task = cc in
+    (ap (λ (t : Task). asks t.request) same, ap (λ (t : Task). t.bye) (sym same))
+
+unwrapped : (most : ℕ) (o : Option ℕ) → IfSome o (λ x. x ≤ most) → unwrap_or o most ≤ most
+unwrapped most None few = omega arith
+unwrapped most (Some x) few = few
+
+bye_few : (rows : List Row) → bye_in rows ≤ 2
+bye_few rows = unwrapped 2 (number_in 2 (codes "bye") rows) (number_few 2 (one_of (codes "bye") rows))
+
+asked_by : (command : Option (Text × List Row)) (task : Task) → task_by command ≡ gives task → CanBeAnswered task.request
+asked_by None task e = cc
+asked_by (Some command) task e = command_asked command task.request (made_of (bye_in command.1) (request_of command.0 command.1) task e).0
+
+small_bye : (command : Option (Text × List Row)) (task : Task) → task_by command ≡ gives task → task.bye ≤ 2
+small_bye None task e = cc
+small_bye (Some command) task e =
+    subst (λ b. b ≤ 2) (sym (made_of (bye_in command.1) (request_of command.0 command.1) task e).1) (bye_few command.1)
+
+pub can_be_answered : (words : List Text) (task : Task) → AsksFor words task → CanBeAnswered task.request
+can_be_answered words task asks_for = asked_by (subcommand_of arbiter_app words) task asks_for.named
+
+pub has_small_bye : (words : List Text) (task : Task) → AsksFor words task → task.bye ≤ 2
+has_small_bye words task asks_for = small_bye (subcommand_of arbiter_app words) task asks_for.named

@@ -16,12 +16,12 @@ use Rattle.arbiter.specs.declared.options.PairOptions.{PairOptions}
 
 -- what is known of the boards of a round
 abbrev pub BoardsFit : Type 0
-BoardsFit = (bytes : List ℕ) (sheet : Sheet) (asked : Option ℕ) (initial : Option Colour) (facts : Facts) (pairing : Pairing) → verdict bytes ≡ Ok sheet
-    → IfSome asked (λ total. total ≤ 32) → facts_of sheet asked initial ≡ Ok facts → (round facts).pairing ≡ Some pairing
+BoardsFit = (bytes : List ℕ) (bye : ℕ) (sheet : Sheet) (asked : Option ℕ) (initial : Option Colour) (facts : Facts) (pairing : Pairing)
+    → verdict bytes bye ≡ Ok sheet → IfSome asked (λ total. total ≤ 32) → facts_of sheet asked initial ≡ Ok facts → (round facts).pairing ≡ Some pairing
     → CanBePaired (boards facts pairing) sheet
 
-pub accepted : (bytes : List ℕ) (sheet : Sheet) → verdict bytes ≡ Ok sheet → IsAccepted sheet
-accepted bytes sheet e = record { bytes = bytes; is = e }
+pub accepted : (bytes : List ℕ) (bye : ℕ) (sheet : Sheet) → verdict bytes bye ≡ Ok sheet → IsAccepted sheet
+accepted bytes bye sheet e = record { bytes = bytes; bye = bye; is = e }
 
 boards_told : (facts : Facts) (sheet : Sheet) (all : List (ℕ × ℕ)) (found : Option Pairing) → ((pairing : Pairing) → found ≡ Some pairing → CanBePaired (boards facts pairing) sheet)
     → option_map (boards facts) found ≡ Some all → CanBePaired all sheet
@@ -34,6 +34,6 @@ pub can_be_told : (options : PairOptions) (sheet : Sheet) (facts : Facts) (limit
     → facts_of sheet options.rounds options.initial ≡ Ok facts → IsOutcome facts limit outcome → CanBeTold sheet outcome
 can_be_told options sheet facts limit (Paired all) fit few accepted made is =
     boards_told facts sheet all.items (round facts).pairing
-    (λ pairing e. fit accepted.bytes sheet options.rounds options.initial facts pairing accepted.is few made e) is
+    (λ pairing e. fit accepted.bytes accepted.bye sheet options.rounds options.initial facts pairing accepted.is few made e) is
 can_be_told options sheet facts limit NoPairing fit few accepted made is = tt
 can_be_told options sheet facts limit (Undecided number used) fit few accepted made is = tt

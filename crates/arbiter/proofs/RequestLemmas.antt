@@ -1,4 +1,4 @@
--- Words that clap's rules accept make a request, or one with a fault: each command that clap knows is one of the program's.
+-- Words that clap's rules accept make a task, or one with a fault: each command that clap knows is one of the program's.
 use Rattle.std.proofs.Common.{◌≡◌, ◌∙◌, ◌&&◌, ap, refl, sym, subst, Bool, true, false, not, List, [], ◌∷◌, Option, None, Some, is_some, cond}
 use Rattle.std.specs.Prelude.{⊤, find, option_map}
 use Rattle.std.specs.List.{list_any}
@@ -9,24 +9,24 @@ use Rattle.clap.specs.Simple.{argument_words, entered, label_of, names_of, rows_
 use Rattle.clap.specs.Takes.{is_given}
 use Rattle.clap.specs.Walk.{Held, Names, answers_to, finished, nothing_held, rows_after, settled, stop_after, walk, walk_from}
 use Rattle.clap.specs.Words.{App, Kinds, Row, Shape, Text, built, fault_of, subcommand_of}
-use Rattle.arbiter.specs.Words.{arbiter_app, request_by, request_of}
+use Rattle.arbiter.specs.Words.{arbiter_app, task_by, task_of}
 
--- each of these commands makes a request, or one with a fault
+-- each of these commands makes a task, or one with a fault
 abbrev pub AreNamed : List Shape → Type 0
 AreNamed [] = ⊤
-AreNamed (shape ∷ rest) = ((rows : List Row) → is_some (request_of shape.name rows) ≡ true) × AreNamed rest
+AreNamed (shape ∷ rest) = ((rows : List Row) → is_some (task_of shape.name rows) ≡ true) × AreNamed rest
 
 found_named : (p : Shape → Bool) (shapes : List Shape) (words : List Text) → AreNamed shapes
-    → is_some (request_by (option_map (λ s. rows_at s words) (find p shapes))) ≡ is_some (option_map (λ s. rows_at s words) (find p shapes))
+    → is_some (task_by (option_map (λ s. rows_at s words) (find p shapes))) ≡ is_some (option_map (λ s. rows_at s words) (find p shapes))
 found_named p [] words h = refl
 found_named p (shape ∷ rest) words h = go (p shape) (found_named p rest words h.1)
   where
-    go : (b : Bool) → is_some (request_by (option_map (λ s. rows_at s words) (find p rest))) ≡ is_some (option_map (λ s. rows_at s words) (find p rest))
-        → is_some (request_by (option_map (λ s. rows_at s words) (cond b (Some shape) (find p rest)))) ≡ is_some (option_map (λ s. rows_at s words) (cond b (Some shape) (find p rest)))
+    go : (b : Bool) → is_some (task_by (option_map (λ s. rows_at s words) (find p rest))) ≡ is_some (option_map (λ s. rows_at s words) (find p rest))
+        → is_some (task_by (option_map (λ s. rows_at s words) (cond b (Some shape) (find p rest)))) ≡ is_some (option_map (λ s. rows_at s words) (cond b (Some shape) (find p rest)))
     go true later = h.0 (rows_after shape.rules [] words)
     go false later = later
 
-entered_named : (app : App) → AreNamed app.subs → (stop : Option (Text × List Text)) → is_some (request_by (entered app stop)) ≡ is_some (entered app stop)
+entered_named : (app : App) → AreNamed app.subs → (stop : Option (Text × List Text)) → is_some (task_by (entered app stop)) ≡ is_some (entered app stop)
 entered_named app h None = refl
 entered_named app h (Some p) = found_named (λ s. answers_to p.0 (label_of s)) app.subs p.1 h
 
@@ -53,9 +53,9 @@ level_without s names held words below required e =
     (not (s.subcommand_negates_reqs && false) && list_any (λ a. a.required && not (is_given a.id rows)) s.rules) required four
 
 -- accepted words have a command, and it is one of these
-request_made : (app : App) (words : List Text) → AreNamed (built app).subs → (built app).top.subcommand_required ≡ true → fault_of app words ≡ []
-    → None ≡ request_by (subcommand_of app words) → ⊥
-request_made app words named required accepted none = go (entered (built app) stop) refl
+task_made : (app : App) (words : List Text) → AreNamed (built app).subs → (built app).top.subcommand_required ≡ true → fault_of app words ≡ []
+    → None ≡ task_by (subcommand_of app words) → ⊥
+task_made app words named required accepted none = go (entered (built app) stop) refl
   where
     stop : Option (Text × List Text)
     stop = stop_after (built app).top.rules (names_of (built app)) (argument_words app words)
@@ -72,9 +72,9 @@ request_made app words named required accepted none = go (entered (built app) st
 commands_named : AreNamed (built arbiter_app).subs
 commands_named = (λ rows. refl, (λ rows. refl, (λ rows. refl, (λ rows. refl, (λ rows. refl, tt)))))
 
--- no words that clap's rules accept make no request
+-- no words that clap's rules accept make no task
 pub no_words_without : (app : App) (words : List Text) (made : Option (Text × List Row)) → app ≡ arbiter_app → fault_of app words ≡ []
-    → made ≡ subcommand_of app words → None ≡ request_by made → ⊥
+    → made ≡ subcommand_of app words → None ≡ task_by made → ⊥
 no_words_without app words made same accepted rows e =
-    request_made arbiter_app words commands_named refl (ap (λ a. fault_of a words) (sym same) ∙ accepted)
-    (e ∙ ap request_by (rows ∙ ap (λ a. subcommand_of a words) same))
+    task_made arbiter_app words commands_named refl (ap (λ a. fault_of a words) (sym same) ∙ accepted)
+    (e ∙ ap task_by (rows ∙ ap (λ a. subcommand_of a words) same))

@@ -6,49 +6,37 @@ use Rattle.std.proofs.lemmas.Bool.Decides.{nat_tests}
 use Rattle.trf16.specs.Verdict.{verdict}
 use Rattle.trf16.specs.declared.fault.Excess.TheVariants.{Bytes}
 use Rattle.trf16.specs.declared.fault.Fault.TheVariants.{TooMany}
-use Rattle.arbiter.specs.CandidateAnswers.{AnswersCandidates}
-use Rattle.arbiter.specs.Commands.{Answers, check_answer, format_answer}
-use Rattle.arbiter.specs.PairAnswers.{AnswersPair}
-use Rattle.arbiter.specs.StandingsTexts.{standings_answer}
+use Rattle.arbiter.specs.Commands.{Answers, AnswersReport}
 use Rattle.arbiter.specs.Statuses.{Answer}
 use Rattle.arbiter.specs.Devices.{Reading}
 use Rattle.arbiter.specs.Input.{IsRead, most_read}
 use Rattle.arbiter.specs.Run.{IsAnswered, IsInput}
-use Rattle.arbiter.specs.declared.words.Request.{Request}
-use Rattle.arbiter.specs.declared.words.Request.TheVariants.{Check, Format, Pair, Candidates, Standings}
+use Rattle.arbiter.specs.declared.words.Task.{Task}
 
 -- as many bytes as are read at most are too many for a report
-verdict-long : (bytes : List ℕ) → most_read ≤ length bytes → verdict bytes ≡ Err (TooMany Bytes)
+verdict-long : (bytes : List ℕ) (bye : ℕ) → most_read ≤ length bytes → verdict bytes bye ≡ Err (TooMany Bytes)
 unfolding verdict
-verdict-long bytes h =
+verdict-long bytes bye h =
     let long : nat_lt 1048576 (length bytes) ≡ true = grind (arith, nat_tests) in
     rw long
 
 -- what is read of some bytes has their verdict
-verdict-read : (input rest : List ℕ) → (length input < most_read → rest ≡ []) → verdict (input ++ rest) ≡ verdict input
-verdict-read input rest whole = elim (cases_lt (length input) most_read) [
-  | inl short ↦ ap (λ xs. verdict (input ++ xs)) (whole short) ∙ ap verdict (append-nil input)
-  | inr long ↦ verdict-long (input ++ rest) (omega (arith, length-append input rest)) ∙ sym (verdict-long input long)
+verdict-read : (input rest : List ℕ) (bye : ℕ) → (length input < most_read → rest ≡ []) → verdict (input ++ rest) bye ≡ verdict input bye
+verdict-read input rest bye whole = elim (cases_lt (length input) most_read) [
+  | inl short ↦ ap (λ xs. verdict (input ++ xs) bye) (whole short) ∙ ap (λ xs. verdict xs bye) (append-nil input)
+  | inr long ↦ verdict-long (input ++ rest) bye (omega (arith, length-append input rest)) ∙ sym (verdict-long input bye long)
 ]
 
 -- the bytes that a source had
-whole_input : (before after : Option (List ℕ)) (input : List ℕ) → Consumes before after input → (length input < most_read → IsAtEnd after)
-    → (bytes : List ℕ) × IsInput before bytes × (verdict bytes ≡ verdict input)
-whole_input None after input given whole = (input, tt, refl)
-whole_input (Some bytes) None input given whole = absurd given
-whole_input (Some bytes) (Some rest) input given whole = (bytes, refl, ap verdict given ∙ verdict-read input rest whole)
-
--- an answer rests on the verdict alone
-answers_by_verdict : (request : Request) (bytes input : List ℕ) (answer : Answer) → verdict bytes ≡ verdict input → Answers request input answer → Answers request bytes answer
-answers_by_verdict Check bytes input answer same h = h ∙ sym (ap check_answer same)
-answers_by_verdict Format bytes input answer same h = h ∙ sym (ap format_answer same)
-answers_by_verdict (Pair options) bytes input answer same h = subst (λ v. AnswersPair options v answer) (sym same) h
-answers_by_verdict (Candidates options) bytes input answer same h = subst (λ v. AnswersCandidates options v answer) (sym same) h
-answers_by_verdict (Standings options) bytes input answer same h = h ∙ sym (ap (standings_answer options.keys) same)
+whole_input : (before after : Option (List ℕ)) (input : List ℕ) (bye : ℕ) → Consumes before after input → (length input < most_read → IsAtEnd after)
+    → (bytes : List ℕ) × IsInput before bytes × (verdict bytes bye ≡ verdict input bye)
+whole_input None after input bye given whole = (input, tt, refl)
+whole_input (Some bytes) None input bye given whole = absurd given
+whole_input (Some bytes) (Some rest) input bye given whole = (bytes, refl, ap (λ xs. verdict xs bye) given ∙ verdict-read input rest bye whole)
 
 -- an answer over what was read is one over all bytes of the source
-pub answered : (request : Request) (source : Reading) (input : List ℕ) (answer : Answer) → IsRead source.device input → Answers request input answer
-    → IsAnswered request source answer
-answered request source input answer read h =
-    let all = whole_input source.device.before source.device.after input read.given read.whole in
-    record { input = all.0; read = all.1; sound = read.sound; answers = answers_by_verdict request all.0 input answer all.2 h }
+pub answered : (task : Task) (source : Reading) (input : List ℕ) (answer : Answer) → IsRead source.device input → Answers task input answer
+    → IsAnswered task source answer
+answered task source input answer read h =
+    let all = whole_input source.device.before source.device.after input task.bye read.given read.whole in
+    record { input = all.0; read = all.1; sound = read.sound; answers = subst (λ report. AnswersReport task.request report answer) (sym all.2) h }

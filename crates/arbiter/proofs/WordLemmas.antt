@@ -11,9 +11,9 @@ use Rattle.clap.specs.declared.parser.matches.ArgMatches.{ArgMatches}
 use Rattle.clap.specs.declared.parser.matches.ArgMatches.TheViews.{out-ArgMatches, out-SubCommand}
 use Rattle.arbiter.specs.Options.{rows_in}
 use Rattle.clap.proofs.OnLiterals.{clap_on_literals}
-use Rattle.arbiter.specs.Words.{ComesTo, FitsKind, arbiter_app, asked_by, is_mistake, is_shown, request_by}
+use Rattle.arbiter.specs.Words.{ComesTo, FitsKind, arbiter_app, asked_by, is_mistake, is_shown, task_by}
 use Rattle.arbiter.specs.declared.options.WordFault.{WordFault}
-use Rattle.arbiter.specs.declared.words.Request.{Request}
+use Rattle.arbiter.specs.declared.words.Task.{Task}
 use Rattle.arbiter.specs.declared.words.Asked.{Asked}
 use Rattle.arbiter.specs.declared.words.Asked.TheVariants.{Command, Help, Mistake, Refused}
 
@@ -22,15 +22,15 @@ unfolding clap_on_literals
 simple_and_free = refl
 
 -- words that clap's rules accept come to what their command and options make
-pub accepted_words : (app : App) (words : List Text) (made : Option (Text × List Row)) (read : Result Request WordFault) → app ≡ arbiter_app → fault_of app words ≡ []
-    → made ≡ subcommand_of app words → Some read ≡ request_by made → ComesTo words (asked_by read)
-accepted_words app words made (Ok request) same accepted rows e = record {
+pub accepted_words : (app : App) (words : List Text) (made : Option (Text × List Row)) (read : Result Task WordFault) → app ≡ arbiter_app → fault_of app words ≡ []
+    → made ≡ subcommand_of app words → Some read ≡ task_by made → ComesTo words (asked_by read)
+accepted_words app words made (Ok task) same accepted rows e = record {
   accepted = ap (λ a. fault_of a words) (sym same) ∙ accepted;
-  named = ap request_by (ap (λ a. subcommand_of a words) (sym same) ∙ sym rows) ∙ sym e;
+  named = ap task_by (ap (λ a. subcommand_of a words) (sym same) ∙ sym rows) ∙ sym e;
 }
 accepted_words app words made (Err fault) same accepted rows e = record {
   accepted = ap (λ a. fault_of a words) (sym same) ∙ accepted;
-  named = ap request_by (ap (λ a. subcommand_of a words) (sym same) ∙ sym rows) ∙ sym e;
+  named = ap task_by (ap (λ a. subcommand_of a words) (sym same) ∙ sym rows) ∙ sym e;
 }
 
 or_true : (b : Bool) → (b || true) ≡ true
@@ -45,7 +45,7 @@ among_passes p k (x ∷ xs) (inr later) e = ap (λ b. p x || b) (among_passes p 
 
 -- what an error of a parse comes to is what the words come to
 pub told_of_words : (words : List Text) (error : Error) (asked : Asked) → HasKind (fault_of arbiter_app words) error → FitsKind (kind_of error) asked → ComesTo words asked
-told_of_words words error (Command request) h told = absurd told
+told_of_words words error (Command task) h told = absurd told
 told_of_words words error (Refused fault) h told = absurd told
 told_of_words words error (Help text) (inl memory) told = let bad : false ≡ true = sym (ap is_shown memory) ∙ told in cc
 told_of_words words error (Help text) (inr among) told = among_passes is_shown _ _ among told

@@ -47,6 +47,10 @@ report_rule = record (new_rule (codes "report")) { long = Some (codes "report");
 abbrev pub by_rule : Rule
 by_rule = option_rule (codes "by")
 
+-- `--bye N`: 0 to 2
+abbrev pub bye_rule : Rule
+bye_rule = number_rule (codes "bye") (Signed (pos 0) (pos 2))
+
 -- ---- commands
 
 -- a command with the options of a round: `--rounds`, `--initial` and `--steps`
@@ -55,12 +59,12 @@ with_round_rules app = with_rule (with_rule (with_rule app rounds_rule) initial_
 
 -- `pair`
 abbrev pub pair_app : App
-pair_app = with_rule (with_round_rules (new_app (codes "pair"))) report_rule
+pair_app = with_rule (with_rule (with_round_rules (new_app (codes "pair"))) report_rule) bye_rule
 
 -- `candidates`
 abbrev pub candidates_app : App
-candidates_app = with_round_rules (with_rule (with_rule (with_rule (new_app (codes "candidates")) bracket_rule) from_rule) count_rule)
+candidates_app = with_rule (with_round_rules (with_rule (with_rule (with_rule (new_app (codes "candidates")) bracket_rule) from_rule) count_rule)) bye_rule
 
 -- `standings`
 abbrev pub standings_app : App
-standings_app = with_rule (new_app (codes "standings")) by_rule
+standings_app = with_rule (with_rule (new_app (codes "standings")) by_rule) bye_rule

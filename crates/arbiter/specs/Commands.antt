@@ -10,6 +10,7 @@ use Rattle.arbiter.specs.StandingsTexts.{standings_answer}
 use Rattle.arbiter.specs.Statuses.{Answer, refusal}
 use Rattle.arbiter.specs.Texts.{accepted_text}
 use Rattle.arbiter.specs.declared.reply.Status.TheVariants.{Done}
+use Rattle.arbiter.specs.declared.words.Task.{Task}
 use Rattle.arbiter.specs.declared.words.Request.{Request}
 use Rattle.arbiter.specs.declared.words.Request.TheVariants.{Check, Format, Pair, Candidates, Standings}
 
@@ -23,10 +24,14 @@ abbrev pub format_answer : Result Sheet Fault → Answer
 format_answer (Ok sheet) = record { status = Done; text = written sheet }
 format_answer (Err fault) = refusal fault
 
--- this is an answer to a request over an input
-abbrev pub Answers : Request → List ℕ → Answer → Type 0
-Answers Check input answer = answer ≡ check_answer (verdict input)
-Answers Format input answer = answer ≡ format_answer (verdict input)
-Answers (Pair options) input answer = AnswersPair options (verdict input) answer
-Answers (Candidates options) input answer = AnswersCandidates options (verdict input) answer
-Answers (Standings options) input answer = answer ≡ standings_answer options.keys (verdict input)
+-- this is an answer to a request over a report, or over why it is refused
+abbrev pub AnswersReport : Request → Result Sheet Fault → Answer → Type 0
+AnswersReport Check report answer = answer ≡ check_answer report
+AnswersReport Format report answer = answer ≡ format_answer report
+AnswersReport (Pair options) report answer = AnswersPair options report answer
+AnswersReport (Candidates options) report answer = AnswersCandidates options report answer
+AnswersReport (Standings options) report answer = answer ≡ standings_answer options.keys report
+
+-- this is an answer to a task over an input: its request's, over the verdict by what the pairing-allocated bye gives
+abbrev pub Answers : Task → List ℕ → Answer → Type 0
+Answers task input answer = AnswersReport task.request (verdict input task.bye) answer

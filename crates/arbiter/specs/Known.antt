@@ -21,10 +21,11 @@ CanBeAnswered (Pair options) = HasFewRounds options
 CanBeAnswered (Candidates options) = Unit {0}
 CanBeAnswered (Standings options) = Unit {0}
 
--- some text is this report
+-- some text is this report, by what the pairing-allocated bye gives
 pub record IsAccepted (sheet : Sheet) : Type 0 where
   pub bytes : List ℕ
-  pub is : verdict bytes ≡ Ok sheet
+  pub bye : ℕ
+  pub is : verdict bytes bye ≡ Ok sheet
 
 -- the boards of an outcome, if it has some, can be the next round of a report
 abbrev pub CanBeTold : Sheet → Outcome → Type 0

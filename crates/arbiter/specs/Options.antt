@@ -69,6 +69,10 @@ count_in rows = unwrap_or (number_in 18446744073709551615 (codes "count") rows) 
 abbrev pub bracket_in : List Row → ℕ
 bracket_in rows = unwrap_or (number_in 65535 (codes "bracket") rows) 1
 
+-- `--bye`: what the pairing-allocated bye gives in half points, 2 where it is left out (clap lets no words pass with one above 2)
+abbrev pub bye_in : List Row → ℕ
+bye_in rows = unwrap_or (number_in 2 (codes "bye") rows) 2
+
 -- `--from`: the cursor behind which the candidates begin, where a test says which texts are cursors
 abbrev pub from_in : (Text → Bool) → List Row → Result (Option Text) WordFault
 from_in is_cursor rows = read_by (λ text. if is_cursor text then Some text else None) BadCursor (first_of (codes "from") rows)

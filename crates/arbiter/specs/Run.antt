@@ -10,7 +10,7 @@ use Rattle.arbiter.specs.Words.{AsksFor, AsksForHelp, AsksWrongly, IsMistaken}
 use Rattle.arbiter.specs.declared.options.WordFault.{WordFault}
 use Rattle.arbiter.specs.declared.reply.Status.{Status}
 use Rattle.arbiter.specs.declared.reply.Status.TheVariants.{Done, BadWords, Trouble}
-use Rattle.arbiter.specs.declared.words.Request.{Request}
+use Rattle.arbiter.specs.declared.words.Task.{Task}
 
 -- ---- what is answered
 
@@ -19,12 +19,12 @@ abbrev pub IsInput : Option (List ℕ) → List ℕ → Type 0
 IsInput None input = Unit {0}
 IsInput (Some bytes) input = input ≡ bytes
 
--- a request is answered over the bytes of the source
-pub record IsAnswered (request : Request) (source : Reading) (answer : Answer) : Type 0 where
+-- a task is answered over the bytes of the source
+pub record IsAnswered (task : Task) (source : Reading) (answer : Answer) : Type 0 where
   pub input : List ℕ
   pub read : IsInput source.device.before input
   pub sound : HasNotFailed source.device
-  pub answers : Answers request input answer
+  pub answers : Answers task input answer
 
 -- a call of the source failed
 pub record HasReadFault (source : Reading) (answer : Answer) : Type 0 where
@@ -36,15 +36,15 @@ pub record IsOutOfMemory (source : Reading) (answer : Answer) : Type 0 where
   pub sound : HasNotFailed source.device
   pub tells : answer ≡ out_of_memory
 
--- what is answered to a request
-abbrev pub IsReplyTo : Request → Reading → Answer → Type 0
-IsReplyTo request source answer = IsAnswered request source answer ⊎ (HasReadFault source answer ⊎ IsOutOfMemory source answer)
+-- what is answered to a task
+abbrev pub IsReplyTo : Task → Reading → Answer → Type 0
+IsReplyTo task source answer = IsAnswered task source answer ⊎ (HasReadFault source answer ⊎ IsOutOfMemory source answer)
 
--- the words make a request, which is answered
+-- the words make a task, which is answered
 pub record IsCarriedOut (words : List (List ℕ)) (source : Reading) (answer : Answer) : Type 0 where
-  pub request : Request
-  pub asked : AsksFor words request
-  pub replies : IsReplyTo request source answer
+  pub task : Task
+  pub asked : AsksFor words task
+  pub replies : IsReplyTo task source answer
 
 -- the words ask for help or the version, and nothing is read; the text is clap's
 pub record IsHelped (words : List (List ℕ)) (source : Reading) (answer : Answer) : Type 0 where

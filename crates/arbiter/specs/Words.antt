@@ -1,27 +1,28 @@
 -- What the words of a command line ask for, by clap's rules at the program's command.
-use Rattle.std.specs.Prelude.{◌≡◌, Bool, true, false, List, [], Option, Some, None, Result, Ok, Err, option_and_then, codes, if◌then◌else◌}
+use Rattle.std.specs.Prelude.{◌≡◌, ℕ, Bool, true, false, List, [], Option, Some, None, Result, Ok, Err, option_and_then, option_map, codes, if◌then◌else◌}
 use Rattle.std.specs.List.{list_any}
 use Rattle.std.specs.Str.{bytes_eq}
-use Rattle.clap.specs.Words.{App, Row, Text, new_app, subcommand_of, with_subcommand, fault_of}
+use Rattle.clap.specs.Words.{App, Row, Text, new_app, subcommand_of, with_rule, with_subcommand, fault_of}
 use Rattle.clap.specs.Simple.{on_top}
 use Rattle.clap.specs.declared.error.kind.ErrorKind.{ErrorKind}
 use Rattle.clap.specs.declared.error.kind.ErrorKind.TheVariants.{DisplayHelp, DisplayVersion, OutOfMemory}
 use Rattle.dutch_order.specs.Cursors.{has_syntax}
+use Rattle.arbiter.specs.declared.words.Task.{Task}
 use Rattle.arbiter.specs.declared.words.Request.{Request}
 use Rattle.arbiter.specs.declared.words.Request.TheVariants.{Check, Format, Pair, Candidates, Standings}
-use Rattle.arbiter.specs.CommandLine.{candidates_app, pair_app, standings_app}
-use Rattle.arbiter.specs.Options.{◌>>=◌, candidates_options, pair_options, standings_options}
+use Rattle.arbiter.specs.CommandLine.{bye_rule, candidates_app, pair_app, standings_app}
+use Rattle.arbiter.specs.Options.{◌>>=◌, bye_in, candidates_options, pair_options, standings_options}
 use Rattle.arbiter.specs.declared.words.Asked.{Asked}
 use Rattle.arbiter.specs.declared.words.Asked.TheVariants.{Command, Help, Mistake, Refused}
 use Rattle.arbiter.specs.declared.options.WordFault.{WordFault}
 
--- `check`, without options
+-- `check`
 abbrev pub check_app : App
-check_app = new_app (codes "check")
+check_app = with_rule (new_app (codes "check")) bye_rule
 
--- `format`, without options
+-- `format`
 abbrev pub format_app : App
-format_app = new_app (codes "format")
+format_app = with_rule (new_app (codes "format")) bye_rule
 
 -- a command with a version
 abbrev pub versioned : App → App
@@ -71,13 +72,22 @@ request_of name rows =
     else (if bytes_eq name (codes "candidates") then Some (candidates_request rows)
     else (if bytes_eq name (codes "standings") then Some (standings_request rows) else None))))
 
--- the same of the command that clap found, with its rows
-abbrev pub request_by : Option (Text × List Row) → Option (Result Request WordFault)
-request_by = option_and_then (λ command. request_of command.0 command.1)
+-- a request over a report in which the pairing-allocated bye gives so many half points, or what is wrong with its options
+abbrev pub with_bye : ℕ → Result Request WordFault → Result Task WordFault
+with_bye bye (Ok request) = Ok (record { request = request; bye = bye })
+with_bye bye (Err fault) = Err fault
 
--- what a request comes to, or what is wrong with its options
-abbrev pub asked_by : Result Request WordFault → Asked
-asked_by (Ok request) = Command request
+-- the task that a command and its options make, or what is wrong with them; none where there is no such command
+abbrev pub task_of : Text → List Row → Option (Result Task WordFault)
+task_of name rows = option_map (with_bye (bye_in rows)) (request_of name rows)
+
+-- the same of the command that clap found, with its rows
+abbrev pub task_by : Option (Text × List Row) → Option (Result Task WordFault)
+task_by = option_and_then (λ command. task_of command.0 command.1)
+
+-- what a task comes to, or what is wrong with its options
+abbrev pub asked_by : Result Task WordFault → Asked
+asked_by (Ok task) = Command task
 asked_by (Err fault) = Refused fault
 
 -- an error of clap's that shows what was asked for: help, or the version
@@ -93,15 +103,15 @@ is_mistake DisplayVersion = false
 is_mistake OutOfMemory = false
 is_mistake _ = true
 
--- the words are accepted by clap's rules, and this is the request that they make
-pub record AsksFor (words : List Text) (request : Request) : Type 0 where
+-- the words are accepted by clap's rules, and this is the task that they make
+pub record AsksFor (words : List Text) (task : Task) : Type 0 where
   pub accepted : fault_of arbiter_app words ≡ []
-  pub named : request_by (subcommand_of arbiter_app words) ≡ Some (Ok request)
+  pub named : task_by (subcommand_of arbiter_app words) ≡ Some (Ok task)
 
 -- the words are accepted by clap's rules, and this is wrong with their options
 pub record AsksWrongly (words : List Text) (fault : WordFault) : Type 0 where
   pub accepted : fault_of arbiter_app words ≡ []
-  pub named : request_by (subcommand_of arbiter_app words) ≡ Some (Err fault)
+  pub named : task_by (subcommand_of arbiter_app words) ≡ Some (Err fault)
 
 -- clap's rules answer the words with help or the version
 abbrev pub AsksForHelp : List Text → Type 0
@@ -113,14 +123,14 @@ IsMistaken words = list_any is_mistake (fault_of arbiter_app words) ≡ true
 
 -- what the words come to; the texts of help and mistakes are clap's
 abbrev pub ComesTo : List Text → Asked → Type 0
-ComesTo words (Command request) = AsksFor words request
+ComesTo words (Command task) = AsksFor words task
 ComesTo words (Help text) = AsksForHelp words
 ComesTo words (Mistake text) = IsMistaken words
 ComesTo words (Refused fault) = AsksWrongly words fault
 
 -- the same of one error of clap's
 abbrev pub FitsKind : ErrorKind → Asked → Type 0
-FitsKind kind (Command request) = ⊥
+FitsKind kind (Command task) = ⊥
 FitsKind kind (Help text) = is_shown kind ≡ true
 FitsKind kind (Mistake text) = is_mistake kind ≡ true
 FitsKind kind (Refused fault) = ⊥

@@ -1,7 +1,7 @@
 // The options of the commands, as clap is told of them.
 ghost use Rattle.std.specs.Prelude.{◌≡◌, false};
 ghost use Rattle.clap.specs.Words.{rule_of};
-ghost use Rattle.arbiter.specs.CommandLine.{bracket_rule, by_rule, count_rule, from_rule, initial_rule, option_rule};
+ghost use Rattle.arbiter.specs.CommandLine.{bracket_rule, by_rule, bye_rule, count_rule, from_rule, initial_rule, option_rule};
 ghost use Rattle.arbiter.specs.CommandLine.{report_rule, rounds_rule, steps_rule};
 
 use clap::{Arg, ArgAction, value_parser};
@@ -87,6 +87,16 @@ pub fn by<'a>(alloc: Global) -> Arg<'a>
     option(alloc, "by", "LIST").help(
         "What tells players of one score apart: one to three of direct, buchholz and sb, joined by commas, none twice [default: direct,buchholz,sb]",
     )
+}
+
+/// `--bye N`.
+pub fn bye<'a>(alloc: Global) -> Arg<'a>
+    ensures rule { rule_of result ≡ bye_rule }
+    ensures local { result.global ≡ false }
+{
+    option(alloc, "bye", "N")
+        .value_parser(value_parser!(u16).range(0..=2))
+        .help("Half points that the pairing-allocated bye gives, 0 to 2 [default: 2]")
 }
 
 // An option that takes one value.

@@ -26,15 +26,17 @@ use std::alloc::{AllocError, Global};
 use trf16::fault::Fault;
 use trf16::report::Report;
 
-/// What `candidates` says of the bytes of a report.
+/// What `candidates` says of the bytes of a report in which the pairing-allocated bye gives `bye` half points.
 pub fn candidates(
     alloc: Global,
     options: &CandidatesOptions<'_>,
     bytes: &[u8],
+    bye: u16,
 ) -> Result<Reply, AllocError>
-    ensures { IfOk result (λ reply. AnswersCandidates options.now (verdict bytes.now) (answer_of reply)) }
+    requires { bye ≤ 2 }
+    ensures { IfOk result (λ reply. AnswersCandidates options.now (verdict bytes.now bye) (answer_of reply)) }
 {
-    match trf16::read(alloc, bytes) {
+    match trf16::read_with(alloc, bytes, bye) {
         Ok(report) => of_report(alloc, options, &report),
         Err(Fault::OutOfMemory) => Err(AllocError),
         Err(fault) => refused(alloc, fault),

@@ -1,5 +1,5 @@
 // The command `check`: whether a report is accepted, and how many players and rounds it has.
-ghost use Rattle.std.specs.Prelude.{◌≡◌, IfOk, Ok};
+ghost use Rattle.std.specs.Prelude.{◌≡◌, ◌≤◌, IfOk, Ok};
 ghost use Rattle.trf16.specs.Verdict.{verdict};
 ghost use Rattle.arbiter.specs.Commands.{check_answer};
 ghost use Rattle.arbiter.specs.Replies.{answer_of};
@@ -11,11 +11,12 @@ use std::alloc::{AllocError, Global};
 use trf16::fault::Fault;
 use trf16::report::Report;
 
-/// What `check` says of the bytes of a report.
-pub fn check(alloc: Global, bytes: &[u8]) -> Result<Reply, AllocError>
-    ensures { IfOk result (λ reply. answer_of reply ≡ check_answer (verdict bytes.now)) }
+/// What `check` says of the bytes of a report in which the pairing-allocated bye gives `bye` half points.
+pub fn check(alloc: Global, bytes: &[u8], bye: u16) -> Result<Reply, AllocError>
+    requires { bye ≤ 2 }
+    ensures { IfOk result (λ reply. answer_of reply ≡ check_answer (verdict bytes.now bye)) }
 {
-    match trf16::read(alloc, bytes) {
+    match trf16::read_with(alloc, bytes, bye) {
         Ok(report) => accepted(alloc, &report),
         Err(Fault::OutOfMemory) => Err(AllocError),
         Err(fault) => refused(alloc, fault),

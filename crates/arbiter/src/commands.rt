@@ -1,9 +1,9 @@
-// The commands with options, as clap is told of them.
+// The commands with options of their own, and what all commands take, as clap is told of them.
 ghost use Rattle.std.specs.Prelude.{◌≡◌, IfOk, codes, false};
 ghost use Rattle.clap.specs.declared.Command.{out-Command as fields_of};
 ghost use Rattle.clap.specs.Words.{app_of, new_app, with_rule};
 ghost use Rattle.arbiter.specs.CommandLine.{candidates_app, pair_app, standings_app, with_round_rules};
-ghost use Rattle.arbiter.specs.CommandLine.{bracket_rule, count_rule, from_rule};
+ghost use Rattle.arbiter.specs.CommandLine.{bracket_rule, bye_rule, count_rule, from_rule};
 
 use crate::arguments;
 use clap::Command;
@@ -19,7 +19,8 @@ pub fn pair_command<'a>(alloc: Global) -> Result<Command<'a>, AllocError>
         .after_help(
             "The report is read from standard input. Printed are the number of lines that follow, and then a line 'white black' for each board, in start ranks; 'player 0' is the bye.\n\nExample: arbiter pair --rounds 7 --initial white < report.trf",
         );
-    with_round(alloc, command)?.arg(arguments::report(alloc))
+    let command = with_round(alloc, command)?.arg(arguments::report(alloc))?;
+    with_worth(alloc, command)
 }
 
 /// The command `candidates`.
@@ -32,7 +33,8 @@ pub fn candidates_command<'a>(alloc: Global) -> Result<Command<'a>, AllocError>
         .after_help(
             "The report is read from standard input. Printed are the bracket's kind and shape, and then a line for each candidate: its cursor, its pairs in start ranks, and who moves down; the last line says 'end', or 'more' where the count was reached first.\n\nExample: arbiter candidates --bracket 1 --count 20 < report.trf",
         );
-    with_round(alloc, with_bracket(alloc, command)?)
+    let command = with_round(alloc, with_bracket(alloc, command)?)?;
+    with_worth(alloc, command)
 }
 
 /// The command `standings`.
@@ -40,12 +42,21 @@ pub fn standings_command<'a>(alloc: Global) -> Result<Command<'a>, AllocError>
     ensures app { IfOk result (λ command. app_of command ≡ standings_app) }
     ensures local { IfOk result (λ command. (fields_of command).has_globals ≡ false) }
 {
-    Command::new(alloc, "standings")
+    let command = Command::new(alloc, "standings")
         .about("Ranks the players by score and by the keys that break ties")
         .after_help(
             "The report is read from standard input. Printed is a line for each player: place, start rank, score, and the keys.\n\nExample: arbiter standings --by buchholz,sb < report.trf",
         )
-        .arg(arguments::by(alloc))
+        .arg(arguments::by(alloc))?;
+    with_worth(alloc, command)
+}
+
+/// A command that is told what the pairing-allocated bye is worth, as every command is.
+pub fn with_worth<'a>(alloc: Global, command: Command<'a>) -> Result<Command<'a>, AllocError>
+    ensures app { IfOk result (λ more. app_of more ≡ with_rule (app_of command.entry) bye_rule) }
+    ensures local { IfOk result (λ more. (fields_of more).has_globals ≡ (fields_of command.entry).has_globals) }
+{
+    command.arg(arguments::bye(alloc))
 }
 
 // A command with the options that say which candidates of which bracket are wanted.

@@ -1,5 +1,5 @@
 // The command `format`: a report in canonical columns.
-ghost use Rattle.std.specs.Prelude.{◌≡◌, IfOk, Ok};
+ghost use Rattle.std.specs.Prelude.{◌≡◌, ◌≤◌, IfOk, Ok};
 ghost use Rattle.trf16.specs.Verdict.{verdict};
 ghost use Rattle.arbiter.specs.Commands.{format_answer};
 ghost use Rattle.arbiter.specs.Replies.{answer_of};
@@ -11,11 +11,12 @@ use trf16::devices::{Counted, Failed};
 use trf16::fault::Fault;
 use trf16::report::Report;
 
-/// What `format` says of the bytes of a report.
-pub fn format(alloc: Global, bytes: &[u8]) -> Result<Reply, AllocError>
-    ensures { IfOk result (λ reply. answer_of reply ≡ format_answer (verdict bytes.now)) }
+/// What `format` says of the bytes of a report in which the pairing-allocated bye gives `bye` half points.
+pub fn format(alloc: Global, bytes: &[u8], bye: u16) -> Result<Reply, AllocError>
+    requires { bye ≤ 2 }
+    ensures { IfOk result (λ reply. answer_of reply ≡ format_answer (verdict bytes.now bye)) }
 {
-    match trf16::read(alloc, bytes) {
+    match trf16::read_with(alloc, bytes, bye) {
         Ok(report) => rewritten(alloc, &report),
         Err(Fault::OutOfMemory) => Err(AllocError),
         Err(fault) => refused(alloc, fault),

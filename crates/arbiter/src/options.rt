@@ -1,7 +1,7 @@
 // The options of the commands, from what clap makes of the words.
 ghost use Rattle.std.specs.Prelude.{◌≡◌, ℕ, List, Bool, option_map, codes, if◌then◌else◌};
 ghost use Rattle.clap.specs.Words.{first_of};
-ghost use Rattle.arbiter.specs.Options.{bracket_in, candidates_options, count_in, flag_in, from_in, initial_in, keys_by};
+ghost use Rattle.arbiter.specs.Options.{bracket_in, bye_in, candidates_options, count_in, flag_in, from_in, initial_in, keys_by};
 ghost use Rattle.arbiter.specs.Options.{pair_options, rounds_in, rows_in, standings_options, steps_in};
 
 use crate::keys::{Keys, keys_in};
@@ -129,6 +129,16 @@ pub fn candidates_options<'a, S: CursorSyntax>(
         initial,
         steps: steps_in(matches),
     })
+}
+
+/// `--bye`: what the pairing-allocated bye gives, in half points. No words with one above 2 come here.
+pub fn bye_in(matches: &ArgMatches<'_>) -> u16
+    ensures { result ≡ bye_in (rows_in matches.now) }
+{
+    matches
+        .get_one::<u16>("bye")
+        .filter(|bye| *bye <= 2)
+        .unwrap_or(2)
 }
 
 // `--initial`: the colour of the higher-ranked of two players where nothing else decides and his start rank is odd (C.04.3 E.5).

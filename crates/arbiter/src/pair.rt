@@ -1,5 +1,5 @@
 // The command `pair`: the boards of the next round, or the report with that round.
-ghost use Rattle.std.specs.Prelude.{◌≡◌, ◌++◌, IfOk, Ok, OnOk, codes, length, string_bytes};
+ghost use Rattle.std.specs.Prelude.{◌≡◌, ◌≤◌, ◌++◌, IfOk, Ok, OnOk, codes, length, string_bytes};
 ghost use Rattle.std.specs.List.{flat_map};
 ghost use Rattle.std.specs.Fmt.{decimal};
 ghost use Rattle.dutch_player.specs.Facts.{facts_of};
@@ -24,13 +24,19 @@ use std::alloc::{AllocError, Global};
 use trf16::fault::Fault;
 use trf16::report::Report;
 
-/// What `pair` says of the bytes of a report.
+/// What `pair` says of the bytes of a report in which the pairing-allocated bye gives `bye` half points.
 #[tactic(auto, using(crate::proofs::PairLemmas::accepted))]
-pub fn pair(alloc: Global, options: PairOptions, bytes: &[u8]) -> Result<Reply, AllocError>
-    requires { HasFewRounds options }
-    ensures { IfOk result (λ reply. AnswersPair options (verdict bytes.now) (answer_of reply)) }
+pub fn pair(
+    alloc: Global,
+    options: PairOptions,
+    bytes: &[u8],
+    bye: u16,
+) -> Result<Reply, AllocError>
+    requires rounds { HasFewRounds options }
+    requires worth { bye ≤ 2 }
+    ensures { IfOk result (λ reply. AnswersPair options (verdict bytes.now bye) (answer_of reply)) }
 {
-    match trf16::read(alloc, bytes) {
+    match trf16::read_with(alloc, bytes, bye) {
         Ok(report) => of_report(alloc, options, &report),
         Err(Fault::OutOfMemory) => Err(AllocError),
         Err(fault) => refused(alloc, fault),

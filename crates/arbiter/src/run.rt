@@ -17,7 +17,7 @@ use crate::pair::pair;
 use crate::reply::{Reply, Status, Text};
 use crate::standings::standings;
 use crate::texts;
-use crate::words::{Asked, Request, read_words};
+use crate::words::{Asked, Request, Task, read_words};
 use std::alloc::{AllocError, Global};
 use trf16::devices::{Sink, Source};
 
@@ -41,14 +41,14 @@ pub fn run<'a, R: Source, O: Sink, E: Sink>(
 }
 
 // What is answered to the words and to what the source gives.
-#[tactic(auto, using(crate::proofs::AskedLemmas::can_be_answered))]
+#[tactic(auto, using(crate::proofs::AskedLemmas::can_be_answered, crate::proofs::AskedLemmas::has_small_bye))]
 fn reply_to<'a, R: Source>(alloc: Global, words: &'a [&'a str], reader: &mut R) -> Reply
     ensures answers { IsAnswer (map (λ word. word.now) words.now)
         (reading_of R.left R.failures R.calls reader.old reader.new) (answer_of result) }
     ensures bounded { R.calls reader.new ≤ R.calls reader.old + most_read }
 {
     match read_words(alloc, words) {
-        Ok(Asked::Command(request)) => reply_to_request(alloc, request, reader),
+        Ok(Asked::Command(task)) => reply_to_task(alloc, task, reader),
         Ok(Asked::Help(text)) => Reply {
             status: Status::Done,
             text: Text::Made(text),
@@ -65,16 +65,17 @@ fn reply_to<'a, R: Source>(alloc: Global, words: &'a [&'a str], reader: &mut R) 
     }
 }
 
-// What is answered to a request, over what the source gives.
+// What is answered to a task, over what the source gives.
 #[tactic(auto, using(crate::proofs::RunLemmas::answered))]
-fn reply_to_request<R: Source>(alloc: Global, request: Request<'_>, reader: &mut R) -> Reply
-    requires { CanBeAnswered request }
-    ensures replies { IsReplyTo request.entry
+fn reply_to_task<R: Source>(alloc: Global, task: Task<'_>, reader: &mut R) -> Reply
+    requires rounds { CanBeAnswered task.request }
+    requires worth { task.bye ≤ 2 }
+    ensures replies { IsReplyTo task.entry
         (reading_of R.left R.failures R.calls reader.old reader.new) (answer_of result) }
     ensures bounded { R.calls reader.new ≤ R.calls reader.old + most_read }
 {
     match read_input(alloc, reader) {
-        Ok(input) => match answer(alloc, request, input.as_slice()) {
+        Ok(input) => match answer(alloc, task, input.as_slice()) {
             Ok(reply) => reply,
             Err(AllocError) => out_of_memory(),
         },
@@ -84,16 +85,18 @@ fn reply_to_request<R: Source>(alloc: Global, request: Request<'_>, reader: &mut
 }
 
 // The answer of a command to the bytes of its input.
-fn answer(alloc: Global, request: Request<'_>, input: &[u8]) -> Result<Reply, AllocError>
-    requires { CanBeAnswered request }
-    ensures { IfOk result (λ reply. Answers request.entry input.now (answer_of reply)) }
+fn answer(alloc: Global, task: Task<'_>, input: &[u8]) -> Result<Reply, AllocError>
+    requires rounds { CanBeAnswered task.request }
+    requires worth { task.bye ≤ 2 }
+    ensures { IfOk result (λ reply. Answers task.entry input.now (answer_of reply)) }
 {
+    let Task { request, bye } = task;
     match request {
-        Request::Check => check(alloc, input),
-        Request::Format => format(alloc, input),
-        Request::Candidates(options) => candidates(alloc, &options, input),
-        Request::Standings(options) => standings(alloc, options.keys.as_slice(), input),
-        Request::Pair(options) => pair(alloc, options, input),
+        Request::Check => check(alloc, input, bye),
+        Request::Format => format(alloc, input, bye),
+        Request::Candidates(options) => candidates(alloc, &options, input, bye),
+        Request::Standings(options) => standings(alloc, options.keys.as_slice(), input, bye),
+        Request::Pair(options) => pair(alloc, options, input, bye),
     }
 }
 
@@ -117,6 +120,8 @@ fn out_of_memory() -> Reply
     }
 }
 
+#[cfg(test)]
+mod bye_tests;
 #[cfg(test)]
 mod candidates_tests;
 #[cfg(test)]

@@ -13,11 +13,17 @@ use tiebreak::row::Row;
 use trf16::fault::Fault;
 use trf16::report::Report;
 
-/// What `standings` says of the bytes of a report.
-pub fn standings(alloc: Global, keys: &[Key], bytes: &[u8]) -> Result<Reply, AllocError>
-    ensures { IfOk result (λ reply. answer_of reply ≡ standings_answer keys.now (verdict bytes.now)) }
+/// What `standings` says of the bytes of a report in which the pairing-allocated bye gives `bye` half points.
+pub fn standings(
+    alloc: Global,
+    keys: &[Key],
+    bytes: &[u8],
+    bye: u16,
+) -> Result<Reply, AllocError>
+    requires { bye ≤ 2 }
+    ensures { IfOk result (λ reply. answer_of reply ≡ standings_answer keys.now (verdict bytes.now bye)) }
 {
-    match trf16::read(alloc, bytes) {
+    match trf16::read_with(alloc, bytes, bye) {
         Ok(report) => of_report(alloc, keys, &report),
         Err(Fault::OutOfMemory) => Err(AllocError),
         Err(fault) => refused(alloc, fault),

@@ -4,13 +4,13 @@ ghost use Rattle.clap.specs.declared.Command.{out-Command as fields_of};
 ghost use Rattle.clap.specs.Words.{app_of, kind_of, new_app, subcommand_rows_of};
 ghost use Rattle.dutch_order.specs.Cursors.{has_syntax};
 ghost use Rattle.arbiter.specs.Options.{rows_in};
-ghost use Rattle.arbiter.specs.Words.{ComesTo, FitsKind, asked_by, candidates_request, pair_request, request_by, request_of, standings_request, with_engine};
+ghost use Rattle.arbiter.specs.Words.{ComesTo, FitsKind, asked_by, candidates_request, pair_request, request_of, standings_request, task_by, task_of, with_bye, with_engine};
 ghost use Rattle.arbiter.specs.Words.{arbiter_app, check_app, format_app, settled, versioned};
 
-use crate::commands::{candidates_command, pair_command, standings_command};
+use crate::commands::{candidates_command, pair_command, standings_command, with_worth};
 use crate::options::{
-    CandidatesOptions, CursorSyntax, PairOptions, StandingsOptions, WordFault, candidates_options,
-    pair_options, standings_options,
+    CandidatesOptions, CursorSyntax, PairOptions, StandingsOptions, WordFault, bye_in,
+    candidates_options, pair_options, standings_options,
 };
 use clap::error::ErrorKind;
 use clap::{ArgMatches, Command, Error};
@@ -32,11 +32,20 @@ pub enum Request<'a> {
     Standings(StandingsOptions),
 }
 
+/// A request, and what its report is read by.
+#[derive(Debug, Drop)]
+pub struct Task<'a> {
+    /// What is asked for.
+    pub request: Request<'a>,
+    /// What the pairing-allocated bye gives in the report, in half points: at most 2.
+    pub bye: u16,
+}
+
 /// What the words of a command line come to.
 #[derive(Debug, Drop)]
 pub enum Asked<'a> {
     /// They ask for a command.
-    Command(Request<'a>),
+    Command(Task<'a>),
     /// They ask for help or the version, which is this text.
     Help(String),
     /// They are refused by clap, for the reason that the text gives.
@@ -51,22 +60,42 @@ pub fn read_words<'a>(alloc: Global, words: &'a [&'a str]) -> Result<Asked<'a>, 
 {
     match arbiter_command(alloc)?.try_get_matches_from(words) {
         Ok(matches) => {
-            let Some(request) = request_in(&matches) else {
+            let Some(task) = task_in(&matches) else {
                 unreachable!();
             };
-            Ok(asked_by(request))
+            Ok(asked_by(task))
         }
         Err(error) => told(alloc, &error),
     }
 }
 
-// The request that clap's matches make, or what is wrong with its options.
-fn request_in<'a>(matches: &ArgMatches<'a>) -> Option<Result<Request<'a>, WordFault>>
-    ensures { result ≡ request_by (subcommand_rows_of matches.now) }
+// The task that clap's matches make, or what is wrong with its options.
+fn task_in<'a>(matches: &ArgMatches<'a>) -> Option<Result<Task<'a>, WordFault>>
+    ensures { result ≡ task_by (subcommand_rows_of matches.now) }
 {
     match matches.subcommand() {
-        Some((name, options)) => request_of(name, options),
+        Some((name, options)) => task_of(name, options),
         None => None,
+    }
+}
+
+// The task that a command and its options make, or what is wrong with them; none where there is no such command.
+fn task_of<'a>(name: &str, options: &ArgMatches<'a>) -> Option<Result<Task<'a>, WordFault>>
+    ensures { result ≡ task_of name.now (rows_in options.now) }
+{
+    match request_of(name, options) {
+        Some(request) => Some(with_bye(bye_in(options), request)),
+        None => None,
+    }
+}
+
+// A request over a report in which the pairing-allocated bye gives so many half points, or what is wrong with its options.
+fn with_bye<'a>(bye: u16, request: Result<Request<'a>, WordFault>) -> Result<Task<'a>, WordFault>
+    ensures { result ≡ with_bye bye request.entry }
+{
+    match request {
+        Ok(request) => Ok(Task { request, bye }),
+        Err(fault) => Err(fault),
     }
 }
 
@@ -116,12 +145,12 @@ impl CursorSyntax for Cursor {
     }
 }
 
-// What a request comes to, or what is wrong with its options.
-fn asked_by<'a>(request: Result<Request<'a>, WordFault>) -> Asked<'a>
-    ensures { result ≡ asked_by request.entry }
+// What a task comes to, or what is wrong with its options.
+fn asked_by<'a>(task: Result<Task<'a>, WordFault>) -> Asked<'a>
+    ensures { result ≡ asked_by task.entry }
 {
-    match request {
-        Ok(request) => Asked::Command(request),
+    match task {
+        Ok(task) => Asked::Command(task),
         Err(fault) => Asked::Refused(fault),
     }
 }
@@ -145,8 +174,8 @@ fn arbiter_command<'a>(alloc: Global) -> Result<Command<'a>, AllocError>
     ensures local { IfOk result (λ command. (fields_of command).has_globals ≡ false) }
 {
     let command = with_settings(named(alloc)?)
-        .subcommand(check_command(alloc))?
-        .subcommand(format_command(alloc))?;
+        .subcommand(check_command(alloc)?)?
+        .subcommand(format_command(alloc)?)?;
     with_engine(alloc, command)
 }
 
@@ -191,25 +220,27 @@ fn with_settings<'a>(command: Command<'a>) -> Command<'a>
 }
 
 // The command `check`.
-fn check_command<'a>(alloc: Global) -> Command<'a>
-    ensures app { app_of result ≡ check_app }
-    ensures local { (fields_of result).has_globals ≡ false }
+fn check_command<'a>(alloc: Global) -> Result<Command<'a>, AllocError>
+    ensures app { IfOk result (λ command. app_of command ≡ check_app) }
+    ensures local { IfOk result (λ command. (fields_of command).has_globals ≡ false) }
 {
-    Command::new(alloc, "check")
+    let command = Command::new(alloc, "check")
         .about("Tells how many players and rounds the report has, or why it is refused")
         .after_help(
             "The report is read from standard input. Printed are the numbers of its players and of the rounds that were paired; why it is refused goes to standard error.\n\nExample: arbiter check < report.trf",
-        )
+        );
+    with_worth(alloc, command)
 }
 
 // The command `format`.
-fn format_command<'a>(alloc: Global) -> Command<'a>
-    ensures app { app_of result ≡ format_app }
-    ensures local { (fields_of result).has_globals ≡ false }
+fn format_command<'a>(alloc: Global) -> Result<Command<'a>, AllocError>
+    ensures app { IfOk result (λ command. app_of command ≡ format_app) }
+    ensures local { IfOk result (λ command. (fields_of command).has_globals ≡ false) }
 {
-    Command::new(alloc, "format")
+    let command = Command::new(alloc, "format")
         .about("Writes the report in canonical columns, or tells why it is refused")
         .after_help(
             "The report is read from standard input. Printed is each player's line in TRF16's columns, and each other line as it stands.\n\nExample: arbiter format < report.trf > canonical.trf",
-        )
+        );
+    with_worth(alloc, command)
 }

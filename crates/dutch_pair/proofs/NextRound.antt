@@ -30,10 +30,10 @@ total_few sheet None total few own e = at' sheet.total own e
 flips : (x y : ℕ) → nat_eq x y ≡ nat_eq y x
 flips x y = grind (arith, nat_tests)
 
-pub can_be_next : (bytes : List ℕ) (sheet : Sheet) (asked : Option ℕ) (initial : Option Colour) (facts : Facts) (pairing : Pairing) → verdict bytes ≡ Ok sheet
-    → IfSome asked (λ total. total ≤ 32) → facts_of sheet asked initial ≡ Ok facts → (round facts).pairing ≡ Some pairing → CanBePaired (boards facts pairing) sheet
-can_be_next bytes sheet asked initial facts pairing read few made paired =
-    let own = own_starts bytes sheet read in
+pub can_be_next : (bytes : List ℕ) (bye : ℕ) (sheet : Sheet) (asked : Option ℕ) (initial : Option Colour) (facts : Facts) (pairing : Pairing)
+    → verdict bytes bye ≡ Ok sheet → IfSome asked (λ total. total ≤ 32) → facts_of sheet asked initial ≡ Ok facts → (round facts).pairing ≡ Some pairing → CanBePaired (boards facts pairing) sheet
+can_be_next bytes bye sheet asked initial facts pairing read few made paired =
+    let own = own_starts bytes bye sheet read in
     let field = field_of sheet asked initial facts own made in
     let order : NameEverybodyOnce facts (boards facts pairing) = everybody_named facts pairing field.from_one paired in
     let named : List ℕ = named_by (boards facts pairing) in

@@ -67,8 +67,8 @@ pub fn at_most_one_has_the_bye()
 /// The boards of a round can be the next round of the accepted report that it is paired from, where a total of rounds that is asked
 /// for is at most 32.
 pub fn boards_can_be_the_next_round()
-    ensures { (bytes : List ℕ) (sheet : Sheet) (asked : Option ℕ) (initial : Option Colour) (facts : Facts) (pairing : Pairing) → verdict bytes ≡ Ok sheet
-        → IfSome asked (λ total. total ≤ 32) → facts_of sheet asked initial ≡ Ok facts → (round facts).pairing ≡ Some pairing
+    ensures { (bytes : List ℕ) (bye : ℕ) (sheet : Sheet) (asked : Option ℕ) (initial : Option Colour) (facts : Facts) (pairing : Pairing)
+        → verdict bytes bye ≡ Ok sheet → IfSome asked (λ total. total ≤ 32) → facts_of sheet asked initial ≡ Ok facts → (round facts).pairing ≡ Some pairing
         → CanBePaired (boards facts pairing) sheet }
 {}
 

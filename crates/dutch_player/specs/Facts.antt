@@ -70,7 +70,7 @@ seat_of sheet entry =
     let cells = take rounds entry.cells in
     record {
       start = entry.start;
-      score = score cells;
+      score = score sheet.bye cells;
       played = played cells;
       opponents = opponents cells;
       latest = float_in sheet cells rounds;

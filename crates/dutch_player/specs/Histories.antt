@@ -10,9 +10,9 @@ use Rattle.trf16.specs.Sheet.{Sheet, half_points, points_upto, cell_at}
 use Rattle.dutch_player.specs.declared.float.Float.{Float}
 use Rattle.dutch_player.specs.declared.float.Float.TheVariants.{Up, Down}
 
--- A.2: the score in half points
-abbrev pub score : List Cell → ℕ
-score cells = sum_by half_points cells
+-- A.2: the score in half points, where the pairing-allocated bye gives so many
+abbrev pub score : ℕ → List Cell → ℕ
+score bye cells = sum_by (half_points bye) cells
 
 -- the colour of a game that was played; that of a forfeit is none
 abbrev pub colour_played : Cell → Option Colour
@@ -51,7 +51,7 @@ float_between mine theirs = if nat_lt theirs mine then Some Down else (if nat_lt
 -- played, down, also in rounds that he missed before a late entry (our own choice)
 abbrev pub float_by : Sheet → List Cell → ℕ → Cell → Option Float
 float_by sheet cells before cell =
-    option_map_or (λ opponent. float_between (score (take before cells)) (points_upto sheet opponent before)) (opponent_played cell) (Some Down)
+    option_map_or (λ opponent. float_between (score sheet.bye (take before cells)) (points_upto sheet opponent before)) (opponent_played cell) (Some Down)
 
 -- A.4: the float of a round; before round 1 there is none
 abbrev pub float_in : Sheet → List Cell → ℕ → Option Float

@@ -6,7 +6,7 @@ ghost use Rattle.dutch_player.specs.Histories.{colour_played, played, opponent_p
 use crate::float::Float;
 use std::alloc::{AllocError, Global};
 use trf16::cell::{Bye, Cell, Colour};
-use trf16::cells::{cell_at, front, points_of};
+use trf16::cells::{cell_at, front};
 use trf16::report::Report;
 
 fn colour_played(cell: &Cell) -> Option<Colour>
@@ -87,7 +87,7 @@ fn float_by(report: &Report<'_>, cells: &[Cell], before: u8, cell: &Cell) -> Opt
 {
     match opponent_played(cell) {
         Some(opponent) => float_between(
-            points_of(front(cells, before)),
+            report.points_over(front(cells, before)),
             report.points(opponent, before),
         ),
         None => Some(Float::Down),

@@ -8,7 +8,7 @@ use crate::history::{float_in, may_bye, opponents, played};
 use crate::ranking::ranked;
 use crate::seat::Seat;
 use std::alloc::{AllocError, Global};
-use trf16::cells::{front, points_of};
+use trf16::cells::front;
 use trf16::player::Player;
 use trf16::report::Report;
 
@@ -27,7 +27,7 @@ fn seat_of(
     let opponents = opponents(alloc, cells)?;
     Ok(Seat {
         start: player.start,
-        score: points_of(cells),
+        score: report.points_over(cells),
         played,
         opponents,
         latest: float_in(report, cells, rounds),

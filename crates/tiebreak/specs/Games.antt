@@ -25,7 +25,7 @@ have_met sheet a b = list_any (λ round. is_game_with b (cell_in sheet a round))
 -- the half points of the virtual opponent in a round without a game: the player's score before the round, what he missed of 2 in it,
 -- and 1 for each round behind it (our own choice)
 abbrev pub virtual_score : Sheet → ℕ → ℕ → ℕ
-virtual_score sheet start round = points_upto sheet start (round - 1) + (2 - half_points (cell_in sheet start round)) + (rounds_played sheet - round)
+virtual_score sheet start round = points_upto sheet start (round - 1) + (2 - half_points sheet.bye (cell_in sheet start round)) + (rounds_played sheet - round)
 
 -- the score that a round with this cell counts: the opponent's as it stands, without adjustment (our own choice), or the virtual
 -- opponent's where no game was played

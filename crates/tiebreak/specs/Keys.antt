@@ -5,7 +5,7 @@ use Rattle.std.specs.Option.{option_eq}
 use Rattle.std.specs.Cmp.Lexicographic.{pointwise}
 use Rattle.trf16.specs.declared.cell.Cell.{Cell}
 use Rattle.trf16.specs.declared.cell.Cell.TheVariants.{Game}
-use Rattle.trf16.specs.Sheet.{Sheet, cell_in, half_points}
+use Rattle.trf16.specs.Sheet.{Sheet, cell_in, game_points, half_points}
 use Rattle.tiebreak.specs.declared.key.Key.{Key}
 use Rattle.tiebreak.specs.declared.key.Key.TheVariants.{Direct, Buchholz, SonnebornBerger}
 use Rattle.tiebreak.specs.Games.{rounds_of, have_met, opponent_score}
@@ -22,7 +22,7 @@ buchholz sheet start = sum_by (opponent_score sheet start) (rounds_of sheet)
 
 -- Sonneborn-Berger, in quarters of a point: the sum of the opponents' scores, each times what the player got in the round
 abbrev pub sonneborn_berger : Sheet → ℕ → ℕ
-sonneborn_berger sheet start = sum_by (λ round. opponent_score sheet start round * half_points (cell_in sheet start round)) (rounds_of sheet)
+sonneborn_berger sheet start = sum_by (λ round. opponent_score sheet start round * half_points sheet.bye (cell_in sheet start round)) (rounds_of sheet)
 
 -- rows that no score and no value tells apart so far
 abbrev pub is_level : RowFacts → RowFacts → Bool
@@ -43,7 +43,7 @@ is_against group _ = false
 
 -- the half points of a game against one of a group; of every other round none
 abbrev pub points_against : List ℕ → Cell → ℕ
-points_against group cell = if is_against group cell then half_points cell else 0
+points_against group cell = if is_against group cell then game_points cell else 0
 
 -- the half points of a player from his games against a group
 abbrev pub points_among : Sheet → List ℕ → ℕ → ℕ

@@ -37,7 +37,7 @@ fn virtual_score(report: &Report<'_>, rounds: u8, start: u16, round: u8) -> u32
     ensures value { result ≡ virtual_score report.now start round }
     ensures few { result ≤ 65792 }
 {
-    let missed = 2 - report.cell(start, round).half_points();
+    let missed = 2 - report.cell(start, round).half_points(report.bye());
     u32::from(report.points(start, round - 1)) + u32::from(missed) + u32::from(rounds - round)
 }
 

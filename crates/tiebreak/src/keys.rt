@@ -31,7 +31,7 @@ fn sonneborn_berger(report: &Report<'_>, rounds: u8, start: u16) -> u32
 {
     let mut sum = 0;
     for before in 0..rounds {
-        let got = report.cell(start, before + 1).half_points();
+        let got = report.cell(start, before + 1).half_points(report.bye());
         sum += opponent_score(report, rounds, start, before + 1) * u32::from(got);
     }
     sum
@@ -87,7 +87,7 @@ fn points_against(group: &[u16], cell: &Cell) -> u16
     ensures few { result ≤ 2 }
 {
     if is_against(group, cell) {
-        cell.half_points()
+        cell.game_points()
     } else {
         0
     }

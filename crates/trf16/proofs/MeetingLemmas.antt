@@ -6,7 +6,7 @@ use Rattle.std.proofs.lemmas.Bool.{eqb-true, eqb-false, ltb-true, leb-true, case
 use Rattle.std.proofs.lemmas.List.{get_or_past}
 use Rattle.std.specs.Str.{is_utf8}
 use Rattle.trf16.specs.Lines.{lines, without_marks}
-use Rattle.trf16.specs.Sheet.{Entry, Sheet, known, cell_in, cells_of, half_points, opponent_in_cell, colour_in_cell, rounds_played}
+use Rattle.trf16.specs.Sheet.{Entry, Sheet, known, cell_in, cells_of, game_points, half_points, opponent_in_cell, colour_in_cell, rounds_played}
 use Rattle.trf16.specs.Answering.{are_opposite, is_forfeit, are_of_one_class, has_other_points, pair_fits, cell_fits, cells_fit, points_fit, player_fits, players_fit}
 use Rattle.trf16.specs.Verdict.{verdict, report_of, lines_onto, sized, without_players, has_too_many_rounds}
 use Rattle.trf16.specs.Meetings.{AnswerEachOther, AreSum, HavePoints}
@@ -42,13 +42,13 @@ kept true fault x y e = refl
 kept false fault x y e = absurd (never fault y e)
 
 -- a verdict that is a report has met no fault of two players
-pub accepted : (bytes : List ℕ) (sheet : Sheet) → verdict bytes ≡ Ok sheet → players_fit sheet sheet.players ≡ fits
+pub accepted : (bytes : List ℕ) (bye : ℕ) (sheet : Sheet) → verdict bytes bye ≡ Ok sheet → players_fit sheet sheet.players ≡ fits
 unfolding verdict report_of done
-accepted bytes sheet e =
+accepted bytes bye sheet e =
     let g = guard (nat_lt 1048576 (length bytes)) (TooMany Bytes) _ sheet e in
     let utf8 = is_utf8 (without_marks bytes) in
     let all = lines (without_marks bytes) in
-    let read = then_ok (lines_onto (without_players utf8 all) 1 all) _ sheet g.1 in
+    let read = then_ok (lines_onto (without_players utf8 all bye) 1 all) _ sheet g.1 in
     let fit = then_ok (sized read.0 (has_too_many_rounds utf8 all)) _ sheet read.2 in
     let looked = then_ok (players_fit fit.0 fit.0.players) (λ _. Ok fit.0) sheet fit.2 in
     let is : fit.0 ≡ sheet = same_ok fit.0 sheet looked.2 in
@@ -111,13 +111,13 @@ names_him (Some n) start e = ap (λ k. Some k) (eqb-true n start e)
 pub record PairFits (mine theirs : Cell) : Type 0 where
   pub colours : (are_opposite (colour_in_cell mine) (colour_in_cell theirs) || (is_forfeit mine && is_forfeit theirs)) ≡ true
   pub class : are_of_one_class mine theirs ≡ true
-  pub points : half_points mine + half_points theirs ≤ 2
+  pub points : game_points mine + game_points theirs ≤ 2
 
 pair_is : (start round : ℕ) (mine theirs : Cell) → pair_fits start round mine theirs ≡ fits → PairFits mine theirs
 unfolding pair_fits
 pair_is start round mine theirs e =
     let colours = guard (not (are_opposite (colour_in_cell mine) (colour_in_cell theirs) || (is_forfeit mine && is_forfeit theirs))) (Colours start round) _ (tt {0}) e in
-    let results = guard (not (are_of_one_class mine theirs && nat_le (half_points mine + half_points theirs) 2)) (Results start round) _ (tt {0}) colours.1 in
+    let results = guard (not (are_of_one_class mine theirs && nat_le (game_points mine + game_points theirs) 2)) (Results start round) _ (tt {0}) colours.1 in
     let both = both_true (are_of_one_class mine theirs) _ (not_false _ results.0) in
     record { colours = not_false _ colours.0; class = both.0; points = leb-true _ _ both.1 }
 
@@ -145,10 +145,10 @@ cell_is sheet start round opponent mine names e =
     }
 
 -- whoever names an opponent is answered
-pub answered : (bytes : List ℕ) (sheet : Sheet) → verdict bytes ≡ Ok sheet → AnswerEachOther sheet
-answered bytes sheet e start round opponent from_one names =
+pub answered : (bytes : List ℕ) (bye : ℕ) (sheet : Sheet) → verdict bytes bye ≡ Ok sheet → AnswerEachOther sheet
+answered bytes bye sheet e start round opponent from_one names =
     let cells = cells_of sheet.players start in
-    let all : cells_fit sheet start 1 cells ≡ fits = cells_of-fit sheet sheet.players start (accepted bytes sheet e) in
+    let all : cells_fit sheet start 1 cells ≡ fits = cells_of-fit sheet sheet.players start (accepted bytes bye sheet e) in
     let within : round - 1 < length cells = inside (cases_lt (round - 1) (length cells)) in
     let place : 1 + (round - 1) ≡ round = omega arith in
     let here : cell_fits sheet start round (cell_in sheet start round) ≡ fits =
@@ -183,28 +183,28 @@ points_of-fit sheet (entry ∷ rest) (suc k) d lt e =
     points_of-fit sheet rest k d (omega arith) first.2
 
 sums : (sheet : Sheet) (entry : Entry) (points : ℕ)
-    → (((points == sum_by half_points (take (rounds_played sheet) entry.cells)) || (points == sum_by half_points entry.cells)) || (has_other_points sheet && nat_lt points 200)) ≡ true
+    → (((points == sum_by (half_points sheet.bye) (take (rounds_played sheet) entry.cells)) || (points == sum_by (half_points sheet.bye) entry.cells)) || (has_other_points sheet && nat_lt points 200)) ≡ true
     → AreSum sheet entry points
 sums sheet entry points e = by (either_true _ _ e)
   where
-    one : ((points == sum_by half_points (take (rounds_played sheet) entry.cells)) ≡ true) ⊎ ((points == sum_by half_points entry.cells) ≡ true) → AreSum sheet entry points
+    one : ((points == sum_by (half_points sheet.bye) (take (rounds_played sheet) entry.cells)) ≡ true) ⊎ ((points == sum_by (half_points sheet.bye) entry.cells) ≡ true) → AreSum sheet entry points
     one (inl f) = inl (eqb-true _ _ f)
     one (inr f) = inr (inl (eqb-true _ _ f))
 
-    by : (((points == sum_by half_points (take (rounds_played sheet) entry.cells)) || (points == sum_by half_points entry.cells)) ≡ true) ⊎ ((has_other_points sheet && nat_lt points 200) ≡ true)
+    by : (((points == sum_by (half_points sheet.bye) (take (rounds_played sheet) entry.cells)) || (points == sum_by (half_points sheet.bye) entry.cells)) ≡ true) ⊎ ((has_other_points sheet && nat_lt points 200) ≡ true)
         → AreSum sheet entry points
     by (inl f) = one (either_true _ _ f)
     by (inr f) = let both = both_true (has_other_points sheet) (nat_lt points 200) f in inr (inr (both.0, ltb-true points 200 both.1))
 
 points_is : (sheet : Sheet) (entry : Entry) (o : Option ℕ)
-    → option_map_or (λ points. cond (((points == sum_by half_points (take (rounds_played sheet) entry.cells)) || (points == sum_by half_points entry.cells))
+    → option_map_or (λ points. cond (((points == sum_by (half_points sheet.bye) (take (rounds_played sheet) entry.cells)) || (points == sum_by (half_points sheet.bye) entry.cells))
     || (has_other_points sheet && nat_lt points 200)) (Ok (tt {0})) (Err (Points entry.start))) o (Ok (tt {0})) ≡ fits
     → IfSome o (AreSum sheet entry)
 points_is sheet entry None e = tt
 points_is sheet entry (Some points) e = sums sheet entry points (kept _ (Points entry.start) (tt {0}) (tt {0}) e)
 
-pub have_points : (bytes : List ℕ) (sheet : Sheet) → verdict bytes ≡ Ok sheet → HavePoints sheet
+pub have_points : (bytes : List ℕ) (bye : ℕ) (sheet : Sheet) → verdict bytes bye ≡ Ok sheet → HavePoints sheet
 unfolding points_fit
-have_points bytes sheet e entry has =
-    let fit = points_of-fit sheet sheet.players has.0 entry has.1 (accepted bytes sheet e) in
+have_points bytes bye sheet e entry has =
+    let fit = points_of-fit sheet sheet.players has.0 entry has.1 (accepted bytes bye sheet e) in
     subst (λ (one : Entry). IfSome one.points (AreSum sheet one)) has.2 (points_is sheet (get_or sheet.players has.0 entry) (get_or sheet.players has.0 entry).points fit)

@@ -84,8 +84,8 @@ or_none None = refl
 or_none (Some k) = refl
 
 -- behind the last line
-pub noted-all : (notes : Notes) (utf8 : Bool) (n : ℕ) (all : List (List ℕ)) → AreNoted notes utf8 n [] all → Tells notes (without_players utf8 all)
-noted-all notes utf8 n all noted = record {
+pub noted-all : (notes : Notes) (utf8 : Bool) (n : ℕ) (all : List (List ℕ)) (bye : ℕ) → AreNoted notes utf8 n [] all → Tells notes (without_players utf8 all bye)
+noted-all notes utf8 n all bye noted = record {
   absent = λ start. sym (or_false (is_marked notes start)) ∙ noted.absent start;
   first = λ kind. sym (or_none (first_noted notes kind)) ∙ noted.first kind;
 }

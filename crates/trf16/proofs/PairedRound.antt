@@ -239,24 +239,24 @@ cells-there boards n i entry other = by (cell_by boards entry.start)
 cells-here : (boards : List (ℕ × ℕ)) (n : ℕ) (entry : Entry) (cell : Cell) → cell_by boards entry.start ≡ Some cell → get_or (cells_with boards n entry) n Blank ≡ cell
 cells-here boards n entry cell e = rw e (with_cell-here n cell entry.cells)
 
-all-there : (boards : List (ℕ × ℕ)) (n i : ℕ) (entries : List Entry) (start : ℕ) → (i ≡ n → ⊥)
-    → get_or (cells_of (map (entry_with boards n) entries) start) i Blank ≡ get_or (cells_of entries start) i Blank
-all-there boards n i [] start other = refl
-all-there boards n i (entry ∷ entries) start other = by (entry.start == start) (all-there boards n i entries start other)
+all-there : (bye : ℕ) (boards : List (ℕ × ℕ)) (n i : ℕ) (entries : List Entry) (start : ℕ) → (i ≡ n → ⊥)
+    → get_or (cells_of (map (entry_with bye boards n) entries) start) i Blank ≡ get_or (cells_of entries start) i Blank
+all-there bye boards n i [] start other = refl
+all-there bye boards n i (entry ∷ entries) start other = by (entry.start == start) (all-there bye boards n i entries start other)
   where
-    by : (here : Bool) → get_or (cells_of (map (entry_with boards n) entries) start) i Blank ≡ get_or (cells_of entries start) i Blank
-        → get_or (cond here (cells_with boards n entry) (cells_of (map (entry_with boards n) entries) start)) i Blank ≡ get_or (cond here entry.cells (cells_of entries start)) i Blank
+    by : (here : Bool) → get_or (cells_of (map (entry_with bye boards n) entries) start) i Blank ≡ get_or (cells_of entries start) i Blank
+        → get_or (cond here (cells_with boards n entry) (cells_of (map (entry_with bye boards n) entries) start)) i Blank ≡ get_or (cond here entry.cells (cells_of entries start)) i Blank
     by true later = cells-there boards n i entry other
     by false later = later
 
-all-here : (boards : List (ℕ × ℕ)) (n : ℕ) (entries : List Entry) (start : ℕ) (cell : Cell) → list_any (λ (entry : Entry). entry.start == start) entries ≡ true
-    → cell_by boards start ≡ Some cell → get_or (cells_of (map (entry_with boards n) entries) start) n Blank ≡ cell
-all-here boards n [] start cell is e = absurd (true≢false (sym is))
-all-here boards n (entry ∷ entries) start cell is e = by (entry.start == start) refl is (λ is'. all-here boards n entries start cell is' e)
+all-here : (bye : ℕ) (boards : List (ℕ × ℕ)) (n : ℕ) (entries : List Entry) (start : ℕ) (cell : Cell) → list_any (λ (entry : Entry). entry.start == start) entries ≡ true
+    → cell_by boards start ≡ Some cell → get_or (cells_of (map (entry_with bye boards n) entries) start) n Blank ≡ cell
+all-here bye boards n [] start cell is e = absurd (true≢false (sym is))
+all-here bye boards n (entry ∷ entries) start cell is e = by (entry.start == start) refl is (λ is'. all-here bye boards n entries start cell is' e)
   where
     by : (here : Bool) → (entry.start == start) ≡ here → (here || list_any (λ (entry : Entry). entry.start == start) entries) ≡ true
-        → (list_any (λ (entry : Entry). entry.start == start) entries ≡ true → get_or (cells_of (map (entry_with boards n) entries) start) n Blank ≡ cell)
-        → get_or (cond here (cells_with boards n entry) (cells_of (map (entry_with boards n) entries) start)) n Blank ≡ cell
+        → (list_any (λ (entry : Entry). entry.start == start) entries ≡ true → get_or (cells_of (map (entry_with bye boards n) entries) start) n Blank ≡ cell)
+        → get_or (cond here (cells_with boards n entry) (cells_of (map (entry_with bye boards n) entries) start)) n Blank ≡ cell
     by true same is later = cells-here boards n entry cell (ap (cell_by boards) (eqb-true entry.start start same) ∙ e)
     by false same is later = later is
 
@@ -298,10 +298,10 @@ last-cells : (boards : List (ℕ × ℕ)) (n : ℕ) (entry : Entry) (o : Option 
 last-cells boards n entry None e le = rw e refl
 last-cells boards n entry (Some cell) e le = rw e (last-with n cell entry.cells (given boards entry.start cell e).paired le)
 
-played_most : (boards : List (ℕ × ℕ)) (n : ℕ) (entries : List Entry) → last_paired_of entries ≤ n → last_paired_of (map (entry_with boards n) entries) ≤ n + 1
-played_most boards n [] le = omega arith
-played_most boards n (entry ∷ entries) le =
-    let others : last_paired_of (map (entry_with boards n) entries) ≤ n + 1 = played_most boards n entries (omega arith) in
+played_most : (bye : ℕ) (boards : List (ℕ × ℕ)) (n : ℕ) (entries : List Entry) → last_paired_of entries ≤ n → last_paired_of (map (entry_with bye boards n) entries) ≤ n + 1
+played_most bye boards n [] le = omega arith
+played_most bye boards n (entry ∷ entries) le =
+    let others : last_paired_of (map (entry_with bye boards n) entries) ≤ n + 1 = played_most bye boards n entries (omega arith) in
     let mine : last_paired entry.cells ≤ n = omega arith in
     let here : last_paired (cells_with boards n entry) ≤ n + 1 = by (cell_by boards entry.start) refl mine in
     omega arith
@@ -310,15 +310,15 @@ played_most boards n (entry ∷ entries) le =
     by None e mine = let same = last-cells boards n entry None e mine in omega arith
     by (Some cell) e mine = let same = last-cells boards n entry (Some cell) e mine in omega arith
 
-played_least : (boards : List (ℕ × ℕ)) (n : ℕ) (entries : List Entry) → last_paired_of entries ≤ n → list_any (λ (entry : Entry). is_some (cell_by boards entry.start)) entries ≡ true
-    → n + 1 ≤ last_paired_of (map (entry_with boards n) entries)
-played_least boards n [] le named = absurd (true≢false (sym named))
-played_least boards n (entry ∷ entries) le named = by (cell_by boards entry.start) refl named (played_least boards n entries (omega arith))
+played_least : (bye : ℕ) (boards : List (ℕ × ℕ)) (n : ℕ) (entries : List Entry) → last_paired_of entries ≤ n → list_any (λ (entry : Entry). is_some (cell_by boards entry.start)) entries ≡ true
+    → n + 1 ≤ last_paired_of (map (entry_with bye boards n) entries)
+played_least bye boards n [] le named = absurd (true≢false (sym named))
+played_least bye boards n (entry ∷ entries) le named = by (cell_by boards entry.start) refl named (played_least bye boards n entries (omega arith))
   where
     by : (o : Option Cell) → cell_by boards entry.start ≡ o → (is_some o || list_any (λ (entry : Entry). is_some (cell_by boards entry.start)) entries) ≡ true
-        → (list_any (λ (entry : Entry). is_some (cell_by boards entry.start)) entries ≡ true → n + 1 ≤ last_paired_of (map (entry_with boards n) entries))
-        → n + 1 ≤ last_paired_of (map (entry_with boards n) (entry ∷ entries))
-    by None e named later = let others : n + 1 ≤ last_paired_of (map (entry_with boards n) entries) = later named in omega arith
+        → (list_any (λ (entry : Entry). is_some (cell_by boards entry.start)) entries ≡ true → n + 1 ≤ last_paired_of (map (entry_with bye boards n) entries))
+        → n + 1 ≤ last_paired_of (map (entry_with bye boards n) (entry ∷ entries))
+    by None e named later = let others : n + 1 ≤ last_paired_of (map (entry_with bye boards n) entries) = later named in omega arith
     by (Some cell) e named later =
         let mine : last_paired entry.cells ≤ n = omega arith in
         let same : last_paired (cells_with boards n entry) ≡ n + 1 = last-cells boards n entry (Some cell) e mine in
@@ -444,30 +444,30 @@ cells_again boards n old new entry next player le fit =
         (here_fits boards n old new entry next player le (1 + i) (omega arith))
     by i false e = there_fits boards n old new entry next fit i (eqb-false i n e)
 
-points_again : (boards : List (ℕ × ℕ)) (n : ℕ) (new : Sheet) (entry : Entry) → rounds_played new ≡ n + 1 → points_fit new (entry_with boards n entry) ≡ fits
+points_again : (boards : List (ℕ × ℕ)) (n : ℕ) (new : Sheet) (entry : Entry) → rounds_played new ≡ n + 1 → points_fit new (entry_with new.bye boards n entry) ≡ fits
 unfolding points_fit
 points_again boards n new entry played = by entry.points
   where
     sum : ℕ
-    sum = sum_by half_points (take (n + 1) (cells_with boards n entry))
+    sum = sum_by (half_points new.bye) (take (n + 1) (cells_with boards n entry))
 
     by : (o : Option ℕ)
         → option_map_or (λ points.
-        cond ((points == sum_by half_points (take (rounds_played new) (cells_with boards n entry))) || (points == sum_by half_points (cells_with boards n entry))
+        cond ((points == sum_by (half_points new.bye) (take (rounds_played new) (cells_with boards n entry))) || (points == sum_by (half_points new.bye) (cells_with boards n entry))
         || (has_other_points new && nat_lt points 200)) (Ok tt) (Err (Points entry.start)))
-        (option_map (λ _. sum_by half_points (take (n + 1) (cells_with boards n entry))) o) (Ok (tt {0})) ≡ fits
+        (option_map (λ _. sum_by (half_points new.bye) (take (n + 1) (cells_with boards n entry))) o) (Ok (tt {0})) ≡ fits
     by None = refl
-    by (Some points) = rw (played, eq-self (sum_by half_points (take (n + 1) (cells_with boards n entry)))) refl
+    by (Some points) = rw (played, eq-self (sum_by (half_points new.bye) (take (n + 1) (cells_with boards n entry)))) refl
 
 players_again : (utf8 : Bool) (boards : List (ℕ × ℕ)) (n : ℕ) (old new : Sheet) (entries : List Entry) → IsNext boards n old new → are_all_sound utf8 entries
-    → last_paired_of entries ≤ n → players_fit old entries ≡ fits → players_fit new (map (entry_with boards n) entries) ≡ fits
+    → last_paired_of entries ≤ n → players_fit old entries ≡ fits → players_fit new (map (entry_with new.bye boards n) entries) ≡ fits
 unfolding players_fit player_fits
 players_again utf8 boards n old new [] next sound le fit = refl
 players_again utf8 boards n old new (entry ∷ entries) next sound le fit =
     let outer = then_ok (player_fits old entry) (λ _. players_fit old entries) (tt {0}) fit in
     let inner = then_ok (cells_fit old entry.start 1 entry.cells) (λ _. points_fit old entry) (tt {0}) outer.1 in
     let cells : cells_fit new entry.start 1 (cells_with boards n entry) ≡ fits = cells_again boards n old new entry next sound.0.some (omega arith) inner.1 in
-    let points : points_fit new (entry_with boards n entry) ≡ fits = points_again boards n new entry next.played in
+    let points : points_fit new (entry_with new.bye boards n entry) ≡ fits = points_again boards n new entry next.played in
     rw (cells, points) (players_again utf8 boards n old new entries next sound.1 (omega arith) outer.2)
 
 -- pairing a round, as a change of players
@@ -544,8 +544,8 @@ sound-with utf8 boards n entry small lt s = by (cell_by boards entry.start) refl
           cut = cut-with n cell entry.cells g.said s.cut;
         }
 
-turns_with : (utf8 : Bool) (boards : List (ℕ × ℕ)) (n : ℕ) → AllByRecursion (λ k. is_small k ≡ true) (named_by boards) → n < 32 → Turns utf8 (entry_with boards n)
-turns_with utf8 boards n small lt = record {
+turns_with : (utf8 : Bool) (bye : ℕ) (boards : List (ℕ × ℕ)) (n : ℕ) → AllByRecursion (λ k. is_small k ≡ true) (named_by boards) → n < 32 → Turns utf8 (entry_with bye boards n)
+turns_with utf8 bye boards n small lt = record {
   start = λ entry. refl;
   line = λ entry. refl;
   left = λ entry. refl;
@@ -588,29 +588,29 @@ played_again [] sheet some named = absurd (omega arith)
 played_again (board ∷ rest) sheet some named =
     let n = rounds_played sheet in
     let first : known sheet board.0 ≡ true = all_in (λ k. known sheet k ≡ true) (named_by (board ∷ rest)) board.0 named (named_head board rest) in
-    let most : last_paired_of (map (entry_with (board ∷ rest) n) sheet.players) ≤ n + 1 = played_most (board ∷ rest) n sheet.players (omega arith) in
-    let least : n + 1 ≤ last_paired_of (map (entry_with (board ∷ rest) n) sheet.players) =
-    played_least (board ∷ rest) n sheet.players (omega arith) (some_named board rest sheet.players first) in
+    let most : last_paired_of (map (entry_with sheet.bye (board ∷ rest) n) sheet.players) ≤ n + 1 = played_most sheet.bye (board ∷ rest) n sheet.players (omega arith) in
+    let least : n + 1 ≤ last_paired_of (map (entry_with sheet.bye (board ∷ rest) n) sheet.players) =
+    played_least sheet.bye (board ∷ rest) n sheet.players (omega arith) (some_named board rest sheet.players first) in
     omega arith
 
-pub round_again : (bytes : List ℕ) (report : Sheet) (boards : List (ℕ × ℕ)) → verdict bytes ≡ Ok report → CanBePaired boards report → 0 < length boards
-    → length (written (with_round boards report)) ≤ 1048576 → verdict (written (with_round boards report)) ≡ Ok (with_round boards report)
-round_again bytes report boards e can some few =
+pub round_again : (bytes : List ℕ) (bye : ℕ) (report : Sheet) (boards : List (ℕ × ℕ)) → bye ≤ 2 → verdict bytes bye ≡ Ok report → CanBePaired boards report → 0 < length boards
+    → length (written (with_round boards report)) ≤ 1048576 → verdict (written (with_round boards report)) report.bye ≡ Ok (with_round boards report)
+round_again bytes bye report boards worth e can some few =
     let n = rounds_played report in
-    let sound = were_sound bytes report e in
+    let sound = were_sound bytes bye report e in
     let named : AllByRecursion (λ k. known report k ≡ true) (named_by boards) = all_from (λ k. known report k ≡ true) (named_by boards) can.players in
     let small : AllByRecursion (λ k. is_small k ≡ true) (named_by boards) =
     all_more (λ k. known report k ≡ true) (λ k. is_small k ≡ true) (named_by boards) (λ k is. known_small report.utf8 report.players k sound is) named in
-    let turns : Turns report.utf8 (entry_with boards n) = turns_with report.utf8 boards n small can.within in
+    let turns : Turns report.utf8 (entry_with report.bye boards n) = turns_with report.utf8 report.bye boards n small can.within in
     let next : IsNext boards n report (with_round boards report) = record {
-      players = λ o. known-turned report.utf8 (entry_with boards n) report.players o turns;
-      there = λ o round other. all-there boards n (round - 1) report.players o other;
+      players = λ o. known-turned report.utf8 (entry_with report.bye boards n) report.players o turns;
+      there = λ o round other. all-there report.bye boards n (round - 1) report.players o other;
       here = λ o cell is given round at'.
-          ap (λ i. get_or (cells_of (map (entry_with boards n) report.players) o) i Blank) at' ∙ all-here boards n report.players o cell is given;
+          ap (λ i. get_or (cells_of (map (entry_with report.bye boards n) report.players) o) i Blank) at' ∙ all-here report.bye boards n report.players o cell is given;
       named = named;
       some = all_more (λ k. is_small k ≡ true) (λ k. (k == 0) ≡ false) (named_by boards) some_small small;
       distinct = can.once;
       played = played_again boards report some named;
     } in
-    written_again bytes report (entry_with boards n) e turns
-    (players_again report.utf8 boards n report (with_round boards report) report.players next sound (omega arith) (were_fit bytes report e)) few
+    written_again bytes bye report (entry_with report.bye boards n) worth e turns
+    (players_again report.utf8 boards n report (with_round boards report) report.players next sound (omega arith) (were_fit bytes bye report e)) few

@@ -37,9 +37,9 @@ with_cell-set zero cell (first ∷ rest) lt = refl
 with_cell-set (suc before) cell (first ∷ rest) lt = ap (λ (cs : List Cell). first ∷ cs) (with_cell-set before cell rest (omega arith))
 
 -- the players so far, each with his cell of the next round; with the rest they are all players
-pub record ArePaired (boards : List (ℕ × ℕ)) (before : ℕ) (done : List (ℕ × Player)) (rest all : List Entry) : Type 0 where
+pub record ArePaired (bye : ℕ) (boards : List (ℕ × ℕ)) (before : ℕ) (done : List (ℕ × Player)) (rest all : List Entry) : Type 0 where
   pub keyed : keys_of done ≡ map (λ e. e.1.start) done
-  pub whole : map (λ e. entry_of e.1) done ++ map (entry_with boards before) rest ≡ map (entry_with boards before) all
+  pub whole : map (λ e. entry_of e.1) done ++ map (entry_with bye boards before) rest ≡ map (entry_with bye boards before) all
 
 abbrev starts_of : List Entry → List ℕ
 starts_of entries = map (λ (e : Entry). e.start) entries
@@ -48,9 +48,9 @@ pub starts-entries : (es : List (ℕ × Player)) → map (λ e. e.1.start) es �
 starts-entries [] = refl
 starts-entries (e ∷ es) = ap (λ (starts : List ℕ). e.1.start ∷ starts) (starts-entries es)
 
-starts-with : (boards : List (ℕ × ℕ)) (before : ℕ) (entries : List Entry) → starts_of (map (entry_with boards before) entries) ≡ starts_of entries
-starts-with boards before [] = refl
-starts-with boards before (entry ∷ entries) = ap (λ (starts : List ℕ). entry.start ∷ starts) (starts-with boards before entries)
+starts-with : (bye : ℕ) (boards : List (ℕ × ℕ)) (before : ℕ) (entries : List Entry) → starts_of (map (entry_with bye boards before) entries) ≡ starts_of entries
+starts-with bye boards before [] = refl
+starts-with bye boards before (entry ∷ entries) = ap (λ (starts : List ℕ). entry.start ∷ starts) (starts-with bye boards before entries)
 
 all_at : (P : ℕ → Type 0) (ks : List ℕ) (k : ℕ) (rest : List ℕ) → AllByRecursion P (ks ++ k ∷ rest) → P k
 all_at P [] k rest all = all.0
@@ -66,24 +66,24 @@ fresh (x ∷ ks) k rest distinct =
     let apart : nat_eq x k ≡ false = all_at (λ y. nat_eq x y ≡ false) ks k rest (IsDistinct-head nat_eq x (ks ++ k ∷ rest) distinct) in
     rw (eq-sym k x, apart) (fresh ks k rest (IsDistinct-tail nat_eq x (ks ++ k ∷ rest) distinct))
 
-pub paired-absent : (boards : List (ℕ × ℕ)) (before : ℕ) (done : List (ℕ × Player)) (entry : Entry) (rest all : List Entry)
-    → ArePaired boards before done (entry ∷ rest) all → IsDistinct nat_eq (starts_of all) → lookup (nat_eq entry.start) done ≡ None
-paired-absent boards before done entry rest all paired distinct =
+pub paired-absent : (bye : ℕ) (boards : List (ℕ × ℕ)) (before : ℕ) (done : List (ℕ × Player)) (entry : Entry) (rest all : List Entry)
+    → ArePaired bye boards before done (entry ∷ rest) all → IsDistinct nat_eq (starts_of all) → lookup (nat_eq entry.start) done ≡ None
+paired-absent bye boards before done entry rest all paired distinct =
     let entries = map (λ (e : ℕ × Player). entry_of e.1) done in
-    let whole : starts_of entries ++ entry.start ∷ starts_of (map (entry_with boards before) rest) ≡ starts_of all =
-    sym (map-append (λ (e : Entry). e.start) entries (map (entry_with boards before) (entry ∷ rest))) ∙ ap starts_of paired.whole ∙ starts-with boards before all in
+    let whole : starts_of entries ++ entry.start ∷ starts_of (map (entry_with bye boards before) rest) ≡ starts_of all =
+    sym (map-append (λ (e : Entry). e.start) entries (map (entry_with bye boards before) (entry ∷ rest))) ∙ ap starts_of paired.whole ∙ starts-with bye boards before all in
     let none : list_any (nat_eq entry.start) (starts_of entries) ≡ false =
-    fresh (starts_of entries) entry.start (starts_of (map (entry_with boards before) rest)) (subst (IsDistinct nat_eq) (sym whole) distinct) in
+    fresh (starts_of entries) entry.start (starts_of (map (entry_with bye boards before) rest)) (subst (IsDistinct nat_eq) (sym whole) distinct) in
     none_from (lookup (nat_eq entry.start) done)
     (is_some-lookup (nat_eq entry.start) done ∙ ap (list_any (nat_eq entry.start)) (paired.keyed ∙ starts-entries done) ∙ none)
 
-pub paired-more : (boards : List (ℕ × ℕ)) (before : ℕ) (done : List (ℕ × Player)) (entry : Entry) (rest all : List Entry) (player : Player)
-    → entry_of player ≡ entry_with boards before entry → ArePaired boards before done (entry ∷ rest) all
-    → ArePaired boards before (done ++ (entry.start, player) ∷ []) rest all
-paired-more boards before done entry rest all player same paired =
+pub paired-more : (bye : ℕ) (boards : List (ℕ × ℕ)) (before : ℕ) (done : List (ℕ × Player)) (entry : Entry) (rest all : List Entry) (player : Player)
+    → entry_of player ≡ entry_with bye boards before entry → ArePaired bye boards before done (entry ∷ rest) all
+    → ArePaired bye boards before (done ++ (entry.start, player) ∷ []) rest all
+paired-more bye boards before done entry rest all player same paired =
     let start : player.start ≡ entry.start = ap (λ (e : Entry). e.start) same in
     let entries = map (λ (e : ℕ × Player). entry_of e.1) done in
-    let others = map (entry_with boards before) rest in
+    let others = map (entry_with bye boards before) rest in
     record {
       keyed = subst (λ s. keys_of (done ++ (s, player) ∷ []) ≡ map (λ e. e.1.start) (done ++ (s, player) ∷ [])) start (keyed-push done player paired.keyed);
       whole = ap (λ (es : List Entry). es ++ others) (map-append (λ (e : ℕ × Player). entry_of e.1) done ((entry.start, player) ∷ []))
@@ -91,22 +91,22 @@ paired-more boards before done entry rest all player same paired =
     }
 
 -- one more player, as the loop inserts him
-pub paired-insert : {S : Type 0} (boards : List (ℕ × ℕ)) (before : ℕ) (done : IndexMap ℕ Player S) (entry : Entry) (coming rest all : List Entry) (player : Player) (new : List (ℕ × Player))
-    → coming ≡ entry ∷ rest → ArePaired boards before done.entries coming all → entry_of player ≡ entry_with boards before entry
-    → new ≡ insert_entry nat_eq done.entries entry.start player → IsDistinct nat_eq (starts_of all) → ArePaired boards before new rest all
-paired-insert boards before done entry coming rest all player new steps paired same inserted distinct =
-    let here : ArePaired boards before done.entries (entry ∷ rest) all = subst (λ (es : List Entry). ArePaired boards before done.entries es all) steps paired in
-    subst (λ (es : List (ℕ × Player)). ArePaired boards before es rest all)
-    (sym (inserted ∙ insert_entry-new nat_eq done entry.start player (paired-absent boards before done.entries entry rest all here distinct)))
-    (paired-more boards before done.entries entry rest all player same here)
+pub paired-insert : {S : Type 0} (bye : ℕ) (boards : List (ℕ × ℕ)) (before : ℕ) (done : IndexMap ℕ Player S) (entry : Entry) (coming rest all : List Entry) (player : Player) (new : List (ℕ × Player))
+    → coming ≡ entry ∷ rest → ArePaired bye boards before done.entries coming all → entry_of player ≡ entry_with bye boards before entry
+    → new ≡ insert_entry nat_eq done.entries entry.start player → IsDistinct nat_eq (starts_of all) → ArePaired bye boards before new rest all
+paired-insert bye boards before done entry coming rest all player new steps paired same inserted distinct =
+    let here : ArePaired bye boards before done.entries (entry ∷ rest) all = subst (λ (es : List Entry). ArePaired bye boards before done.entries es all) steps paired in
+    subst (λ (es : List (ℕ × Player)). ArePaired bye boards before es rest all)
+    (sym (inserted ∙ insert_entry-new nat_eq done entry.start player (paired-absent bye boards before done.entries entry rest all here distinct)))
+    (paired-more bye boards before done.entries entry rest all player same here)
 
-pub paired-end : (boards : List (ℕ × ℕ)) (before : ℕ) (done : List (ℕ × Player)) (rest all : List Entry) → rest ≡ [] → ArePaired boards before done rest all
-    → map (λ e. entry_of e.1) done ≡ map (entry_with boards before) all
-paired-end boards before done rest all nothing paired =
+pub paired-end : (bye : ℕ) (boards : List (ℕ × ℕ)) (before : ℕ) (done : List (ℕ × Player)) (rest all : List Entry) → rest ≡ [] → ArePaired bye boards before done rest all
+    → map (λ e. entry_of e.1) done ≡ map (entry_with bye boards before) all
+paired-end bye boards before done rest all nothing paired =
     let entries = map (λ (e : ℕ × Player). entry_of e.1) done in
-    sym (append-nil entries) ∙ ap (λ (es : List Entry). entries ++ map (entry_with boards before) es) (sym nothing) ∙ paired.whole
+    sym (append-nil entries) ∙ ap (λ (es : List Entry). entries ++ map (entry_with bye boards before) es) (sym nothing) ∙ paired.whole
 
-pub paired-length : (boards : List (ℕ × ℕ)) (before : ℕ) (done : List (ℕ × Player)) (all : List Entry)
-    → map (λ e. entry_of e.1) done ≡ map (entry_with boards before) all → length done ≡ length all
-paired-length boards before done all same =
-    sym (length-map done (λ (e : ℕ × Player). entry_of e.1)) ∙ ap (λ (es : List Entry). length es) same ∙ length-map all (entry_with boards before)
+pub paired-length : (bye : ℕ) (boards : List (ℕ × ℕ)) (before : ℕ) (done : List (ℕ × Player)) (all : List Entry)
+    → map (λ e. entry_of e.1) done ≡ map (entry_with bye boards before) all → length done ≡ length all
+paired-length bye boards before done all same =
+    sym (length-map done (λ (e : ℕ × Player). entry_of e.1)) ∙ ap (λ (es : List Entry). length es) same ∙ length-map all (entry_with bye boards before)

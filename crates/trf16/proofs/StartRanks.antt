@@ -84,14 +84,14 @@ all_within utf8 (entry ∷ entries) sound =
     pos : (n : ℕ) → (n ≡ 0 → ⊥) → 0 < n
     pos n some = grind arith
 
-pub own_starts : (bytes : List ℕ) (sheet : Sheet) → verdict bytes ≡ Ok sheet → HasOwnStarts sheet
+pub own_starts : (bytes : List ℕ) (bye : ℕ) (sheet : Sheet) → verdict bytes bye ≡ Ok sheet → HasOwnStarts sheet
 unfolding IsDistinct
-own_starts bytes sheet e =
+own_starts bytes bye sheet e =
     let utf8 = is_utf8 (without_marks bytes) in
     let all = lines (without_marks bytes) in
-    let r = report_is utf8 all sheet (verdict_is bytes sheet e) in
+    let r = report_is utf8 all bye sheet (verdict_is bytes bye sheet e) in
     record {
-      different = lines_distinct (without_players utf8 all) sheet 1 all r.read tt;
-      within = All-from_recursion (λ start. (0 < start) × (start ≤ 9999)) (starts_of sheet.players) (all_within sheet.utf8 sheet.players (were_sound bytes sheet e));
+      different = lines_distinct (without_players utf8 all bye) sheet 1 all r.read tt;
+      within = All-from_recursion (λ start. (0 < start) × (start ≤ 9999)) (starts_of sheet.players) (all_within sheet.utf8 sheet.players (were_sound bytes bye sheet e));
       rounds = few_rounds sheet.total (few_named sheet (has_too_many_rounds utf8 all) r.size);
     }

@@ -61,6 +61,7 @@ pub record Keeps (sheet next : Sheet) : Type 0 where
   pub utf8 : next.utf8 ≡ sheet.utf8
   pub carried : next.carried ≡ sheet.carried
   pub players : next.players ≡ sheet.players
+  pub bye : next.bye ≡ sheet.bye
 
 keeps_from : (sheet made next : Sheet) → ◌≡◌ {A = Result Sheet Fault} (Ok made) (Ok next) → Keeps sheet made → Keeps sheet next
 keeps_from sheet made next e k = subst (Keeps sheet) (same_ok made next e) k
@@ -73,20 +74,20 @@ rounds_keep sheet n line next e =
   where
     by : (b : Bool) (rounds : ℕ) → ◌≡◌ {A = Result Sheet Fault} (cond b (Err (Duplicate n)) (Ok (record sheet { total = Some rounds }))) (Ok next) → Keeps sheet next
     by true rounds e = absurd (not_ok (Duplicate n) next e)
-    by false rounds e = keeps_from sheet (record sheet { total = Some rounds }) next e (record { utf8 = refl; carried = refl; players = refl })
+    by false rounds e = keeps_from sheet (record sheet { total = Some rounds }) next e (record { utf8 = refl; carried = refl; players = refl; bye = refl })
 
 colour_keep : (sheet : Sheet) (n : ℕ) (line : List (List ℕ)) (next : Sheet) → colour_onto sheet n line ≡ Ok next → Keeps sheet next
 unfolding colour_onto
 colour_keep sheet n line next e =
     let s = then_ok (ok_or (colour_in sheet.initial (words_of line)) (BadExtension n)) (λ initial. Ok (record sheet { initial = initial })) next e in
-    keeps_from sheet (record sheet { initial = s.0 }) next s.2 (record { utf8 = refl; carried = refl; players = refl })
+    keeps_from sheet (record sheet { initial = s.0 }) next s.2 (record { utf8 = refl; carried = refl; players = refl; bye = refl })
 
 absence_keep : (sheet : Sheet) (n : ℕ) (line : List (List ℕ)) (next : Sheet) → absence_onto sheet n line ≡ Ok next → Keeps sheet next
 unfolding absence_onto
 absence_keep sheet n line next e = by (are_start_ranks (words_of line)) e
   where
     by : (b : Bool) → ◌≡◌ {A = Result Sheet Fault} (cond b (Ok sheet) (Err (BadExtension n))) (Ok next) → Keeps sheet next
-    by true e = keeps_from sheet sheet next e (record { utf8 = refl; carried = refl; players = refl })
+    by true e = keeps_from sheet sheet next e (record { utf8 = refl; carried = refl; players = refl; bye = refl })
     by false e = absurd (not_ok (BadExtension n) next e)
 
 pub line_keeps : (sheet : Sheet) (n : ℕ) (line : List (List ℕ)) (next : Sheet) → is_player line ≡ false → line_onto sheet n line ≡ Ok next → Keeps sheet next
@@ -98,7 +99,7 @@ line_keeps sheet n line next other e =
     by true c z e = rounds_keep sheet n line next e
     by false true z e = colour_keep sheet n line next e
     by false false true e = absence_keep sheet n line next e
-    by false false false e = keeps_from sheet sheet next e (record { utf8 = refl; carried = refl; players = refl })
+    by false false false e = keeps_from sheet sheet next e (record { utf8 = refl; carried = refl; players = refl; bye = refl })
 
 -- the same change where the players are others
 rounds_turn : (turn : Entry → Entry) (sheet : Sheet) (n : ℕ) (line : List (List ℕ)) (next : Sheet) → rounds_onto sheet n line ≡ Ok next
@@ -189,6 +190,7 @@ record WereRead (utf8 : Bool) (sheet final : Sheet) (n : ℕ) (all : List (List 
   utf8_is : final.utf8 ≡ utf8
   carried : final.carried ≡ sheet.carried
   players : final.players ≡ sheet.players ++ entries
+  bye_is : final.bye ≡ sheet.bye
   sound : are_all_sound utf8 entries
   copied : (turn : Entry → Entry) → Turns utf8 turn → are_all_small (map turn entries) → Copies utf8 turn sheet final n all entries
 
@@ -201,6 +203,7 @@ end_read utf8 sheet final n u e =
       utf8_is = ap (λ (s : Sheet). s.utf8) (sym same) ∙ u;
       carried = ap (λ (s : Sheet). s.carried) (sym same);
       players = ap (λ (s : Sheet). s.players) (sym same) ∙ sym (append-nil sheet.players);
+      bye_is = ap (λ (s : Sheet). s.bye) (sym same);
       sound = tt;
       copied = λ turn t small. record {
         copy = [];
@@ -233,6 +236,7 @@ carried_read utf8 sheet next final n line rest u inside other e later =
       utf8_is = later.utf8_is;
       carried = later.carried ∙ keeps.carried;
       players = later.players ∙ ap (λ (ps : List Entry). ps ++ later.entries) keeps.players;
+      bye_is = later.bye_is ∙ keeps.bye;
       sound = later.sound;
       copied = λ turn t small.
           let c = later.copied turn t small in
@@ -262,6 +266,7 @@ player_read utf8 sheet next final n line rest u inside named short e later =
       utf8_is = later.utf8_is;
       carried = later.carried ∙ ap (λ (s : Sheet). s.carried) (sym adds.next_is);
       players = later.players ∙ ap (λ (s : Sheet). s.players ++ later.entries) (sym adds.next_is) ∙ append_assoc sheet.players (entry ∷ []) later.entries;
+      bye_is = later.bye_is ∙ ap (λ (s : Sheet). s.bye) (sym adds.next_is);
       sound = (was.sound, later.sound);
       copied = λ turn t small.
           let c = later.copied turn t small.1 in
@@ -307,50 +312,50 @@ were_read utf8 sheet final n (line ∷ rest) u inside short e =
 
 -- points
 
-half_points_le : (cell : Cell) → half_points cell ≤ 2
-half_points_le Blank = omega arith
-half_points_le (Bye Half) = omega arith
-half_points_le (Bye Full) = omega arith
-half_points_le (Bye Allocated) = omega arith
-half_points_le (Bye Zero) = omega arith
-half_points_le (Game opponent colour rated Win) = omega arith
-half_points_le (Game opponent colour rated Draw) = omega arith
-half_points_le (Game opponent colour rated Loss) = omega arith
-half_points_le (Forfeit opponent colour true) = omega arith
-half_points_le (Forfeit opponent colour false) = omega arith
-half_points_le (Unfinished opponent colour) = omega arith
+half_points_le : (bye : ℕ) (cell : Cell) → bye ≤ 2 → half_points bye cell ≤ 2
+half_points_le bye Blank worth = omega arith
+half_points_le bye (Bye Half) worth = omega arith
+half_points_le bye (Bye Full) worth = omega arith
+half_points_le bye (Bye Allocated) worth = worth
+half_points_le bye (Bye Zero) worth = omega arith
+half_points_le bye (Game opponent colour rated Win) worth = omega arith
+half_points_le bye (Game opponent colour rated Draw) worth = omega arith
+half_points_le bye (Game opponent colour rated Loss) worth = omega arith
+half_points_le bye (Forfeit opponent colour true) worth = omega arith
+half_points_le bye (Forfeit opponent colour false) worth = omega arith
+half_points_le bye (Unfinished opponent colour) worth = omega arith
 
-sum_le : (cells : List Cell) → sum_by half_points cells ≤ 2 * length cells
-sum_le [] = omega arith
-sum_le (cell ∷ cells) =
-    let here : half_points cell ≤ 2 = half_points_le cell in
-    let others : sum_by half_points cells ≤ 2 * length cells = sum_le cells in
-    omega (arith, sum_by-cons half_points cell cells)
+sum_le : (bye : ℕ) (cells : List Cell) → bye ≤ 2 → sum_by (half_points bye) cells ≤ 2 * length cells
+sum_le bye [] worth = omega arith
+sum_le bye (cell ∷ cells) worth =
+    let here : half_points bye cell ≤ 2 = half_points_le bye cell worth in
+    let others : sum_by (half_points bye) cells ≤ 2 * length cells = sum_le bye cells worth in
+    omega (arith, sum_by-cons (half_points bye) cell cells)
 
-small_points : (sheet : Sheet) (entry : Entry) (y : Unit {0}) → length entry.cells ≤ 32 → points_fit sheet entry ≡ Ok y → are_small entry.points
+small_points : (sheet : Sheet) (entry : Entry) (y : Unit {0}) → sheet.bye ≤ 2 → length entry.cells ≤ 32 → points_fit sheet entry ≡ Ok y → are_small entry.points
 unfolding points_fit
-small_points sheet entry y few e = by entry.points e
+small_points sheet entry y worth few e = by entry.points e
   where
-    all : sum_by half_points entry.cells ≤ 64
-    all = let le : sum_by half_points entry.cells ≤ 2 * length entry.cells = sum_le entry.cells in omega arith
+    all : sum_by (half_points sheet.bye) entry.cells ≤ 64
+    all = let le : sum_by (half_points sheet.bye) entry.cells ≤ 2 * length entry.cells = sum_le sheet.bye entry.cells worth in omega arith
 
-    some : sum_by half_points (take (rounds_played sheet) entry.cells) ≤ 64
+    some : sum_by (half_points sheet.bye) (take (rounds_played sheet) entry.cells) ≤ 64
     some =
-        let le : sum_by half_points (take (rounds_played sheet) entry.cells) ≤ sum_by half_points entry.cells = sum_by-take-le half_points entry.cells (rounds_played sheet) in
-        let le' : sum_by half_points entry.cells ≤ 64 = all in
+        let le : sum_by (half_points sheet.bye) (take (rounds_played sheet) entry.cells) ≤ sum_by (half_points sheet.bye) entry.cells = sum_by-take-le (half_points sheet.bye) entry.cells (rounds_played sheet) in
+        let le' : sum_by (half_points sheet.bye) entry.cells ≤ 64 = all in
         omega arith
 
     tests : (points : ℕ)
-        → ((points == sum_by half_points (take (rounds_played sheet) entry.cells)) || (points == sum_by half_points entry.cells) || (has_other_points sheet && nat_lt points 200)) ≡ true
+        → ((points == sum_by (half_points sheet.bye) (take (rounds_played sheet) entry.cells)) || (points == sum_by (half_points sheet.bye) entry.cells) || (has_other_points sheet && nat_lt points 200)) ≡ true
         → points < 200
     tests points h =
-        let le : sum_by half_points entry.cells ≤ 64 = all in
-        let le' : sum_by half_points (take (rounds_played sheet) entry.cells) ≤ 64 = some in
-        elim (or_cases ((points == sum_by half_points (take (rounds_played sheet) entry.cells)) || (points == sum_by half_points entry.cells)) (has_other_points sheet && nat_lt points 200) h) [
+        let le : sum_by (half_points sheet.bye) entry.cells ≤ 64 = all in
+        let le' : sum_by (half_points sheet.bye) (take (rounds_played sheet) entry.cells) ≤ 64 = some in
+        elim (or_cases ((points == sum_by (half_points sheet.bye) (take (rounds_played sheet) entry.cells)) || (points == sum_by (half_points sheet.bye) entry.cells)) (has_other_points sheet && nat_lt points 200) h) [
           | inl sums ↦
-              elim (or_cases (points == sum_by half_points (take (rounds_played sheet) entry.cells)) (points == sum_by half_points entry.cells) sums) [
-                | inl one ↦ let same : points ≡ sum_by half_points (take (rounds_played sheet) entry.cells) = eqb-true points (sum_by half_points (take (rounds_played sheet) entry.cells)) one in omega arith
-                | inr two ↦ let same : points ≡ sum_by half_points entry.cells = eqb-true points (sum_by half_points entry.cells) two in omega arith
+              elim (or_cases (points == sum_by (half_points sheet.bye) (take (rounds_played sheet) entry.cells)) (points == sum_by (half_points sheet.bye) entry.cells) sums) [
+                | inl one ↦ let same : points ≡ sum_by (half_points sheet.bye) (take (rounds_played sheet) entry.cells) = eqb-true points (sum_by (half_points sheet.bye) (take (rounds_played sheet) entry.cells)) one in omega arith
+                | inr two ↦ let same : points ≡ sum_by (half_points sheet.bye) entry.cells = eqb-true points (sum_by (half_points sheet.bye) entry.cells) two in omega arith
               ]
           | inr other ↦ ltb-true points 200 (and_parts (has_other_points sheet) (nat_lt points 200) other).1
         ]
@@ -361,20 +366,21 @@ small_points sheet entry y few e = by entry.points e
 
     by : (points : Option ℕ)
         → option_map_or (λ p.
-        cond ((p == sum_by half_points (take (rounds_played sheet) entry.cells)) || (p == sum_by half_points entry.cells) || (has_other_points sheet && nat_lt p 200))
+        cond ((p == sum_by (half_points sheet.bye) (take (rounds_played sheet) entry.cells)) || (p == sum_by (half_points sheet.bye) entry.cells) || (has_other_points sheet && nat_lt p 200))
         (Ok tt) (Err (Points entry.start))) points (Ok tt) ≡ Ok y → are_small points
     by None e = tt
     by (Some points) e =
-        decide points ((points == sum_by half_points (take (rounds_played sheet) entry.cells)) || (points == sum_by half_points entry.cells) || (has_other_points sheet && nat_lt points 200))
+        decide points ((points == sum_by (half_points sheet.bye) (take (rounds_played sheet) entry.cells)) || (points == sum_by (half_points sheet.bye) entry.cells) || (has_other_points sheet && nat_lt points 200))
         (tests points) e
 
-all_small : (utf8 : Bool) (sheet : Sheet) (entries : List Entry) (y : Unit {0}) → are_all_sound utf8 entries → players_fit sheet entries ≡ Ok y → are_all_small entries
+all_small : (utf8 : Bool) (sheet : Sheet) (entries : List Entry) (y : Unit {0}) → sheet.bye ≤ 2 → are_all_sound utf8 entries → players_fit sheet entries ≡ Ok y
+    → are_all_small entries
 unfolding players_fit player_fits
-all_small utf8 sheet [] y sound e = tt
-all_small utf8 sheet (entry ∷ entries) y sound e =
+all_small utf8 sheet [] y worth sound e = tt
+all_small utf8 sheet (entry ∷ entries) y worth sound e =
     let outer = then_ok (player_fits sheet entry) (λ _. players_fit sheet entries) y e in
     let inner = then_ok (cells_fit sheet entry.start 1 entry.cells) (λ _. points_fit sheet entry) outer.0 outer.1 in
-    (small_points sheet entry outer.0 sound.0.few inner.2, all_small utf8 sheet entries y sound.1 outer.2)
+    (small_points sheet entry outer.0 worth sound.0.few inner.2, all_small utf8 sheet entries y worth sound.1 outer.2)
 
 -- the whole
 
@@ -408,17 +414,17 @@ sized_turn turn sheet long e = rw (length-map sheet.players turn) (by (nat_lt 25
     by false false false false e = refl
 
 -- what a report that was read is
-pub record IsReport (utf8 : Bool) (all : List (List ℕ)) (report : Sheet) : Type 0 where
-  pub read : lines_onto (without_players utf8 all) 1 all ≡ Ok report
+pub record IsReport (utf8 : Bool) (all : List (List ℕ)) (bye : ℕ) (report : Sheet) : Type 0 where
+  pub read : lines_onto (without_players utf8 all bye) 1 all ≡ Ok report
   pub size : sized report (has_too_many_rounds utf8 all) ≡ Ok report
   pub short : has_too_many_rounds utf8 all ≡ false
   pub fit : players_fit report report.players ≡ Ok tt
 
-pub report_is : (utf8 : Bool) (all : List (List ℕ)) (report : Sheet) → report_of utf8 all ≡ Ok report → IsReport utf8 all report
+pub report_is : (utf8 : Bool) (all : List (List ℕ)) (bye : ℕ) (report : Sheet) → report_of utf8 all bye ≡ Ok report → IsReport utf8 all bye report
 unfolding report_of
-report_is utf8 all report e =
+report_is utf8 all bye report e =
     let long = has_too_many_rounds utf8 all in
-    let s1 = then_ok (lines_onto (without_players utf8 all) 1 all) (λ sheet. sized sheet long >>= λ sheet. players_fit sheet sheet.players >>= λ _. Ok sheet) report e in
+    let s1 = then_ok (lines_onto (without_players utf8 all bye) 1 all) (λ sheet. sized sheet long >>= λ sheet. players_fit sheet sheet.players >>= λ _. Ok sheet) report e in
     let s2 = then_ok (sized s1.0 long) (λ sheet. players_fit sheet sheet.players >>= λ _. Ok sheet) report s1.2 in
     let s3 = then_ok (players_fit s2.0 s2.0.players) (λ _. Ok s2.0) report s2.2 in
     let same2 : s2.0 ≡ report = same_ok s2.0 report s3.2 in
@@ -431,35 +437,36 @@ report_is utf8 all report e =
       fit = subst (λ (s : Sheet). players_fit s s.players ≡ Ok tt) same2 s3.1;
     }
 
-report_from : (utf8 : Bool) (all : List (List ℕ)) (report : Sheet) → IsReport utf8 all report → report_of utf8 all ≡ Ok report
+report_from : (utf8 : Bool) (all : List (List ℕ)) (bye : ℕ) (report : Sheet) → IsReport utf8 all bye report → report_of utf8 all bye ≡ Ok report
 unfolding report_of
-report_from utf8 all report r = rw (r.read, r.size, r.fit) refl
+report_from utf8 all bye report r = rw (r.read, r.size, r.fit) refl
 
 -- the canonical text, by its lines
-record IsText (utf8 : Bool) (all : List (List ℕ)) (bytes : List ℕ) (report : Sheet) : Type 0 where
+record IsText (utf8 : Bool) (all : List (List ℕ)) (bytes : List ℕ) (bye : ℕ) (report : Sheet) : Type 0 where
   unmarked : has_mark (written report) ≡ false
   same : is_utf8 (written report) ≡ are_utf8 all
-  read : report_of utf8 (lines (written report)) ≡ Ok report
+  read : report_of utf8 (lines (written report)) bye ≡ Ok report
 
 text_by : (b utf8 : Bool) (ls carried : List (Option (List ℕ))) (ps players : List Entry) → b ≡ utf8 → ls ≡ carried → ps ≡ players
     → lines_text b ls ps ≡ lines_text utf8 carried players
 text_by b utf8 ls carried ps players e e' e2 = rw (e, e', e2) refl
 
-text_is : (utf8 : Bool) (bytes : List ℕ) (report : Sheet) (turn : Entry → Entry) → has_mark bytes ≡ false → IsReport utf8 (lines bytes) report → Turns report.utf8 turn
-    → players_fit (turned turn report) (map turn report.players) ≡ Ok tt → IsText utf8 (lines bytes) bytes (turned turn report)
-text_is utf8 bytes report turn unmarked r turns fit =
+text_is : (utf8 : Bool) (bytes : List ℕ) (bye : ℕ) (report : Sheet) (turn : Entry → Entry) → bye ≤ 2 → has_mark bytes ≡ false → IsReport utf8 (lines bytes) bye report
+    → Turns report.utf8 turn → players_fit (turned turn report) (map turn report.players) ≡ Ok tt → IsText utf8 (lines bytes) bytes bye (turned turn report)
+text_is utf8 bytes bye report turn worth unmarked r turns fit =
     let all = lines bytes in
-    let w = were_read utf8 (without_players utf8 all) report 1 all refl (lines-inside bytes) r.short r.read in
+    let w = were_read utf8 (without_players utf8 all bye) report 1 all refl (lines-inside bytes) r.short r.read in
+    let small_bye : report.bye ≤ 2 = subst (λ b. b ≤ 2) (sym w.bye_is) worth in
     let t : Turns utf8 turn = subst (λ b. Turns b turn) w.utf8_is turns in
     let small : are_all_small (map turn w.entries) =
-    all_small utf8 (turned turn report) (map turn w.entries) tt (turned_sound utf8 turn w.entries t w.sound)
+    all_small utf8 (turned turn report) (map turn w.entries) tt small_bye (turned_sound utf8 turn w.entries t w.sound)
     (subst (λ (ps : List Entry). players_fit (turned turn report) (map turn ps) ≡ Ok tt) w.players fit) in
     let c = w.copied turn t small in
     let text : written (turned turn report) ≡ lines_text utf8 (map (carried_line utf8) all) (map turn w.entries) =
     text_by report.utf8 utf8 report.carried (map (carried_line utf8) all) (map turn report.players) (map turn w.entries) w.utf8_is w.carried (ap (map turn) w.players) in
     let copy : lines (written (turned turn report)) ≡ c.copy = ap lines text ∙ c.text in
-    let empty : without_players utf8 c.copy ≡ without_players utf8 all = rw c.carried refl in
-    let again : IsReport utf8 c.copy (turned turn report) = record {
+    let empty : without_players utf8 c.copy bye ≡ without_players utf8 all bye = rw c.carried refl in
+    let again : IsReport utf8 c.copy bye (turned turn report) = record {
       read = ap (λ (s : Sheet). lines_onto s 1 c.copy) empty ∙ c.read;
       size = ap (sized (turned turn report)) (c.short ∙ sym r.short) ∙ sized_turn turn report (has_too_many_rounds utf8 all) r.size;
       short = c.short;
@@ -468,55 +475,67 @@ text_is utf8 bytes report turn unmarked r turns fit =
     record {
       unmarked = ap has_mark text ∙ c.unmarked bytes refl unmarked;
       same = utf8_lines (written (turned turn report)) ∙ ap are_utf8 copy ∙ c.same;
-      read = ap (report_of utf8) copy ∙ report_from utf8 c.copy (turned turn report) again;
+      read = ap (λ (all' : List (List ℕ)). report_of utf8 all' bye) copy ∙ report_from utf8 c.copy bye (turned turn report) again;
     }
 
-pub verdict_is : (bytes : List ℕ) (report : Sheet) → verdict bytes ≡ Ok report → report_of (is_utf8 (without_marks bytes)) (lines (without_marks bytes)) ≡ Ok report
+pub verdict_is : (bytes : List ℕ) (bye : ℕ) (report : Sheet) → verdict bytes bye ≡ Ok report
+    → report_of (is_utf8 (without_marks bytes)) (lines (without_marks bytes)) bye ≡ Ok report
 unfolding verdict
-verdict_is bytes report e = by (nat_lt 1048576 (length bytes)) e
+verdict_is bytes bye report e = by (nat_lt 1048576 (length bytes)) e
   where
-    by : (b : Bool) → cond b (Err (TooMany Bytes)) (report_of (is_utf8 (without_marks bytes)) (lines (without_marks bytes))) ≡ Ok report
-        → report_of (is_utf8 (without_marks bytes)) (lines (without_marks bytes)) ≡ Ok report
+    by : (b : Bool) → cond b (Err (TooMany Bytes)) (report_of (is_utf8 (without_marks bytes)) (lines (without_marks bytes)) bye) ≡ Ok report
+        → report_of (is_utf8 (without_marks bytes)) (lines (without_marks bytes)) bye ≡ Ok report
     by true e = absurd (not_ok (TooMany Bytes) report e)
     by false e = e
 
-verdict_from : (bytes : List ℕ) (report : Sheet) → length bytes ≤ 1048576 → without_marks bytes ≡ bytes → report_of (is_utf8 bytes) (lines bytes) ≡ Ok report → verdict bytes ≡ Ok report
+verdict_from : (bytes : List ℕ) (bye : ℕ) (report : Sheet) → length bytes ≤ 1048576 → without_marks bytes ≡ bytes
+    → report_of (is_utf8 bytes) (lines bytes) bye ≡ Ok report → verdict bytes bye ≡ Ok report
 unfolding verdict
-verdict_from bytes report few same e = rw (le-ltb 1048576 (length bytes) few, same) e
+verdict_from bytes bye report few same e = rw (le-ltb 1048576 (length bytes) few, same) e
 
 -- what the players of a report that was read are
-pub were_sound : (bytes : List ℕ) (report : Sheet) → verdict bytes ≡ Ok report → are_all_sound report.utf8 report.players
-were_sound bytes report e =
+pub were_sound : (bytes : List ℕ) (bye : ℕ) (report : Sheet) → verdict bytes bye ≡ Ok report → are_all_sound report.utf8 report.players
+were_sound bytes bye report e =
     let body = without_marks bytes in
     let utf8 = is_utf8 body in
-    let r = report_is utf8 (lines body) report (verdict_is bytes report e) in
-    let w = were_read utf8 (without_players utf8 (lines body)) report 1 (lines body) refl (lines-inside body) r.short r.read in
+    let r = report_is utf8 (lines body) bye report (verdict_is bytes bye report e) in
+    let w = were_read utf8 (without_players utf8 (lines body) bye) report 1 (lines body) refl (lines-inside body) r.short r.read in
     subst (λ b. are_all_sound b report.players) (sym w.utf8_is) (subst (are_all_sound utf8) (sym w.players) w.sound)
 
-pub were_fit : (bytes : List ℕ) (report : Sheet) → verdict bytes ≡ Ok report → players_fit report report.players ≡ Ok tt
-were_fit bytes report e =
+pub were_fit : (bytes : List ℕ) (bye : ℕ) (report : Sheet) → verdict bytes bye ≡ Ok report → players_fit report report.players ≡ Ok tt
+were_fit bytes bye report e =
     let body = without_marks bytes in
-    (report_is (is_utf8 body) (lines body) report (verdict_is bytes report e)).fit
+    (report_is (is_utf8 body) (lines body) bye report (verdict_is bytes bye report e)).fit
+
+-- a report keeps what the pairing-allocated bye gives in it
+pub kept_bye : (bytes : List ℕ) (bye : ℕ) (report : Sheet) → verdict bytes bye ≡ Ok report → report.bye ≡ bye
+kept_bye bytes bye report e =
+    let body = without_marks bytes in
+    let utf8 = is_utf8 body in
+    let r = report_is utf8 (lines body) bye report (verdict_is bytes bye report e) in
+    (were_read utf8 (without_players utf8 (lines body) bye) report 1 (lines body) refl (lines-inside body) r.short r.read).bye_is
 
 -- the text of a report that was read and whose players were changed
-pub written_again : (bytes : List ℕ) (report : Sheet) (turn : Entry → Entry) → verdict bytes ≡ Ok report → Turns report.utf8 turn
+pub written_again : (bytes : List ℕ) (bye : ℕ) (report : Sheet) (turn : Entry → Entry) → bye ≤ 2 → verdict bytes bye ≡ Ok report → Turns report.utf8 turn
     → players_fit (turned turn report) (map turn report.players) ≡ Ok tt → length (written (turned turn report)) ≤ 1048576
-    → verdict (written (turned turn report)) ≡ Ok (turned turn report)
-written_again bytes report turn e turns fit few =
+    → verdict (written (turned turn report)) report.bye ≡ Ok (turned turn report)
+written_again bytes bye report turn worth e turns fit few =
     let body = without_marks bytes in
-    let r = report_is (is_utf8 body) (lines body) report (verdict_is bytes report e) in
-    let t = text_is (is_utf8 body) body report turn (without_marks-no_mark bytes) r turns fit in
+    let r = report_is (is_utf8 body) (lines body) bye report (verdict_is bytes bye report e) in
+    let t = text_is (is_utf8 body) body bye report turn worth (without_marks-no_mark bytes) r turns fit in
     let same : is_utf8 (written (turned turn report)) ≡ is_utf8 body = t.same ∙ sym (utf8_lines body) in
-    verdict_from (written (turned turn report)) (turned turn report) few (no_mark (written (turned turn report)) t.unmarked)
-    (ap (λ b. report_of b (lines (written (turned turn report)))) same ∙ t.read)
+    ap (verdict (written (turned turn report))) (kept_bye bytes bye report e)
+    ∙ verdict_from (written (turned turn report)) bye (turned turn report) few (no_mark (written (turned turn report)) t.unmarked)
+    (ap (λ b. report_of b (lines (written (turned turn report))) bye) same ∙ t.read)
 
 unchanged : (utf8 : Bool) → Turns utf8 (λ entry. entry)
 unchanged utf8 = record { start = λ entry. refl; line = λ entry. refl; left = λ entry. refl; right = λ entry. refl; sound = λ entry sound. sound }
 
-pub round_trip : (bytes : List ℕ) (report : Sheet) → verdict bytes ≡ Ok report → length (written report) ≤ 1048576 → verdict (written report) ≡ Ok report
-round_trip bytes report e few =
+pub round_trip : (bytes : List ℕ) (bye : ℕ) (report : Sheet) → bye ≤ 2 → verdict bytes bye ≡ Ok report → length (written report) ≤ 1048576
+    → verdict (written report) report.bye ≡ Ok report
+round_trip bytes bye report worth e few =
     let same : turned (λ entry. entry) report ≡ report = ap (λ (ps : List Entry). record report { players = ps }) (map-id report.players) in
     let fit : players_fit (turned (λ entry. entry) report) (map (λ entry. entry) report.players) ≡ Ok tt =
-    subst (λ (s : Sheet). players_fit s s.players ≡ Ok tt) (sym same) (were_fit bytes report e) in
-    subst (λ (s : Sheet). verdict (written s) ≡ Ok s) same
-    (written_again bytes report (λ entry. entry) e (unchanged report.utf8) fit (subst (λ (s : Sheet). length (written s) ≤ 1048576) (sym same) few))
+    subst (λ (s : Sheet). players_fit s s.players ≡ Ok tt) (sym same) (were_fit bytes bye report e) in
+    subst (λ (s : Sheet). verdict (written s) report.bye ≡ Ok s) same
+    (written_again bytes bye report (λ entry. entry) worth e (unchanged report.utf8) fit (subst (λ (s : Sheet). length (written s) ≤ 1048576) (sym same) few))

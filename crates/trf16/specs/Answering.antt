@@ -3,7 +3,7 @@ use Rattle.std.specs.Prelude.{ℕ, ◌+◌, Bool, true, false, not, ◌&&◌, �
 use Rattle.std.specs.Option.{option_map_or}
 use Rattle.trf16.specs.Extensions.{is_kind}
 use Rattle.trf16.specs.Absence.{some_carried}
-use Rattle.trf16.specs.Sheet.{Entry, Sheet, known, cell_in, half_points, opponent_in_cell, colour_in_cell, rounds_played}
+use Rattle.trf16.specs.Sheet.{Entry, Sheet, known, cell_in, game_points, half_points, opponent_in_cell, colour_in_cell, rounds_played}
 use Rattle.trf16.specs.Outcomes.{◌>>=◌}
 use Rattle.trf16.specs.declared.cell.Colour.{Colour}
 use Rattle.trf16.specs.declared.cell.Colour.TheVariants.{White, Black}
@@ -36,7 +36,7 @@ are_of_one_class _ _ = false
 unfoldable pub pair_fits : ℕ → ℕ → Cell → Cell → Result (Unit {0}) Fault
 pair_fits start round mine theirs =
     if not (are_opposite (colour_in_cell mine) (colour_in_cell theirs) || (is_forfeit mine && is_forfeit theirs)) then Err (Colours start round)
-    else (if not (are_of_one_class mine theirs && nat_le (half_points mine + half_points theirs) 2) then Err (Results start round) else Ok tt)
+    else (if not (are_of_one_class mine theirs && nat_le (game_points mine + game_points theirs) 2) then Err (Results start round) else Ok tt)
 
 -- a cell of a player in a round names a player, another one, who names him too
 unfoldable pub cell_fits : Sheet → ℕ → ℕ → Cell → Result (Unit {0}) Fault
@@ -65,7 +65,7 @@ has_other_points sheet = some_carried (is_kind (codes "XXS")) sheet
 unfoldable pub points_fit : Sheet → Entry → Result (Unit {0}) Fault
 points_fit sheet entry =
     option_map_or (λ points.
-    if (points == sum_by half_points (take (rounds_played sheet) entry.cells)) || (points == sum_by half_points entry.cells) || (has_other_points sheet && nat_lt points 200)
+    if (points == sum_by (half_points sheet.bye) (take (rounds_played sheet) entry.cells)) || (points == sum_by (half_points sheet.bye) entry.cells) || (has_other_points sheet && nat_lt points 200)
     then Ok tt else Err (Points entry.start))
     entry.points (Ok tt)
 

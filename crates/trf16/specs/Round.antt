@@ -44,12 +44,13 @@ with_cell (suc before) cell (first ∷ rest) = first ∷ with_cell before cell r
 abbrev pub cells_with : List (ℕ × ℕ) → ℕ → Entry → List Cell
 cells_with boards before entry = option_map_or (λ cell. with_cell before cell entry.cells) (cell_by boards entry.start) entry.cells
 
--- a player with his cell of the next round; a points field that is not blank is the sum up to it
-abbrev pub entry_with : List (ℕ × ℕ) → ℕ → Entry → Entry
-entry_with boards before entry =
+-- a player with his cell of the next round; a points field that is not blank is the sum up to it, where the pairing-allocated bye
+-- gives so many half points
+abbrev pub entry_with : ℕ → List (ℕ × ℕ) → ℕ → Entry → Entry
+entry_with bye boards before entry =
     let cells = cells_with boards before entry in
-    record entry { points = option_map (λ _. sum_by half_points (take (before + 1) cells)) entry.points; cells = cells }
+    record entry { points = option_map (λ _. sum_by (half_points bye) (take (before + 1) cells)) entry.points; cells = cells }
 
 -- a report whose next round some boards are
 abbrev pub with_round : List (ℕ × ℕ) → Sheet → Sheet
-with_round boards sheet = record sheet { players = map (entry_with boards (rounds_played sheet)) sheet.players }
+with_round boards sheet = record sheet { players = map (entry_with sheet.bye boards (rounds_played sheet)) sheet.players }

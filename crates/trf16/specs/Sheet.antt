@@ -21,13 +21,15 @@ pub record Entry : Type 0 where
   pub cells : List Cell
 
 -- a report: whether its columns are characters, each of its lines that is carried (none at the line of a player), its players in
--- the order of their lines, the total of rounds where a line XXR names it, and the initial colour where a line XXC names it
+-- the order of their lines, the total of rounds where a line XXR names it, the initial colour where a line XXC names it, and how many
+-- half points the pairing-allocated bye gives
 pub record Sheet : Type 0 where
   pub utf8 : Bool
   pub carried : List (Option (List ℕ))
   pub players : List Entry
   pub total : Option ℕ
   pub initial : Option Colour
+  pub bye : ℕ
 
 -- what a player is, wherever it lies in memory
 abbrev pub entry_of : Player → Entry
@@ -89,24 +91,29 @@ outcome_points Win = 2
 outcome_points Draw = 1
 outcome_points Loss = 0
 
--- the half points of a round without an opponent: H gives 1, F and U give 2, and Z none
-abbrev pub bye_points : ByeKind → ℕ
-bye_points Half = 1
-bye_points Full = 2
-bye_points Allocated = 2
-bye_points Zero = 0
+-- the half points of a cell with an opponent: a forfeit win gives 2, a game without a result none; other cells give none here
+abbrev pub game_points : Cell → ℕ
+game_points Blank = 0
+game_points (Bye kind) = 0
+game_points (Game opponent colour rated got) = outcome_points got
+game_points (Forfeit opponent colour won) = if won then 2 else 0
+game_points (Unfinished opponent colour) = 0
 
--- the half points of a cell: a forfeit win gives 2, a game without a result none, and a blank none (our own choice)
-abbrev pub half_points : Cell → ℕ
-half_points Blank = 0
-half_points (Bye bye) = bye_points bye
-half_points (Game opponent colour rated got) = outcome_points got
-half_points (Forfeit opponent colour won) = if won then 2 else 0
-half_points (Unfinished opponent colour) = 0
+-- the half points of a round without an opponent, where U gives so many: H gives 1, F gives 2, and Z none
+abbrev pub bye_points : ℕ → ByeKind → ℕ
+bye_points bye Half = 1
+bye_points bye Full = 2
+bye_points bye Allocated = bye
+bye_points bye Zero = 0
+
+-- the half points of a cell, where the pairing-allocated bye gives so many; a blank gives none (our own choice)
+abbrev pub half_points : ℕ → Cell → ℕ
+half_points bye (Bye kind) = bye_points bye kind
+half_points bye cell = game_points cell
 
 -- the half points of a player in the rounds from 1 up to a given one
 abbrev pub points_upto : Sheet → ℕ → ℕ → ℕ
-points_upto sheet start upto = sum_by half_points (take upto (cells_of sheet.players start))
+points_upto sheet start upto = sum_by (half_points sheet.bye) (take upto (cells_of sheet.players start))
 
 -- the opponent that a cell names
 abbrev pub opponent_in_cell : Cell → Option ℕ

@@ -126,9 +126,10 @@ lines_onto sheet n (line ∷ rest) = do
 abbrev pub carried_line : Bool → List ℕ → Option (List ℕ)
 carried_line utf8 line = if is_player (columns utf8 line) then None else Some line
 
--- a report whose players are still to be read
-abbrev pub without_players : Bool → List (List ℕ) → Sheet
-without_players utf8 all = record { utf8 = utf8; carried = map (carried_line utf8) all; players = []; total = None; initial = None }
+-- a report whose players are still to be read, where the pairing-allocated bye gives so many half points
+abbrev pub without_players : Bool → List (List ℕ) → ℕ → Sheet
+without_players utf8 all bye =
+    record { utf8 = utf8; carried = map (carried_line utf8) all; players = []; total = None; initial = None; bye = bye }
 
 -- whether a player's line goes on behind the last round that is read
 abbrev pub has_too_many_rounds : Bool → List (List ℕ) → Bool
@@ -145,16 +146,17 @@ sized sheet too_long =
     else (if too_long || names_too_many_rounds sheet then Err (TooMany Rounds)
     else (if length sheet.players == 0 then Err NoPlayers else Ok sheet))
 
--- the report that some lines are
-unfoldable pub report_of : Bool → List (List ℕ) → Result Sheet Fault
-report_of utf8 all = do
-  sheet ← lines_onto (without_players utf8 all) 1 all
+-- the report that some lines are, where the pairing-allocated bye gives so many half points
+unfoldable pub report_of : Bool → List (List ℕ) → ℕ → Result Sheet Fault
+report_of utf8 all bye = do
+  sheet ← lines_onto (without_players utf8 all bye) 1 all
   sheet ← sized sheet (has_too_many_rounds utf8 all)
   _ ← players_fit sheet sheet.players
   Ok sheet
 
--- the report that a text is, or the first rule that it breaks; a column is a character where the text is UTF-8, else a byte
-unfoldable pub verdict : List ℕ → Result Sheet Fault
-verdict bytes =
+-- the report that a text is where the pairing-allocated bye gives so many half points, or the first rule that it breaks; a column is
+-- a character where the text is UTF-8, else a byte
+unfoldable pub verdict : List ℕ → ℕ → Result Sheet Fault
+verdict bytes bye =
     if nat_lt 1048576 (length bytes) then Err (TooMany Bytes)
-    else report_of (is_utf8 (without_marks bytes)) (lines (without_marks bytes))
+    else report_of (is_utf8 (without_marks bytes)) (lines (without_marks bytes)) bye

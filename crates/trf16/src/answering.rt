@@ -6,7 +6,7 @@ ghost use Rattle.trf16.specs.Sheet.{entry_of, opponent_in_cell, rounds_played};
 ghost use Rattle.trf16.specs.Answering.{are_opposite, is_forfeit, are_of_one_class, pair_fits, cell_fits, cells_fit, points_fit, player_fits, players_fit};
 
 use crate::cell::{Cell, Colour};
-use crate::cells::{front, points_of};
+use crate::cells::front;
 use crate::fault::Fault;
 use crate::player::Player;
 use crate::report::Report;
@@ -53,7 +53,7 @@ fn pair_fits(player: u16, round: usize, mine: &Cell, theirs: &Cell) -> Result<()
     if !(opposite || forfeits) {
         return Err(Fault::Colours { player, round });
     }
-    if !are_of_one_class(mine, theirs) || 2 < mine.half_points() + theirs.half_points() {
+    if !are_of_one_class(mine, theirs) || 2 < mine.game_points() + theirs.game_points() {
         return Err(Fault::Results { player, round });
     }
     Ok(())
@@ -121,7 +121,9 @@ fn points_fit(report: &Report<'_>, player: &Player<'_>, rounds: u8) -> Result<()
     let Some(points) = player.points else {
         return Ok(());
     };
-    if points == points_of(front(&player.cells, rounds)) || points == points_of(&player.cells) {
+    if points == report.points_over(front(&player.cells, rounds))
+        || points == report.points_over(&player.cells)
+    {
         return Ok(());
     }
     if points < 200 && report.has_other_points() {

@@ -60,16 +60,15 @@ pub enum Cell {
 }
 
 impl Cell {
-    ghost use Rattle.trf16.specs.Sheet.{half_points, opponent_in_cell, colour_in_cell};
+    ghost use Rattle.trf16.specs.Sheet.{game_points, half_points, opponent_in_cell, colour_in_cell};
 
-    /// The half points of the round: a win, a forfeit win, `F` and `U` give 2, a draw and `H` give 1, all else none.
-    pub fn half_points(&self) -> u16
-        ensures value { result ≡ half_points self.now }
+    /// The half points of a cell with an opponent: a win and a forfeit win give 2, a draw gives 1, all else none; a cell without one gives
+    /// none here.
+    pub fn game_points(&self) -> u16
+        ensures value { result ≡ game_points self.now }
         ensures few { result ≤ 2 }
     {
         match self {
-            Cell::Bye(Bye::Full | Bye::Allocated) => 2,
-            Cell::Bye(Bye::Half) => 1,
             Cell::Game {
                 got: Outcome::Win,
                 ..
@@ -80,6 +79,21 @@ impl Cell {
                 ..
             } => 1,
             _ => 0,
+        }
+    }
+
+    /// The half points of the round, where the pairing-allocated bye `U` gives `bye`, 0 to 2: `F` gives 2, `H` gives 1, `Z` and a blank
+    /// give none, and a cell with an opponent gives its game points.
+    pub fn half_points(&self, bye: u16) -> u16
+        requires { bye ≤ 2 }
+        ensures value { result ≡ half_points bye self.now }
+        ensures few { result ≤ 2 }
+    {
+        match self {
+            Cell::Bye(Bye::Half) => 1,
+            Cell::Bye(Bye::Full) => 2,
+            Cell::Bye(Bye::Allocated) => bye,
+            _ => self.game_points(),
         }
     }
 

@@ -24,15 +24,16 @@ pub fn front(cells: &[Cell], rounds: u8) -> &[Cell]
     cells.split_at(cells.len().min(usize::from(rounds))).0
 }
 
-/// The half points of some rounds.
-pub fn points_of(cells: &[Cell]) -> u16
-    requires { length cells.now ≤ 32 }
-    ensures value { result ≡ sum_by half_points cells.now }
+/// The half points of some rounds, where the pairing-allocated bye gives `bye`, 0 to 2.
+pub(crate) fn points_of(cells: &[Cell], bye: u16) -> u16
+    requires rounds { length cells.now ≤ 32 }
+    requires worth { bye ≤ 2 }
+    ensures value { result ≡ sum_by (half_points bye) cells.now }
     ensures few { result ≤ 64 }
 {
     let mut sum = 0;
     for cell in cells {
-        sum += cell.half_points();
+        sum += cell.half_points(bye);
     }
     sum
 }

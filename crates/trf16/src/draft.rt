@@ -24,10 +24,12 @@ pub(crate) struct Draft<'a> {
     players: IndexMap<u16, Player<'a>>,
     total: Option<u16>,
     initial: Option<Colour>,
+    // what the pairing-allocated bye gives, in half points
+    bye: u16,
 }
 
 impl<'a> Model for Draft<'a> {
-    ghost use Rattle.std.specs.Prelude.{◌≡◌, map};
+    ghost use Rattle.std.specs.Prelude.{◌≡◌, ◌≤◌, map};
     ghost use Rattle.std.specs.Map.{keys_of};
     ghost use Rattle.trf16.specs.Lines.{lines};
     ghost use Rattle.trf16.specs.Sheet.{Sheet, entry_of};
@@ -41,15 +43,17 @@ impl<'a> Model for Draft<'a> {
       players = map (λ e. entry_of e.1) r.players.entries;
       total = r.total;
       initial = r.initial;
+      bye = r.bye;
     } };
 
-    ghost invariant = { λ r. keys_of r.players.entries ≡ map (λ e. e.1.start) r.players.entries };
+    ghost invariant = { λ r. (keys_of r.players.entries ≡ map (λ e. e.1.start) r.players.entries) × (r.bye ≤ 2) };
 }
 
 impl<'a> Draft<'a> {
     /// A report of which no line is read yet.
-    pub(crate) fn new(alloc: Global, text: &'a [u8], utf8: bool) -> Draft<'a>
-        ensures { result ≡ without_players utf8 (lines text.now) }
+    pub(crate) fn new(alloc: Global, text: &'a [u8], utf8: bool, bye: u16) -> Draft<'a>
+        requires { bye ≤ 2 }
+        ensures { result ≡ without_players utf8 (lines text.now) bye }
     {
         Draft {
             utf8,
@@ -57,6 +61,7 @@ impl<'a> Draft<'a> {
             players: IndexMap::new(alloc),
             total: None,
             initial: None,
+            bye,
         }
     }
 
@@ -141,6 +146,7 @@ impl<'a> Draft<'a> {
             players,
             total,
             initial,
+            bye,
         } = self;
         let rounds = last_round_of(&players);
         Report {
@@ -151,6 +157,7 @@ impl<'a> Draft<'a> {
             initial,
             rounds,
             notes,
+            bye,
         }
     }
 }

@@ -50,19 +50,27 @@ pub fn law_lines()
     ensures { (line : List ℕ) → (rest : List ℕ) → list_all (λ b. not (ends_line b)) line ≡ true → lines (line ++ (byte "\n" ∷ rest)) ≡ line ∷ lines rest }
 {}
 
-/// The canonical text of a report that was read reads back as that report, unless it is too long.
+/// The canonical text of a report that was read reads back as that report, by what the pairing-allocated bye gives in it, unless it is too
+/// long.
 pub fn law_round_trip()
-    ensures { (bytes : List ℕ) → (report : Sheet) → verdict bytes ≡ Ok report → length (written report) ≤ 1048576 → verdict (written report) ≡ Ok report }
+    ensures { (bytes : List ℕ) → (bye : ℕ) → (report : Sheet) → bye ≤ 2 → verdict bytes bye ≡ Ok report → length (written report) ≤ 1048576
+        → verdict (written report) report.bye ≡ Ok report }
 {}
 
-/// The canonical text of a report that was read, and whose next round some boards then are, reads back as that report, unless it is
-/// too long.
+/// The canonical text of a report that was read, and whose next round some boards then are, reads back as that report, by what the
+/// pairing-allocated bye gives in it, unless it is too long.
 pub fn law_round_trip_with_round()
-    ensures { (bytes : List ℕ) → (report : Sheet) → (boards : List (ℕ × ℕ)) → verdict bytes ≡ Ok report → CanBePaired boards report → 0 < length boards
-        → length (written (with_round boards report)) ≤ 1048576 → verdict (written (with_round boards report)) ≡ Ok (with_round boards report) }
+    ensures { (bytes : List ℕ) → (bye : ℕ) → (report : Sheet) → (boards : List (ℕ × ℕ)) → bye ≤ 2 → verdict bytes bye ≡ Ok report
+        → CanBePaired boards report → 0 < length boards → length (written (with_round boards report)) ≤ 1048576
+        → verdict (written (with_round boards report)) report.bye ≡ Ok (with_round boards report) }
 {}
 
 /// In an accepted report no two players have one start rank, each start rank is from 1 to 9999, and a total of rounds is at most 32.
 pub fn start_ranks_are_own()
-    ensures { (bytes : List ℕ) (sheet : Sheet) → verdict bytes ≡ Ok sheet → HasOwnStarts sheet }
+    ensures { (bytes : List ℕ) (bye : ℕ) (sheet : Sheet) → verdict bytes bye ≡ Ok sheet → HasOwnStarts sheet }
+{}
+
+/// A report keeps what the pairing-allocated bye gives in it: the value by which it was read.
+pub fn bye_is_kept()
+    ensures { (bytes : List ℕ) (bye : ℕ) (sheet : Sheet) → verdict bytes bye ≡ Ok sheet → sheet.bye ≡ bye }
 {}

@@ -25,5 +25,5 @@ pub mod report;
 mod round;
 mod writing;
 
-pub use reading::read;
+pub use reading::{read, read_with};
 pub use writing::write;

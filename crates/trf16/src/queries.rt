@@ -7,7 +7,7 @@ ghost use Rattle.trf16.specs.Answering.{has_other_points};
 ghost use Rattle.trf16.specs.Unfinished.{unfinished};
 
 use crate::cell::{Bye, Cell};
-use crate::cells::{first_unfinished, front, points_of};
+use crate::cells::{first_unfinished, front};
 use crate::kind::Kind;
 use crate::noting::earlier;
 use crate::report::Report;
@@ -57,7 +57,7 @@ impl<'a> Report<'a> {
         ensures value { result ≡ points_upto self.now start upto }
     {
         match self.player(start) {
-            Some(player) => points_of(front(&player.cells, upto)),
+            Some(player) => self.points_over(front(&player.cells, upto)),
             None => 0,
         }
     }

@@ -264,7 +264,7 @@ fn lines_onto<'a>(
     ensures given { Gives (λ _. draft.new) result (lines_onto draft.old 1 (lines text.now)) }
     ensures long { IfOk result (λ long. long ≡ has_too_many_rounds draft.old.utf8 (lines text.now)) }
     ensures same { IfOk result (λ _. (draft.new.utf8 ≡ draft.old.utf8) × (draft.new.carried ≡ draft.old.carried)) }
-    ensures noted { IfOk result (λ _. Tells notes.new (without_players draft.old.utf8 (lines text.now))) }
+    ensures noted { IfOk result (λ _. Tells notes.new (without_players draft.old.utf8 (lines text.now) draft.old.bye)) }
 {
     let utf8 = draft.is_utf8();
     let mut rest = text;
@@ -307,22 +307,34 @@ fn sized<'a>(draft: Draft<'a>, notes: Notes, too_long: bool) -> Result<Report<'a
     Ok(draft.into_report(notes))
 }
 
-/// Reads a report of at most 1,048,576 bytes, 256 players and 32 rounds: the report that the text is, or the first rule that it
-/// breaks. A column is a character where the text is UTF-8, else a byte; byte order marks in front are skipped.
+/// Reads a report in which the pairing-allocated bye gives 2 half points, as `read_with` does.
+///
+/// # Errors
+/// Those of `read_with`.
+pub fn read<'a>(alloc: Global, bytes: &'a [u8]) -> Result<Report<'a>, Fault>
+    ensures { Gives (λ report. report) result (verdict bytes.now 2) }
+{
+    read_with(alloc, bytes, 2)
+}
+
+/// Reads a report of at most 1,048,576 bytes, 256 players and 32 rounds, in which the pairing-allocated bye gives `bye` half points, 0 to
+/// 2: the report that the text is, or the first rule that it breaks. A column is a character where the text is UTF-8, else a byte; byte
+/// order marks in front are skipped.
 ///
 /// # Errors
 /// Too many bytes goes before all; then what is wrong with a line, in the order of the lines; then too many players, too many
 /// rounds, and no players; then for each player in the order of the lines what does not fit in his rounds, and then his points.
 /// Want of memory may come at any growth.
 #[tactic(auto, unfolding(crate::specs::Verdict::verdict, crate::specs::Verdict::report_of))]
-pub fn read<'a>(alloc: Global, bytes: &'a [u8]) -> Result<Report<'a>, Fault>
-    ensures { Gives (λ report. report) result (verdict bytes.now) }
+pub fn read_with<'a>(alloc: Global, bytes: &'a [u8], bye: u16) -> Result<Report<'a>, Fault>
+    requires { bye ≤ 2 }
+    ensures { Gives (λ report. report) result (verdict bytes.now bye) }
 {
     if 1_048_576 < bytes.len() {
         return Err(Fault::TooMany(Excess::Bytes));
     }
     let text = skip_marks(bytes);
-    let mut draft = Draft::new(alloc, text, is_utf8(text));
+    let mut draft = Draft::new(alloc, text, is_utf8(text), bye);
     let mut notes = Notes::new(alloc)?;
     let too_long = lines_onto(alloc, &mut draft, &mut notes, text)?;
     let report = sized(draft, notes, too_long)?;

@@ -1,11 +1,11 @@
 // A report that was accepted, and what it says.
-ghost use Rattle.std.specs.Prelude.{◌≡◌, ◌<◌, ◌≤◌, map, length, option_copied, IfSome, []};
+ghost use Rattle.std.specs.Prelude.{◌≡◌, ◌<◌, ◌≤◌, map, length, option_copied, IfSome, [], sum_by};
 ghost use Rattle.std.specs.Option.{option_map_or};
-ghost use Rattle.trf16.specs.Sheet.{entry_of, known, cells_of, cell_in, carried_in, last_paired_of, rounds_played};
+ghost use Rattle.trf16.specs.Sheet.{entry_of, known, cells_of, cell_in, carried_in, half_points, last_paired_of, rounds_played};
 ghost use Rattle.trf16.specs.Verdict.{carried_line};
 
 use crate::cell::{Cell, Colour};
-use crate::cells::{cell_at, last_paired};
+use crate::cells::{cell_at, last_paired, points_of};
 use crate::columns::split_kind;
 use crate::lines::next_line;
 use crate::notes::Notes;
@@ -27,6 +27,8 @@ pub struct Report<'a> {
     pub(crate) rounds: u8,
     // what the carried lines say beside total and colour
     pub(crate) notes: Notes,
+    // what the pairing-allocated bye gives, in half points
+    pub(crate) bye: u16,
 }
 
 impl<'a> Model for Report<'a> {
@@ -46,12 +48,13 @@ impl<'a> Model for Report<'a> {
       players = map (λ e. entry_of e.1) r.players.entries;
       total = r.total;
       initial = r.initial;
+      bye = r.bye;
     } };
 
     ghost invariant = { λ r. (keys_of r.players.entries ≡ map (λ e. e.1.start) r.players.entries)
         × (length r.players.entries ≤ 256) × ForSome r.total (λ total. total ≤ 32)
         × (r.rounds ≡ last_paired_of (map (λ e. entry_of e.1) r.players.entries)) × (r.rounds ≤ 32)
-        × Tells r.notes (without_players r.utf8 (lines r.text.now)) };
+        × Tells r.notes (without_players r.utf8 (lines r.text.now) r.bye) × (r.bye ≤ 2) };
 }
 
 impl<'a> Report<'a> {
@@ -76,6 +79,23 @@ impl<'a> Report<'a> {
         ensures { result ≡ self.now.initial }
     {
         self.initial
+    }
+
+    /// What the pairing-allocated bye gives, in half points: 0, 1 or 2.
+    pub fn bye(&self) -> u16
+        ensures value { result ≡ self.now.bye }
+        ensures few { result ≤ 2 }
+    {
+        self.bye
+    }
+
+    /// The half points of some rounds, by what the pairing-allocated bye gives in this report.
+    pub fn points_over(&self, cells: &[Cell]) -> u16
+        requires { length cells.now ≤ 32 }
+        ensures value { result ≡ sum_by (half_points self.now.bye) cells.now }
+        ensures few { result ≤ 64 }
+    {
+        points_of(cells, self.bye)
     }
 
     // Whether a start rank is that of a player.

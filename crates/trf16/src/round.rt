@@ -6,7 +6,7 @@ ghost use Rattle.trf16.specs.Steps.{is_free, are_free};
 ghost use Rattle.trf16.specs.Round.{CanBePaired, named_by, cell_on, cell_by, with_cell, cells_with, entry_with, with_round};
 
 use crate::cell::{Bye, Cell, Colour};
-use crate::cells::{front, points_of};
+use crate::cells::front;
 use crate::player::Player;
 use crate::report::{Report, last_round_of};
 use indexmap::IndexMap;
@@ -80,38 +80,6 @@ fn cells_with(
     }
 }
 
-// A points field that is not blank becomes the sum of the first rounds.
-fn points_with(points: Option<u16>, cells: &[Cell], rounds: u8) -> Option<u16>
-    requires { length cells.now ≤ 32 }
-    ensures { result ≡ option_map (λ _. sum_by half_points (take rounds cells.now)) points }
-{
-    match points {
-        Some(_) => Some(points_of(front(cells, rounds))),
-        None => None,
-    }
-}
-
-// A player with his cell of the next round and his points.
-fn player_with<'a>(
-    alloc: Global,
-    boards: &[(u16, u16)],
-    before: u8,
-    player: &Player<'a>,
-) -> Result<Player<'a>, AllocError>
-    requires { before < 32 }
-    ensures { IfOk result (λ paired. entry_of paired ≡ entry_with boards.now before (entry_of player.now)) }
-{
-    let cells = cells_with(alloc, boards, before, player)?;
-    Ok(Player {
-        start: player.start,
-        line: player.line,
-        points: points_with(player.points, &cells, before + 1),
-        left: player.left,
-        right: player.right,
-        cells,
-    })
-}
-
 // Whether a board names a player.
 fn is_naming(board: (u16, u16), start: u16) -> bool
     ensures { result ≡ list_any (nat_eq start) (named_by (board ∷ [])) }
@@ -160,6 +128,39 @@ impl<'a> Report<'a> {
         white != black && self.is_free(black, later)
     }
 
+    // A points field that is not blank becomes the sum of the first rounds.
+    fn points_with(&self, points: Option<u16>, cells: &[Cell], rounds: u8) -> Option<u16>
+        requires { length cells.now ≤ 32 }
+        ensures { result ≡ option_map (λ _. sum_by (half_points self.now.bye) (take rounds cells.now)) points }
+    {
+        match points {
+            Some(_) => Some(self.points_over(front(cells, rounds))),
+            None => None,
+        }
+    }
+
+    // A player with his cell of the next round and his points.
+    fn player_with(
+        &self,
+        alloc: Global,
+        boards: &[(u16, u16)],
+        before: u8,
+        player: &Player<'a>,
+    ) -> Result<Player<'a>, AllocError>
+        requires { before < 32 }
+        ensures { IfOk result (λ paired. entry_of paired ≡ entry_with self.now.bye boards.now before (entry_of player.now)) }
+    {
+        let cells = cells_with(alloc, boards, before, player)?;
+        Ok(Player {
+            start: player.start,
+            line: player.line,
+            points: self.points_with(player.points, &cells, before + 1),
+            left: player.left,
+            right: player.right,
+            cells,
+        })
+    }
+
     /// Whether some boards can be the next round: whoever they name is a player of the report, is present, and is named once; and no
     /// round comes behind the 32nd.
     pub fn can_be_paired(&self, boards: &[(u16, u16)]) -> bool
@@ -189,7 +190,7 @@ impl<'a> Report<'a> {
         let notes = self.notes.copy(alloc)?;
         let mut players = IndexMap::with_capacity(alloc, self.players.len())?;
         for player in self.players() {
-            let paired = player_with(alloc, boards, before, player)?;
+            let paired = self.player_with(alloc, boards, before, player)?;
             players.insert(player.start, paired)?;
         }
         let rounds = last_round_of(&players);
@@ -201,6 +202,7 @@ impl<'a> Report<'a> {
             initial: self.initial,
             rounds,
             notes,
+            bye: self.bye,
         })
     }
 }

@@ -1,11 +1,11 @@
 // Each call over a small report, whose answers follow from TRF16's columns by hand.
 use std::test::Fail;
 use trf16::cell::{Bye, Cell, Colour, Outcome};
-use trf16::cells::{cell_at, front, points_of};
+use trf16::cells::{cell_at, front};
 use trf16::fault::{Excess, Fault};
 use trf16::kind::Kind;
-use trf16::read;
 use trf16::report::Report;
+use trf16::{read, read_with};
 
 // Round 1: 1 beats 2, and 3 has the pairing-allocated bye. Round 2: 1 has half a point, 2 wins against 3 by forfeit. 3 does not play on.
 const REPORT: &[u8] =
@@ -71,8 +71,8 @@ fn what_a_cell_says(rt: HostRuntime) {
     };
     assert_eq!(rt; forfeit.opponent(), Some(2));
     assert_eq!(rt; forfeit.colour(), Some(Colour::Black));
-    assert_eq!(rt; forfeit.half_points(), 0);
-    assert_eq!(rt; Cell::Bye(Bye::Allocated).half_points(), 2);
+    assert_eq!(rt; (forfeit.game_points(), forfeit.half_points(2)), (0, 0));
+    assert_eq!(rt; Cell::Bye(Bye::Allocated).half_points(1), 1);
 }
 
 #[test]
@@ -86,6 +86,20 @@ fn lines_and_points(rt: HostRuntime) -> Result<(), Fail> {
     assert_eq!(rt; some_points(&report), [2, 3, 2]);
     assert_eq!(rt; absences(&report), [false, true, true]);
     assert_eq!(rt; report.unsupported(&[Kind::Rank, Kind::Xxa]), None);
+    Ok(())
+}
+
+// The points field of player 3 leaves out what the forfeit of round 2 cannot give: it is the bye's worth alone.
+#[test]
+fn bye_by_its_worth(rt: HostRuntime) -> Result<(), Fail> {
+    let report = read(rt.alloc(), REPORT)?;
+    assert_eq!(rt; (report.bye(), report.points(3, 1)), (2, 2));
+    let blank = b"001    3                                                                                    0000 - U\n";
+    let report = read_with(rt.alloc(), blank, 1)?;
+    assert_eq!(rt; (report.bye(), report.points(3, 1)), (1, 1));
+    assert_eq!(rt; report.points_over(&[Cell::Bye(Bye::Full)]), 2);
+    let refused = read_with(rt.alloc(), REPORT, 0);
+    assert!(rt; matches!(refused, Err(Fault::Points { player: 3 })));
     Ok(())
 }
 
@@ -105,8 +119,7 @@ fn some_cells(rt: HostRuntime) {
     let cells = [Cell::Bye(Bye::Half), Cell::Blank, Cell::Bye(Bye::Full)];
     assert_eq!(rt; cell_at(&cells, 1), Cell::Bye(Bye::Half));
     assert_eq!(rt; cell_at(&cells, 4), Cell::Blank);
-    assert_eq!(rt; points_of(&cells), 3);
-    assert_eq!(rt; points_of(front(&cells, 2)), 1);
+    assert_eq!(rt; front(&cells, 2), [Cell::Bye(Bye::Half), Cell::Blank].as_slice());
     assert_eq!(rt; front(&cells, 4).len(), 3);
 }
 

@@ -166,7 +166,7 @@ fn candidates_want_a_bracket(rt: HostRuntime) -> Result<(), AllocError> {
         let words = [bracket];
         assert!(rt; is_mistake(rt.alloc(), words.as_slice())?);
     }
-    for other in ["--count=0", "--count=10001", "--bracket=1", "x"] {
+    for other in ["--count=0", "--count=10001", "--bracket=1", "--bye=3", "x"] {
         let words = ["--bracket=1", other];
         assert!(rt; is_mistake(rt.alloc(), words.as_slice())?);
     }

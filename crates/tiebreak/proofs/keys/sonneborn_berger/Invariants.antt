@@ -8,5 +8,5 @@ use Rattle.tiebreak.proofs.keys.sonneborn_berger.Given as goal
 
 abbrev pub invariant-loop-before : goal.invariant-loop-before
 invariant-loop-before l =
-    (l.sum + sum_by (λ round. opponent_score l.report l.start round * half_points (cell_in l.report l.start round)) (rounds_from l.before l.rounds) ≡ sonneborn_berger l.report l.start)
+    (l.sum + sum_by (λ round. opponent_score l.report l.start round * half_points l.report.bye (cell_in l.report l.start round)) (rounds_from l.before l.rounds) ≡ sonneborn_berger l.report l.start)
     × (l.sum ≤ 131584 * l.before)

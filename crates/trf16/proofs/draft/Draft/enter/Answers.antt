@@ -16,17 +16,17 @@ invariant_of-self-2 c =
     let entries = c.self.inside.players.entries in
     let start = c.args.player.start in
     let missing : is_some (get nat_eq c.self.inside.players start) ≡ false =
-    known-lookup entries start c.self.invariant ∙ ap (λ sheet. known sheet start) c.self.view_is ∙ c.requires in
+    known-lookup entries start c.self.invariant.0 ∙ ap (λ sheet. known sheet start) c.self.view_is ∙ c.requires in
     let new : c.insert.new.self.entries ≡ entries ++ (start, c.args.player) ∷ [] =
     c.in_ok-insert.ensures.entries ∙ insert_entry-new nat_eq c.self.inside.players start c.args.player (none_from (get nat_eq c.self.inside.players start) missing) in
-    subst (λ (es : List (ℕ × Player)). keys_of es ≡ map (λ e. e.1.start) es) (sym new) (keyed-push entries c.args.player c.self.invariant)
+    (subst (λ (es : List (ℕ × Player)). keys_of es ≡ map (λ e. e.1.start) es) (sym new) (keyed-push entries c.args.player c.self.invariant.0), c.self.invariant.1)
 
 pub returns : goal.returns
 returns c =
     let entries = c.self.inside.players.entries in
     let start = c.args.player.start in
     let missing : is_some (get nat_eq c.self.inside.players start) ≡ false =
-    known-lookup entries start c.self.invariant ∙ ap (λ sheet. known sheet start) c.self.view_is ∙ c.requires in
+    known-lookup entries start c.self.invariant.0 ∙ ap (λ sheet. known sheet start) c.self.view_is ∙ c.requires in
     let new : c.insert.new.self.entries ≡ entries ++ (start, c.args.player) ∷ [] =
     c.in_ok-insert.ensures.entries ∙ insert_entry-new nat_eq c.self.inside.players start c.args.player (none_from (get nat_eq c.self.inside.players start) missing) in
     let given : List Entry → Result Sheet Fault = λ ps. Ok (record {
@@ -35,6 +35,7 @@ returns c =
       players = ps;
       total = c.self.inside.total;
       initial = c.self.inside.initial;
+      bye = c.self.inside.bye;
     }) in
     let of_entry = λ (e : ℕ × Player). entry_of e.1 in
     ap (λ (sheet : Sheet). Ok (with_player sheet (entry_of c.args.player))) (sym c.self.view_is)

@@ -13,11 +13,12 @@ invariant_of-result c =
     let size : length r.players.entries ≡ length c.args.self.players =
     sym (length-map r.players.entries (λ (e : ℕ × Player). entry_of e.1)) ∙ ap (λ (sheet : Sheet). length sheet.players) c.self.view_is in
     let few : length c.args.self.players ≤ 256 = c.requires.few_players in (
-      c.self.invariant,
+      c.self.invariant.0,
       omega (arith, size, few),
       search rules,
       c.last_round_of-rounds.ensures.value,
       c.last_round_of-rounds.ensures.few,
-      tells_same c.args.notes c.args.self (without_players r.utf8 (lines r.text.now))
+      tells_same c.args.notes c.args.self (without_players r.utf8 (lines r.text.now) r.bye)
           (ap (λ (sheet : Sheet). sheet.utf8) c.self.view_is) (ap (λ (sheet : Sheet). sheet.carried) c.self.view_is) c.requires.noted,
+      c.self.invariant.1,
     )

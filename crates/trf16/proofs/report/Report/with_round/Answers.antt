@@ -12,7 +12,7 @@ use Rattle.trf16.proofs.report.Report.with_round.Goals as goal
 
 pub loop-player-preserved-in_ok-insert : goal.loop-player-preserved-in_ok-insert
 loop-player-preserved-in_ok-insert c =
-    paired-insert c.args.boards.now c.rounds_played-before.result c.loop-player.players (entry_of c.in-Some.player.now) (map entry_of c.loop-player.player-iterator)
+    paired-insert c.args.self.now.bye c.args.boards.now c.rounds_played-before.result c.loop-player.players (entry_of c.in-Some.player.now) (map entry_of c.loop-player.player-iterator)
     (map entry_of c.next.new.self) c.args.self.now.players c.in_ok-paired.paired c.insert.new.self.entries (ap (map entry_of) c.in-Some.ensures.steps)
     c.loop-player.invariant c.in_ok-paired.ensures c.in_ok-insert.ensures.entries
     (subst (λ (sheet : Sheet). IsDistinct nat_eq (map (λ (e : Entry). e.start) sheet.players)) c.self.view_is
@@ -20,7 +20,7 @@ loop-player-preserved-in_ok-insert c =
 
 pub loop-player-preserved : goal.loop-player-preserved
 loop-player-preserved c =
-    paired-insert c.args.boards.now c.rounds_played-before.result c.loop-player.players (entry_of c.in-Some.player.now) (map entry_of c.loop-player.player-iterator)
+    paired-insert c.args.self.now.bye c.args.boards.now c.rounds_played-before.result c.loop-player.players (entry_of c.in-Some.player.now) (map entry_of c.loop-player.player-iterator)
     (map entry_of c.next.new.self) c.args.self.now.players c.in_ok-paired.paired c.insert.new.self.entries (ap (map entry_of) c.in-Some.ensures.steps)
     c.loop-player.invariant c.in_ok-paired.ensures c.in_ok-insert.ensures.entries
     (subst (λ (sheet : Sheet). IsDistinct nat_eq (map (λ (e : Entry). e.start) sheet.players)) c.self.view_is
@@ -30,10 +30,10 @@ pub invariant_of-result : goal.invariant_of-result
 invariant_of-result c =
     let done = c.loop-player.players.entries in
     let all = c.args.self.now.players in
-    let same = paired-end c.args.boards.now c.rounds_played-before.result done (map entry_of c.loop-player.player-iterator) all
+    let same = paired-end c.args.self.now.bye c.args.boards.now c.rounds_played-before.result done (map entry_of c.loop-player.player-iterator) all
     (ap (map entry_of) c.in-None.ensures.steps.0) c.loop-player.invariant in
     let size : length done ≡ length c.self.inside.players.entries =
-    paired-length c.args.boards.now c.rounds_played-before.result done all same ∙ ap (λ (sheet : Sheet). length sheet.players) (sym c.self.view_is)
+    paired-length c.args.self.now.bye c.args.boards.now c.rounds_played-before.result done all same ∙ ap (λ (sheet : Sheet). length sheet.players) (sym c.self.view_is)
     ∙ length-map c.self.inside.players.entries (λ (e : ℕ × Player). entry_of e.1) in
     let few : length c.self.inside.players.entries ≤ 256 = c.self.invariant.1 in
     (
@@ -42,7 +42,8 @@ invariant_of-result c =
       c.self.invariant.2,
       c.last_round_of-rounds.ensures.value,
       c.last_round_of-rounds.ensures.few,
-      tells_again c.self.inside.notes c.in_ok-notes.notes (without_players c.self.inside.utf8 (lines c.self.inside.text.now)) c.in_ok-notes.ensures.absent c.in_ok-notes.ensures.firsts c.self.invariant.5,
+      tells_again c.self.inside.notes c.in_ok-notes.notes (without_players c.self.inside.utf8 (lines c.self.inside.text.now) c.self.inside.bye) c.in_ok-notes.ensures.absent c.in_ok-notes.ensures.firsts c.self.invariant.5,
+      c.self.invariant.6,
     )
 
 pub returns : goal.returns
@@ -52,9 +53,9 @@ returns c =
     let sheet = c.args.self.now in
     let utf8 = c.self.inside.utf8 in
     let made : List Entry → Sheet = λ players.
-    record { utf8 = utf8; carried = map (carried_line utf8) (lines c.self.inside.text.now); players = players; total = c.self.inside.total; initial = c.self.inside.initial } in
-    let same = paired-end boards before c.loop-player.players.entries (map entry_of c.loop-player.player-iterator) sheet.players
+    record { utf8 = utf8; carried = map (carried_line utf8) (lines c.self.inside.text.now); players = players; total = c.self.inside.total; initial = c.self.inside.initial; bye = c.self.inside.bye } in
+    let same = paired-end sheet.bye boards before c.loop-player.players.entries (map entry_of c.loop-player.player-iterator) sheet.players
     (ap (map entry_of) c.in-None.ensures.steps.0) c.loop-player.invariant in
-    ap made (same ∙ ap (λ n. map (entry_with boards n) sheet.players) c.rounds_played-before.ensures.value
-    ∙ ap (λ (s : Sheet). map (entry_with boards (rounds_played s)) s.players) (sym c.self.view_is))
+    ap made (same ∙ ap (λ n. map (entry_with sheet.bye boards n) sheet.players) c.rounds_played-before.ensures.value
+    ∙ ap (λ (s : Sheet). map (entry_with s.bye boards (rounds_played s)) s.players) (sym c.self.view_is))
     ∙ ap (with_round boards) c.self.view_is

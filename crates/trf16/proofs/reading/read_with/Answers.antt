@@ -5,11 +5,11 @@ use Rattle.trf16.specs.Verdict.{verdict, report_of, without_players}
 use Rattle.trf16.specs.Lines.{lines}
 use Rattle.trf16.specs.Sheet.{Sheet}
 use Rattle.trf16.proofs.NoteLemmas.{tells_same}
-use Rattle.trf16.proofs.reading.read.Goals as goal
+use Rattle.trf16.proofs.reading.read_with.Goals as goal
 
 -- a sheet whose players are still to be read carries the lines of its own columns
-lines_of : (sheet : Sheet) (utf8 : Bool) (all : List (List ℕ)) → sheet ≡ without_players utf8 all → sheet.carried ≡ (without_players sheet.utf8 all).carried
-lines_of sheet utf8 all e = rw e refl
+lines_of : (sheet : Sheet) (utf8 : Bool) (all : List (List ℕ)) (bye : ℕ) → sheet ≡ without_players utf8 all bye → sheet.carried ≡ (without_players sheet.utf8 all sheet.bye).carried
+lines_of sheet utf8 all bye e = rw e refl
 
 above : (most count : ℕ) → most < count → nat_lt most count ≡ true
 above most count lt = grind (arith, nat_tests)
@@ -37,7 +37,7 @@ returns c = search rules
 pub sized-requires : goal.sized-requires
 sized-requires c =
     let text = c.skip_marks-text.result.now in
-    tells_same c.lines_onto.new.notes (without_players c.new-draft.result.utf8 (lines text)) c.lines_onto.new.draft
+    tells_same c.lines_onto.new.notes (without_players c.new-draft.result.utf8 (lines text) c.new-draft.result.bye) c.lines_onto.new.draft
     c.in_ok-too_long.ensures.same.0
-    (c.in_ok-too_long.ensures.same.1 ∙ lines_of c.new-draft.result c.is_utf8.result (lines text) c.new-draft.ensures)
+    (c.in_ok-too_long.ensures.same.1 ∙ lines_of c.new-draft.result c.is_utf8.result (lines text) c.args.bye c.new-draft.ensures)
     c.in_ok-too_long.ensures.noted
