@@ -41,7 +41,6 @@ pub fn run<'a, R: Source, O: Sink, E: Sink>(
 }
 
 // What is answered to the words and to what the source gives.
-#[tactic(auto, using(crate::proofs::AskedLemmas::can_be_answered, crate::proofs::AskedLemmas::has_small_bye))]
 fn reply_to<'a, R: Source>(alloc: Global, words: &'a [&'a str], reader: &mut R) -> Reply
     ensures answers { IsAnswer (map (λ word. word.now) words.now)
         (reading_of R.left R.failures R.calls reader.old reader.new) (answer_of result) }

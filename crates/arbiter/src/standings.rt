@@ -14,12 +14,7 @@ use trf16::fault::Fault;
 use trf16::report::Report;
 
 /// What `standings` says of the bytes of a report in which the pairing-allocated bye gives `bye` half points.
-pub fn standings(
-    alloc: Global,
-    keys: &[Key],
-    bytes: &[u8],
-    bye: u16,
-) -> Result<Reply, AllocError>
+pub fn standings(alloc: Global, keys: &[Key], bytes: &[u8], bye: u16) -> Result<Reply, AllocError>
     requires { bye ≤ 2 }
     ensures { IfOk result (λ reply. answer_of reply ≡ standings_answer keys.now (verdict bytes.now bye)) }
 {

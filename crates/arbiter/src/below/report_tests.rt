@@ -94,7 +94,8 @@ fn lines_and_points(rt: HostRuntime) -> Result<(), Fail> {
 fn bye_by_its_worth(rt: HostRuntime) -> Result<(), Fail> {
     let report = read(rt.alloc(), REPORT)?;
     assert_eq!(rt; (report.bye(), report.points(3, 1)), (2, 2));
-    let blank = b"001    3                                                                                    0000 - U\n";
+    let blank =
+        b"001    3                                                                                    0000 - U\n";
     let report = read_with(rt.alloc(), blank, 1)?;
     assert_eq!(rt; (report.bye(), report.points(3, 1)), (1, 1));
     assert_eq!(rt; report.points_over(&[Cell::Bye(Bye::Full)]), 2);
@@ -119,7 +120,10 @@ fn some_cells(rt: HostRuntime) {
     let cells = [Cell::Bye(Bye::Half), Cell::Blank, Cell::Bye(Bye::Full)];
     assert_eq!(rt; cell_at(&cells, 1), Cell::Bye(Bye::Half));
     assert_eq!(rt; cell_at(&cells, 4), Cell::Blank);
-    assert_eq!(rt; front(&cells, 2), [Cell::Bye(Bye::Half), Cell::Blank].as_slice());
+    assert_eq!(rt;
+        front(&cells, 2),
+        [Cell::Bye(Bye::Half), Cell::Blank].as_slice()
+    );
     assert_eq!(rt; front(&cells, 4).len(), 3);
 }
 

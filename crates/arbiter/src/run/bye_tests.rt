@@ -35,7 +35,10 @@ fn points_field_has_the_worth_of_the_bye(rt: HostRuntime) -> Result<(), AllocErr
     let text = line(alloc, 1, "1.0", "  0000 - U")?;
     for words in ["check", "check --bye 2"] {
         let ended = run_over(alloc, words, &text)?;
-        assert!(rt; has_printed(&ended, "accepted players 1 rounds 1\n"), "{words}");
+        assert!(rt;
+            has_printed(&ended, "accepted players 1 rounds 1\n"),
+            "{words}"
+        );
     }
     let ended = run_over(alloc, "check --bye 1", &text)?;
     assert!(rt; has_refused(&ended, "refused: player 1: points\n"));
