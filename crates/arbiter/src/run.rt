@@ -124,6 +124,8 @@ mod bye_tests;
 #[cfg(test)]
 mod candidates_tests;
 #[cfg(test)]
+mod hostile_tests;
+#[cfg(test)]
 mod pair_tests;
 #[cfg(test)]
 mod report_tests;

@@ -12,7 +12,7 @@ const ACCEPTED: &str = "accepted players 4 rounds 0\n";
 
 // Gives one byte a call.
 #[derive(Drop)]
-struct Dripping<'a>(&'a [u8]);
+pub(super) struct Dripping<'a>(pub(super) &'a [u8]);
 
 impl<'a> Read for Dripping<'a> {
     fn read(&mut self, into: &mut [u8]) -> io::Result<usize> {
@@ -30,7 +30,7 @@ impl<'a> Read for Dripping<'a> {
 
 // Is interrupted where its bytes end.
 #[derive(Drop)]
-struct Breaking<'a>(Dripping<'a>);
+pub(super) struct Breaking<'a>(pub(super) Dripping<'a>);
 
 impl<'a> Read for Breaking<'a> {
     fn read(&mut self, into: &mut [u8]) -> io::Result<usize> {
@@ -41,13 +41,21 @@ impl<'a> Read for Breaking<'a> {
     }
 }
 
-// Never ends.
+// Never ends, gives one byte a call, and fails once it has been called so many times.
 #[derive(Drop)]
-struct Endless;
+struct Endless(u32);
 
 impl Read for Endless {
     fn read(&mut self, into: &mut [u8]) -> io::Result<usize> {
-        Ok(into.len())
+        if self.0 == 0 {
+            return Err(io::Error::from(ErrorKind::Interrupted));
+        }
+        self.0 -= 1;
+        if into.is_empty() {
+            return Ok(0);
+        }
+        into[0] = b'x';
+        Ok(1)
     }
 }
 
@@ -183,26 +191,9 @@ fn players_are_256_at_most(rt: HostRuntime) -> Result<(), AllocError> {
 }
 
 #[test]
-fn one_byte_a_call_is_the_same(rt: HostRuntime) {
-    let ended = run_on(rt.alloc(), &["check"], Dripping(FOUR_PLAYERS), 1000, 0);
-    assert!(rt; has_printed(&ended, ACCEPTED));
-}
-
-#[test]
 fn endless_source_is_too_long(rt: HostRuntime) {
-    let ended = run_on(rt.alloc(), &["check"], Endless, 0, 1000);
+    let ended = run_on(rt.alloc(), &["check"], Endless(1_048_577), 0, 1000);
     assert!(rt; has_refused(&ended, "refused: too many bytes\n"));
-}
-
-#[test]
-fn interrupted_source_is_no_end(rt: HostRuntime) {
-    for text in [FOUR_PLAYERS, b""] {
-        let source = Breaking(Dripping(text));
-        let ended = run_on(rt.alloc(), &["check"], source, 1000, 1000);
-        assert!(rt; ended.status == Status::Trouble);
-        assert!(rt; ended.out.is_empty());
-        assert_eq!(rt; ended.err.as_slice(), b"device: read failed\n".as_slice());
-    }
 }
 
 #[test]
@@ -263,7 +254,20 @@ fn other_words_are_refused(rt: HostRuntime) {
 fn options_are_refused_before_reading(rt: HostRuntime) {
     let table = [
         (
-            ["candidates", "--bracket", "1", "--initial", "red"].as_slice(),
+            ["pair", "--initial", "red"].as_slice(),
+            "words: bad colour\n",
+        ),
+        (
+            [
+                "candidates",
+                "--bracket",
+                "1",
+                "--from",
+                "x",
+                "--initial",
+                "red",
+            ]
+            .as_slice(),
             "words: bad colour\n",
         ),
         (
