@@ -154,11 +154,7 @@ left-append numbers xs ys =
     ∙ filter-same (λ x. not (is_member x xs) && not (is_member x ys)) (λ x. not (is_member x (xs ++ ys))) numbers
     (λ x. sym (ap not (member-append x xs ys) ∙ neither (is_member x xs) (is_member x ys)))
 
-pub left-same : (numbers numbers' xs xs' : List ℕ) → numbers ≡ numbers' → xs ≡ xs' → left_of numbers xs ≡ left_of numbers' xs'
-left-same numbers numbers' xs xs' same same' = ap (λ list. left_of list xs) same ∙ ap (left_of numbers') same'
-
-pub left-four : (numbers s1 s2 s1r s2r : List ℕ) → left_of (left_of (left_of (left_of numbers s1) s2) s1r) s2r ≡ left_of numbers (s1 ++ (s2 ++ (s1r ++ s2r)))
-left-four numbers s1 s2 s1r s2r =
-    left-append (left_of (left_of numbers s1) s2) s1r s2r
-    ∙ left-append (left_of numbers s1) s2 (s1r ++ s2r)
-    ∙ left-append numbers s1 (s2 ++ (s1r ++ s2r))
+pub member-four : (x : ℕ) (s1 s2 s1r s2r : List ℕ) → is_member x (s1 ++ (s2 ++ (s1r ++ s2r))) ≡ (is_member x s1 || (is_member x s2 || (is_member x s1r || is_member x s2r)))
+member-four x s1 s2 s1r s2r =
+    member-append x s1 (s2 ++ (s1r ++ s2r))
+    ∙ ap (λ b. is_member x s1 || b) (member-append x s2 (s1r ++ s2r) ∙ ap (λ b. is_member x s2 || b) (member-append x s1r s2r))

@@ -1,9 +1,9 @@
 -- Lists that go on once some of their beginning is skipped.
-use Rattle.std.proofs.Common.{◌≡◌, ◌≤◌, Bool, true, false, cond, ℕ, List, [], ◌∷◌, ◌++◌, map, length, length-append, Option, Some, None, refl, sym, ◌∙◌, ap, subst, append_assoc, append-nil, arith, inl, inr}
+use Rattle.std.proofs.Common.{◌≡◌, ◌≤◌, Bool, true, false, cond, List, [], ◌∷◌, ◌++◌, map, length, length-append, refl, sym, ◌∙◌, ap, subst, append_assoc, append-nil, arith, inl, inr}
 use Rattle.std.specs.List.{AllByRecursion, filter}
 use Rattle.std.proofs.lemmas.List.Elements.{filter-append}
 use Rattle.dutch_order.specs.Keys.{IsIn}
-use Rattle.dutch_order.specs.Levels.{within, joined}
+use Rattle.dutch_order.specs.Levels.{joined}
 use Rattle.dutch_order.specs.Steps.{Passes}
 
 -- what holds of each in two lists holds of each in both
@@ -76,33 +76,20 @@ module _ {T : Type 0} (Idle : T → Type 0) where
     all-append Idle front front' idle idle',
   )
 
-  -- the first is skipped too
-  pub passes-first : (xs ys : List T) (x : T) → Passes Idle xs (x ∷ ys) → Idle x → Passes Idle xs ys
-  passes-first xs ys x passes idle = passes-more xs (x ∷ ys) ys passes (x ∷ [], refl, (idle, tt {0}))
-
   -- what stands behind is no matter
   pub passes-before : (xs ys more : List T) → Passes Idle xs ys → Passes Idle (xs ++ more) (ys ++ more)
   passes-before xs ys more (front, same, idle) =
       (front, ap (λ list. list ++ more) same ∙ append_assoc front ys more, idle)
-
-  -- what skips in a block
-  pub passes-within : {X : Type 0} (coming : X → List T) (block : Option X) (opened : X) (more ys : List T) → block ≡ Some opened → Passes Idle (coming opened) ys → Passes Idle (within coming block ++ more) (ys ++ more)
-  passes-within coming block opened more ys is passes =
-      passes-more (within coming block ++ more) (coming opened ++ more) (ys ++ more)
-      (passes-none (within coming block ++ more) (coming opened ++ more) (ap (λ b. within coming b ++ more) is))
-      (passes-before (coming opened) ys more passes)
 
   -- whole blocks that are skipped
   pub passes-blocks : (xs ys : List (List T)) → Passes (AllByRecursion Idle) xs ys → Passes Idle (joined xs) (joined ys)
   passes-blocks xs ys (front, same, idle) =
       (joined front, ap joined same ∙ joined-append front ys, all-joined Idle front idle)
 
-  -- between two blocks
-  pub passes-between : {X : Type 0} (coming : X → List T) (block : Option X) (blocks others : List (List T)) → block ≡ None → Passes (AllByRecursion Idle) blocks others → Passes Idle (within coming block ++ joined blocks) (joined others)
-  passes-between coming block blocks others is passes =
-      passes-more (within coming block ++ joined blocks) (joined blocks) (joined others)
-      (passes-none (within coming block ++ joined blocks) (joined blocks) (ap (λ b. within coming b ++ joined blocks) is))
-      (passes-blocks blocks others passes)
+  -- from a block of which all is idle to the next ones
+  pub passes-between : (block : List T) (blocks others : List (List T)) → Passes Idle block [] → Passes (AllByRecursion Idle) blocks others → Passes Idle (block ++ joined blocks) (joined others)
+  passes-between block blocks others ended passes =
+      passes-more (block ++ joined blocks) (joined blocks) (joined others) (passes-before block [] (joined blocks) ended) (passes-blocks blocks others passes)
 
   -- through a test
   pub passes-filter : (p : T → Bool) (xs ys : List T) → Passes Idle xs ys → Passes Idle (filter p xs) (filter p ys)
@@ -138,11 +125,6 @@ none-passed-in (x ∷ front) idle = absurd idle.0
 
 pub none-passed : {T : Type 0} (xs ys : List T) → Passes (λ _. ⊥) xs ys → xs ≡ ys
 none-passed xs ys (front, same, idle) = same ∙ ap (λ list. list ++ ys) (none-passed-in front idle)
-
--- whether there is a block, as a number
-abbrev pub one_in : {X : Type 0} → Option X → ℕ
-one_in None = 0
-one_in (Some block) = 1
 
 -- a filter passes over the first of a list, or keeps it
 pub filter-keeps : {T : Type 0} (p : T → Bool) (x : T) (xs : List T) → p x ≡ true → filter p (x ∷ xs) ≡ x ∷ filter p xs

@@ -18,6 +18,11 @@ abbrev pub listed : {T : Type 0} → Option T → List T
 listed None = []
 listed (Some x) = x ∷ []
 
+-- what a place holds, if it holds anything
+abbrev pub only_if : {T : Type 0} → Bool → T → Option T
+only_if true x = Some x
+only_if false x = None
+
 -- what is still to come of a list: nothing, once the end was told
 abbrev pub still_coming : {T : Type 0} → Bool → List T → List T
 still_coming true xs = []

@@ -1,6 +1,7 @@
 -- What a call that may stop at a limit answers.
-use Rattle.std.specs.Prelude.{◌≡◌, ℕ, List, [], ◌∷◌, ◌++◌}
+use Rattle.std.specs.Prelude.{◌≡◌, ◌≤◌, ℕ, List, ◌++◌}
 use Rattle.std.specs.List.{AllByRecursion}
+use Rattle.dutch_order.specs.declared.steps.Budget.{Budget}
 use Rattle.dutch_order.specs.declared.steps.Step.{Step}
 use Rattle.dutch_order.specs.declared.steps.Step.TheVariants.{Found, End, Undecided}
 
@@ -19,8 +20,8 @@ MatchStep Undecided found ended undecided = undecided
 abbrev pub Passes : {T : Type 0} → (T → Type 0) → List T → List T → Type 0
 Passes {T} Idle before after = (skipped : List T) × (before ≡ skipped ++ after) × AllByRecursion Idle skipped
 
--- what a call hands out of the list to come before it, where it may skip what is idle: where it ends, all of it is idle
-abbrev pub HandsOut : {T : Type 0} → (T → Type 0) → List T → List T → Step T → Type 0
-HandsOut Idle before after (Found x) = Passes Idle before (x ∷ after)
-HandsOut Idle before after End = Passes Idle before []
-HandsOut Idle before after Undecided = Passes Idle before after
+-- a call keeps the limit of a budget, takes back no step, and makes none above the limit
+pub record Spends (old new : Budget) : Type 0 where
+  pub limit : new.limit ≡ old.limit
+  pub rises : old.used ≤ new.used
+  pub within : new.used ≤ new.limit

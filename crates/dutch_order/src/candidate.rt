@@ -1,5 +1,6 @@
 // A candidate of a bracket, specified by its four lists of numbers.
-ghost use Rattle.std.specs.Prelude.{◌≡◌};
+ghost use Rattle.std.specs.Prelude.{◌≡◌, ◌≤◌, length};
+ghost use Rattle.dutch_order.specs.declared.numbers.TheConstants.{LIMIT};
 
 use crate::cursor::Cursor;
 use crate::numbers::{Numbers, copied};
@@ -27,18 +28,18 @@ impl Model for Candidate {
 }
 
 impl Candidate {
-    /// An arrangement with those whom it leaves over.
-    pub(crate) fn new(lists: Cursor, down: Numbers) -> Candidate
-        ensures lists { result.lists ≡ lists }
-        ensures down { result.down ≡ down.items }
+    /// A copy of an arrangement and of those whom it leaves over.
+    pub(crate) fn new(lists: &Cursor, down: &[u16]) -> Candidate
+        requires few { length down.now ≤ LIMIT }
+        ensures lists { result.lists ≡ lists.now }
+        ensures down { result.down ≡ down.now }
     {
-        let Cursor { s1, s2, s1r, s2r } = lists;
         Candidate {
-            s1,
-            s2,
-            s1r,
-            s2r,
-            down,
+            s1: copied(&lists.s1),
+            s2: copied(&lists.s2),
+            s1r: copied(&lists.s1r),
+            s2r: copied(&lists.s2r),
+            down: copied(down),
         }
     }
 

@@ -5,10 +5,11 @@
 ghost use Rattle.std.specs.Prelude.{◌≡◌, ◌≤◌, ◌++◌, ◌∷◌, [], Some, None, filter, length, not, ◌||◌, ◌&&◌, ◌-◌, ◌*◌, nat_lt, true, false};
 ghost use Rattle.std.specs.List.{AllByRecursion};
 ghost use Rattle.dutch_order.specs.Arrangements.{Fits, arrangements, candidates, down, leaves_one, rest};
+ghost use Rattle.dutch_order.specs.Choices.{is_member};
 ghost use Rattle.dutch_order.specs.Keys.{IsIn};
 ghost use Rattle.dutch_order.specs.Levels.{may_leave};
-ghost use Rattle.dutch_order.specs.Listings.{listed};
-ghost use Rattle.dutch_order.specs.Steps.{HandsOut, MatchStep, Passes};
+ghost use Rattle.dutch_order.specs.Listings.{listed, only_if};
+ghost use Rattle.dutch_order.specs.Steps.{MatchStep, Passes, Spends};
 
 use crate::bound::Bound;
 use crate::bracket::{Bracket, Shape};
@@ -17,21 +18,42 @@ use crate::choices::ByS1;
 use crate::cursor::Cursor;
 use crate::cuts::{Cuts, NoCuts, Within};
 use crate::levels::{Arranges, Level};
-use crate::numbers::{Numbers, left_of};
+use crate::numbers::Numbers;
 use crate::prefix::Prefix;
 use crate::rules::Rule;
 use crate::steps::{Budget, Step};
+use arrayvec::ArrayVec;
 use std::marker::Model;
 
-/// Those whom an arrangement leaves over, by rank.
-fn left_over(bracket: &Bracket, lists: &Cursor) -> Numbers
-    ensures { result.items ≡ down bracket.now lists.now }
+/// Whether a player is in one of the four lists.
+fn is_paired(lists: &Cursor, number: u16) -> bool
+    ensures { result ≡ (is_member number lists.now.s1 || (is_member number lists.now.s2 || (is_member number lists.now.s1r || is_member number lists.now.s2r))) }
 {
-    let players = bracket.players();
-    let without_s1 = left_of(&players, &lists.s1);
-    let without_pairs = left_of(&without_s1, &lists.s2);
-    let without_s1r = left_of(&without_pairs, &lists.s1r);
-    left_of(&without_s1r, &lists.s2r)
+    lists.s1.contains(&number)
+        || lists.s2.contains(&number)
+        || lists.s1r.contains(&number)
+        || lists.s2r.contains(&number)
+}
+
+/// Fills a list with those whom an arrangement leaves over, by rank.
+fn put_left_over(bracket: &Bracket, lists: &Cursor, left: &mut Numbers)
+    ensures { left.new.items ≡ down bracket.now lists.now }
+{
+    left.clear();
+    for place in 0..bracket.scores().len() {
+        let number = (1 + place) as u16;
+        if !is_paired(lists, number) {
+            left.push(number);
+        }
+    }
+}
+
+/// What was found last: an arrangement, those whom it leaves over, and whether it is still to be asked if they may be left over.
+#[derive(Drop)]
+struct Drawn {
+    lists: Cursor,
+    down: Numbers,
+    is_ready: bool,
 }
 
 /// Whether these may be left over (C.04.3 C.2): `Found` if they may, `End` if not. In a bracket that leaves at most one, the one
@@ -42,9 +64,7 @@ fn ask_leave<R: Rule>(rule: &R, last: bool, down: &[u16], budget: &mut Budget) -
         (λ _. (not last || leaves_one (R.may_be_left rule.now) down.now) ≡ true)
         ((not last || leaves_one (R.may_be_left rule.now) down.now) ≡ false)
         (budget.new.used ≡ budget.new.limit) }
-    ensures limit { budget.new.limit ≡ budget.old.limit }
-    ensures rises { budget.old.used ≤ budget.new.used }
-    ensures within { budget.new.used ≤ budget.new.limit }
+    ensures spends { Spends budget.old budget.new }
 {
     if !last {
         return Step::Found(());
@@ -74,62 +94,61 @@ fn leaves_too_many(bracket: &Bracket, shape: Shape) -> bool
     bracket.is_last() && bracket.len() - 2 * shape.pairs > 1
 }
 
-/// The next arrangement: the one that is kept, or else the level's next.
-fn next_listed<L: Arranges, C: Cuts>(
-    ready: &mut Option<Cursor>,
+/// Draws the next arrangement: the one that is kept, or else the level's next.
+fn draw_listed<L: Arranges, C: Cuts>(
+    drawn: &mut Drawn,
     level: &mut L,
     cuts: &C,
     budget: &mut Budget,
-) -> Step<Cursor>
-    requires { budget.old.used ≤ budget.old.limit }
-    ensures answer { HandsOut (C.Idle cuts.now) (listed ready.old ++ L.coming level.old) (L.coming level.new) result }
-    ensures taken { ready.new ≡ None }
-    ensures stopped { MatchStep result (λ _. Unit {0}) (Unit {0}) (budget.new.used ≡ budget.new.limit) }
-    ensures limit { budget.new.limit ≡ budget.old.limit }
-    ensures rises { budget.old.used ≤ budget.new.used }
-    ensures within { budget.new.used ≤ budget.new.limit }
-{
-    match ready.take() {
-        Some(lists) => Step::Found(lists),
-        None => level.next(cuts, budget),
-    }
-}
-
-/// The next arrangement that leaves over whom its bracket may leave, where those may be skipped of which `cuts` tells.
-fn next_legal<R: Rule, L: Arranges, C: Cuts>(
-    bracket: &Bracket,
-    rule: &R,
-    ready: &mut Option<Cursor>,
-    level: &mut L,
-    cuts: &C,
-    budget: &mut Budget,
-) -> Step<Candidate>
+) -> Step<()>
     requires { budget.old.used ≤ budget.old.limit }
     ensures answer { MatchStep result
-        (λ c. Passes (C.Idle cuts.now)
-        (filter (may_leave (R.may_be_left rule.now) bracket.now) (listed ready.old ++ L.coming level.old))
-        (c.lists ∷ filter (may_leave (R.may_be_left rule.now) bracket.now) (listed ready.new ++ L.coming level.new))
-        × (c.down ≡ down bracket.now c.lists))
-        (Passes (C.Idle cuts.now) (filter (may_leave (R.may_be_left rule.now) bracket.now) (listed ready.old ++ L.coming level.old)) [])
+        (λ _. Passes (C.Idle cuts.now) (listed (only_if drawn.old.is_ready drawn.old.lists) ++ L.coming level.old) (drawn.new.lists ∷ L.coming level.new))
+        (Passes (C.Idle cuts.now) (listed (only_if drawn.old.is_ready drawn.old.lists) ++ L.coming level.old) [])
+        (Passes (C.Idle cuts.now) (listed (only_if drawn.old.is_ready drawn.old.lists) ++ L.coming level.old) (L.coming level.new) × (budget.new.used ≡ budget.new.limit)) }
+    ensures taken { drawn.new.is_ready ≡ false }
+    ensures spends { Spends budget.old budget.new }
+{
+    if drawn.is_ready {
+        drawn.is_ready = false;
+        return Step::Found(());
+    }
+    level.next(cuts, &mut drawn.lists, budget)
+}
+
+/// Draws the next arrangement that leaves over whom its bracket may leave, where those may be skipped of which `cuts` tells.
+fn draw_legal<R: Rule, L: Arranges, C: Cuts>(
+    bracket: &Bracket,
+    rule: &R,
+    drawn: &mut Drawn,
+    level: &mut L,
+    cuts: &C,
+    budget: &mut Budget,
+) -> Step<()>
+    requires { budget.old.used ≤ budget.old.limit }
+    ensures answer { MatchStep result
+        (λ _. Passes (C.Idle cuts.now)
+        (filter (may_leave (R.may_be_left rule.now) bracket.now) (listed (only_if drawn.old.is_ready drawn.old.lists) ++ L.coming level.old))
+        (drawn.new.lists ∷ filter (may_leave (R.may_be_left rule.now) bracket.now) (listed (only_if drawn.new.is_ready drawn.new.lists) ++ L.coming level.new))
+        × (drawn.new.down.items ≡ down bracket.now drawn.new.lists))
+        (Passes (C.Idle cuts.now) (filter (may_leave (R.may_be_left rule.now) bracket.now) (listed (only_if drawn.old.is_ready drawn.old.lists) ++ L.coming level.old)) [])
         (Passes (C.Idle cuts.now)
-        (filter (may_leave (R.may_be_left rule.now) bracket.now) (listed ready.old ++ L.coming level.old))
-        (filter (may_leave (R.may_be_left rule.now) bracket.now) (listed ready.new ++ L.coming level.new))
+        (filter (may_leave (R.may_be_left rule.now) bracket.now) (listed (only_if drawn.old.is_ready drawn.old.lists) ++ L.coming level.old))
+        (filter (may_leave (R.may_be_left rule.now) bracket.now) (listed (only_if drawn.new.is_ready drawn.new.lists) ++ L.coming level.new))
         × (budget.new.used ≡ budget.new.limit)) }
-    ensures limit { budget.new.limit ≡ budget.old.limit }
-    ensures rises { budget.old.used ≤ budget.new.used }
-    ensures within { budget.new.used ≤ budget.new.limit }
+    ensures spends { Spends budget.old budget.new }
 {
     loop {
-        let lists = match next_listed(ready, level, cuts, budget) {
-            Step::Found(lists) => lists,
+        match draw_listed(drawn, level, cuts, budget) {
+            Step::Found(()) => {}
             Step::End => return Step::End,
             Step::Undecided => return Step::Undecided,
-        };
-        let down = left_over(bracket, &lists);
-        match ask_leave(rule, bracket.is_last(), &down, budget) {
-            Step::Found(()) => return Step::Found(Candidate::new(lists, down)),
+        }
+        put_left_over(bracket, &drawn.lists, &mut drawn.down);
+        match ask_leave(rule, bracket.is_last(), &drawn.down, budget) {
+            Step::Found(()) => return Step::Found(()),
             Step::Undecided => {
-                *ready = Some(lists);
+                drawn.is_ready = true;
                 return Step::Undecided;
             }
             Step::End => {}
@@ -150,9 +169,10 @@ pub struct Candidates<'a, R: Rule> {
     // `End` was answered
     ended: bool,
     level: Level<ByS1<'a, R>>,
-    // found, and not yet asked whether it leaves over whom it may
-    ready: Option<Cursor>,
-    latest: Option<Cursor>,
+    drawn: Drawn,
+    // whether there is a latest arrangement, and which it is
+    has_latest: bool,
+    latest: Cursor,
 }
 
 impl<'a, R: Rule> Model for Candidates<'a, R> {
@@ -161,7 +181,7 @@ impl<'a, R: Rule> Model for Candidates<'a, R> {
     ghost use Rattle.dutch_order.specs.Arrangements.{candidates};
     ghost use Rattle.dutch_order.specs.Keys.{IsIn};
     ghost use Rattle.dutch_order.specs.Levels.{may_leave};
-    ghost use Rattle.dutch_order.specs.Listings.{Listing, listed, still_coming};
+    ghost use Rattle.dutch_order.specs.Listings.{Listing, listed, only_if, still_coming};
 
     ghost Value = { Listing R };
 
@@ -169,16 +189,16 @@ impl<'a, R: Rule> Model for Candidates<'a, R> {
       frame = l.bracket.now;
       shape = l.shape;
       rule = l.rule.now;
-      coming = still_coming l.ended (filter (may_leave (R.may_be_left l.rule.now) l.bracket.now) (listed l.ready ++ l.level));
-      latest = l.latest;
+      coming = still_coming l.ended (filter (may_leave (R.may_be_left l.rule.now) l.bracket.now) (listed (only_if l.drawn.is_ready l.drawn.lists) ++ l.level));
+      latest = only_if l.has_latest l.latest;
       ended = l.ended;
     } };
 
     ghost invariant = { λ l.
         (l.hopeless ≡ (l.bracket.now.last && nat_lt 1 (length l.bracket.now.scores - 2 * l.shape.pairs)))
-        × (l.hopeless ≡ true → filter (may_leave (R.may_be_left l.rule.now) l.bracket.now) (listed l.ready ++ l.level) ≡ [])
+        × (l.hopeless ≡ true → filter (may_leave (R.may_be_left l.rule.now) l.bracket.now) (listed (only_if l.drawn.is_ready l.drawn.lists) ++ l.level) ≡ [])
         × AllByRecursion (λ a. IsIn a (candidates (R.meets l.rule.now) (R.may_be_left l.rule.now) l.bracket.now l.shape))
-        (still_coming l.ended (filter (may_leave (R.may_be_left l.rule.now) l.bracket.now) (listed l.ready ++ l.level))) };
+        (still_coming l.ended (filter (may_leave (R.may_be_left l.rule.now) l.bracket.now) (listed (only_if l.drawn.is_ready l.drawn.lists) ++ l.level))) };
 }
 
 impl<'a, R: Rule> Candidates<'a, R> {
@@ -207,8 +227,13 @@ impl<'a, R: Rule> Candidates<'a, R> {
             hopeless: leaves_too_many(bracket, shape),
             ended: false,
             level: Level::new(blocks),
-            ready: None,
-            latest: None,
+            drawn: Drawn {
+                lists: Cursor::none(),
+                down: ArrayVec::new(),
+                is_ready: false,
+            },
+            has_latest: false,
+            latest: Cursor::none(),
         }
     }
 
@@ -229,7 +254,7 @@ impl<'a, R: Rule> Candidates<'a, R> {
         ensures latest { result.latest ≡ Some cursor }
     {
         let mdps = bracket.mdps();
-        let latest = Some(cursor.copy());
+        let latest = cursor.copy();
         let blocks = ByS1::from(
             shape.pairs - shape.mdps,
             &bracket.scores()[..mdps],
@@ -245,7 +270,12 @@ impl<'a, R: Rule> Candidates<'a, R> {
             hopeless: leaves_too_many(bracket, shape),
             ended: false,
             level: Level::new(blocks),
-            ready: None,
+            drawn: Drawn {
+                lists: Cursor::none(),
+                down: ArrayVec::new(),
+                is_ready: false,
+            },
+            has_latest: true,
             latest,
         }
     }
@@ -265,9 +295,7 @@ impl<'a, R: Rule> Candidates<'a, R> {
         ensures frame { self.new.frame ≡ self.old.frame }
         ensures shape { self.new.shape ≡ self.old.shape }
         ensures rule { self.new.rule ≡ self.old.rule }
-        ensures limit { budget.new.limit ≡ budget.old.limit }
-        ensures rises { budget.old.used ≤ budget.new.used }
-        ensures within { budget.new.used ≤ budget.new.limit }
+        ensures spends { Spends budget.old budget.new }
     {
         if self.ended {
             return Step::End;
@@ -276,17 +304,18 @@ impl<'a, R: Rule> Candidates<'a, R> {
             self.ended = true;
             return Step::End;
         }
-        match next_legal(
+        match draw_legal(
             self.bracket,
             self.rule,
-            &mut self.ready,
+            &mut self.drawn,
             &mut self.level,
             cuts,
             budget,
         ) {
-            Step::Found(candidate) => {
-                self.latest = Some(candidate.cursor());
-                Step::Found(candidate)
+            Step::Found(()) => {
+                self.has_latest = true;
+                self.latest.fill(&self.drawn.lists);
+                Step::Found(Candidate::new(&self.drawn.lists, &self.drawn.down))
             }
             Step::End => {
                 self.ended = true;
@@ -313,9 +342,7 @@ impl<'a, R: Rule> Candidates<'a, R> {
         ensures frame { self.new.frame ≡ self.old.frame }
         ensures shape { self.new.shape ≡ self.old.shape }
         ensures rule { self.new.rule ≡ self.old.rule }
-        ensures limit { budget.new.limit ≡ budget.old.limit }
-        ensures rises { budget.old.used ≤ budget.new.used }
-        ensures within { budget.new.used ≤ budget.new.limit }
+        ensures spends { Spends budget.old budget.new }
     {
         self.go_on(&NoCuts, budget)
     }
@@ -343,9 +370,7 @@ impl<'a, R: Rule> Candidates<'a, R> {
         ensures frame { self.new.frame ≡ self.old.frame }
         ensures shape { self.new.shape ≡ self.old.shape }
         ensures rule { self.new.rule ≡ self.old.rule }
-        ensures limit { budget.new.limit ≡ budget.old.limit }
-        ensures rises { budget.old.used ≤ budget.new.used }
-        ensures within { budget.new.used ≤ budget.new.limit }
+        ensures spends { Spends budget.old budget.new }
     {
         self.go_on(&Within { bound }, budget)
     }
@@ -354,9 +379,10 @@ impl<'a, R: Rule> Candidates<'a, R> {
     pub fn cursor(&self) -> Option<Cursor>
         ensures { result ≡ self.now.latest }
     {
-        match &self.latest {
-            Some(latest) => Some(latest.copy()),
-            None => None,
+        if self.has_latest {
+            Some(self.latest.copy())
+        } else {
+            None
         }
     }
 }

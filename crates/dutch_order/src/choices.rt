@@ -8,7 +8,7 @@ ghost use Rattle.dutch_order.specs.Exchange.{exchanges};
 ghost use Rattle.dutch_order.specs.Choices.{all_meet, from_on, subsets, tuples, numbers_from};
 ghost use Rattle.dutch_order.specs.Keys.{IsIn};
 ghost use Rattle.dutch_order.specs.Levels.{HasS1r, HasS2, HasS2r, behind_s2r, by_s1, by_s1r, by_s2, by_s2r, s1_blocks, s1r_blocks, s2_blocks, without_own};
-ghost use Rattle.dutch_order.specs.Steps.{MatchStep, Passes};
+ghost use Rattle.dutch_order.specs.Steps.{MatchStep, Passes, Spends};
 ghost use Rattle.dutch_order.specs.Limbo.{IsNonAscending, limbo_exchanges};
 ghost use Rattle.dutch_order.specs.Transposition.{all_tuples, transpositions};
 
@@ -17,11 +17,12 @@ use crate::cuts::{Cuts, CutsTuples, OfS2, OfS2r};
 use crate::exchange::Exchanges;
 use crate::levels::{Arranges, Blocks, Level};
 use crate::limbo::LimboExchanges;
-use crate::numbers::{Numbers, copied, is_same, left_of};
+use crate::numbers::{Numbers, copied, fill, is_same, left_of};
 use crate::prefix::{Filling, Prefix};
 use crate::rules::Rule;
 use crate::steps::{Budget, Step};
 use crate::transposition::Transpositions;
+use arrayvec::ArrayVec;
 use std::marker::Model;
 
 /// Arrangements with the same S1, S2 and S1R: one for each S2R, by article D.1.
@@ -94,60 +95,62 @@ impl<'a, R: Rule> ByS2r<'a, R> {
     }
 }
 
-/// The next list but for a cursor's own, which may come first. None is skipped before the first one has come.
-fn next_other<R: Rule, C: CutsTuples>(
+/// Fills a list with the next one but for a cursor's own, which may come first. None is skipped before the first one has come.
+fn put_next_other<R: Rule, C: CutsTuples>(
     lists: &mut Transpositions<'_, R>,
     resume: &mut Option<Cursor>,
     cuts: &C,
+    numbers: &mut Numbers,
     budget: &mut Budget,
-) -> Step<Numbers>
+) -> Step<()>
     requires { budget.old.used ≤ budget.old.limit }
     ensures answer { MatchStep result
-        (λ numbers. Passes (C.Idle cuts.now) (without_own resume.old lists.old.coming) (numbers.items ∷ without_own resume.new lists.new.coming))
+        (λ _. Passes (C.Idle cuts.now) (without_own resume.old lists.old.coming) (numbers.new.items ∷ without_own resume.new lists.new.coming))
         (Passes (C.Idle cuts.now) (without_own resume.old lists.old.coming) [])
         (Passes (C.Idle cuts.now) (without_own resume.old lists.old.coming) (without_own resume.new lists.new.coming) × (budget.new.used ≡ budget.new.limit)) }
-    ensures limit { budget.new.limit ≡ budget.old.limit }
-    ensures rises { budget.old.used ≤ budget.new.used }
-    ensures within { budget.new.used ≤ budget.new.limit }
+    ensures spends { Spends budget.old budget.new }
 {
-    let Some(cursor) = resume.take() else {
-        return lists.next_past(cuts, budget);
+    let Some(cursor) = resume else {
+        return lists.put_next_past(cuts, numbers, budget);
     };
-    let list = match lists.next(budget) {
-        Step::Found(list) => list,
+    match lists.put_next(numbers, budget) {
+        Step::Found(()) => {}
         Step::End => return Step::End,
-        Step::Undecided => {
-            *resume = Some(cursor);
-            return Step::Undecided;
-        }
-    };
-    if !is_same(&list, &cursor.s2r) {
-        return Step::Found(list);
+        Step::Undecided => return Step::Undecided,
     }
-    lists.next_past(cuts, budget)
+    let is_own = is_same(numbers, &cursor.s2r);
+    *resume = None;
+    if !is_own {
+        return Step::Found(());
+    }
+    lists.put_next_past(cuts, numbers, budget)
 }
 
 impl<'a, R: Rule> Arranges for ByS2r<'a, R> {
     ghost coming = { λ l. l };
 
-    fn next<C: Cuts>(&mut self, cuts: &C, budget: &mut Budget) -> Step<Cursor> {
+    fn next<C: Cuts>(&mut self, cuts: &C, lists: &mut Cursor, budget: &mut Budget) -> Step<()> {
         let tuples = OfS2r {
             cuts,
             s1: &self.s1,
             s2: &self.s2,
             s1r: &self.s1r,
         };
-        let s2r = match next_other(&mut self.lists, &mut self.resume, &tuples, budget) {
-            Step::Found(s2r) => s2r,
+        match put_next_other(
+            &mut self.lists,
+            &mut self.resume,
+            &tuples,
+            &mut lists.s2r,
+            budget,
+        ) {
+            Step::Found(()) => {}
             Step::End => return Step::End,
             Step::Undecided => return Step::Undecided,
-        };
-        Step::Found(Cursor {
-            s1: copied(&self.s1),
-            s2: copied(&self.s2),
-            s1r: copied(&self.s1r),
-            s2r,
-        })
+        }
+        fill(&mut lists.s1, &self.s1);
+        fill(&mut lists.s2, &self.s2);
+        fill(&mut lists.s1r, &self.s1r);
+        Step::Found(())
     }
 }
 
@@ -342,11 +345,12 @@ impl<'a, R: Rule> Blocks for ByS2<'a, R> {
     fn next_block<C: Cuts>(&mut self, cuts: &C, budget: &mut Budget) -> Step<Level<ByS1r<'a, R>>> {
         let Some(cursor) = self.resume.take() else {
             let tuples = OfS2 { cuts, s1: &self.s1 };
-            let s2 = match self.lists.next_past(&tuples, budget) {
-                Step::Found(s2) => s2,
+            let mut s2 = ArrayVec::new();
+            match self.lists.put_next_past(&tuples, &mut s2, budget) {
+                Step::Found(()) => {}
                 Step::End => return Step::End,
                 Step::Undecided => return Step::Undecided,
-            };
+            }
             return Step::Found(Level::new(ByS1r::new(
                 self.k,
                 &self.s1,

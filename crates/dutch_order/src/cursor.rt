@@ -8,8 +8,8 @@ ghost use Rattle.dutch_order.specs.CursorLists.{IsLong, is_short};
 ghost use Rattle.arrayvec.specs.ArrayString.{array_string_len};
 
 use crate::bracket::{Bracket, Shape};
-use crate::numbers::{LIMIT, Numbers, copied, left_of};
-use arrayvec::ArrayString;
+use crate::numbers::{LIMIT, Numbers, copied, fill, left_of};
+use arrayvec::{ArrayString, ArrayVec};
 use itoa::Buffer;
 use std::marker::Model;
 use thiserror::Error;
@@ -314,6 +314,26 @@ fn push_list(text: &mut CursorText, numbers: &[u16])
 }
 
 impl Cursor {
+    /// An arrangement of nobody.
+    pub(crate) fn none() -> Cursor {
+        Cursor {
+            s1: ArrayVec::new(),
+            s2: ArrayVec::new(),
+            s1r: ArrayVec::new(),
+            s2r: ArrayVec::new(),
+        }
+    }
+
+    /// Becomes another arrangement.
+    pub(crate) fn fill(&mut self, lists: &Cursor)
+        ensures { self.new ≡ lists.now }
+    {
+        fill(&mut self.s1, &lists.s1);
+        fill(&mut self.s2, &lists.s2);
+        fill(&mut self.s1r, &lists.s1r);
+        fill(&mut self.s2r, &lists.s2r);
+    }
+
     /// The same arrangement once more.
     pub fn copy(&self) -> Cursor
         ensures { result ≡ self.now }

@@ -17,7 +17,7 @@ ghost use Rattle.dutch_order.specs.Choices.{subsets, from_on, numbers_from};
 ghost use Rattle.dutch_order.specs.Keys.{IsIn};
 ghost use Rattle.std.specs.List.Sorted.{IsStrictlyIncreasing};
 ghost use Rattle.dutch_order.specs.declared.exchange.Side.TheVariants.{In};
-ghost use Rattle.dutch_order.specs.Steps.{MatchStep};
+ghost use Rattle.dutch_order.specs.Steps.{MatchStep, Spends};
 ghost use Rattle.dutch_order.specs.Walks.{Stands, IsOpen};
 ghost use Rattle.dutch_order.specs.Trials.{ahead};
 ghost use Rattle.dutch_order.specs.Hints.{hinted, first_hint};
@@ -325,9 +325,7 @@ fn next_set(pool: &[u16], k: usize, place: &mut Place, budget: &mut Budget) -> S
         × (0 < trials_ahead pool.now k place.new.hint.items place.new.size place.new.difference place.new.walk.path.items place.new.walk.number place.new.walk.beyond)) }
     ensures steps { budget.new.used + trials_ahead pool.now k place.new.hint.items place.new.size place.new.difference place.new.walk.path.items place.new.walk.number place.new.walk.beyond
         ≡ budget.old.used + trials_ahead pool.now k place.old.hint.items place.old.size place.old.difference place.old.walk.path.items place.old.walk.number place.old.walk.beyond }
-    ensures limit { budget.new.limit ≡ budget.old.limit }
-    ensures rises { budget.old.used ≤ budget.new.used }
-    ensures within { budget.new.used ≤ budget.new.limit }
+    ensures spends { Spends budget.old budget.new }
 {
     loop {
         let tree = Hinted {
@@ -471,9 +469,7 @@ impl Exchanges {
             ((self.old.coming ≡ []) × (self.new.coming ≡ []) × (self.new.left ≡ 0))
             ((self.new.coming ≡ self.old.coming) × (budget.new.used ≡ budget.new.limit) × (0 < self.new.left)) }
         ensures steps { budget.new.used + self.new.left ≡ budget.old.used + self.old.left }
-        ensures limit { budget.new.limit ≡ budget.old.limit }
-        ensures rises { budget.old.used ≤ budget.new.used }
-        ensures within { budget.new.used ≤ budget.new.limit }
+        ensures spends { Spends budget.old budget.new }
     {
         match next_set(&self.pool, self.k, &mut self.place, budget) {
             Step::Found(()) => Step::Found(found_set(&self.pool, self.k, &self.place)),

@@ -1,13 +1,13 @@
 // Levels of a listing: each goes through blocks of arrangements, one for each choice, and a block is a level in its turn. Specified
 // by the list of what is still to come.
 //
-// A level stands either in a block or between two of them, so one turn of its loop draws from the block or asks for the next one,
-// never both: where a draw is stopped, the level stands as it stood.
-ghost use Rattle.std.specs.Prelude.{◌≡◌, ◌≤◌, ℕ, List, [], ◌∷◌};
+// A level stands in a block, or between two of them. Each turn of its loop draws from the block, and where that has ended asks for the
+// next one: where either is stopped, what is left stands as it stood.
+ghost use Rattle.std.specs.Prelude.{◌≡◌, ◌≤◌, ℕ, List, None, [], ◌∷◌};
 ghost use Rattle.std.specs.List.{AllByRecursion};
 ghost use Rattle.dutch_order.specs.Arrangements.{Arrangement};
-ghost use Rattle.dutch_order.specs.Levels.{joined};
-ghost use Rattle.dutch_order.specs.Steps.{MatchStep, HandsOut, Passes};
+ghost use Rattle.dutch_order.specs.Levels.{joined, within};
+ghost use Rattle.dutch_order.specs.Steps.{MatchStep, Passes, Spends};
 
 use crate::cursor::Cursor;
 use crate::cuts::Cuts;
@@ -19,15 +19,15 @@ pub trait Arranges {
     /// The arrangements to come.
     ghost coming: { Self → List Arrangement };
 
-    /// The next arrangement, where those may be skipped of which `cuts` tells. `End` says that all to come are idle: what is to come
-    /// after it is nowhere said.
-    fn next<C: Cuts>(&mut self, cuts: &C, budget: &mut Budget) -> Step<Cursor>
+    /// Fills `lists` with the next arrangement, where those may be skipped of which `cuts` tells. `End` says that all to come are
+    /// idle: what is to come after it is nowhere said.
+    fn next<C: Cuts>(&mut self, cuts: &C, lists: &mut Cursor, budget: &mut Budget) -> Step<()>
         requires { budget.old.used ≤ budget.old.limit }
-        ensures answer { HandsOut (C.Idle cuts.now) (coming self.old) (coming self.new) result }
-        ensures stopped { MatchStep result (λ _. Unit {0}) (Unit {0}) (budget.new.used ≡ budget.new.limit) }
-        ensures limit { budget.new.limit ≡ budget.old.limit }
-        ensures rises { budget.old.used ≤ budget.new.used }
-        ensures within { budget.new.used ≤ budget.new.limit };
+        ensures answer { MatchStep result
+            (λ _. Passes (C.Idle cuts.now) (coming self.old) (lists.new ∷ coming self.new))
+            (Passes (C.Idle cuts.now) (coming self.old) [])
+            (Passes (C.Idle cuts.now) (coming self.old) (coming self.new) × (budget.new.used ≡ budget.new.limit)) }
+        ensures spends { Spends budget.old budget.new };
 }
 
 /// What hands out blocks of arrangements, one by one.
@@ -44,9 +44,7 @@ pub trait Blocks {
             (λ block. Passes (AllByRecursion (C.Idle cuts.now)) (blocks self.old) (Self.Block.coming block ∷ blocks self.new))
             (Passes (AllByRecursion (C.Idle cuts.now)) (blocks self.old) [])
             (Passes (AllByRecursion (C.Idle cuts.now)) (blocks self.old) (blocks self.new) × (budget.new.used ≡ budget.new.limit)) }
-        ensures limit { budget.new.limit ≡ budget.old.limit }
-        ensures rises { budget.old.used ≤ budget.new.used }
-        ensures within { budget.new.used ≤ budget.new.limit };
+        ensures spends { Spends budget.old budget.new };
 }
 
 /// The arrangements of blocks, one block after another.
@@ -78,25 +76,66 @@ impl<B: Blocks> Level<B> {
     }
 }
 
+/// Fills `lists` with the next arrangement of a block; where there is no block, it has ended.
+fn draw<T: Arranges, C: Cuts>(
+    block: &mut Option<T>,
+    cuts: &C,
+    lists: &mut Cursor,
+    budget: &mut Budget,
+) -> Step<()>
+    requires { budget.old.used ≤ budget.old.limit }
+    ensures answer { MatchStep result
+        (λ _. Passes (C.Idle cuts.now) (within T.coming block.old) (lists.new ∷ within T.coming block.new))
+        (Passes (C.Idle cuts.now) (within T.coming block.old) [])
+        (Passes (C.Idle cuts.now) (within T.coming block.old) (within T.coming block.new) × (budget.new.used ≡ budget.new.limit)) }
+    ensures spends { Spends budget.old budget.new }
+{
+    match block {
+        Some(block) => block.next(cuts, lists, budget),
+        None => Step::End,
+    }
+}
+
+/// Goes on to the next block. (Apart from the loop that calls it: a function pays at its entry for the size of its locals.)
+#[inline(never)]
+fn enter<B: Blocks, C: Cuts>(
+    blocks: &mut B,
+    block: &mut Option<B::Block>,
+    cuts: &C,
+    budget: &mut Budget,
+) -> Step<()>
+    requires { budget.old.used ≤ budget.old.limit }
+    ensures answer { MatchStep result
+        (λ _. Passes (AllByRecursion (C.Idle cuts.now)) (B.blocks blocks.old) (within B.Block.coming block.new ∷ B.blocks blocks.new))
+        (Passes (AllByRecursion (C.Idle cuts.now)) (B.blocks blocks.old) [])
+        (Passes (AllByRecursion (C.Idle cuts.now)) (B.blocks blocks.old) (B.blocks blocks.new) × (block.new ≡ None) × (budget.new.used ≡ budget.new.limit)) }
+    ensures spends { Spends budget.old budget.new }
+{
+    match blocks.next_block(cuts, budget) {
+        Step::Found(next) => {
+            *block = Some(next);
+            Step::Found(())
+        }
+        Step::End => Step::End,
+        Step::Undecided => {
+            *block = None;
+            Step::Undecided
+        }
+    }
+}
+
 impl<B: Blocks> Arranges for Level<B> {
     ghost coming = { λ l. l };
 
-    fn next<C: Cuts>(&mut self, cuts: &C, budget: &mut Budget) -> Step<Cursor> {
+    fn next<C: Cuts>(&mut self, cuts: &C, lists: &mut Cursor, budget: &mut Budget) -> Step<()> {
         loop {
-            match &mut self.block {
-                Some(block) => {
-                    match block.next(cuts, budget) {
-                        Step::Found(arrangement) => return Step::Found(arrangement),
-                        Step::Undecided => return Step::Undecided,
-                        Step::End => {}
-                    }
-                    self.block = None;
-                    continue;
-                }
-                None => {}
+            match draw(&mut self.block, cuts, lists, budget) {
+                Step::Found(()) => return Step::Found(()),
+                Step::Undecided => return Step::Undecided,
+                Step::End => {}
             }
-            match self.blocks.next_block(cuts, budget) {
-                Step::Found(block) => self.block = Some(block),
+            match enter(&mut self.blocks, &mut self.block, cuts, budget) {
+                Step::Found(()) => {}
                 Step::Undecided => return Step::Undecided,
                 Step::End => return Step::End,
             }

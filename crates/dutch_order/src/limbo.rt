@@ -7,7 +7,7 @@ ghost use Rattle.dutch_order.specs.Limbo.{limbo_exchanges, IsNonAscending};
 ghost use Rattle.dutch_order.specs.LimboSearch.{leads, mirrors, front_with, numbers_of, places_of, leader, leaders};
 ghost use Rattle.dutch_order.specs.Choices.{subsets, from_on, numbers_from};
 ghost use Rattle.dutch_order.specs.Keys.{IsIn};
-ghost use Rattle.dutch_order.specs.Steps.{MatchStep};
+ghost use Rattle.dutch_order.specs.Steps.{MatchStep, Spends};
 
 use crate::halves::{end_of_half, first_of_half};
 use crate::numbers::{LIMIT, Numbers, copied};
@@ -235,9 +235,7 @@ impl LimboExchanges {
             ((self.old.coming ≡ []) × (self.new.coming ≡ []) × (self.new.left ≡ 0))
             ((self.new.coming ≡ self.old.coming) × (budget.new.used ≡ budget.new.limit) × (0 < self.new.left)) }
         ensures steps { budget.new.used + self.new.left ≡ budget.old.used + self.old.left }
-        ensures limit { budget.new.limit ≡ budget.old.limit }
-        ensures rises { budget.old.used ≤ budget.new.used }
-        ensures within { budget.new.used ≤ budget.new.limit }
+        ensures spends { Spends budget.old budget.new }
     {
         let tree = Hinted {
             tree: Ranked {

@@ -25,6 +25,17 @@ pub(crate) fn copied(numbers: &[u16]) -> Numbers
     copy
 }
 
+/// Fills a list anew with numbers.
+pub(crate) fn fill(list: &mut Numbers, numbers: &[u16])
+    requires few { length numbers.now ≤ LIMIT }
+    ensures { list.new.items ≡ numbers.now }
+{
+    list.clear();
+    for number in numbers {
+        list.push(*number);
+    }
+}
+
 /// So many numbers from a first one on.
 pub fn numbered_from(first: usize, count: usize) -> Numbers
     requires few { count ≤ LIMIT }

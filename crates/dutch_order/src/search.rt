@@ -8,10 +8,10 @@ ghost use Rattle.std.specs.Prelude.{◌≡◌, ◌+◌, ◌-◌, ◌<◌, ◌≤
 ghost use Rattle.dutch_order.specs.Trials.{Plan, Tried, entry, below, ahead, hits, trials, lower, lowest};
 ghost use Rattle.dutch_order.specs.Hints.{hint_after, first_hint};
 ghost use Rattle.dutch_order.specs.Prefixes.{GoesOn};
-ghost use Rattle.dutch_order.specs.Steps.{MatchStep, Passes};
+ghost use Rattle.dutch_order.specs.Steps.{MatchStep, Passes, Spends};
 ghost use Rattle.dutch_order.specs.Walks.{Stands, IsOpen, IsSpent, NoneIdle};
 
-use crate::numbers::LIMIT;
+use crate::numbers::{LIMIT, Numbers};
 use crate::steps::{Budget, Step};
 use arrayvec::ArrayVec;
 
@@ -63,8 +63,8 @@ pub trait CutsPaths {
     /// A beginning can be asked about.
     ghost MayAsk: { Self → List ℕ → Type 0 };
 
-    /// Whether all paths that begin so are known to be idle.
-    fn cuts(&self, begun: &[usize]) -> bool
+    /// Whether all paths that begin so are known to be idle. There is room for the numbers that a path stands for.
+    fn cuts(&self, begun: &[usize], room: &mut Numbers) -> bool
         requires { MayAsk self.now begun.now }
         ensures { result ≡ true → (path : List ℕ) → GoesOn begun.now path → Idle self.now path };
 }
@@ -78,7 +78,7 @@ impl CutsPaths for CutsNothing {
 
     ghost MayAsk = { λ _ _. Unit {0} };
 
-    fn cuts(&self, _begun: &[usize]) -> bool {
+    fn cuts(&self, _begun: &[usize], _room: &mut Numbers) -> bool {
         false
     }
 }
@@ -160,6 +160,8 @@ pub struct Walk {
     pub path: Path,
     pub number: usize,
     pub beyond: Option<usize>,
+    // lives as long as the walk, so that no question makes a list
+    pub room: Numbers,
 }
 
 impl Walk {
@@ -173,6 +175,7 @@ impl Walk {
             path: ArrayVec::new(),
             number,
             beyond: None,
+            room: ArrayVec::new(),
         }
     }
 }
@@ -223,7 +226,7 @@ fn leave_idle<T: Tree, C: CutsPaths>(tree: &T, cuts: &C, walk: &mut Walk)
     ensures number { NoneIdle (C.Idle cuts.now) → walk.new.number ≡ walk.old.number }
 {
     let end = end_number(tree, &walk.path);
-    if walk.number < end && cuts.cuts(&walk.path) {
+    if walk.number < end && cuts.cuts(&walk.path, &mut walk.room) {
         walk.number = end;
     }
 }
@@ -301,9 +304,7 @@ pub fn climb_past<T: Tree, C: CutsPaths>(
         ≡ budget.old.used + trials (ahead (T.plan tree.now) walk.old.path.items walk.old.number) }
     ensures beyond { NoneIdle (C.Idle cuts.now) → lower walk.new.beyond (lowest (ahead (T.plan tree.now) walk.new.path.items walk.new.number))
         ≡ lower walk.old.beyond (lowest (ahead (T.plan tree.now) walk.old.path.items walk.old.number)) }
-    ensures limit { budget.new.limit ≡ budget.old.limit }
-    ensures rises { budget.old.used ≤ budget.new.used }
-    ensures within { budget.new.used ≤ budget.new.limit }
+    ensures spends { Spends budget.old budget.new }
 {
     leave_idle(tree, cuts, walk);
     loop {
@@ -351,9 +352,7 @@ pub fn climb_on<T: Tree>(tree: &T, walk: &mut Walk, budget: &mut Budget) -> Step
         ≡ budget.old.used + trials (ahead (T.plan tree.now) walk.old.path.items walk.old.number) }
     ensures beyond { lower walk.new.beyond (lowest (ahead (T.plan tree.now) walk.new.path.items walk.new.number))
         ≡ lower walk.old.beyond (lowest (ahead (T.plan tree.now) walk.old.path.items walk.old.number)) }
-    ensures limit { budget.new.limit ≡ budget.old.limit }
-    ensures rises { budget.old.used ≤ budget.new.used }
-    ensures within { budget.new.used ≤ budget.new.limit }
+    ensures spends { Spends budget.old budget.new }
 {
     climb_past(tree, &CutsNothing, walk, budget)
 }

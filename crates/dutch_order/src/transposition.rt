@@ -6,7 +6,7 @@ ghost use Rattle.dutch_order.specs.Transposition.{all_tuples, transpositions, sh
 ghost use Rattle.dutch_order.specs.TranspositionSearch.{transposition_plan, numbers_at, place_in, places_in};
 ghost use Rattle.dutch_order.specs.Choices.{tuples, all_meet, from_on};
 ghost use Rattle.dutch_order.specs.Keys.{IsIn};
-ghost use Rattle.dutch_order.specs.Steps.{MatchStep, Passes};
+ghost use Rattle.dutch_order.specs.Steps.{MatchStep, Passes, Spends};
 
 use crate::cuts::CutsTuples;
 use crate::numbers::{LIMIT, Numbers, copied};
@@ -16,17 +16,16 @@ use crate::steps::{Budget, Step};
 use arrayvec::ArrayVec;
 use std::marker::Model;
 
-/// The numbers at places of a pool.
-fn picked(pool: &[u16], path: &[usize]) -> Numbers
+/// Fills a list with the numbers at places of a pool.
+fn pick(pool: &[u16], path: &[usize], numbers: &mut Numbers)
     requires within { AllByRecursion (λ place. place < length pool.now) path.now }
     requires few { length path.now ≤ LIMIT }
-    ensures { result.items ≡ numbers_at pool.now path.now }
+    ensures { numbers.new.items ≡ numbers_at pool.now path.now }
 {
-    let mut numbers = ArrayVec::new();
+    numbers.clear();
     for place in path {
         numbers.push(pool[*place]);
     }
-    numbers
 }
 
 /// The place of a number in a pool, or the length of a pool that does not have it.
@@ -111,8 +110,9 @@ impl<'a, C: CutsTuples> CutsPaths for CutsPlaces<'a, C> {
 
     ghost MayAsk = { λ t path. AllByRecursion (λ place. place < length t.pool.now) path × (length path ≤ LIMIT) };
 
-    fn cuts(&self, begun: &[usize]) -> bool {
-        self.cuts.cuts(&picked(self.pool, begun))
+    fn cuts(&self, begun: &[usize], room: &mut Numbers) -> bool {
+        pick(self.pool, begun, room);
+        self.cuts.cuts(room)
     }
 }
 
@@ -195,9 +195,25 @@ impl<'a, R: Rule> Transpositions<'a, R> {
             ((self.old.coming ≡ []) × (self.new.coming ≡ []) × (self.new.left ≡ 0))
             ((self.new.coming ≡ self.old.coming) × (budget.new.used ≡ budget.new.limit) × (0 < self.new.left)) }
         ensures steps { budget.new.used + self.new.left ≡ budget.old.used + self.old.left }
-        ensures limit { budget.new.limit ≡ budget.old.limit }
-        ensures rises { budget.old.used ≤ budget.new.used }
-        ensures within { budget.new.used ≤ budget.new.limit }
+        ensures spends { Spends budget.old budget.new }
+    {
+        let mut numbers = ArrayVec::new();
+        match self.put_next(&mut numbers, budget) {
+            Step::Found(()) => Step::Found(numbers),
+            Step::End => Step::End,
+            Step::Undecided => Step::Undecided,
+        }
+    }
+
+    /// Fills a list with the next one, as `next` gives it.
+    pub(crate) fn put_next(&mut self, numbers: &mut Numbers, budget: &mut Budget) -> Step<()>
+        requires { budget.old.used ≤ budget.old.limit }
+        ensures answer { MatchStep result
+            (λ _. self.old.coming ≡ numbers.new.items ∷ self.new.coming)
+            ((self.old.coming ≡ []) × (self.new.coming ≡ []) × (self.new.left ≡ 0))
+            ((self.new.coming ≡ self.old.coming) × (budget.new.used ≡ budget.new.limit) × (0 < self.new.left)) }
+        ensures steps { budget.new.used + self.new.left ≡ budget.old.used + self.old.left }
+        ensures spends { Spends budget.old budget.new }
     {
         let tree = Hinted {
             tree: Opponents {
@@ -208,27 +224,29 @@ impl<'a, R: Rule> Transpositions<'a, R> {
             hint: &self.hint,
         };
         match climb_on(&tree, &mut self.walk, budget) {
-            Step::Found(()) => Step::Found(picked(&self.pool, &self.walk.path)),
+            Step::Found(()) => {
+                pick(&self.pool, &self.walk.path, numbers);
+                Step::Found(())
+            }
             Step::End => Step::End,
             Step::Undecided => Step::Undecided,
         }
     }
 
-    /// The next list, as `next` gives it, but lists that the cuts know to be idle may be skipped, at no step: they are asked with the
+    /// Fills a list with the next one, but lists that the cuts know to be idle may be skipped, at no step: they are asked with the
     /// numbers of each beginning at which the search arrives. All that was skipped is idle, whatever the answer, `Undecided` too.
-    pub(crate) fn next_past<C: CutsTuples>(
+    pub(crate) fn put_next_past<C: CutsTuples>(
         &mut self,
         cuts: &C,
+        numbers: &mut Numbers,
         budget: &mut Budget,
-    ) -> Step<Numbers>
+    ) -> Step<()>
         requires { budget.old.used ≤ budget.old.limit }
         ensures answer { MatchStep result
-            (λ numbers. Passes (C.Idle cuts.now) self.old.coming (numbers.items ∷ self.new.coming))
+            (λ _. Passes (C.Idle cuts.now) self.old.coming (numbers.new.items ∷ self.new.coming))
             (Passes (C.Idle cuts.now) self.old.coming [] × (self.new.coming ≡ []))
             (Passes (C.Idle cuts.now) self.old.coming self.new.coming × (budget.new.used ≡ budget.new.limit)) }
-        ensures limit { budget.new.limit ≡ budget.old.limit }
-        ensures rises { budget.old.used ≤ budget.new.used }
-        ensures within { budget.new.used ≤ budget.new.limit }
+        ensures spends { Spends budget.old budget.new }
     {
         let tree = Hinted {
             tree: Opponents {
@@ -247,6 +265,7 @@ impl<'a, R: Rule> Transpositions<'a, R> {
             Step::End => return Step::End,
             Step::Undecided => return Step::Undecided,
         }
-        Step::Found(picked(&self.pool, &self.walk.path))
+        pick(&self.pool, &self.walk.path, numbers);
+        Step::Found(())
     }
 }

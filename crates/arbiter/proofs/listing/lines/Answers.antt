@@ -12,6 +12,6 @@ loop-done-preserved g c = record {
   underway = underway_line c.args.field.now c.args.reached.now _ c.loop-done.coming.coming _ c.in-Found.candidate c.loop-done.coming.frame c.loop-done.done _ _ c.loop-done.invariant.underway c.in-Found.ensures.answer.0 c.in-Found.ensures.answer.1 c.loop-done.invariant.frame c.in_ok-put_line-in-Found.ensures;
   frame = c.next.ensures.frame ∙ c.loop-done.invariant.frame;
   within = omega (arith, c.loop-done-test.true);
-  limit = c.next.ensures.limit ∙ c.loop-done.invariant.limit;
-  used = c.next.ensures.within;
+  limit = c.next.ensures.spends.limit ∙ c.loop-done.invariant.limit;
+  used = c.next.ensures.spends.within;
 }

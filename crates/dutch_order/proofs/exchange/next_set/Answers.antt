@@ -1,3 +1,4 @@
+use Rattle.dutch_order.proofs.Spending.{spends-more}
 use Rattle.std.proofs.Common.{◌∙◌, ap, sym, arith}
 use Rattle.dutch_order.specs.Trials.{hits}
 use Rattle.dutch_order.proofs.StageMoves.{sets-by_hits, sets-found, trials-after}
@@ -40,7 +41,5 @@ loop-place-preserved c =
       stands = c.next_stage.ensures.stands;
       sets = c.next_stage.ensures.sets ∙ same ∙ c.loop-place.invariant.sets;
       steps = omega (arith, after, c.next_stage.ensures.trials, c.in-End.ensures.steps, c.loop-place.invariant.steps);
-      limit = c.in-End.ensures.limit ∙ c.loop-place.invariant.limit;
-      rises = omega (arith, c.in-End.ensures.rises, c.loop-place.invariant.rises);
-      within = c.in-End.ensures.within;
+      spends = spends-more c.loop-place.invariant.spends c.in-End.ensures.spends;
     }

@@ -1,3 +1,4 @@
+use Rattle.dutch_order.proofs.Spending.{spends-step}
 use Rattle.std.proofs.Common.{◌∙◌, ◌∷◌, sym, ap, arith, rules, subst}
 use Rattle.dutch_order.specs.Trials.{Tried, ahead, hits, trials, lower, lowest}
 use Rattle.dutch_order.specs.Walks.{Stands}
@@ -56,9 +57,7 @@ loop-walk-preserved-then-try_number g c =
           (ahead plan c.loop-walk.walk.path.items c.loop-walk.walk.number) (ahead plan c.leave_idle-then-try_number.new.walk.path.items c.leave_idle-then-try_number.new.walk.number)
           (left.beyond ∙ tried.beyond) (tried.goes_on ∙ ap (λ events. Tried (plan.beyond c.loop-walk.walk.path.items c.loop-walk.walk.number) ∷ events) (sym (ahead-same plan _ _ _ _ left.path (left.number none))))
           ∙ c.loop-walk.invariant.beyond none;
-      within = omega (arith, c.loop-walk.invariant.within, c.if-budget.false);
-      limit = c.loop-walk.invariant.limit;
-      rises = omega (arith, c.loop-walk.invariant.rises);
+      spends = spends-step c.loop-walk.invariant.spends c.if-budget.false;
     }
 
 pub loop-walk-preserved : goal.loop-walk-preserved
@@ -76,7 +75,5 @@ loop-walk-preserved g c =
           (ahead plan c.loop-walk.walk.path.items c.loop-walk.walk.number) (ahead plan c.leave_idle-in-loop-walk.new.walk.path.items c.leave_idle-in-loop-walk.new.walk.number)
           (left.beyond ∙ back.beyond) (ahead-same plan _ _ _ _ left.path (left.number none) ∙ back.same)
           ∙ c.loop-walk.invariant.beyond none;
-      within = c.loop-walk.invariant.within;
-      limit = c.loop-walk.invariant.limit;
-      rises = c.loop-walk.invariant.rises;
+      spends = c.loop-walk.invariant.spends;
     }

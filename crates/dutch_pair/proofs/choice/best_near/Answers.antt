@@ -72,8 +72,8 @@ loop-candidate-preserved c =
       shape = c.in-Found.ensures.shape ∙ c.loop-candidate.invariant.shape;
       field = ap (λ (rule : ByNumber). rule.field.now) c.in-Found.ensures.rule ∙ c.loop-candidate.invariant.field;
       reached = ap (λ (rule : ByNumber). rule.reached.now) c.in-Found.ensures.rule ∙ c.loop-candidate.invariant.reached;
-      limit = c.if-not-consider.ensures.limit ∙ c.in-Found.ensures.limit ∙ c.loop-candidate.invariant.limit;
-      rises = omega (arith, c.if-not-consider.ensures.rises, c.in-Found.ensures.rises, c.loop-candidate.invariant.rises);
+      limit = c.if-not-consider.ensures.limit ∙ c.in-Found.ensures.spends.limit ∙ c.loop-candidate.invariant.limit;
+      rises = omega (arith, c.if-not-consider.ensures.rises, c.in-Found.ensures.spends.rises, c.loop-candidate.invariant.rises);
       look = c.if-not-consider.ensures.look;
       within = c.if-not-consider.ensures.within;
     }

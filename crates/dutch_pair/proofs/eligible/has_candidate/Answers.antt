@@ -41,8 +41,8 @@ loop-candidate-preserved c = record {
       ∙ passes_unfit (can_be_chosen c.args.field.now c.args.reached.now c.args.lower.now) c.in-Found.candidate.lists c.loop-candidate.candidates.coming c.next.new.self.coming
       c.in-Found.ensures.answer.0 c.in-No.ensures.answer;
   frame = c.in-Found.ensures.frame ∙ c.loop-candidate.invariant.frame;
-  limit = c.in-No.ensures.limit ∙ c.in-Found.ensures.limit ∙ c.loop-candidate.invariant.limit;
-  rises = omega (arith, c.in-No.ensures.rises, c.in-Found.ensures.rises, c.loop-candidate.invariant.rises);
+  limit = c.in-No.ensures.limit ∙ c.in-Found.ensures.spends.limit ∙ c.loop-candidate.invariant.limit;
+  rises = omega (arith, c.in-No.ensures.rises, c.in-Found.ensures.spends.rises, c.loop-candidate.invariant.rises);
   within = c.in-No.ensures.within;
 }
 

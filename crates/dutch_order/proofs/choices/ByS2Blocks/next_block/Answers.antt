@@ -31,14 +31,14 @@ returns-in-Undecided-clause-answer g c =
       passes-more (AllByRecursion Idle) _ _ _ (passes-none (AllByRecursion Idle) _ _ (sym c.self.view_is))
           (passes-more (AllByRecursion Idle) _ _ _
           (passes-s2 Idle meets own.k own.s1.items _ own.residents.items own.resume c.deref.ensures.0 (sym c.take.ensures.value ∙ c.in_default.is) _ _ c.in-Undecided.ensures.answer.0)
-          (passes-none (AllByRecursion Idle) _ _ (ap (λ resume. s2_blocks meets resume own.k own.s1.items own.residents.items c.next_past.new.self.coming) (sym c.take.ensures.after)))),
+          (passes-none (AllByRecursion Idle) _ _ (ap (λ resume. s2_blocks meets resume own.k own.s1.items own.residents.items c.put_next_past.new.self.coming) (sym c.take.ensures.after)))),
       c.in-Undecided.ensures.answer.1,
     )
 
 pub new-requires-clause-enough : goal.new-requires-clause-enough
 new-requires-clause-enough g c =
     let own = c.self.inside in
-    subst (λ residents. own.k ≤ length (left_of residents c.in-Found.s2.items)) (sym c.deref-in_default-2.ensures.0)
+    subst (λ residents. own.k ≤ length (left_of residents c.put_next_past.new.numbers.items)) (sym c.deref-in_default-2.ensures.0)
     (passes-keeps _ (λ s2. own.k ≤ length (left_of own.residents.items s2)) _ _ c.in-Found.ensures.answer c.self.invariant.1).0
 
 pub invariant_of-self-in_default : goal.invariant_of-self-in_default
@@ -54,7 +54,7 @@ returns-in_default-clause-answer g c =
     let own = c.self.inside in
     let meets = g.R.Rule.meets own.rule.now in
     let Idle = g.C.Cuts.Idle c.args.cuts.now in
-    let s2 = c.in-Found.s2.items in
+    let s2 = c.put_next_past.new.numbers.items in
     let fresh : List ℕ → List Arrangement = λ s2. joined (by_s1r meets own.s1.items s2 (left_of own.residents.items s2) (exchanges (left_of own.residents.items s2) own.k)) in
     let made : c.new-in_default.result ≡ fresh s2 =
     c.new-in_default.ensures
@@ -65,8 +65,8 @@ returns-in_default-clause-answer g c =
     (passes-more (AllByRecursion Idle) _ _ _
     (passes-s2 Idle meets own.k own.s1.items _ own.residents.items own.resume c.deref.ensures.0 (sym c.take.ensures.value ∙ c.in_default.is) _ _ c.in-Found.ensures.answer)
     (passes-none (AllByRecursion Idle) _ _
-    (ap (λ block. block ∷ s2_blocks meets None own.k own.s1.items own.residents.items c.next_past.new.self.coming) (sym made)
-    ∙ ap (λ resume. c.new-in_default.result ∷ s2_blocks meets resume own.k own.s1.items own.residents.items c.next_past.new.self.coming) (sym c.take.ensures.after))))
+    (ap (λ block. block ∷ s2_blocks meets None own.k own.s1.items own.residents.items c.put_next_past.new.self.coming) (sym made)
+    ∙ ap (λ resume. c.new-in_default.result ∷ s2_blocks meets resume own.k own.s1.items own.residents.items c.put_next_past.new.self.coming) (sym c.take.ensures.after))))
 
 pub returns-clause-answer : goal.returns-clause-answer
 returns-clause-answer g c =

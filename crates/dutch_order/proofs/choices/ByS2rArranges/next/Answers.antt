@@ -14,17 +14,20 @@ returns-in-End-clause-answer g c =
 pub returns-in-Undecided-clause-answer : goal.returns-in-Undecided-clause-answer
 returns-in-Undecided-clause-answer g c =
     let own = c.self.inside in
-    let Idle = g.C.Cuts.Idle c.args.cuts.now in
-    passes-more Idle _ _ _ (passes-none Idle _ _ (sym c.self.view_is))
-    (passes-arranged Idle own.s1.items own.s2.items own.s1r.items _ _ _ c.deref.ensures.0 c.deref-2.ensures.0 c.deref-3.ensures.0 _ _ c.in-Undecided.ensures.answer.0)
+    let Idle = g.C.Cuts.Idle c.args.cuts.now in (
+      passes-more Idle _ _ _ (passes-none Idle _ _ (sym c.self.view_is))
+          (passes-arranged Idle own.s1.items own.s2.items own.s1r.items _ _ _ c.deref.ensures.0 c.deref-2.ensures.0 c.deref-3.ensures.0 _ _ c.in-Undecided.ensures.answer.0),
+      c.in-Undecided.ensures.answer.1,
+    )
 
 pub returns-clause-answer : goal.returns-clause-answer
 returns-clause-answer g c =
     let own = c.self.inside in
     let Idle = g.C.Cuts.Idle c.args.cuts.now in
-    let made = same-lists (arranged own.s1.items own.s2.items own.s1r.items c.in-Found.s2r.items) (arranged c.copied.result.items c.copied-2.result.items c.copied-3.result.items c.in-Found.s2r.items)
-    (sym (c.copied.ensures ∙ c.deref-4.ensures.0)) (sym (c.copied-2.ensures ∙ c.deref-5.ensures.0)) (sym (c.copied-3.ensures ∙ c.deref-6.ensures.0)) refl in
+    let s2r = c.put_next_other.new.numbers.items in
+    let made = same-lists (arranged own.s1.items own.s2.items own.s1r.items s2r) (arranged c.fill.new.list.items c.fill-2.new.list.items c.fill-3.new.list.items s2r)
+    (sym (c.fill.ensures ∙ c.deref-4.ensures.0)) (sym (c.fill-2.ensures ∙ c.deref-5.ensures.0)) (sym (c.fill-3.ensures ∙ c.deref-6.ensures.0)) refl in
     passes-more Idle _ _ _ (passes-none Idle _ _ (sym c.self.view_is))
     (passes-more Idle _ _ _
     (passes-arranged Idle own.s1.items own.s2.items own.s1r.items _ _ _ c.deref.ensures.0 c.deref-2.ensures.0 c.deref-3.ensures.0 _ _ c.in-Found.ensures.answer)
-    (passes-none Idle _ _ (ap (λ a. a ∷ map (arranged own.s1.items own.s2.items own.s1r.items) (without_own c.next_other.new.resume c.next_other.new.lists.coming)) made)))
+    (passes-none Idle _ _ (ap (λ a. a ∷ map (arranged own.s1.items own.s2.items own.s1r.items) (without_own c.put_next_other.new.resume c.put_next_other.new.lists.coming)) made)))

@@ -1,17 +1,14 @@
-use Rattle.std.proofs.Common.{◌≡◌, ◌≤◌, ◌+◌, ◌*◌, length, ◌++◌}
+use Rattle.std.proofs.Common.{length, ◌++◌}
 use Rattle.dutch_order.specs.Levels.{within, joined}
-use Rattle.dutch_order.specs.Steps.{Passes}
-use Rattle.dutch_order.proofs.Skipping.{one_in}
+use Rattle.dutch_order.specs.Steps.{Passes, Spends}
 use Rattle.dutch_order.proofs.levels.LevelArranges.next.Given as goal
 
 abbrev pub invariant-loop-self : goal.invariant-loop-self
 invariant-loop-self g l = record {
   passes : Passes (g.C.Cuts.Idle l.cuts) (within g.B.Block.Arranges.coming l.initial.self-inside.block ++ joined (g.B.Blocks.blocks l.initial.self-inside.blocks))
       (within g.B.Block.Arranges.coming l.self-inside.block ++ joined (g.B.Blocks.blocks l.self-inside.blocks));
-  limit : l.budget.limit ≡ l.initial.budget.limit;
-  rises : l.initial.budget.used ≤ l.budget.used;
-  within : l.budget.used ≤ l.budget.limit;
+  spends : Spends l.initial.budget l.budget;
 }
 
 abbrev pub decreases-loop-self : goal.decreases-loop-self
-decreases-loop-self g l = 2 * length (g.B.Blocks.blocks l.self-inside.blocks) + one_in l.self-inside.block
+decreases-loop-self g l = length (g.B.Blocks.blocks l.self-inside.blocks)

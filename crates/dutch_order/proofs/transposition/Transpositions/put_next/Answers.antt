@@ -2,10 +2,10 @@ use Rattle.std.proofs.Common.{◌<◌, sym, ap, subst, arith, length, []}
 use Rattle.std.specs.List.{AllByRecursion}
 use Rattle.dutch_order.specs.TranspositionSearch.{transposition_plan}
 use Rattle.dutch_order.proofs.Moves.{Walked-below}
-use Rattle.dutch_order.proofs.transposition.Transpositions.next.Goals as goal
+use Rattle.dutch_order.proofs.transposition.Transpositions.put_next.Goals as goal
 
-pub picked-requires-clause-within : goal.picked-requires-clause-within
-picked-requires-clause-within g c =
+pub pick-requires-clause-within : goal.pick-requires-clause-within
+pick-requires-clause-within g c =
     let meets = g.R.Rule.meets c.self.inside.rule.now in
     subst (λ pool. AllByRecursion (λ place. place < length pool) c.deref-in-Found-2.result.now) (sym c.deref-in-Found.ensures.0)
     (subst (AllByRecursion (λ place. place < length c.self.inside.pool.items)) (sym c.deref-in-Found-2.ensures.0)

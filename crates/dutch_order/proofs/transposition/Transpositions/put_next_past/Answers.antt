@@ -5,7 +5,7 @@ use Rattle.dutch_order.specs.Hints.{hinted}
 use Rattle.dutch_order.specs.TranspositionSearch.{transposition_plan, numbers_at}
 use Rattle.dutch_order.proofs.LeftOut.{passes-same}
 use Rattle.dutch_order.proofs.TupleSearch.{stands-within, tuples-passed, plan-at}
-use Rattle.dutch_order.proofs.transposition.Transpositions.next_past.Goals as goal
+use Rattle.dutch_order.proofs.transposition.Transpositions.put_next_past.Goals as goal
 
 pub climb_past-requires-clause-may_ask : goal.climb_past-requires-clause-may_ask
 climb_past-requires-clause-may_ask g c = λ path stands.
@@ -13,8 +13,8 @@ climb_past-requires-clause-may_ask g c = λ path stands.
     c.self.inside.hint.items path c.deref.ensures.0 c.deref-2.ensures.0 c.deref-3.ensures.0 stands in
     (in'.0, omega (arith, in'.1, c.self.invariant.0))
 
-pub picked-requires-clause-within : goal.picked-requires-clause-within
-picked-requires-clause-within g c =
+pub pick-requires-clause-within : goal.pick-requires-clause-within
+pick-requires-clause-within g c =
     let in' = stands-within (g.R.Rule.meets c.self.inside.rule.now) c.self.inside.first.items c.deref.result.now c.self.inside.pool.items c.deref-2.result.now c.deref-4.result.now
     c.self.inside.hint.items c.climb_past.new.walk.path.items c.deref.ensures.0 c.deref-2.ensures.0 c.deref-4.ensures.0 c.climb_past.ensures.stands in
     subst (AllByRecursion (λ place. place < length c.deref-4.result.now)) (sym c.deref-5.ensures.0) in'.0
@@ -24,12 +24,12 @@ returns-clause-answer g c =
     let Idle = g.C.CutsTuples.Idle c.args.cuts.now in
     let at = plan-at (g.R.Rule.meets c.self.inside.rule.now) c.deref.result.now c.self.inside.first.items c.deref-2.result.now c.self.inside.pool.items c.self.inside.hint.items in
     let path = c.climb_past.new.walk.path.items in
-    let picked : c.picked.result.items ≡ numbers_at c.self.inside.pool.items path = c.picked.ensures ∙ ap (λ pool. numbers_at pool c.deref-5.result.now) c.deref-4.ensures.0 ∙ ap (numbers_at c.self.inside.pool.items) c.deref-5.ensures.0 in
+    let picked : c.pick.new.numbers.items ≡ numbers_at c.self.inside.pool.items path = c.pick.ensures ∙ ap (λ pool. numbers_at pool c.deref-5.result.now) c.deref-4.ensures.0 ∙ ap (numbers_at c.self.inside.pool.items) c.deref-5.ensures.0 in
     let passed = tuples-passed Idle c.self.inside.pool.items c.deref-3.result.now c.args.self.now.coming _ _ _ _ (ap (λ v. v.coming) c.self.view_is) c.deref-3.ensures.0
     (at c.self.inside.walk.path.items c.self.inside.walk.number c.deref.ensures.0 c.deref-2.ensures.0)
     (ap (λ paths. path ∷ paths) (at path c.climb_past.new.walk.number c.deref.ensures.0 c.deref-2.ensures.0))
     c.in-Found.ensures.answer.0 in
-    passes-same Idle c.args.self.now.coming (numbers_at c.self.inside.pool.items path ∷ _) (c.picked.result.items ∷ _) passed (ap (λ numbers. numbers ∷ map (numbers_at c.self.inside.pool.items) (hits (ahead (hinted c.self.inside.hint.items (transposition_plan (g.R.Rule.meets c.self.inside.rule.now) c.self.inside.first.items c.self.inside.pool.items)) path c.climb_past.new.walk.number))) (sym picked))
+    passes-same Idle c.args.self.now.coming (numbers_at c.self.inside.pool.items path ∷ _) (c.pick.new.numbers.items ∷ _) passed (ap (λ numbers. numbers ∷ map (numbers_at c.self.inside.pool.items) (hits (ahead (hinted c.self.inside.hint.items (transposition_plan (g.R.Rule.meets c.self.inside.rule.now) c.self.inside.first.items c.self.inside.pool.items)) path c.climb_past.new.walk.number))) (sym picked))
 
 pub returns-in-End-clause-answer : goal.returns-in-End-clause-answer
 returns-in-End-clause-answer g c =

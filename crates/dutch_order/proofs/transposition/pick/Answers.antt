@@ -1,6 +1,6 @@
 use Rattle.std.proofs.Common.{◌<◌, [], length, refl, slice_index}
 use Rattle.dutch_order.proofs.Turns.{at_index, map-turn, map-end}
-use Rattle.dutch_order.proofs.transposition.picked.Goals as goal
+use Rattle.dutch_order.proofs.transposition.pick.Goals as goal
 
 pub bounds-pool-place : goal.bounds-pool-place
 bounds-pool-place c =
