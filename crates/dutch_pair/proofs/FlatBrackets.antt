@@ -1,5 +1,5 @@
 -- Brackets whose residents have one score, and the candidates of a bracket.
-use Rattle.std.proofs.Common.{◌≡◌, ℕ, zero, suc, ◌+◌, ◌-◌, ◌<◌, ◌≤◌, true, min, List, [], ◌∷◌, length, get_or, ◌⊎◌, inl, inr, refl, sym, ap, ◌∙◌, subst, arith, length-append}
+use Rattle.std.proofs.Common.{◌≡◌, ℕ, zero, suc, ◌+◌, ◌-◌, ◌<◌, ◌≤◌, min, List, [], ◌∷◌, length, get_or, ◌⊎◌, inl, inr, refl, sym, ap, ◌∙◌, subst, arith, length-append}
 use Rattle.std.specs.Prelude.{filter, slice_index, Some}
 use Rattle.std.proofs.lemmas.List.{length-map, get_or-map}
 use Rattle.dutch_order.specs.declared.bracket.Shape.{Shape}
@@ -14,7 +14,7 @@ use Rattle.dutch_player.specs.Facts.{Facts}
 use Rattle.dutch_pair.specs.Seated.{seat_of, score_at, lowest, lowest_upto, by_seats, AllNumbers, IsCandidate}
 use Rattle.dutch_pair.specs.Reached.{Stand, frame_of, numbers_meet, number_may_be_left, IsOf}
 use Rattle.dutch_pair.specs.Quality.{NextValue, psd}
-use Rattle.dutch_pair.specs.Shapes.{has_member}
+use Rattle.dutch_pair.specs.Shapes.{IsFirst, greatest_shape}
 use Rattle.dutch_pair.specs.NextBracket.{legal_in, psd_in, value_of_shape, IsFlat}
 use Rattle.dutch_pair.proofs.ArrangementParts.{parts_of, Residents}
 use Rattle.dutch_pair.proofs.PsdParts.{OneScore, down_parts}
@@ -154,14 +154,13 @@ one_score_of facts stand of' flat =
 pub value_found : (facts : Facts) (stand : Stand) (shape : Shape) (draw : Draw) (rest : List Arrangement) (list : List ℕ) → IsOf facts stand → IsFlat facts stand
     → ((i : ℕ) → slice_index (frame_of facts stand).scores i ≤ 65535)
     → legal_in facts stand shape ≡ draw.lists ∷ rest → draw.down ≡ down (frame_of facts stand) draw.lists → list ≡ psd facts (by_seats facts stand.seats draw)
-    → (has_member (legal_in facts stand shape) ≡ true)
-    × (let value : NextValue = record { pairs = shape.pairs; psd = list } in value ≡ value_of_shape facts stand (Some shape))
+    → (let value : NextValue = record { pairs = shape.pairs; psd = list } in value ≡ value_of_shape facts stand (Some shape))
 value_found facts stand shape draw rest list of' flat small e left by =
     let s : ℕ = score_at facts (seat_of stand.seats (stand.mdps + 1)) in
     let least = first_is_least facts stand s (one_score_of facts stand of' flat) (descends_of facts stand of' small) shape draw.lists rest e in
     let as_psd : list ≡ psd_in facts stand draw.lists =
     by ∙ ap (λ (left : List ℕ). psd facts (by_seats facts stand.seats (record { lists = draw.lists; down = left }))) left in
-    (ap has_member e, ap (λ (list : List ℕ). let value : NextValue = record { pairs = shape.pairs; psd = list } in value) (as_psd ∙ sym least))
+    ap (λ (list : List ℕ). let value : NextValue = record { pairs = shape.pairs; psd = list } in value) (as_psd ∙ sym least)
 
 pub in_legal : (facts : Facts) (stand : Stand) (shape : Shape) (lists : Arrangement) (rest : List Arrangement) → legal_in facts stand shape ≡ lists ∷ rest
     → IsIn lists (arrangements (frame_of facts stand) shape)
@@ -179,3 +178,15 @@ listed_as facts facts' stand stand' frame shape coming rest given f s b e =
     ∙ ap (λ (t : Stand). candidates (numbers_meet facts t) (number_may_be_left facts t) frame shape) s
     ∙ ap (λ (frame : Frame). candidates (numbers_meet facts stand) (number_may_be_left facts stand) frame shape) b)
     ∙ e
+
+-- the greatest shape of a bracket by a rule, and its first arrangement
+abbrev pub IsGreatest : Facts → Stand → Frame → Shape → Draw → Type 0
+IsGreatest facts stand frame shape draw =
+    (greatest_shape (candidates (numbers_meet facts stand) (number_may_be_left facts stand) frame) frame ≡ Some shape)
+    × IsFirst (candidates (numbers_meet facts stand) (number_may_be_left facts stand) frame shape) frame draw
+
+pub greatest_as : (facts facts' : Facts) (stand stand' : Stand) (frame : Frame) (shape : Shape) (draw : Draw)
+    → facts' ≡ facts → stand' ≡ stand → frame ≡ frame_of facts stand → IsGreatest facts' stand' frame shape draw → IsGreatest facts stand (frame_of facts stand) shape draw
+greatest_as facts facts' stand stand' frame shape draw f s b found =
+    subst (λ (frame : Frame). IsGreatest facts stand frame shape draw) b
+    (subst (λ (t : Stand). IsGreatest facts t frame shape draw) s (subst (λ (g : Facts). IsGreatest g stand' frame shape draw) f found))

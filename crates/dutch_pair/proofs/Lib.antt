@@ -43,7 +43,6 @@ pub mod Places
 pub mod PsdParts
 pub mod QualityOrder
 pub mod CandidateSeats
-pub mod ShapeLemmas
 pub mod ShapeSearch
 pub mod SkippedLemmas
 pub mod TellLemmas

@@ -4,7 +4,8 @@ use Rattle.std.specs.Prelude.{flat_map}
 use Rattle.std.proofs.lemmas.Bool.Decides.{nat_tests}
 use Rattle.dutch_order.specs.declared.bracket.Shape.{Shape}
 use Rattle.dutch_order.specs.Arrangements.{Frame, Arrangement, Fits, remainder_pairs}
-use Rattle.dutch_pair.specs.Shapes.{down_from, fits, shapes_with, has_member, first_with}
+use Rattle.dutch_order.specs.Draws.{Draw}
+use Rattle.dutch_pair.specs.Shapes.{IsFirst, down_from, fits, shapes_with, has_member, first_with}
 
 both_first : (p q : Bool) → (p && q) ≡ true → p ≡ true
 both_first true q h = refl
@@ -26,6 +27,10 @@ fits_by_test frame shape h =
       within_moved_down = not_below frame.mdps shape.mdps (both_first (not (nat_lt frame.mdps shape.mdps)) _ others);
       residents_enough = not_below (length frame.scores - frame.mdps) (shape.mdps + 2 * remainder_pairs shape) (both_second (not (nat_lt frame.mdps shape.mdps)) _ others);
     }
+
+-- a shape of which there is a first arrangement has one
+pub first_there : (some : List Arrangement) (frame : Frame) (draw : Draw) → IsFirst some frame draw → has_member some ≡ true
+first_there some frame draw h = ap has_member h.first
 
 pub down_one : (n : ℕ) → 0 < n → down_from n ≡ n ∷ down_from (n - 1)
 down_one zero h = let bad : ⊥ = omega (arith, h) in absurd bad

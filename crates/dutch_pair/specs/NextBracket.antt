@@ -1,5 +1,5 @@
 -- What a candidate leaves for the next bracket (C.04.3 C.7), and its whole quality.
-use Rattle.std.specs.Prelude.{◌≡◌, ℕ, ◌+◌, ◌<◌, ◌≤◌, Bool, if◌then◌else◌, List, [], ◌∷◌, ◌++◌, map, filter, length, slice_index, Option, Some, None, option_map}
+use Rattle.std.specs.Prelude.{◌≡◌, ℕ, ◌+◌, ◌<◌, ◌≤◌, Bool, if◌then◌else◌, List, [], ◌∷◌, ◌++◌, map, length, slice_index, Option, Some, None}
 use Rattle.std.specs.List.Sorted.{IsStrictlyIncreasing}
 use Rattle.std.specs.Ordering.{nat_cmp, is_lt}
 use Rattle.std.specs.Cmp.Lexicographic.{slice_cmp}
@@ -11,7 +11,7 @@ use Rattle.dutch_player.specs.Facts.{Facts}
 use Rattle.dutch_pair.specs.declared.reached.Kind.TheVariants.{Ordinary}
 use Rattle.dutch_pair.specs.Seated.{seat_of, score_at, by_seats, AreSeats, AllNumbers}
 use Rattle.dutch_pair.specs.Reached.{Stand, frame_of, numbers_meet, number_may_be_left}
-use Rattle.dutch_pair.specs.Shapes.{fits, first_with, greatest_shape}
+use Rattle.dutch_pair.specs.Shapes.{greatest_shape}
 use Rattle.dutch_pair.specs.Quality.{Quality, NextValue, psd, quality_with}
 
 -- a list of numbers before another: at the first difference its number is lower, or it has ended
@@ -68,14 +68,6 @@ quality facts seats ordinary next draw =
 pub record IsFlat (facts : Facts) (stand : Stand) : Type 0 where
   pub resident : stand.mdps < length stand.seats
   pub same : (i : ℕ) → stand.mdps < i → i ≤ length stand.seats → score_at facts (seat_of stand.seats i) ≡ score_at facts (seat_of stand.seats (stand.mdps + 1))
-
--- the first of some shapes that has an arrangement
-abbrev pub first_among : Facts → Stand → List Shape → Option Shape
-first_among facts stand shapes = first_with (legal_in facts stand) (filter (fits (frame_of facts stand)) shapes)
-
--- what the bracket can be with the first of some shapes that has an arrangement
-abbrev pub value_among : Facts → Stand → List Shape → Option NextValue
-value_among facts stand shapes = option_map (λ shape. value_of_shape facts stand (Some shape)) (first_among facts stand shapes)
 
 -- an arrangement of a bracket, with those whom it leaves over
 pub record IsDraw (facts : Facts) (stand : Stand) (draw : Draw) : Type 0 where

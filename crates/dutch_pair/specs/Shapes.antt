@@ -1,7 +1,8 @@
 -- The shape of a bracket (C.04.3 C.5, B.1): as many pairs as there is an arrangement for, and in them as many moved-down players.
 use Rattle.std.specs.Prelude.{ℕ, zero, suc, ◌+◌, ◌-◌, ◌*◌, ◌/◌, ◌≡◌, ◌<◌, ◌⊎◌, Bool, true, false, not, ◌&&◌, nat_lt, if◌then◌else◌, List, [], ◌∷◌, map, filter, flat_map, length, Option, Some, None}
 use Rattle.dutch_order.specs.declared.bracket.Shape.{Shape}
-use Rattle.dutch_order.specs.Arrangements.{Frame, Arrangement, remainder_pairs}
+use Rattle.dutch_order.specs.Arrangements.{Frame, Arrangement, down, remainder_pairs}
+use Rattle.dutch_order.specs.Draws.{Draw}
 
 -- the numbers from one down to 0
 abbrev pub down_from : ℕ → List ℕ
@@ -30,6 +31,12 @@ shapes frame = filter (fits frame) (flat_map shapes_with (down_from (length fram
 abbrev pub has_member : List Arrangement → Bool
 has_member [] = false
 has_member (a ∷ rest) = true
+
+-- an arrangement, with those whom it leaves over, is the first of some of a bracket
+pub record IsFirst (some : List Arrangement) (frame : Frame) (draw : Draw) : Type 0 where
+  pub others : List Arrangement
+  pub first : some ≡ draw.lists ∷ others
+  pub down : draw.down ≡ down frame draw.lists
 
 -- the first shape for which some arrangement is there
 abbrev pub first_with : (Shape → List Arrangement) → List Shape → Option Shape

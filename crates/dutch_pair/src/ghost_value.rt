@@ -166,9 +166,10 @@ pub(crate) fn ghost_value(
     match greatest_shape(&bracket, &rule, budget) {
         Step::Found(most) => {
             let least = field.score(next[0]);
+            let pairs = most.shape.pairs;
             Some(NextValue {
-                pairs: most.pairs,
-                psd: floor_held(&scores, least, next.len(), most.pairs),
+                pairs,
+                psd: floor_held(&scores, least, next.len(), pairs),
             })
         }
         Step::End => Some(NextValue::none()),

@@ -1,16 +1,22 @@
 // The greatest shape of a bracket by any rule (C.04.3 C.5, B.1): the most pairs that some arrangement has, and then the most
-// moved-down players in them.
+// moved-down players in them; and the first of its arrangements, which is found with it.
 ghost use Rattle.std.specs.Prelude.{◌≡◌, ◌≤◌, ◌&&◌, Some, None, true, false, length, filter};
 ghost use Rattle.dutch_order.specs.Arrangements.{Fits, candidates};
 ghost use Rattle.dutch_order.specs.Steps.{MatchStep};
-ghost use Rattle.dutch_pair.specs.Completion.{Tells};
-ghost use Rattle.dutch_pair.specs.Shapes.{fits, shapes_with, has_member, first_with, greatest_shape};
+ghost use Rattle.dutch_pair.specs.Shapes.{IsFirst, fits, shapes_with, has_member, first_with, greatest_shape};
 
-use crate::completion::Answer;
 use dutch_order::bracket::{Bracket, Shape};
+use dutch_order::candidate::Candidate;
 use dutch_order::candidates::Candidates;
 use dutch_order::rules::Rule;
 use dutch_order::steps::{Budget, Step};
+
+/// A shape, and the first of the legal arrangements that it has.
+#[derive(Debug, Drop)]
+pub(crate) struct Found {
+    pub(crate) shape: Shape,
+    pub(crate) first: Candidate,
+}
 
 /// Whether a bracket has room for a shape.
 fn has_room(bracket: &Bracket, shape: Shape) -> bool
@@ -24,37 +30,49 @@ fn has_room(bracket: &Bracket, shape: Shape) -> bool
     shape.mdps + 2 * (shape.pairs - shape.mdps) <= residents
 }
 
-/// Whether a shape that a bracket has room for has a legal arrangement.
-fn has_legal<R: Rule>(bracket: &Bracket, rule: &R, shape: Shape, budget: &mut Budget) -> Answer
+/// The first legal arrangement of a shape that a bracket has room for.
+fn first_legal<R: Rule>(
+    bracket: &Bracket,
+    rule: &R,
+    shape: Shape,
+    budget: &mut Budget,
+) -> Step<Candidate>
     requires fits { Fits bracket.now shape }
     requires within { budget.old.used ≤ budget.old.limit }
-    ensures answer { Tells result (has_member (candidates (R.meets rule.now) (R.may_be_left rule.now) bracket.now shape)) (budget.new.used ≡ budget.new.limit) }
+    ensures answer { MatchStep result (IsFirst (candidates (R.meets rule.now) (R.may_be_left rule.now) bracket.now shape) bracket.now)
+        (has_member (candidates (R.meets rule.now) (R.may_be_left rule.now) bracket.now shape) ≡ false)
+        (budget.new.used ≡ budget.new.limit) }
     ensures limit { budget.new.limit ≡ budget.old.limit }
     ensures rises { budget.old.used ≤ budget.new.used }
     ensures within { budget.new.used ≤ budget.new.limit }
 {
     let mut candidates = Candidates::new(bracket, shape, rule);
-    match candidates.next(budget) {
-        Step::Found(_) => Answer::Yes,
-        Step::End => Answer::No,
-        Step::Undecided => Answer::Undecided,
-    }
+    candidates.next(budget)
 }
 
-/// Whether a bracket has room for a shape, and a legal arrangement of it.
-#[tactic(auto, using(crate::proofs::ShapeSearch::fits_by_test))]
-fn has_shape<R: Rule>(bracket: &Bracket, rule: &R, shape: Shape, budget: &mut Budget) -> Answer
+/// The first legal arrangement of a shape, if a bracket has room for that.
+#[tactic(auto, using(crate::proofs::ShapeSearch::fits_by_test, crate::proofs::ShapeSearch::first_there))]
+fn first_of<R: Rule>(
+    bracket: &Bracket,
+    rule: &R,
+    shape: Shape,
+    budget: &mut Budget,
+) -> Step<Candidate>
     requires small { shape.pairs ≤ length bracket.now.scores }
     requires within { budget.old.used ≤ budget.old.limit }
-    ensures answer { Tells result (fits bracket.now shape && has_member (candidates (R.meets rule.now) (R.may_be_left rule.now) bracket.now shape)) (budget.new.used ≡ budget.new.limit) }
+    ensures answer { MatchStep result
+        (λ c. IsFirst (candidates (R.meets rule.now) (R.may_be_left rule.now) bracket.now shape) bracket.now c
+        × ((fits bracket.now shape && has_member (candidates (R.meets rule.now) (R.may_be_left rule.now) bracket.now shape)) ≡ true))
+        ((fits bracket.now shape && has_member (candidates (R.meets rule.now) (R.may_be_left rule.now) bracket.now shape)) ≡ false)
+        (budget.new.used ≡ budget.new.limit) }
     ensures limit { budget.new.limit ≡ budget.old.limit }
     ensures rises { budget.old.used ≤ budget.new.used }
     ensures within { budget.new.used ≤ budget.new.limit }
 {
     if !has_room(bracket, shape) {
-        return Answer::No;
+        return Step::End;
     }
-    has_legal(bracket, rule, shape, budget)
+    first_legal(bracket, rule, shape, budget)
 }
 
 /// Of the shapes with a number of pairs the one with the most moved-down players that has a legal arrangement.
@@ -64,11 +82,12 @@ fn shape_with<R: Rule>(
     rule: &R,
     pairs: usize,
     budget: &mut Budget,
-) -> Step<Shape>
+) -> Step<Found>
     requires small { pairs ≤ length bracket.now.scores }
     requires within { budget.old.used ≤ budget.old.limit }
     ensures answer { MatchStep result
-        (λ shape. first_with (candidates (R.meets rule.now) (R.may_be_left rule.now) bracket.now) (filter (fits bracket.now) (shapes_with pairs)) ≡ Some shape)
+        (λ found. (first_with (candidates (R.meets rule.now) (R.may_be_left rule.now) bracket.now) (filter (fits bracket.now) (shapes_with pairs)) ≡ Some found.shape)
+        × IsFirst (candidates (R.meets rule.now) (R.may_be_left rule.now) bracket.now found.shape) bracket.now found.first)
         (first_with (candidates (R.meets rule.now) (R.may_be_left rule.now) bracket.now) (filter (fits bracket.now) (shapes_with pairs)) ≡ None)
         (budget.new.used ≡ budget.new.limit) }
     ensures limit { budget.new.limit ≡ budget.old.limit }
@@ -78,10 +97,10 @@ fn shape_with<R: Rule>(
     let mut mdps = pairs;
     loop {
         let shape = Shape { pairs, mdps };
-        match has_shape(bracket, rule, shape, budget) {
-            Answer::Yes => return Step::Found(shape),
-            Answer::No => {}
-            Answer::Undecided => return Step::Undecided,
+        match first_of(bracket, rule, shape, budget) {
+            Step::Found(first) => return Step::Found(Found { shape, first }),
+            Step::End => {}
+            Step::Undecided => return Step::Undecided,
         }
         if mdps == 0 {
             return Step::End;
@@ -90,15 +109,16 @@ fn shape_with<R: Rule>(
     }
 }
 
-/// The greatest shape of a bracket that has a legal arrangement; `End` is answered where none has one.
+/// The greatest shape of a bracket that has a legal arrangement, with the first of these; `End` is answered where none has one.
 pub(crate) fn greatest_shape<R: Rule>(
     bracket: &Bracket,
     rule: &R,
     budget: &mut Budget,
-) -> Step<Shape>
+) -> Step<Found>
     requires within { budget.old.used ≤ budget.old.limit }
     ensures answer { MatchStep result
-        (λ shape. greatest_shape (candidates (R.meets rule.now) (R.may_be_left rule.now) bracket.now) bracket.now ≡ Some shape)
+        (λ found. (greatest_shape (candidates (R.meets rule.now) (R.may_be_left rule.now) bracket.now) bracket.now ≡ Some found.shape)
+        × IsFirst (candidates (R.meets rule.now) (R.may_be_left rule.now) bracket.now found.shape) bracket.now found.first)
         (greatest_shape (candidates (R.meets rule.now) (R.may_be_left rule.now) bracket.now) bracket.now ≡ None)
         (budget.new.used ≡ budget.new.limit) }
     ensures limit { budget.new.limit ≡ budget.old.limit }
@@ -108,7 +128,7 @@ pub(crate) fn greatest_shape<R: Rule>(
     let mut pairs = bracket.len() / 2;
     loop {
         match shape_with(bracket, rule, pairs, budget) {
-            Step::Found(shape) => return Step::Found(shape),
+            Step::Found(found) => return Step::Found(found),
             Step::End => {}
             Step::Undecided => return Step::Undecided,
         }

@@ -16,7 +16,7 @@ use dutch_order::steps::{Budget, Step};
 use dutch_player::field::Field;
 
 /// Whether a bracket of a field has room for a shape.
-pub(crate) fn has_room(field: &Field, reached: &Reached, shape: Shape) -> bool
+fn has_room(field: &Field, reached: &Reached, shape: Shape) -> bool
     requires of { IsOf field.now reached.now }
     requires small { shape.pairs ≤ length reached.now.seats }
     ensures { result ≡ fits (frame_of field.now reached.now) shape }

@@ -22,5 +22,5 @@ floor_held-requires-clause-small c =
     let few = (ghosts_are_a_bracket facts stand c.requires.of c.requires.flat c.args.next.now c.requires.next c.args.shape).few in
     let frame : c.ghost_bracket-bracket.result ≡ ghost_frame facts (first_ghosts facts stand c.args.shape) c.args.next.now =
     c.ghost_bracket-bracket.ensures ∙ ap (λ (ghosts : List ℕ). ghost_frame facts ghosts c.args.next.now) (c.deref.ensures.0 ∙ c.ghost_scores-scores.ensures.items) in
-    let upto = found_few _ c.ghost_bracket-bracket.result c.in-Found.most c.in-Found.ensures.answer in
+    let upto = found_few _ c.ghost_bracket-bracket.result c.in-Found.most.shape c.in-Found.ensures.answer.0 in
     omega (arith, few, ap (λ (f : Frame). length f.scores) frame, upto)

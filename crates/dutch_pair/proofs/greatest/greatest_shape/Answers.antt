@@ -18,16 +18,18 @@ passed : (legal : Shape → List Arrangement) (frame : Frame) (pairs : ℕ) (o :
 passed legal frame pairs o more e h = e ∙ pairs_passed legal (fits frame) pairs more h
 
 pub returns-in-Found-clause-answer : goal.returns-in-Found-clause-answer
-returns-in-Found-clause-answer g c =
-    found (candidates (g.R.Rule.meets c.args.rule.now) (g.R.Rule.may_be_left c.args.rule.now) c.args.bracket.now) c.args.bracket.now c.loop-shape.pairs c.in-Found.shape _
-    c.loop-shape.invariant.found c.in-Found.ensures.answer
+returns-in-Found-clause-answer g c = (
+  found (candidates (g.R.Rule.meets c.args.rule.now) (g.R.Rule.may_be_left c.args.rule.now) c.args.bracket.now) c.args.bracket.now c.loop-found.pairs c.in-Found.found.shape _
+      c.loop-found.invariant.found c.in-Found.ensures.answer.0,
+  c.in-Found.ensures.answer.1,
+)
 
-pub loop-shape-preserved : goal.loop-shape-preserved
-loop-shape-preserved g c = record {
-  found = passed (candidates (g.R.Rule.meets c.args.rule.now) (g.R.Rule.may_be_left c.args.rule.now) c.args.bracket.now) c.args.bracket.now c.loop-shape.pairs _
-      (omega (arith, c.if-pairs-eq0.false)) c.loop-shape.invariant.found c.in-End.ensures.answer;
-  few = omega (arith, c.loop-shape.invariant.few);
-  limit = c.in-End.ensures.limit ∙ c.loop-shape.invariant.limit;
-  rises = omega (arith, c.in-End.ensures.rises, c.loop-shape.invariant.rises);
+pub loop-found-preserved : goal.loop-found-preserved
+loop-found-preserved g c = record {
+  found = passed (candidates (g.R.Rule.meets c.args.rule.now) (g.R.Rule.may_be_left c.args.rule.now) c.args.bracket.now) c.args.bracket.now c.loop-found.pairs _
+      (omega (arith, c.if-pairs-eq0.false)) c.loop-found.invariant.found c.in-End.ensures.answer;
+  few = omega (arith, c.loop-found.invariant.few);
+  limit = c.in-End.ensures.limit ∙ c.loop-found.invariant.limit;
+  rises = omega (arith, c.in-End.ensures.rises, c.loop-found.invariant.rises);
   within = c.in-End.ensures.within;
 }

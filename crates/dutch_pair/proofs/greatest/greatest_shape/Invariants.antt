@@ -5,11 +5,11 @@ use Rattle.dutch_order.specs.Arrangements.{candidates}
 use Rattle.dutch_pair.specs.Shapes.{down_from, fits, shapes_with, first_with, greatest_shape}
 use Rattle.dutch_pair.proofs.greatest.greatest_shape.Given as goal
 
-abbrev pub decreases-loop-shape : goal.decreases-loop-shape
-decreases-loop-shape g l = l.pairs
+abbrev pub decreases-loop-found : goal.decreases-loop-found
+decreases-loop-found g l = l.pairs
 
-abbrev pub invariant-loop-shape : goal.invariant-loop-shape
-invariant-loop-shape g l =
+abbrev pub invariant-loop-found : goal.invariant-loop-found
+invariant-loop-found g l =
     let legal = candidates (g.R.Rule.meets l.rule) (g.R.Rule.may_be_left l.rule) l.bracket in
     record {
       found : greatest_shape legal l.bracket ≡ first_with legal (filter (fits l.bracket) (flat_map shapes_with (down_from l.pairs)));
