@@ -30,7 +30,7 @@ use Rattle.dutch_pair.proofs.C08ToC19Fixed.{more_copies}
 use Rattle.dutch_pair.proofs.Copies.{copies, copies_append}
 use Rattle.dutch_pair.proofs.FlatBrackets.{one_score_of, seats_fall}
 use Rattle.dutch_pair.proofs.PairsWithBeginning.{no_less}
-use Rattle.dutch_pair.proofs.PsdParts.{repeated as so_often, psd_copies}
+use Rattle.dutch_pair.proofs.PsdParts.{psd_copies}
 
 pub psd_of_beginning : (facts : Facts) (stand : Stand) (lower : List ℕ) (b a : Arrangement) → HasPairsOf b a
     → is_lower (quality_of facts stand lower a).psd (highest_first (map (difference facts) (all_pairs stand.seats b))) ≡ false
@@ -53,10 +53,6 @@ same_copies : (xs ys : List ℕ) → ((d : ℕ) → copies d xs ≡ copies d ys)
 same_copies xs ys same =
     neither_lower (highest_first xs) (highest_first ys) _ refl
     (more_copies ys xs (λ d. omega (arith, same d))) (more_copies xs ys (λ d. omega (arith, same d)))
-
-one_word : (x n : ℕ) → so_often x n ≡ repeated x n
-one_word x zero = refl
-one_word x (suc n) = ap (λ xs. x ∷ xs) (one_word x n)
 
 -- where all residents have one score, the PSD is known by S1
 pub psd_by_first : (facts : Facts) (stand : Stand) (lower : List ℕ) (shape : Shape) (a : Arrangement) → IsOf facts stand → IsFlat facts stand
@@ -81,8 +77,6 @@ psd_by_first facts stand lower shape a of' flat member =
       copies_append d paired (limbo ++ (repeated 0 j ++ repeated 2 left)),
       copies_append d limbo (repeated 0 j ++ repeated 2 left),
       copies_append d (repeated 0 j) (repeated 2 left),
-      ap (copies d) (one_word 0 j),
-      ap (copies d) (one_word 2 left),
     ))
 
 none_of_nothing : (xs : List ℕ) → length xs ≡ 0 → xs ≡ []

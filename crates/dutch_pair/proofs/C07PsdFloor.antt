@@ -26,7 +26,6 @@ use Rattle.dutch_pair.proofs.AllLemmas.{all_filter}
 use Rattle.dutch_pair.proofs.Copies.{copies, copies_append, Lower, not_lower, highest_first_falls, highest_first_copies}
 use Rattle.dutch_pair.proofs.FlatBrackets.{one_score_of}
 use Rattle.dutch_pair.proofs.PsdParts.{OneScore, psd_copies, copies_shared}
-use Rattle.dutch_pair.proofs.PsdParts
 
 -- what is the same two further on is zero, if it is so far out
 vanish : (h : ℕ → ℕ) (bound start : ℕ) → ((e : ℕ) → bound ≤ e → h e ≡ 0) → ((e : ℕ) → start ≤ e → h e ≡ h (e + 2))
@@ -107,11 +106,6 @@ lower_than c h l t u j r evens twos bound whole more none tail nobody zs ts d ab
           omega (arith, z, w, whole d, gone)
     ]
 
--- the two definitions of a number so many times are the same
-same_repeated : (x n : ℕ) → PsdParts.repeated x n ≡ repeated x n
-same_repeated x zero = refl
-same_repeated x (suc n) = ap (λ xs. x ∷ xs) (same_repeated x n)
-
 lower_by : (f g f' g' : ℕ → ℕ) → ((d : ℕ) → f d ≡ f' d) → ((d : ℕ) → g d ≡ g' d) → Lower f' g' → Lower f g
 lower_by f g f' g' p q lower d above =
     let h : f' d ≤ g' d = lower d (λ e lt. sym (p e) ∙ above e lt ∙ q e) in
@@ -177,7 +171,5 @@ module _ (facts : Facts) (stand : Stand) (of' : IsOf facts stand) (flat : IsFlat
       (λ d. t d + (copies d (repeated 0 evens) + copies d (repeated 2 twos))) (λ d. c d + (l d + (copies d (repeated 0 j) + copies d (repeated 2 r))))
       (λ d. highest_first_copies d made ∙ copies_append d (map plain low) (repeated 0 evens ++ repeated 2 twos)
       ∙ ap (λ k. t d + k) (copies_append d (repeated 0 evens) (repeated 2 twos)))
-      (λ d. highest_first_copies d all ∙ psd_copies facts stand s shape.mdps j a d one parts counted r fits
-      ∙ ap (λ xs. c d + (l d + (copies d xs + copies d (PsdParts.repeated 2 r)))) (same_repeated 0 j)
-      ∙ ap (λ xs. c d + (l d + (copies d (repeated 0 j) + copies d xs))) (same_repeated 2 r))
+      (λ d. highest_first_copies d all ∙ psd_copies facts stand s shape.mdps j a d one parts counted r fits)
       lower)

@@ -25,7 +25,8 @@ use Rattle.dutch_pair.specs.Quality.{one_if}
 use Rattle.dutch_pair.specs.NextBracket.{is_lower, lowest_list_upto, lowest_list, legal_in, psd_in}
 use Rattle.dutch_pair.proofs.Copies.{copies, Falls, Lower, highest_first_falls, highest_first_copies, not_lower, lower_copies, more_first, same_first}
 use Rattle.dutch_pair.proofs.ArrangementParts.{Parts, parts_of}
-use Rattle.dutch_pair.proofs.PsdParts.{OneScore, psd_copies, copies_shared, repeated}
+use Rattle.dutch_pair.specs.PsdFloors.{repeated}
+use Rattle.dutch_pair.proofs.PsdParts.{OneScore, psd_copies, copies_shared}
 
 -- two counts that agree from a number on agree wherever the sums that they make agree above d
 same_above : (ha hb ca cb la lb t k : ℕ → ℕ) (bound d : ℕ)

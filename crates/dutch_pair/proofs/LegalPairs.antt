@@ -16,7 +16,7 @@ use Rattle.dutch_pair.proofs.AllLemmas.{all_join}
 use Rattle.dutch_pair.proofs.FixedPairs.{Beside, others_of}
 use Rattle.dutch_pair.proofs.LeastPsd.{in_filter}
 
-in_passes : {X : Type 0} (p : X → Bool) (x : X) (xs : List X) → IsIn x (filter p xs) → p x ≡ true
+pub in_passes : {X : Type 0} (p : X → Bool) (x : X) (xs : List X) → IsIn x (filter p xs) → p x ≡ true
 in_passes p x [] m = absurd m
 in_passes p x (y ∷ ys) m = elim (cases_Bool (p y)) [
   | inl passes ↦ elim (subst (λ b. IsIn x (cond b (y ∷ filter p ys) (filter p ys))) passes m) [ inl same ↦ ap p same ∙ passes | inr later ↦ in_passes p x ys later ]

@@ -16,16 +16,10 @@ use Rattle.dutch_pair.specs.Reached.{Stand, ends_round, frame_of, numbers_meet, 
 use Rattle.dutch_pair.specs.Round.{Round, Pairing, Chosen, bracket, candidates_of, choice, choice_in, completable, downfloaters, eligible, everybody, can_be_chosen, quality_of, scoregroups, shape_of, pairing_in, passing, no_pairing, final_chosen, final_bracket, penultimate_chosen, penultimate_bracket, paired_again, ordinary_chosen, brackets, round}
 use Rattle.dutch_pair.specs.Seated.{all_pairs, seat_of}
 use Rattle.dutch_pair.proofs.LeastPsd.{in_filter}
+use Rattle.dutch_pair.proofs.LegalPairs.{in_passes}
 use Rattle.dutch_pair.proofs.WalkEnds.{in_unbeaten}
 
 -- ---- what is chosen is legal
-
-in_passes : {X : Type 0} (p : X → Bool) (x : X) (xs : List X) → IsIn x (filter p xs) → p x ≡ true
-in_passes p x [] m = absurd m
-in_passes p x (y ∷ ys) m = elim (cases_Bool (p y)) [
-  | inl passes ↦ elim (subst (λ b. IsIn x (cond b (y ∷ filter p ys) (filter p ys))) passes m) [ inl same ↦ ap p same ∙ passes | inr later ↦ in_passes p x ys later ]
-  | inr fails ↦ in_passes p x ys (subst (λ b. IsIn x (cond b (y ∷ filter p ys) (filter p ys))) fails m)
-]
 
 leaves_few : (may_be_left : ℕ → Bool) (xs : List ℕ) → leaves_one may_be_left xs ≡ true → length xs ≤ 1
 leaves_few may_be_left [] e = omega arith

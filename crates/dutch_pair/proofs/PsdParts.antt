@@ -16,13 +16,9 @@ use Rattle.dutch_player.specs.Facts.{Facts}
 use Rattle.dutch_pair.specs.Seated.{seat_of, score_at, pairs_of, all_pairs, lowest, difference, difference_down}
 use Rattle.dutch_pair.specs.Reached.{Stand, frame_of}
 use Rattle.dutch_pair.specs.Quality.{one_if}
+use Rattle.dutch_pair.specs.PsdFloors.{repeated}
 use Rattle.dutch_pair.proofs.Copies.{copies, copies_append}
 use Rattle.dutch_pair.proofs.ArrangementParts.{Parts, Residents, not_member, numbers_within}
-
--- a number so many times
-abbrev pub repeated : ℕ → ℕ → List ℕ
-repeated x zero = []
-repeated x (suc n) = x ∷ repeated x n
 
 -- what a test finds and what it leaves are the whole list
 pub copies_shared : (d : ℕ) (f : ℕ → ℕ) (p : ℕ → Bool) (xs : List ℕ)

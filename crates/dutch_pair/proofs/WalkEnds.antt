@@ -20,7 +20,9 @@ use Rattle.dutch_pair.specs.Quality.{is_better}
 use Rattle.dutch_pair.specs.Walk.{AreAbove, Goes}
 use Rattle.dutch_pair.specs.Round.{Round, Visit, Pairing, Chosen, bracket, can_be_chosen, completable, downfloaters, candidates_of, eligible, quality_of, choice_in, choice, shape_of, no_pairing, passing, pairing_in, ending, final_chosen, final_bracket, penultimate_chosen, paired_again, penultimate_bracket, ordinary_chosen, ordinary_bracket}
 use Rattle.dutch_pair.specs.Outcomes.{visit_at}
-use Rattle.dutch_pair.specs.Ends.{Ends, IsPaired, IsAhead, LeftGoOn, Misses, in_front, is_asked}
+use Rattle.dutch_pair.specs.Context.{Context}
+use Rattle.dutch_pair.specs.Ends.{Ends, IsPaired, IsAhead, LeftGoOn, Misses, Settles, in_front, is_asked}
+use Rattle.dutch_pair.specs.declared.walk.Settled.{Settled}
 use Rattle.dutch_pair.proofs.LeastPsd.{in_filter}
 use Rattle.dutch_pair.proofs.FirstLemmas.{choice_of_shape}
 use Rattle.dutch_pair.proofs.FlatBrackets.{candidate_of}
@@ -35,6 +37,12 @@ in_unbeaten_at : (better : Arrangement → Arrangement → Bool) (all : List Arr
     → (first_unbeaten better all rest ≡ Some a → IsIn a rest) → cond t (Some c) (first_unbeaten better all rest) ≡ Some a → IsIn a (c ∷ rest)
 in_unbeaten_at better all c a rest true later e = let same : c ≡ a = cc in inl (sym same)
 in_unbeaten_at better all c a rest false later e = inr (later e)
+
+-- what is settled in a context is settled in the bracket that it was made of
+pub settled : (asked : Option ℕ) (stopped : Type 0) {k bracket : Context} {s t : Settled} → k ≡ bracket → s ≡ t
+    → Settles k.facts k.stand k.lower asked stopped s → Settles bracket.facts bracket.stand bracket.lower asked stopped t
+settled asked stopped {bracket = bracket} {s = s} same is h =
+    subst (λ r. Settles bracket.facts bracket.stand bracket.lower asked stopped r) is (subst (λ (k : Context). Settles k.facts k.stand k.lower asked stopped s) same h)
 
 pub in_unbeaten : (better : Arrangement → Arrangement → Bool) (all ys : List Arrangement) (a : Arrangement) → first_unbeaten better all ys ≡ Some a → IsIn a ys
 in_unbeaten better all [] a e = let bad : None ≡ Some a = e in cc

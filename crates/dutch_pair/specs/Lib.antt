@@ -7,6 +7,7 @@ pub mod NextBracket
 pub mod Completion
 pub mod Seats
 pub mod Reached
+pub mod Context
 pub mod Choice
 pub mod Round
 pub mod Lower

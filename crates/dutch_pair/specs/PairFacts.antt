@@ -1,20 +1,11 @@
 -- What floors ask about the players of a bracket, and about pairs of its numbers.
 use Rattle.std.specs.Prelude.{◌≡◌, ℕ, ◌+◌, ◌-◌, ◌*◌, ◌/◌, ◌%◌, ◌<◌, ◌≤◌, Bool, false, ◌&&◌, nat_lt, List, map, Option, Some}
 use Rattle.dutch_player.specs.declared.preference.Pref.{Pref}
-use Rattle.dutch_player.specs.Preferences.{is_same, preference}
+use Rattle.dutch_player.specs.Preferences.{is_same}
 use Rattle.dutch_player.specs.Facts.{Facts}
-use Rattle.dutch_pair.specs.Reached.{Stand}
+use Rattle.dutch_pair.specs.Context.{Context}
 use Rattle.dutch_pair.specs.ColourFloors.{suits}
 use Rattle.dutch_pair.specs.BitTables.{has_bit}
-
--- a field, and a bracket of it
-pub record FieldBracket : Type 0 where
-  pub facts : Facts
-  pub stand : Stand
-
--- A.6: the colour preferences of a field, by seat
-abbrev pub preferences_of : Facts → List (Option Pref)
-preferences_of facts = map (λ seat. preference seat.played) facts.seats
 
 -- two preferences are for one colour, so that one of the two misses his
 abbrev pub collide : Option Pref → Option Pref → Bool
@@ -26,11 +17,11 @@ abbrev pub place_of : ℕ → ℕ → ℕ
 place_of x y = (x - 1) * 256 + (y - 1)
 
 -- a table has a bit where two numbers suit
-abbrev pub KnowsPairs : FieldBracket → List ℕ → Type 0
+abbrev pub KnowsPairs : Context → List ℕ → Type 0
 KnowsPairs known table =
     (x y : ℕ) → (0 < x) × (x ≤ 256) → (0 < y) × (y ≤ 256) → has_bit table (place_of x y) ≡ suits known.facts known.stand x y
 
 -- the bits in front of a place tell who suit each other, and those from it on are not set
-abbrev pub NotedUpto : FieldBracket → List ℕ → ℕ → Type 0
+abbrev pub NotedUpto : Context → List ℕ → ℕ → Type 0
 NotedUpto known table end =
     (place : ℕ) → has_bit table place ≡ (nat_lt place end && suits known.facts known.stand (place / 256 + 1) (place % 256 + 1))

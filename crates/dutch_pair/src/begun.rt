@@ -6,9 +6,9 @@ ghost use Rattle.dutch_pair.specs.Seated.{AllPairs, HasSeats, all_pairs};
 ghost use Rattle.dutch_pair.specs.Beginnings.{fixed};
 ghost use Rattle.dutch_pair.specs.FloorOf.{HasNumbers, fixed_lists, are_numbers, is_of_shape};
 
-use crate::player_facts::PlayerFacts;
+use crate::context::Context;
 use crate::reached::Reached;
-use crate::seated::{Pair, Seated, lowest, push_pairs};
+use crate::seated::{Pair, Seated, push_pairs};
 use arrayvec::ArrayVec;
 use dutch_order::bracket::Shape;
 use dutch_order::numbers::{LIMIT, Numbers};
@@ -92,13 +92,13 @@ pub(crate) fn is_of_shape(reached: &Reached, shape: Shape, begun: &Begun<'_>) ->
 
 /// The pairs that lists make, by seats.
 #[tactic(auto, using(crate::proofs::BegunLemmas::front_pairs, crate::proofs::BegunLemmas::front_numbers, crate::proofs::BegunLemmas::fixed_within))]
-pub(crate) fn fixed_pairs(players: &PlayerFacts<'_>, begun: &Begun<'_>) -> ArrayVec<Pair, LIMIT>
-    requires { HasNumbers players.now.stand begun.now }
-    ensures items { result.items ≡ all_pairs players.now.stand.seats begun.now }
-    ensures inside { AllPairs players.now.facts result.items }
+pub(crate) fn fixed_pairs(context: &Context<'_>, begun: &Begun<'_>) -> ArrayVec<Pair, LIMIT>
+    requires { HasNumbers context.now.stand begun.now }
+    ensures items { result.items ≡ all_pairs context.now.stand.seats begun.now }
+    ensures inside { AllPairs context.now.facts result.items }
     ensures few { length result.items ≤ LIMIT }
 {
-    let seats = players.reached().seats();
+    let seats = context.reached().seats();
     let mut pairs = ArrayVec::new();
     push_pairs(seats, &begun.s1[..begun.s2.len()], begun.s2, &mut pairs);
     push_pairs(seats, &begun.s1r[..begun.s2r.len()], begun.s2r, &mut pairs);
@@ -106,14 +106,14 @@ pub(crate) fn fixed_pairs(players: &PlayerFacts<'_>, begun: &Begun<'_>) -> Array
 }
 
 /// Lists by seats: their pairs, and nobody who goes down.
-pub(crate) fn fixed(players: &PlayerFacts<'_>, begun: &Begun<'_>) -> Seated
-    requires { HasNumbers players.now.stand begun.now }
-    ensures value { result ≡ fixed players.now.facts players.now.stand begun.now }
-    ensures inside { HasSeats players.now.facts result }
+pub(crate) fn fixed(context: &Context<'_>, begun: &Begun<'_>) -> Seated
+    requires { HasNumbers context.now.stand begun.now }
+    ensures value { result ≡ fixed context.now.facts context.now.stand begun.now }
+    ensures inside { HasSeats context.now.facts result }
 {
     Seated {
-        pairs: fixed_pairs(players, begun),
+        pairs: fixed_pairs(context, begun),
         down: Numbers::new(),
-        lowest: lowest(players.field(), players.reached().seats()),
+        lowest: context.lowest(),
     }
 }

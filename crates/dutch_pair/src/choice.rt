@@ -2,7 +2,7 @@
 ghost use Rattle.std.specs.Prelude.{◌≡◌, ◌≤◌, ◌∷◌, true, false, Some, None, List, IfOk};
 ghost use Rattle.std.specs.Option.{MatchOption};
 ghost use Rattle.dutch_order.specs.Arrangements.{Arrangement, Fits, down};
-ghost use Rattle.dutch_order.specs.Steps.{MatchStep};
+ghost use Rattle.dutch_order.specs.Steps.{MatchStep, Spends};
 ghost use Rattle.dutch_pair.specs.Reached.{IsAbove, frame_of};
 ghost use Rattle.dutch_pair.specs.NextBracket.{IsDraw};
 ghost use Rattle.dutch_pair.specs.QualityIn.{quality_in};
@@ -14,6 +14,7 @@ ghost use Rattle.dutch_pair.specs.Outcomes.{IsChoice};
 ghost use Rattle.dutch_pair.specs.Remembered.{LooksBelow};
 
 use crate::completion::Answer;
+use crate::context::Context;
 use crate::eligible::can_be_chosen;
 use crate::fault::PairFault;
 use crate::floor::Floors;
@@ -71,34 +72,25 @@ fn consider(
     look: &mut Option<LookAhead<'_>>,
     budget: &mut Budget,
 ) -> bool
-    requires candidate { IsDraw pass.now.field.now pass.now.reached.now candidate }
-    requires kept { IsKept pass.now.field.now pass.now.reached.now pass.now.lower.now kept.old }
-    requires look { LooksBelow pass.now.field.now pass.now.reached.now pass.now.lower.now look.old }
+    requires candidate { IsDraw pass.now.context.now.facts pass.now.context.now.stand candidate }
+    requires kept { IsKept pass.now.context.now.facts pass.now.context.now.stand pass.now.context.now.lower kept.old }
+    requires look { LooksBelow pass.now.context.now.facts pass.now.context.now.stand pass.now.context.now.lower look.old }
     requires within { budget.old.used ≤ budget.old.limit }
     ensures same { result ≡ true → (coming : List Arrangement)
-        → chosen_yet pass.now.field.now pass.now.reached.now pass.now.lower.now (aim_in pass.now.aim) kept.new coming
-        ≡ chosen_yet pass.now.field.now pass.now.reached.now pass.now.lower.now (aim_in pass.now.aim) kept.old (candidate.lists ∷ coming) }
+        → chosen_yet pass.now.context.now.facts pass.now.context.now.stand pass.now.context.now.lower (aim_in pass.now.aim) kept.new coming
+        ≡ chosen_yet pass.now.context.now.facts pass.now.context.now.stand pass.now.context.now.lower (aim_in pass.now.aim) kept.old (candidate.lists ∷ coming) }
     ensures stopped { result ≡ false → budget.new.used ≡ budget.new.limit }
-    ensures kept { IsKept pass.now.field.now pass.now.reached.now pass.now.lower.now kept.new }
-    ensures look { LooksBelow pass.now.field.now pass.now.reached.now pass.now.lower.now look.new }
-    ensures limit { budget.new.limit ≡ budget.old.limit }
-    ensures rises { budget.old.used ≤ budget.new.used }
-    ensures within { budget.new.used ≤ budget.new.limit }
+    ensures kept { IsKept pass.now.context.now.facts pass.now.context.now.stand pass.now.context.now.lower kept.new }
+    ensures look { LooksBelow pass.now.context.now.facts pass.now.context.now.stand pass.now.context.now.lower look.new }
+    ensures spends { Spends budget.old budget.new }
 {
-    let Some(quality) = remembered_quality(
-        pass.field,
-        pass.reached,
-        pass.lower,
-        &candidate,
-        look,
-        budget,
-    ) else {
+    let Some(quality) = remembered_quality(pass.context, &candidate, look, budget) else {
         return false;
     };
     if is_idle(&quality, &pass.aim, kept) {
         return true;
     }
-    match can_be_chosen(pass.field, pass.reached, pass.lower, &candidate, budget) {
+    match can_be_chosen(pass.context, &candidate, budget) {
         Answer::Yes => {
             *kept = Some(Best { candidate, quality });
             true
@@ -125,21 +117,19 @@ fn best_near<'a>(
     look: &mut Option<LookAhead<'_>>,
     budget: &mut Budget,
 ) -> Step<Candidate>
-    requires look { LooksBelow pass.now.field.now pass.now.reached.now pass.now.lower.now look.old }
+    requires look { LooksBelow pass.now.context.now.facts pass.now.context.now.stand pass.now.context.now.lower look.old }
     requires within { budget.old.used ≤ budget.old.limit }
     ensures answer { MatchStep result
-        (λ c. (chosen_near pass.now.field.now pass.now.reached.now pass.now.lower.now (aim_in pass.now.aim) pass.now.shape ≡ Some c.lists)
-        × (c.down ≡ down (frame_of pass.now.field.now pass.now.reached.now) c.lists))
-        (chosen_near pass.now.field.now pass.now.reached.now pass.now.lower.now (aim_in pass.now.aim) pass.now.shape ≡ None)
+        (λ c. (chosen_near pass.now.context.now.facts pass.now.context.now.stand pass.now.context.now.lower (aim_in pass.now.aim) pass.now.shape ≡ Some c.lists)
+        × (c.down ≡ down (frame_of pass.now.context.now.facts pass.now.context.now.stand) c.lists))
+        (chosen_near pass.now.context.now.facts pass.now.context.now.stand pass.now.context.now.lower (aim_in pass.now.aim) pass.now.shape ≡ None)
         (budget.new.used ≡ budget.new.limit) }
-    ensures look { LooksBelow pass.now.field.now pass.now.reached.now pass.now.lower.now look.new }
-    ensures limit { budget.new.limit ≡ budget.old.limit }
-    ensures rises { budget.old.used ≤ budget.new.used }
-    ensures within { budget.new.used ≤ budget.new.limit }
+    ensures look { LooksBelow pass.now.context.now.facts pass.now.context.now.stand pass.now.context.now.lower look.new }
+    ensures spends { Spends budget.old budget.new }
 {
-    let bracket = pass.reached.frame(pass.field);
-    let rule = pass.reached.rule(pass.field);
-    let mut candidates = Candidates::new(&bracket, pass.shape, &rule);
+    let context = pass.context;
+    let rule = context.rule();
+    let mut candidates = Candidates::new(context.frame(), pass.shape, &rule);
     let mut kept = None;
     loop {
         let skipper = Skipper { pass, kept: &kept };
@@ -163,17 +153,15 @@ fn best_by_aim<'a>(
     look: &mut Option<LookAhead<'_>>,
     budget: &mut Budget,
 ) -> Step<Candidate>
-    requires look { LooksBelow pass.now.field.now pass.now.reached.now pass.now.lower.now look.old }
+    requires look { LooksBelow pass.now.context.now.facts pass.now.context.now.stand pass.now.context.now.lower look.old }
     requires within { budget.old.used ≤ budget.old.limit }
     ensures answer { MatchStep result
-        (λ c. (chosen_in pass.now.field.now pass.now.reached.now pass.now.lower.now pass.now.shape ≡ Some c.lists)
-        × (c.down ≡ down (frame_of pass.now.field.now pass.now.reached.now) c.lists))
+        (λ c. (chosen_in pass.now.context.now.facts pass.now.context.now.stand pass.now.context.now.lower pass.now.shape ≡ Some c.lists)
+        × (c.down ≡ down (frame_of pass.now.context.now.facts pass.now.context.now.stand) c.lists))
         (Unit {0})
         (budget.new.used ≡ budget.new.limit) }
-    ensures look { LooksBelow pass.now.field.now pass.now.reached.now pass.now.lower.now look.new }
-    ensures limit { budget.new.limit ≡ budget.old.limit }
-    ensures rises { budget.old.used ≤ budget.new.used }
-    ensures within { budget.new.used ≤ budget.new.limit }
+    ensures look { LooksBelow pass.now.context.now.facts pass.now.context.now.stand pass.now.context.now.lower look.new }
+    ensures spends { Spends budget.old budget.new }
 {
     if pass.aim.is_none() {
         return Step::End;
@@ -185,36 +173,29 @@ fn best_by_aim<'a>(
 /// without. `End` is answered where no candidate can be chosen.
 #[tactic(auto, using(crate::proofs::AimLemmas::without_aim))]
 fn best_of<'a>(
-    field: &'a Field,
-    reached: &'a Reached,
-    lower: &'a [u16],
+    context: &'a Context<'a>,
     shape: Shape,
     look: &mut Option<LookAhead<'_>>,
     budget: &mut Budget,
 ) -> Step<Candidate>
-    requires above { IsAbove field.now reached.now lower.now }
-    requires look { LooksBelow field.now reached.now lower.now look.old }
-    requires fits { Fits (frame_of field.now reached.now) shape }
+    requires look { LooksBelow context.now.facts context.now.stand context.now.lower look.old }
+    requires fits { Fits (frame_of context.now.facts context.now.stand) shape }
     requires within { budget.old.used ≤ budget.old.limit }
     ensures answer { MatchStep result
-        (λ c. (chosen_in field.now reached.now lower.now shape ≡ Some c.lists) × (c.down ≡ down (frame_of field.now reached.now) c.lists))
-        (chosen_in field.now reached.now lower.now shape ≡ None)
+        (λ c. (chosen_in context.now.facts context.now.stand context.now.lower shape ≡ Some c.lists) × (c.down ≡ down (frame_of context.now.facts context.now.stand) c.lists))
+        (chosen_in context.now.facts context.now.stand context.now.lower shape ≡ None)
         (budget.new.used ≡ budget.new.limit) }
-    ensures limit { budget.new.limit ≡ budget.old.limit }
-    ensures rises { budget.old.used ≤ budget.new.used }
-    ensures within { budget.new.used ≤ budget.new.limit }
+    ensures spends { Spends budget.old budget.new }
 {
-    let Some(pairs) = PairFacts::read(field, reached, budget) else {
+    let Some(pairs) = PairFacts::read(context, budget) else {
         return Step::Undecided;
     };
-    let Some(outlook) = Outlook::find(field, reached, lower, shape, budget) else {
+    let Some(outlook) = Outlook::find(context, shape, budget) else {
         return Step::Undecided;
     };
     let floors = Floors::new(pairs, shape, outlook);
     let mut pass = Pass {
-        field,
-        reached,
-        lower,
+        context,
         shape,
         aim: floors.aim(),
         floors,
@@ -228,9 +209,33 @@ fn best_of<'a>(
     best_near(&pass, look, budget)
 }
 
+/// The choice in a bracket that has a candidate.
+#[tactic(auto, using(crate::proofs::BestLemmas::choice_is, crate::proofs::BestLemmas::shape_has_chosen))]
+pub(crate) fn choose_in<'a>(
+    alloc: Global,
+    context: &'a Context<'a>,
+    budget: &mut Budget,
+) -> Result<Choice, PairFault>
+    requires candidate { HasCandidate context.now.facts context.now.stand context.now.lower }
+    requires within { budget.old.used ≤ budget.old.limit }
+    ensures answer { IfOk result (IsChoice context.now.facts context.now.stand context.now.lower (budget.new.used ≡ budget.new.limit)) }
+    ensures spends { Spends budget.old budget.new }
+{
+    let shape = match shape_of(context, budget) {
+        Step::Found(shape) => shape,
+        Step::End => unreachable!(),
+        Step::Undecided => return Ok(Choice::Undecided),
+    };
+    let mut look = look_below(alloc, context)?;
+    match best_of(context, shape, &mut look, budget) {
+        Step::Found(candidate) => Ok(Choice::Chosen { shape, candidate }),
+        Step::End => unreachable!(),
+        Step::Undecided => Ok(Choice::Undecided),
+    }
+}
+
 /// The choice in a bracket of a field that has a candidate, above all lower seats by rank. In the penultimate bracket only those candidates count that
 /// leave over players who can be paired out with all lower ones (C.4).
-#[tactic(auto, using(crate::proofs::BestLemmas::choice_is, crate::proofs::BestLemmas::shape_has_chosen))]
 pub fn choose(
     alloc: Global,
     field: &Field,
@@ -242,19 +247,7 @@ pub fn choose(
     requires candidate { HasCandidate field.now reached.now lower.now }
     requires within { budget.old.used ≤ budget.old.limit }
     ensures answer { IfOk result (IsChoice field.now reached.now lower.now (budget.new.used ≡ budget.new.limit)) }
-    ensures limit { budget.new.limit ≡ budget.old.limit }
-    ensures rises { budget.old.used ≤ budget.new.used }
-    ensures within { budget.new.used ≤ budget.new.limit }
+    ensures spends { Spends budget.old budget.new }
 {
-    let shape = match shape_of(field, reached, lower, budget) {
-        Step::Found(shape) => shape,
-        Step::End => unreachable!(),
-        Step::Undecided => return Ok(Choice::Undecided),
-    };
-    let mut look = look_below(alloc, field, reached, lower)?;
-    match best_of(field, reached, lower, shape, &mut look, budget) {
-        Step::Found(candidate) => Ok(Choice::Chosen { shape, candidate }),
-        Step::End => unreachable!(),
-        Step::Undecided => Ok(Choice::Undecided),
-    }
+    choose_in(alloc, &Context::new(field, reached, lower), budget)
 }

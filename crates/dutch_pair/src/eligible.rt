@@ -2,14 +2,16 @@
 ghost use Rattle.std.specs.Prelude.{◌≡◌, ◌+◌, ◌≤◌, ◌++◌, length, map};
 ghost use Rattle.dutch_order.specs.declared.numbers.TheConstants.{LIMIT};
 ghost use Rattle.dutch_order.specs.Arrangements.{Fits, down};
-ghost use Rattle.dutch_pair.specs.Reached.{IsAbove, frame_of};
+ghost use Rattle.dutch_pair.specs.Reached.{frame_of};
 ghost use Rattle.dutch_pair.specs.Seated.{seat_of, AllNumbers};
 ghost use Rattle.dutch_pair.specs.Completion.{Tells};
 ghost use Rattle.dutch_pair.specs.Shapes.{has_member};
 ghost use Rattle.dutch_pair.specs.Round.{is_ordinary, is_penultimate, completable, eligible};
 ghost use Rattle.dutch_pair.specs.Eligible.{can_be_chosen};
+ghost use Rattle.dutch_order.specs.Steps.{Spends};
 
 use crate::completion::{Answer, completes};
+use crate::context::Context;
 use crate::reached::{Kind, Reached, Seats, push_all};
 use crate::seated::seats_of;
 use crate::seats::seats;
@@ -51,82 +53,61 @@ pub(crate) fn can_complete(field: &Field, players: &[u16], budget: &mut Budget) 
     requires few { length players.now ≤ LIMIT }
     requires within { budget.old.used ≤ budget.old.limit }
     ensures answer { Tells result (completable field.now players.now) (budget.new.used ≡ budget.new.limit) }
-    ensures limit { budget.new.limit ≡ budget.old.limit }
-    ensures rises { budget.old.used ≤ budget.new.used }
-    ensures within { budget.new.used ≤ budget.new.limit }
+    ensures spends { Spends budget.old budget.new }
 {
     completes(players, &seats(field), budget)
 }
 
 /// Whether those whom a candidate leaves over can be paired out with all lower players (A.9).
 pub(crate) fn leaves_completable(
-    field: &Field,
-    reached: &Reached,
-    lower: &[u16],
+    context: &Context<'_>,
     candidate: &Candidate,
     budget: &mut Budget,
 ) -> Answer
-    requires above { IsAbove field.now reached.now lower.now }
-    requires numbers { AllNumbers reached.now.seats candidate.now.down }
-    requires few { length candidate.now.down ≤ length reached.now.seats }
+    requires numbers { AllNumbers context.now.stand.seats candidate.now.down }
+    requires few { length candidate.now.down ≤ length context.now.stand.seats }
     requires within { budget.old.used ≤ budget.old.limit }
-    ensures answer { Tells result (completable field.now (map (seat_of reached.now.seats) candidate.now.down ++ lower.now)) (budget.new.used ≡ budget.new.limit) }
-    ensures limit { budget.new.limit ≡ budget.old.limit }
-    ensures rises { budget.old.used ≤ budget.new.used }
-    ensures within { budget.new.used ≤ budget.new.limit }
+    ensures answer { Tells result (completable context.now.facts (map (seat_of context.now.stand.seats) candidate.now.down ++ context.now.lower)) (budget.new.used ≡ budget.new.limit) }
+    ensures spends { Spends budget.old budget.new }
 {
-    let players = seats_with_lower(reached, candidate.down(), lower);
-    can_complete(field, &players, budget)
+    let players = seats_with_lower(context.reached(), candidate.down(), context.lower());
+    can_complete(context.field(), &players, budget)
 }
 
 /// Whether a candidate can be chosen: in the penultimate bracket only if those whom it leaves over can be paired
 /// out with all lower players.
 #[tactic(auto, using(crate::proofs::DownLemmas::down_numbers, crate::proofs::DownLemmas::down_few))]
 pub(crate) fn can_be_chosen(
-    field: &Field,
-    reached: &Reached,
-    lower: &[u16],
+    context: &Context<'_>,
     candidate: &Candidate,
     budget: &mut Budget,
 ) -> Answer
-    requires above { IsAbove field.now reached.now lower.now }
-    requires left { candidate.now.down ≡ down (frame_of field.now reached.now) candidate.now.lists }
+    requires left { candidate.now.down ≡ down (frame_of context.now.facts context.now.stand) candidate.now.lists }
     requires within { budget.old.used ≤ budget.old.limit }
-    ensures answer { Tells result (can_be_chosen field.now reached.now lower.now candidate.now.lists) (budget.new.used ≡ budget.new.limit) }
-    ensures limit { budget.new.limit ≡ budget.old.limit }
-    ensures rises { budget.old.used ≤ budget.new.used }
-    ensures within { budget.new.used ≤ budget.new.limit }
+    ensures answer { Tells result (can_be_chosen context.now.facts context.now.stand context.now.lower candidate.now.lists) (budget.new.used ≡ budget.new.limit) }
+    ensures spends { Spends budget.old budget.new }
 {
-    if !reached.kind().is_penultimate() {
+    if !context.reached().kind().is_penultimate() {
         return Answer::Yes;
     }
-    leaves_completable(field, reached, lower, candidate, budget)
+    leaves_completable(context, candidate, budget)
 }
 
 /// Whether a shape has a candidate that can be chosen.
 #[tactic(auto, using(crate::proofs::EligibleLemmas::has_fit, crate::proofs::EligibleLemmas::has_none, crate::proofs::EligibleLemmas::passes_unfit))]
-pub(crate) fn has_candidate(
-    field: &Field,
-    reached: &Reached,
-    lower: &[u16],
-    shape: Shape,
-    budget: &mut Budget,
-) -> Answer
-    requires above { IsAbove field.now reached.now lower.now }
-    requires fits { Fits (frame_of field.now reached.now) shape }
+pub(crate) fn has_candidate(context: &Context<'_>, shape: Shape, budget: &mut Budget) -> Answer
+    requires fits { Fits (frame_of context.now.facts context.now.stand) shape }
     requires within { budget.old.used ≤ budget.old.limit }
-    ensures answer { Tells result (has_member (eligible field.now reached.now lower.now shape)) (budget.new.used ≡ budget.new.limit) }
-    ensures limit { budget.new.limit ≡ budget.old.limit }
-    ensures rises { budget.old.used ≤ budget.new.used }
-    ensures within { budget.new.used ≤ budget.new.limit }
+    ensures answer { Tells result (has_member (eligible context.now.facts context.now.stand context.now.lower shape)) (budget.new.used ≡ budget.new.limit) }
+    ensures spends { Spends budget.old budget.new }
 {
-    let bracket = reached.frame(field);
-    let rule = reached.rule(field);
-    let mut candidates = Candidates::new(&bracket, shape, &rule);
+    let bracket = context.frame();
+    let rule = context.rule();
+    let mut candidates = Candidates::new(bracket, shape, &rule);
     loop {
         match candidates.next(budget) {
             Step::Found(candidate) => {
-                match can_be_chosen(field, reached, lower, &candidate, budget) {
+                match can_be_chosen(context, &candidate, budget) {
                     Answer::Yes => return Answer::Yes,
                     Answer::No => {}
                     Answer::Undecided => return Answer::Undecided,

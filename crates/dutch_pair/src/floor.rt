@@ -13,11 +13,11 @@ ghost use Rattle.dutch_pair.specs.FloorOf.{HasNumbers, is_flat, is_uniform, is_k
 
 use crate::begun::{Begun, fixed, fixed_lists, is_of_shape};
 use crate::colour_floor::{missed, missed_strong, more_missed};
+use crate::context::Context;
 use crate::differences::psd;
 use crate::lonely::lonely;
 use crate::outlook::Outlook;
 use crate::pair_facts::PairFacts;
-use crate::player_facts::PlayerFacts;
 use crate::psd_floor::psd_with;
 use crate::quality::{Given, NextValue, Quality, quality_by};
 use crate::seated::{Pair, Seated};
@@ -54,26 +54,26 @@ impl<'a> Model for Floors<'a> {
 }
 
 /// Whether there is a resident, and all residents have one score.
-fn is_flat(players: &PlayerFacts<'_>) -> bool
-    ensures { result ≡ is_flat players.now.facts players.now.stand }
+fn is_flat(context: &Context<'_>) -> bool
+    ensures { result ≡ is_flat context.now.facts context.now.stand }
 {
-    let (first, last) = (players.reached().mdps() + 1, players.len());
+    let (first, last) = (context.reached().mdps() + 1, context.len());
     if last < first {
         return false;
     }
-    players.score(first as u16) == players.score(last as u16)
+    context.score(first as u16) == context.score(last as u16)
 }
 
 /// Whether all S1 of a shape leave moved-down players with the same scores.
-fn is_uniform(players: &PlayerFacts<'_>, shape: Shape) -> bool
-    requires { Fits (frame_of players.now.facts players.now.stand) shape }
-    ensures { result ≡ is_uniform players.now.facts players.now.stand shape }
+fn is_uniform(context: &Context<'_>, shape: Shape) -> bool
+    requires { Fits (frame_of context.now.facts context.now.stand) shape }
+    ensures { result ≡ is_uniform context.now.facts context.now.stand shape }
 {
-    let mdps = players.reached().mdps();
+    let mdps = context.reached().mdps();
     if shape.mdps == 0 || shape.mdps == mdps {
         return true;
     }
-    players.score(1) == players.score(mdps as u16)
+    context.score(1) == context.score(mdps as u16)
 }
 
 /// S1 is chosen.
@@ -92,8 +92,8 @@ impl<'a> Floors<'a> {
         requires { Fits (frame_of pairs.facts pairs.stand) shape }
         ensures { result ≡ record { facts = pairs.entry.facts; stand = pairs.entry.stand; shape = shape; outlook = outlook } }
     {
-        let flat = is_flat(pairs.players());
-        let uniform = is_uniform(pairs.players(), shape);
+        let flat = is_flat(pairs.context());
+        let uniform = is_uniform(pairs.context(), shape);
         Floors {
             pairs,
             shape,
@@ -111,7 +111,7 @@ impl<'a> Floors<'a> {
         ensures of { IsOf self.now.facts self.now.stand }
         ensures small { result.pairs ≤ LIMIT }
     {
-        let _reached = self.pairs.players().reached();
+        let _reached = self.pairs.context().reached();
         self.shape
     }
 
@@ -123,9 +123,9 @@ impl<'a> Floors<'a> {
         requires few { length s1.now ≤ self.now.shape.mdps }
         ensures { result.items ≡ psd_with self.now.facts self.now.stand self.now.shape (residents_score self.now.facts self.now.stand) s1.now }
     {
-        let players = self.pairs.players();
-        let score = players.score(players.reached().mdps() as u16 + 1);
-        psd_with(players, self.shape(), score, s1)
+        let context = self.pairs.context();
+        let score = context.score(context.reached().mdps() as u16 + 1);
+        psd_with(context, self.shape(), score, s1)
     }
 
     /// The best that the next bracket can be behind arrangements with an S1 (C.7).
@@ -133,7 +133,7 @@ impl<'a> Floors<'a> {
         ensures { result ≡ awaited self.now.facts self.now.stand self.now.shape self.now.outlook filling s1.now }
     {
         self.outlook
-            .awaited(self.pairs.players(), self.shape(), filling, s1)
+            .awaited(self.pairs.context(), self.shape(), filling, s1)
     }
 
     /// How many more miss than in the pairs that are fixed (C.10).
@@ -146,7 +146,7 @@ impl<'a> Floors<'a> {
         ensures few { result ≤ LIMIT }
     {
         let shape = self.shape();
-        let more = more_missed(self.pairs.players(), shape, pairs, false);
+        let more = more_missed(self.pairs.context(), shape, pairs, false);
         match filling {
             Filling::S1 | Filling::S2 => return more,
             Filling::S2r => return more.max(lonely(&self.pairs, shape, begun)),
@@ -164,7 +164,7 @@ impl<'a> Floors<'a> {
     {
         let shape = self.shape();
         if !self.flat {
-            return psd(self.pairs.players().field(), seated);
+            return psd(self.pairs.context().field(), seated);
         }
         match filling {
             Filling::S1 => return self.psd_with(&numbered_from(1, shape.mdps)),
@@ -178,18 +178,18 @@ impl<'a> Floors<'a> {
         requires few { length begun.now.s1 ≤ self.now.shape.mdps }
         ensures { quality_in result ≡ floor_by filling self.now begun.now }
     {
-        let players = self.pairs.players();
+        let context = self.pairs.context();
         let shape = self.shape();
-        let seated = fixed(players, begun);
+        let seated = fixed(context, begun);
         let more = self.more_by(filling, begun, &seated.pairs);
-        let more_strong = more_missed(players, shape, &seated.pairs, true);
+        let more_strong = more_missed(context, shape, &seated.pairs, true);
         let given = Given {
             psd: self.psd_by(filling, begun, &seated),
             next: self.awaited(filling, begun.s1),
-            missed_preferences: missed(players, &seated.pairs) + more as u16,
-            missed_strong: missed_strong(players, &seated.pairs) + more_strong as u16,
+            missed_preferences: missed(context, &seated.pairs) + more as u16,
+            missed_strong: missed_strong(context, &seated.pairs) + more_strong as u16,
         };
-        quality_by(players.field(), &seated, given)
+        quality_by(context.field(), &seated, given)
     }
 
     /// The floor of a beginning. None is known where its lists are not of the bracket and the shape, or where S1 is not chosen and
@@ -201,7 +201,7 @@ impl<'a> Floors<'a> {
     {
         let begun = fixed_lists(prefix);
         let shape = self.shape();
-        if !is_of_shape(self.pairs.players().reached(), shape, &begun) {
+        if !is_of_shape(self.pairs.context().reached(), shape, &begun) {
             return None;
         }
         if !has_s1(prefix.filling()) && !self.uniform {

@@ -13,7 +13,7 @@ ghost use Rattle.dutch_pair.specs.Quality.{placed_all};
 ghost use Rattle.dutch_pair.specs.Reached.{IsOf, frame_of};
 ghost use Rattle.dutch_pair.specs.Seated.{score_at, AreSeats};
 
-use crate::differences::put;
+use crate::differences::{put, put_times};
 use crate::ghosts::Ghosts;
 use crate::greatest::greatest_shape;
 use crate::quality::NextValue;
@@ -49,7 +49,7 @@ pub(crate) fn limbo_scores(field: &Field, reached: &Reached, shape: Shape) -> Nu
 }
 
 /// Adds a score so many times.
-fn push_times(score: u16, count: usize, scores: &mut Numbers)
+pub(crate) fn push_times(score: u16, count: usize, scores: &mut Numbers)
     requires room { array_vec_len scores.old + count ≤ LIMIT }
     ensures items { scores.new.items ≡ scores.old.items ++ repeated score count }
     ensures len { array_vec_len scores.new ≡ array_vec_len scores.old + count }
@@ -104,17 +104,6 @@ fn put_above(least: u16, scores: &[u16], numbers: &mut Numbers)
 {
     for score in scores {
         put(numbers, score.saturating_sub(least));
-    }
-}
-
-/// Puts a number to its place so many times.
-fn put_times(number: u16, count: usize, numbers: &mut Numbers)
-    requires room { array_vec_len numbers.old + count ≤ LIMIT }
-    ensures items { numbers.new.items ≡ placed_all numbers.old.items (repeated number count) }
-    ensures len { array_vec_len numbers.new ≡ array_vec_len numbers.old + count }
-{
-    for _ in 0..count {
-        put(numbers, number);
     }
 }
 

@@ -9,6 +9,7 @@ ghost use Rattle.dutch_pair.specs.Seated.{AreSeats};
 ghost use Rattle.dutch_pair.specs.Ghosts.{is_upto, some_meets, may_bye, ghosts_meet, ghost_may_be_left};
 ghost use Rattle.dutch_pair.specs.GhostRules.{IsRead};
 
+use crate::spending::spend;
 use arrayvec::ArrayVec;
 use dutch_order::numbers::LIMIT;
 use dutch_order::rules::Rule;
@@ -36,19 +37,6 @@ impl<'a> Model for Ghosts<'a> {
     ghost view = { λ g. record { facts = g.field.now; seats = g.seats.now; lower = g.lower.now } };
 
     ghost invariant = { λ g. IsRead g.field.now g.seats.now g.lower.now g.met.items g.bye };
-}
-
-/// Makes steps at once. It says whether the limit allows them; where it does not, they are made up to the limit.
-fn charge(steps: u64, budget: &mut Budget) -> bool
-    requires within { budget.old.used ≤ budget.old.limit }
-    ensures stopped { result ≡ false → budget.new.used ≡ budget.new.limit }
-    ensures limit { budget.new.limit ≡ budget.old.limit }
-    ensures rises { budget.old.used ≤ budget.new.used }
-    ensures within { budget.new.used ≤ budget.new.limit }
-{
-    let allowed = steps <= budget.limit - budget.used;
-    budget.used += steps.min(budget.limit - budget.used);
-    allowed
 }
 
 /// Whether some player of a bracket may meet a lower one.
@@ -112,7 +100,7 @@ impl<'a> Ghosts<'a> {
         ensures within { budget.new.used ≤ budget.new.limit }
     {
         let steps = seats.len() as u64 * lower.len() as u64;
-        if !charge(steps, budget) {
+        if !spend(steps, budget) {
             return None;
         }
         Some(Ghosts {

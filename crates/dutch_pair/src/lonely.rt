@@ -11,8 +11,8 @@ ghost use Rattle.dutch_pair.specs.FloorOf.{HasNumbers};
 
 use crate::begun::Begun;
 use crate::bit_table::BitTable;
+use crate::context::Context;
 use crate::pair_facts::PairFacts;
-use crate::player_facts::PlayerFacts;
 use dutch_order::bracket::Shape;
 use dutch_order::numbers::{LIMIT, Numbers, numbered_from};
 
@@ -52,25 +52,25 @@ fn unmarked(numbers: &[u16], taken: &BitTable) -> Numbers
 
 /// The residents with whom S1R can still be paired.
 #[tactic(auto, using(crate::proofs::LonelyLemmas::pool_is, crate::proofs::LonelyLemmas::pool_numbers))]
-fn pool(players: &PlayerFacts<'_>, begun: &Begun<'_>) -> Numbers
-    ensures items { result.items ≡ pool players.now.facts players.now.stand begun.now }
-    ensures numbers { AllNumbers players.now.stand.seats result.items }
+fn pool(context: &Context<'_>, begun: &Begun<'_>) -> Numbers
+    ensures items { result.items ≡ pool context.now.facts context.now.stand begun.now }
+    ensures numbers { AllNumbers context.now.stand.seats result.items }
     ensures few { length result.items ≤ LIMIT }
 {
-    let mdps = players.reached().mdps();
-    let residents = numbered_from(mdps + 1, players.len().saturating_sub(mdps));
+    let mdps = context.reached().mdps();
+    let residents = numbered_from(mdps + 1, context.len().saturating_sub(mdps));
     unmarked(&residents, &taken(begun))
 }
 
 /// The players of S1R who have no opponent yet.
 #[tactic(auto, using(crate::proofs::LonelyLemmas::beyond_is, crate::proofs::LonelyLemmas::back_numbers))]
-fn waiting<'a>(players: &PlayerFacts<'_>, begun: &Begun<'a>) -> &'a [u16]
-    requires { HasNumbers players.now.stand begun.now }
+fn waiting<'a>(context: &Context<'_>, begun: &Begun<'a>) -> &'a [u16]
+    requires { HasNumbers context.now.stand begun.now }
     ensures items { result.now ≡ waiting begun.now }
-    ensures numbers { AllNumbers players.now.stand.seats result.now }
+    ensures numbers { AllNumbers context.now.stand.seats result.now }
     ensures few { length result.now ≤ LIMIT }
 {
-    let _count = players.len();
+    let _count = context.len();
     begun.s1r.split_at(begun.s2r.len()).1
 }
 
@@ -151,10 +151,10 @@ pub(crate) fn lonely(pairs: &PairFacts<'_>, shape: Shape, begun: &Begun<'_>) -> 
     ensures value { result ≡ lonely pairs.now.facts pairs.now.stand shape begun.now }
     ensures few { result ≤ LIMIT }
 {
-    let players = pairs.players();
-    let waiting = waiting(players, begun);
-    let pool = pool(players, begun);
+    let context = pairs.context();
+    let waiting = waiting(context, begun);
+    let pool = pool(context, begun);
     let first = lonely_first(pairs, waiting, &pool);
     let second = lonely_second(pairs, waiting, &pool);
-    more_lonely(first, second, players.residents_down(shape))
+    more_lonely(first, second, context.residents_down(shape))
 }

@@ -9,13 +9,13 @@ ghost use Rattle.dutch_order.specs.declared.numbers.TheConstants.{LIMIT};
 ghost use Rattle.dutch_pair.specs.FloorOf.{is_flat};
 ghost use Rattle.dutch_pair.specs.Ghosts.{pairs_by_counts};
 ghost use Rattle.dutch_pair.specs.Outlooks.{IsOutlook, awaited, leaves_first, leaves_first_by, limbo_scores};
-ghost use Rattle.dutch_pair.specs.Reached.{IsAbove, IsOf, frame_of};
+ghost use Rattle.dutch_pair.specs.Reached.{IsOf, frame_of};
 ghost use Rattle.dutch_pair.specs.Seated.{AllNumbers, score_at, seat_of};
 ghost use Rattle.dutch_pair.specs.Round.{is_ordinary};
 
+use crate::context::Context;
 use crate::ghost_value::{ghost_value, limbo_scores as first_limbo};
 use crate::group::split_first_group;
-use crate::player_facts::PlayerFacts;
 use crate::quality::NextValue;
 use crate::reached::{Kind, Reached, push_all};
 use arrayvec::ArrayVec;
@@ -47,26 +47,26 @@ fn copied(value: &NextValue) -> NextValue
 }
 
 /// Adds the scores of those of some numbers who are not in S1.
-fn push_left(players: &PlayerFacts<'_>, numbers: &[u16], s1: &[u16], scores: &mut Numbers)
-    requires numbers { AllNumbers players.now.stand.seats numbers.now }
+fn push_left(context: &Context<'_>, numbers: &[u16], s1: &[u16], scores: &mut Numbers)
+    requires numbers { AllNumbers context.now.stand.seats numbers.now }
     requires room { array_vec_len scores.old + length numbers.now ≤ LIMIT }
     ensures items { scores.new.items ≡ scores.old.items
-        ++ map (λ i. score_at players.now.facts (seat_of players.now.stand.seats i)) (left_of numbers.now s1.now) }
+        ++ map (λ i. score_at context.now.facts (seat_of context.now.stand.seats i)) (left_of numbers.now s1.now) }
 {
     for number in numbers {
         if !s1.contains(number) {
-            scores.push(players.score(*number));
+            scores.push(context.score(*number));
         }
     }
 }
 
 /// The scores of the moved-down players who are not in an S1, in half points.
-fn limbo_scores(players: &PlayerFacts<'_>, s1: &[u16]) -> Numbers
-    ensures { result.items ≡ limbo_scores players.now.facts players.now.stand s1.now }
+fn limbo_scores(context: &Context<'_>, s1: &[u16]) -> Numbers
+    ensures { result.items ≡ limbo_scores context.now.facts context.now.stand s1.now }
 {
-    let moved_down = players.moved_down();
+    let moved_down = context.moved_down();
     let mut scores = ArrayVec::new();
-    push_left(players, &moved_down, s1, &mut scores);
+    push_left(context, &moved_down, s1, &mut scores);
     scores
 }
 
@@ -78,23 +78,23 @@ fn is_same(one: &[u16], other: &[u16]) -> bool
 }
 
 /// Whether an S1 leaves a Limbo with the scores of the first one of a shape.
-fn leaves_first(players: &PlayerFacts<'_>, shape: Shape, s1: &[u16]) -> bool
-    requires { Fits (frame_of players.now.facts players.now.stand) shape }
-    ensures { result ≡ leaves_first players.now.facts players.now.stand shape s1.now }
+fn leaves_first(context: &Context<'_>, shape: Shape, s1: &[u16]) -> bool
+    requires { Fits (frame_of context.now.facts context.now.stand) shape }
+    ensures { result ≡ leaves_first context.now.facts context.now.stand shape s1.now }
 {
-    let left = limbo_scores(players, s1);
-    let first = first_limbo(players.field(), players.reached(), shape);
+    let left = limbo_scores(context, s1);
+    let first = first_limbo(context.field(), context.reached(), shape);
     is_same(&left, &first)
 }
 
 /// The same, where it is known that every S1 does as long as none is chosen.
-fn leaves_first_by(players: &PlayerFacts<'_>, shape: Shape, filling: Filling, s1: &[u16]) -> bool
-    requires { Fits (frame_of players.now.facts players.now.stand) shape }
-    ensures { result ≡ leaves_first_by filling players.now.facts players.now.stand shape s1.now }
+fn leaves_first_by(context: &Context<'_>, shape: Shape, filling: Filling, s1: &[u16]) -> bool
+    requires { Fits (frame_of context.now.facts context.now.stand) shape }
+    ensures { result ≡ leaves_first_by filling context.now.facts context.now.stand shape s1.now }
 {
     match filling {
         Filling::S1 => return true,
-        Filling::S2 | Filling::S2r => return leaves_first(players, shape, s1),
+        Filling::S2 | Filling::S2r => return leaves_first(context, shape, s1),
     }
 }
 
@@ -121,28 +121,22 @@ impl Outlook {
     /// The best that the next bracket of a bracket and a shape can be: none where the budget's limit was reached first. In brackets that
     /// are not ordinary the next one does not count.
     #[tactic(auto, using(crate::proofs::C07Outlook::none_counts, crate::proofs::C07Outlook::by_counts, crate::proofs::C07Outlook::by_ghosts, crate::proofs::C07Outlook::few_pairs, crate::proofs::C07Outlook::flat_residents, crate::proofs::C07Outlook::below_ordinary, crate::proofs::NextGroups::is_next))]
-    pub(crate) fn find(
-        field: &Field,
-        reached: &Reached,
-        lower: &[u16],
-        shape: Shape,
-        budget: &mut Budget,
-    ) -> Option<Outlook>
-        requires above { IsAbove field.now reached.now lower.now }
-        requires fits { Fits (frame_of field.now reached.now) shape }
+    pub(crate) fn find(context: &Context<'_>, shape: Shape, budget: &mut Budget) -> Option<Outlook>
+        requires fits { Fits (frame_of context.now.facts context.now.stand) shape }
         requires within { budget.old.used ≤ budget.old.limit }
-        ensures answer { MatchOption result (budget.new.used ≡ budget.new.limit) (IsOutlook field.now reached.now lower.now shape) }
+        ensures answer { MatchOption result (budget.new.used ≡ budget.new.limit) (IsOutlook context.now.facts context.now.stand context.now.lower shape) }
         ensures limit { budget.new.limit ≡ budget.old.limit }
         ensures rises { budget.old.used ≤ budget.new.used }
         ensures within { budget.new.used ≤ budget.new.limit }
     {
+        let (field, reached) = (context.field(), context.reached());
         if !is_ordinary(reached.kind()) {
             return Some(Outlook {
                 first: None,
                 any: NextValue::none(),
             });
         }
-        let next = split_first_group(field, lower).0;
+        let next = split_first_group(field, context.lower()).0;
         let any = value_by_counts(reached, shape, next);
         if !is_flat(field, reached) {
             return Some(Outlook { first: None, any });
@@ -159,17 +153,17 @@ impl Outlook {
     /// The best that the next bracket can be behind arrangements with an S1.
     pub(crate) fn awaited(
         &self,
-        players: &PlayerFacts<'_>,
+        context: &Context<'_>,
         shape: Shape,
         filling: Filling,
         s1: &[u16],
     ) -> NextValue
-        requires { Fits (frame_of players.now.facts players.now.stand) shape }
-        ensures { result ≡ awaited players.now.facts players.now.stand shape self.now filling s1.now }
+        requires { Fits (frame_of context.now.facts context.now.stand) shape }
+        ensures { result ≡ awaited context.now.facts context.now.stand shape self.now filling s1.now }
     {
         match &self.first {
             Some(first) => {
-                if leaves_first_by(players, shape, filling, s1) {
+                if leaves_first_by(context, shape, filling, s1) {
                     return copied(first);
                 }
                 return copied(&self.any);

@@ -9,13 +9,13 @@ ghost use Rattle.dutch_pair.specs.Quality.{placed_all};
 ghost use Rattle.dutch_pair.specs.ColourFloors.{residents_down};
 ghost use Rattle.dutch_pair.specs.PsdFloors.{repeated, psd_with};
 
-use crate::differences::put;
-use crate::player_facts::PlayerFacts;
+use crate::context::Context;
+use crate::differences::{put, put_times};
 use arrayvec::ArrayVec;
 use dutch_order::bracket::Shape;
 use dutch_order::numbers::Numbers;
 
-/// Moved-down players, and S1.
+/// Moved-down context, and S1.
 #[derive(Clone, Copy)]
 struct Left<'a> {
     moved_down: &'a [u16],
@@ -23,42 +23,42 @@ struct Left<'a> {
 }
 
 /// Puts the differences of moved-down players who are paired with residents of a score.
-fn put_paired(players: &PlayerFacts<'_>, score: u16, s1: &[u16], psd: &mut Numbers)
-    requires numbers { AllNumbers players.now.stand.seats s1.now }
+fn put_paired(context: &Context<'_>, score: u16, s1: &[u16], psd: &mut Numbers)
+    requires numbers { AllNumbers context.now.stand.seats s1.now }
     requires room { array_vec_len psd.old + length s1.now ≤ LIMIT }
-    ensures items { psd.new.items ≡ placed_all psd.old.items (map (λ i. score_at players.now.facts (seat_of players.now.stand.seats i) - score) s1.now) }
+    ensures items { psd.new.items ≡ placed_all psd.old.items (map (λ i. score_at context.now.facts (seat_of context.now.stand.seats i) - score) s1.now) }
     ensures len { array_vec_len psd.new ≡ array_vec_len psd.old + length s1.now }
 {
     for number in s1 {
-        put(psd, players.score(*number).saturating_sub(score));
+        put(psd, context.score(*number).saturating_sub(score));
     }
 }
 
 /// Puts the differences of those of some moved-down players who are not in S1, and so are not paired.
-fn put_left(players: &PlayerFacts<'_>, score: u16, lists: Left<'_>, psd: &mut Numbers)
-    requires numbers { AllNumbers players.now.stand.seats lists.moved_down.now }
+fn put_left(context: &Context<'_>, score: u16, lists: Left<'_>, psd: &mut Numbers)
+    requires numbers { AllNumbers context.now.stand.seats lists.moved_down.now }
     requires room { array_vec_len psd.old + length lists.moved_down.now ≤ LIMIT }
     ensures items { psd.new.items ≡ placed_all psd.old.items
-        (map (λ i. (score_at players.now.facts (seat_of players.now.stand.seats i) - score) + 2) (left_of lists.entry.moved_down.now lists.entry.s1.now)) }
+        (map (λ i. (score_at context.now.facts (seat_of context.now.stand.seats i) - score) + 2) (left_of lists.entry.moved_down.now lists.entry.s1.now)) }
     ensures len { array_vec_len psd.new ≤ array_vec_len psd.old + length lists.entry.moved_down.now }
 {
     for number in lists.moved_down {
         if !lists.s1.contains(number) {
-            put(psd, players.score(*number).saturating_sub(score) + 2);
+            put(psd, context.score(*number).saturating_sub(score) + 2);
         }
     }
 }
 
 /// The same of all moved-down players.
-fn put_limbo(players: &PlayerFacts<'_>, score: u16, s1: &[u16], psd: &mut Numbers)
-    requires room { array_vec_len psd.old + players.now.stand.mdps ≤ LIMIT }
+fn put_limbo(context: &Context<'_>, score: u16, s1: &[u16], psd: &mut Numbers)
+    requires room { array_vec_len psd.old + context.now.stand.mdps ≤ LIMIT }
     ensures items { psd.new.items ≡ placed_all psd.old.items
-        (map (λ i. (score_at players.now.facts (seat_of players.now.stand.seats i) - score) + 2) (left_of (numbers_from 1 players.now.stand.mdps) s1.now)) }
-    ensures len { array_vec_len psd.new ≤ array_vec_len psd.old + players.now.stand.mdps }
+        (map (λ i. (score_at context.now.facts (seat_of context.now.stand.seats i) - score) + 2) (left_of (numbers_from 1 context.now.stand.mdps) s1.now)) }
+    ensures len { array_vec_len psd.new ≤ array_vec_len psd.old + context.now.stand.mdps }
 {
-    let moved_down = players.moved_down();
+    let moved_down = context.moved_down();
     put_left(
-        players,
+        context,
         score,
         Left {
             moved_down: &moved_down,
@@ -68,30 +68,19 @@ fn put_limbo(players: &PlayerFacts<'_>, score: u16, s1: &[u16], psd: &mut Number
     );
 }
 
-/// Puts a number so many times.
-fn put_times(number: u16, times: usize, psd: &mut Numbers)
-    requires room { array_vec_len psd.old + times ≤ LIMIT }
-    ensures items { psd.new.items ≡ placed_all psd.old.items (repeated number times) }
-    ensures len { array_vec_len psd.new ≡ array_vec_len psd.old + times }
-{
-    for _place in 0..times {
-        put(psd, number);
-    }
-}
-
 /// The PSD of each arrangement of a shape with an S1, where all residents have a score.
 #[tactic(auto, using(crate::proofs::Places::placed_all_append))]
-pub(crate) fn psd_with(players: &PlayerFacts<'_>, shape: Shape, score: u16, s1: &[u16]) -> Numbers
-    requires numbers { AllNumbers players.now.stand.seats s1.now }
-    requires room { (length s1.now + players.now.stand.mdps) + (remainder_pairs shape + residents_down players.now.stand shape) ≤ LIMIT }
+pub(crate) fn psd_with(context: &Context<'_>, shape: Shape, score: u16, s1: &[u16]) -> Numbers
+    requires numbers { AllNumbers context.now.stand.seats s1.now }
+    requires room { (length s1.now + context.now.stand.mdps) + (remainder_pairs shape + residents_down context.now.stand shape) ≤ LIMIT }
     requires small { shape.pairs ≤ LIMIT }
-    ensures { result.items ≡ psd_with players.now.facts players.now.stand shape score s1.now }
+    ensures { result.items ≡ psd_with context.now.facts context.now.stand shape score s1.now }
 {
     let pairs = shape.pairs.saturating_sub(shape.mdps);
     let mut psd = ArrayVec::new();
-    put_paired(players, score, s1, &mut psd);
-    put_limbo(players, score, s1, &mut psd);
+    put_paired(context, score, s1, &mut psd);
+    put_limbo(context, score, s1, &mut psd);
     put_times(0, pairs, &mut psd);
-    put_times(2, players.residents_down(shape), &mut psd);
+    put_times(2, context.residents_down(shape), &mut psd);
     psd
 }

@@ -7,12 +7,14 @@ ghost use Rattle.std.specs.Map.{lookup};
 ghost use Rattle.lru.specs.LruCache.{lru_cache, promoted, put_entries};
 ghost use Rattle.dutch_pair.specs.declared.reached.Kind.TheVariants.{Ordinary};
 ghost use Rattle.std.specs.Option.{MatchOption};
-ghost use Rattle.dutch_pair.specs.Reached.{IsOf, IsAbove};
+ghost use Rattle.dutch_pair.specs.Reached.{IsOf};
 ghost use Rattle.dutch_pair.specs.NextBracket.{IsNext, IsDraw, AreLeft, quality};
 ghost use Rattle.dutch_pair.specs.QualityIn.{quality_in};
 ghost use Rattle.dutch_pair.specs.Round.{quality_of};
 ghost use Rattle.dutch_pair.specs.Remembered.{value_below, is_kept, is_key, IsLook, IsKeptAfter, LooksOn, LooksBelow};
+ghost use Rattle.dutch_order.specs.Steps.{Spends};
 
+use crate::context::Context;
 use crate::fault::PairFault;
 use crate::group::split_first_group;
 use crate::lookahead::{quality, value_below};
@@ -140,9 +142,7 @@ impl<'a> LookAhead<'a> {
         requires within { budget.old.used ≤ budget.old.limit }
         ensures answer { IsLook (value_below self.old.facts self.old.stand self.old.next down.items) (budget.new.used ≡ budget.new.limit) result }
         ensures kept { IsKeptAfter down.items self.old self.new result }
-        ensures limit { budget.new.limit ≡ budget.old.limit }
-        ensures rises { budget.old.used ≤ budget.new.used }
-        ensures within { budget.new.used ≤ budget.new.limit }
+        ensures spends { Spends budget.old budget.new }
     {
         match value_below(self.field, self.reached, &down, &self.next, budget) {
             Some(value) => {
@@ -162,9 +162,7 @@ impl<'a> LookAhead<'a> {
             ((is_kept down.now self.old.kept ≡ false) × (budget.new.used ≡ budget.new.limit)) result }
         ensures free { is_kept down.now self.old.kept ≡ true → budget.new.used ≡ budget.old.used }
         ensures kept { IsKeptAfter down.now self.old self.new result }
-        ensures limit { budget.new.limit ≡ budget.old.limit }
-        ensures rises { budget.old.used ≤ budget.new.used }
-        ensures within { budget.new.used ≤ budget.new.limit }
+        ensures spends { Spends budget.old budget.new }
     {
         let _field = self.field;
         let key = key_of(down);
@@ -182,9 +180,7 @@ impl<'a> LookAhead<'a> {
         ensures answer { MatchOption result (budget.new.used ≡ budget.new.limit)
             (λ q. quality_in q ≡ quality self.old.facts self.old.stand.seats true self.old.next candidate.now) }
         ensures looks_on { LooksOn self.old self.new }
-        ensures limit { budget.new.limit ≡ budget.old.limit }
-        ensures rises { budget.old.used ≤ budget.new.used }
-        ensures within { budget.new.used ≤ budget.new.limit }
+        ensures spends { Spends budget.old budget.new }
     {
         let (field, reached) = (self.field, self.reached);
         match self.value(candidate.down(), budget) {
@@ -211,17 +207,15 @@ impl<'a> LookAhead<'a> {
 #[tactic(auto, using(crate::proofs::NextGroups::is_next))]
 pub(crate) fn look_below<'a>(
     alloc: Global,
-    field: &'a Field,
-    reached: &'a Reached,
-    lower: &[u16],
+    context: &'a Context<'a>,
 ) -> Result<Option<LookAhead<'a>>, PairFault>
-    requires { IsAbove field.now reached.now lower.now }
-    ensures { IfOk result (LooksBelow field.now reached.now lower.now) }
+    ensures { IfOk result (LooksBelow context.now.facts context.now.stand context.now.lower) }
 {
-    match reached.kind() {
+    match context.reached().kind() {
         Kind::Ordinary => {
-            let next = split_first_group(field, lower).0;
-            Ok(Some(LookAhead::new(alloc, field, reached, next)?))
+            let next = split_first_group(context.field(), context.lower()).0;
+            let look = LookAhead::new(alloc, context.field(), context.reached(), next)?;
+            Ok(Some(look))
         }
         _ => Ok(None),
     }
@@ -231,31 +225,26 @@ pub(crate) fn look_below<'a>(
 /// first.
 #[tactic(auto, using(crate::proofs::NextGroups::is_next, crate::proofs::NextGroups::quality_at))]
 pub(crate) fn remembered_quality(
-    field: &Field,
-    reached: &Reached,
-    lower: &[u16],
+    context: &Context<'_>,
     candidate: &Candidate,
     look: &mut Option<LookAhead<'_>>,
     budget: &mut Budget,
 ) -> Option<Quality>
-    requires above { IsAbove field.now reached.now lower.now }
-    requires candidate { IsDraw field.now reached.now candidate.now }
-    requires look { LooksBelow field.now reached.now lower.now look.old }
+    requires candidate { IsDraw context.now.facts context.now.stand candidate.now }
+    requires look { LooksBelow context.now.facts context.now.stand context.now.lower look.old }
     requires within { budget.old.used ≤ budget.old.limit }
     ensures answer { MatchOption result (budget.new.used ≡ budget.new.limit)
-        (λ found. quality_in found ≡ quality_of field.now reached.now lower.now candidate.now.lists) }
-    ensures look { LooksBelow field.now reached.now lower.now look.new }
-    ensures limit { budget.new.limit ≡ budget.old.limit }
-    ensures rises { budget.old.used ≤ budget.new.used }
-    ensures within { budget.new.used ≤ budget.new.limit }
+        (λ found. quality_in found ≡ quality_of context.now.facts context.now.stand context.now.lower candidate.now.lists) }
+    ensures look { LooksBelow context.now.facts context.now.stand context.now.lower look.new }
+    ensures spends { Spends budget.old budget.new }
 {
     match look {
         Some(look) => look.quality(candidate, budget),
         None => quality(
-            field,
-            reached,
+            context.field(),
+            context.reached(),
             candidate,
-            split_first_group(field, lower).0,
+            split_first_group(context.field(), context.lower()).0,
             budget,
         ),
     }

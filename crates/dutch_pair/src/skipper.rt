@@ -7,42 +7,39 @@ ghost use Rattle.std.specs.Option.{MatchOption};
 ghost use Rattle.dutch_order.specs.Arrangements.{Arrangement, Fits};
 ghost use Rattle.dutch_order.specs.Keys.{IsIn};
 ghost use Rattle.dutch_order.specs.Prefixes.{Begins};
-ghost use Rattle.dutch_pair.specs.Reached.{IsAbove, frame_of};
+ghost use Rattle.dutch_pair.specs.Reached.{frame_of};
 ghost use Rattle.dutch_pair.specs.FloorOf.{IsBasis};
 ghost use Rattle.dutch_pair.specs.Quality.{is_better};
 ghost use Rattle.dutch_pair.specs.QualityIn.{quality_in};
 ghost use Rattle.dutch_pair.specs.Round.{candidates_of, quality_of};
 
 use crate::choice::{Best, is_idle};
+use crate::context::Context;
 use crate::floor::Floors;
 use crate::quality::Quality;
-use crate::reached::Reached;
 use dutch_order::bound::Bound;
 use dutch_order::bracket::Shape;
 use dutch_order::prefix::Prefix;
-use dutch_player::field::Field;
 
 /// One pass over the candidates of a shape, in a bracket above all lower seats by rank. With an aim it seeks those alone that the aim
 /// is not better than.
 #[derive(Drop)]
 pub(crate) struct Pass<'a> {
-    pub(crate) field: &'a Field,
-    pub(crate) reached: &'a Reached,
-    pub(crate) lower: &'a [u16],
+    pub(crate) context: &'a Context<'a>,
     pub(crate) shape: Shape,
     pub(crate) aim: Option<Quality>,
     pub(crate) floors: Floors<'a>,
-    ghost above: { IsAbove field.now reached.now lower.now },
-    ghost fits: { Fits (frame_of field.now reached.now) shape },
-    ghost basis: { IsBasis field.now reached.now lower.now shape floors },
+    ghost fits: { Fits (frame_of context.now.facts context.now.stand) shape },
+    ghost basis: { IsBasis context.now.facts context.now.stand context.now.lower shape floors },
 }
 
 /// A quality that no candidate with a beginning is better than; `None` where none is known.
 fn floor_of_prefix(pass: &Pass<'_>, prefix: &Prefix<'_>) -> Option<Quality>
     ensures { MatchOption result (Unit {0})
-        (λ floor. (a : Arrangement) → IsIn a (candidates_of pass.now.field.now pass.now.reached.now pass.now.shape) → Begins prefix.now a
-        → is_better (quality_of pass.now.field.now pass.now.reached.now pass.now.lower.now a) (quality_in floor) ≡ false) }
+        (λ floor. (a : Arrangement) → IsIn a (candidates_of pass.now.context.now.facts pass.now.context.now.stand pass.now.shape) → Begins prefix.now a
+        → is_better (quality_of pass.now.context.now.facts pass.now.context.now.stand pass.now.context.now.lower a) (quality_in floor) ≡ false) }
 {
+    let _reached = pass.context.reached();
     pass.floors.floor(prefix)
 }
 
@@ -58,15 +55,15 @@ impl<'a, 'k> Bound for Skipper<'a, 'k> {
     ghost use Rattle.dutch_pair.specs.Round.{quality_of};
     ghost use Rattle.dutch_pair.specs.Aims.{aim_in, is_idle};
 
-    ghost frame = { λ s. frame_of s.pass.now.field.now s.pass.now.reached.now };
+    ghost frame = { λ s. frame_of s.pass.now.context.now.facts s.pass.now.context.now.stand };
 
     ghost shape = { λ s. s.pass.now.shape };
 
-    ghost meets = { λ s. numbers_meet s.pass.now.field.now s.pass.now.reached.now };
+    ghost meets = { λ s. numbers_meet s.pass.now.context.now.facts s.pass.now.context.now.stand };
 
-    ghost may_be_left = { λ s. number_may_be_left s.pass.now.field.now s.pass.now.reached.now };
+    ghost may_be_left = { λ s. number_may_be_left s.pass.now.context.now.facts s.pass.now.context.now.stand };
 
-    ghost is_dull = { λ s a. is_idle (aim_in s.pass.now.aim) s.kept.now (quality_of s.pass.now.field.now s.pass.now.reached.now s.pass.now.lower.now a) };
+    ghost is_dull = { λ s a. is_idle (aim_in s.pass.now.aim) s.kept.now (quality_of s.pass.now.context.now.facts s.pass.now.context.now.stand s.pass.now.context.now.lower a) };
 
     #[tactic(auto, using(crate::proofs::AimLemmas::idle_floor))]
     fn cannot_win(&self, prefix: &Prefix<'_>) -> bool {

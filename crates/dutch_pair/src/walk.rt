@@ -14,10 +14,12 @@ ghost use Rattle.dutch_pair.specs.Seated.{all_pairs};
 ghost use Rattle.dutch_pair.specs.Eligible.{HasCandidate};
 ghost use Rattle.dutch_pair.specs.WaysOut.{GoesOut, StandsIn};
 ghost use Rattle.dutch_pair.specs.Ends.{Ends, IsAhead, LeftGoOn, Settles, Turns, is_asked, stopped};
+ghost use Rattle.dutch_order.specs.Steps.{Spends};
 
 use crate::boards::Pair;
-use crate::choice::{Choice, choose};
+use crate::choice::{Choice, choose_in};
 use crate::completion::Answer;
+use crate::context::Context;
 use crate::eligible::{can_complete, leaves_completable};
 use crate::fault::PairFault;
 use crate::group::split_first_group;
@@ -82,29 +84,25 @@ fn is_asked(asked: Option<u16>, number: u16) -> bool
 }
 
 /// Settles a bracket: its shape alone if it is asked for, and else its choice.
-fn settle(
+fn settle<'a>(
     alloc: Global,
-    field: &Field,
-    reached: &Reached,
-    lower: &[u16],
+    context: &'a Context<'a>,
     asked: Option<u16>,
     budget: &mut Budget,
 ) -> Result<Settled, PairFault>
-    requires above { IsAbove field.now reached.now lower.now }
-    requires candidate { HasCandidate field.now reached.now lower.now }
+    requires candidate { HasCandidate context.now.facts context.now.stand context.now.lower }
     requires within { budget.old.used ≤ budget.old.limit }
-    ensures answer { IfOk result (Settles field.now reached.now lower.now asked (budget.new.used ≡ budget.new.limit)) }
-    ensures limit { budget.new.limit ≡ budget.old.limit }
-    ensures within { budget.new.used ≤ budget.new.limit }
+    ensures answer { IfOk result (Settles context.now.facts context.now.stand context.now.lower asked (budget.new.used ≡ budget.new.limit)) }
+    ensures spends { Spends budget.old budget.new }
 {
-    if is_asked(asked, reached.number()) {
-        return match shape_of(field, reached, lower, budget) {
+    if is_asked(asked, context.reached().number()) {
+        return match shape_of(context, budget) {
             Step::Found(shape) => Ok(Settled::Asked { shape }),
             Step::End => unreachable!(),
             Step::Undecided => Ok(Settled::Undecided),
         };
     }
-    match choose(alloc, field, reached, lower, budget)? {
+    match choose_in(alloc, context, budget)? {
         Choice::Chosen { shape, candidate } => Ok(Settled::Chosen { shape, candidate }),
         Choice::Undecided => Ok(Settled::Undecided),
     }
@@ -164,7 +162,8 @@ fn final_bracket(
     ensures { IfOk result (Ends field.now budget.limit asked reached.number pairs.items (final_bracket field.now reached)) }
 {
     let mut budget = budget;
-    match settle(alloc, field, &reached, &[], asked, &mut budget)? {
+    let context = Context::new(field, &reached, &[]);
+    match settle(alloc, &context, asked, &mut budget)? {
         Settled::Asked { shape } => Ok(Ended::Asked { reached, shape }),
         Settled::Chosen {
             shape: _,
@@ -212,7 +211,8 @@ fn penultimate_bracket(
     scores_do_not_ascend(field);
     let mut budget = Budget { limit, used: 0 };
     let reached = again(reached);
-    match settle(alloc, field, &reached, lower, asked, &mut budget)? {
+    let context = Context::new(field, &reached, lower);
+    match settle(alloc, &context, asked, &mut budget)? {
         Settled::Asked { shape } => Ok(Ended::Asked { reached, shape }),
         Settled::Chosen {
             shape: _,
@@ -250,7 +250,8 @@ fn ordinary_bracket(
 {
     let limit = budget.limit;
     let mut budget = budget;
-    let candidate = match settle(alloc, field, &reached, lower, asked, &mut budget)? {
+    let context = Context::new(field, &reached, lower);
+    let candidate = match settle(alloc, &context, asked, &mut budget)? {
         Settled::Chosen {
             shape: _,
             candidate,
@@ -258,7 +259,7 @@ fn ordinary_bracket(
         Settled::Asked { shape } => return Ok(Turn::Ended(Ended::Asked { reached, shape })),
         Settled::Undecided => return Ok(Turn::Ended(stopped(&reached, budget.used))),
     };
-    match leaves_completable(field, &reached, lower, &candidate, &mut budget) {
+    match leaves_completable(&context, &candidate, &mut budget) {
         Answer::Yes => {
             let all = with_pairs(field, &reached, &candidate, pairs)?;
             let left = seats_of(reached.seats(), candidate.down());

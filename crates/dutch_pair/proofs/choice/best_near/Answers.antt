@@ -11,41 +11,40 @@ use Rattle.dutch_pair.proofs.FlatBrackets.{listed_as}
 use Rattle.dutch_pair.proofs.BestLemmas.{chosen_last, handed}
 use Rattle.dutch_pair.proofs.AimLemmas.{skipped_same}
 use Rattle.dutch_pair.proofs.SkippedLemmas.{left_was_there}
+use Rattle.dutch_order.proofs.Spending.{spends-none, spends-more}
 use Rattle.dutch_pair.proofs.choice.best_near.Goals as goal
 
 pub loop-candidate-init : goal.loop-candidate-init
 loop-candidate-init c =
     let pass = c.args.pass.now in
-    let facts = pass.field.now in
-    let stand = pass.reached.now in
+    let facts = pass.context.now.facts in
+    let stand = pass.context.now.stand in
     let coming = c.new-candidates.result.coming in
     let listed : candidates_of facts stand pass.shape ≡ coming =
-    listed_as facts c.rule-rule.result.field.now stand c.rule-rule.result.reached.now c.frame-bracket.result pass.shape coming coming
-    c.new-candidates.ensures.coming c.rule-rule.ensures.field c.rule-rule.ensures.reached c.frame-bracket.ensures refl in
+    listed_as facts c.rule-rule.result.field.now stand c.rule-rule.result.reached.now c.frame.result.now pass.shape coming coming
+    c.new-candidates.ensures.coming c.rule-rule.ensures.field c.rule-rule.ensures.reached c.frame.ensures refl in
     record {
-      chosen = ap (λ (all : List Arrangement). chosen_yet facts stand pass.lower.now (aim_in pass.aim) None all) listed;
+      chosen = ap (λ (all : List Arrangement). chosen_yet facts stand pass.context.now.lower (aim_in pass.aim) None all) listed;
       kept = tt;
       inside = λ lists m. subst (IsIn lists) (sym listed) m;
-      frame = c.new-candidates.ensures.frame ∙ c.frame-bracket.ensures;
+      frame = c.new-candidates.ensures.frame ∙ c.frame.ensures;
       shape = c.new-candidates.ensures.shape;
       field = ap (λ (rule : ByNumber). rule.field.now) c.new-candidates.ensures.rule ∙ c.rule-rule.ensures.field;
       reached = ap (λ (rule : ByNumber). rule.reached.now) c.new-candidates.ensures.rule ∙ c.rule-rule.ensures.reached;
-      limit = refl;
-      rises = omega arith;
+      spends = spends-none _ c.requires.within;
       look = c.requires.look;
-      within = c.requires.within;
     }
 
 pub consider-requires-clause-candidate : goal.consider-requires-clause-candidate
 consider-requires-clause-candidate c =
     let pass = c.args.pass.now in
-    let facts = pass.field.now in
-    let stand = pass.reached.now in
+    let facts = pass.context.now.facts in
+    let stand = pass.context.now.stand in
     let kept = c.loop-candidate.kept in
     let lists = c.in-Found.candidate.lists in
     let m : IsIn lists (candidates_of facts stand pass.shape) =
     c.loop-candidate.invariant.inside lists
-    (left_was_there (λ a. is_idle (aim_in pass.aim) kept (quality_of facts stand pass.lower.now a) ≡ true) lists c.loop-candidate.candidates.coming _ c.in-Found.ensures.answer.0 (inl refl)) in
+    (left_was_there (λ a. is_idle (aim_in pass.aim) kept (quality_of facts stand pass.context.now.lower a) ≡ true) lists c.loop-candidate.candidates.coming _ c.in-Found.ensures.answer.0 (inl refl)) in
     record {
       lists = (pass.shape, in_filter (is_legal (numbers_meet facts stand) (number_may_be_left facts stand) (frame_of facts stand)) lists (arrangements (frame_of facts stand) pass.shape) m);
       down = c.in-Found.ensures.answer.1 ∙ ap (λ (frame : Frame). down frame lists) c.loop-candidate.invariant.frame;
@@ -54,9 +53,9 @@ consider-requires-clause-candidate c =
 pub loop-candidate-preserved : goal.loop-candidate-preserved
 loop-candidate-preserved c =
     let pass = c.args.pass.now in
-    let facts = pass.field.now in
-    let stand = pass.reached.now in
-    let lower = pass.lower.now in
+    let facts = pass.context.now.facts in
+    let stand = pass.context.now.stand in
+    let lower = pass.context.now.lower in
     let kept = c.loop-candidate.kept in
     let aim = aim_in pass.aim in
     let before = c.loop-candidate.candidates.coming in
@@ -72,18 +71,16 @@ loop-candidate-preserved c =
       shape = c.in-Found.ensures.shape ∙ c.loop-candidate.invariant.shape;
       field = ap (λ (rule : ByNumber). rule.field.now) c.in-Found.ensures.rule ∙ c.loop-candidate.invariant.field;
       reached = ap (λ (rule : ByNumber). rule.reached.now) c.in-Found.ensures.rule ∙ c.loop-candidate.invariant.reached;
-      limit = c.if-not-consider.ensures.limit ∙ c.in-Found.ensures.spends.limit ∙ c.loop-candidate.invariant.limit;
-      rises = omega (arith, c.if-not-consider.ensures.rises, c.in-Found.ensures.spends.rises, c.loop-candidate.invariant.rises);
+      spends = spends-more c.loop-candidate.invariant.spends (spends-more c.in-Found.ensures.spends c.if-not-consider.ensures.spends);
       look = c.if-not-consider.ensures.look;
-      within = c.if-not-consider.ensures.within;
     }
 
 pub returns-in-End-clause-answer : goal.returns-in-End-clause-answer
 returns-in-End-clause-answer c =
     let pass = c.args.pass.now in
-    let facts = pass.field.now in
-    let stand = pass.reached.now in
-    let lower = pass.lower.now in
+    let facts = pass.context.now.facts in
+    let stand = pass.context.now.stand in
+    let lower = pass.context.now.lower in
     let kept = c.loop-candidate.kept in
     let aim = aim_in pass.aim in
     let all = chosen_near facts stand lower aim pass.shape in

@@ -7,6 +7,7 @@ use Rattle.dutch_pair.specs.Round.{candidates_of}
 use Rattle.dutch_pair.specs.Kept.{IsKept}
 use Rattle.dutch_pair.specs.Aims.{aim_in, chosen_near, chosen_yet}
 use Rattle.dutch_pair.specs.Remembered.{LooksBelow}
+use Rattle.dutch_order.specs.Steps.{Spends}
 use Rattle.dutch_pair.proofs.choice.best_near.Given as goal
 
 abbrev pub decreases-loop-candidate : goal.decreases-loop-candidate
@@ -14,16 +15,14 @@ decreases-loop-candidate l = length l.candidates.coming
 
 abbrev pub invariant-loop-candidate : goal.invariant-loop-candidate
 invariant-loop-candidate l = record {
-  chosen : chosen_near l.pass.field.now l.pass.reached.now l.pass.lower.now (aim_in l.pass.aim) l.pass.shape
-      ≡ chosen_yet l.pass.field.now l.pass.reached.now l.pass.lower.now (aim_in l.pass.aim) l.kept l.candidates.coming;
-  kept : IsKept l.pass.field.now l.pass.reached.now l.pass.lower.now l.kept;
-  inside : (lists : Arrangement) → IsIn lists l.candidates.coming → IsIn lists (candidates_of l.pass.field.now l.pass.reached.now l.pass.shape);
-  frame : l.candidates.frame ≡ frame_of l.pass.field.now l.pass.reached.now;
+  chosen : chosen_near l.pass.context.now.facts l.pass.context.now.stand l.pass.context.now.lower (aim_in l.pass.aim) l.pass.shape
+      ≡ chosen_yet l.pass.context.now.facts l.pass.context.now.stand l.pass.context.now.lower (aim_in l.pass.aim) l.kept l.candidates.coming;
+  kept : IsKept l.pass.context.now.facts l.pass.context.now.stand l.pass.context.now.lower l.kept;
+  inside : (lists : Arrangement) → IsIn lists l.candidates.coming → IsIn lists (candidates_of l.pass.context.now.facts l.pass.context.now.stand l.pass.shape);
+  frame : l.candidates.frame ≡ frame_of l.pass.context.now.facts l.pass.context.now.stand;
   shape : l.candidates.shape ≡ l.pass.shape;
-  field : l.candidates.rule.field.now ≡ l.pass.field.now;
-  reached : l.candidates.rule.reached.now ≡ l.pass.reached.now;
-  look : LooksBelow l.pass.field.now l.pass.reached.now l.pass.lower.now l.look;
-  limit : l.budget.limit ≡ l.initial.budget.limit;
-  rises : l.initial.budget.used ≤ l.budget.used;
-  within : l.budget.used ≤ l.budget.limit;
+  field : l.candidates.rule.field.now ≡ l.pass.context.now.facts;
+  reached : l.candidates.rule.reached.now ≡ l.pass.context.now.stand;
+  look : LooksBelow l.pass.context.now.facts l.pass.context.now.stand l.pass.context.now.lower l.look;
+  spends : Spends l.initial.budget l.budget;
 }

@@ -7,5 +7,5 @@ use Rattle.dutch_pair.proofs.choice.consider.Goals as goal
 pub returns-in-Yes-clause-same : goal.returns-in-Yes-clause-same
 returns-in-Yes-clause-same c = λ yes coming.
     let pass = c.args.pass.now in
-    winner_kept pass.field.now pass.reached.now pass.lower.now (aim_in pass.aim) c.args.kept.now (record { candidate = c.args.candidate; quality = c.in-Some.quality })
+    winner_kept pass.context.now.facts pass.context.now.stand pass.context.now.lower (aim_in pass.aim) c.args.kept.now (record { candidate = c.args.candidate; quality = c.in-Some.quality })
     c.args.candidate.lists coming c.requires.kept refl c.in-Some.ensures.answer (sym c.if-is_idle.ensures) c.in-Yes.ensures.answer

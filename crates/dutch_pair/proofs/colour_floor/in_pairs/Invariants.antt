@@ -7,6 +7,6 @@ use Rattle.dutch_pair.proofs.colour_floor.in_pairs.Given as goal
 abbrev pub invariant-loop-pair : goal.invariant-loop-pair
 invariant-loop-pair l = record {
   few : l.count ≤ 2 * l.pair-index;
-  so_far : l.count + sum_by (in_both (wish_of l.wish.firm l.players.facts l.wish.colour)) (drop l.pair-index l.pairs)
-      ≡ sum_by (in_both (wish_of l.wish.firm l.players.facts l.wish.colour)) l.pairs;
+  so_far : l.count + sum_by (in_both (wish_of l.wish.firm l.context.facts l.wish.colour)) (drop l.pair-index l.pairs)
+      ≡ sum_by (in_both (wish_of l.wish.firm l.context.facts l.wish.colour)) l.pairs;
 }

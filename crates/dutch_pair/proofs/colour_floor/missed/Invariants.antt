@@ -7,5 +7,5 @@ use Rattle.dutch_pair.proofs.colour_floor.missed.Given as goal
 abbrev pub invariant-loop-pair : goal.invariant-loop-pair
 invariant-loop-pair l = record {
   few : l.count ≤ 1 * l.pair-index;
-  so_far : l.count + count_in_pairs l.players.facts (misses Preference) (drop l.pair-index l.pairs) ≡ count_in_pairs l.players.facts (misses Preference) l.pairs;
+  so_far : l.count + count_in_pairs l.context.facts (misses Preference) (drop l.pair-index l.pairs) ≡ count_in_pairs l.context.facts (misses Preference) l.pairs;
 }

@@ -7,5 +7,5 @@ use Rattle.dutch_pair.proofs.colour_floor.missed_strong.Given as goal
 abbrev pub invariant-loop-pair : goal.invariant-loop-pair
 invariant-loop-pair l = record {
   few : l.count ≤ 2 * l.pair-index;
-  so_far : l.count + count_in_pairs l.players.facts (misses StrongPreference) (drop l.pair-index l.pairs) ≡ count_in_pairs l.players.facts (misses StrongPreference) l.pairs;
+  so_far : l.count + count_in_pairs l.context.facts (misses StrongPreference) (drop l.pair-index l.pairs) ≡ count_in_pairs l.context.facts (misses StrongPreference) l.pairs;
 }

@@ -4,4 +4,4 @@ use Rattle.dutch_pair.proofs.colour_floor.strong_misses.Goals as goal
 
 pub returns-then-not-has_miss-clause-value : goal.returns-then-not-has_miss-clause-value
 returns-then-not-has_miss-clause-value c =
-    no_strong_miss c.args.players.now.facts c.args.pair c.has_miss.result c.has_miss.ensures c.if-not-has_miss.true
+    no_strong_miss c.args.context.now.facts c.args.pair c.has_miss.result c.has_miss.ensures c.if-not-has_miss.true

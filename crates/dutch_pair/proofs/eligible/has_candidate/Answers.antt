@@ -6,23 +6,22 @@ use Rattle.dutch_pair.specs.Round.{candidates_of}
 use Rattle.dutch_pair.specs.Eligible.{can_be_chosen}
 use Rattle.dutch_pair.proofs.FlatBrackets.{listed_as}
 use Rattle.dutch_pair.proofs.EligibleLemmas.{eligible_is, passes_unfit, has_fit, has_none}
+use Rattle.dutch_order.proofs.Spending.{spends-none, spends-more}
 use Rattle.dutch_pair.proofs.eligible.has_candidate.Goals as goal
 
 pub loop-candidate-init : goal.loop-candidate-init
 loop-candidate-init c =
-    let facts = c.args.field.now in
-    let stand = c.args.reached.now in
-    let lower = c.args.lower.now in
+    let facts = c.args.context.now.facts in
+    let stand = c.args.context.now.stand in
+    let lower = c.args.context.now.lower in
     let coming = c.new-candidates.result.coming in
     let listed : candidates_of facts stand c.args.shape ≡ coming =
-    listed_as facts c.rule-rule.result.field.now stand c.rule-rule.result.reached.now c.frame-bracket.result c.args.shape coming coming
+    listed_as facts c.rule-rule.result.field.now stand c.rule-rule.result.reached.now c.frame-bracket.result.now c.args.shape coming coming
     c.new-candidates.ensures.coming c.rule-rule.ensures.field c.rule-rule.ensures.reached c.frame-bracket.ensures refl in
     record {
       member = ap has_member (eligible_is facts stand lower c.args.shape) ∙ ap (λ all. has_member (filter (can_be_chosen facts stand lower) all)) listed;
       frame = c.new-candidates.ensures.frame ∙ c.frame-bracket.ensures;
-      limit = refl;
-      rises = omega arith;
-      within = c.requires.within;
+      spends = spends-none _ c.requires.within;
     }
 
 pub can_be_chosen-requires-clause-left : goal.can_be_chosen-requires-clause-left
@@ -32,21 +31,19 @@ can_be_chosen-requires-clause-left c =
 pub returns-in-Yes-clause-answer : goal.returns-in-Yes-clause-answer
 returns-in-Yes-clause-answer c =
     c.loop-candidate.invariant.member
-    ∙ has_fit (can_be_chosen c.args.field.now c.args.reached.now c.args.lower.now) c.in-Found.candidate.lists c.loop-candidate.candidates.coming c.next.new.self.coming
+    ∙ has_fit (can_be_chosen c.args.context.now.facts c.args.context.now.stand c.args.context.now.lower) c.in-Found.candidate.lists c.loop-candidate.candidates.coming c.next.new.self.coming
     c.in-Found.ensures.answer.0 c.in-Yes.ensures.answer
 
 pub loop-candidate-preserved : goal.loop-candidate-preserved
 loop-candidate-preserved c = record {
   member = c.loop-candidate.invariant.member
-      ∙ passes_unfit (can_be_chosen c.args.field.now c.args.reached.now c.args.lower.now) c.in-Found.candidate.lists c.loop-candidate.candidates.coming c.next.new.self.coming
+      ∙ passes_unfit (can_be_chosen c.args.context.now.facts c.args.context.now.stand c.args.context.now.lower) c.in-Found.candidate.lists c.loop-candidate.candidates.coming c.next.new.self.coming
       c.in-Found.ensures.answer.0 c.in-No.ensures.answer;
   frame = c.in-Found.ensures.frame ∙ c.loop-candidate.invariant.frame;
-  limit = c.in-No.ensures.limit ∙ c.in-Found.ensures.spends.limit ∙ c.loop-candidate.invariant.limit;
-  rises = omega (arith, c.in-No.ensures.rises, c.in-Found.ensures.spends.rises, c.loop-candidate.invariant.rises);
-  within = c.in-No.ensures.within;
+  spends = spends-more c.loop-candidate.invariant.spends (spends-more c.in-Found.ensures.spends c.in-No.ensures.spends);
 }
 
 pub returns-in-End-clause-answer : goal.returns-in-End-clause-answer
 returns-in-End-clause-answer c =
     c.loop-candidate.invariant.member
-    ∙ has_none (can_be_chosen c.args.field.now c.args.reached.now c.args.lower.now) c.loop-candidate.candidates.coming c.in-End.ensures.answer.0
+    ∙ has_none (can_be_chosen c.args.context.now.facts c.args.context.now.stand c.args.context.now.lower) c.loop-candidate.candidates.coming c.in-End.ensures.answer.0

@@ -4,6 +4,7 @@ use Rattle.dutch_pair.specs.Shapes.{has_member}
 use Rattle.dutch_pair.specs.Reached.{frame_of}
 use Rattle.dutch_pair.specs.Round.{eligible}
 use Rattle.dutch_pair.specs.Eligible.{can_be_chosen}
+use Rattle.dutch_order.specs.Steps.{Spends}
 use Rattle.dutch_pair.proofs.eligible.has_candidate.Given as goal
 
 abbrev pub decreases-loop-candidate : goal.decreases-loop-candidate
@@ -11,9 +12,7 @@ decreases-loop-candidate l = length l.candidates.coming
 
 abbrev pub invariant-loop-candidate : goal.invariant-loop-candidate
 invariant-loop-candidate l = record {
-  member : has_member (eligible l.field l.reached l.lower l.fn.shape) ≡ has_member (filter (can_be_chosen l.field l.reached l.lower) l.candidates.coming);
-  frame : l.candidates.frame ≡ frame_of l.field l.reached;
-  limit : l.budget.limit ≡ l.initial.budget.limit;
-  rises : l.initial.budget.used ≤ l.budget.used;
-  within : l.budget.used ≤ l.budget.limit;
+  member : has_member (eligible l.context.facts l.context.stand l.context.lower l.fn.shape) ≡ has_member (filter (can_be_chosen l.context.facts l.context.stand l.context.lower) l.candidates.coming);
+  frame : l.candidates.frame ≡ frame_of l.context.facts l.context.stand;
+  spends : Spends l.initial.budget l.budget;
 }

@@ -2,7 +2,7 @@
 use Rattle.std.proofs.Common.{◌≡◌, ◌∙◌, ◌-◌, ℕ, List, max, not, filter, length, ap}
 use Rattle.std.specs.List.{list_any}
 use Rattle.dutch_pair.specs.ColourFloors.{suits, pool, lonely_first, lonely_second, residents_down}
-use Rattle.dutch_pair.specs.PairFacts.{FieldBracket}
+use Rattle.dutch_pair.specs.Context.{Context}
 use Rattle.dutch_pair.proofs.lonely.lonely.Goals as goal
 
 pub returns-clause-value : goal.returns-clause-value
@@ -11,7 +11,7 @@ returns-clause-value c =
     let stand = c.args.pairs.now.stand in
     let b = c.args.begun.now in
     let pooled : c.pool-pool.result.items ≡ pool facts stand b =
-    c.pool-pool.ensures.items ∙ ap (λ (k : FieldBracket). pool k.facts k.stand b) c.players-players.ensures in
+    c.pool-pool.ensures.items ∙ ap (λ (k : Context). pool k.facts k.stand b) c.context-context.ensures in
     let first : c.lonely_first-first.result ≡ lonely_first facts stand b =
     c.lonely_first-first.ensures.value
     ∙ (ap (λ (p : List ℕ). length (filter (λ x. not (list_any (suits facts stand x) p)) c.waiting-waiting.result.now)) (c.deref.ensures.0 ∙ pooled)
@@ -21,7 +21,7 @@ returns-clause-value c =
     ∙ (ap (λ (p : List ℕ). length (filter (λ y. not (list_any (λ x. suits facts stand x y) c.waiting-waiting.result.now)) p)) (c.deref-2.ensures.0 ∙ pooled)
     ∙ ap (λ (w : List ℕ). length (filter (λ y. not (list_any (λ x. suits facts stand x y) w)) (pool facts stand b))) c.waiting-waiting.ensures.items) in
     let down : c.residents_down.result ≡ residents_down stand c.args.shape =
-    c.residents_down.ensures ∙ ap (λ (k : FieldBracket). residents_down k.stand c.args.shape) c.players-players.ensures in
+    c.residents_down.ensures ∙ ap (λ (k : Context). residents_down k.stand c.args.shape) c.context-context.ensures in
     c.more_lonely.ensures.value
     ∙ (ap (λ n. max n (c.lonely_second-second.result - c.residents_down.result)) first
     ∙ ap (max (lonely_first facts stand b)) (ap (λ n. n - c.residents_down.result) second ∙ ap (λ n. lonely_second facts stand b - n) down))

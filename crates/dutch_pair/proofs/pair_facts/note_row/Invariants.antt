@@ -5,6 +5,6 @@ use Rattle.dutch_pair.proofs.pair_facts.note_row.Given as goal
 
 abbrev pub invariant-loop-y : goal.invariant-loop-y
 invariant-loop-y l = record {
-  noted : NotedUpto l.players l.table (place_of l.x 1 + l.y);
-  within : l.y ≤ length l.players.stand.seats;
+  noted : NotedUpto l.context l.table (place_of l.x 1 + l.y);
+  within : l.y ≤ length l.context.stand.seats;
 }

@@ -4,4 +4,4 @@ use Rattle.dutch_pair.specs.PairFacts.{NotedUpto}
 use Rattle.dutch_pair.proofs.pair_facts.noted.Given as goal
 
 abbrev pub invariant-loop-x : goal.invariant-loop-x
-invariant-loop-x l = NotedUpto l.players l.table (256 * (l.x - 1))
+invariant-loop-x l = NotedUpto l.context l.table (256 * (l.x - 1))

@@ -4,13 +4,15 @@ use Rattle.std.proofs.lemmas.Result.{IfOk-weaker}
 use Rattle.dutch_pair.specs.declared.reached.Kind.TheVariants.{Collapsed}
 use Rattle.dutch_pair.specs.Reached.{IsAbove, IsOf, Stand}
 use Rattle.dutch_pair.specs.Round.{bracket, final_bracket, penultimate_bracket}
-use Rattle.dutch_pair.specs.Ends.{Ends, Settles}
-use Rattle.dutch_pair.proofs.WalkEnds.{above_again, drawn, numbers_left, left_is, left_few, left_above, asked_again, goes_on_again}
+use Rattle.dutch_pair.specs.Context.{Context}
+use Rattle.dutch_pair.specs.Eligible.{HasCandidate}
+use Rattle.dutch_pair.specs.Ends.{Ends}
+use Rattle.dutch_pair.proofs.WalkEnds.{settled, above_again, drawn, numbers_left, left_is, left_few, left_above, asked_again, goes_on_again}
 use Rattle.dutch_pair.proofs.NoDeadEnd.{collapsed_candidate, penultimate_candidate}
 use Rattle.dutch_pair.proofs.walk.penultimate_bracket.Goals as goal
 
-pub settle-requires-clause-above : goal.settle-requires-clause-above
-settle-requires-clause-above c =
+pub new-context-requires : goal.new-context-requires
+new-context-requires c =
     subst (λ (s : Stand). IsAbove c.args.field.now s c.args.lower.now) (sym c.again-reached.ensures) (above_again c.args.field.now c.args.reached c.args.lower.now c.requires.above)
 
 pub with_pairs-requires-clause-of : goal.with_pairs-requires-clause-of
@@ -19,13 +21,13 @@ with_pairs-requires-clause-of c =
 
 pub settle-requires-clause-candidate : goal.settle-requires-clause-candidate
 settle-requires-clause-candidate c =
-    penultimate_candidate c.args.field.now c.args.reached c.again-reached.result c.args.lower.now c.requires.stands c.again-reached.ensures
+    subst (λ (k : Context). HasCandidate k.facts k.stand k.lower) (sym c.new-context.ensures)
+    (penultimate_candidate c.args.field.now c.args.reached c.again-reached.result c.args.lower.now c.requires.stands c.again-reached.ensures)
 
 pub final_bracket-requires-clause-candidate : goal.final_bracket-requires-clause-candidate
 final_bracket-requires-clause-candidate c =
     let r = c.again-reached.result in
-    let stopped = c.settle.new.budget.used ≡ c.settle.new.budget.limit in
-    let h = subst (λ s. Settles c.args.field.now r c.args.lower.now c.args.asked stopped s) c.in-Chosen.is c.in_ok-shape.ensures.answer in
+    let h = settled c.args.asked _ c.new-context.ensures c.in-Chosen.is c.in_ok-shape.ensures.answer in
     let left = left_is c.args.field.now r c.in-Chosen.candidate.lists c.seats.result.now c.down.result.now c.seats_of-left.result.items
     c.seats.ensures (c.down.ensures ∙ h.2) c.seats_of-left.ensures in
     collapsed_candidate c.args.field.now c.args.reached r c.bracket-collapsed.result c.args.lower.now c.deref.result.now
@@ -35,22 +37,19 @@ final_bracket-requires-clause-candidate c =
 pub with_pairs-requires-clause-candidate : goal.with_pairs-requires-clause-candidate
 with_pairs-requires-clause-candidate c =
     let r = c.again-reached.result in
-    let stopped = c.settle.new.budget.used ≡ c.settle.new.budget.limit in
-    let h = subst (λ s. Settles c.args.field.now r c.args.lower.now c.args.asked stopped s) c.in-Chosen.is c.in_ok-shape.ensures.answer in
+    let h = settled c.args.asked _ c.new-context.ensures c.in-Chosen.is c.in_ok-shape.ensures.answer in
     drawn c.args.field.now r c.args.lower.now c.in-Chosen.shape c.in-Chosen.candidate h.1 h.2
 
 pub seats_of-left-requires-clause-inside : goal.seats_of-left-requires-clause-inside
 seats_of-left-requires-clause-inside c =
     let r = c.again-reached.result in
-    let stopped = c.settle.new.budget.used ≡ c.settle.new.budget.limit in
-    let h = subst (λ s. Settles c.args.field.now r c.args.lower.now c.args.asked stopped s) c.in-Chosen.is c.in_ok-shape.ensures.answer in
+    let h = settled c.args.asked _ c.new-context.ensures c.in-Chosen.is c.in_ok-shape.ensures.answer in
     numbers_left c.args.field.now r c.in-Chosen.candidate.lists c.seats.result.now c.down.result.now c.seats.ensures (c.down.ensures ∙ h.2)
 
 pub bracket-collapsed-requires : goal.bracket-collapsed-requires
 bracket-collapsed-requires c =
     let r = c.again-reached.result in
-    let stopped = c.settle.new.budget.used ≡ c.settle.new.budget.limit in
-    let h = subst (λ s. Settles c.args.field.now r c.args.lower.now c.args.asked stopped s) c.in-Chosen.is c.in_ok-shape.ensures.answer in
+    let h = settled c.args.asked _ c.new-context.ensures c.in-Chosen.is c.in_ok-shape.ensures.answer in
     let left = left_is c.args.field.now r c.in-Chosen.candidate.lists c.seats.result.now c.down.result.now c.seats_of-left.result.items
     c.seats.ensures (c.down.ensures ∙ h.2) c.seats_of-left.ensures in
     let now = c.deref.result.now in
@@ -61,8 +60,7 @@ bracket-collapsed-requires c =
 pub final_bracket-requires-clause-above : goal.final_bracket-requires-clause-above
 final_bracket-requires-clause-above c =
     let r = c.again-reached.result in
-    let stopped = c.settle.new.budget.used ≡ c.settle.new.budget.limit in
-    let h = subst (λ s. Settles c.args.field.now r c.args.lower.now c.args.asked stopped s) c.in-Chosen.is c.in_ok-shape.ensures.answer in
+    let h = settled c.args.asked _ c.new-context.ensures c.in-Chosen.is c.in_ok-shape.ensures.answer in
     let left = left_is c.args.field.now r c.in-Chosen.candidate.lists c.seats.result.now c.down.result.now c.seats_of-left.result.items
     c.seats.ensures (c.down.ensures ∙ h.2) c.seats_of-left.ensures in
     let now = c.deref.result.now in
@@ -74,16 +72,14 @@ final_bracket-requires-clause-above c =
 pub returns-in-Asked : goal.returns-in-Asked
 returns-in-Asked c =
     let r = c.again-reached.result in
-    let stopped = c.settle.new.budget.used ≡ c.settle.new.budget.limit in
-    let h = subst (λ s. Settles c.args.field.now r c.args.lower.now c.args.asked stopped s) c.in-Asked.is c.in_ok-shape.ensures.answer in
+    let h = settled c.args.asked _ c.new-context.ensures c.in-Asked.is c.in_ok-shape.ensures.answer in
     asked_again c.args.field.now c.args.limit c.args.asked c.args.reached c.args.lower.now c.args.pairs.items r c.in-Asked.shape c.again-reached.ensures
     c.requires.above h.0 h.1 h.2
 
 pub returns-in_ok-all-in-Chosen : goal.returns-in_ok-all-in-Chosen
 returns-in_ok-all-in-Chosen c =
     let r = c.again-reached.result in
-    let stopped = c.settle.new.budget.used ≡ c.settle.new.budget.limit in
-    let h = subst (λ s. Settles c.args.field.now r c.args.lower.now c.args.asked stopped s) c.in-Chosen.is c.in_ok-shape.ensures.answer in
+    let h = settled c.args.asked _ c.new-context.ensures c.in-Chosen.is c.in_ok-shape.ensures.answer in
     let left = left_is c.args.field.now r c.in-Chosen.candidate.lists c.seats.result.now c.down.result.now c.seats_of-left.result.items
     c.seats.ensures (c.down.ensures ∙ h.2) c.seats_of-left.ensures in
     let now = c.deref.result.now in

@@ -19,7 +19,7 @@ returns-in-Yes c =
     IfOk-weaker c.walk_on.result (Ends facts c.can_complete.new.budget.limit c.args.asked 1 [] (brackets facts 1 [] (scoregroups facts (everybody facts))))
     (Ends facts c.args.limit c.args.asked 1 [] (round facts))
     (λ ended h. round_walked facts c.args.limit c.can_complete.new.budget.limit c.args.asked c.deref.result.now ended (c.deref.ensures.0 ∙ c.everybody-all.ensures)
-    c.in-Yes.ensures.answer c.can_complete.ensures.limit h) c.walk_on.ensures
+    c.in-Yes.ensures.answer c.can_complete.ensures.spends.limit h) c.walk_on.ensures
 
 pub returns-in-No : goal.returns-in-No
 returns-in-No c = round_nothing c.args.field.now c.args.limit c.args.asked c.deref.result.now (c.deref.ensures.0 ∙ c.everybody-all.ensures) c.in-No.ensures.answer

@@ -5,4 +5,4 @@ use Rattle.dutch_pair.proofs.pair_facts.PairFacts.read.Goals as goal
 
 pub invariant_of-result : goal.invariant_of-result
 invariant_of-result c =
-    (knows_all c.new-players.result c.noted-suiting.result c.noted-suiting.ensures, omega (arith, c.len-count.ensures.value, c.len-count.ensures.few))
+    (knows_all c.args.context.now c.noted-suiting.result c.noted-suiting.ensures, omega (arith, c.len-count.ensures.value, c.len-count.ensures.few))

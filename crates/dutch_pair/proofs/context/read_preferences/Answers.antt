@@ -3,7 +3,7 @@ use Rattle.std.proofs.Common.{◌<◌, ◌≤◌, length, arith}
 use Rattle.dutch_player.specs.Facts.{SeatFacts, no_seat}
 use Rattle.dutch_player.specs.Preferences.{preference}
 use Rattle.dutch_pair.proofs.TakenSteps.{made_more, made_all}
-use Rattle.dutch_pair.proofs.player_facts.read_preferences.Goals as goal
+use Rattle.dutch_pair.proofs.context.read_preferences.Goals as goal
 
 pub loop-seat-preserved : goal.loop-seat-preserved
 loop-seat-preserved c =

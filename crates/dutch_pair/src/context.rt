@@ -1,4 +1,5 @@
-// What floors ask about the players of a bracket, read once (C.04.3 A.6, C.10, C.11).
+// A bracket in its field above all lower seats, and what its shape, its choice and their floors ask of it, read once when the round
+// reaches it (C.04.3 A.3, A.6).
 ghost use Rattle.std.specs.Prelude.{◌≡◌, ◌<◌, ◌≤◌, length};
 ghost use Rattle.dutch_player.specs.Facts.{seat_at};
 ghost use Rattle.dutch_player.specs.Preferences.{preference, is_same};
@@ -6,16 +7,17 @@ ghost use Rattle.dutch_pair.specs.declared.colours_missed.Miss.TheVariants.{Pref
 ghost use Rattle.dutch_pair.specs.Quality.{one_if, misses, count_in};
 ghost use Rattle.arrayvec.specs.ArrayVec.{array_vec_len};
 ghost use Rattle.dutch_order.specs.Choices.{numbers_from};
-ghost use Rattle.dutch_pair.specs.Reached.{IsOf};
-ghost use Rattle.dutch_pair.specs.Seated.{seat_of, score_at, AllNumbers};
+ghost use Rattle.dutch_pair.specs.Reached.{IsAbove, IsOf, frame_of, numbers_meet, number_may_be_left};
+ghost use Rattle.dutch_pair.specs.Seated.{seat_of, score_at, lowest, AllNumbers};
 ghost use Rattle.dutch_pair.specs.ColourFloors.{is_firm, wants, wants_firmly, suits, residents_down};
-ghost use Rattle.dutch_pair.specs.PairFacts.{preferences_of, collide};
+ghost use Rattle.dutch_pair.specs.Context.{preferences_of};
+ghost use Rattle.dutch_pair.specs.PairFacts.{collide};
 
 use crate::colours_missed::is_same;
-use crate::reached::Reached;
-use crate::seated::Pair;
+use crate::reached::{ByNumber, Reached};
+use crate::seated::{Pair, lowest};
 use arrayvec::ArrayVec;
-use dutch_order::bracket::Shape;
+use dutch_order::bracket::{Bracket, Shape};
 use dutch_order::numbers::{LIMIT, Numbers, numbered_from};
 use dutch_order::rules::Rule;
 use dutch_player::field::Field;
@@ -23,25 +25,28 @@ use dutch_player::preference::{Kind, Pref};
 use std::marker::Model;
 use trf16::cell::Colour;
 
-/// A bracket of a field, and the colour preferences of the field's players.
+/// A bracket of a field above all lower seats by rank.
 #[derive(Drop)]
-pub(crate) struct PlayerFacts<'a> {
+pub(crate) struct Context<'a> {
     field: &'a Field,
     reached: &'a Reached,
+    lower: &'a [u16],
+    // the bracket by scores
+    frame: Bracket,
+    // the lowest of them, in half points
+    lowest: u16,
     // by seat
     preferences: ArrayVec<Option<Pref>, LIMIT>,
 }
 
-impl<'a> Model for PlayerFacts<'a> {
-    ghost use Rattle.std.specs.Prelude.{◌≡◌};
-    ghost use Rattle.dutch_pair.specs.Reached.{IsOf};
-    ghost use Rattle.dutch_pair.specs.PairFacts.{FieldBracket, preferences_of};
+impl<'a> Model for Context<'a> {
+    ghost use Rattle.dutch_pair.specs.Context.{Context, IsRead};
 
-    ghost Value = { FieldBracket };
+    ghost Value = { Context };
 
-    ghost view = { λ p. record { facts = p.field.now; stand = p.reached.now } };
+    ghost view = { λ c. record { facts = c.field.now; stand = c.reached.now; lower = c.lower.now } };
 
-    ghost invariant = { λ p. (IsOf p.field.now p.reached.now) × (p.preferences.items ≡ preferences_of p.field.now) };
+    ghost invariant = { λ c. IsRead c.field.now c.reached.now c.lower.now c.frame c.lowest c.preferences.items };
 }
 
 /// The colour preferences of a field's players, by seat.
@@ -74,32 +79,67 @@ fn collide(one: Option<Pref>, other: Option<Pref>) -> bool
     }
 }
 
-impl<'a> PlayerFacts<'a> {
-    /// Reads the preferences.
-    pub(crate) fn new(field: &'a Field, reached: &'a Reached) -> PlayerFacts<'a>
-        requires { IsOf field.now reached.now }
-        ensures { result ≡ record { facts = field.now; stand = reached.now } }
+impl<'a> Context<'a> {
+    /// Reads a bracket above all lower seats by rank.
+    pub(crate) fn new(field: &'a Field, reached: &'a Reached, lower: &'a [u16]) -> Context<'a>
+        requires { IsAbove field.now reached.now lower.now }
+        ensures { result ≡ record { facts = field.now; stand = reached.now; lower = lower.now } }
     {
-        PlayerFacts {
+        Context {
             field,
             reached,
+            lower,
+            frame: reached.frame(field),
+            lowest: lowest(field, reached.seats()),
             preferences: read_preferences(field),
         }
     }
 
     /// The field.
-    pub(crate) fn field(&self) -> &Field
+    pub(crate) fn field(&self) -> &'a Field
         ensures { result.now ≡ self.now.facts }
     {
         self.field
     }
 
     /// The bracket.
-    pub(crate) fn reached(&self) -> &Reached
+    pub(crate) fn reached(&self) -> &'a Reached
         ensures value { result.now ≡ self.now.stand }
         ensures sound { IsOf self.now.facts self.now.stand }
+        ensures above { IsAbove self.now.facts self.now.stand self.now.lower }
     {
         self.reached
+    }
+
+    /// The seats below the bracket, by rank.
+    pub(crate) fn lower(&self) -> &'a [u16]
+        ensures { result.now ≡ self.now.lower }
+    {
+        self.lower
+    }
+
+    /// The bracket by scores.
+    pub(crate) fn frame(&self) -> &Bracket
+        ensures { result.now ≡ frame_of self.now.facts self.now.stand }
+    {
+        &self.frame
+    }
+
+    /// Who of its players may meet, and who may be left over, by number (C.1 to C.3).
+    pub(crate) fn rule(&self) -> ByNumber<'a>
+        ensures field { result.field.now ≡ self.now.facts }
+        ensures reached { result.reached.now ≡ self.now.stand }
+        ensures meets { ⟦<ByNumber<'a> as Rule>⟧.meets result ≡ numbers_meet self.now.facts self.now.stand }
+        ensures may_be_left { ⟦<ByNumber<'a> as Rule>⟧.may_be_left result ≡ number_may_be_left self.now.facts self.now.stand }
+    {
+        self.reached.rule(self.field)
+    }
+
+    /// The lowest score, in half points.
+    pub(crate) fn lowest(&self) -> u16
+        ensures { result ≡ lowest self.now.facts self.now.stand.seats }
+    {
+        self.lowest
     }
 
     /// How many players the bracket has.

@@ -3,7 +3,7 @@ use Rattle.std.proofs.Common.{◌∙◌, ap, sym}
 use Rattle.dutch_pair.specs.Quality.{one_if}
 use Rattle.dutch_pair.specs.PairFacts.{collide}
 use Rattle.dutch_pair.proofs.PairMisses.{pair_misses}
-use Rattle.dutch_pair.proofs.player_facts.PlayerFacts.has_miss.Goals as goal
+use Rattle.dutch_pair.proofs.context.Context.has_miss.Goals as goal
 
 pub returns : goal.returns
 returns c =

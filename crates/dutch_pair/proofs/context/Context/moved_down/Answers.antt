@@ -5,7 +5,7 @@ use Rattle.dutch_order.proofs.Members.{length-numbers}
 use Rattle.dutch_pair.specs.Reached.{Stand}
 use Rattle.dutch_pair.specs.Seated.{score_at, AllNumbers}
 use Rattle.dutch_pair.proofs.ArrangementParts.{numbers_within}
-use Rattle.dutch_pair.proofs.player_facts.PlayerFacts.moved_down.Goals as goal
+use Rattle.dutch_pair.proofs.context.Context.moved_down.Goals as goal
 
 pub returns-clause-len : goal.returns-clause-len
 returns-clause-len c =

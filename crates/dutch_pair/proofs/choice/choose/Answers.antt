@@ -1,6 +1,0 @@
--- A bracket with a candidate has a shape.
-use Rattle.dutch_pair.proofs.NoDeadEnd.{shape_there}
-use Rattle.dutch_pair.proofs.choice.choose.Goals as goal
-
-pub unreachable-requires : goal.unreachable-requires
-unreachable-requires c = shape_there c.args.field.now c.args.reached.now c.args.lower.now c.requires.candidate c.in-End.ensures.answer

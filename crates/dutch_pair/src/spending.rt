@@ -1,0 +1,19 @@
+// Steps that are made at once, for so many questions.
+ghost use Rattle.std.specs.Prelude.{◌≡◌, ◌≤◌, false};
+ghost use Rattle.dutch_order.specs.Steps.{Spends};
+
+use dutch_order::steps::Budget;
+
+/// Makes steps, as many as are asked for. It says no if the budget's limit would be passed: then all that are left are made.
+pub(crate) fn spend(steps: u64, budget: &mut Budget) -> bool
+    requires within { budget.old.used ≤ budget.old.limit }
+    ensures stopped { result ≡ false → budget.new.used ≡ budget.new.limit }
+    ensures spends { Spends budget.old budget.new }
+{
+    if budget.limit - budget.used < steps {
+        budget.used = budget.limit;
+        return false;
+    }
+    budget.used += steps;
+    true
+}
