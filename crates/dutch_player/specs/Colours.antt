@@ -1,11 +1,13 @@
 -- Who gets which colour (C.04.3 E).
 use Rattle.std.specs.Prelude.{ℕ, ◌+◌, ◌-◌, ◌%◌, Bool, ◌&&◌, ◌||◌, ◌==◌, nat_lt, if◌then◌else◌, List, [], ◌∷◌, Option, Some, None}
-use Rattle.std.specs.Option.{option_map_or}
 use Rattle.trf16.specs.declared.cell.Colour.{Colour}
 use Rattle.trf16.specs.declared.cell.Colour.TheVariants.{White, Black}
 use Rattle.dutch_player.specs.declared.preference.Kind.{Kind}
 use Rattle.dutch_player.specs.declared.preference.Kind.TheVariants.{Absolute, Strong, Mild}
 use Rattle.dutch_player.specs.declared.preference.Pref.{Pref}
+use Rattle.dutch_player.specs.declared.colour_rule.ColourRule.{ColourRule}
+use Rattle.dutch_player.specs.declared.colour_rule.ColourRule.TheVariants.{BothPreferences, StrongerPreference, Alternation, HigherRank, InitialColour}
+use Rattle.dutch_player.specs.declared.colours.Decision.{Decision}
 use Rattle.dutch_player.specs.Preferences.{other, is_same, whites, blacks, preference}
 use Rattle.dutch_player.specs.Meetings.{is_absolute}
 use Rattle.dutch_player.specs.Facts.{SeatFacts, Facts, seat_at}
@@ -32,28 +34,49 @@ alternated [] theirs = None
 alternated (mine ∷ before) [] = None
 alternated (mine ∷ before) (theirs ∷ their_before) = if is_same mine theirs then alternated before their_before else Some (other mine)
 
--- E.2 to E.4: both want one colour; what the higher ranked of them gets
-abbrev pub contested : List Colour → List Colour → Pref → Pref → Colour
+-- how the colours of two are decided: the first rule that decides, and the colour that the higher ranked of them gets by it
+abbrev pub by : ColourRule → Colour → Decision
+by rule colour = record { rule = rule; colour = colour }
+
+-- E.3: the colours alternate, where there is a game from which they can; else E.4: the higher ranked gets what he wants
+abbrev pub by_history : Option Colour → Colour → Decision
+by_history (Some alternate) wanted = by Alternation alternate
+by_history None wanted = by HigherRank wanted
+
+-- E.2 to E.4: both want one colour
+abbrev pub contested : List Colour → List Colour → Pref → Pref → Decision
 contested high low wanted theirs =
-    if is_stronger wanted high theirs low then wanted.colour
-    else (if is_stronger theirs low wanted high then other wanted.colour
-    else option_map_or (λ colour. colour) (alternated high low) wanted.colour)
+    if is_stronger wanted high theirs low then by StrongerPreference wanted.colour
+    else (if is_stronger theirs low wanted high then by StrongerPreference (other wanted.colour)
+    else by_history (alternated high low) wanted.colour)
 
 -- E.5: nobody has a preference; with an odd start rank the higher ranked gets the initial colour
 abbrev pub by_start : Colour → ℕ → Colour
 by_start initial start = if start % 2 == 1 then initial else other initial
 
 -- E.1: both preferences are granted where they are not for one colour; else E.2 to E.4, or E.5
+abbrev pub by_preferences : Colour → SeatFacts → SeatFacts → Option Pref → Option Pref → Decision
+by_preferences initial high low (Some wanted) (Some theirs) =
+    if is_same wanted.colour theirs.colour then contested high.played low.played wanted theirs else by BothPreferences wanted.colour
+by_preferences initial high low (Some wanted) None = by BothPreferences wanted.colour
+by_preferences initial high low None (Some theirs) = by BothPreferences (other theirs.colour)
+by_preferences initial high low None None = by InitialColour (by_start initial high.start)
+
+-- the colour that the higher ranked gets by them
 abbrev pub granted : Colour → SeatFacts → SeatFacts → Option Pref → Option Pref → Colour
-granted initial high low (Some wanted) (Some theirs) = if is_same wanted.colour theirs.colour then contested high.played low.played wanted theirs else wanted.colour
-granted initial high low (Some wanted) None = wanted.colour
-granted initial high low None (Some theirs) = other theirs.colour
-granted initial high low None None = by_start initial high.start
+granted initial high low wanted theirs = (by_preferences initial high low wanted theirs).colour
+
+-- E: how the colours of two are decided, of whom the first ranks higher
+abbrev pub decided : Colour → SeatFacts → SeatFacts → Decision
+decided initial high low = by_preferences initial high low (preference high.played) (preference low.played)
+
+-- the same of two seats
+abbrev pub decision_of : Facts → ℕ → ℕ → Decision
+decision_of facts high low = decided facts.initial (seat_at facts high) (seat_at facts low)
 
 -- E: the colour that the higher ranked of two gets
 abbrev pub colour_of_higher : Facts → ℕ → ℕ → Colour
-colour_of_higher facts high low =
-    granted facts.initial (seat_at facts high) (seat_at facts low) (preference (seat_at facts high).played) (preference (seat_at facts low).played)
+colour_of_higher facts high low = (decision_of facts high low).colour
 
 -- who has white, and who has black, where the first gets a colour
 abbrev pub with_colour : ℕ → ℕ → Colour → ℕ × ℕ
@@ -63,3 +86,7 @@ with_colour a b Black = (b, a)
 -- E: the seat with white and the seat with black, of two in any order; the smaller seat ranks higher
 abbrev pub colours : Facts → ℕ → ℕ → ℕ × ℕ
 colours facts a b = if nat_lt a b then with_colour a b (colour_of_higher facts a b) else with_colour b a (colour_of_higher facts b a)
+
+-- E: the first rule that decides who gets which colour, of two in any order
+abbrev pub colour_rule : Facts → ℕ → ℕ → ColourRule
+colour_rule facts a b = if nat_lt a b then (decision_of facts a b).rule else (decision_of facts b a).rule

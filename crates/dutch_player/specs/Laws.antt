@@ -1,14 +1,20 @@
 -- What holds of every field (C.04.3 A.6, C.1, C.3, E).
-use Rattle.std.specs.Prelude.{◌≡◌, ℕ, ◌+◌, ◌<◌, ◌≤◌, true, false, nat_eq, List, map, All, Contains, Option, Some}
+use Rattle.std.specs.Prelude.{◌≡◌, ℕ, ◌+◌, ◌<◌, ◌≤◌, true, false, nat_eq, List, map, All, Contains, Option, Some, None}
 use Rattle.std.specs.List.{IsDistinct}
 use Rattle.trf16.specs.Sheet.{Sheet, known, rounds_played}
 use Rattle.trf16.specs.Absence.{absent}
+use Rattle.trf16.specs.declared.cell.Colour.{Colour}
+use Rattle.dutch_player.specs.declared.colour_rule.ColourRule.TheVariants.{BothPreferences, HigherRank, InitialColour}
 use Rattle.dutch_player.specs.declared.preference.Kind.TheVariants.{Absolute}
 use Rattle.dutch_player.specs.declared.preference.Pref.{Pref}
 use Rattle.dutch_player.specs.Preferences.{preference}
 use Rattle.dutch_player.specs.Facts.{Facts, seat_at, total_of}
 use Rattle.dutch_player.specs.Meetings.{may_meet}
-use Rattle.dutch_player.specs.Colours.{with_colour, colours}
+use Rattle.dutch_player.specs.Colours.{with_colour, colours, colour_rule}
+
+-- the first of two gets a colour against the second
+abbrev pub Gets : Facts → ℕ → ℕ → Colour → Type 0
+Gets facts a b colour = colours facts a b ≡ with_colour a b colour
 
 -- A.6, C.3, E.1: of two who may meet, with absolute preferences for different colours, both get what they prefer
 abbrev pub GrantsBoth : Facts → ℕ → ℕ → Type 0
@@ -16,6 +22,13 @@ GrantsBoth facts a b = (p q : Pref) → may_meet facts a b ≡ true
     → preference (seat_at facts a).played ≡ Some p → preference (seat_at facts b).played ≡ Some q
     → p.kind ≡ Absolute → q.kind ≡ Absolute → (p.colour ≡ q.colour → ⊥)
     → (colours facts a b ≡ with_colour a b p.colour) × (colours facts a b ≡ with_colour b a q.colour)
+
+-- what the rule tells by which the colours of two are decided. E.1: whoever prefers a colour gets it. E.4: the higher ranked gets the
+-- colour that he prefers. E.5: nobody prefers one
+pub record TellsRule (facts : Facts) (a b : ℕ) : Type 0 where
+  pub granted : colour_rule facts a b ≡ BothPreferences → (wish : Pref) → preference (seat_at facts a).played ≡ Some wish → Gets facts a b wish.colour
+  pub higher : colour_rule facts a b ≡ HigherRank → a < b → (wish : Pref) → preference (seat_at facts a).played ≡ Some wish → Gets facts a b wish.colour
+  pub nobody : colour_rule facts a b ≡ InitialColour → (preference (seat_at facts a).played ≡ None) × (preference (seat_at facts b).played ≡ None)
 
 -- the start ranks of the present players, by rank
 abbrev pub start_ranks : Facts → List ℕ

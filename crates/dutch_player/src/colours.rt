@@ -1,13 +1,23 @@
-// Who gets which colour (C.04.3 E).
+// Who gets which colour, and by which rule (C.04.3 E).
 ghost use Rattle.std.specs.Prelude.{◌≡◌, ◌≤◌, length};
-ghost use Rattle.dutch_player.specs.Preferences.{preference};
+ghost use Rattle.dutch_player.specs.declared.colour_rule.ColourRule.TheVariants.{BothPreferences};
 ghost use Rattle.dutch_player.specs.SeatOf.{facts_in};
-ghost use Rattle.dutch_player.specs.Colours.{strength, distance, is_stronger, alternated, contested, by_start, granted, with_colour};
+ghost use Rattle.dutch_player.specs.Colours.{strength, distance, is_stronger, alternated, by, by_history, contested, by_preferences, by_start, decided, with_colour};
 
+use crate::colour_rule::ColourRule;
 use crate::meetings::is_absolute;
 use crate::preference::{Kind, Pref, blacks, is_same, other, preference, whites};
 use crate::seat::Seat;
 use trf16::cell::Colour;
+
+/// How the colours of two are decided.
+#[derive(Clone, Copy, Drop)]
+pub(crate) struct Decision {
+    // the first rule that decides
+    pub(crate) rule: ColourRule,
+    // what the higher ranked of the two gets by it
+    pub(crate) colour: Colour,
+}
 
 fn strength(kind: Kind) -> u8
     ensures { result ≡ strength kind }
@@ -53,17 +63,36 @@ fn alternated(mine: &[Colour], theirs: &[Colour]) -> Option<Colour>
     }
 }
 
+// E.3 and E.4: the higher ranked wants a colour; where the colours can alternate he gets the one by which they do.
+fn by_history(alternate: Option<Colour>, wanted: Colour) -> Decision
+    ensures { result ≡ by_history alternate wanted }
+{
+    match alternate {
+        Some(colour) => Decision {
+            rule: ColourRule::Alternation,
+            colour,
+        },
+        None => Decision {
+            rule: ColourRule::HigherRank,
+            colour: wanted,
+        },
+    }
+}
+
 // E.2 to E.4: both want one colour.
-fn contested(high: &[Colour], low: &[Colour], wanted: Pref, theirs: Pref) -> Colour
+fn contested(high: &[Colour], low: &[Colour], wanted: Pref, theirs: Pref) -> Decision
     ensures { result ≡ contested high.now low.now wanted theirs }
 {
+    let rule = ColourRule::StrongerPreference;
     if is_stronger(wanted, high, theirs, low) {
-        return wanted.colour;
+        let colour = wanted.colour;
+        return Decision { rule, colour };
     }
     if is_stronger(theirs, low, wanted, high) {
-        return other(wanted.colour);
+        let colour = other(wanted.colour);
+        return Decision { rule, colour };
     }
-    alternated(high, low).unwrap_or(wanted.colour)
+    by_history(alternated(high, low), wanted.colour)
 }
 
 // E.5: nobody has played a game.
@@ -77,34 +106,47 @@ fn by_start(initial: Colour, start: u16) -> Colour
     }
 }
 
-fn granted(
+// E.1: who has no preference is content with either colour.
+fn both(colour: Colour) -> Decision
+    ensures { result ≡ by BothPreferences colour }
+{
+    Decision {
+        rule: ColourRule::BothPreferences,
+        colour,
+    }
+}
+
+fn by_preferences(
     initial: Colour,
     high: &Seat,
     low: &Seat,
     wanted: Option<Pref>,
     theirs: Option<Pref>,
-) -> Colour
-    ensures { result ≡ granted initial (facts_in high.now) (facts_in low.now) wanted theirs }
+) -> Decision
+    ensures { result ≡ by_preferences initial (facts_in high.now) (facts_in low.now) wanted theirs }
 {
     match (wanted, theirs) {
         (Some(wanted), Some(theirs)) => {
             if is_same(wanted.colour, theirs.colour) {
                 contested(&high.played, &low.played, wanted, theirs)
             } else {
-                wanted.colour
+                both(wanted.colour)
             }
         }
-        (Some(wanted), None) => wanted.colour,
-        (None, Some(theirs)) => other(theirs.colour),
-        (None, None) => by_start(initial, high.start),
+        (Some(wanted), None) => both(wanted.colour),
+        (None, Some(theirs)) => both(other(theirs.colour)),
+        (None, None) => Decision {
+            rule: ColourRule::InitialColour,
+            colour: by_start(initial, high.start),
+        },
     }
 }
 
-/// The colour that the higher ranked of two gets.
-pub(crate) fn colour_of_higher(initial: Colour, high: &Seat, low: &Seat) -> Colour
-    ensures { result ≡ granted initial (facts_in high.now) (facts_in low.now) (preference (facts_in high.now).played) (preference (facts_in low.now).played) }
+/// How the colours of two are decided, of whom the first ranks higher.
+pub(crate) fn decided(initial: Colour, high: &Seat, low: &Seat) -> Decision
+    ensures { result ≡ decided initial (facts_in high.now) (facts_in low.now) }
 {
-    granted(
+    by_preferences(
         initial,
         high,
         low,

@@ -5,9 +5,10 @@ ghost use Rattle.dutch_player.specs.Facts.{seat_at, facts_of};
 ghost use Rattle.dutch_player.specs.Outcomes.{Gives};
 ghost use Rattle.dutch_player.specs.SeatOf.{facts_in};
 ghost use Rattle.dutch_player.specs.Meetings.{is_topscorer, may_meet};
-ghost use Rattle.dutch_player.specs.Colours.{colours};
+ghost use Rattle.dutch_player.specs.Colours.{colours, colour_rule, decision_of};
 
-use crate::colours::{colour_of_higher, with_colour};
+use crate::colour_rule::ColourRule;
+use crate::colours::{Decision, decided, with_colour};
 use crate::fault::FieldFault;
 use crate::float::Float;
 use crate::meetings::{clash, have_met};
@@ -163,6 +164,15 @@ impl Field {
         self.seat(seat).may_bye
     }
 
+    // How the colours of two are decided, of whom the first ranks higher.
+    fn decision_of(&self, high: u16, low: u16) -> Decision
+        requires first { high < length self.now.seats }
+        requires second { low < length self.now.seats }
+        ensures { result ≡ decision_of self.now high low }
+    {
+        decided(self.initial, self.seat(high), self.seat(low))
+    }
+
     /// The seat that has white and the seat that has black (E), of two players in any order.
     pub fn colours(&self, a: u16, b: u16) -> (u16, u16)
         requires first { a < length self.now.seats }
@@ -170,17 +180,22 @@ impl Field {
         ensures { result ≡ colours self.now a b }
     {
         if a < b {
-            with_colour(
-                a,
-                b,
-                colour_of_higher(self.initial, self.seat(a), self.seat(b)),
-            )
+            with_colour(a, b, self.decision_of(a, b).colour)
         } else {
-            with_colour(
-                b,
-                a,
-                colour_of_higher(self.initial, self.seat(b), self.seat(a)),
-            )
+            with_colour(b, a, self.decision_of(b, a).colour)
+        }
+    }
+
+    /// The first rule that decides who of two players, in any order, gets which colour (E).
+    pub fn colour_rule(&self, a: u16, b: u16) -> ColourRule
+        requires first { a < length self.now.seats }
+        requires second { b < length self.now.seats }
+        ensures { result ≡ colour_rule self.now a b }
+    {
+        if a < b {
+            self.decision_of(a, b).rule
+        } else {
+            self.decision_of(b, a).rule
         }
     }
 }

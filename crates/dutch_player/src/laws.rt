@@ -4,9 +4,9 @@ ghost use Rattle.trf16.specs.Sheet.{Sheet};
 ghost use Rattle.trf16.specs.StartRanks.{HasOwnStarts};
 ghost use Rattle.trf16.specs.declared.cell.Colour.{Colour};
 ghost use Rattle.dutch_player.specs.Meetings.{may_meet};
-ghost use Rattle.dutch_player.specs.Colours.{colours};
+ghost use Rattle.dutch_player.specs.Colours.{colours, colour_rule};
 ghost use Rattle.dutch_player.specs.Facts.{Facts, facts_of, seat_at, goes_before};
-ghost use Rattle.dutch_player.specs.Laws.{GrantsBoth, IsFieldOf};
+ghost use Rattle.dutch_player.specs.Laws.{GrantsBoth, IsFieldOf, TellsRule};
 
 use crate::field::Field;
 
@@ -28,6 +28,19 @@ pub fn colours_are_symmetric(field: &Field, a: u16, b: u16)
 pub fn absolute_preferences_are_granted(field: &Field, a: u16, b: u16)
     requires { a ≢ b }
     ensures { GrantsBoth field.now a b }
+{}
+
+/// The rule that decides the colours of two does not depend on the order in which they are named.
+#[tactic(auto, using(crate::proofs::LawLemmas::rule_sym))]
+pub fn colour_rules_are_symmetric(field: &Field, a: u16, b: u16)
+    requires { a ≢ b }
+    ensures { colour_rule field.now a b ≡ colour_rule field.now b a }
+{}
+
+/// What the rule tells by which the colours of two are decided.
+#[tactic(auto, using(crate::proofs::LawLemmas::tells_rule))]
+pub fn colour_rules_tell(field: &Field, a: u16, b: u16)
+    ensures { TellsRule field.now a b }
 {}
 
 /// Of two seats the one in front has no smaller score, and the other does not go before it (A.2).

@@ -2,6 +2,7 @@
 // as plain facts by rank.
 #![tactic(auto)]
 
+pub mod colour_rule;
 mod colours;
 pub mod fault;
 pub mod field;

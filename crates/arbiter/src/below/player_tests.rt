@@ -3,6 +3,7 @@
 // Each question to a field stands once, in a function that asks it of a seat if the field has it: so the tests themselves are lists of
 // what must come, and are proved in no time.
 use crate::below::lines::{Line, field_of, text_of};
+use dutch_player::colour_rule::ColourRule;
 use dutch_player::fault::FieldFault;
 use dutch_player::field::Field;
 use dutch_player::float::Float;
@@ -78,6 +79,14 @@ fn gets_white(field: &Field, white: u16, black: u16) -> bool {
         && usize::from(black) < field.len()
         && field.colours(white, black) == (white, black)
         && field.colours(black, white) == (white, black)
+}
+
+// Whether a rule decides the colours of two seats, in whichever order they are named.
+fn decides(field: &Field, rule: ColourRule, a: u16, b: u16) -> bool {
+    usize::from(a) < field.len()
+        && usize::from(b) < field.len()
+        && field.colour_rule(a, b) == rule
+        && field.colour_rule(b, a) == rule
 }
 
 // Whether a seat may have the bye; none where the field has it not.
@@ -158,6 +167,7 @@ fn the_last_games_that_differ_decide(rt: HostRuntime) -> Result<(), Fail> {
     assert!(rt; has_colours(&field, 0, 0, None, MILD_WHITE));
     assert!(rt; has_colours(&field, 1, 0, None, MILD_WHITE));
     assert!(rt; gets_white(&field, 1, 0));
+    assert!(rt; decides(&field, ColourRule::Alternation, 1, 0));
     Ok(())
 }
 
@@ -194,9 +204,14 @@ fn topscorers_meet_in_the_last_round_alone(rt: HostRuntime) -> Result<(), Fail> 
         assert!(rt; topscorer(&last, seat) == Some(is));
     }
     assert!(rt; may_meet(&last, 0, 1) == Some(true));
-    // the lists of colours are the same, and so the higher ranked gets black
-    for (white, black) in [(1, 0), (5, 2), (3, 4)] {
+    // of the first two the lists of colours are the same, and so the higher ranked gets black
+    for (white, black, rule) in [
+        (1, 0, ColourRule::HigherRank),
+        (5, 2, ColourRule::BothPreferences),
+        (3, 4, ColourRule::StrongerPreference),
+    ] {
         assert!(rt; gets_white(&last, white, black));
+        assert!(rt; decides(&last, rule, white, black));
     }
     let earlier = field_of(rt.alloc(), &TOPSCORERS, Some(4), None)?;
     assert!(rt; topscorer(&earlier, 0) == Some(false));
@@ -237,6 +252,7 @@ fn without_games_the_start_rank_decides(rt: HostRuntime) -> Result<(), Fail> {
     ];
     let asked = field_of(rt.alloc(), &lines, None, Some(Colour::White))?;
     assert!(rt; gets_white(&asked, 0, 2) && gets_white(&asked, 3, 1));
+    assert!(rt; decides(&asked, ColourRule::InitialColour, 0, 2));
     let other = field_of(rt.alloc(), &lines, None, None)?;
     assert!(rt; gets_white(&other, 2, 0), "the report's initial colour");
     Ok(())
