@@ -1,8 +1,7 @@
 -- What floors ask about the players of a bracket, and about pairs of its numbers.
-use Rattle.std.specs.Prelude.{◌≡◌, ℕ, ◌+◌, ◌-◌, ◌*◌, ◌/◌, ◌%◌, ◌<◌, ◌≤◌, Bool, false, ◌&&◌, nat_lt, List, map, Option, Some}
+use Rattle.std.specs.Prelude.{◌≡◌, ℕ, ◌+◌, ◌-◌, ◌*◌, ◌/◌, ◌%◌, ◌<◌, ◌≤◌, Bool, false, ◌&&◌, nat_lt, List, Option, Some}
 use Rattle.dutch_player.specs.declared.preference.Pref.{Pref}
 use Rattle.dutch_player.specs.Preferences.{is_same}
-use Rattle.dutch_player.specs.Facts.{Facts}
 use Rattle.dutch_pair.specs.Context.{Context}
 use Rattle.dutch_pair.specs.ColourFloors.{suits}
 use Rattle.dutch_pair.specs.BitTables.{has_bit}

@@ -12,6 +12,7 @@ ghost use Rattle.dutch_pair.specs.PsdFloors.{repeated};
 ghost use Rattle.dutch_pair.specs.Quality.{placed_all};
 ghost use Rattle.dutch_pair.specs.Reached.{IsOf, frame_of};
 ghost use Rattle.dutch_pair.specs.Seated.{score_at, AreSeats};
+ghost use Rattle.dutch_order.specs.Steps.{Spends};
 
 use crate::differences::{put, put_times};
 use crate::ghosts::Ghosts;
@@ -142,9 +143,7 @@ pub(crate) fn ghost_value(
     requires there { 0 < length next.now }
     requires within { budget.old.used ≤ budget.old.limit }
     ensures answer { MatchOption result (budget.new.used ≡ budget.new.limit) (λ v. v ≡ ghost_value field.now reached.now shape next.now) }
-    ensures limit { budget.new.limit ≡ budget.old.limit }
-    ensures rises { budget.old.used ≤ budget.new.used }
-    ensures within { budget.new.used ≤ budget.new.limit }
+    ensures spends { Spends budget.old budget.new }
 {
     let Some(ghosts) = Ghosts::read(field, reached.seats(), next, budget) else {
         return None;

@@ -8,6 +8,7 @@ ghost use Rattle.dutch_player.specs.Meetings.{may_meet};
 ghost use Rattle.dutch_pair.specs.Seated.{AreSeats};
 ghost use Rattle.dutch_pair.specs.Ghosts.{is_upto, some_meets, may_bye, ghosts_meet, ghost_may_be_left};
 ghost use Rattle.dutch_pair.specs.GhostRules.{IsRead};
+ghost use Rattle.dutch_order.specs.Steps.{Spends};
 
 use crate::spending::spend;
 use arrayvec::ArrayVec;
@@ -95,9 +96,7 @@ impl<'a> Ghosts<'a> {
         requires within { budget.old.used ≤ budget.old.limit }
         ensures answer { MatchOption result (budget.new.used ≡ budget.new.limit)
             (λ ghosts. ghosts ≡ record { facts = field.now; seats = seats.now; lower = lower.now }) }
-        ensures limit { budget.new.limit ≡ budget.old.limit }
-        ensures rises { budget.old.used ≤ budget.new.used }
-        ensures within { budget.new.used ≤ budget.new.limit }
+        ensures spends { Spends budget.old budget.new }
     {
         let steps = seats.len() as u64 * lower.len() as u64;
         if !spend(steps, budget) {

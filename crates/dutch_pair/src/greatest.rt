@@ -2,7 +2,7 @@
 // moved-down players in them; and the first of its arrangements, which is found with it.
 ghost use Rattle.std.specs.Prelude.{◌≡◌, ◌≤◌, ◌&&◌, Some, None, true, false, length, filter};
 ghost use Rattle.dutch_order.specs.Arrangements.{Fits, candidates};
-ghost use Rattle.dutch_order.specs.Steps.{MatchStep};
+ghost use Rattle.dutch_order.specs.Steps.{MatchStep, Spends};
 ghost use Rattle.dutch_pair.specs.Shapes.{IsFirst, fits, shapes_with, has_member, first_with, greatest_shape};
 
 use dutch_order::bracket::{Bracket, Shape};
@@ -42,9 +42,7 @@ fn first_legal<R: Rule>(
     ensures answer { MatchStep result (IsFirst (candidates (R.meets rule.now) (R.may_be_left rule.now) bracket.now shape) bracket.now)
         (has_member (candidates (R.meets rule.now) (R.may_be_left rule.now) bracket.now shape) ≡ false)
         (budget.new.used ≡ budget.new.limit) }
-    ensures limit { budget.new.limit ≡ budget.old.limit }
-    ensures rises { budget.old.used ≤ budget.new.used }
-    ensures within { budget.new.used ≤ budget.new.limit }
+    ensures spends { Spends budget.old budget.new }
 {
     let mut candidates = Candidates::new(bracket, shape, rule);
     candidates.next(budget)
@@ -65,9 +63,7 @@ fn first_of<R: Rule>(
         × ((fits bracket.now shape && has_member (candidates (R.meets rule.now) (R.may_be_left rule.now) bracket.now shape)) ≡ true))
         ((fits bracket.now shape && has_member (candidates (R.meets rule.now) (R.may_be_left rule.now) bracket.now shape)) ≡ false)
         (budget.new.used ≡ budget.new.limit) }
-    ensures limit { budget.new.limit ≡ budget.old.limit }
-    ensures rises { budget.old.used ≤ budget.new.used }
-    ensures within { budget.new.used ≤ budget.new.limit }
+    ensures spends { Spends budget.old budget.new }
 {
     if !has_room(bracket, shape) {
         return Step::End;
@@ -90,9 +86,7 @@ fn shape_with<R: Rule>(
         × IsFirst (candidates (R.meets rule.now) (R.may_be_left rule.now) bracket.now found.shape) bracket.now found.first)
         (first_with (candidates (R.meets rule.now) (R.may_be_left rule.now) bracket.now) (filter (fits bracket.now) (shapes_with pairs)) ≡ None)
         (budget.new.used ≡ budget.new.limit) }
-    ensures limit { budget.new.limit ≡ budget.old.limit }
-    ensures rises { budget.old.used ≤ budget.new.used }
-    ensures within { budget.new.used ≤ budget.new.limit }
+    ensures spends { Spends budget.old budget.new }
 {
     let mut mdps = pairs;
     loop {
@@ -121,9 +115,7 @@ pub(crate) fn greatest_shape<R: Rule>(
         × IsFirst (candidates (R.meets rule.now) (R.may_be_left rule.now) bracket.now found.shape) bracket.now found.first)
         (greatest_shape (candidates (R.meets rule.now) (R.may_be_left rule.now) bracket.now) bracket.now ≡ None)
         (budget.new.used ≡ budget.new.limit) }
-    ensures limit { budget.new.limit ≡ budget.old.limit }
-    ensures rises { budget.old.used ≤ budget.new.used }
-    ensures within { budget.new.used ≤ budget.new.limit }
+    ensures spends { Spends budget.old budget.new }
 {
     let mut pairs = bracket.len() / 2;
     loop {

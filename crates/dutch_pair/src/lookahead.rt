@@ -9,6 +9,7 @@ ghost use Rattle.dutch_pair.specs.Reached.{IsOf};
 ghost use Rattle.dutch_pair.specs.QualityIn.{quality_in};
 ghost use Rattle.dutch_pair.specs.Round.{is_ordinary};
 ghost use Rattle.dutch_pair.specs.NextBracket.{IsDraw, IsFlat, AreLeft, IsNext, next_stand, value_in, value_of, quality};
+ghost use Rattle.dutch_order.specs.Steps.{Spends};
 
 use crate::differences::psd;
 use crate::greatest::greatest_shape;
@@ -32,9 +33,7 @@ pub(crate) fn value_of(field: &Field, reached: &Reached, budget: &mut Budget) ->
     requires flat { IsFlat field.now reached.now }
     requires within { budget.old.used ≤ budget.old.limit }
     ensures answer { MatchOption result (budget.new.used ≡ budget.new.limit) (λ v. v ≡ value_of field.now reached.now) }
-    ensures limit { budget.new.limit ≡ budget.old.limit }
-    ensures rises { budget.old.used ≤ budget.new.used }
-    ensures within { budget.new.used ≤ budget.new.limit }
+    ensures spends { Spends budget.old budget.new }
 {
     let bracket = reached.frame(field);
     are_small(bracket.scores());
@@ -79,9 +78,7 @@ pub(crate) fn value_below(
     requires within { budget.old.used ≤ budget.old.limit }
     ensures answer { MatchOption result (budget.new.used ≡ budget.new.limit)
         (λ v. v ≡ value_in true field.now (map (seat_of reached.now.seats) down.now) next.now) }
-    ensures limit { budget.new.limit ≡ budget.old.limit }
-    ensures rises { budget.old.used ≤ budget.new.used }
-    ensures within { budget.new.used ≤ budget.new.limit }
+    ensures spends { Spends budget.old budget.new }
 {
     value_of(field, &next_bracket(field, reached, down, next), budget)
 }
@@ -101,9 +98,7 @@ fn next_value(
     requires within { budget.old.used ≤ budget.old.limit }
     ensures answer { MatchOption result (budget.new.used ≡ budget.new.limit)
         (λ v. v ≡ value_in (is_ordinary reached.now.kind) field.now (map (seat_of reached.now.seats) candidate.now.down) next.now) }
-    ensures limit { budget.new.limit ≡ budget.old.limit }
-    ensures rises { budget.old.used ≤ budget.new.used }
-    ensures within { budget.new.used ≤ budget.new.limit }
+    ensures spends { Spends budget.old budget.new }
 {
     match reached.kind() {
         Kind::Ordinary => value_below(field, reached, candidate.down(), next, budget),
@@ -126,9 +121,7 @@ pub fn quality(
     requires within { budget.old.used ≤ budget.old.limit }
     ensures answer { MatchOption result (budget.new.used ≡ budget.new.limit)
         (λ q. quality_in q ≡ quality field.now reached.now.seats (is_ordinary reached.now.kind) next.now candidate.now) }
-    ensures limit { budget.new.limit ≡ budget.old.limit }
-    ensures rises { budget.old.used ≤ budget.new.used }
-    ensures within { budget.new.used ≤ budget.new.limit }
+    ensures spends { Spends budget.old budget.new }
 {
     match next_value(field, reached, candidate, next, budget) {
         Some(value) => Some(quality_with(field, reached.seats(), candidate, value)),

@@ -12,6 +12,7 @@ ghost use Rattle.dutch_pair.specs.Outlooks.{IsOutlook, awaited, leaves_first, le
 ghost use Rattle.dutch_pair.specs.Reached.{IsOf, frame_of};
 ghost use Rattle.dutch_pair.specs.Seated.{AllNumbers, score_at, seat_of};
 ghost use Rattle.dutch_pair.specs.Round.{is_ordinary};
+ghost use Rattle.dutch_order.specs.Steps.{Spends};
 
 use crate::context::Context;
 use crate::ghost_value::{ghost_value, limbo_scores as first_limbo};
@@ -125,9 +126,7 @@ impl Outlook {
         requires fits { Fits (frame_of context.now.facts context.now.stand) shape }
         requires within { budget.old.used ≤ budget.old.limit }
         ensures answer { MatchOption result (budget.new.used ≡ budget.new.limit) (IsOutlook context.now.facts context.now.stand context.now.lower shape) }
-        ensures limit { budget.new.limit ≡ budget.old.limit }
-        ensures rises { budget.old.used ≤ budget.new.used }
-        ensures within { budget.new.used ≤ budget.new.limit }
+        ensures spends { Spends budget.old budget.new }
     {
         let (field, reached) = (context.field(), context.reached());
         if !is_ordinary(reached.kind()) {

@@ -8,6 +8,7 @@ ghost use Rattle.dutch_order.specs.declared.numbers.TheConstants.{LIMIT};
 ghost use Rattle.dutch_pair.specs.Completion.{some_partner, nobody, left_over, Tells};
 ghost use Rattle.dutch_pair.specs.Seats.{seats_meet, seats_may_be_left};
 ghost use Rattle.dutch_pair.specs.Takers.{takes_one, meets_bracket, can_take_out, can_go_out};
+ghost use Rattle.dutch_order.specs.Steps.{Spends};
 
 use crate::completion::{Answer, without};
 use crate::seats::seats;
@@ -73,9 +74,7 @@ pub(crate) fn can_go_out(
     requires few { takers + length lower.now ≤ LIMIT }
     requires within { budget.old.used ≤ budget.old.limit }
     ensures answer { Tells result (can_go_out field.now seats.now takers lower.now) (budget.new.used ≡ budget.new.limit) }
-    ensures limit { budget.new.limit ≡ budget.old.limit }
-    ensures rises { budget.old.used ≤ budget.new.used }
-    ensures within { budget.new.used ≤ budget.new.limit }
+    ensures spends { Spends budget.old budget.new }
 {
     let above = Above { field, seats };
     let bye = (takers + lower.len()) % 2 == 1;
@@ -89,9 +88,7 @@ fn can_pair(above: &Above, players: &[u16], room: Room, budget: &mut Budget) -> 
     requires few { length players.now ≤ LIMIT }
     requires within { budget.old.used ≤ budget.old.limit }
     ensures answer { Tells result (can_take_out above.now.facts above.now.seats room.bye (length players.now) room.takers players.now) (budget.new.used ≡ budget.new.limit) }
-    ensures limit { budget.new.limit ≡ budget.old.limit }
-    ensures rises { budget.old.used ≤ budget.new.used }
-    ensures within { budget.new.used ≤ budget.new.limit }
+    ensures spends { Spends budget.old budget.new }
 {
     let Some((first, later)) = players.split_first() else {
         return Answer::Yes;
@@ -117,9 +114,7 @@ fn pair_first(above: &Above, first: u16, later: &[u16], room: Room, budget: &mut
     ensures answer { Tells result
         (some_partner (seats_meet above.now.facts first) (can_take_out above.now.facts above.now.seats room.bye (length later.now - 1) room.takers) [] later.now)
         (budget.new.used ≡ budget.new.limit) }
-    ensures limit { budget.new.limit ≡ budget.old.limit }
-    ensures rises { budget.old.used ≤ budget.new.used }
-    ensures within { budget.new.used ≤ budget.new.limit }
+    ensures spends { Spends budget.old budget.new }
 {
     for place in 0..later.len() {
         match pair_with(above, first, later, place, room, budget) {
@@ -147,9 +142,7 @@ fn pair_with(
     ensures answer { Tells result (seats_meet above.now.facts first (slice_index later.now place)
         && can_take_out above.now.facts above.now.seats room.bye (length later.now - 1) room.takers (take place later.now ++ drop (place + 1) later.now))
         (budget.new.used ≡ budget.new.limit) }
-    ensures limit { budget.new.limit ≡ budget.old.limit }
-    ensures rises { budget.old.used ≤ budget.new.used }
-    ensures within { budget.new.used ≤ budget.new.limit }
+    ensures spends { Spends budget.old budget.new }
 {
     if budget.used == budget.limit {
         return Answer::Undecided;
@@ -169,9 +162,7 @@ fn take_first(above: &Above, first: u16, later: &[u16], room: Room, budget: &mut
     ensures answer { Tells result
         (takes_one (meets_bracket above.now.facts above.now.seats first) (λ k. can_take_out above.now.facts above.now.seats room.bye (length later.now) k later.now) room.takers)
         (budget.new.used ≡ budget.new.limit) }
-    ensures limit { budget.new.limit ≡ budget.old.limit }
-    ensures rises { budget.old.used ≤ budget.new.used }
-    ensures within { budget.new.used ≤ budget.new.limit }
+    ensures spends { Spends budget.old budget.new }
 {
     if room.takers == 0 {
         return Answer::No;
@@ -197,9 +188,7 @@ fn leave_first(above: &Above, first: u16, later: &[u16], room: Room, budget: &mu
     requires within { budget.old.used ≤ budget.old.limit }
     ensures answer { Tells result (left_over room.bye (seats_may_be_left above.now.facts) first && can_take_out above.now.facts above.now.seats false (length later.now) room.takers later.now)
         (budget.new.used ≡ budget.new.limit) }
-    ensures limit { budget.new.limit ≡ budget.old.limit }
-    ensures rises { budget.old.used ≤ budget.new.used }
-    ensures within { budget.new.used ≤ budget.new.limit }
+    ensures spends { Spends budget.old budget.new }
 {
     if !room.bye {
         return Answer::No;

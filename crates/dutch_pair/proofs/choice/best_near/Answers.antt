@@ -1,5 +1,5 @@
 -- One candidate more, or the end of all candidates, tells what a pass chooses of the shape.
-use Rattle.std.proofs.Common.{◌≡◌, true, None, List, [], ◌∷◌, inl, inr, refl, sym, ap, ◌∙◌, subst, arith}
+use Rattle.std.proofs.Common.{◌≡◌, true, None, List, [], ◌∷◌, inl, inr, refl, sym, ap, ◌∙◌, subst}
 use Rattle.dutch_order.specs.Arrangements.{Frame, Arrangement, arrangements, is_legal, down}
 use Rattle.dutch_order.specs.Keys.{IsIn}
 use Rattle.dutch_pair.specs.declared.reached.ByNumber.{ByNumber}

@@ -1,5 +1,5 @@
 -- What is chosen of a shape is what is chosen of the candidate that is kept and of those to come.
-use Rattle.std.proofs.Common.{◌≡◌, ◌≤◌, length}
+use Rattle.std.proofs.Common.{◌≡◌, length}
 use Rattle.dutch_order.specs.Arrangements.{Arrangement}
 use Rattle.dutch_order.specs.Keys.{IsIn}
 use Rattle.dutch_pair.specs.Reached.{frame_of}

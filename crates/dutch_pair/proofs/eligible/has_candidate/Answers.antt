@@ -1,5 +1,5 @@
 -- One candidate more that cannot be chosen, one that can, or the end of all candidates.
-use Rattle.std.proofs.Common.{◌≡◌, ap, refl, ◌∙◌, filter, arith}
+use Rattle.std.proofs.Common.{◌≡◌, ap, refl, ◌∙◌, filter}
 use Rattle.dutch_order.specs.Arrangements.{Frame, down}
 use Rattle.dutch_pair.specs.Shapes.{has_member}
 use Rattle.dutch_pair.specs.Round.{candidates_of}

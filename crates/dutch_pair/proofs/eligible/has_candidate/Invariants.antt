@@ -1,5 +1,5 @@
 -- Some candidate to come can be chosen if any of the shape can be.
-use Rattle.std.proofs.Common.{◌≡◌, ◌≤◌, filter, length}
+use Rattle.std.proofs.Common.{◌≡◌, filter, length}
 use Rattle.dutch_pair.specs.Shapes.{has_member}
 use Rattle.dutch_pair.specs.Reached.{frame_of}
 use Rattle.dutch_pair.specs.Round.{eligible}

@@ -5,6 +5,7 @@ use Rattle.dutch_order.specs.declared.bracket.Shape.{Shape}
 use Rattle.dutch_order.specs.Arrangements.{Frame, Arrangement, candidates}
 use Rattle.dutch_pair.specs.Shapes.{down_from, fits, shapes_with, first_with}
 use Rattle.dutch_pair.proofs.ShapeSearch.{pairs_taken, pairs_passed}
+use Rattle.dutch_order.proofs.Spending.{spends-more}
 use Rattle.dutch_pair.proofs.greatest.greatest_shape.Goals as goal
 
 found : (legal : Shape → List Arrangement) (frame : Frame) (pairs : ℕ) (shape : Shape) (o : Option Shape)
@@ -29,7 +30,5 @@ loop-found-preserved g c = record {
   found = passed (candidates (g.R.Rule.meets c.args.rule.now) (g.R.Rule.may_be_left c.args.rule.now) c.args.bracket.now) c.args.bracket.now c.loop-found.pairs _
       (omega (arith, c.if-pairs-eq0.false)) c.loop-found.invariant.found c.in-End.ensures.answer;
   few = omega (arith, c.loop-found.invariant.few);
-  limit = c.in-End.ensures.limit ∙ c.loop-found.invariant.limit;
-  rises = omega (arith, c.in-End.ensures.rises, c.loop-found.invariant.rises);
-  within = c.in-End.ensures.within;
+  spends = spends-more c.loop-found.invariant.spends c.in-End.ensures.spends;
 }

@@ -3,6 +3,7 @@ use Rattle.std.proofs.Common.{◌≡◌, ◌≤◌, length, filter}
 use Rattle.std.specs.Prelude.{flat_map}
 use Rattle.dutch_order.specs.Arrangements.{candidates}
 use Rattle.dutch_pair.specs.Shapes.{down_from, fits, shapes_with, first_with, greatest_shape}
+use Rattle.dutch_order.specs.Steps.{Spends}
 use Rattle.dutch_pair.proofs.greatest.greatest_shape.Given as goal
 
 abbrev pub decreases-loop-found : goal.decreases-loop-found
@@ -14,7 +15,5 @@ invariant-loop-found g l =
     record {
       found : greatest_shape legal l.bracket ≡ first_with legal (filter (fits l.bracket) (flat_map shapes_with (down_from l.pairs)));
       few : l.pairs ≤ length l.bracket.scores;
-      limit : l.budget.limit ≡ l.initial.budget.limit;
-      rises : l.initial.budget.used ≤ l.budget.used;
-      within : l.budget.used ≤ l.budget.limit;
+      spends : Spends l.initial.budget l.budget;
     }

@@ -4,7 +4,7 @@ use Rattle.dutch_pair.specs.Reached.{frame_of}
 use Rattle.dutch_pair.specs.Shapes.{fits}
 use Rattle.dutch_pair.specs.Round.{eligible}
 use Rattle.dutch_pair.proofs.ShapeSearch.{fits_by_test, pairs_taken, pairs_passed}
-use Rattle.dutch_order.proofs.Spending.{spends-none, spends-more}
+use Rattle.dutch_order.proofs.Spending.{spends-more}
 use Rattle.dutch_pair.proofs.shape.shape_of.Goals as goal
 
 pub returns-in-Found-clause-answer : goal.returns-in-Found-clause-answer

@@ -1,5 +1,5 @@
 -- No shape with more moved-down players has a candidate.
-use Rattle.std.proofs.Common.{◌≡◌, ◌≤◌, map, filter}
+use Rattle.std.proofs.Common.{◌≡◌, map, filter}
 use Rattle.dutch_pair.specs.Reached.{frame_of}
 use Rattle.dutch_pair.specs.Shapes.{down_from, fits, shapes_with, first_with}
 use Rattle.dutch_pair.specs.Round.{eligible}

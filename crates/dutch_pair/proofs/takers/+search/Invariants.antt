@@ -1,8 +1,9 @@
 -- No partner tried so far leaves players who can be paired out.
-use Rattle.std.proofs.Common.{◌≡◌, ◌+◌, ◌*◌, ◌-◌, ◌≤◌, take, drop, length, []}
+use Rattle.std.proofs.Common.{◌≡◌, ◌+◌, ◌*◌, ◌-◌, take, drop, length, []}
 use Rattle.dutch_pair.specs.Completion.{some_partner}
 use Rattle.dutch_pair.specs.Seats.{seats_meet}
 use Rattle.dutch_pair.specs.Takers.{can_take_out}
+use Rattle.dutch_order.specs.Steps.{Spends}
 use Rattle.dutch_pair.proofs.takers.+search.Given as goal
 
 abbrev pub decreases-can_pair : goal.decreases-can_pair
@@ -26,7 +27,5 @@ invariant-pair_first-loop-place l =
     let holds = can_take_out l.above.facts l.above.seats l.room.bye (length l.later - 1) l.room.takers in
     record {
       same : some_partner meets holds (take l.place l.later) (drop l.place l.later) ≡ some_partner meets holds [] l.later;
-      limit : l.budget.limit ≡ l.initial.budget.limit;
-      rises : l.initial.budget.used ≤ l.budget.used;
-      within : l.budget.used ≤ l.budget.limit;
+      spends : Spends l.initial.budget l.budget;
     }

@@ -1,5 +1,5 @@
 -- How the round ends with its last bracket, for each way in which that is settled.
-use Rattle.std.proofs.Common.{◌≡◌, [], ◌∙◌, subst}
+use Rattle.std.proofs.Common.{[], ◌∙◌}
 use Rattle.dutch_pair.proofs.WalkEnds.{settled, drawn, numbers_left, left_is, final_asked, final_paired}
 use Rattle.dutch_pair.proofs.walk.final_bracket.Goals as goal
 

@@ -1,5 +1,5 @@
 -- How the round ends with the penultimate bracket and the collapsed one, for each way in which the first is settled.
-use Rattle.std.proofs.Common.{◌≡◌, ◌+◌, ◌≤◌, length, sym, ap, ◌∙◌, subst}
+use Rattle.std.proofs.Common.{◌+◌, ◌≤◌, length, sym, ap, ◌∙◌, subst}
 use Rattle.std.proofs.lemmas.Result.{IfOk-weaker}
 use Rattle.dutch_pair.specs.declared.reached.Kind.TheVariants.{Collapsed}
 use Rattle.dutch_pair.specs.Reached.{IsAbove, IsOf, Stand}
