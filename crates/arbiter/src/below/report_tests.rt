@@ -89,13 +89,13 @@ fn lines_and_points(rt: HostRuntime) -> Result<(), Fail> {
     Ok(())
 }
 
-// The points field of player 3 leaves out what the forfeit of round 2 cannot give: it is the bye's worth alone.
+// Player 3 has no points but those of the bye, and his points field counts a full one.
 #[test]
 fn bye_by_its_worth(rt: HostRuntime) -> Result<(), Fail> {
     let report = read(rt.alloc(), REPORT)?;
     assert_eq!(rt; (report.bye(), report.points(3, 1)), (2, 2));
     let blank =
-        b"001    3                                                                                    0000 - U\n";
+        b"001    3                                                                                   0000 - U\n";
     let report = read_with(rt.alloc(), blank, 1)?;
     assert_eq!(rt; (report.bye(), report.points(3, 1)), (1, 1));
     assert_eq!(rt; report.points_over(&[Cell::Bye(Bye::Full)]), 2);
