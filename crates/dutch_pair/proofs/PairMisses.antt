@@ -7,6 +7,7 @@ use Rattle.dutch_player.specs.declared.preference.Pref.{Pref}
 use Rattle.dutch_player.specs.Preferences.{other, is_same, preference}
 use Rattle.dutch_player.specs.Facts.{Facts, SeatFacts, seat_at}
 use Rattle.dutch_player.specs.Colours.{granted, with_colour, colour_of_higher, colours}
+use Rattle.dutch_player.proofs.LawLemmas.{granted-pair}
 use Rattle.dutch_pair.specs.declared.colours_missed.Miss.TheVariants.{Preference, StrongPreference}
 use Rattle.dutch_pair.specs.Quality.{one_if, is_strong, misses, count_of_both, count_in}
 use Rattle.dutch_pair.specs.PairFacts.{collide}
@@ -34,7 +35,8 @@ both_wish Black Black Black = refl
 
 granted_misses : (initial : Colour) (high low : SeatFacts) (p q : Option Pref)
     → one_if (unmet p (granted initial high low p q)) + one_if (unmet q (other (granted initial high low p q))) ≡ one_if (collide p q)
-granted_misses initial high low (Some p) (Some q) = both_wish p.colour q.colour _
+granted_misses initial high low (Some p) (Some q) =
+    ap (λ c. one_if (unmet (Some p) c) + one_if (unmet (Some q) (other c))) (granted-pair initial high low p q) ∙ both_wish p.colour q.colour _
 granted_misses initial high low (Some p) None = let h = met p.colour in omega (arith, h)
 granted_misses initial high low None (Some q) = let h = met_other q.colour in omega (arith, h)
 granted_misses initial high low None None = refl

@@ -4,13 +4,13 @@ use Rattle.std.proofs.lemmas.Bool.{lt-ltb, le-ltb, cases_lt}
 use Rattle.trf16.specs.declared.cell.Colour.{Colour}
 use Rattle.trf16.specs.declared.cell.Colour.TheVariants.{White, Black}
 use Rattle.dutch_player.specs.declared.colour_rule.ColourRule.{ColourRule}
-use Rattle.dutch_player.specs.declared.colour_rule.ColourRule.TheVariants.{BothPreferences, StrongerPreference, Alternation, HigherRank, InitialColour}
+use Rattle.dutch_player.specs.declared.colour_rule.ColourRule.TheVariants.{BothPreferences, StrongerPreference, HigherRank, InitialColour}
 use Rattle.dutch_player.specs.declared.colours.Decision.{Decision}
 use Rattle.dutch_player.specs.declared.preference.Pref.{Pref}
 use Rattle.dutch_player.specs.Preferences.{is_same, other, preference}
 use Rattle.dutch_player.specs.Facts.{SeatFacts, Facts, seat_at}
 use Rattle.dutch_player.specs.Meetings.{may_meet, have_met, has_met, clash, is_absolute, is_topscorer, colours_allow}
-use Rattle.dutch_player.specs.Colours.{is_stronger, alternated, by, by_history, by_preferences, colours, contested, colour_of_higher, colour_rule, decided, decision_of, granted, with_colour}
+use Rattle.dutch_player.specs.Colours.{is_stronger, alternated, by, by_history, by_preferences, colours, contested, colour_of_higher, colour_rule, decision_of, granted, with_colour}
 use Rattle.dutch_player.specs.Laws.{Gets, GrantsBoth, TellsRule}
 
 or_comm : (x y : Bool) → (x || y) ≡ (y || x)
@@ -94,6 +94,15 @@ granted-both initial high low wanted theirs p q e f differ =
     ap (λ w. granted initial high low w theirs) e
     ∙ ap (granted initial high low (Some p)) f
     ∙ ap (λ one. (both_want one (contested high.played low.played p q) p.colour).colour) (differ-same p.colour q.colour differ)
+
+-- where both want a colour: what the contest gives where it is one, and else each his own
+decided-both : (decision : Decision) (one : Bool) (wanted : Colour) → (both_want one decision wanted).colour ≡ (if one then decision.colour else wanted)
+decided-both decision true wanted = refl
+decided-both decision false wanted = refl
+
+pub granted-pair : (initial : Colour) (high low : SeatFacts) (p q : Pref)
+    → granted initial high low (Some p) (Some q) ≡ (if is_same p.colour q.colour then (contested high.played low.played p q).colour else p.colour)
+granted-pair initial high low p q = decided-both (contested high.played low.played p q) (is_same p.colour q.colour) p.colour
 
 ranked-both : (facts : Facts) (high low : ℕ) (p q : Pref) → preference (seat_at facts high).played ≡ Some p → preference (seat_at facts low).played ≡ Some q
     → (p.colour ≡ q.colour → ⊥) → of_ranked facts high low ≡ with_colour high low p.colour
@@ -196,7 +205,7 @@ module _ (initial : Colour) (high low : SeatFacts) where
       → granted initial high low p q ≡ wish.colour
   higher_gets (Some p) (Some q) wish e f =
       both_higher (is_same p.colour q.colour) (contested high.played low.played p q) p.colour
-        (contest_higher (is_stronger p high.played q low.played) (is_stronger q low.played p high.played) (alternated high.played low.played) p.colour) e
+      (contest_higher (is_stronger p high.played q low.played) (is_stronger q low.played p high.played) (alternated high.played low.played) p.colour) e
       ∙ ap wish_of f
   higher_gets (Some p) None wish e f = ap wish_of f
   higher_gets None q wish e f = absurd (cc)
@@ -235,7 +244,7 @@ pub tells_rule : (facts : Facts) (a b : ℕ) → TellsRule facts a b
 tells_rule facts a b = record {
   granted = λ e wish f. gets_granted facts a b wish e f;
   higher = λ e lt wish f.
-    colours-less facts a b lt
-    ∙ ap (with_colour a b) (higher_gets facts.initial (seat_at facts a) (seat_at facts b) (pref_at facts a) (pref_at facts b) wish (sym (rule-less facts a b lt) ∙ e) f);
+      colours-less facts a b lt
+      ∙ ap (with_colour a b) (higher_gets facts.initial (seat_at facts a) (seat_at facts b) (pref_at facts a) (pref_at facts b) wish (sym (rule-less facts a b lt) ∙ e) f);
   nobody = λ e. wants_nobody facts a b e;
 }

@@ -99,6 +99,14 @@ impl Field {
         self.seat(seat).score
     }
 
+    /// The start ranks of those with whom the player has played a game (C.1), round by round.
+    pub fn opponents(&self, seat: u16) -> &[u16]
+        requires { seat < length self.now.seats }
+        ensures { result.now ≡ (seat_at self.now seat).opponents }
+    {
+        &self.seat(seat).opponents
+    }
+
     /// The float (A.4) in the last round that was paired (1) or in the one before it (2).
     pub fn float(&self, seat: u16, back: u8) -> Option<Float>
         requires inside { seat < length self.now.seats }

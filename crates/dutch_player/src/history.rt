@@ -9,7 +9,8 @@ use trf16::cell::{Bye, Cell, Colour};
 use trf16::cells::{cell_at, front};
 use trf16::report::Report;
 
-fn colour_played(cell: &Cell) -> Option<Colour>
+/// The colour of a game that was played; that of a forfeit is none.
+pub fn colour_played(cell: &Cell) -> Option<Colour>
     ensures { result ≡ colour_played cell.now }
 {
     match cell {
@@ -30,7 +31,8 @@ pub(crate) fn played(alloc: Global, cells: &[Cell]) -> Result<Vec<Colour>, Alloc
         .collect(alloc)
 }
 
-fn opponent_played(cell: &Cell) -> Option<u16>
+/// The start rank, 1 to 9999, of the opponent in a game that was played; a forfeit is no meeting (C.1).
+pub fn opponent_played(cell: &Cell) -> Option<u16>
     ensures { result ≡ opponent_played cell.now }
 {
     match cell {

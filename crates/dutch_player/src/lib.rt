@@ -7,7 +7,7 @@ mod colours;
 pub mod fault;
 pub mod field;
 pub mod float;
-mod history;
+pub mod history;
 pub mod laws;
 mod meetings;
 pub mod preference;

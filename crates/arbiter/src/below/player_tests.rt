@@ -7,10 +7,11 @@ use dutch_player::colour_rule::ColourRule;
 use dutch_player::fault::FieldFault;
 use dutch_player::field::Field;
 use dutch_player::float::Float;
+use dutch_player::history::{colour_played, opponent_played};
 use dutch_player::preference::{Kind, Pref};
 use std::alloc::Global;
 use std::test::Fail;
-use trf16::cell::Colour;
+use trf16::cell::{Cell, Colour, Outcome};
 
 const ABSOLUTE_WHITE: Option<Pref> = Some(Pref {
     kind: Kind::Absolute,
@@ -41,6 +42,11 @@ fn refusal_of(
 // Whether a seat is that of a start rank with a score.
 fn is_player(field: &Field, seat: u16, start: u16, score: u16) -> bool {
     usize::from(seat) < field.len() && field.start_rank(seat) == start && field.score(seat) == score
+}
+
+// Whether a seat has met these players, round by round.
+fn has_met(field: &Field, seat: u16, starts: &[u16]) -> bool {
+    usize::from(seat) < field.len() && field.opponents(seat) == starts
 }
 
 // Whether a seat had these floats in the last round and in the one before.
@@ -233,10 +239,30 @@ fn a_forfeit_is_no_game(rt: HostRuntime) -> Result<(), Fail> {
     ];
     let field = field_of(rt.alloc(), &lines, None, None)?;
     assert!(rt; field.len() == 3 && is_player(&field, 2, 3, 2));
+    assert!(rt; has_met(&field, 0, &[5]) && has_met(&field, 2, &[]));
     assert!(rt; has_floats(&field, 2, Some(Float::Down), None));
     assert!(rt; has_colours(&field, 2, 0, None, None));
     assert!(rt; may_bye(&field, 2) == Some(false) && may_bye(&field, 1) == Some(true));
     assert!(rt; gets_white(&field, 2, 0));
+    Ok(())
+}
+
+#[test]
+fn a_forfeit_has_no_colour_and_no_opponent(rt: HostRuntime) -> Result<(), Fail> {
+    let game = Cell::Game {
+        opponent: 5,
+        colour: Colour::Black,
+        rated: true,
+        got: Outcome::Win,
+    };
+    assert!(rt; colour_played(&game) == Some(Colour::Black));
+    assert!(rt; opponent_played(&game) == Some(5));
+    let forfeit = Cell::Forfeit {
+        opponent: 5,
+        colour: Some(Colour::White),
+        won: true,
+    };
+    assert!(rt; colour_played(&forfeit).is_none() && opponent_played(&forfeit).is_none());
     Ok(())
 }
 
