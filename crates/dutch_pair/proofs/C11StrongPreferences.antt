@@ -13,7 +13,7 @@ use Rattle.dutch_order.specs.Keys.{IsIn}
 use Rattle.dutch_order.specs.Arrangements.{Arrangement}
 use Rattle.dutch_player.specs.declared.preference.Pref.{Pref}
 use Rattle.dutch_player.specs.Preferences.{is_same, preference}
-use Rattle.dutch_player.specs.Meetings.{clash, have_met, colours_allow, may_meet}
+use Rattle.dutch_player.specs.Meetings.{clash, have_met, are_apart, colours_allow, may_meet}
 use Rattle.dutch_player.specs.Colours.{with_colour, colour_of_higher}
 use Rattle.dutch_player.specs.Facts.{SeatFacts, Facts, seat_at}
 use Rattle.dutch_pair.specs.declared.colours_missed.Miss.TheVariants.{Wide, Third, StrongPreference}
@@ -94,7 +94,7 @@ added facts pair false = refl
 pub pair_misses_firmly : (facts : Facts) (c : Colour) (a b : ℕ) → may_meet facts a b ≡ true
     → wants_firmly facts c a + wants_firmly facts c b ≤ 1 + count_in facts (misses StrongPreference) (a, b) + adds_top facts (a, b)
 pair_misses_firmly facts c a b meet =
-    let both = and_parts (not (have_met (seat_at facts a) (seat_at facts b))) (colours_allow facts (seat_at facts a) (seat_at facts b)) meet in
+    let both = and_parts (not (have_met (seat_at facts a) (seat_at facts b) || are_apart (seat_at facts a) (seat_at facts b))) (colours_allow facts (seat_at facts a) (seat_at facts b)) meet in
     omega (arith, in_order facts c a b (has_topscorer facts (a, b)) (nat_lt a b) both.1, added facts (a, b) (has_topscorer facts (a, b)))
 
 -- what a pair adds to C.11, and to C.8 and C.9

@@ -9,7 +9,7 @@ use Rattle.dutch_player.specs.declared.colours.Decision.{Decision}
 use Rattle.dutch_player.specs.declared.preference.Pref.{Pref}
 use Rattle.dutch_player.specs.Preferences.{is_same, other, preference}
 use Rattle.dutch_player.specs.Facts.{SeatFacts, Facts, seat_at}
-use Rattle.dutch_player.specs.Meetings.{may_meet, have_met, has_met, clash, is_absolute, is_topscorer, colours_allow}
+use Rattle.dutch_player.specs.Meetings.{may_meet, have_met, has_met, is_kept_from, are_apart, clash, is_absolute, is_topscorer, colours_allow}
 use Rattle.dutch_player.specs.Colours.{is_stronger, alternated, by, by_history, by_preferences, colours, contested, colour_of_higher, colour_rule, decision_of, granted, with_colour}
 use Rattle.dutch_player.specs.Laws.{Gets, GrantsBoth, TellsRule}
 
@@ -43,11 +43,12 @@ allow_comm true false z = refl
 allow_comm false true z = refl
 allow_comm false false z = refl
 
-meet_seats : (facts : Facts) (a b : SeatFacts) → (not (have_met a b) && colours_allow facts a b) ≡ (not (have_met b a) && colours_allow facts b a)
+meet_seats : (facts : Facts) (a b : SeatFacts) → (not (have_met a b || are_apart a b) && colours_allow facts a b) ≡ (not (have_met b a || are_apart b a) && colours_allow facts b a)
 meet_seats facts a b =
-    ap (λ m. not m && colours_allow facts a b) (or_comm (has_met a b) (has_met b a))
-    ∙ ap (λ k. not (have_met b a) && (is_topscorer facts a || is_topscorer facts b || not k)) (clash_comm (preference a.played) (preference b.played))
-    ∙ ap (λ r. not (have_met b a) && r) (allow_comm (is_topscorer facts a) (is_topscorer facts b) (not (clash (preference b.played) (preference a.played))))
+    ap (λ m. not (m || are_apart a b) && colours_allow facts a b) (or_comm (has_met a b) (has_met b a))
+    ∙ ap (λ m. not (have_met b a || m) && colours_allow facts a b) (or_comm (is_kept_from a b) (is_kept_from b a))
+    ∙ ap (λ k. not (have_met b a || are_apart b a) && (is_topscorer facts a || is_topscorer facts b || not k)) (clash_comm (preference a.played) (preference b.played))
+    ∙ ap (λ r. not (have_met b a || are_apart b a) && r) (allow_comm (is_topscorer facts a) (is_topscorer facts b) (not (clash (preference b.played) (preference a.played))))
 
 pub meeting_sym : (facts : Facts) (a b : ℕ) → may_meet facts a b ≡ may_meet facts b a
 meeting_sym facts a b = meet_seats facts (seat_at facts a) (seat_at facts b)

@@ -3,23 +3,25 @@ use Rattle.std.specs.Prelude.{◌≡◌, ℕ, ◌+◌, ◌-◌, Bool, false, ◌
 use Rattle.std.specs.Option.{ok_or, option_map_or}
 use Rattle.trf16.specs.declared.cell.Colour.{Colour}
 use Rattle.trf16.specs.declared.cell.Colour.TheVariants.{White}
-use Rattle.trf16.specs.declared.kind.Kind.TheVariants.{Xxa, Xxs, Xxp, Rank}
+use Rattle.trf16.specs.declared.kind.Kind.TheVariants.{Xxa, Xxs, Rank}
 use Rattle.trf16.specs.Sheet.{Entry, Sheet, rounds_played}
 use Rattle.trf16.specs.Outcomes.{◌>>=◌}
 use Rattle.trf16.specs.Unfinished.{unfinished}
-use Rattle.trf16.specs.Absence.{absent, first_of}
+use Rattle.trf16.specs.Absence.{absent, apart_from, first_of}
 use Rattle.dutch_player.specs.declared.float.Float.{Float}
 use Rattle.dutch_player.specs.declared.fault.FieldFault.{FieldFault}
 use Rattle.dutch_player.specs.declared.fault.FieldFault.TheVariants.{Unfinished, Unsupported, RoundsUnknown, RoundsOver}
 use Rattle.dutch_player.specs.Histories.{score, played, opponents, may_bye, float_in}
 
 -- a present player: start rank, score in half points, the colours of his games (the last game first), the start ranks of those whom
--- he has met, his floats in the last round and in the one before it, and whether he may have the bye
+-- he has met, the start ranks of those from whom he is kept apart, his floats in the last round and in the one before it, and whether
+-- he may have the bye
 pub record SeatFacts : Type 0 where
   pub start : ℕ
   pub score : ℕ
   pub played : List Colour
   pub opponents : List ℕ
+  pub apart : List ℕ
   pub latest : Option Float
   pub earlier : Option Float
   pub may_bye : Bool
@@ -33,7 +35,7 @@ pub record Facts : Type 0 where
 
 -- what stands behind the last seat: nobody
 abbrev pub no_seat : SeatFacts
-no_seat = record { start = 0; score = 0; played = []; opponents = []; latest = None; earlier = None; may_bye = false }
+no_seat = record { start = 0; score = 0; played = []; opponents = []; apart = []; latest = None; earlier = None; may_bye = false }
 
 -- a seat is a place in the order of ranks, from 0
 abbrev pub seat_at : Facts → ℕ → SeatFacts
@@ -73,6 +75,7 @@ seat_of sheet entry =
       score = score sheet.bye cells;
       played = played cells;
       opponents = opponents cells;
+      apart = apart_from sheet entry.start;
       latest = float_in sheet cells rounds;
       earlier = float_in sheet cells (rounds - 1);
       may_bye = may_bye cells;
@@ -95,7 +98,7 @@ total_of sheet None = sheet.total
 
 -- the first line that changes what is paired: by points, by pairings or by the ranking (our own choice: none is supported)
 abbrev pub unsupported : Sheet → Option ℕ
-unsupported sheet = first_of (Xxa ∷ Xxs ∷ Xxp ∷ Rank ∷ []) sheet
+unsupported sheet = first_of (Xxa ∷ Xxs ∷ Rank ∷ []) sheet
 
 -- a fault, where its cause stands
 abbrev pub refused : Option FieldFault → Result (Unit {0}) FieldFault

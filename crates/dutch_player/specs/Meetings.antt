@@ -19,6 +19,14 @@ has_met a b = list_any (λ start. start == b.start) a.opponents
 abbrev pub have_met : SeatFacts → SeatFacts → Bool
 have_met a b = has_met a b || has_met b a
 
+-- a line XXP of the report names the one together with the other (our own choice: such a line goes with C.1)
+abbrev pub is_kept_from : SeatFacts → SeatFacts → Bool
+is_kept_from a b = list_any (λ start. start == b.start) a.apart
+
+-- the two are kept apart
+abbrev pub are_apart : SeatFacts → SeatFacts → Bool
+are_apart a b = is_kept_from a b || is_kept_from b a
+
 -- A.6: an absolute preference
 abbrev pub is_absolute : Kind → Bool
 is_absolute Absolute = true
@@ -34,6 +42,7 @@ clash _ _ = false
 abbrev pub colours_allow : Facts → SeatFacts → SeatFacts → Bool
 colours_allow facts a b = is_topscorer facts a || is_topscorer facts b || not (clash (preference a.played) (preference b.played))
 
--- C.1 and C.3: the two have not met, and their colours allow it
+-- C.1 and C.3: the two have not met, no line XXP names both, and their colours allow it
 abbrev pub may_meet : Facts → ℕ → ℕ → Bool
-may_meet facts a b = not (have_met (seat_at facts a) (seat_at facts b)) && colours_allow facts (seat_at facts a) (seat_at facts b)
+may_meet facts a b =
+    not (have_met (seat_at facts a) (seat_at facts b) || are_apart (seat_at facts a) (seat_at facts b)) && colours_allow facts (seat_at facts a) (seat_at facts b)

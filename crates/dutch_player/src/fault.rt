@@ -11,7 +11,7 @@ pub enum FieldFault {
     /// A game has no result yet.
     #[error("player {player} round {round}: unfinished")]
     Unfinished { player: u16, round: usize },
-    /// A line `XXA`, `XXS` or `XXP`, or `XXC` with the word `rank`.
+    /// A line `XXA` or `XXS`, or `XXC` with the word `rank`.
     #[error("line {line}: unsupported")]
     Unsupported { line: usize },
     /// Neither the caller nor the report names the total of rounds.

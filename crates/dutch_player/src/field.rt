@@ -11,7 +11,7 @@ use crate::colour_rule::ColourRule;
 use crate::colours::{Decision, decided, with_colour};
 use crate::fault::FieldFault;
 use crate::float::Float;
-use crate::meetings::{clash, have_met};
+use crate::meetings::{are_apart, clash, have_met};
 use crate::preference::{Pref, difference, last_two, preference};
 use crate::present::seats_of;
 use crate::refusals::total_for;
@@ -152,13 +152,14 @@ impl Field {
         self.round == self.total && u16::from(self.round) - 1 < self.seat(seat).score
     }
 
-    /// Whether two players may meet (C.1, C.3).
+    /// Whether two players may meet (C.1, C.3): they have not, no line `XXP` names both, and their colours allow it.
     pub fn may_meet(&self, a: u16, b: u16) -> bool
         requires first { a < length self.now.seats }
         requires second { b < length self.now.seats }
         ensures { result ≡ may_meet self.now a b }
     {
-        if have_met(self.seat(a), self.seat(b)) {
+        let (first, second) = (self.seat(a), self.seat(b));
+        if have_met(first, second) || are_apart(first, second) {
             return false;
         }
         self.topscorer(a) || self.topscorer(b) || !clash(self.preference(a), self.preference(b))

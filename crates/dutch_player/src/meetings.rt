@@ -1,7 +1,7 @@
 // Who may meet whom (C.04.3 C.1, C.3).
 ghost use Rattle.std.specs.Prelude.{◌≡◌};
 ghost use Rattle.dutch_player.specs.SeatOf.{facts_in};
-ghost use Rattle.dutch_player.specs.Meetings.{has_met, have_met, is_absolute, clash};
+ghost use Rattle.dutch_player.specs.Meetings.{has_met, have_met, is_kept_from, are_apart, is_absolute, clash};
 
 use crate::preference::{Kind, Pref, is_same};
 use crate::seat::Seat;
@@ -17,6 +17,20 @@ pub(crate) fn have_met(a: &Seat, b: &Seat) -> bool
     ensures { result ≡ have_met (facts_in a.now) (facts_in b.now) }
 {
     has_met(a, b) || has_met(b, a)
+}
+
+// Whether a line `XXP` of the report names the one together with the other.
+fn is_kept_from(a: &Seat, b: &Seat) -> bool
+    ensures { result ≡ is_kept_from (facts_in a.now) (facts_in b.now) }
+{
+    a.apart.contains(&b.start)
+}
+
+/// Whether two players are kept apart.
+pub(crate) fn are_apart(a: &Seat, b: &Seat) -> bool
+    ensures { result ≡ are_apart (facts_in a.now) (facts_in b.now) }
+{
+    is_kept_from(a, b) || is_kept_from(b, a)
 }
 
 pub(crate) fn is_absolute(kind: Kind) -> bool

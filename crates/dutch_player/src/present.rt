@@ -30,6 +30,7 @@ fn seat_of(
         score: report.points_over(cells),
         played,
         opponents,
+        apart: report.apart_from(alloc, player.start)?,
         latest: float_in(report, cells, rounds),
         earlier: float_in(report, cells, rounds.saturating_sub(1)),
         may_bye: may_bye(cells),

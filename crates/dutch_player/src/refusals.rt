@@ -16,7 +16,7 @@ pub(crate) fn total_for(report: &Report<'_>, asked: Option<u8>) -> Result<u8, Fi
     if let Some((player, round)) = report.unfinished() {
         return Err(FieldFault::Unfinished { player, round });
     }
-    if let Some(line) = report.unsupported(&[Kind::Xxa, Kind::Xxs, Kind::Xxp, Kind::Rank]) {
+    if let Some(line) = report.unsupported(&[Kind::Xxa, Kind::Xxs, Kind::Rank]) {
         return Err(FieldFault::Unsupported { line });
     }
     let Some(total) = asked.or(report.total_rounds()) else {

@@ -14,6 +14,8 @@ pub(crate) struct Seat {
     pub(crate) played: Vec<Colour>,
     // start ranks of those whom he has met
     pub(crate) opponents: Vec<u16>,
+    // start ranks of those from whom a line `XXP` keeps him apart
+    pub(crate) apart: Vec<u16>,
     // in the last round, and in the one before it
     pub(crate) latest: Option<Float>,
     pub(crate) earlier: Option<Float>,

@@ -8,10 +8,10 @@ use Rattle.std.proofs.lemmas.Slice.Eq.{bytes_eq-Decides}
 use Rattle.trf16.specs.Lines.{columns, text}
 use Rattle.std.specs.Prelude.{option_copied}
 use denote.Ref.{Bor}
-use Rattle.trf16.specs.Extensions.{is_kind, is_word, names_absent}
+use Rattle.trf16.specs.Extensions.{is_kind, is_word, names_absent, names_both}
 use Rattle.trf16.specs.Absence.{is_of, first_at}
 use Rattle.trf16.specs.declared.kind.Kind.{Kind}
-use Rattle.trf16.specs.declared.kind.Kind.TheVariants.{Xxa, Xxs, Xxp, Rank}
+use Rattle.trf16.specs.declared.kind.Kind.TheVariants.{Xxa, Xxs, Rank}
 use Rattle.trf16.specs.declared.player.Player.{Player}
 use Rattle.trf16.specs.Sheet.{Entry, Sheet}
 use Rattle.trf16.specs.Answering.{cell_fits, cells_fit, player_fits, players_fit}
@@ -80,11 +80,13 @@ pub not_of_kinds : (line : List (List ℕ)) (kinds : List Kind) → is_player li
 not_of_kinds line [] player = refl
 not_of_kinds line (Xxa ∷ kinds) player = rw (not_of_kind line (codes "XXA") refl player) (not_of_kinds line kinds player)
 not_of_kinds line (Xxs ∷ kinds) player = rw (not_of_kind line (codes "XXS") refl player) (not_of_kinds line kinds player)
-not_of_kinds line (Xxp ∷ kinds) player = rw (not_of_kind line (codes "XXP") refl player) (not_of_kinds line kinds player)
 not_of_kinds line (Rank ∷ kinds) player = rw (not_of_kind line (codes "XXC") refl player) (not_of_kinds line kinds player)
 
 pub not_absent : (start : ℕ) (line : List (List ℕ)) → is_player line ≡ true → names_absent start line ≡ false
 not_absent start line player = rw (not_of_kind line (codes "XXZ") refl player) refl
+
+pub not_together : (a b : ℕ) (line : List (List ℕ)) → is_player line ≡ true → names_both a b line ≡ false
+not_together a b line player = rw (not_of_kind line (codes "XXP") refl player) refl
 
 pub first_at-cons : (test : List (List ℕ) → Bool) (utf8 : Bool) (n : ℕ) (line : List ℕ) (rest : List (List ℕ)) (here : Bool)
     → (is_player (columns utf8 line) ≡ true → test (columns utf8 line) ≡ false) → test (columns utf8 line) ≡ here

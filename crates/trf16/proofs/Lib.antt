@@ -7,6 +7,7 @@ pub mod ReportLemmas
 pub mod AnsweringLemmas
 pub mod NoteLemmas
 pub mod MarkLemmas
+pub mod ApartLemmas
 pub mod MeetingLemmas
 pub mod Characters
 pub mod WrittenNumbers

@@ -19,7 +19,7 @@ use Rattle.trf16.specs.Sheet.{Sheet}
 use Rattle.trf16.specs.Notes.{is_marked, first_noted, noted_first, earlier, Tells}
 use Rattle.trf16.specs.declared.kind.Kind.{Kind}
 use Rattle.trf16.specs.declared.notes.Notes.{Notes}
-use Rattle.trf16.proofs.AnsweringLemmas.{some_of, some_of-cons, not_of_kinds, not_absent, first_at-cons}
+use Rattle.trf16.proofs.AnsweringLemmas.{some_of, some_of-cons, not_of_kind, not_of_kinds, not_absent, first_at-cons}
 
 -- a word is one kind at most
 pub not_both : (word one other : List ℕ) → bytes_eq (map to_ascii_lowercase one) (map to_ascii_lowercase other) ≡ false
@@ -40,8 +40,9 @@ pub record AreNoted (notes : Notes) (utf8 : Bool) (n : ℕ) (rest all : List (Li
   pub absent : (start : ℕ) → (is_marked notes start || some_of (names_absent start) utf8 rest) ≡ some_of (names_absent start) utf8 all
   pub first : (kind : Kind) → option_or (first_noted notes kind) (first_at (of_kind kind) utf8 n (map (carried_line utf8) rest))
       ≡ first_at (of_kind kind) utf8 1 (map (carried_line utf8) all)
+  pub together : (notes.together || some_of (is_kind (codes "XXP")) utf8 rest) ≡ some_of (is_kind (codes "XXP")) utf8 all
 
-or_step : (marked here others : Bool) → ((marked || here) || others) ≡ (marked || (here || others))
+pub or_step : (marked here others : Bool) → ((marked || here) || others) ≡ (marked || (here || others))
 or_step true here others = refl
 or_step false here others = refl
 
@@ -53,18 +54,20 @@ first_step None false n others = refl
 
 -- before the first line nothing is noted
 pub noted-none : (notes : Notes) (utf8 : Bool) (all : List (List ℕ)) → ((start : ℕ) → is_marked notes start ≡ false) → ((kind : Kind) → first_noted notes kind ≡ None)
-    → AreNoted notes utf8 1 all all
-noted-none notes utf8 all none no_first = record {
+    → notes.together ≡ false → AreNoted notes utf8 1 all all
+noted-none notes utf8 all none no_first no_line = record {
   absent = λ start. rw (none start) refl;
   first = λ kind. rw (no_first kind) refl;
+  together = rw no_line refl;
 }
 
 -- one more line
 pub noted-more : (notes next : Notes) (utf8 : Bool) (n : ℕ) (line : List ℕ) (rest all : List (List ℕ)) → AreNoted notes utf8 n (line ∷ rest) all
     → ((start : ℕ) → is_marked next start ≡ (is_marked notes start || names_absent start (columns utf8 line)))
     → ((kind : Kind) → first_noted next kind ≡ noted_first (first_noted notes kind) (is_of (columns utf8 line) kind) n)
+    → next.together ≡ (notes.together || is_kind (codes "XXP") (columns utf8 line))
     → AreNoted next utf8 (n + 1) rest all
-noted-more notes next utf8 n line rest all noted marks firsts = record {
+noted-more notes next utf8 n line rest all noted marks firsts together = record {
   absent = λ start.
       ap (λ b. b || some_of (names_absent start) utf8 rest) (marks start)
       ∙ or_step (is_marked notes start) (names_absent start (columns utf8 line)) (some_of (names_absent start) utf8 rest)
@@ -77,6 +80,13 @@ noted-more notes next utf8 n line rest all noted marks firsts = record {
       ∙ first_step (first_noted notes kind) here n others
       ∙ ap (option_or (first_noted notes kind)) (sym (first_at-cons (of_kind kind) utf8 n line rest here (not_of_kinds (columns utf8 line) (kind ∷ [])) (or_false here)))
       ∙ noted.first kind;
+  together =
+      let test = is_kind (codes "XXP") in
+      let here = test (columns utf8 line) in
+      ap (λ b. b || some_of test utf8 rest) together
+      ∙ or_step notes.together here (some_of test utf8 rest)
+      ∙ ap (λ b. notes.together || b) (sym (some_of-cons test utf8 line rest here (not_of_kind (columns utf8 line) (codes "XXP") refl) refl))
+      ∙ noted.together;
 }
 
 or_none : (o : Option ℕ) → option_or o None ≡ o
@@ -88,6 +98,7 @@ pub noted-all : (notes : Notes) (utf8 : Bool) (n : ℕ) (all : List (List ℕ)) 
 noted-all notes utf8 n all bye noted = record {
   absent = λ start. sym (or_false (is_marked notes start)) ∙ noted.absent start;
   first = λ kind. sym (or_none (first_noted notes kind)) ∙ noted.first kind;
+  together = sym (or_false notes.together) ∙ noted.together;
 }
 
 -- what is noted of one sheet is what another with the same lines says
@@ -95,14 +106,16 @@ pub tells_same : (notes : Notes) (a b : Sheet) → b.utf8 ≡ a.utf8 → b.carri
 tells_same notes a b same_columns same_lines told = record {
   absent = λ start. told.absent start ∙ sym (rw (same_columns, same_lines) refl);
   first = λ kind. told.first kind ∙ sym (rw (same_columns, same_lines) refl);
+  together = told.together ∙ sym (rw (same_columns, same_lines) refl);
 }
 
 -- notes that say the same of each start rank and kind
 pub tells_again : (notes again : Notes) (sheet : Sheet) → ((start : ℕ) → is_marked again start ≡ is_marked notes start)
-    → ((kind : Kind) → first_noted again kind ≡ first_noted notes kind) → Tells notes sheet → Tells again sheet
-tells_again notes again sheet marks firsts told = record {
+    → ((kind : Kind) → first_noted again kind ≡ first_noted notes kind) → again.together ≡ notes.together → Tells notes sheet → Tells again sheet
+tells_again notes again sheet marks firsts same told = record {
   absent = λ start. marks start ∙ told.absent start;
   first = λ kind. firsts kind ∙ told.first kind;
+  together = same ∙ told.together;
 }
 
 no_line : (m : ℕ) → None ≡ Some m → ⊥

@@ -48,7 +48,7 @@ pub starts-entries : (es : List (ℕ × Player)) → map (λ e. e.1.start) es �
 starts-entries [] = refl
 starts-entries (e ∷ es) = ap (λ (starts : List ℕ). e.1.start ∷ starts) (starts-entries es)
 
-starts-with : (bye : ℕ) (boards : List (ℕ × ℕ)) (before : ℕ) (entries : List Entry) → starts_of (map (entry_with bye boards before) entries) ≡ starts_of entries
+pub starts-with : (bye : ℕ) (boards : List (ℕ × ℕ)) (before : ℕ) (entries : List Entry) → starts_of (map (entry_with bye boards before) entries) ≡ starts_of entries
 starts-with bye boards before [] = refl
 starts-with bye boards before (entry ∷ entries) = ap (λ (starts : List ℕ). entry.start ∷ starts) (starts-with bye boards before entries)
 

@@ -21,7 +21,7 @@ use Rattle.trf16.specs.Extensions.{is_kind, words_of, rounds_in, colour_in, are_
 use Rattle.trf16.specs.Sheet.{Entry, Sheet, with_player, known, half_points, rounds_played}
 use Rattle.trf16.specs.Outcomes.{◌>>=◌}
 use Rattle.trf16.specs.Answering.{cells_fit, points_fit, player_fits, players_fit, has_other_points}
-use Rattle.trf16.specs.Verdict.{player_at, is_player, is_too_long, rounds_onto, colour_onto, absence_onto, player_onto, line_onto, lines_onto, carried_line, without_players, has_too_many_rounds, names_too_many_rounds, sized, report_of, verdict}
+use Rattle.trf16.specs.Verdict.{player_at, is_player, is_too_long, rounds_onto, colour_onto, start_ranks_onto, player_onto, line_onto, lines_onto, carried_line, without_players, has_too_many_rounds, names_too_many_rounds, sized, report_of, verdict}
 use Rattle.trf16.specs.Written.{player_text, lines_text, written}
 use Rattle.trf16.specs.declared.cell.Bye.TheVariants.{Half, Full, Allocated, Zero}
 use Rattle.trf16.specs.declared.cell.Outcome.TheVariants.{Win, Draw, Loss}
@@ -82,9 +82,9 @@ colour_keep sheet n line next e =
     let s = then_ok (ok_or (colour_in sheet.initial (words_of line)) (BadExtension n)) (λ initial. Ok (record sheet { initial = initial })) next e in
     keeps_from sheet (record sheet { initial = s.0 }) next s.2 (record { utf8 = refl; carried = refl; players = refl; bye = refl })
 
-absence_keep : (sheet : Sheet) (n : ℕ) (line : List (List ℕ)) (next : Sheet) → absence_onto sheet n line ≡ Ok next → Keeps sheet next
-unfolding absence_onto
-absence_keep sheet n line next e = by (are_start_ranks (words_of line)) e
+start_ranks_keep : (sheet : Sheet) (n : ℕ) (line : List (List ℕ)) (next : Sheet) → start_ranks_onto sheet n line ≡ Ok next → Keeps sheet next
+unfolding start_ranks_onto
+start_ranks_keep sheet n line next e = by (are_start_ranks (words_of line)) e
   where
     by : (b : Bool) → ◌≡◌ {A = Result Sheet Fault} (cond b (Ok sheet) (Err (BadExtension n))) (Ok next) → Keeps sheet next
     by true e = keeps_from sheet sheet next e (record { utf8 = refl; carried = refl; players = refl; bye = refl })
@@ -93,12 +93,12 @@ absence_keep sheet n line next e = by (are_start_ranks (words_of line)) e
 pub line_keeps : (sheet : Sheet) (n : ℕ) (line : List (List ℕ)) (next : Sheet) → is_player line ≡ false → line_onto sheet n line ≡ Ok next → Keeps sheet next
 unfolding line_onto
 line_keeps sheet n line next other e =
-    by (is_kind (codes "XXR") line) (is_kind (codes "XXC") line) (is_kind (codes "XXZ") line) (rw other at e)
+    by (is_kind (codes "XXR") line) (is_kind (codes "XXC") line) (is_kind (codes "XXZ") line || is_kind (codes "XXP") line) (rw other at e)
   where
-    by : (r c z : Bool) → cond r (rounds_onto sheet n line) (cond c (colour_onto sheet n line) (cond z (absence_onto sheet n line) (Ok sheet))) ≡ Ok next → Keeps sheet next
+    by : (r c z : Bool) → cond r (rounds_onto sheet n line) (cond c (colour_onto sheet n line) (cond z (start_ranks_onto sheet n line) (Ok sheet))) ≡ Ok next → Keeps sheet next
     by true c z e = rounds_keep sheet n line next e
     by false true z e = colour_keep sheet n line next e
-    by false false true e = absence_keep sheet n line next e
+    by false false true e = start_ranks_keep sheet n line next e
     by false false false e = keeps_from sheet sheet next e (record { utf8 = refl; carried = refl; players = refl; bye = refl })
 
 -- the same change where the players are others
@@ -121,10 +121,10 @@ colour_turn turn sheet n line next e =
     let s = then_ok (ok_or (colour_in sheet.initial (words_of line)) (BadExtension n)) (λ initial. Ok (record sheet { initial = initial })) next e in
     rw s.1 (ap (λ (made : Sheet). Ok (turned turn made)) (same_ok (record sheet { initial = s.0 }) next s.2))
 
-absence_turn : (turn : Entry → Entry) (sheet : Sheet) (n : ℕ) (line : List (List ℕ)) (next : Sheet) → absence_onto sheet n line ≡ Ok next
-    → absence_onto (turned turn sheet) n line ≡ Ok (turned turn next)
-unfolding absence_onto
-absence_turn turn sheet n line next e = by (are_start_ranks (words_of line)) e
+start_ranks_turn : (turn : Entry → Entry) (sheet : Sheet) (n : ℕ) (line : List (List ℕ)) (next : Sheet) → start_ranks_onto sheet n line ≡ Ok next
+    → start_ranks_onto (turned turn sheet) n line ≡ Ok (turned turn next)
+unfolding start_ranks_onto
+start_ranks_turn turn sheet n line next e = by (are_start_ranks (words_of line)) e
   where
     by : (b : Bool) → ◌≡◌ {A = Result Sheet Fault} (cond b (Ok sheet) (Err (BadExtension n))) (Ok next)
         → ◌≡◌ {A = Result Sheet Fault} (cond b (Ok (turned turn sheet)) (Err (BadExtension n))) (Ok (turned turn next))
@@ -135,14 +135,14 @@ line_turns : (turn : Entry → Entry) (sheet : Sheet) (n : ℕ) (line : List (Li
     → line_onto (turned turn sheet) n line ≡ Ok (turned turn next)
 unfolding line_onto
 line_turns turn sheet n line next other e =
-    rw other (by (is_kind (codes "XXR") line) (is_kind (codes "XXC") line) (is_kind (codes "XXZ") line) (rw other at e))
+    rw other (by (is_kind (codes "XXR") line) (is_kind (codes "XXC") line) (is_kind (codes "XXZ") line || is_kind (codes "XXP") line) (rw other at e))
   where
-    by : (r c z : Bool) → cond r (rounds_onto sheet n line) (cond c (colour_onto sheet n line) (cond z (absence_onto sheet n line) (Ok sheet))) ≡ Ok next
-        → cond r (rounds_onto (turned turn sheet) n line) (cond c (colour_onto (turned turn sheet) n line) (cond z (absence_onto (turned turn sheet) n line) (Ok (turned turn sheet))))
+    by : (r c z : Bool) → cond r (rounds_onto sheet n line) (cond c (colour_onto sheet n line) (cond z (start_ranks_onto sheet n line) (Ok sheet))) ≡ Ok next
+        → cond r (rounds_onto (turned turn sheet) n line) (cond c (colour_onto (turned turn sheet) n line) (cond z (start_ranks_onto (turned turn sheet) n line) (Ok (turned turn sheet))))
         ≡ Ok (turned turn next)
     by true c z e = rounds_turn turn sheet n line next e
     by false true z e = colour_turn turn sheet n line next e
-    by false false true e = absence_turn turn sheet n line next e
+    by false false true e = start_ranks_turn turn sheet n line next e
     by false false false e = ap (λ (made : Sheet). Ok (turned turn made)) (same_ok sheet next e)
 
 -- what a player's line adds

@@ -1,15 +1,15 @@
--- Who is absent from the next round, and which lines are known and not supported.
-use Rattle.std.specs.Prelude.{ℕ, ◌+◌, Bool, true, false, ◌&&◌, ◌||◌, if◌then◌else◌, List, [], ◌∷◌, codes, Option, Some, None}
+-- Who is absent from the next round, who does not meet in it, and which lines are known and not supported.
+use Rattle.std.specs.Prelude.{ℕ, ◌+◌, Bool, true, false, not, ◌&&◌, ◌||◌, ◌==◌, map, filter, if◌then◌else◌, List, [], ◌∷◌, codes, Option, Some, None}
 use Rattle.std.specs.List.{list_any}
 use Rattle.std.specs.Option.{option_map_or}
 use Rattle.trf16.specs.Lines.{columns}
-use Rattle.trf16.specs.Extensions.{is_kind, is_word, words_of, names_absent}
+use Rattle.trf16.specs.Extensions.{is_kind, is_word, words_of, names_absent, names_both}
 use Rattle.trf16.specs.Sheet.{Sheet, cell_in, rounds_played}
 use Rattle.trf16.specs.declared.cell.Bye.TheVariants.{Half, Full, Allocated, Zero}
 use Rattle.trf16.specs.declared.cell.Cell.{Cell}
 use Rattle.trf16.specs.declared.cell.Cell.TheVariants.{Blank, Bye, Game, Forfeit, Unfinished}
 use Rattle.trf16.specs.declared.kind.Kind.{Kind}
-use Rattle.trf16.specs.declared.kind.Kind.TheVariants.{Xxa, Xxs, Xxp, Rank}
+use Rattle.trf16.specs.declared.kind.Kind.TheVariants.{Xxa, Xxs, Rank}
 
 -- whether some line that is carried passes a test of its columns
 abbrev pub some_carried : (List (List ℕ) → Bool) → Sheet → Bool
@@ -34,11 +34,18 @@ is_named_absent sheet start = some_carried (names_absent start) sheet
 abbrev pub absent : Sheet → ℕ → Bool
 absent sheet start = is_named_absent sheet start || is_absence (cell_in sheet start (rounds_played sheet + 1))
 
--- a line of a kind that is known and not supported: XXA, XXS, XXP, or XXC with the word rank
+-- two players do not meet in the next round: they are two, and a line XXP names both
+abbrev pub apart : Sheet → ℕ → ℕ → Bool
+apart sheet a b = not (a == b) && some_carried (names_both a b) sheet
+
+-- the start ranks of the players whom one does not meet so, in the order of their lines
+abbrev pub apart_from : Sheet → ℕ → List ℕ
+apart_from sheet start = filter (apart sheet start) (map (λ entry. entry.start) sheet.players)
+
+-- a line of a kind that is known and not supported: XXA, XXS, or XXC with the word rank
 abbrev pub is_of : List (List ℕ) → Kind → Bool
 is_of line Xxa = is_kind (codes "XXA") line
 is_of line Xxs = is_kind (codes "XXS") line
-is_of line Xxp = is_kind (codes "XXP") line
 is_of line Rank = is_kind (codes "XXC") line && list_any (λ word. is_word word (codes "RANK")) (words_of line)
 
 -- the number of the first of some lines, counted from n, that passes a test of its columns

@@ -1,4 +1,4 @@
--- The extension lines XXR, XXC and XXZ, and the kinds of lines that are known and not supported.
+-- The extension lines XXR, XXC, XXZ and XXP.
 use Rattle.std.specs.Prelude.{ℕ, Bool, false, ◌&&◌, ◌==◌, nat_lt, if◌then◌else◌, List, [], ◌∷◌, map, drop, codes, Option, Some, None, option_and_then}
 use Rattle.std.specs.List.{list_all, list_any}
 use Rattle.std.specs.Option.{option_map_or}
@@ -57,10 +57,18 @@ abbrev pub colour_in : Option Colour → List (List ℕ) → Option (Option Colo
 colour_in initial [] = None
 colour_in initial (word ∷ rest) = colour_behind_all initial (word ∷ rest)
 
--- XXZ: each word is the start rank of a player who is absent from the next round
+-- XXZ and XXP: each word is a start rank: of a player who is absent from the next round, or of one of those who do not meet in it
 abbrev pub are_start_ranks : List (List ℕ) → Bool
 are_start_ranks all = list_all (λ word. option_map_or (λ n. nat_lt 0 n) (number_of word) false) all
 
+-- one of the words is a number
+abbrev pub is_named : List (List ℕ) → ℕ → Bool
+is_named all number = list_any (λ word. option_map_or (λ n. n == number) (number_of word) false) all
+
 -- a line XXZ that names a start rank
 abbrev pub names_absent : ℕ → List (List ℕ) → Bool
-names_absent start line = is_kind (codes "XXZ") line && list_any (λ word. option_map_or (λ n. n == start) (number_of word) false) (words_of line)
+names_absent start line = is_kind (codes "XXZ") line && is_named (words_of line) start
+
+-- a line XXP that names two numbers, in any order
+abbrev pub names_both : ℕ → ℕ → List (List ℕ) → Bool
+names_both a b line = is_kind (codes "XXP") line && (is_named (words_of line) a && is_named (words_of line) b)

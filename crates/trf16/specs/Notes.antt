@@ -1,28 +1,34 @@
 -- What is noted of the carried lines while they are read, and what it must agree with.
-use Rattle.std.specs.Prelude.{◌≡◌, ℕ, Bool, true, false, nat_lt, if◌then◌else◌, List, [], ◌∷◌, Option, Some, None, slice_index_or}
+use Rattle.std.specs.Prelude.{◌≡◌, ℕ, ◌+◌, ◌*◌, ◌<◌, Bool, true, false, nat_lt, codes, length, map, vec_len, if◌then◌else◌, List, [], ◌∷◌, Option, Some, None, slice_index_or}
 use Rattle.std.specs.Option.{option_or}
 use Rattle.trf16.specs.Sheet.{Sheet}
 use Rattle.trf16.specs.Absence.{is_named_absent, first_of}
 use Rattle.trf16.specs.declared.kind.Kind.{Kind}
-use Rattle.trf16.specs.declared.kind.Kind.TheVariants.{Xxa, Xxs, Xxp, Rank}
+use Rattle.trf16.specs.declared.kind.Kind.TheVariants.{Xxa, Xxs, Rank}
+use Rattle.trf16.specs.Extensions.{is_kind, names_both}
+use Rattle.trf16.specs.Absence.{some_carried}
+use Rattle.trf16.specs.declared.start_ranks.StartRanks.{StartRanks}
 use Rattle.trf16.specs.declared.notes.Notes.{Notes}
+use Rattle.trf16.specs.declared.apart.Apart.{Apart}
+
+-- whether a start rank is one of some
+abbrev pub has_start : StartRanks → ℕ → Bool
+has_start starts start = slice_index_or starts.marks.items start false
 
 -- whether a start rank is noted as that of somebody absent
 abbrev pub is_marked : Notes → ℕ → Bool
-is_marked notes start = slice_index_or notes.absent.items start false
+is_marked notes start = has_start notes.absent start
 
 -- the first line of a kind that is noted
 abbrev pub first_noted : Notes → Kind → Option ℕ
 first_noted notes Xxa = notes.xxa
 first_noted notes Xxs = notes.xxs
-first_noted notes Xxp = notes.xxp
 first_noted notes Rank = notes.rank
 
 -- whether two kinds are one
 abbrev pub is_same_kind : Kind → Kind → Bool
 is_same_kind Xxa Xxa = true
 is_same_kind Xxs Xxs = true
-is_same_kind Xxp Xxp = true
 is_same_kind Rank Rank = true
 is_same_kind _ _ = false
 
@@ -45,3 +51,18 @@ earlier found None = found
 pub record Tells (notes : Notes) (sheet : Sheet) : Type 0 where
   pub absent : (start : ℕ) → is_marked notes start ≡ is_named_absent sheet start
   pub first : (kind : Kind) → first_noted notes kind ≡ first_of (kind ∷ []) sheet
+  pub together : notes.together ≡ some_carried (is_kind (codes "XXP")) sheet
+
+-- whether two players, by their places in the order of the lines, are marked as named together
+abbrev pub are_marked : Apart → ℕ → ℕ → Bool
+are_marked apart i j = slice_index_or apart.marks.items (256 * i + j) false
+
+-- the start rank of the player at a place
+abbrev pub start_at : Apart → ℕ → ℕ
+start_at apart i = slice_index_or apart.starts.items i 0
+
+-- what is marked is which players the lines XXP of a report name together
+pub record TellsApart (apart : Apart) (sheet : Sheet) : Type 0 where
+  pub starts : apart.starts.items ≡ map (λ entry. entry.start) sheet.players
+  pub count : vec_len apart.starts ≡ length sheet.players
+  pub both : (i j : ℕ) → i < vec_len apart.starts → j < vec_len apart.starts → are_marked apart i j ≡ some_carried (names_both (start_at apart i) (start_at apart j)) sheet

@@ -97,9 +97,9 @@ colour_onto sheet n line = do
   initial ← ok_or (colour_in sheet.initial (words_of line)) (BadExtension n)
   Ok (record sheet { initial = initial })
 
--- XXZ: start ranks of those who are absent
-unfoldable pub absence_onto : Sheet → ℕ → List (List ℕ) → Result Sheet Fault
-absence_onto sheet n line = if are_start_ranks (words_of line) then Ok sheet else Err (BadExtension n)
+-- XXZ and XXP: start ranks of those who are absent, or who do not meet
+unfoldable pub start_ranks_onto : Sheet → ℕ → List (List ℕ) → Result Sheet Fault
+start_ranks_onto sheet n line = if are_start_ranks (words_of line) then Ok sheet else Err (BadExtension n)
 
 -- 001: a player
 unfoldable pub player_onto : Sheet → ℕ → List (List ℕ) → Result Sheet Fault
@@ -113,7 +113,7 @@ line_onto sheet n line =
     if is_player line then player_onto sheet n line
     else (if is_kind (codes "XXR") line then rounds_onto sheet n line
     else (if is_kind (codes "XXC") line then colour_onto sheet n line
-    else (if is_kind (codes "XXZ") line then absence_onto sheet n line else Ok sheet)))
+    else (if is_kind (codes "XXZ") line || is_kind (codes "XXP") line then start_ranks_onto sheet n line else Ok sheet)))
 
 -- a report with what some lines add to it, of which the first is line n
 unfoldable pub lines_onto : Sheet → ℕ → List (List ℕ) → Result Sheet Fault

@@ -1,18 +1,19 @@
 // What the lines so far say: a report whose lines are still being read.
-ghost use Rattle.std.specs.Prelude.{◌≡◌, ◌≤◌, false, length, is_some, Ok, Some};
+ghost use Rattle.std.specs.Prelude.{◌≡◌, ◌≤◌, false, length, map, vec_len, is_some, IfOk, Ok, Some};
 ghost use Rattle.trf16.specs.Lines.{lines};
 ghost use Rattle.trf16.specs.Outcomes.{Gives};
 ghost use Rattle.trf16.specs.Sheet.{entry_of, with_player, known};
 ghost use Rattle.trf16.specs.Verdict.{without_players, names_too_many_rounds};
-ghost use Rattle.trf16.specs.Notes.{Tells};
+ghost use Rattle.trf16.specs.Notes.{Tells, TellsApart};
 
 use crate::cell::Colour;
+use crate::apart::Apart;
 use crate::fault::Fault;
 use crate::notes::Notes;
 use crate::player::Player;
 use crate::report::{Report, last_round_of};
 use indexmap::IndexMap;
-use std::alloc::Global;
+use std::alloc::{AllocError, Global};
 use std::marker::Model;
 
 // The same as a report, but for its limits, which are looked at after all lines.
@@ -133,9 +134,36 @@ impl<'a> Draft<'a> {
         }
     }
 
+    // The start ranks of the players, in the order of their lines.
+    fn starts(&self, alloc: Global) -> Result<Vec<u16>, AllocError>
+        ensures value { IfOk result (λ starts. starts.items ≡ map (λ entry. entry.start) self.now.players) }
+        ensures few { IfOk result (λ starts. vec_len starts ≡ length self.now.players) }
+    {
+        let mut starts = Vec::new(alloc);
+        for player in self.players.values() {
+            starts.push(player.start)?;
+        }
+        Ok(starts)
+    }
+
+    /// Who is named together by lines `XXP`, where it is noted whether there is one.
+    pub(crate) fn apart(&self, alloc: Global, notes: &Notes) -> Result<Apart, AllocError>
+        requires noted { Tells notes.now self.now }
+        requires few { length self.now.players ≤ 256 }
+        ensures { IfOk result (λ apart. TellsApart apart self.now) }
+    {
+        let starts = self.starts(alloc)?;
+        if notes.together {
+            Apart::read(alloc, starts, self.text, self.utf8)
+        } else {
+            Ok(Apart::none(alloc, starts))
+        }
+    }
+
     /// The report, once its limits are looked at and all of its lines are noted.
-    pub(crate) fn into_report(self, notes: Notes) -> Report<'a>
+    pub(crate) fn into_report(self, notes: Notes, apart: Apart) -> Report<'a>
         requires noted { Tells notes self }
+        requires told_apart { TellsApart apart self }
         requires few_players { length self.players ≤ 256 }
         requires few_rounds { names_too_many_rounds self ≡ false }
         ensures { result ≡ self.entry }
@@ -158,6 +186,7 @@ impl<'a> Draft<'a> {
             rounds,
             notes,
             bye,
+            apart,
         }
     }
 }

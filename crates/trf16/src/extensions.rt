@@ -1,10 +1,12 @@
-// The words of the extension lines XXR, XXC and XXZ.
+// The words of the extension lines XXR, XXC, XXZ and XXP.
 ghost use Rattle.std.specs.Prelude.{◌≡◌, codes};
 ghost use Rattle.std.specs.List.{list_any};
+ghost use Rattle.trf16.specs.Lines.{columns};
 ghost use Rattle.trf16.specs.Fields.{words, number_of};
-ghost use Rattle.trf16.specs.Extensions.{is_word, rounds_in, colour_named, named_together, colour_behind, colour_behind_all, colour_in, are_start_ranks};
+ghost use Rattle.trf16.specs.Extensions.{is_word, rounds_in, colour_named, named_together, colour_behind, colour_behind_all, colour_in, are_start_ranks, is_named, names_both};
 
 use crate::cell::Colour;
+use crate::columns::split_kind;
 use crate::fields::{next_word, number_in, number_of};
 
 /// Whether two words are the same but for the case of their letters.
@@ -80,7 +82,7 @@ pub(crate) fn colour_in(initial: Option<Colour>, rest: &[u8]) -> Option<Option<C
     colour_behind_all(initial, rest)
 }
 
-/// Whether each word of a line `XXZ` is a start rank.
+/// Whether each word of a line `XXZ` or `XXP` is a start rank.
 pub(crate) fn are_start_ranks(bytes: &[u8]) -> bool
     ensures { result ≡ are_start_ranks (words bytes.now) }
 {
@@ -106,4 +108,26 @@ pub(crate) fn has_rank(bytes: &[u8]) -> bool
         rest = after;
     }
     false
+}
+
+// Whether one of the words is a number.
+fn is_named(bytes: &[u8], number: u16) -> bool
+    ensures { result ≡ is_named (words bytes.now) number }
+{
+    let mut rest = bytes;
+    while let Some((word, after)) = next_word(rest) {
+        if number_of(word) == Some(number) {
+            return true;
+        }
+        rest = after;
+    }
+    false
+}
+
+/// Whether a line is of the kind `XXP` and names two numbers.
+pub(crate) fn names_both(line: &[u8], utf8: bool, a: u16, b: u16) -> bool
+    ensures { result ≡ names_both a b (columns utf8 line.now) }
+{
+    let (kind, rest) = split_kind(line, utf8);
+    is_word(kind, b"XXP") && is_named(rest, a) && is_named(rest, b)
 }

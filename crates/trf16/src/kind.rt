@@ -7,8 +7,6 @@ pub enum Kind {
     Xxa,
     /// `XXS`: other points for games.
     Xxs,
-    /// `XXP`: players who do not meet.
-    Xxp,
     /// `XXC` with the word `rank`: the columns 86 to 89 as the ranking.
     Rank,
 }

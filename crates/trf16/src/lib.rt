@@ -2,6 +2,7 @@
 #![tactic(auto)]
 
 mod answering;
+mod apart;
 pub mod cell;
 pub mod cells;
 mod columns;
@@ -11,9 +12,11 @@ mod extensions;
 pub mod fault;
 mod fields;
 mod grammar;
+mod keeping_apart;
 pub mod kind;
 pub mod laws;
 mod lines;
+mod marking;
 pub mod meetings;
 mod notes;
 mod noting;
@@ -23,6 +26,7 @@ mod queries;
 mod reading;
 pub mod report;
 mod round;
+mod start_ranks;
 mod writing;
 
 pub use reading::{read, read_with};

@@ -1,35 +1,31 @@
 // Noting what the carried lines of a report say, line by line, and asking what is noted.
-ghost use Rattle.std.specs.Prelude.{◌≡◌, ℕ, ◌<◌, ◌&&◌, ◌||◌, ◌==◌, List, drop, false, codes, IfOk, None};
-ghost use Rattle.std.specs.Option.{option_map_or};
-ghost use Rattle.std.specs.List.{list_any};
+ghost use Rattle.std.specs.Prelude.{◌≡◌, ℕ, ◌&&◌, ◌||◌, List, drop, false, codes, IfOk, None};
 ghost use Rattle.trf16.specs.Lines.{columns, text, joined};
-ghost use Rattle.trf16.specs.Fields.{words, number_of};
-ghost use Rattle.trf16.specs.Extensions.{is_word, names_absent};
+ghost use Rattle.trf16.specs.Fields.{words};
+ghost use Rattle.trf16.specs.Extensions.{is_kind, is_word, is_named, names_absent};
 ghost use Rattle.trf16.specs.Absence.{is_of};
 ghost use Rattle.trf16.specs.Notes.{is_marked, first_noted, is_kind_of, noted_first, earlier};
 
 use crate::columns::split_kind;
 use crate::extensions::{has_rank, is_word};
-use crate::fields::{next_word, number_of};
 use crate::kind::Kind;
 use crate::notes::Notes;
+use crate::start_ranks::StartRanks;
 use std::alloc::{AllocError, Global};
-
-// Start ranks are below this: they have four digits at most.
-const START_RANKS: usize = 10_000;
 
 impl Notes {
     /// Nothing is noted.
     pub(crate) fn new(alloc: Global) -> Result<Notes, AllocError>
         ensures absent { IfOk result (λ notes. (start : ℕ) → is_marked notes start ≡ false) }
         ensures firsts { IfOk result (λ notes. (kind : Kind) → first_noted notes kind ≡ None) }
+        ensures together { IfOk result (λ notes. notes.together ≡ false) }
     {
         Ok(Notes {
-            absent: Vec::from_elem(alloc, false, START_RANKS)?,
+            absent: StartRanks::new(alloc)?,
             xxa: None,
             xxs: None,
-            xxp: None,
             rank: None,
+            together: false,
         })
     }
 
@@ -37,24 +33,15 @@ impl Notes {
     pub(crate) fn copy(&self, alloc: Global) -> Result<Notes, AllocError>
         ensures absent { IfOk result (λ notes. (start : ℕ) → is_marked notes start ≡ is_marked self.now start) }
         ensures firsts { IfOk result (λ notes. (kind : Kind) → first_noted notes kind ≡ first_noted self.now kind) }
+        ensures together { IfOk result (λ notes. notes.together ≡ self.now.together) }
     {
         Ok(Notes {
-            absent: Vec::from_slice(alloc, &self.absent)?,
+            absent: self.absent.copy(alloc)?,
             xxa: self.xxa,
             xxs: self.xxs,
-            xxp: self.xxp,
             rank: self.rank,
+            together: self.together,
         })
-    }
-
-    /// Whether a start rank is noted as that of somebody absent.
-    pub(crate) fn is_absent(&self, start: u16) -> bool
-        ensures { result ≡ is_marked self.now start }
-    {
-        match self.absent.get(usize::from(start)) {
-            Some(marked) => *marked,
-            None => false,
-        }
     }
 
     /// The first line of a kind that is noted.
@@ -64,49 +51,18 @@ impl Notes {
         match kind {
             Kind::Xxa => self.xxa,
             Kind::Xxs => self.xxs,
-            Kind::Xxp => self.xxp,
             Kind::Rank => self.rank,
-        }
-    }
-
-    // Marks a start rank.
-    fn mark(&mut self, start: u16)
-        requires { start < 10000 }
-        ensures absent { (i : ℕ) → is_marked self.new i ≡ (is_marked self.old i || (start == i)) }
-        ensures firsts { (kind : Kind) → first_noted self.new kind ≡ first_noted self.old kind }
-    {
-        self.absent[usize::from(start)] = true;
-    }
-
-    // Marks the start rank that a word is, if it is one.
-    fn mark_word(&mut self, word: &[u8])
-        ensures absent { (i : ℕ) → is_marked self.new i ≡ (is_marked self.old i || option_map_or (λ n. n == i) (number_of word.now) false) }
-        ensures firsts { (kind : Kind) → first_noted self.new kind ≡ first_noted self.old kind }
-    {
-        if let Some(start) = number_of(word) {
-            self.mark(start);
-        }
-    }
-
-    // Marks each start rank among the words of a line.
-    fn mark_words(&mut self, bytes: &[u8])
-        ensures absent { (i : ℕ) → is_marked self.new i ≡ (is_marked self.old i || list_any (λ word. option_map_or (λ n. n == i) (number_of word) false) (words bytes.now)) }
-        ensures firsts { (kind : Kind) → first_noted self.new kind ≡ first_noted self.old kind }
-    {
-        let mut rest = bytes;
-        while let Some((word, after)) = next_word(rest) {
-            self.mark_word(word);
-            rest = after;
         }
     }
 
     // Marks those whom a line names, if it is of the kind `XXZ`.
     fn note_absent(&mut self, kind: &[u8], rest: &[u8])
-        ensures absent { (i : ℕ) → is_marked self.new i ≡ (is_marked self.old i || (is_word kind.now (codes "XXZ") && list_any (λ word. option_map_or (λ n. n == i) (number_of word) false) (words rest.now))) }
+        ensures absent { (i : ℕ) → is_marked self.new i ≡ (is_marked self.old i || (is_word kind.now (codes "XXZ") && is_named (words rest.now) i)) }
         ensures firsts { (kind : Kind) → first_noted self.new kind ≡ first_noted self.old kind }
+        ensures together { self.new.together ≡ self.old.together }
     {
         if is_word(kind, b"XXZ") {
-            self.mark_words(rest);
+            self.absent.mark_words(rest);
         }
     }
 
@@ -114,11 +70,11 @@ impl Notes {
     fn note_first(&mut self, found: Option<Kind>, n: usize)
         ensures absent { (i : ℕ) → is_marked self.new i ≡ is_marked self.old i }
         ensures firsts { (kind : Kind) → first_noted self.new kind ≡ noted_first (first_noted self.old kind) (is_kind_of found kind) n }
+        ensures together { self.new.together ≡ self.old.together }
     {
         match found {
             Some(Kind::Xxa) => self.xxa = self.xxa.or(Some(n)),
             Some(Kind::Xxs) => self.xxs = self.xxs.or(Some(n)),
-            Some(Kind::Xxp) => self.xxp = self.xxp.or(Some(n)),
             Some(Kind::Rank) => self.rank = self.rank.or(Some(n)),
             None => {}
         }
@@ -128,10 +84,12 @@ impl Notes {
     pub(crate) fn note(&mut self, n: usize, line: &[u8], utf8: bool)
         ensures absent { (i : ℕ) → is_marked self.new i ≡ (is_marked self.old i || names_absent i (columns utf8 line.now)) }
         ensures firsts { (kind : Kind) → first_noted self.new kind ≡ noted_first (first_noted self.old kind) (is_of (columns utf8 line.now) kind) n }
+        ensures together { self.new.together ≡ (self.old.together || is_kind (codes "XXP") (columns utf8 line.now)) }
     {
         let (kind, rest) = split_kind(line, utf8);
         self.note_absent(kind, rest);
         self.note_first(kind_of(kind, rest), n);
+        self.together = self.together || is_word(kind, b"XXP");
     }
 }
 
@@ -144,9 +102,6 @@ fn kind_of(kind: &[u8], rest: &[u8]) -> Option<Kind>
     }
     if is_word(kind, b"XXS") {
         return Some(Kind::Xxs);
-    }
-    if is_word(kind, b"XXP") {
-        return Some(Kind::Xxp);
     }
     if is_word(kind, b"XXC") && has_rank(rest) {
         return Some(Kind::Rank);

@@ -1,16 +1,20 @@
 // What a report says of the round that comes next: who is absent, the points so far, which game has no result, and what is
 // not supported.
-ghost use Rattle.std.specs.Prelude.{◌≡◌, ◌∷◌, []};
-ghost use Rattle.trf16.specs.Absence.{is_absence, is_named_absent, absent, first_of};
+ghost use Rattle.std.specs.Prelude.{◌≡◌, ◌<◌, ◌∷◌, [], length, map, slice_index_or, IfOk, IfSome};
+ghost use Rattle.trf16.specs.Absence.{is_absence, is_named_absent, absent, apart, apart_from, some_carried, first_of};
+ghost use Rattle.trf16.specs.Extensions.{names_both};
 ghost use Rattle.trf16.specs.Sheet.{points_upto};
 ghost use Rattle.trf16.specs.Answering.{has_other_points};
 ghost use Rattle.trf16.specs.Unfinished.{unfinished};
 
 use crate::cell::{Bye, Cell};
 use crate::cells::{first_unfinished, front};
+use crate::extensions::names_both;
 use crate::kind::Kind;
+use crate::lines::next_line;
 use crate::noting::earlier;
 use crate::report::Report;
+use std::alloc::{AllocError, Global};
 
 // A cell that says that a player does not play.
 fn is_absence(cell: &Cell) -> bool
@@ -27,7 +31,7 @@ impl<'a> Report<'a> {
     fn is_named_absent(&self, start: u16) -> bool
         ensures { result ≡ is_named_absent self.now start }
     {
-        self.notes.is_absent(start)
+        self.notes.absent.has(start)
     }
 
     // The first line of a kind.
@@ -50,6 +54,70 @@ impl<'a> Report<'a> {
         ensures { result ≡ absent self.now start }
     {
         self.is_named_absent(start) || is_absence(&self.cell(start, self.rounds_played() + 1))
+    }
+
+    // The place of a player in the order of the lines.
+    fn place(&self, start: u16) -> Option<usize>
+        ensures start { IfSome result (λ i. slice_index_or (map (λ entry. entry.start) self.now.players) i 0 ≡ start) }
+        ensures within { IfSome result (λ i. i < length self.now.players) }
+        ensures few { IfSome result (λ i. i < 256) }
+    {
+        self.players.get_index_of(&start)
+    }
+
+    // Whether a line `XXP` names two numbers, found by walking the text.
+    fn are_named_together(&self, a: u16, b: u16) -> bool
+        ensures { result ≡ some_carried (names_both a b) self.now }
+    {
+        let mut rest = self.text;
+        while !rest.is_empty() {
+            let (line, after) = next_line(rest);
+            if names_both(line, self.utf8, a, b) {
+                return true;
+            }
+            rest = after;
+        }
+        false
+    }
+
+    // The same, looked up where both are start ranks of players.
+    fn are_together(&self, a: u16, b: u16) -> bool
+        ensures { result ≡ some_carried (names_both a b) self.now }
+    {
+        if !self.notes.together {
+            return false;
+        }
+        match (self.place(a), self.place(b)) {
+            (Some(i), Some(j)) => self.apart.has(i, j),
+            _ => self.are_named_together(a, b),
+        }
+    }
+
+    /// Whether a line `XXP` names two different numbers: then the players with these start ranks do not meet in the next round.
+    /// Of players it is looked up; only of a number that no player has it takes time in step with the text.
+    pub fn apart(&self, a: u16, b: u16) -> bool
+        ensures { result ≡ apart self.now a b }
+    {
+        a != b && self.are_together(a, b)
+    }
+
+    /// The start ranks of the players whom one does not meet in the next round by a line `XXP`, in the order of their lines.
+    ///
+    /// # Errors
+    /// Memory was refused.
+    pub fn apart_from(&self, alloc: Global, start: u16) -> Result<Vec<u16>, AllocError>
+        ensures { IfOk result (λ starts. starts.items ≡ apart_from self.now start) }
+    {
+        let mut starts = Vec::new(alloc);
+        if !self.notes.together {
+            return Ok(starts);
+        }
+        for player in self.players() {
+            if self.apart(start, player.start) {
+                starts.push(player.start)?;
+            }
+        }
+        Ok(starts)
     }
 
     /// The half points of a player in the rounds 1 to `upto`.

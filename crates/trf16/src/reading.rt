@@ -6,7 +6,7 @@ ghost use Rattle.trf16.specs.Fields.{without_last};
 ghost use Rattle.trf16.specs.Outcomes.{Gives};
 ghost use Rattle.trf16.specs.Sheet.{entry_of, known};
 ghost use Rattle.trf16.specs.Notes.{is_marked, first_noted, Tells};
-ghost use Rattle.trf16.specs.Verdict.{blank_at, start_number_at, start_at, points_at, round_at, rounds_at, is_blank_cell, cells_at, player_at, is_player, is_too_long, player_onto, rounds_onto, colour_onto, absence_onto, line_onto, lines_onto, has_too_many_rounds, without_players, sized, report_of, verdict};
+ghost use Rattle.trf16.specs.Verdict.{blank_at, start_number_at, start_at, points_at, round_at, rounds_at, is_blank_cell, cells_at, player_at, is_player, is_too_long, player_onto, rounds_onto, colour_onto, start_ranks_onto, line_onto, lines_onto, has_too_many_rounds, without_players, sized, report_of, verdict};
 
 use crate::answering::players_fit;
 use crate::cell::Cell;
@@ -198,10 +198,10 @@ fn colour_onto(draft: &mut Draft<'_>, n: usize, bytes: &[u8]) -> Result<(), Faul
     Ok(())
 }
 
-// XXZ: the start ranks of those who are absent.
-#[tactic(auto, unfolding(crate::specs::Verdict::absence_onto))]
-fn absence_onto(draft: &mut Draft<'_>, n: usize, bytes: &[u8]) -> Result<(), Fault>
-    ensures { Gives (λ _. draft.new) result (absence_onto draft.old n (columns draft.old.utf8 bytes.now)) }
+// XXZ and XXP: the start ranks of those who are absent, or who do not meet.
+#[tactic(auto, unfolding(crate::specs::Verdict::start_ranks_onto))]
+fn start_ranks_onto(draft: &mut Draft<'_>, n: usize, bytes: &[u8]) -> Result<(), Fault>
+    ensures { Gives (λ _. draft.new) result (start_ranks_onto draft.old n (columns draft.old.utf8 bytes.now)) }
 {
     let (_, rest) = split_kind(bytes, draft.is_utf8());
     if !are_start_ranks(rest) {
@@ -246,8 +246,8 @@ fn line_onto<'a>(
         rounds_onto(draft, n, bytes)?;
     } else if is_word(kind, b"XXC") {
         colour_onto(draft, n, bytes)?;
-    } else if is_word(kind, b"XXZ") {
-        absence_onto(draft, n, bytes)?;
+    } else if is_word(kind, b"XXZ") || is_word(kind, b"XXP") {
+        start_ranks_onto(draft, n, bytes)?;
     }
     Ok(false)
 }
@@ -261,6 +261,7 @@ fn lines_onto<'a>(
 ) -> Result<bool, Fault>
     requires absent { (start : ℕ) → is_marked notes.old start ≡ false }
     requires firsts { (kind : Kind) → first_noted notes.old kind ≡ None }
+    requires together { notes.old.together ≡ false }
     ensures given { Gives (λ _. draft.new) result (lines_onto draft.old 1 (lines text.now)) }
     ensures long { IfOk result (λ long. long ≡ has_too_many_rounds draft.old.utf8 (lines text.now)) }
     ensures same { IfOk result (λ _. (draft.new.utf8 ≡ draft.old.utf8) × (draft.new.carried ≡ draft.old.carried)) }
@@ -289,7 +290,12 @@ fn is_utf8(bytes: &[u8]) -> bool
 
 // The report, where it is not too large and has players.
 #[tactic(auto, unfolding(crate::specs::Verdict::sized))]
-fn sized<'a>(draft: Draft<'a>, notes: Notes, too_long: bool) -> Result<Report<'a>, Fault>
+fn sized<'a>(
+    alloc: Global,
+    draft: Draft<'a>,
+    notes: Notes,
+    too_long: bool,
+) -> Result<Report<'a>, Fault>
     requires { Tells notes draft }
     ensures { Gives (λ r. r) result (sized draft.entry too_long) }
 {
@@ -304,7 +310,8 @@ fn sized<'a>(draft: Draft<'a>, notes: Notes, too_long: bool) -> Result<Report<'a
     if count == 0 {
         return Err(Fault::NoPlayers);
     }
-    Ok(draft.into_report(notes))
+    let apart = draft.apart(alloc, &notes)?;
+    Ok(draft.into_report(notes, apart))
 }
 
 /// Reads a report in which the pairing-allocated bye gives 2 half points, as `read_with` does.
@@ -337,7 +344,7 @@ pub fn read_with<'a>(alloc: Global, bytes: &'a [u8], bye: u16) -> Result<Report<
     let mut draft = Draft::new(alloc, text, is_utf8(text), bye);
     let mut notes = Notes::new(alloc)?;
     let too_long = lines_onto(alloc, &mut draft, &mut notes, text)?;
-    let report = sized(draft, notes, too_long)?;
+    let report = sized(alloc, draft, notes, too_long)?;
     players_fit(&report)?;
     Ok(report)
 }

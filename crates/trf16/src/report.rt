@@ -4,6 +4,7 @@ ghost use Rattle.std.specs.Option.{option_map_or};
 ghost use Rattle.trf16.specs.Sheet.{entry_of, known, cells_of, cell_in, carried_in, half_points, last_paired_of, rounds_played};
 ghost use Rattle.trf16.specs.Verdict.{carried_line};
 
+use crate::apart::Apart;
 use crate::cell::{Cell, Colour};
 use crate::cells::{cell_at, last_paired, points_of};
 use crate::columns::split_kind;
@@ -29,6 +30,8 @@ pub struct Report<'a> {
     pub(crate) notes: Notes,
     // what the pairing-allocated bye gives, in half points
     pub(crate) bye: u16,
+    // who is named together by lines `XXP`
+    pub(crate) apart: Apart,
 }
 
 impl<'a> Model for Report<'a> {
@@ -37,7 +40,7 @@ impl<'a> Model for Report<'a> {
     ghost use Rattle.std.specs.Map.{keys_of};
     ghost use Rattle.trf16.specs.Lines.{lines};
     ghost use Rattle.trf16.specs.Sheet.{Sheet, entry_of, last_paired_of};
-    ghost use Rattle.trf16.specs.Notes.{Tells};
+    ghost use Rattle.trf16.specs.Notes.{Tells, TellsApart};
     ghost use Rattle.trf16.specs.Verdict.{carried_line, without_players};
 
     ghost Value = { Sheet };
@@ -54,7 +57,8 @@ impl<'a> Model for Report<'a> {
     ghost invariant = { λ r. (keys_of r.players.entries ≡ map (λ e. e.1.start) r.players.entries)
         × (length r.players.entries ≤ 256) × ForSome r.total (λ total. total ≤ 32)
         × (r.rounds ≡ last_paired_of (map (λ e. entry_of e.1) r.players.entries)) × (r.rounds ≤ 32)
-        × Tells r.notes (without_players r.utf8 (lines r.text.now) r.bye) × (r.bye ≤ 2) };
+        × Tells r.notes (without_players r.utf8 (lines r.text.now) r.bye) × (r.bye ≤ 2)
+        × TellsApart r.apart (record (without_players r.utf8 (lines r.text.now) r.bye) { players = map (λ e. entry_of e.1) r.players.entries }) };
 }
 
 impl<'a> Report<'a> {

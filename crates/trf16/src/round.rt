@@ -188,6 +188,7 @@ impl<'a> Report<'a> {
     {
         let before = self.rounds_played();
         let notes = self.notes.copy(alloc)?;
+        let apart = self.apart.copy(alloc)?;
         let mut players = IndexMap::with_capacity(alloc, self.players.len())?;
         for player in self.players() {
             let paired = self.player_with(alloc, boards, before, player)?;
@@ -203,6 +204,7 @@ impl<'a> Report<'a> {
             rounds,
             notes,
             bye: self.bye,
+            apart,
         })
     }
 }

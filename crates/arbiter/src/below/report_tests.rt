@@ -132,7 +132,24 @@ fn first_line_of_a_kind(rt: HostRuntime) -> Result<(), Fail> {
     let report = read(rt.alloc(), b"xxs 1\nXXC rank\nXXA\n001    1\n")?;
     assert_eq!(rt; report.unsupported(&[Kind::Xxa]), Some(3));
     assert_eq!(rt; report.unsupported(&[Kind::Xxa, Kind::Rank]), Some(2));
-    assert_eq!(rt; report.unsupported(&[Kind::Xxp]), None);
+    assert_eq!(rt; report.unsupported(&[]), None);
+    Ok(())
+}
+
+#[test]
+fn players_kept_apart(rt: HostRuntime) -> Result<(), Fail> {
+    let report = read(
+        rt.alloc(),
+        b"XXP 1 3 9 1\n001    1\n001    2\n001    3\nxxp2 3\n",
+    )?;
+    for (a, b) in [(1, 3), (3, 1), (2, 3), (1, 9)] {
+        assert!(rt; report.apart(a, b), "{a} {b}");
+    }
+    for (a, b) in [(1, 2), (1, 1), (2, 9)] {
+        assert!(rt; !report.apart(a, b), "{a} {b}");
+    }
+    let starts = report.apart_from(rt.alloc(), 3)?;
+    assert_eq!(rt; starts.as_slice(), &[1, 2]);
     Ok(())
 }
 

@@ -130,3 +130,25 @@ fn reports_that_cannot_be_paired_are_refused(rt: HostRuntime) -> Result<(), Allo
     assert!(rt; has_refused(&ended, "refused: line 5: unsupported\n"));
     Ok(())
 }
+
+#[test]
+fn players_kept_apart_do_not_meet(rt: HostRuntime) -> Result<(), AllocError> {
+    let alloc = rt.alloc();
+    let table = [
+        ("XXP 1 3\n", Status::Done, "2\n1 4\n3 2\n"),
+        ("XXP 1 3\nxxp 1 4\n", Status::Done, "2\n1 2\n3 4\n"),
+        ("XXP 1 2 3\n", Status::NoPairing, "no pairing\n"),
+        ("XXP 1 9 1\n", Status::Done, "2\n1 3\n4 2\n"),
+    ];
+    for (lines, status, text) in table {
+        let mut players = newcomers(alloc, 4)?;
+        players.push_str(lines)?;
+        let ended = run_over(alloc, "pair --rounds 5", &players)?;
+        assert!(rt; has_told(&ended, status, text), "{lines}");
+    }
+    let mut players = newcomers(alloc, 4)?;
+    players.push_str("XXP 1 0\n")?;
+    let ended = run_over(alloc, "pair --rounds 5", &players)?;
+    assert!(rt; has_refused(&ended, "refused: line 5: bad extension\n"));
+    Ok(())
+}

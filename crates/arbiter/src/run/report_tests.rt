@@ -73,11 +73,11 @@ fn extension_lines(rt: HostRuntime) {
     );
     assert!(rt; has_refused(&check(alloc, b"XXR 5\nXXR x"), bad_second));
     assert!(rt; has_refused(&check(alloc, b"XXC white1\nxxc BLACK1"), bad_second));
-    let carried = check(
+    let apart = check(
         alloc,
         b"001    1\n001    2\n001    3\n001    4\nXXZ 9\nXXP x\n",
     );
-    assert!(rt; has_printed(&carried, "accepted players 4 rounds 0\n"));
+    assert!(rt; has_refused(&apart, "refused: line 6: bad extension\n"));
 }
 
 #[test]

@@ -4,7 +4,10 @@ use Rattle.std.proofs.lemmas.Grind.{common_steps}
 use Rattle.trf16.specs.Verdict.{verdict, report_of, without_players}
 use Rattle.trf16.specs.Lines.{lines}
 use Rattle.trf16.specs.Sheet.{Sheet}
+use Rattle.trf16.specs.Answering.{players_fit}
 use Rattle.trf16.proofs.NoteLemmas.{tells_same}
+use Rattle.trf16.proofs.ReadingLemmas.{Fails-on, verdict-fails}
+use Rattle.std.proofs.lemmas.Result.{err_from_is_err_and}
 use Rattle.trf16.proofs.reading.read_with.Goals as goal
 
 -- a sheet whose players are still to be read carries the lines of its own columns
@@ -27,8 +30,14 @@ unfolding verdict report_of
 returns-in_err-report c = search rules
 
 pub returns-in_err-players_fit : goal.returns-in_err-players_fit
-unfolding verdict report_of
-returns-in_err-players_fit c = grind (arith, common_steps)
+returns-in_err-players_fit c =
+    let p = err_from_is_err_and c.from_residual-in_err-players_fit.result c.from_residual-in_err-players_fit.ensures.1 in
+    let text = c.skip_marks-text.result.now in
+    let report = c.in_ok-report.report in
+    rw (p.1, p.2) (Fails-on c.in_err-players_fit.field-0.0 (players_fit report report.players) (verdict c.args.bytes.now c.args.bye)
+    (λ fault e. verdict-fails c.args.bytes.now text c.args.bye c.is_utf8.result c.new-draft.result c.lines_onto.new.draft report c.in_ok-too_long.too_long fault
+    c.if-bytes-gt1048576.false c.skip_marks-text.ensures c.is_utf8.ensures c.new-draft.ensures c.in_ok-too_long.ensures.given c.in_ok-too_long.ensures.long c.in_ok-report.ensures e)
+    c.in_err-players_fit.ensures)
 
 pub returns : goal.returns
 unfolding verdict report_of

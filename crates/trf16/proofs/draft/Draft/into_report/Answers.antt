@@ -1,10 +1,12 @@
-use Rattle.std.proofs.Common.{rules, ◌≡◌, ℕ, ◌≤◌, length, ap, sym, ◌∙◌, arith, Option, Some}
+use Rattle.std.proofs.Common.{rules, ◌≡◌, ℕ, ◌≤◌, map, length, ap, sym, ◌∙◌, arith, Option, Some}
 use Rattle.std.proofs.lemmas.List.{length-map}
 use Rattle.trf16.specs.Lines.{lines}
 use Rattle.trf16.specs.declared.player.Player.{Player}
 use Rattle.trf16.specs.Sheet.{Sheet, entry_of}
 use Rattle.trf16.specs.Verdict.{without_players, names_too_many_rounds}
 use Rattle.trf16.proofs.NoteLemmas.{tells_same}
+use Rattle.trf16.proofs.ApartLemmas.{apart_same}
+use Rattle.trf16.specs.StartRanks.{starts_of}
 use Rattle.trf16.proofs.draft.Draft.into_report.Goals as goal
 
 pub invariant_of-result : goal.invariant_of-result
@@ -21,4 +23,7 @@ invariant_of-result c =
       tells_same c.args.notes c.args.self (without_players r.utf8 (lines r.text.now) r.bye)
           (ap (λ (sheet : Sheet). sheet.utf8) c.self.view_is) (ap (λ (sheet : Sheet). sheet.carried) c.self.view_is) c.requires.noted,
       c.self.invariant.1,
+      apart_same c.args.apart c.args.self (record (without_players r.utf8 (lines r.text.now) r.bye) { players = map (λ e. entry_of e.1) r.players.entries })
+          (ap (λ (sheet : Sheet). sheet.utf8) c.self.view_is) (ap (λ (sheet : Sheet). sheet.carried) c.self.view_is) (ap (λ (sheet : Sheet). starts_of sheet.players) c.self.view_is)
+          c.requires.told_apart,
     )

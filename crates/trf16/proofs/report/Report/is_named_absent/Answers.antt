@@ -3,4 +3,4 @@ use Rattle.trf16.specs.Absence.{is_named_absent}
 use Rattle.trf16.proofs.report.Report.is_named_absent.Goals as goal
 
 pub returns : goal.returns
-returns c = c.is_absent.ensures ∙ c.self.invariant.5.absent c.args.start ∙ ap (λ sheet. is_named_absent sheet c.args.start) c.self.view_is
+returns c = c.has.ensures ∙ c.self.invariant.5.absent c.args.start ∙ ap (λ sheet. is_named_absent sheet c.args.start) c.self.view_is

@@ -1,4 +1,4 @@
-use Rattle.std.proofs.Common.{◌≡◌, ℕ, ◌≤◌, List, map, length, nat_eq, subst, sym, ap, ◌∙◌, arith}
+use Rattle.std.proofs.Common.{◌≡◌, ℕ, ◌≤◌, List, map, length, nat_eq, subst, refl, sym, ap, ◌∙◌, arith}
 use Rattle.std.proofs.lemmas.List.{length-map}
 use Rattle.std.specs.List.{IsDistinct}
 use Rattle.trf16.specs.declared.player.Player.{Player}
@@ -6,7 +6,9 @@ use Rattle.trf16.specs.Lines.{lines}
 use Rattle.trf16.specs.Verdict.{carried_line, without_players}
 use Rattle.trf16.specs.Sheet.{Entry, Sheet, entry_of, rounds_played}
 use Rattle.trf16.specs.Round.{entry_with, with_round}
-use Rattle.trf16.proofs.RoundLemmas.{paired-insert, paired-end, paired-length, starts-entries}
+use Rattle.trf16.proofs.RoundLemmas.{paired-insert, paired-end, paired-length, starts-entries, starts-with}
+use Rattle.trf16.proofs.ApartLemmas.{apart_again}
+use Rattle.trf16.specs.StartRanks.{starts_of}
 use Rattle.trf16.proofs.NoteLemmas.{tells_again}
 use Rattle.trf16.proofs.report.Report.with_round.Goals as goal
 
@@ -42,8 +44,14 @@ invariant_of-result c =
       c.self.invariant.2,
       c.last_round_of-rounds.ensures.value,
       c.last_round_of-rounds.ensures.few,
-      tells_again c.self.inside.notes c.in_ok-notes.notes (without_players c.self.inside.utf8 (lines c.self.inside.text.now) c.self.inside.bye) c.in_ok-notes.ensures.absent c.in_ok-notes.ensures.firsts c.self.invariant.5,
+      tells_again c.self.inside.notes c.in_ok-notes.notes (without_players c.self.inside.utf8 (lines c.self.inside.text.now) c.self.inside.bye) c.in_ok-notes.ensures.absent c.in_ok-notes.ensures.firsts c.in_ok-notes.ensures.together c.self.invariant.5,
       c.self.invariant.6,
+      apart_again c.self.inside.apart c.in_ok-apart.apart
+          (record (without_players c.self.inside.utf8 (lines c.self.inside.text.now) c.self.inside.bye) { players = map (λ e. entry_of e.1) c.self.inside.players.entries })
+          (record (without_players c.self.inside.utf8 (lines c.self.inside.text.now) c.self.inside.bye) { players = map (λ e. entry_of e.1) done })
+          c.in_ok-apart.ensures.both c.in_ok-apart.ensures.same c.in_ok-apart.ensures.len refl refl
+          (ap starts_of same ∙ starts-with c.args.self.now.bye c.args.boards.now c.rounds_played-before.result all ∙ ap (λ (sheet : Sheet). starts_of sheet.players) (sym c.self.view_is))
+          c.self.invariant.7,
     )
 
 pub returns : goal.returns

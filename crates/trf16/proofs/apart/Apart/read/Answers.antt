@@ -1,0 +1,31 @@
+use Rattle.std.proofs.Common.{◌≡◌, ℕ, ◌<◌, ◌||◌, List, ap, sym, refl, ◌∙◌, subst}
+use Rattle.std.specs.Prelude.{slice_index_or, vec_len}
+use Rattle.trf16.specs.Lines.{columns, lines}
+use Rattle.trf16.specs.Extensions.{names_both}
+use Rattle.trf16.specs.Notes.{are_marked, start_at}
+use Rattle.trf16.proofs.AnsweringLemmas.{some_of, some_of-cons, not_together}
+use Rattle.trf16.proofs.NoteLemmas.{or_step}
+use Rattle.trf16.proofs.apart.Apart.read.Goals as goal
+
+pub loop-rest-preserved : goal.loop-rest-preserved
+loop-rest-preserved c =
+    let utf8 = c.args.utf8 in
+    let line = c.next_line.result.0.now in
+    let after = lines c.next_line.result.1.now in
+    let old = c.loop-rest.apart in
+    let new = c.mark_line.new.self in
+    let same = c.in_ok-mark_line.ensures.same in (
+      subst (λ starts. (i j : ℕ) → i < vec_len starts → j < vec_len starts
+          → (are_marked new i j || some_of (names_both (slice_index_or starts.items i 0) (slice_index_or starts.items j 0)) utf8 after)
+          ≡ some_of (names_both (slice_index_or starts.items i 0) (slice_index_or starts.items j 0)) utf8 (lines c.args.text.now)) (sym same)
+          (λ i j li lj.
+          let test = names_both (start_at old i) (start_at old j) in
+          let here = test (columns utf8 line) in
+          ap (λ b. b || some_of test utf8 after) (c.in_ok-mark_line.ensures.marked i j li lj)
+          ∙ or_step (are_marked old i j) here (some_of test utf8 after)
+          ∙ ap (λ b. are_marked old i j || b) (sym (some_of-cons test utf8 line after here (not_together (start_at old i) (start_at old j) (columns utf8 line)) refl))
+          ∙ ap (λ (ls : List (List ℕ)). are_marked old i j || some_of test utf8 ls) (sym c.next_line.ensures.first)
+          ∙ c.loop-rest.invariant.0 i j li lj),
+      same ∙ c.loop-rest.invariant.1,
+      c.in_ok-mark_line.ensures.room,
+    )

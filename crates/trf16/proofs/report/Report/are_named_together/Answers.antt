@@ -1,0 +1,22 @@
+use Rattle.std.proofs.Common.{true, false, ap, sym, ◌∙◌}
+use Rattle.trf16.specs.Lines.{columns, lines}
+use Rattle.trf16.specs.Extensions.{names_both}
+use Rattle.trf16.specs.Absence.{some_carried}
+use Rattle.trf16.proofs.AnsweringLemmas.{some_of, some_of-cons, not_together}
+use Rattle.trf16.proofs.report.Report.are_named_together.Goals as goal
+
+pub returns-then-names_both : goal.returns-then-names_both
+returns-then-names_both c =
+    let utf8 = c.self.inside.utf8 in
+    let line = c.next_line.result.0.now in
+    let test = names_both c.args.a c.args.b in
+    sym (some_of-cons test utf8 line (lines c.next_line.result.1.now) true (not_together c.args.a c.args.b (columns utf8 line)) (sym c.if-names_both.ensures))
+    ∙ ap (some_of test utf8) (sym c.next_line.ensures.first) ∙ c.loop-rest.invariant ∙ ap (some_carried test) c.self.view_is
+
+pub loop-rest-preserved : goal.loop-rest-preserved
+loop-rest-preserved c =
+    let utf8 = c.self.inside.utf8 in
+    let line = c.next_line.result.0.now in
+    let test = names_both c.args.a c.args.b in
+    sym (some_of-cons test utf8 line (lines c.next_line.result.1.now) false (not_together c.args.a c.args.b (columns utf8 line)) (sym c.if-names_both.ensures))
+    ∙ ap (some_of test utf8) (sym c.next_line.ensures.first) ∙ c.loop-rest.invariant

@@ -1,0 +1,11 @@
+// Which players are named together by lines `XXP`.
+ghost use Rattle.std.specs.Prelude.{◌≤◌, vec_len};
+
+/// A mark for each two players, by their places in the order of the lines; no mark at all where no line names two.
+#[derive(Drop)]
+pub(crate) struct Apart {
+    pub(crate) starts: Vec<u16>,
+    // the row of one player after the other, of 256 places each
+    pub(crate) marks: Vec<bool>,
+    ghost few: { vec_len starts ≤ 256 },
+}
