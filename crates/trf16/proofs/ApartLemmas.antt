@@ -1,10 +1,10 @@
 -- Who is named together, from one sheet to another and from no line at all.
-use Rattle.std.proofs.Common.{◌≡◌, ℕ, ◌<◌, ◌≤◌, Bool, true, false, ◌||◌, ◌&&◌, ◌==◌, not, List, [], ◌∷◌, map, length, Option, Some, None, refl, sym, ap, ◌∙◌, subst, arith}
+use Rattle.std.proofs.Common.{◌≡◌, ℕ, ◌<◌, Bool, true, false, ◌||◌, ◌&&◌, ◌==◌, not, List, [], ◌∷◌, length, Option, Some, None, refl, sym, ap, ◌∙◌, subst, arith}
 use Rattle.std.specs.Prelude.{codes, slice_index_or, vec_len, filter}
 use Rattle.std.specs.List.{list_any}
 use Rattle.std.specs.Option.{option_map_or}
-use Rattle.trf16.specs.Lines.{columns, lines}
-use Rattle.trf16.specs.Extensions.{is_kind, names_both, is_named, words_of}
+use Rattle.trf16.specs.Lines.{columns}
+use Rattle.trf16.specs.Extensions.{is_kind, names_both}
 use Rattle.trf16.specs.Absence.{apart, apart_from, some_carried}
 use Rattle.trf16.specs.Sheet.{Entry, Sheet}
 use Rattle.trf16.specs.StartRanks.{starts_of}
@@ -13,7 +13,7 @@ use Rattle.std.specs.List.{position}
 use Rattle.std.proofs.lemmas.List.{length-map}
 use Rattle.std.proofs.lemmas.List.Quantifiers.{position-Some}
 use Rattle.std.proofs.lemmas.Bool.{eqb-true}
-use Rattle.trf16.specs.Notes.{are_marked, start_at, TellsApart}
+use Rattle.trf16.specs.Notes.{are_marked, TellsApart}
 use Rattle.trf16.specs.declared.apart.Apart.{Apart}
 
 -- a mark for each two of one sheet is one of another with the same lines and start ranks
@@ -44,6 +44,7 @@ not_any a b sheet none = lines_none sheet.carried none
         differ : true ≡ false → ⊥
         differ e = cc
     or_none false y e = (refl, e)
+
     lines_none : (ls : List (Option (List ℕ))) → list_any (λ line. option_map_or (λ bytes. is_kind (codes "XXP") (columns sheet.utf8 bytes)) line false) ls ≡ false
         → list_any (λ line. option_map_or (λ bytes. names_both a b (columns sheet.utf8 bytes)) line false) ls ≡ false
     lines_none [] e = refl
@@ -58,6 +59,7 @@ nobody_apart sheet start none = by (starts_of sheet.players)
     never : (b : Bool) → (b && false) ≡ false
     never true = refl
     never false = refl
+
     by : (starts : List ℕ) → filter (apart sheet start) starts ≡ []
     by [] = refl
     by (other ∷ rest) =

@@ -8,6 +8,7 @@ pub mod AnsweringLemmas
 pub mod NoteLemmas
 pub mod MarkLemmas
 pub mod ApartLemmas
+pub mod ExtensionLemmas
 pub mod MeetingLemmas
 pub mod Characters
 pub mod WrittenNumbers

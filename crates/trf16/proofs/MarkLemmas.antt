@@ -1,5 +1,5 @@
 -- Marks of which none is set.
-use Rattle.std.proofs.Common.{◌≡◌, ℕ, zero, suc, Bool, false, List, [], ◌∷◌, refl, slice_index_or, ◌⊎◌, inl, inr}
+use Rattle.std.proofs.Common.{◌≡◌, ℕ, zero, suc, Bool, false, List, [], ◌∷◌, refl, slice_index_or, inl, inr}
 use Rattle.std.specs.List.{AllClonesOf}
 
 -- whatever is a clone of false is false

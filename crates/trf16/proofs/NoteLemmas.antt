@@ -2,7 +2,7 @@
 use Rattle.std.proofs.Common.{◌≡◌, ℕ, Bool, true, false, cond, ◌||◌, ◌+◌, ◌≤◌, ◌<◌, List, [], ◌∷◌, map, Option, Some, None, refl, sym, ap, ◌∙◌, arith, nat_lt, is_some, get_or, length, drop}
 use Rattle.std.proofs.lemmas.List.{drop_more, drop_all}
 use Rattle.std.proofs.lemmas.Bool.{le-ltb, ltb-false}
-use Rattle.std.specs.Prelude.{codes, slice_index_or}
+use Rattle.std.specs.Prelude.{codes}
 use Rattle.std.specs.List.{list_any}
 use Rattle.std.specs.Option.{option_map_or, option_or}
 use Rattle.std.specs.Str.{bytes_eq}
@@ -13,8 +13,8 @@ use Rattle.trf16.specs.Extensions.{is_kind, is_word, names_absent}
 use Rattle.trf16.specs.Answering.{has_other_points}
 use Rattle.std.proofs.lemmas.Bool.Decides.{nat_tests}
 use Rattle.trf16.specs.declared.kind.Kind.TheVariants.{Xxs}
-use Rattle.trf16.specs.Absence.{is_of, first_at, first_of, is_named_absent}
-use Rattle.trf16.specs.Verdict.{carried_line, is_player, without_players}
+use Rattle.trf16.specs.Absence.{is_of, first_at, first_of}
+use Rattle.trf16.specs.Verdict.{carried_line, without_players}
 use Rattle.trf16.specs.Sheet.{Sheet}
 use Rattle.trf16.specs.Notes.{is_marked, first_noted, noted_first, earlier, Tells}
 use Rattle.trf16.specs.declared.kind.Kind.{Kind}
@@ -31,7 +31,7 @@ not_both word one other differ is =
 abbrev pub of_kind : Kind → List (List ℕ) → Bool
 of_kind kind line = list_any (is_of line) (kind ∷ [])
 
-or_false : (b : Bool) → (b || false) ≡ b
+pub or_false : (b : Bool) → (b || false) ≡ b
 or_false true = refl
 or_false false = refl
 
@@ -89,7 +89,7 @@ noted-more notes next utf8 n line rest all noted marks firsts together = record 
       ∙ noted.together;
 }
 
-or_none : (o : Option ℕ) → option_or o None ≡ o
+pub or_none : (o : Option ℕ) → option_or o None ≡ o
 or_none None = refl
 or_none (Some k) = refl
 

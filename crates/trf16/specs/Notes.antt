@@ -1,6 +1,7 @@
 -- What is noted of the carried lines while they are read, and what it must agree with.
-use Rattle.std.specs.Prelude.{◌≡◌, ℕ, ◌+◌, ◌*◌, ◌<◌, Bool, true, false, nat_lt, codes, length, map, vec_len, if◌then◌else◌, List, [], ◌∷◌, Option, Some, None, slice_index_or}
+use Rattle.std.specs.Prelude.{◌≡◌, ℕ, ◌+◌, ◌*◌, ◌<◌, Bool, true, false, ◌||◌, ◌==◌, nat_lt, codes, length, map, vec_len, if◌then◌else◌, List, [], ◌∷◌, Option, Some, None, slice_index_or}
 use Rattle.std.specs.Option.{option_or}
+use Rattle.std.specs.Str.{byte}
 use Rattle.trf16.specs.Sheet.{Sheet}
 use Rattle.trf16.specs.Absence.{is_named_absent, first_of}
 use Rattle.trf16.specs.declared.kind.Kind.{Kind}
@@ -24,6 +25,11 @@ abbrev pub first_noted : Notes → Kind → Option ℕ
 first_noted notes Xxa = notes.xxa
 first_noted notes Xxs = notes.xxs
 first_noted notes Rank = notes.rank
+
+-- whether a line begins as all extensions do
+abbrev pub begins_with_x : List ℕ → Bool
+begins_with_x [] = false
+begins_with_x (b ∷ rest) = (b == byte "X") || (b == byte "x")
 
 -- whether two kinds are one
 abbrev pub is_same_kind : Kind → Kind → Bool

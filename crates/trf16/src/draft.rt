@@ -6,8 +6,8 @@ ghost use Rattle.trf16.specs.Sheet.{entry_of, with_player, known};
 ghost use Rattle.trf16.specs.Verdict.{without_players, names_too_many_rounds};
 ghost use Rattle.trf16.specs.Notes.{Tells, TellsApart};
 
-use crate::cell::Colour;
 use crate::apart::Apart;
+use crate::cell::Colour;
 use crate::fault::Fault;
 use crate::notes::Notes;
 use crate::player::Player;

@@ -125,7 +125,12 @@ impl Apart {
     }
 
     /// Who is named together by the lines of a text.
-    pub(crate) fn read(alloc: Global, starts: Vec<u16>, text: &[u8], utf8: bool) -> Result<Apart, AllocError>
+    pub(crate) fn read(
+        alloc: Global,
+        starts: Vec<u16>,
+        text: &[u8],
+        utf8: bool,
+    ) -> Result<Apart, AllocError>
         requires { vec_len starts ≤ 256 }
         ensures both { IfOk result (λ apart. (i j : ℕ) → i < vec_len starts → j < vec_len starts → are_marked apart i j ≡ some_carried (names_both (start_at apart i) (start_at apart j)) (without_players utf8 (lines text.now) 0)) }
         ensures same { IfOk result (λ apart. apart.starts ≡ starts) }

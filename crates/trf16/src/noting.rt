@@ -4,7 +4,7 @@ ghost use Rattle.trf16.specs.Lines.{columns, text, joined};
 ghost use Rattle.trf16.specs.Fields.{words};
 ghost use Rattle.trf16.specs.Extensions.{is_kind, is_word, is_named, names_absent};
 ghost use Rattle.trf16.specs.Absence.{is_of};
-ghost use Rattle.trf16.specs.Notes.{is_marked, first_noted, is_kind_of, noted_first, earlier};
+ghost use Rattle.trf16.specs.Notes.{is_marked, first_noted, is_kind_of, noted_first, begins_with_x, earlier};
 
 use crate::columns::split_kind;
 use crate::extensions::{has_rank, is_word};
@@ -80,8 +80,8 @@ impl Notes {
         }
     }
 
-    /// Notes what line n says.
-    pub(crate) fn note(&mut self, n: usize, line: &[u8], utf8: bool)
+    // Notes what line n says, if it is an extension.
+    fn note_extension(&mut self, n: usize, line: &[u8], utf8: bool)
         ensures absent { (i : ℕ) → is_marked self.new i ≡ (is_marked self.old i || names_absent i (columns utf8 line.now)) }
         ensures firsts { (kind : Kind) → first_noted self.new kind ≡ noted_first (first_noted self.old kind) (is_of (columns utf8 line.now) kind) n }
         ensures together { self.new.together ≡ (self.old.together || is_kind (codes "XXP") (columns utf8 line.now)) }
@@ -90,6 +90,27 @@ impl Notes {
         self.note_absent(kind, rest);
         self.note_first(kind_of(kind, rest), n);
         self.together = self.together || is_word(kind, b"XXP");
+    }
+
+    /// Notes what line n says. Most lines are no extensions, and their first byte tells it.
+    pub(crate) fn note(&mut self, n: usize, line: &[u8], utf8: bool)
+        ensures absent { (i : ℕ) → is_marked self.new i ≡ (is_marked self.old i || names_absent i (columns utf8 line.now)) }
+        ensures firsts { (kind : Kind) → first_noted self.new kind ≡ noted_first (first_noted self.old kind) (is_of (columns utf8 line.now) kind) n }
+        ensures together { self.new.together ≡ (self.old.together || is_kind (codes "XXP") (columns utf8 line.now)) }
+    {
+        if begins_with_x(line) {
+            self.note_extension(n, line, utf8);
+        }
+    }
+}
+
+// Whether a line begins as all extensions do.
+fn begins_with_x(line: &[u8]) -> bool
+    ensures { result ≡ begins_with_x line.now }
+{
+    match line.first() {
+        Some(b'X' | b'x') => true,
+        _ => false,
     }
 }
 

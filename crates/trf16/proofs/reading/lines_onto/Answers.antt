@@ -9,7 +9,7 @@ use Rattle.trf16.specs.Extensions.{is_kind, names_absent}
 use Rattle.trf16.specs.Absence.{is_of}
 use Rattle.trf16.specs.declared.kind.Kind.{Kind}
 use Rattle.trf16.specs.Notes.{is_marked, first_noted, noted_first}
-use Rattle.trf16.proofs.NoteLemmas.{AreNoted, noted-none, noted-more, noted-all}
+use Rattle.trf16.proofs.NoteLemmas.{AreNoted, noted-more}
 use Rattle.trf16.proofs.reading.lines_onto.Goals as goal
 use Rattle.trf16.proofs.reading.lines_onto.Goals.{then-long, else-long}
 

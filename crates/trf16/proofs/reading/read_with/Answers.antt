@@ -1,6 +1,5 @@
-use Rattle.std.proofs.Common.{◌≡◌, ℕ, ◌<◌, nat_lt, true, length, refl, arith, rules, Bool, List, sym, ap, ◌∙◌}
+use Rattle.std.proofs.Common.{◌≡◌, ℕ, ◌<◌, nat_lt, true, length, refl, arith, rules, Bool, List, ◌∙◌}
 use Rattle.std.proofs.lemmas.Bool.Decides.{nat_tests}
-use Rattle.std.proofs.lemmas.Grind.{common_steps}
 use Rattle.trf16.specs.Verdict.{verdict, report_of, without_players}
 use Rattle.trf16.specs.Lines.{lines}
 use Rattle.trf16.specs.Sheet.{Sheet}

@@ -1,11 +1,10 @@
-use Rattle.std.proofs.Common.{◌≡◌, ℕ, ◌<◌, List, sym, ap, ◌∙◌, subst}
-use Rattle.std.specs.Prelude.{codes, vec_len}
+use Rattle.std.proofs.Common.{◌≡◌, ℕ, ◌<◌, sym, ap, ◌∙◌, subst}
+use Rattle.std.specs.Prelude.{vec_len}
 use Rattle.trf16.specs.Lines.{lines}
 use Rattle.trf16.specs.Extensions.{names_both}
 use Rattle.trf16.specs.Absence.{some_carried}
 use Rattle.trf16.specs.Verdict.{without_players}
 use Rattle.trf16.specs.Notes.{are_marked, start_at, TellsApart}
-use Rattle.trf16.specs.declared.apart.Apart.{Apart}
 use Rattle.trf16.proofs.ApartLemmas.{ok_so, not_any}
 use Rattle.trf16.proofs.draft.Draft.apart.Goals as goal
 

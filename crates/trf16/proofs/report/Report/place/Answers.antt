@@ -1,9 +1,9 @@
-use Rattle.std.proofs.Common.{◌≡◌, ℕ, ◌<◌, ◌≤◌, List, map, length, refl, sym, ap, ◌∙◌, arith}
+use Rattle.std.proofs.Common.{◌≡◌, ℕ, ◌<◌, ◌≤◌, length, refl, ap, ◌∙◌, arith}
 use Rattle.std.specs.Prelude.{slice_index_or}
 use Rattle.std.specs.Map.{keys_of}
 use Rattle.std.proofs.lemmas.List.{length-map}
 use Rattle.trf16.specs.declared.player.Player.{Player}
-use Rattle.trf16.specs.Sheet.{Entry, Sheet, entry_of}
+use Rattle.trf16.specs.Sheet.{Entry, Sheet}
 use Rattle.trf16.specs.StartRanks.{starts_of}
 use Rattle.trf16.proofs.RoundLemmas.{starts-entries}
 use Rattle.trf16.proofs.ApartLemmas.{placed, some_so}

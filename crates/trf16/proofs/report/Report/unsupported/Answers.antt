@@ -1,4 +1,4 @@
-use Rattle.std.proofs.Common.{◌≡◌, ap, ◌∙◌, drop, Option, ℕ, ◌+◌}
+use Rattle.std.proofs.Common.{ap, ◌∙◌, drop, Option, ℕ, ◌+◌}
 use Rattle.trf16.specs.Absence.{first_of}
 use Rattle.trf16.specs.Notes.{earlier}
 use Rattle.trf16.specs.declared.kind.Kind.TheVariants.{Xxa}

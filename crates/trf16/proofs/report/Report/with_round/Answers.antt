@@ -37,8 +37,7 @@ invariant_of-result c =
     let size : length done ≡ length c.self.inside.players.entries =
     paired-length c.args.self.now.bye c.args.boards.now c.rounds_played-before.result done all same ∙ ap (λ (sheet : Sheet). length sheet.players) (sym c.self.view_is)
     ∙ length-map c.self.inside.players.entries (λ (e : ℕ × Player). entry_of e.1) in
-    let few : length c.self.inside.players.entries ≤ 256 = c.self.invariant.1 in
-    (
+    let few : length c.self.inside.players.entries ≤ 256 = c.self.invariant.1 in (
       c.loop-player.invariant.keyed,
       omega arith,
       c.self.invariant.2,
