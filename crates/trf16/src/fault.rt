@@ -34,7 +34,7 @@ pub enum Fault {
     /// Opponent, colour and result of a round that do not fit together.
     #[error("line {line}: round {round}: bad cell")]
     BadCell { line: usize, round: usize },
-    /// A line `XXR`, `XXC` or `XXZ` whose words are not those of its kind.
+    /// A line `XXR`, `XXC`, `XXZ` or `XXP` whose words are not those of its kind.
     #[error("line {line}: bad extension")]
     BadExtension { line: usize },
     /// The report is larger than this program reads.

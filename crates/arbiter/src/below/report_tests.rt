@@ -149,7 +149,7 @@ fn players_kept_apart(rt: HostRuntime) -> Result<(), Fail> {
         assert!(rt; !report.apart(a, b), "{a} {b}");
     }
     let starts = report.apart_from(rt.alloc(), 3)?;
-    assert_eq!(rt; starts.as_slice(), &[1, 2]);
+    assert_eq!(rt; starts.as_slice(), [1, 2].as_slice());
     Ok(())
 }
 
