@@ -6,15 +6,16 @@ _arbiter() {
         '<' | '>' | '>>') compopt -o default; return ;;
         --rounds | --steps | --bracket | --from | --count) return ;;
         --initial) words="white black" ;;
+        --bye) words="0 1 2" ;;
         --by) words="direct buchholz sb" front=${word%"${word##*,}"} ;;
         *)
             case ${COMP_CWORD},${COMP_WORDS[1]} in
                 1,*) words="check format pair candidates standings --help --version" ;;
-                *,check) words="--help" ;;
-                *,format) words="--help" ;;
-                *,pair) words="--rounds --initial --steps --report --help" ;;
-                *,candidates) words="--bracket --from --count --rounds --initial --steps --help" ;;
-                *,standings) words="--by --help" ;;
+                *,check) words="--bye --help" ;;
+                *,format) words="--bye --help" ;;
+                *,pair) words="--rounds --initial --steps --report --bye --help" ;;
+                *,candidates) words="--bracket --from --count --rounds --initial --steps --bye --help" ;;
+                *,standings) words="--by --bye --help" ;;
             esac
             ;;
     esac

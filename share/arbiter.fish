@@ -15,3 +15,4 @@ complete -c arbiter -n '__fish_seen_subcommand_from candidates' -l bracket -x -d
 complete -c arbiter -n '__fish_seen_subcommand_from candidates' -l from -x -d 'Begin behind this cursor'
 complete -c arbiter -n '__fish_seen_subcommand_from candidates' -l count -x -d 'How many candidates to print at most'
 complete -c arbiter -n '__fish_seen_subcommand_from standings' -l by -x -a 'direct,buchholz,sb direct buchholz sb' -d 'What tells players of one score apart'
+complete -c arbiter -n '__fish_seen_subcommand_from check format pair candidates standings' -l bye -x -a '0 1 2' -d 'Half points of the bye of the pairing'
