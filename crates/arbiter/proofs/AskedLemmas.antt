@@ -9,9 +9,10 @@ use Rattle.clap.specs.Words.{Row, Text, one_of, subcommand_of}
 use Rattle.dutch_order.specs.Cursors.{has_syntax}
 use Rattle.trf16.specs.declared.cell.Colour.{Colour}
 use Rattle.arbiter.specs.Known.{CanBeAnswered, HasFewRounds}
-use Rattle.arbiter.specs.Options.{◌>>=◌, bye_in, candidates_options, flag_in, initial_in, number_in, number_of, pair_options, rounds_in, standings_options, steps_in}
+use Rattle.arbiter.specs.Options.{◌>>=◌, bye_in, candidates_options, flag_in, format_options, initial_in, number_in, number_of, pair_options, rounds_in, shown_by, standings_options, steps_in}
 use Rattle.arbiter.specs.Words.{AsksFor, arbiter_app, candidates_request, pair_request, request_of, standings_request, task_by, with_bye}
 use Rattle.arbiter.specs.declared.options.PairOptions.{PairOptions}
+use Rattle.arbiter.specs.declared.options.Shown.{Shown}
 use Rattle.arbiter.specs.declared.options.WordFault.{WordFault}
 use Rattle.arbiter.specs.declared.words.Task.{Task}
 use Rattle.arbiter.specs.declared.words.Request.{Request}
@@ -51,9 +52,11 @@ rounds_few rows = number_few 32 (one_of (codes "rounds") rows)
 pair_few : (rows : List Row) (options : PairOptions) → pair_options rows ≡ Ok options → HasFewRounds options
 unfolding pair_options
 pair_few rows options e =
-    let made : Option Colour → PairOptions = λ initial. record { rounds = rounds_in rows; initial = initial; steps = steps_in rows; report = flag_in (codes "report") rows } in
-    let s = then_ok (initial_in rows) (λ initial. Ok (made initial)) options e in
-    subst HasFewRounds (same_ok (made s.0) options s.2) (rounds_few rows)
+    let shown : Result Shown WordFault = shown_by (flag_in (codes "report") rows) (flag_in (codes "names") rows) in
+    let made : Option Colour → Shown → PairOptions = λ initial shown. record { rounds = rounds_in rows; initial = initial; steps = steps_in rows; shown = shown } in
+    let s = then_ok (initial_in rows) (λ initial. shown >>= (λ shown. Ok (made initial shown))) options e in
+    let t = then_ok shown (λ shown. Ok (made s.0 shown)) options s.2 in
+    subst HasFewRounds (same_ok (made s.0 t.0) options t.2) (rounds_few rows)
 
 pair_asked : (rows : List Row) (request : Request) → pair_request rows ≡ Ok request → CanBeAnswered request
 unfolding pair_request
@@ -77,10 +80,10 @@ some_ok : (x y : Result Request WordFault) → Some x ≡ Some y → x ≡ y
 some_ok x y e = cc
 
 asked_at : (rows : List Row) (request : Request) (check format pair candidates standings : Bool)
-    → cond check (Some (Ok Check)) (cond format (Some (Ok Format)) (cond pair (Some (pair_request rows))
+    → cond check (Some (Ok Check)) (cond format (Some (Ok (Format (format_options rows)))) (cond pair (Some (pair_request rows))
     (cond candidates (Some (candidates_request rows)) (cond standings (Some (standings_request rows)) None)))) ≡ Some (Ok request) → CanBeAnswered request
 asked_at rows request true format pair candidates standings e = subst CanBeAnswered (same_ok Check request (some_ok (Ok Check) (Ok request) e)) tt
-asked_at rows request false true pair candidates standings e = subst CanBeAnswered (same_ok Format request (some_ok (Ok Format) (Ok request) e)) tt
+asked_at rows request false true pair candidates standings e = subst CanBeAnswered (same_ok (Format (format_options rows)) request (some_ok (Ok (Format (format_options rows))) (Ok request) e)) tt
 asked_at rows request false false true candidates standings e = pair_asked rows request (some_ok (pair_request rows) (Ok request) e)
 asked_at rows request false false false true standings e = candidates_asked rows request (some_ok (candidates_request rows) (Ok request) e)
 asked_at rows request false false false false true e = standings_asked rows request (some_ok (standings_request rows) (Ok request) e)

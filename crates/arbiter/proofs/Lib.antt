@@ -2,6 +2,7 @@ pub mod InputLemmas
 pub mod WordLemmas
 pub mod RunLemmas
 pub mod KeyLemmas
+pub mod KeyRule
 pub mod OptionLemmas
 pub mod CommandLemmas
 pub mod RequestLemmas

@@ -43,6 +43,14 @@ steps_rule = number_rule (codes "steps") (Unsigned 0 1000000000)
 abbrev pub report_rule : Rule
 report_rule = record (new_rule (codes "report")) { long = Some (codes "report"); action = Some SetTrue }
 
+-- `--points`
+abbrev pub points_rule : Rule
+points_rule = record (new_rule (codes "points")) { long = Some (codes "points"); action = Some SetTrue }
+
+-- `--names`
+abbrev pub names_rule : Rule
+names_rule = record (new_rule (codes "names")) { long = Some (codes "names"); action = Some SetTrue }
+
 -- `--by LIST`
 abbrev pub by_rule : Rule
 by_rule = option_rule (codes "by")
@@ -59,7 +67,7 @@ with_round_rules app = with_rule (with_rule (with_rule app rounds_rule) initial_
 
 -- `pair`
 abbrev pub pair_app : App
-pair_app = with_rule (with_rule (with_round_rules (new_app (codes "pair"))) report_rule) bye_rule
+pair_app = with_rule (with_rule (with_rule (with_round_rules (new_app (codes "pair"))) names_rule) report_rule) bye_rule
 
 -- `candidates`
 abbrev pub candidates_app : App
@@ -67,4 +75,4 @@ candidates_app = with_rule (with_round_rules (with_rule (with_rule (with_rule (n
 
 -- `standings`
 abbrev pub standings_app : App
-standings_app = with_rule (with_rule (new_app (codes "standings")) by_rule) bye_rule
+standings_app = with_rule (with_rule (with_rule (new_app (codes "standings")) by_rule) names_rule) bye_rule

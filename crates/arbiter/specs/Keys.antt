@@ -1,7 +1,6 @@
 -- The keys of the standings, as `--by` names them.
-use Rattle.std.specs.Prelude.{ℕ, Bool, true, false, not, ◌||◌, ◌==◌, nat_lt, if◌then◌else◌, List, [], ◌∷◌, ◌++◌, length, Option, Some, None, option_and_then, codes}
+use Rattle.std.specs.Prelude.{ℕ, Bool, true, false, not, ◌&&◌, ◌==◌, nat_le, if◌then◌else◌, List, [], ◌∷◌, length, Option, Some, None, option_and_then, option_map, codes}
 use Rattle.std.specs.List.{list_any, slice_split}
-use Rattle.std.specs.Option.{option_map_or}
 use Rattle.std.specs.Str.{bytes_eq}
 use Rattle.tiebreak.specs.declared.key.Key.{Key}
 use Rattle.tiebreak.specs.declared.key.Key.TheVariants.{Direct, Buchholz, SonnebornBerger}
@@ -24,27 +23,24 @@ key_named name =
 abbrev pub usual_keys : List Key
 usual_keys = Direct ∷ Buchholz ∷ SonnebornBerger ∷ []
 
--- keys and one more behind them, which is none of them; there are three at most
-abbrev pub with_key : List Key → Key → Option (List Key)
-with_key keys key = if list_any (is_same key) keys || not (nat_lt (length keys) 3) then None else Some (keys ++ key ∷ [])
+-- no key comes twice
+abbrev pub are_different : List Key → Bool
+are_different [] = true
+are_different (key ∷ rest) = not (list_any (is_same key) rest) && are_different rest
 
--- keys and the one that a name stands for behind them
-abbrev pub with_name : List Key → List ℕ → Option (List Key)
-with_name keys name = option_and_then (with_key keys) (key_named name)
+-- the keys that some names stand for, in their order, where each name stands for one
+abbrev pub keys_named : List (List ℕ) → Option (List Key)
+keys_named [] = Some []
+keys_named (name ∷ rest) = option_and_then (λ key. option_map (λ others. key ∷ others) (keys_named rest)) (key_named name)
 
--- keys and those that names stand for behind them
-unfoldable pub keys_onto : List Key → List (List ℕ) → Option (List Key)
-keys_onto keys [] = Some keys
-keys_onto keys (name ∷ rest) = option_and_then (λ more. keys_onto more rest) (with_name keys name)
+-- keys, where there are three at most and none comes twice
+abbrev pub if_listed : List Key → Option (List Key)
+if_listed keys = if nat_le (length keys) 3 && are_different keys then Some keys else None
 
 -- the names of a list, which commas part
 abbrev pub names : List ℕ → List (List ℕ)
 names text = slice_split (λ b. b == 44) text
 
--- the names that are left of a list; at its end none
-abbrev pub names_left : Option (List ℕ) → List (List ℕ)
-names_left text = option_map_or names text []
-
 -- the keys that a list names: one to three, none twice
 abbrev pub keys_in : List ℕ → Option (List Key)
-keys_in text = keys_onto [] (names text)
+keys_in text = option_and_then if_listed (keys_named (names text))

@@ -7,6 +7,7 @@ pub mod Commands
 pub mod Run
 pub mod Replies
 pub mod Keys
+pub mod KeySteps
 pub mod Options
 pub mod CommandLine
 pub mod Statuses
@@ -15,3 +16,6 @@ pub mod CandidateAnswers
 pub mod PairAnswers
 pub mod StandingsTexts
 pub mod Known
+pub mod Tables
+pub mod WallTexts
+pub mod StandingsAnswers

@@ -1,5 +1,5 @@
 -- What the options of a command say, by the rows that clap makes of its words.
-use Rattle.std.specs.Prelude.{ℕ, Bool, false, if◌then◌else◌, List, Option, Some, None, Result, Ok, Err, option_and_then, unwrap_or, codes}
+use Rattle.std.specs.Prelude.{ℕ, Bool, true, false, if◌then◌else◌, List, Option, Some, None, Result, Ok, Err, option_and_then, unwrap_or, codes}
 use Rattle.std.specs.Option.{option_map_or}
 use Rattle.std.specs.Str.{bytes_eq}
 use Rattle.std.specs.Str.Parse.{digits_value, without_leading_plus}
@@ -11,9 +11,12 @@ use Rattle.trf16.specs.declared.cell.Colour.TheVariants.{White, Black}
 use Rattle.arbiter.specs.Keys.{keys_in, usual_keys}
 use Rattle.tiebreak.specs.declared.key.Key.{Key}
 use Rattle.arbiter.specs.declared.options.WordFault.{WordFault}
-use Rattle.arbiter.specs.declared.options.WordFault.TheVariants.{BadColour, BadKeys, BadCursor}
+use Rattle.arbiter.specs.declared.options.WordFault.TheVariants.{BadColour, BadKeys, BadCursor, NamesAndReport}
 use Rattle.arbiter.specs.declared.options.CandidatesOptions.{CandidatesOptions}
+use Rattle.arbiter.specs.declared.options.FormatOptions.{FormatOptions}
 use Rattle.arbiter.specs.declared.options.PairOptions.{PairOptions}
+use Rattle.arbiter.specs.declared.options.Shown.{Shown}
+use Rattle.arbiter.specs.declared.options.Shown.TheVariants.{Boards, Names, Report}
 use Rattle.arbiter.specs.declared.options.StandingsOptions.{StandingsOptions}
 
 -- what follows where there is no fault
@@ -82,19 +85,31 @@ abbrev pub keys_by : Option Text → Result (List Key) WordFault
 keys_by None = Ok usual_keys
 keys_by (Some text) = option_map_or (λ keys. Ok keys) (keys_in text) (Err BadKeys)
 
+-- `--report` and `--names`: what is printed of a round; both at once ask for nothing that there is
+abbrev pub shown_by : Bool → Bool → Result Shown WordFault
+shown_by false false = Ok Boards
+shown_by false true = Ok Names
+shown_by true false = Ok Report
+shown_by true true = Err NamesAndReport
+
 -- ---- the options of a command
+
+-- `format`
+abbrev pub format_options : List Row → FormatOptions
+format_options rows = record { points = flag_in (codes "points") rows }
 
 -- `pair`
 unfoldable pub pair_options : List Row → Result PairOptions WordFault
 pair_options rows = do
   initial ← initial_in rows
-  Ok (record { rounds = rounds_in rows; initial = initial; steps = steps_in rows; report = flag_in (codes "report") rows })
+  shown ← shown_by (flag_in (codes "report") rows) (flag_in (codes "names") rows)
+  Ok (record { rounds = rounds_in rows; initial = initial; steps = steps_in rows; shown = shown })
 
 -- `standings`
 unfoldable pub standings_options : List Row → Result StandingsOptions WordFault
 standings_options rows = do
   keys ← keys_by (first_of (codes "by") rows)
-  Ok (record { keys = keys })
+  Ok (record { keys = keys; names = flag_in (codes "names") rows })
 
 -- `candidates`, where a test says which texts are cursors
 unfoldable pub candidates_options : (Text → Bool) → List Row → Result CandidatesOptions WordFault

@@ -1,5 +1,5 @@
 -- What `pair` answers: the boards of the next round, or the report with that round.
-use Rattle.std.specs.Prelude.{◌≡◌, ℕ, Bool, true, false, List, ◌++◌, length, Result, Ok, Err, codes}
+use Rattle.std.specs.Prelude.{◌≡◌, ℕ, List, ◌++◌, length, Result, Ok, Err, codes}
 use Rattle.std.specs.List.{flat_map}
 use Rattle.std.specs.Fmt.{decimal}
 use Rattle.dutch_pair.specs.Outcomes.{IsOutcome}
@@ -11,9 +11,11 @@ use Rattle.trf16.specs.Round.{with_round}
 use Rattle.trf16.specs.Sheet.{Sheet}
 use Rattle.trf16.specs.Written.{written}
 use Rattle.trf16.specs.declared.fault.Fault.{Fault}
-use Rattle.arbiter.specs.Statuses.{Answer, field_refusal, no_pairing, refusal, undecided}
+use Rattle.arbiter.specs.Statuses.{Answer, done, field_refusal, no_pairing, refusal, undecided}
+use Rattle.arbiter.specs.WallTexts.{named_boards_text}
 use Rattle.arbiter.specs.declared.options.PairOptions.{PairOptions}
-use Rattle.arbiter.specs.declared.reply.Status.TheVariants.{Done}
+use Rattle.arbiter.specs.declared.options.Shown.{Shown}
+use Rattle.arbiter.specs.declared.options.Shown.TheVariants.{Boards, Names, Report}
 
 -- a board: the start ranks of white and black; of a player who has the bye, and 0
 abbrev pub board_text : ℕ × ℕ → List ℕ
@@ -25,16 +27,17 @@ boards_text boards = decimal (length boards) ++ (codes "\n" ++ flat_map board_te
 
 -- the report whose next round some boards are
 abbrev pub TellsReport : Sheet → List (ℕ × ℕ) → Answer → Type 0
-TellsReport sheet boards answer = answer ≡ record { status = Done; text = written (with_round boards sheet) }
+TellsReport sheet boards answer = answer ≡ done (written (with_round boards sheet))
 
--- the boards (false), or the report with them (true)
-abbrev pub TellsBoards : Bool → Sheet → List (ℕ × ℕ) → Answer → Type 0
-TellsBoards false sheet boards answer = answer ≡ record { status = Done; text = boards_text boards }
-TellsBoards true sheet boards answer = TellsReport sheet boards answer
+-- the boards, the boards with names and scores, or the report with them
+abbrev pub TellsBoards : Shown → Sheet → List (ℕ × ℕ) → Answer → Type 0
+TellsBoards Boards sheet boards answer = answer ≡ done (boards_text boards)
+TellsBoards Names sheet boards answer = answer ≡ done (named_boards_text sheet boards)
+TellsBoards Report sheet boards answer = TellsReport sheet boards answer
 
 -- what is answered to the outcome of pairing
 abbrev pub TellsOutcome : PairOptions → Sheet → Outcome → Answer → Type 0
-TellsOutcome options sheet (Paired all) answer = TellsBoards options.report sheet all.items answer
+TellsOutcome options sheet (Paired all) answer = TellsBoards options.shown sheet all.items answer
 TellsOutcome options sheet NoPairing answer = answer ≡ no_pairing
 TellsOutcome options sheet (Undecided number used) answer = answer ≡ undecided number used
 

@@ -1,19 +1,10 @@
--- The lines of the standings, and what `standings` answers.
-use Rattle.std.specs.Prelude.{ℕ, ◌+◌, ◌/◌, ◌%◌, ◌==◌, if◌then◌else◌, List, [], ◌∷◌, ◌++◌, Option, Some, None, Result, Ok, Err, codes}
+-- The lines of the standings.
+use Rattle.std.specs.Prelude.{ℕ, ◌+◌, ◌/◌, ◌%◌, ◌==◌, if◌then◌else◌, List, [], ◌∷◌, ◌++◌, Option, Some, None, codes}
 use Rattle.std.specs.Fmt.{decimal}
 use Rattle.tiebreak.specs.Keys.{RowFacts}
-use Rattle.tiebreak.specs.Standings.{standings_of}
-use Rattle.tiebreak.specs.declared.fault.TieFault.{TieFault}
 use Rattle.tiebreak.specs.declared.key.Key.{Key}
 use Rattle.tiebreak.specs.declared.key.Key.TheVariants.{Direct, Buchholz, SonnebornBerger}
-use Rattle.trf16.specs.Sheet.{Sheet}
-use Rattle.trf16.specs.declared.fault.Fault.{Fault}
-use Rattle.arbiter.specs.Statuses.{Answer, refusal, tie_refusal}
-use Rattle.arbiter.specs.declared.reply.Status.TheVariants.{Done}
-
--- half points as points with one decimal
-abbrev pub halves_text : ℕ → List ℕ
-halves_text halves = decimal (halves / 2) ++ (if halves % 2 == 0 then codes ".0" else codes ".5")
+use Rattle.arbiter.specs.Texts.{halves_text}
 
 -- the decimals of quarters of a point
 abbrev pub quarter_text : ℕ → List ℕ
@@ -45,13 +36,3 @@ row_text keys place row =
 abbrev pub rows_text : List Key → ℕ → List RowFacts → List ℕ
 rows_text keys place [] = []
 rows_text keys place (row ∷ rows) = row_text keys place row ++ rows_text keys (place + 1) rows
-
--- the players in order, or why there are no standings
-abbrev pub table_answer : List Key → Result (List RowFacts) TieFault → Answer
-table_answer keys (Ok rows) = record { status = Done; text = rows_text keys 1 rows }
-table_answer keys (Err fault) = tie_refusal fault
-
--- `standings`: the players in order, or why a report is refused
-abbrev pub standings_answer : List Key → Result Sheet Fault → Answer
-standings_answer keys (Ok sheet) = table_answer keys (standings_of sheet keys)
-standings_answer keys (Err fault) = refusal fault

@@ -33,6 +33,10 @@ is_output NoPairing = true
 is_output Undecided = true
 is_output Trouble = false
 
+-- a command was carried out, and this is its text
+abbrev pub done : List ℕ → Answer
+done text = record { status = Done; text = text }
+
 -- memory was refused
 abbrev pub out_of_memory : Answer
 out_of_memory = record { status = Trouble; text = memory_text }

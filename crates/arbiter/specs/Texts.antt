@@ -1,8 +1,8 @@
 -- The texts that the program writes, apart from clap's.
-use Rattle.std.specs.Prelude.{ℕ, List, ◌++◌, codes}
+use Rattle.std.specs.Prelude.{ℕ, ◌/◌, ◌%◌, ◌==◌, if◌then◌else◌, List, ◌++◌, codes}
 use Rattle.std.specs.Fmt.{decimal}
 use Rattle.arbiter.specs.declared.options.WordFault.{WordFault}
-use Rattle.arbiter.specs.declared.options.WordFault.TheVariants.{BadColour, BadKeys, BadCursor}
+use Rattle.arbiter.specs.declared.options.WordFault.TheVariants.{BadColour, BadKeys, BadCursor, NamesAndReport}
 use Rattle.dutch_player.specs.declared.fault.FieldFault.{FieldFault}
 use Rattle.dutch_player.specs.declared.fault.FieldFault.TheVariants.{Unfinished, Unsupported, RoundsUnknown, RoundsOver, OutOfMemory as FieldMemory}
 use Rattle.tiebreak.specs.declared.fault.TieFault.{TieFault}
@@ -35,6 +35,7 @@ abbrev pub word_text : WordFault → List ℕ
 word_text BadColour = codes "words: bad colour\n"
 word_text BadKeys = codes "words: bad keys\n"
 word_text BadCursor = codes "words: bad cursor\n"
+word_text NamesAndReport = codes "words: names or report, not both\n"
 
 -- what does not fit in a round of a player
 abbrev pub round_text : ℕ → ℕ → List ℕ → List ℕ
@@ -80,6 +81,10 @@ not_reached_text number = codes "words: bracket " ++ (decimal number ++ codes " 
 -- a cursor is not one of a bracket
 abbrev pub not_of_bracket_text : ℕ → List ℕ
 not_of_bracket_text number = codes "words: cursor is not of bracket " ++ (decimal number ++ codes "\n")
+
+-- half points as points with one decimal
+abbrev pub halves_text : ℕ → List ℕ
+halves_text halves = decimal (halves / 2) ++ (if halves % 2 == 0 then codes ".0" else codes ".5")
 
 -- why a report has no standings
 abbrev pub tie_text : TieFault → List ℕ

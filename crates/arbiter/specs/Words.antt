@@ -10,8 +10,8 @@ use Rattle.dutch_order.specs.Cursors.{has_syntax}
 use Rattle.arbiter.specs.declared.words.Task.{Task}
 use Rattle.arbiter.specs.declared.words.Request.{Request}
 use Rattle.arbiter.specs.declared.words.Request.TheVariants.{Check, Format, Pair, Candidates, Standings}
-use Rattle.arbiter.specs.CommandLine.{bye_rule, candidates_app, pair_app, standings_app}
-use Rattle.arbiter.specs.Options.{◌>>=◌, bye_in, candidates_options, pair_options, standings_options}
+use Rattle.arbiter.specs.CommandLine.{bye_rule, candidates_app, pair_app, points_rule, standings_app}
+use Rattle.arbiter.specs.Options.{◌>>=◌, bye_in, candidates_options, format_options, pair_options, standings_options}
 use Rattle.arbiter.specs.declared.words.Asked.{Asked}
 use Rattle.arbiter.specs.declared.words.Asked.TheVariants.{Command, Help, Mistake, Refused}
 use Rattle.arbiter.specs.declared.options.WordFault.{WordFault}
@@ -22,7 +22,7 @@ check_app = with_rule (new_app (codes "check")) bye_rule
 
 -- `format`
 abbrev pub format_app : App
-format_app = with_rule (new_app (codes "format")) bye_rule
+format_app = with_rule (with_rule (new_app (codes "format")) points_rule) bye_rule
 
 -- a command with a version
 abbrev pub versioned : App → App
@@ -67,7 +67,7 @@ standings_request rows = do
 abbrev pub request_of : Text → List Row → Option (Result Request WordFault)
 request_of name rows =
     if bytes_eq name (codes "check") then Some (Ok Check)
-    else (if bytes_eq name (codes "format") then Some (Ok Format)
+    else (if bytes_eq name (codes "format") then Some (Ok (Format (format_options rows)))
     else (if bytes_eq name (codes "pair") then Some (pair_request rows)
     else (if bytes_eq name (codes "candidates") then Some (candidates_request rows)
     else (if bytes_eq name (codes "standings") then Some (standings_request rows) else None))))

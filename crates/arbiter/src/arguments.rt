@@ -1,8 +1,8 @@
 // The options of the commands, as clap is told of them.
 ghost use Rattle.std.specs.Prelude.{◌≡◌, false};
 ghost use Rattle.clap.specs.Words.{rule_of};
-ghost use Rattle.arbiter.specs.CommandLine.{bracket_rule, by_rule, bye_rule, count_rule, from_rule, initial_rule, option_rule};
-ghost use Rattle.arbiter.specs.CommandLine.{report_rule, rounds_rule, steps_rule};
+ghost use Rattle.arbiter.specs.CommandLine.{bracket_rule, by_rule, bye_rule, count_rule, from_rule, initial_rule, names_rule};
+ghost use Rattle.arbiter.specs.CommandLine.{option_rule, points_rule, report_rule, rounds_rule, steps_rule};
 
 use clap::{Arg, ArgAction, value_parser};
 use std::alloc::Global;
@@ -77,6 +77,30 @@ pub fn report<'a>(alloc: Global) -> Arg<'a>
         .long("report")
         .action(ArgAction::SetTrue)
         .help("Prints the report with the new round in place of the boards")
+}
+
+/// `--points`.
+pub fn points<'a>(alloc: Global) -> Arg<'a>
+    ensures rule { rule_of result ≡ points_rule }
+    ensures local { result.global ≡ false }
+{
+    Arg::new(alloc, "points")
+        .long("points")
+        .action(ArgAction::SetTrue)
+        .help(
+            "Writes each points field as the sum over the rounds that were paired, whatever it says",
+        )
+}
+
+/// `--names`, with what it does to the output.
+pub fn names<'a>(alloc: Global, help: &'a str) -> Arg<'a>
+    ensures rule { rule_of result ≡ names_rule }
+    ensures local { result.global ≡ false }
+{
+    Arg::new(alloc, "names")
+        .long("names")
+        .action(ArgAction::SetTrue)
+        .help(help)
 }
 
 /// `--by LIST`.

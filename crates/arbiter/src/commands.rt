@@ -19,7 +19,12 @@ pub fn pair_command<'a>(alloc: Global) -> Result<Command<'a>, AllocError>
         .after_help(
             "The report is read from standard input. Printed are the number of lines that follow, and then a line 'white black' for each board, in start ranks; 'player 0' is the bye.\n\nExample: arbiter pair --rounds 7 --initial white < report.trf",
         );
-    let command = with_round(alloc, command)?.arg(arguments::report(alloc))?;
+    let command = with_round(alloc, command)?
+        .arg(arguments::names(
+            alloc,
+            "Prints the boards with names and scores, in columns for the wall",
+        ))?
+        .arg(arguments::report(alloc))?;
     with_worth(alloc, command)
 }
 
@@ -47,7 +52,8 @@ pub fn standings_command<'a>(alloc: Global) -> Result<Command<'a>, AllocError>
         .after_help(
             "The report is read from standard input. Printed is a line for each player: place, start rank, score, and the keys.\n\nExample: arbiter standings --by buchholz,sb < report.trf",
         )
-        .arg(arguments::by(alloc))?;
+        .arg(arguments::by(alloc))?
+        .arg(arguments::names(alloc, "Prints the names too, in columns for the wall"))?;
     with_worth(alloc, command)
 }
 

@@ -1,7 +1,8 @@
 // The keys of the standings, as `--by` names them: a list of one to three names, none twice.
 ghost use Rattle.std.specs.Prelude.{◌≡◌, ◌<◌, [], ◌∷◌, length, option_map, IfSome};
 ghost use Rattle.std.specs.List.{list_any};
-ghost use Rattle.arbiter.specs.Keys.{is_same, key_named, keys_in, names, names_left, usual_keys, with_key, with_name};
+ghost use Rattle.arbiter.specs.KeySteps.{names_left, with_key, with_name};
+ghost use Rattle.arbiter.specs.Keys.{is_same, key_named, keys_in, names, usual_keys};
 
 use std::marker::Model;
 use tiebreak::key::Key;
@@ -77,7 +78,7 @@ impl Keys {
 }
 
 /// The keys that a list of names, parted by commas, stands for; each name is in lower case.
-#[tactic(auto, unfolding(crate::specs::Keys::keys_onto))]
+#[tactic(auto, using(crate::proofs::KeyRule::onto_keys_in), unfolding(crate::proofs::KeyRule::keys_onto))]
 pub fn keys_in(text: &str) -> Option<Keys>
     ensures { result ≡ keys_in text.now }
 {

@@ -20,7 +20,9 @@ mod refusal;
 mod reply;
 mod run;
 mod standings;
+mod table;
 mod texts;
+mod wall;
 mod words;
 
 use reply::Status;

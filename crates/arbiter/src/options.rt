@@ -1,8 +1,8 @@
 // The options of the commands, from what clap makes of the words.
 ghost use Rattle.std.specs.Prelude.{◌≡◌, ℕ, List, Bool, option_map, codes, if◌then◌else◌};
 ghost use Rattle.clap.specs.Words.{first_of};
-ghost use Rattle.arbiter.specs.Options.{bracket_in, bye_in, candidates_options, count_in, flag_in, from_in, initial_in, keys_by};
-ghost use Rattle.arbiter.specs.Options.{pair_options, rounds_in, rows_in, standings_options, steps_in};
+ghost use Rattle.arbiter.specs.Options.{bracket_in, bye_in, candidates_options, count_in, flag_in, format_options, from_in, initial_in};
+ghost use Rattle.arbiter.specs.Options.{keys_by, pair_options, rounds_in, rows_in, shown_by, standings_options, steps_in};
 
 use crate::keys::{Keys, keys_in};
 use clap::ArgMatches;
@@ -18,6 +18,15 @@ pub enum WordFault {
     BadKeys,
     /// `--from` is no cursor.
     BadCursor,
+    /// `--names` and `--report` are both there.
+    NamesAndReport,
+}
+
+/// What is asked of `format`.
+#[derive(Debug, Clone, Copy, PartialEq, Eq)]
+pub struct FormatOptions {
+    /// Whether each points field is written as a sum, and compared with none.
+    pub points: bool,
 }
 
 /// What is asked of `pair`.
@@ -29,8 +38,19 @@ pub struct PairOptions {
     pub initial: Option<Colour>,
     /// How many steps a bracket may take.
     pub steps: u64,
-    /// Whether the report with the new round is wanted in place of the boards.
-    pub report: bool,
+    /// What is printed of the new round.
+    pub shown: Shown,
+}
+
+/// What is printed of a new round.
+#[derive(Debug, Clone, Copy, PartialEq, Eq)]
+pub enum Shown {
+    /// The boards, in start ranks.
+    Boards,
+    /// The boards with names and scores, for the wall.
+    Names,
+    /// The report with the round in it.
+    Report,
 }
 
 /// What is asked of `standings`.
@@ -38,6 +58,8 @@ pub struct PairOptions {
 pub struct StandingsOptions {
     /// What players of one score are told apart by.
     pub keys: Keys,
+    /// Whether the names are wanted, in columns for the wall.
+    pub names: bool,
 }
 
 /// What is asked of `candidates`.
@@ -89,17 +111,27 @@ pub trait CursorSyntax {
         ensures { result ≡ is_cursor text.now };
 }
 
+/// The options of `format`.
+pub fn format_options(matches: &ArgMatches<'_>) -> FormatOptions
+    ensures { result ≡ format_options (rows_in matches.now) }
+{
+    FormatOptions {
+        points: flag_in(matches, "points"),
+    }
+}
+
 /// The options of `pair`, or what is wrong with them.
 #[tactic(auto, unfolding(crate::specs::Options::pair_options))]
 pub fn pair_options(matches: &ArgMatches<'_>) -> Result<PairOptions, WordFault>
     ensures { result ≡ pair_options (rows_in matches.now) }
 {
     let initial = initial_in(matches)?;
+    let shown = shown_by(flag_in(matches, "report"), flag_in(matches, "names"))?;
     Ok(PairOptions {
         rounds: rounds_in(matches),
         initial,
         steps: steps_in(matches),
-        report: flag_in(matches, "report"),
+        shown,
     })
 }
 
@@ -109,7 +141,8 @@ pub fn standings_options(matches: &ArgMatches<'_>) -> Result<StandingsOptions, W
     ensures { result ≡ standings_options (rows_in matches.now) }
 {
     let keys = keys_by(text_in(matches, "by"))?;
-    Ok(StandingsOptions { keys })
+    let names = flag_in(matches, "names");
+    Ok(StandingsOptions { keys, names })
 }
 
 /// The options of `candidates`, or the first thing that is wrong with them.
@@ -150,6 +183,18 @@ fn initial_in(matches: &ArgMatches<'_>) -> Result<Option<Colour>, WordFault>
         Some("white") => Ok(Some(Colour::White)),
         Some("black") => Ok(Some(Colour::Black)),
         Some(_) => Err(WordFault::BadColour),
+    }
+}
+
+// `--report` and `--names`: what is printed of a round.
+fn shown_by(report: bool, names: bool) -> Result<Shown, WordFault>
+    ensures { result ≡ shown_by report names }
+{
+    match (report, names) {
+        (false, false) => Ok(Shown::Boards),
+        (false, true) => Ok(Shown::Names),
+        (true, false) => Ok(Shown::Report),
+        (true, true) => Err(WordFault::NamesAndReport),
     }
 }
 

@@ -9,11 +9,13 @@ ghost use Rattle.trf16.specs.Written.{written};
 ghost use Rattle.arbiter.specs.PairAnswers.{AnswersPair, PairsField, TellsBoards, TellsOutcome, TellsReport, board_text, boards_text};
 ghost use Rattle.arbiter.specs.Known.{CanBeTold, HasFewRounds, IsAccepted};
 ghost use Rattle.arbiter.specs.Replies.{answer_of};
+ghost use Rattle.arbiter.specs.Statuses.{done};
 
 use crate::format::rewritten;
-use crate::options::PairOptions;
+use crate::options::{PairOptions, Shown};
 use crate::refusal::{cannot_be_paired, no_pairing, refused, undecided};
 use crate::reply::{Reply, Status, Text};
+use crate::wall;
 use dutch_pair::boards::Pair;
 use dutch_pair::fault::PairFault;
 use dutch_pair::laws::boards_can_be_the_next_round;
@@ -88,25 +90,33 @@ fn tell(
     ensures { IfOk result (λ reply. TellsOutcome options report.now outcome.now (answer_of reply)) }
 {
     match outcome {
-        Outcome::Paired(boards) => tell_boards(alloc, options.report, report, boards.as_slice()),
+        Outcome::Paired(boards) => tell_boards(alloc, options.shown, report, boards.as_slice()),
         Outcome::NoPairing => Ok(no_pairing()),
         Outcome::Undecided { bracket, used } => undecided(alloc, *bracket, *used),
     }
 }
 
-// The boards, or the report with them.
+// The boards, the boards with names and scores, or the report with them.
 fn tell_boards(
     alloc: Global,
-    as_report: bool,
+    shown: Shown,
     report: &Report<'_>,
     boards: &[Pair],
 ) -> Result<Reply, AllocError>
     requires { CanBePaired boards.now report.now }
-    ensures { IfOk result (λ reply. TellsBoards as_report report.now boards.now (answer_of reply)) }
+    ensures { IfOk result (λ reply. TellsBoards shown report.now boards.now (answer_of reply)) }
 {
-    if as_report {
-        return tell_report(alloc, report, boards);
+    match shown {
+        Shown::Boards => tell_ranks(alloc, boards),
+        Shown::Names => wall::boards(alloc, report, boards),
+        Shown::Report => tell_report(alloc, report, boards),
     }
+}
+
+// The boards in start ranks.
+fn tell_ranks(alloc: Global, boards: &[Pair]) -> Result<Reply, AllocError>
+    ensures { IfOk result (λ reply. answer_of reply ≡ done (boards_text boards.now)) }
+{
     let text = board_lines(alloc, boards)?;
     Ok(Reply {
         status: Status::Done,

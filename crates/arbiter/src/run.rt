@@ -92,9 +92,9 @@ fn answer(alloc: Global, task: Task<'_>, input: &[u8]) -> Result<Reply, AllocErr
     let Task { request, bye } = task;
     match request {
         Request::Check => check(alloc, input, bye),
-        Request::Format => format(alloc, input, bye),
+        Request::Format(options) => format(alloc, options, input, bye),
         Request::Candidates(options) => candidates(alloc, &options, input, bye),
-        Request::Standings(options) => standings(alloc, options.keys.as_slice(), input, bye),
+        Request::Standings(options) => standings(alloc, &options, input, bye),
         Request::Pair(options) => pair(alloc, options, input, bye),
     }
 }
@@ -126,7 +126,11 @@ mod candidates_tests;
 #[cfg(test)]
 mod hostile_tests;
 #[cfg(test)]
+mod names_tests;
+#[cfg(test)]
 mod pair_tests;
+#[cfg(test)]
+mod points_tests;
 #[cfg(test)]
 mod report_tests;
 #[cfg(test)]

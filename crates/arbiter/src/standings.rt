@@ -2,10 +2,14 @@
 ghost use Rattle.std.specs.Prelude.{◌≡◌, ◌≢◌, ◌++◌, ◌≤◌, ◌<◌, IfOk, Ok, OnOk, length, string_bytes};
 ghost use Rattle.trf16.specs.Verdict.{verdict};
 ghost use Rattle.arbiter.specs.Replies.{answer_of};
-ghost use Rattle.arbiter.specs.StandingsTexts.{halves_text, quarter_text, quarters_text, row_text, rows_text, standings_answer, table_answer, value_text, values_text};
+ghost use Rattle.arbiter.specs.StandingsAnswers.{standings_answer, table_answer};
+ghost use Rattle.arbiter.specs.StandingsTexts.{quarter_text, quarters_text, row_text, rows_text, value_text, values_text};
 
+use crate::options::StandingsOptions;
 use crate::refusal::{has_no_standings, refused};
 use crate::reply::{Reply, Status, Text};
+use crate::texts::halves;
+use crate::wall;
 use std::alloc::{AllocError, Global};
 use tiebreak::fault::TieFault;
 use tiebreak::key::Key;
@@ -14,40 +18,66 @@ use trf16::fault::Fault;
 use trf16::report::Report;
 
 /// What `standings` says of the bytes of a report in which the pairing-allocated bye gives `bye` half points.
-pub fn standings(alloc: Global, keys: &[Key], bytes: &[u8], bye: u16) -> Result<Reply, AllocError>
+pub fn standings(
+    alloc: Global,
+    options: &StandingsOptions,
+    bytes: &[u8],
+    bye: u16,
+) -> Result<Reply, AllocError>
     requires { bye ≤ 2 }
-    ensures { IfOk result (λ reply. answer_of reply ≡ standings_answer keys.now (verdict bytes.now bye)) }
+    ensures { IfOk result (λ reply. answer_of reply ≡ standings_answer options.now (verdict bytes.now bye)) }
 {
     match trf16::read_with(alloc, bytes, bye) {
-        Ok(report) => of_report(alloc, keys, &report),
+        Ok(report) => of_report(alloc, options, &report),
         Err(Fault::OutOfMemory) => Err(AllocError),
         Err(fault) => refused(alloc, fault),
     }
 }
 
 // The same of an accepted report.
-fn of_report(alloc: Global, keys: &[Key], report: &Report<'_>) -> Result<Reply, AllocError>
-    ensures { IfOk result (λ reply. answer_of reply ≡ standings_answer keys.now (Ok report.now)) }
+fn of_report(
+    alloc: Global,
+    options: &StandingsOptions,
+    report: &Report<'_>,
+) -> Result<Reply, AllocError>
+    ensures { IfOk result (λ reply. answer_of reply ≡ standings_answer options.now (Ok report.now)) }
 {
-    match tiebreak::table(alloc, report, keys) {
-        Ok(table) => of_rows(alloc, keys, table.rows()),
+    match tiebreak::table(alloc, report, options.keys.as_slice()) {
+        Ok(table) => of_rows(alloc, options, report, table.rows()),
         Err(TieFault::OutOfMemory) => Err(AllocError),
         Err(fault) => has_no_standings(alloc, fault),
     }
 }
 
-// The lines of all players.
-fn of_rows(alloc: Global, keys: &[Key], rows: &[Row]) -> Result<Reply, AllocError>
-    ensures { IfOk result (λ reply. answer_of reply ≡ table_answer keys.now (Ok rows.now)) }
+// The lines of all players, with or without names.
+fn of_rows(
+    alloc: Global,
+    options: &StandingsOptions,
+    report: &Report<'_>,
+    rows: &[Row],
+) -> Result<Reply, AllocError>
+    ensures { IfOk result (λ reply. answer_of reply ≡ table_answer options.now report.now (Ok rows.now)) }
+{
+    let keys = options.keys.as_slice();
+    if options.names {
+        return wall::standings(alloc, report, keys, rows);
+    }
+    let text = row_lines(alloc, keys, rows)?;
+    Ok(Reply {
+        status: Status::Done,
+        text: Text::Made(text),
+    })
+}
+
+// The lines of all players without names.
+fn row_lines(alloc: Global, keys: &[Key], rows: &[Row]) -> Result<String, AllocError>
+    ensures { IfOk result (λ text. string_bytes text ≡ rows_text keys.now 1 rows.now) }
 {
     let mut text = String::new(alloc);
     for (i, row) in rows.iter().enumerate() {
         put_row(alloc, &mut text, keys, i + 1, row)?;
     }
-    Ok(Reply {
-        status: Status::Done,
-        text: Text::Made(text),
-    })
+    Ok(text)
 }
 
 // Puts the line of a player.
@@ -90,8 +120,8 @@ fn put_values(
     Ok(())
 }
 
-// The value of a key; a line where it tells nothing.
-fn value_of(alloc: Global, key: Key, value: Option<u32>) -> Result<String, AllocError>
+/// The value of a key; a dash where it tells nothing.
+pub fn value_of(alloc: Global, key: Key, value: Option<u32>) -> Result<String, AllocError>
     ensures { IfOk result (λ text. string_bytes text ≡ value_text key value) }
 {
     let Some(value) = value else {
@@ -100,18 +130,6 @@ fn value_of(alloc: Global, key: Key, value: Option<u32>) -> Result<String, Alloc
     match key {
         Key::Direct | Key::Buchholz => halves(alloc, value),
         Key::SonnebornBerger => quarters(alloc, value),
-    }
-}
-
-// Half points as points with one decimal.
-fn halves(alloc: Global, halves: u32) -> Result<String, AllocError>
-    ensures { IfOk result (λ text. string_bytes text ≡ halves_text halves) }
-{
-    let points = halves / 2;
-    if halves % 2 == 0 {
-        format!(in alloc; "{points}.0")
-    } else {
-        format!(in alloc; "{points}.5")
     }
 }
 

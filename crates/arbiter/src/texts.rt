@@ -2,7 +2,7 @@
 ghost use Rattle.std.specs.Prelude.{◌≡◌, IfOk, string_bytes};
 ghost use Rattle.arbiter.specs.CandidateAnswers.{ending_text};
 ghost use Rattle.arbiter.specs.CandidateTexts.{bracket_text, kind_text};
-ghost use Rattle.arbiter.specs.Texts.{accepted_text, excess_text, fault_text, field_text, not_of_bracket_text, not_reached_text, tie_text, undecided_text, word_text};
+ghost use Rattle.arbiter.specs.Texts.{accepted_text, excess_text, fault_text, field_text, halves_text, not_of_bracket_text, not_reached_text, tie_text, undecided_text, word_text};
 
 use crate::listing::Ending;
 use crate::options::WordFault;
@@ -28,6 +28,7 @@ pub fn bad_words(fault: WordFault) -> &'static str
         WordFault::BadColour => "words: bad colour\n",
         WordFault::BadKeys => "words: bad keys\n",
         WordFault::BadCursor => "words: bad cursor\n",
+        WordFault::NamesAndReport => "words: names or report, not both\n",
     }
 }
 
@@ -164,5 +165,17 @@ pub fn has_no_standings(alloc: Global, fault: TieFault) -> Result<String, AllocE
             format!(in alloc; "refused: line {line}: unsupported\n")
         }
         TieFault::OutOfMemory => String::from_str(alloc, "memory: refused\n"),
+    }
+}
+
+/// Half points as points with one decimal.
+pub fn halves(alloc: Global, halves: u32) -> Result<String, AllocError>
+    ensures { IfOk result (λ text. string_bytes text ≡ halves_text halves) }
+{
+    let points = halves / 2;
+    if halves % 2 == 0 {
+        format!(in alloc; "{points}.0")
+    } else {
+        format!(in alloc; "{points}.5")
     }
 }

@@ -7,10 +7,11 @@ ghost use Rattle.arbiter.specs.Options.{rows_in};
 ghost use Rattle.arbiter.specs.Words.{ComesTo, FitsKind, asked_by, candidates_request, pair_request, request_of, standings_request, task_by, task_of, with_bye, with_engine};
 ghost use Rattle.arbiter.specs.Words.{arbiter_app, check_app, format_app, settled, versioned};
 
+use crate::arguments;
 use crate::commands::{candidates_command, pair_command, standings_command, with_worth};
 use crate::options::{
-    CandidatesOptions, CursorSyntax, PairOptions, StandingsOptions, WordFault, bye_in,
-    candidates_options, pair_options, standings_options,
+    CandidatesOptions, CursorSyntax, FormatOptions, PairOptions, StandingsOptions, WordFault,
+    bye_in, candidates_options, format_options, pair_options, standings_options,
 };
 use clap::error::ErrorKind;
 use clap::{ArgMatches, Command, Error};
@@ -23,7 +24,7 @@ pub enum Request<'a> {
     /// Tells whether a report is accepted.
     Check,
     /// Writes a report in canonical columns.
-    Format,
+    Format(FormatOptions),
     /// Pairs the next round.
     Pair(PairOptions),
     /// Lists candidates of a bracket.
@@ -105,7 +106,7 @@ fn request_of<'a>(name: &str, options: &ArgMatches<'a>) -> Option<Result<Request
 {
     match name {
         "check" => Some(Ok(Request::Check)),
-        "format" => Some(Ok(Request::Format)),
+        "format" => Some(Ok(Request::Format(format_options(options)))),
         "pair" => Some(pair_request(options)),
         "candidates" => Some(candidates_request(options)),
         "standings" => Some(standings_request(options)),
@@ -241,6 +242,7 @@ fn format_command<'a>(alloc: Global) -> Result<Command<'a>, AllocError>
         .about("Writes the report in canonical columns, or tells why it is refused")
         .after_help(
             "The report is read from standard input. Printed is each player's line in TRF16's columns, and each other line as it stands.\n\nExample: arbiter format < report.trf > canonical.trf",
-        );
+        )
+        .arg(arguments::points(alloc))?;
     with_worth(alloc, command)
 }

@@ -6,14 +6,15 @@ use Rattle.std.specs.Option.{option_map_or}
 use Rattle.std.proofs.lemmas.List.{drop_more, drop_all}
 use Rattle.std.proofs.lemmas.Slice.Eq.{bytes_eq-Decides}
 use Rattle.trf16.specs.Lines.{columns, text}
-use Rattle.std.specs.Prelude.{option_copied}
+use Rattle.std.specs.Prelude.{option_copied, option_map}
 use denote.Ref.{Bor}
 use Rattle.trf16.specs.Extensions.{is_kind, is_word, names_absent, names_both}
 use Rattle.trf16.specs.Absence.{is_of, first_at}
 use Rattle.trf16.specs.declared.kind.Kind.{Kind}
 use Rattle.trf16.specs.declared.kind.Kind.TheVariants.{Xxa, Xxs, Rank}
 use Rattle.trf16.specs.declared.player.Player.{Player}
-use Rattle.trf16.specs.Sheet.{Entry, Sheet}
+use Rattle.trf16.specs.Sheet.{Entry, Sheet, entry_of}
+use Rattle.trf16.specs.Summed.{all_cells_fit}
 use Rattle.trf16.specs.Answering.{cell_fits, cells_fit, player_fits, players_fit}
 use Rattle.trf16.specs.Verdict.{is_player, carried_line}
 use Rattle.trf16.specs.declared.cell.Cell.{Cell}
@@ -48,6 +49,20 @@ players-fail sheet all entry rest fault e here = rw (e, here) refl
 pub players-end : (sheet : Sheet) (all : List Entry) → all ≡ [] → players_fit sheet all ≡ fits
 unfolding players_fit
 players-end sheet all e = rw e refl
+
+pub all_cells-more : (sheet : Sheet) (all : List Entry) (entry : Entry) (rest : List Entry) → all ≡ entry ∷ rest → cells_fit sheet entry.start 1 entry.cells ≡ fits
+    → all_cells_fit sheet all ≡ all_cells_fit sheet rest
+unfolding all_cells_fit
+all_cells-more sheet all entry rest e here = rw (e, here) refl
+
+pub all_cells-fail : (sheet : Sheet) (all : List Entry) (entry : Entry) (rest : List Entry) (fault : Fault) → all ≡ entry ∷ rest → cells_fit sheet entry.start 1 entry.cells ≡ Err fault
+    → all_cells_fit sheet all ≡ Err fault
+unfolding all_cells_fit
+all_cells-fail sheet all entry rest fault e here = rw (e, here) refl
+
+pub all_cells-end : (sheet : Sheet) (all : List Entry) → all ≡ [] → all_cells_fit sheet all ≡ fits
+unfolding all_cells_fit
+all_cells-end sheet all e = rw e refl
 
 -- a player's line is of no other kind
 player_is : (line : List (List ℕ)) → is_player line ≡ true → text line 1 3 ≡ codes "001"
@@ -98,3 +113,8 @@ first_at-cons test utf8 n line rest here none is =
 pub cells-copied : (o : Option (Bor Player)) → option_map_or (λ p. p.now.cells.items) o [] ≡ option_map_or (λ (q : Player). q.cells.items) (option_copied o) []
 cells-copied None = refl
 cells-copied (Some p) = refl
+
+-- the player that a look-up lends
+pub entry-copied : (o : Option (Bor Player)) → option_map (λ p. entry_of p.now) o ≡ option_map entry_of (option_copied o)
+entry-copied None = refl
+entry-copied (Some p) = refl

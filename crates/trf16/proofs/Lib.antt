@@ -23,6 +23,7 @@ pub mod OutputLemmas
 pub mod WritingLemmas
 pub mod RoundLemmas
 pub mod PairedRound
+pub mod SummedReport
 pub mod BoardLemmas
 pub mod StartRanks
 pub mod PointForms

@@ -8,7 +8,7 @@ use Rattle.std.specs.Str.{is_utf8}
 use Rattle.trf16.specs.Lines.{lines, without_marks}
 use Rattle.trf16.specs.Sheet.{Entry, Sheet, known, cell_in, cells_of, game_points, half_points, opponent_in_cell, colour_in_cell, rounds_played}
 use Rattle.trf16.specs.Answering.{are_opposite, is_forfeit, are_of_one_class, has_other_points, pair_fits, cell_fits, cells_fit, points_fit, player_fits, players_fit}
-use Rattle.trf16.specs.Verdict.{verdict, report_of, lines_onto, sized, without_players, has_too_many_rounds}
+use Rattle.trf16.specs.Verdict.{verdict, laid_out}
 use Rattle.trf16.specs.Meetings.{AnswerEachOther, AreSum, HavePoints}
 use Rattle.trf16.proofs.StepLemmas.{then_ok, same_ok}
 use Rattle.trf16.specs.declared.cell.Cell.{Cell}
@@ -43,15 +43,11 @@ kept false fault x y e = absurd (never fault y e)
 
 -- a verdict that is a report has met no fault of two players
 pub accepted : (bytes : List ℕ) (bye : ℕ) (sheet : Sheet) → verdict bytes bye ≡ Ok sheet → players_fit sheet sheet.players ≡ fits
-unfolding verdict report_of done
+unfolding verdict done
 accepted bytes bye sheet e =
-    let g = guard (nat_lt 1048576 (length bytes)) (TooMany Bytes) _ sheet e in
-    let utf8 = is_utf8 (without_marks bytes) in
-    let all = lines (without_marks bytes) in
-    let read = then_ok (lines_onto (without_players utf8 all bye) 1 all) _ sheet g.1 in
-    let fit = then_ok (sized read.0 (has_too_many_rounds utf8 all)) _ sheet read.2 in
-    let looked = then_ok (players_fit fit.0 fit.0.players) (λ _. Ok fit.0) sheet fit.2 in
-    let is : fit.0 ≡ sheet = same_ok fit.0 sheet looked.2 in
+    let laid = then_ok (laid_out bytes bye) _ sheet e in
+    let looked = then_ok (players_fit laid.0 laid.0.players) (λ _. Ok laid.0) sheet laid.2 in
+    let is : laid.0 ≡ sheet = same_ok laid.0 sheet looked.2 in
     subst (λ (s : Sheet). players_fit s s.players ≡ fits) is looked.1
 
 -- the cells of one player fit

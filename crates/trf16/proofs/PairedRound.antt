@@ -356,7 +356,7 @@ fits-met : (sheet : Sheet) (boards : List (ℕ × ℕ)) (start round : ℕ) (cel
 unfolding cell_fits
 fits-met sheet boards start round cell opponent m player theirs = rw (m.names, player, m.another, theirs, m.back, eq-self start) (m.pair round)
 
-fits-same : (old new : Sheet) (start round : ℕ) (cell : Cell) → ((o : ℕ) → known new o ≡ known old o) → ((o : ℕ) → cell_in new o round ≡ cell_in old o round)
+pub fits-same : (old new : Sheet) (start round : ℕ) (cell : Cell) → ((o : ℕ) → known new o ≡ known old o) → ((o : ℕ) → cell_in new o round ≡ cell_in old o round)
     → cell_fits new start round cell ≡ cell_fits old start round cell
 unfolding cell_fits
 fits-same old new start round cell players cells = by (opponent_in_cell cell)

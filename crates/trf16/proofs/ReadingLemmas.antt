@@ -9,11 +9,9 @@ use Rattle.std.proofs.lemmas.List.{append-nil}
 use Rattle.trf16.specs.declared.cell.Cell.{Cell}
 use Rattle.trf16.specs.declared.fault.Fault.{Fault}
 use Rattle.trf16.specs.declared.fault.Fault.TheVariants.{BadNumber, Duplicate, Misaligned, BadCell, BadExtension, TooMany, NoPlayers, NoSuchOpponent, SelfOpponent, NotMutual, Colours, Results, Points, OutOfMemory}
-use Rattle.trf16.specs.Verdict.{round_at, rounds_at, player_at, is_player, player_onto, rounds_onto, colour_onto, start_ranks_onto, line_onto, lines_onto, without_players, has_too_many_rounds, sized, report_of, verdict}
-use Rattle.trf16.specs.Answering.{players_fit}
-use Rattle.std.proofs.lemmas.Bool.{le-ltb}
+use Rattle.trf16.specs.Verdict.{round_at, rounds_at, player_at, is_player, player_onto, rounds_onto, colour_onto, start_ranks_onto, line_onto, lines_onto}
 use Rattle.trf16.specs.Sheet.{Sheet, with_player}
-use Rattle.trf16.specs.Lines.{columns, lines, without_marks}
+use Rattle.trf16.specs.Lines.{columns}
 use Rattle.trf16.specs.Outcomes.{◌>>=◌, Fails}
 
 -- what was read before, and what is still read
@@ -161,18 +159,6 @@ lines-end sheet n = refl
 pub nil_from_length : (bytes : List ℕ) → length bytes ≡ 0 → bytes ≡ []
 nil_from_length [] none = refl
 nil_from_length (b ∷ bytes) none = absurd (omega arith)
-
--- a fault of the players of a report that was read is that of the text
-pub verdict-fails : (bytes front : List ℕ) (bye : ℕ) (utf8 : Bool) (start draft report : Sheet) (long : Bool) (fault : Fault) → length bytes ≤ 1048576 → front ≡ without_marks bytes
-    → utf8 ≡ is_utf8 front → start ≡ without_players utf8 (lines front) bye → lines_onto start 1 (lines front) ≡ Ok draft → long ≡ has_too_many_rounds start.utf8 (lines front)
-    → sized draft long ≡ Ok report → players_fit report report.players ≡ Err fault → verdict bytes bye ≡ Err fault
-unfolding verdict report_of
-verdict-fails bytes front bye utf8 start draft report long fault few same same_utf8 begun read told made fails =
-    let read' : lines_onto (without_players utf8 (lines front) bye) 1 (lines front) ≡ Ok draft = ap (λ (s : Sheet). lines_onto s 1 (lines front)) (sym begun) ∙ read in
-    let told' : long ≡ has_too_many_rounds utf8 (lines front) = told ∙ ap (λ (s : Sheet). has_too_many_rounds s.utf8 (lines front)) begun in
-    let made' : sized draft (has_too_many_rounds utf8 (lines front)) ≡ Ok report = ap (sized draft) (sym told') ∙ made in
-    let whole : report_of utf8 (lines front) bye ≡ Err fault = rw (read', made', fails) refl in
-    rw (le-ltb 1048576 (length bytes) few, ← same, ← same_utf8) whole
 
 -- the test of all lines where one of those before is too long, and where none is
 pub stays_long : (next long here others total : Bool) → next ≡ long → long ≡ true → (long || (here || others)) ≡ total → (next || others) ≡ total

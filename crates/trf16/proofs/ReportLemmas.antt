@@ -5,9 +5,11 @@ use Rattle.std.specs.Map.{keys_of, lookup}
 use Rattle.std.proofs.lemmas.Bool.{lt-ltb}
 use Rattle.std.proofs.lemmas.Bool.Decides.{nat_tests}
 use Rattle.std.specs.Option.{option_map_or}
+use Rattle.std.specs.Prelude.{option_map}
 use Rattle.std.proofs.lemmas.List.{map-append, take_more, length-take-le}
 use Rattle.trf16.specs.declared.player.Player.{Player}
 use Rattle.trf16.specs.declared.cell.Cell.{Cell}
+use Rattle.trf16.specs.Names.{player_of}
 use Rattle.trf16.specs.Sheet.{Entry, entry_of, cells_of, is_paired, last_paired}
 
 -- entries whose keys are the start ranks of their players
@@ -75,6 +77,23 @@ cells-lookup (e ∷ es) start keyed =
     cells_step e.0 start e.1 (lookup (nat_eq start) es) (cells_of (map (λ e. entry_of e.1) es) start)
     (first_of_lists e.0 e.1.start (keys_of es) (map (λ e. e.1.start) es) keyed)
     (cells-lookup es start (rest_of_lists e.0 e.1.start (keys_of es) (map (λ e. e.1.start) es) keyed))
+
+entry_step : (k start : ℕ) (p : Player) (found : Option Player) (others : Option Entry) → k ≡ p.start → option_map entry_of found ≡ others
+    → option_map entry_of (cond (nat_eq start k) (Some p) found) ≡ cond (p.start == start) (Some (entry_of p)) others
+entry_step k start p found others same e = rw (same, eq-sym start p.start) (by (nat_eq p.start start) e)
+  where
+    by : (here : Bool) → option_map entry_of found ≡ others → option_map entry_of (cond here (Some p) found) ≡ cond here (Some (entry_of p)) others
+    by true e' = refl
+    by false e' = e'
+
+-- the player that a look-up finds
+pub entry-lookup : (es : List (ℕ × Player)) (start : ℕ) → keys_of es ≡ map (λ e. e.1.start) es
+    → option_map entry_of (lookup (nat_eq start) es) ≡ player_of (map (λ e. entry_of e.1) es) start
+entry-lookup [] start keyed = refl
+entry-lookup (e ∷ es) start keyed =
+    entry_step e.0 start e.1 (lookup (nat_eq start) es) (player_of (map (λ e. entry_of e.1) es) start)
+    (first_of_lists e.0 e.1.start (keys_of es) (map (λ e. e.1.start) es) keyed)
+    (entry-lookup es start (rest_of_lists e.0 e.1.start (keys_of es) (map (λ e. e.1.start) es) keyed))
 
 paired_step : (len others : ℕ) (first last : Bool) → 0 < len + 1
     → cond (nat_lt 0 (cond last (len + 1) others)) (cond last (len + 1) others + 1) (cond first 1 0)

@@ -10,7 +10,7 @@ use Rattle.std.proofs.lemmas.Map.Made.{is_some-lookup}
 use Rattle.indexmap.specs.IndexMap.{IndexMap, insert_entry}
 use Rattle.indexmap.proofs.CallerLemmas.{insert_entry-new}
 use Rattle.trf16.specs.Sheet.{Entry, entry_of}
-use Rattle.trf16.specs.Round.{cell_on, cell_by, with_cell, entry_with}
+use Rattle.trf16.specs.Round.{cell_on, cell_by, with_cell}
 use Rattle.trf16.specs.declared.player.Player.{Player}
 use Rattle.trf16.specs.declared.cell.Cell.{Cell}
 use Rattle.trf16.specs.declared.cell.Cell.TheVariants.{Blank}
@@ -36,10 +36,14 @@ with_cell-set before cell [] lt = absurd (omega arith)
 with_cell-set zero cell (first ∷ rest) lt = refl
 with_cell-set (suc before) cell (first ∷ rest) lt = ap (λ (cs : List Cell). first ∷ cs) (with_cell-set before cell rest (omega arith))
 
--- the players so far, each with his cell of the next round; with the rest they are all players
-pub record ArePaired (bye : ℕ) (boards : List (ℕ × ℕ)) (before : ℕ) (done : List (ℕ × Player)) (rest all : List Entry) : Type 0 where
+-- the players so far, each turned; with the rest they are all players
+pub record AreTurned (turn : Entry → Entry) (done : List (ℕ × Player)) (rest all : List Entry) : Type 0 where
   pub keyed : keys_of done ≡ map (λ e. e.1.start) done
-  pub whole : map (λ e. entry_of e.1) done ++ map (entry_with bye boards before) rest ≡ map (entry_with bye boards before) all
+  pub whole : map (λ e. entry_of e.1) done ++ map turn rest ≡ map turn all
+
+-- a change of players that leaves their start ranks
+abbrev pub KeepsStart : (Entry → Entry) → Type 0
+KeepsStart turn = (entry : Entry) → (turn entry).start ≡ entry.start
 
 abbrev starts_of : List Entry → List ℕ
 starts_of entries = map (λ (e : Entry). e.start) entries
@@ -48,9 +52,9 @@ pub starts-entries : (es : List (ℕ × Player)) → map (λ e. e.1.start) es �
 starts-entries [] = refl
 starts-entries (e ∷ es) = ap (λ (starts : List ℕ). e.1.start ∷ starts) (starts-entries es)
 
-pub starts-with : (bye : ℕ) (boards : List (ℕ × ℕ)) (before : ℕ) (entries : List Entry) → starts_of (map (entry_with bye boards before) entries) ≡ starts_of entries
-starts-with bye boards before [] = refl
-starts-with bye boards before (entry ∷ entries) = ap (λ (starts : List ℕ). entry.start ∷ starts) (starts-with bye boards before entries)
+pub starts-with : (turn : Entry → Entry) → KeepsStart turn → (entries : List Entry) → starts_of (map turn entries) ≡ starts_of entries
+starts-with turn keeps [] = refl
+starts-with turn keeps (entry ∷ entries) = rw (keeps entry) (ap (λ (starts : List ℕ). entry.start ∷ starts) (starts-with turn keeps entries))
 
 all_at : (P : ℕ → Type 0) (ks : List ℕ) (k : ℕ) (rest : List ℕ) → AllByRecursion P (ks ++ k ∷ rest) → P k
 all_at P [] k rest all = all.0
@@ -66,24 +70,25 @@ fresh (x ∷ ks) k rest distinct =
     let apart : nat_eq x k ≡ false = all_at (λ y. nat_eq x y ≡ false) ks k rest (IsDistinct-head nat_eq x (ks ++ k ∷ rest) distinct) in
     rw (eq-sym k x, apart) (fresh ks k rest (IsDistinct-tail nat_eq x (ks ++ k ∷ rest) distinct))
 
-pub paired-absent : (bye : ℕ) (boards : List (ℕ × ℕ)) (before : ℕ) (done : List (ℕ × Player)) (entry : Entry) (rest all : List Entry)
-    → ArePaired bye boards before done (entry ∷ rest) all → IsDistinct nat_eq (starts_of all) → lookup (nat_eq entry.start) done ≡ None
-paired-absent bye boards before done entry rest all paired distinct =
+pub turned-absent : (turn : Entry → Entry) → KeepsStart turn → (done : List (ℕ × Player)) (entry : Entry) (rest all : List Entry)
+    → AreTurned turn done (entry ∷ rest) all → IsDistinct nat_eq (starts_of all) → lookup (nat_eq entry.start) done ≡ None
+turned-absent turn keeps done entry rest all paired distinct =
     let entries = map (λ (e : ℕ × Player). entry_of e.1) done in
-    let whole : starts_of entries ++ entry.start ∷ starts_of (map (entry_with bye boards before) rest) ≡ starts_of all =
-    sym (map-append (λ (e : Entry). e.start) entries (map (entry_with bye boards before) (entry ∷ rest))) ∙ ap starts_of paired.whole ∙ starts-with bye boards before all in
+    let whole : starts_of entries ++ entry.start ∷ starts_of (map turn rest) ≡ starts_of all =
+    ap (λ s. starts_of entries ++ s ∷ starts_of (map turn rest)) (sym (keeps entry))
+    ∙ sym (map-append (λ (e : Entry). e.start) entries (map turn (entry ∷ rest))) ∙ ap starts_of paired.whole ∙ starts-with turn keeps all in
     let none : list_any (nat_eq entry.start) (starts_of entries) ≡ false =
-    fresh (starts_of entries) entry.start (starts_of (map (entry_with bye boards before) rest)) (subst (IsDistinct nat_eq) (sym whole) distinct) in
+    fresh (starts_of entries) entry.start (starts_of (map turn rest)) (subst (IsDistinct nat_eq) (sym whole) distinct) in
     none_from (lookup (nat_eq entry.start) done)
     (is_some-lookup (nat_eq entry.start) done ∙ ap (list_any (nat_eq entry.start)) (paired.keyed ∙ starts-entries done) ∙ none)
 
-pub paired-more : (bye : ℕ) (boards : List (ℕ × ℕ)) (before : ℕ) (done : List (ℕ × Player)) (entry : Entry) (rest all : List Entry) (player : Player)
-    → entry_of player ≡ entry_with bye boards before entry → ArePaired bye boards before done (entry ∷ rest) all
-    → ArePaired bye boards before (done ++ (entry.start, player) ∷ []) rest all
-paired-more bye boards before done entry rest all player same paired =
-    let start : player.start ≡ entry.start = ap (λ (e : Entry). e.start) same in
+pub turned-more : (turn : Entry → Entry) → KeepsStart turn → (done : List (ℕ × Player)) (entry : Entry) (rest all : List Entry) (player : Player)
+    → entry_of player ≡ turn entry → AreTurned turn done (entry ∷ rest) all
+    → AreTurned turn (done ++ (entry.start, player) ∷ []) rest all
+turned-more turn keeps done entry rest all player same paired =
+    let start : player.start ≡ entry.start = ap (λ (e : Entry). e.start) same ∙ keeps entry in
     let entries = map (λ (e : ℕ × Player). entry_of e.1) done in
-    let others = map (entry_with bye boards before) rest in
+    let others = map turn rest in
     record {
       keyed = subst (λ s. keys_of (done ++ (s, player) ∷ []) ≡ map (λ e. e.1.start) (done ++ (s, player) ∷ [])) start (keyed-push done player paired.keyed);
       whole = ap (λ (es : List Entry). es ++ others) (map-append (λ (e : ℕ × Player). entry_of e.1) done ((entry.start, player) ∷ []))
@@ -91,22 +96,22 @@ paired-more bye boards before done entry rest all player same paired =
     }
 
 -- one more player, as the loop inserts him
-pub paired-insert : {S : Type 0} (bye : ℕ) (boards : List (ℕ × ℕ)) (before : ℕ) (done : IndexMap ℕ Player S) (entry : Entry) (coming rest all : List Entry) (player : Player) (new : List (ℕ × Player))
-    → coming ≡ entry ∷ rest → ArePaired bye boards before done.entries coming all → entry_of player ≡ entry_with bye boards before entry
-    → new ≡ insert_entry nat_eq done.entries entry.start player → IsDistinct nat_eq (starts_of all) → ArePaired bye boards before new rest all
-paired-insert bye boards before done entry coming rest all player new steps paired same inserted distinct =
-    let here : ArePaired bye boards before done.entries (entry ∷ rest) all = subst (λ (es : List Entry). ArePaired bye boards before done.entries es all) steps paired in
-    subst (λ (es : List (ℕ × Player)). ArePaired bye boards before es rest all)
-    (sym (inserted ∙ insert_entry-new nat_eq done entry.start player (paired-absent bye boards before done.entries entry rest all here distinct)))
-    (paired-more bye boards before done.entries entry rest all player same here)
+pub turned-insert : {S : Type 0} (turn : Entry → Entry) → KeepsStart turn → (done : IndexMap ℕ Player S) (entry : Entry) (coming rest all : List Entry) (player : Player) (new : List (ℕ × Player))
+    → coming ≡ entry ∷ rest → AreTurned turn done.entries coming all → entry_of player ≡ turn entry
+    → new ≡ insert_entry nat_eq done.entries entry.start player → IsDistinct nat_eq (starts_of all) → AreTurned turn new rest all
+turned-insert turn keeps done entry coming rest all player new steps paired same inserted distinct =
+    let here : AreTurned turn done.entries (entry ∷ rest) all = subst (λ (es : List Entry). AreTurned turn done.entries es all) steps paired in
+    subst (λ (es : List (ℕ × Player)). AreTurned turn es rest all)
+    (sym (inserted ∙ insert_entry-new nat_eq done entry.start player (turned-absent turn keeps done.entries entry rest all here distinct)))
+    (turned-more turn keeps done.entries entry rest all player same here)
 
-pub paired-end : (bye : ℕ) (boards : List (ℕ × ℕ)) (before : ℕ) (done : List (ℕ × Player)) (rest all : List Entry) → rest ≡ [] → ArePaired bye boards before done rest all
-    → map (λ e. entry_of e.1) done ≡ map (entry_with bye boards before) all
-paired-end bye boards before done rest all nothing paired =
+pub turned-end : (turn : Entry → Entry) (done : List (ℕ × Player)) (rest all : List Entry) → rest ≡ [] → AreTurned turn done rest all
+    → map (λ e. entry_of e.1) done ≡ map turn all
+turned-end turn done rest all nothing paired =
     let entries = map (λ (e : ℕ × Player). entry_of e.1) done in
-    sym (append-nil entries) ∙ ap (λ (es : List Entry). entries ++ map (entry_with bye boards before) es) (sym nothing) ∙ paired.whole
+    sym (append-nil entries) ∙ ap (λ (es : List Entry). entries ++ map turn es) (sym nothing) ∙ paired.whole
 
-pub paired-length : (bye : ℕ) (boards : List (ℕ × ℕ)) (before : ℕ) (done : List (ℕ × Player)) (all : List Entry)
-    → map (λ e. entry_of e.1) done ≡ map (entry_with bye boards before) all → length done ≡ length all
-paired-length bye boards before done all same =
-    sym (length-map done (λ (e : ℕ × Player). entry_of e.1)) ∙ ap (λ (es : List Entry). length es) same ∙ length-map all (entry_with bye boards before)
+pub turned-length : (turn : Entry → Entry) (done : List (ℕ × Player)) (all : List Entry)
+    → map (λ e. entry_of e.1) done ≡ map turn all → length done ≡ length all
+turned-length turn done all same =
+    sym (length-map done (λ (e : ℕ × Player). entry_of e.1)) ∙ ap (λ (es : List Entry). length es) same ∙ length-map all turn

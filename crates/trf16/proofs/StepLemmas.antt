@@ -13,3 +13,9 @@ then_ok {A} {B} (Err fault) next y e = absurd (differ fault y e)
 
 pub same_ok : {A : Type 0} (x y : A) → ◌≡◌ {A = Result A Fault} (Ok x) (Ok y) → x ≡ y
 same_ok x y e = cc
+
+-- steps one after the other, grouped
+pub then_assoc : {A B C : Type 0} (read : Result A Fault) (next : A → Result B Fault) (last : B → Result C Fault)
+    → ((read >>= next) >>= last) ≡ (read >>= λ x. next x >>= last)
+then_assoc (Ok x) next last = refl
+then_assoc (Err fault) next last = refl

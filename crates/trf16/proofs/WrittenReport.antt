@@ -21,7 +21,7 @@ use Rattle.trf16.specs.Extensions.{is_kind, words_of, rounds_in, colour_in, are_
 use Rattle.trf16.specs.Sheet.{Entry, Sheet, with_player, known, half_points, rounds_played}
 use Rattle.trf16.specs.Outcomes.{◌>>=◌}
 use Rattle.trf16.specs.Answering.{cells_fit, points_fit, player_fits, players_fit, has_other_points}
-use Rattle.trf16.specs.Verdict.{player_at, is_player, is_too_long, rounds_onto, colour_onto, start_ranks_onto, player_onto, line_onto, lines_onto, carried_line, without_players, has_too_many_rounds, names_too_many_rounds, sized, report_of, verdict}
+use Rattle.trf16.specs.Verdict.{player_at, is_player, is_too_long, rounds_onto, colour_onto, start_ranks_onto, player_onto, line_onto, lines_onto, carried_line, without_players, has_too_many_rounds, names_too_many_rounds, sized, laid_out, verdict}
 use Rattle.trf16.specs.Written.{player_text, lines_text, written}
 use Rattle.trf16.specs.declared.cell.Bye.TheVariants.{Half, Full, Allocated, Zero}
 use Rattle.trf16.specs.declared.cell.Outcome.TheVariants.{Win, Draw, Loss}
@@ -30,7 +30,7 @@ use Rattle.trf16.specs.declared.cell.Cell.TheVariants.{Blank, Bye, Game, Forfeit
 use Rattle.trf16.specs.declared.fault.Excess.TheVariants.{Bytes, Players, Rounds}
 use Rattle.trf16.specs.declared.fault.Fault.{Fault}
 use Rattle.trf16.specs.declared.fault.Fault.TheVariants.{BadExtension, Duplicate, Points, TooMany, NoPlayers}
-use Rattle.trf16.proofs.StepLemmas.{then_ok, same_ok}
+use Rattle.trf16.proofs.StepLemmas.{then_assoc, then_ok, same_ok}
 use Rattle.trf16.proofs.WrittenText.{is_inside, are_inside, are_utf8, lines-line, lines-inside, utf8_lines, has_mark, no_mark, without_marks-no_mark, line-no_mark}
 use Rattle.trf16.proofs.WrittenFields.{are_small}
 use Rattle.trf16.proofs.WrittenPlayers.{IsPlayer, IsSoundEntry, player_is, was_player, written_player}
@@ -413,12 +413,37 @@ sized_turn turn sheet long e = rw (length-map sheet.players turn) (by (nat_lt 25
     by false true false false e = absurd (not_ok NoPlayers sheet e)
     by false false false false e = refl
 
+-- the report that some lines are: the steps of the verdict in a row
+unfoldable pub report_of : Bool → List (List ℕ) → ℕ → Result Sheet Fault
+report_of utf8 all bye =
+    lines_onto (without_players utf8 all bye) 1 all >>= λ sheet. sized sheet (has_too_many_rounds utf8 all) >>= λ sheet. players_fit sheet sheet.players >>= λ _. Ok sheet
+
 -- what a report that was read is
 pub record IsReport (utf8 : Bool) (all : List (List ℕ)) (bye : ℕ) (report : Sheet) : Type 0 where
   pub read : lines_onto (without_players utf8 all bye) 1 all ≡ Ok report
   pub size : sized report (has_too_many_rounds utf8 all) ≡ Ok report
   pub short : has_too_many_rounds utf8 all ≡ false
   pub fit : players_fit report report.players ≡ Ok tt
+
+-- the same before the rules on its players are looked at
+pub record IsLaidOut (utf8 : Bool) (all : List (List ℕ)) (bye : ℕ) (report : Sheet) : Type 0 where
+  pub read : lines_onto (without_players utf8 all bye) 1 all ≡ Ok report
+  pub size : sized report (has_too_many_rounds utf8 all) ≡ Ok report
+  pub short : has_too_many_rounds utf8 all ≡ false
+
+laid_report : (utf8 : Bool) (all : List (List ℕ)) (bye : ℕ) (report : Sheet) → IsReport utf8 all bye report → IsLaidOut utf8 all bye report
+laid_report utf8 all bye report r = record { read = r.read; size = r.size; short = r.short }
+
+pub laid_from : (utf8 : Bool) (all : List (List ℕ)) (bye : ℕ) (report laid next : Sheet) → lines_onto (without_players utf8 all bye) 1 all ≡ Ok laid
+    → sized laid (has_too_many_rounds utf8 all) ≡ Ok next → next ≡ report → IsLaidOut utf8 all bye report
+laid_from utf8 all bye report laid next read size same =
+    let s = sized_is laid next (has_too_many_rounds utf8 all) size in
+    let all_same : laid ≡ report = s.same ∙ same in
+    record {
+      read = read ∙ ap (λ (s : Sheet). Ok s) all_same;
+      size = ap (λ (s : Sheet). sized s (has_too_many_rounds utf8 all)) (sym all_same) ∙ size ∙ ap (λ (s : Sheet). Ok s) same;
+      short = s.short;
+    }
 
 pub report_is : (utf8 : Bool) (all : List (List ℕ)) (bye : ℕ) (report : Sheet) → report_of utf8 all bye ≡ Ok report → IsReport utf8 all bye report
 unfolding report_of
@@ -451,7 +476,7 @@ text_by : (b utf8 : Bool) (ls carried : List (Option (List ℕ))) (ps players : 
     → lines_text b ls ps ≡ lines_text utf8 carried players
 text_by b utf8 ls carried ps players e e' e2 = rw (e, e', e2) refl
 
-text_is : (utf8 : Bool) (bytes : List ℕ) (bye : ℕ) (report : Sheet) (turn : Entry → Entry) → bye ≤ 2 → has_mark bytes ≡ false → IsReport utf8 (lines bytes) bye report
+text_is : (utf8 : Bool) (bytes : List ℕ) (bye : ℕ) (report : Sheet) (turn : Entry → Entry) → bye ≤ 2 → has_mark bytes ≡ false → IsLaidOut utf8 (lines bytes) bye report
     → Turns report.utf8 turn → players_fit (turned turn report) (map turn report.players) ≡ Ok tt → IsText utf8 (lines bytes) bytes bye (turned turn report)
 text_is utf8 bytes bye report turn worth unmarked r turns fit =
     let all = lines bytes in
@@ -478,29 +503,78 @@ text_is utf8 bytes bye report turn worth unmarked r turns fit =
       read = ap (λ (all' : List (List ℕ)). report_of utf8 all' bye) copy ∙ report_from utf8 c.copy bye (turned turn report) again;
     }
 
+-- the rules on the players of a report, at the end of its verdict
+rules : Sheet → Result Sheet Fault
+rules sheet = players_fit sheet sheet.players >>= λ _. Ok sheet
+
 pub verdict_is : (bytes : List ℕ) (bye : ℕ) (report : Sheet) → verdict bytes bye ≡ Ok report
     → report_of (is_utf8 (without_marks bytes)) (lines (without_marks bytes)) bye ≡ Ok report
-unfolding verdict
+unfolding verdict laid_out report_of rules
 verdict_is bytes bye report e = by (nat_lt 1048576 (length bytes)) e
   where
-    by : (b : Bool) → cond b (Err (TooMany Bytes)) (report_of (is_utf8 (without_marks bytes)) (lines (without_marks bytes)) bye) ≡ Ok report
-        → report_of (is_utf8 (without_marks bytes)) (lines (without_marks bytes)) bye ≡ Ok report
+    read : Result Sheet Fault
+    read = lines_onto (without_players (is_utf8 (without_marks bytes)) (lines (without_marks bytes)) bye) 1 (lines (without_marks bytes))
+
+    size : Sheet → Result Sheet Fault
+    size = λ sheet. sized sheet (has_too_many_rounds (is_utf8 (without_marks bytes)) (lines (without_marks bytes)))
+
+    by : (b : Bool) → (cond b (Err (TooMany Bytes)) (read >>= size) >>= rules) ≡ Ok report → (read >>= λ sheet. size sheet >>= rules) ≡ Ok report
     by true e = absurd (not_ok (TooMany Bytes) report e)
-    by false e = e
+    by false e = sym (then_assoc read size rules) ∙ e
 
 verdict_from : (bytes : List ℕ) (bye : ℕ) (report : Sheet) → length bytes ≤ 1048576 → without_marks bytes ≡ bytes
     → report_of (is_utf8 bytes) (lines bytes) bye ≡ Ok report → verdict bytes bye ≡ Ok report
-unfolding verdict
-verdict_from bytes bye report few same e = rw (le-ltb 1048576 (length bytes) few, same) e
+unfolding verdict laid_out report_of rules
+verdict_from bytes bye report few same e =
+    rw (le-ltb 1048576 (length bytes) few, same)
+    (then_assoc (lines_onto (without_players (is_utf8 bytes) (lines bytes) bye) 1 (lines bytes)) (λ sheet. sized sheet (has_too_many_rounds (is_utf8 bytes) (lines bytes))) rules ∙ e)
+
+-- the lines of a text behind its marks, laid out
+abbrev pub IsLaidOutOf : List ℕ → ℕ → Sheet → Type 0
+IsLaidOutOf bytes bye report = IsLaidOut (is_utf8 (without_marks bytes)) (lines (without_marks bytes)) bye report
+
+-- what a report that is laid out is: its players, and what the pairing-allocated bye gives in it
+record IsLaid (bye : ℕ) (report : Sheet) : Type 0 where
+  sound : are_all_sound report.utf8 report.players
+  bye_is : report.bye ≡ bye
+
+laid_is : (bytes : List ℕ) (bye : ℕ) (report : Sheet) → IsLaidOutOf bytes bye report → IsLaid bye report
+laid_is bytes bye report r =
+    let body = without_marks bytes in
+    let utf8 = is_utf8 body in
+    let w = were_read utf8 (without_players utf8 (lines body) bye) report 1 (lines body) refl (lines-inside body) r.short r.read in
+    record {
+      sound = subst (λ b. are_all_sound b report.players) (sym w.utf8_is) (subst (are_all_sound utf8) (sym w.players) w.sound);
+      bye_is = w.bye_is;
+    }
+
+pub laid_of : (bytes : List ℕ) (bye : ℕ) (report : Sheet) → laid_out bytes bye ≡ Ok report → IsLaidOutOf bytes bye report
+unfolding laid_out
+laid_of bytes bye report e = by (nat_lt 1048576 (length bytes)) e
+  where
+    by : (b : Bool)
+        → cond b (Err (TooMany Bytes))
+        (lines_onto (without_players (is_utf8 (without_marks bytes)) (lines (without_marks bytes)) bye) 1 (lines (without_marks bytes))
+        >>= λ sheet. sized sheet (has_too_many_rounds (is_utf8 (without_marks bytes)) (lines (without_marks bytes)))) ≡ Ok report
+        → IsLaidOutOf bytes bye report
+    by true e = absurd (not_ok (TooMany Bytes) report e)
+    by false e =
+        let utf8 = is_utf8 (without_marks bytes) in
+        let all = lines (without_marks bytes) in
+        let s = then_ok (lines_onto (without_players utf8 all bye) 1 all) (λ sheet. sized sheet (has_too_many_rounds utf8 all)) report e in
+        laid_from utf8 all bye report s.0 report s.1 s.2 refl
+
+pub laid_sound : (bytes : List ℕ) (bye : ℕ) (report : Sheet) → IsLaidOutOf bytes bye report → are_all_sound report.utf8 report.players
+laid_sound bytes bye report r = (laid_is bytes bye report r).sound
+
+read_laid : (bytes : List ℕ) (bye : ℕ) (report : Sheet) → verdict bytes bye ≡ Ok report → IsLaidOutOf bytes bye report
+read_laid bytes bye report e =
+    let body = without_marks bytes in
+    laid_report (is_utf8 body) (lines body) bye report (report_is (is_utf8 body) (lines body) bye report (verdict_is bytes bye report e))
 
 -- what the players of a report that was read are
 pub were_sound : (bytes : List ℕ) (bye : ℕ) (report : Sheet) → verdict bytes bye ≡ Ok report → are_all_sound report.utf8 report.players
-were_sound bytes bye report e =
-    let body = without_marks bytes in
-    let utf8 = is_utf8 body in
-    let r = report_is utf8 (lines body) bye report (verdict_is bytes bye report e) in
-    let w = were_read utf8 (without_players utf8 (lines body) bye) report 1 (lines body) refl (lines-inside body) r.short r.read in
-    subst (λ b. are_all_sound b report.players) (sym w.utf8_is) (subst (are_all_sound utf8) (sym w.players) w.sound)
+were_sound bytes bye report e = laid_sound bytes bye report (read_laid bytes bye report e)
 
 pub were_fit : (bytes : List ℕ) (bye : ℕ) (report : Sheet) → verdict bytes bye ≡ Ok report → players_fit report report.players ≡ Ok tt
 were_fit bytes bye report e =
@@ -509,24 +583,25 @@ were_fit bytes bye report e =
 
 -- a report keeps what the pairing-allocated bye gives in it
 pub kept_bye : (bytes : List ℕ) (bye : ℕ) (report : Sheet) → verdict bytes bye ≡ Ok report → report.bye ≡ bye
-kept_bye bytes bye report e =
-    let body = without_marks bytes in
-    let utf8 = is_utf8 body in
-    let r = report_is utf8 (lines body) bye report (verdict_is bytes bye report e) in
-    (were_read utf8 (without_players utf8 (lines body) bye) report 1 (lines body) refl (lines-inside body) r.short r.read).bye_is
+kept_bye bytes bye report e = (laid_is bytes bye report (read_laid bytes bye report e)).bye_is
 
--- the text of a report that was read and whose players were changed
+-- the text of a report that is laid out and whose players were changed
+pub laid_again : (bytes : List ℕ) (bye : ℕ) (report : Sheet) (turn : Entry → Entry) → bye ≤ 2 → IsLaidOutOf bytes bye report → Turns report.utf8 turn
+    → players_fit (turned turn report) (map turn report.players) ≡ Ok tt → length (written (turned turn report)) ≤ 1048576
+    → verdict (written (turned turn report)) report.bye ≡ Ok (turned turn report)
+laid_again bytes bye report turn worth r turns fit few =
+    let body = without_marks bytes in
+    let t = text_is (is_utf8 body) body bye report turn worth (without_marks-no_mark bytes) r turns fit in
+    let same : is_utf8 (written (turned turn report)) ≡ is_utf8 body = t.same ∙ sym (utf8_lines body) in
+    ap (verdict (written (turned turn report))) (laid_is bytes bye report r).bye_is
+    ∙ verdict_from (written (turned turn report)) bye (turned turn report) few (no_mark (written (turned turn report)) t.unmarked)
+    (ap (λ b. report_of b (lines (written (turned turn report))) bye) same ∙ t.read)
+
+-- the same of a report that was read
 pub written_again : (bytes : List ℕ) (bye : ℕ) (report : Sheet) (turn : Entry → Entry) → bye ≤ 2 → verdict bytes bye ≡ Ok report → Turns report.utf8 turn
     → players_fit (turned turn report) (map turn report.players) ≡ Ok tt → length (written (turned turn report)) ≤ 1048576
     → verdict (written (turned turn report)) report.bye ≡ Ok (turned turn report)
-written_again bytes bye report turn worth e turns fit few =
-    let body = without_marks bytes in
-    let r = report_is (is_utf8 body) (lines body) bye report (verdict_is bytes bye report e) in
-    let t = text_is (is_utf8 body) body bye report turn worth (without_marks-no_mark bytes) r turns fit in
-    let same : is_utf8 (written (turned turn report)) ≡ is_utf8 body = t.same ∙ sym (utf8_lines body) in
-    ap (verdict (written (turned turn report))) (kept_bye bytes bye report e)
-    ∙ verdict_from (written (turned turn report)) bye (turned turn report) few (no_mark (written (turned turn report)) t.unmarked)
-    (ap (λ b. report_of b (lines (written (turned turn report))) bye) same ∙ t.read)
+written_again bytes bye report turn worth e turns fit few = laid_again bytes bye report turn worth (read_laid bytes bye report e) turns fit few
 
 unchanged : (utf8 : Bool) → Turns utf8 (λ entry. entry)
 unchanged utf8 = record { start = λ entry. refl; line = λ entry. refl; left = λ entry. refl; right = λ entry. refl; sound = λ entry sound. sound }

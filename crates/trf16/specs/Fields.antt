@@ -56,6 +56,15 @@ without_last test (x ∷ rest) = if list_all test (x ∷ rest) then [] else x �
 abbrev pub trimmed : List ℕ → List ℕ
 trimmed bytes = without_last (λ b. b == byte " ") bytes
 
+-- a list without the items at its front that pass a test
+abbrev pub without_first : {X : Type 0} → (X → Bool) → List X → List X
+without_first test [] = []
+without_first test (x ∷ rest) = if test x then without_first test rest else x ∷ rest
+
+-- a text without the blanks at its ends
+abbrev pub without_blanks : List ℕ → List ℕ
+without_blanks bytes = trimmed (without_first (λ b. b == byte " ") bytes)
+
 -- the points that the words of a field name, in half points: none where there is no word; no answer where they are no points
 abbrev pub points_in : List (List ℕ) → Option (Option ℕ)
 points_in [] = Some None

@@ -18,3 +18,5 @@ pub mod Round
 pub mod Steps
 pub mod StartRanks
 pub mod Points
+pub mod Names
+pub mod Summed

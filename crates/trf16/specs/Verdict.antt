@@ -146,17 +146,18 @@ sized sheet too_long =
     else (if too_long || names_too_many_rounds sheet then Err (TooMany Rounds)
     else (if length sheet.players == 0 then Err NoPlayers else Ok sheet))
 
--- the report that some lines are, where the pairing-allocated bye gives so many half points
-unfoldable pub report_of : Bool → List (List ℕ) → ℕ → Result Sheet Fault
-report_of utf8 all bye = do
-  sheet ← lines_onto (without_players utf8 all bye) 1 all
-  sheet ← sized sheet (has_too_many_rounds utf8 all)
+-- the report that a text is before the rules on its players are looked at, where the pairing-allocated bye gives so many half points; a
+-- column is a character where the text is UTF-8, else a byte
+unfoldable pub laid_out : List ℕ → ℕ → Result Sheet Fault
+laid_out bytes bye =
+    let utf8 = is_utf8 (without_marks bytes) in
+    let all = lines (without_marks bytes) in
+    if nat_lt 1048576 (length bytes) then Err (TooMany Bytes)
+    else (lines_onto (without_players utf8 all bye) 1 all >>= λ sheet. sized sheet (has_too_many_rounds utf8 all))
+
+-- the report that a text is where the pairing-allocated bye gives so many half points, or the first rule that it breaks
+unfoldable pub verdict : List ℕ → ℕ → Result Sheet Fault
+verdict bytes bye = do
+  sheet ← laid_out bytes bye
   _ ← players_fit sheet sheet.players
   Ok sheet
-
--- the report that a text is where the pairing-allocated bye gives so many half points, or the first rule that it breaks; a column is
--- a character where the text is UTF-8, else a byte
-unfoldable pub verdict : List ℕ → ℕ → Result Sheet Fault
-verdict bytes bye =
-    if nat_lt 1048576 (length bytes) then Err (TooMany Bytes)
-    else report_of (is_utf8 (without_marks bytes)) (lines (without_marks bytes)) bye

@@ -3,6 +3,7 @@ ghost use Rattle.std.specs.Prelude.{◌≡◌, ◌==◌, ◌<◌, ◌≤◌, fal
 ghost use Rattle.std.specs.Option.{option_map_or};
 ghost use Rattle.trf16.specs.Outcomes.{Gives};
 ghost use Rattle.trf16.specs.Sheet.{entry_of, opponent_in_cell, rounds_played};
+ghost use Rattle.trf16.specs.Summed.{all_cells_fit};
 ghost use Rattle.trf16.specs.Answering.{are_opposite, is_forfeit, are_of_one_class, pair_fits, cell_fits, cells_fit, points_fit, player_fits, players_fit};
 
 use crate::cell::{Cell, Colour};
@@ -151,6 +152,16 @@ pub(crate) fn players_fit(report: &Report<'_>) -> Result<(), Fault>
     let rounds = report.rounds_played();
     for player in report.players() {
         player_fits(report, player, rounds)?;
+    }
+    Ok(())
+}
+
+/// The rounds of all players, in the order of their lines, whatever their points fields say.
+pub(crate) fn all_cells_fit(report: &Report<'_>) -> Result<(), Fault>
+    ensures { Gives (λ x. x) result (all_cells_fit report.now report.now.players) }
+{
+    for player in report.players() {
+        cells_fit(report, player.start, &player.cells)?;
     }
     Ok(())
 }

@@ -103,8 +103,8 @@ pub(crate) fn split_kind(bytes: &[u8], utf8: bool) -> (&[u8], &[u8])
     bytes.split_at(len)
 }
 
-/// How many columns a text has.
-pub(crate) fn column_count(bytes: &[u8], utf8: bool) -> usize
+/// How many columns a text has: characters where it is of a UTF-8 text, else bytes. It takes time in step with the text.
+pub fn column_count(bytes: &[u8], utf8: bool) -> usize
     ensures { result ≡ length (columns utf8 bytes.now) }
 {
     let mut rest = bytes;

@@ -2,7 +2,7 @@
 ghost use Rattle.std.specs.Prelude.{◌≡◌, ℕ, ◌≢◌, ◌+◌, ◌<◌, ◌≤◌, ◌^◌, ◌∷◌, [], length, slice_index, drop, true, MatchOption, IfSome};
 ghost use Rattle.std.specs.Char.{is_ascii_digit};
 ghost use Rattle.std.specs.List.{list_all};
-ghost use Rattle.trf16.specs.Fields.{words, is_number, number_after, number_of, number_in, half_after, points_after, points_of, points_in, trimmed};
+ghost use Rattle.trf16.specs.Fields.{words, is_number, number_after, number_of, number_in, half_after, points_after, points_of, points_in, trimmed, without_blanks};
 
 // How many blanks stand in front.
 fn blank_len(bytes: &[u8]) -> usize
@@ -167,4 +167,16 @@ pub(crate) fn trimmed(bytes: &[u8]) -> &[u8]
         }
     }
     bytes.split_at(len).0
+}
+
+/// A text without the blanks at its ends.
+pub(crate) fn without_blanks(bytes: &[u8]) -> &[u8]
+    ensures { result.now ≡ without_blanks bytes.now }
+{
+    for (i, byte) in bytes.iter().enumerate() {
+        if *byte != b' ' {
+            return trimmed(bytes.split_at(i).1);
+        }
+    }
+    &[]
 }

@@ -10,6 +10,7 @@ ghost use Rattle.trf16.specs.Fields.{words, number_in, points_of, points_in};
 ghost use Rattle.trf16.specs.Points.{SpellsPoints};
 ghost use Rattle.trf16.specs.Sheet.{Sheet};
 ghost use Rattle.trf16.specs.StartRanks.{HasOwnStarts};
+ghost use Rattle.trf16.specs.Summed.{IsButForPoints, summed, verdict_unsummed};
 ghost use Rattle.trf16.specs.Verdict.{verdict};
 ghost use Rattle.trf16.specs.Written.{right_in_four, points_text, cell_text, written};
 ghost use Rattle.trf16.specs.Round.{CanBePaired, with_round};
@@ -63,6 +64,19 @@ pub fn law_round_trip_with_round()
     ensures { (bytes : List ℕ) → (bye : ℕ) → (report : Sheet) → (boards : List (ℕ × ℕ)) → bye ≤ 2 → verdict bytes bye ≡ Ok report
         → CanBePaired boards report → 0 < length boards → length (written (with_round boards report)) ≤ 1048576
         → verdict (written (with_round boards report)) report.bye ≡ Ok (with_round boards report) }
+{}
+
+/// The verdict on a text whose points fields are not compared is the verdict but for its last rule: where they differ, the verdict is that
+/// some points field is no sum.
+pub fn points_are_the_last_rule()
+    ensures { (bytes : List ℕ) → (bye : ℕ) → IsButForPoints (verdict bytes bye) (verdict_unsummed bytes bye) }
+{}
+
+/// The canonical text of a report whose points fields were not compared, and are then summed, is accepted, and reads back as that report
+/// with its sums, by what the pairing-allocated bye gives in it, unless it is too long.
+pub fn sums_are_accepted()
+    ensures { (bytes : List ℕ) → (bye : ℕ) → (report : Sheet) → bye ≤ 2 → verdict_unsummed bytes bye ≡ Ok report
+        → length (written (summed report)) ≤ 1048576 → verdict (written (summed report)) report.bye ≡ Ok (summed report) }
 {}
 
 /// In an accepted report no two players have one start rank, each start rank is from 1 to 9999, and a total of rounds is at most 32.

@@ -18,6 +18,7 @@ pub mod laws;
 mod lines;
 mod marking;
 pub mod meetings;
+mod names;
 mod notes;
 mod noting;
 pub mod output;
@@ -27,7 +28,9 @@ mod reading;
 pub mod report;
 mod round;
 mod start_ranks;
+mod summed;
 mod writing;
 
-pub use reading::{read, read_with};
+pub use columns::column_count;
+pub use reading::{read, read_unsummed, read_with};
 pub use writing::write;

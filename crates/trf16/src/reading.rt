@@ -6,9 +6,10 @@ ghost use Rattle.trf16.specs.Fields.{without_last};
 ghost use Rattle.trf16.specs.Outcomes.{Gives};
 ghost use Rattle.trf16.specs.Sheet.{entry_of, known};
 ghost use Rattle.trf16.specs.Notes.{is_marked, first_noted, Tells};
-ghost use Rattle.trf16.specs.Verdict.{blank_at, start_number_at, start_at, points_at, round_at, rounds_at, is_blank_cell, cells_at, player_at, is_player, is_too_long, player_onto, rounds_onto, colour_onto, start_ranks_onto, line_onto, lines_onto, has_too_many_rounds, without_players, sized, report_of, verdict};
+ghost use Rattle.trf16.specs.Summed.{verdict_unsummed};
+ghost use Rattle.trf16.specs.Verdict.{blank_at, start_number_at, start_at, points_at, round_at, rounds_at, is_blank_cell, cells_at, player_at, is_player, is_too_long, player_onto, rounds_onto, colour_onto, start_ranks_onto, line_onto, lines_onto, has_too_many_rounds, without_players, sized, laid_out, verdict};
 
-use crate::answering::players_fit;
+use crate::answering::{all_cells_fit, players_fit};
 use crate::cell::Cell;
 use crate::columns::{Line, is_blank, split_kind};
 use crate::draft::Draft;
@@ -314,6 +315,22 @@ fn sized<'a>(
     Ok(draft.into_report(notes, apart))
 }
 
+// The report that a text is, before the rules on its players are looked at.
+#[tactic(auto, unfolding(crate::specs::Verdict::laid_out))]
+fn laid_out<'a>(alloc: Global, bytes: &'a [u8], bye: u16) -> Result<Report<'a>, Fault>
+    requires { bye ≤ 2 }
+    ensures { Gives (λ report. report) result (laid_out bytes.now bye) }
+{
+    if 1_048_576 < bytes.len() {
+        return Err(Fault::TooMany(Excess::Bytes));
+    }
+    let text = skip_marks(bytes);
+    let mut draft = Draft::new(alloc, text, is_utf8(text), bye);
+    let mut notes = Notes::new(alloc)?;
+    let too_long = lines_onto(alloc, &mut draft, &mut notes, text)?;
+    sized(alloc, draft, notes, too_long)
+}
+
 /// Reads a report in which the pairing-allocated bye gives 2 half points, as `read_with` does.
 ///
 /// # Errors
@@ -332,19 +349,26 @@ pub fn read<'a>(alloc: Global, bytes: &'a [u8]) -> Result<Report<'a>, Fault>
 /// Too many bytes goes before all; then what is wrong with a line, in the order of the lines; then too many players, too many
 /// rounds, and no players; then for each player in the order of the lines what does not fit in his rounds, and then his points.
 /// Want of memory may come at any growth.
-#[tactic(auto, unfolding(crate::specs::Verdict::verdict, crate::specs::Verdict::report_of))]
+#[tactic(auto, unfolding(crate::specs::Verdict::verdict))]
 pub fn read_with<'a>(alloc: Global, bytes: &'a [u8], bye: u16) -> Result<Report<'a>, Fault>
     requires { bye ≤ 2 }
     ensures { Gives (λ report. report) result (verdict bytes.now bye) }
 {
-    if 1_048_576 < bytes.len() {
-        return Err(Fault::TooMany(Excess::Bytes));
-    }
-    let text = skip_marks(bytes);
-    let mut draft = Draft::new(alloc, text, is_utf8(text), bye);
-    let mut notes = Notes::new(alloc)?;
-    let too_long = lines_onto(alloc, &mut draft, &mut notes, text)?;
-    let report = sized(alloc, draft, notes, too_long)?;
+    let report = laid_out(alloc, bytes, bye)?;
     players_fit(&report)?;
+    Ok(report)
+}
+
+/// Reads a report as `read_with` does, but for the last rule: the points fields are read, and not compared with any sum.
+///
+/// # Errors
+/// Those of `read_with`, in the same order, but that a points field is no sum.
+#[tactic(auto, unfolding(crate::specs::Summed::verdict_unsummed))]
+pub fn read_unsummed<'a>(alloc: Global, bytes: &'a [u8], bye: u16) -> Result<Report<'a>, Fault>
+    requires { bye ≤ 2 }
+    ensures { Gives (λ report. report) result (verdict_unsummed bytes.now bye) }
+{
+    let report = laid_out(alloc, bytes, bye)?;
+    all_cells_fit(&report)?;
     Ok(report)
 }

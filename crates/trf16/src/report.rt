@@ -1,6 +1,7 @@
 // A report that was accepted, and what it says.
-ghost use Rattle.std.specs.Prelude.{◌≡◌, ◌<◌, ◌≤◌, map, length, option_copied, IfSome, [], sum_by};
+ghost use Rattle.std.specs.Prelude.{◌≡◌, ◌<◌, ◌≤◌, map, length, option_copied, option_map, IfSome, [], sum_by};
 ghost use Rattle.std.specs.Option.{option_map_or};
+ghost use Rattle.trf16.specs.Names.{player_of};
 ghost use Rattle.trf16.specs.Sheet.{entry_of, known, cells_of, cell_in, carried_in, half_points, last_paired_of, rounds_played};
 ghost use Rattle.trf16.specs.Verdict.{carried_line};
 
@@ -111,7 +112,8 @@ impl<'a> Report<'a> {
 
     // The player with a start rank.
     pub(crate) fn player(&self, start: u16) -> Option<&Player<'a>>
-        ensures { option_map_or (λ p. p.now.cells.items) result [] ≡ cells_of self.now.players start }
+        ensures cells { option_map_or (λ p. p.now.cells.items) result [] ≡ cells_of self.now.players start }
+        ensures entry { option_map (λ p. entry_of p.now) result ≡ player_of self.now.players start }
     {
         self.players.get(&start)
     }

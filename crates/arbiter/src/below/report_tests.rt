@@ -5,7 +5,7 @@ use trf16::cells::{cell_at, front};
 use trf16::fault::{Excess, Fault};
 use trf16::kind::Kind;
 use trf16::report::Report;
-use trf16::{read, read_with};
+use trf16::{column_count, read, read_with};
 
 // Round 1: 1 beats 2, and 3 has the pairing-allocated bye. Round 2: 1 has half a point, 2 wins against 3 by forfeit. 3 does not play on.
 const REPORT: &[u8] =
@@ -40,6 +40,23 @@ fn some_points(report: &Report<'_>) -> [u16; 3] {
 
 fn absences(report: &Report<'_>) -> [bool; 3] {
     [report.absent(1), report.absent(2), report.absent(3)]
+}
+
+#[test]
+fn names_are_cut_of_blanks(rt: HostRuntime) -> Result<(), Fail> {
+    let text = "001    1 m FM  Åse Ø.                                2100 GER\n001    2\n";
+    let report = read(rt.alloc(), text.as_bytes())?;
+    assert_eq!(rt; report.name(1), "Åse Ø.".as_bytes());
+    assert!(rt; report.name(2).is_empty() && report.name(3).is_empty());
+    assert!(rt; report.is_utf8());
+    assert_eq!(rt;
+        [
+            column_count(report.name(1), true),
+            column_count(report.name(1), false)
+        ],
+        [6, 8]
+    );
+    Ok(())
 }
 
 #[test]

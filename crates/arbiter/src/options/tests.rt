@@ -3,7 +3,8 @@ ghost use Rattle.std.specs.Prelude.{nat_lt, length};
 
 use crate::commands::{candidates_command, pair_command, standings_command};
 use crate::options::{
-    CursorSyntax, PairOptions, WordFault, candidates_options, pair_options, standings_options,
+    CursorSyntax, PairOptions, Shown, WordFault, candidates_options, pair_options,
+    standings_options,
 };
 use clap::error::ErrorKind;
 use clap::{ArgMatches, Command, Error};
@@ -55,14 +56,14 @@ fn pair_has_its_options(rt: HostRuntime) -> Result<(), AllocError> {
         rounds: Some(5),
         initial: Some(Colour::Black),
         steps: 0,
-        report: true,
+        shown: Shown::Report,
     };
     assert!(rt; pair(rt.alloc(), words.as_slice())? == Some(Ok(given)));
     let usual = PairOptions {
         rounds: None,
         initial: None,
         steps: 10_000_000,
-        report: false,
+        shown: Shown::Boards,
     };
     assert!(rt; pair(rt.alloc(), &[])? == Some(Ok(usual)));
     Ok(())

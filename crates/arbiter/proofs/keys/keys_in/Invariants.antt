@@ -1,6 +1,8 @@
 use Rattle.std.proofs.Common.{◌≡◌, ◌+◌, length, option_map}
 use Rattle.std.specs.Option.{option_map_or}
-use Rattle.arbiter.specs.Keys.{keys_in, keys_onto, names_left}
+use Rattle.arbiter.specs.KeySteps.{names_left}
+use Rattle.arbiter.specs.Keys.{keys_in}
+use Rattle.arbiter.proofs.KeyRule.{keys_onto}
 use Rattle.arbiter.proofs.keys.keys_in.Given as goal
 
 abbrev pub invariant-loop-rest : goal.invariant-loop-rest

@@ -1,4 +1,4 @@
-use Rattle.std.proofs.Common.{◌≡◌, ℕ, ◌≤◌, List, map, length, nat_eq, subst, refl, sym, ap, ◌∙◌, arith}
+use Rattle.std.proofs.Common.{◌≡◌, ℕ, ◌≤◌, List, map, length, nat_eq, refl, subst, sym, ap, ◌∙◌, arith}
 use Rattle.std.proofs.lemmas.List.{length-map}
 use Rattle.std.specs.List.{IsDistinct}
 use Rattle.trf16.specs.declared.player.Player.{Player}
@@ -6,7 +6,7 @@ use Rattle.trf16.specs.Lines.{lines}
 use Rattle.trf16.specs.Verdict.{carried_line, without_players}
 use Rattle.trf16.specs.Sheet.{Entry, Sheet, entry_of, rounds_played}
 use Rattle.trf16.specs.Round.{entry_with, with_round}
-use Rattle.trf16.proofs.RoundLemmas.{paired-insert, paired-end, paired-length, starts-entries, starts-with}
+use Rattle.trf16.proofs.RoundLemmas.{turned-insert, turned-end, turned-length, starts-entries, starts-with}
 use Rattle.trf16.proofs.ApartLemmas.{apart_again}
 use Rattle.trf16.specs.StartRanks.{starts_of}
 use Rattle.trf16.proofs.NoteLemmas.{tells_again}
@@ -14,7 +14,7 @@ use Rattle.trf16.proofs.report.Report.with_round.Goals as goal
 
 pub loop-player-preserved-in_ok-insert : goal.loop-player-preserved-in_ok-insert
 loop-player-preserved-in_ok-insert c =
-    paired-insert c.args.self.now.bye c.args.boards.now c.rounds_played-before.result c.loop-player.players (entry_of c.in-Some.player.now) (map entry_of c.loop-player.player-iterator)
+    turned-insert (entry_with c.args.self.now.bye c.args.boards.now c.rounds_played-before.result) (λ entry. refl) c.loop-player.players (entry_of c.in-Some.player.now) (map entry_of c.loop-player.player-iterator)
     (map entry_of c.next.new.self) c.args.self.now.players c.in_ok-paired.paired c.insert.new.self.entries (ap (map entry_of) c.in-Some.ensures.steps)
     c.loop-player.invariant c.in_ok-paired.ensures c.in_ok-insert.ensures.entries
     (subst (λ (sheet : Sheet). IsDistinct nat_eq (map (λ (e : Entry). e.start) sheet.players)) c.self.view_is
@@ -22,7 +22,7 @@ loop-player-preserved-in_ok-insert c =
 
 pub loop-player-preserved : goal.loop-player-preserved
 loop-player-preserved c =
-    paired-insert c.args.self.now.bye c.args.boards.now c.rounds_played-before.result c.loop-player.players (entry_of c.in-Some.player.now) (map entry_of c.loop-player.player-iterator)
+    turned-insert (entry_with c.args.self.now.bye c.args.boards.now c.rounds_played-before.result) (λ entry. refl) c.loop-player.players (entry_of c.in-Some.player.now) (map entry_of c.loop-player.player-iterator)
     (map entry_of c.next.new.self) c.args.self.now.players c.in_ok-paired.paired c.insert.new.self.entries (ap (map entry_of) c.in-Some.ensures.steps)
     c.loop-player.invariant c.in_ok-paired.ensures c.in_ok-insert.ensures.entries
     (subst (λ (sheet : Sheet). IsDistinct nat_eq (map (λ (e : Entry). e.start) sheet.players)) c.self.view_is
@@ -32,10 +32,10 @@ pub invariant_of-result : goal.invariant_of-result
 invariant_of-result c =
     let done = c.loop-player.players.entries in
     let all = c.args.self.now.players in
-    let same = paired-end c.args.self.now.bye c.args.boards.now c.rounds_played-before.result done (map entry_of c.loop-player.player-iterator) all
+    let same = turned-end (entry_with c.args.self.now.bye c.args.boards.now c.rounds_played-before.result) done (map entry_of c.loop-player.player-iterator) all
     (ap (map entry_of) c.in-None.ensures.steps.0) c.loop-player.invariant in
     let size : length done ≡ length c.self.inside.players.entries =
-    paired-length c.args.self.now.bye c.args.boards.now c.rounds_played-before.result done all same ∙ ap (λ (sheet : Sheet). length sheet.players) (sym c.self.view_is)
+    turned-length (entry_with c.args.self.now.bye c.args.boards.now c.rounds_played-before.result) done all same ∙ ap (λ (sheet : Sheet). length sheet.players) (sym c.self.view_is)
     ∙ length-map c.self.inside.players.entries (λ (e : ℕ × Player). entry_of e.1) in
     let few : length c.self.inside.players.entries ≤ 256 = c.self.invariant.1 in (
       c.loop-player.invariant.keyed,
@@ -49,7 +49,7 @@ invariant_of-result c =
           (record (without_players c.self.inside.utf8 (lines c.self.inside.text.now) c.self.inside.bye) { players = map (λ e. entry_of e.1) c.self.inside.players.entries })
           (record (without_players c.self.inside.utf8 (lines c.self.inside.text.now) c.self.inside.bye) { players = map (λ e. entry_of e.1) done })
           c.in_ok-apart.ensures.both c.in_ok-apart.ensures.same c.in_ok-apart.ensures.len refl refl
-          (ap starts_of same ∙ starts-with c.args.self.now.bye c.args.boards.now c.rounds_played-before.result all ∙ ap (λ (sheet : Sheet). starts_of sheet.players) (sym c.self.view_is))
+          (ap starts_of same ∙ starts-with (entry_with c.args.self.now.bye c.args.boards.now c.rounds_played-before.result) (λ entry. refl) all ∙ ap (λ (sheet : Sheet). starts_of sheet.players) (sym c.self.view_is))
           c.self.invariant.7,
     )
 
@@ -61,7 +61,7 @@ returns c =
     let utf8 = c.self.inside.utf8 in
     let made : List Entry → Sheet = λ players.
     record { utf8 = utf8; carried = map (carried_line utf8) (lines c.self.inside.text.now); players = players; total = c.self.inside.total; initial = c.self.inside.initial; bye = c.self.inside.bye } in
-    let same = paired-end sheet.bye boards before c.loop-player.players.entries (map entry_of c.loop-player.player-iterator) sheet.players
+    let same = turned-end (entry_with sheet.bye boards before) c.loop-player.players.entries (map entry_of c.loop-player.player-iterator) sheet.players
     (ap (map entry_of) c.in-None.ensures.steps.0) c.loop-player.invariant in
     ap made (same ∙ ap (λ n. map (entry_with sheet.bye boards n) sheet.players) c.rounds_played-before.ensures.value
     ∙ ap (λ (s : Sheet). map (entry_with s.bye boards (rounds_played s)) s.players) (sym c.self.view_is))

@@ -1,13 +1,10 @@
 use Rattle.std.proofs.Common.{◌≡◌, ℕ, ◌<◌, nat_lt, true, length, refl, arith, rules, Bool, List, ◌∙◌}
 use Rattle.std.proofs.lemmas.Bool.Decides.{nat_tests}
-use Rattle.trf16.specs.Verdict.{verdict, report_of, without_players}
+use Rattle.trf16.specs.Verdict.{laid_out, without_players}
 use Rattle.trf16.specs.Lines.{lines}
 use Rattle.trf16.specs.Sheet.{Sheet}
-use Rattle.trf16.specs.Answering.{players_fit}
 use Rattle.trf16.proofs.NoteLemmas.{tells_same}
-use Rattle.trf16.proofs.ReadingLemmas.{Fails-on, verdict-fails}
-use Rattle.std.proofs.lemmas.Result.{err_from_is_err_and}
-use Rattle.trf16.proofs.reading.read_with.Goals as goal
+use Rattle.trf16.proofs.reading.laid_out.Goals as goal
 
 -- a sheet whose players are still to be read carries the lines of its own columns
 lines_of : (sheet : Sheet) (utf8 : Bool) (all : List (List ℕ)) (bye : ℕ) → sheet ≡ without_players utf8 all bye → sheet.carried ≡ (without_players sheet.utf8 all sheet.bye).carried
@@ -17,29 +14,15 @@ above : (most count : ℕ) → most < count → nat_lt most count ≡ true
 above most count lt = grind (arith, nat_tests)
 
 pub returns-then-bytes-gt1048576 : goal.returns-then-bytes-gt1048576
-unfolding verdict
+unfolding laid_out
 returns-then-bytes-gt1048576 c = rw (above 1048576 (length c.args.bytes.now) c.if-bytes-gt1048576.true) refl
 
 pub returns-in_err-too_long : goal.returns-in_err-too_long
-unfolding verdict report_of
+unfolding laid_out
 returns-in_err-too_long c = search rules
 
-pub returns-in_err-report : goal.returns-in_err-report
-unfolding verdict report_of
-returns-in_err-report c = search rules
-
-pub returns-in_err-players_fit : goal.returns-in_err-players_fit
-returns-in_err-players_fit c =
-    let p = err_from_is_err_and c.from_residual-in_err-players_fit.result c.from_residual-in_err-players_fit.ensures.1 in
-    let text = c.skip_marks-text.result.now in
-    let report = c.in_ok-report.report in
-    rw (p.1, p.2) (Fails-on c.in_err-players_fit.field-0.0 (players_fit report report.players) (verdict c.args.bytes.now c.args.bye)
-    (λ fault e. verdict-fails c.args.bytes.now text c.args.bye c.is_utf8.result c.new-draft.result c.lines_onto.new.draft report c.in_ok-too_long.too_long fault
-    c.if-bytes-gt1048576.false c.skip_marks-text.ensures c.is_utf8.ensures c.new-draft.ensures c.in_ok-too_long.ensures.given c.in_ok-too_long.ensures.long c.in_ok-report.ensures e)
-    c.in_err-players_fit.ensures)
-
 pub returns : goal.returns
-unfolding verdict report_of
+unfolding laid_out
 returns c = search rules
 
 pub sized-requires : goal.sized-requires

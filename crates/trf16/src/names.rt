@@ -1,0 +1,36 @@
+// The names of players.
+ghost use Rattle.std.specs.Prelude.{◌≡◌};
+ghost use Rattle.trf16.specs.Lines.{columns, text};
+ghost use Rattle.trf16.specs.Fields.{without_blanks};
+ghost use Rattle.trf16.specs.Names.{name_in};
+
+use crate::columns::Line;
+use crate::fields::without_blanks;
+use crate::report::Report;
+
+// The name in what is carried of a player's line, which begins with column 9.
+fn name_of(left: &[u8], utf8: bool) -> &[u8]
+    ensures { result.now ≡ without_blanks (text (columns utf8 left.now) 7 39) }
+{
+    without_blanks(Line::new(left, utf8).text(7, 39))
+}
+
+impl<'a> Report<'a> {
+    /// Whether a column is a character: the report is UTF-8. Else a column is a byte.
+    pub fn is_utf8(&self) -> bool
+        ensures { result ≡ self.now.utf8 }
+    {
+        self.utf8
+    }
+
+    /// The name of a player: columns 15 to 47 of his line, without the blanks at its ends; empty where nothing stands there, and
+    /// where no player has the start rank.
+    pub fn name(&self, start: u16) -> &'a [u8]
+        ensures { result.now ≡ name_in self.now start }
+    {
+        match self.player(start) {
+            Some(player) => name_of(player.left, self.utf8),
+            None => &[],
+        }
+    }
+}
