@@ -12,10 +12,10 @@ _arbiter() {
             case ${COMP_CWORD},${COMP_WORDS[1]} in
                 1,*) words="check format pair candidates standings --help --version" ;;
                 *,check) words="--bye --help" ;;
-                *,format) words="--bye --help" ;;
-                *,pair) words="--rounds --initial --steps --report --bye --help" ;;
+                *,format) words="--points --bye --help" ;;
+                *,pair) words="--rounds --initial --steps --report --names --bye --help" ;;
                 *,candidates) words="--bracket --from --count --rounds --initial --steps --bye --help" ;;
-                *,standings) words="--by --bye --help" ;;
+                *,standings) words="--by --names --bye --help" ;;
             esac
             ;;
     esac

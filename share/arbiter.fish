@@ -16,3 +16,5 @@ complete -c arbiter -n '__fish_seen_subcommand_from candidates' -l from -x -d 'B
 complete -c arbiter -n '__fish_seen_subcommand_from candidates' -l count -x -d 'How many candidates to print at most'
 complete -c arbiter -n '__fish_seen_subcommand_from standings' -l by -x -a 'direct,buchholz,sb direct buchholz sb' -d 'What tells players of one score apart'
 complete -c arbiter -n '__fish_seen_subcommand_from check format pair candidates standings' -l bye -x -a '0 1 2' -d 'Half points of the bye of the pairing'
+complete -c arbiter -n '__fish_seen_subcommand_from pair standings' -l names -d 'With names, in columns for the wall'
+complete -c arbiter -n '__fish_seen_subcommand_from format' -l points -d 'Write each points field as the sum'
