@@ -3,12 +3,12 @@
 --
 -- Summing is a change of players as the round trip allows it (`Turns`). Start ranks and cells stay, so the rules on two players hold
 -- as before; each points field is the sum over the rounds that were paired, so the rule on points holds too.
-use Rattle.std.proofs.Common.{◌≡◌, ◌⊎◌, inl, inr, ℕ, ◌+◌, ◌<◌, ◌≤◌, Bool, true, false, not, ◌&&◌, ◌||◌, ◌==◌, nat_lt, max, cond, List, [], ◌∷◌, length, take, map, refl, sym, ap, ◌∙◌, subst, Option, Some, None, Result, Ok, Err}
+use Rattle.std.proofs.Common.{◌≡◌, ◌⊎◌, inl, inr, ℕ, ◌+◌, ◌≤◌, Bool, true, false, ◌&&◌, ◌||◌, ◌==◌, nat_lt, max, cond, List, [], ◌∷◌, length, take, map, refl, ap, ◌∙◌, subst, Option, Some, None, Result, Ok, Err}
 use Rattle.std.specs.Prelude.{sum_by}
 use Rattle.std.specs.List.{list_any}
 use Rattle.std.specs.Option.{option_map_or}
-use Rattle.trf16.specs.Sheet.{Entry, Sheet, known, cell_at, cell_in, cells_of, half_points, last_paired, last_paired_of, opponent_in_cell, rounds_played}
-use Rattle.trf16.specs.Answering.{has_other_points, pair_fits, cell_fits, cells_fit, points_fit, player_fits, players_fit}
+use Rattle.trf16.specs.Sheet.{Entry, Sheet, known, cell_at, cell_in, cells_of, half_points, last_paired, last_paired_of, rounds_played}
+use Rattle.trf16.specs.Answering.{has_other_points, cells_fit, points_fit, player_fits, players_fit}
 use Rattle.trf16.specs.Outcomes.{◌>>=◌}
 use Rattle.trf16.specs.Summed.{IsButForPoints, all_cells_fit, entry_summed, summed, verdict_unsummed}
 use Rattle.trf16.specs.Verdict.{laid_out, verdict}
@@ -19,7 +19,6 @@ use Rattle.trf16.specs.declared.fault.Fault.TheVariants.{Points}
 use Rattle.trf16.proofs.BoardLemmas.{eq-self}
 use Rattle.trf16.proofs.PairedRound.{fits-same}
 use Rattle.trf16.proofs.StepLemmas.{then_ok, same_ok}
-use Rattle.trf16.proofs.WrittenPlayers.{IsSoundEntry}
 use Rattle.trf16.proofs.WrittenReport.{IsLaidOutOf, Turns, laid_again, laid_of}
 
 abbrev fits : Result (Unit {0}) Fault
