@@ -52,24 +52,18 @@ fn has_met_all(report: &Report<'_>, rounds: u8, start: u16, group: &[u16]) -> bo
     requires { rounds ≡ rounds_played report.now }
     ensures { result ≡ list_all (λ other. (start == other) || have_met report.now start other) group.now }
 {
-    for other in group {
-        if start != *other && !have_met(report, rounds, start, *other) {
-            return false;
-        }
-    }
-    true
+    group
+        .iter()
+        .all(|other| start == *other || have_met(report, rounds, start, *other))
 }
 
 fn have_all_met(report: &Report<'_>, rounds: u8, group: &[u16]) -> bool
     requires { rounds ≡ rounds_played report.now }
     ensures { result ≡ have_all_met report.now group.now }
 {
-    for start in group {
-        if !has_met_all(report, rounds, *start, group) {
-            return false;
-        }
-    }
-    true
+    group
+        .iter()
+        .all(|start| has_met_all(report, rounds, *start, group))
 }
 
 // Whether a game was played against one of a group.
