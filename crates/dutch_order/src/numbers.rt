@@ -19,9 +19,7 @@ pub(crate) fn copied(numbers: &[u16]) -> Numbers
     ensures { result.items ≡ numbers.now }
 {
     let mut copy = ArrayVec::new();
-    for number in numbers {
-        copy.push(*number);
-    }
+    fill(&mut copy, numbers);
     copy
 }
 
@@ -31,9 +29,8 @@ pub(crate) fn fill(list: &mut Numbers, numbers: &[u16])
     ensures { list.new.items ≡ numbers.now }
 {
     list.clear();
-    for number in numbers {
-        list.push(*number);
-    }
+    // there is room
+    let _all = list.try_extend_from_slice(numbers);
 }
 
 /// So many numbers from a first one on.
