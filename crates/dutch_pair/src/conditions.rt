@@ -26,12 +26,7 @@ pub fn are_left(reached: &Reached, down: &[u16]) -> bool
 fn are_seats(field: &Field, seats: &[u16]) -> bool
     ensures { result ≡ true → AreSeats field.now seats.now }
 {
-    for seat in seats {
-        if usize::from(*seat) >= field.len() {
-            return false;
-        }
-    }
-    true
+    seats.iter().all(|seat| usize::from(*seat) < field.len())
 }
 
 /// Whether all seats have a score.

@@ -136,9 +136,8 @@ pub(crate) fn push_all(more: &[u16], seats: &mut Seats)
     requires { array_vec_len seats.old + length more.now ≤ LIMIT }
     ensures { seats.new.items ≡ seats.old.items ++ more.now }
 {
-    for seat in more {
-        seats.push(*seat);
-    }
+    // there is room
+    let _all = seats.try_extend_from_slice(more);
 }
 
 /// A bracket of some moved down and some residents.
