@@ -6,7 +6,7 @@ ghost use Rattle.dutch_player.specs.Colours.{strength, distance, is_stronger, al
 
 use crate::colour_rule::ColourRule;
 use crate::meetings::is_absolute;
-use crate::preference::{Kind, Pref, blacks, is_same, other, preference, whites};
+use crate::preference::{Kind, Pref, blacks, is_same, other, whites};
 use crate::seat::Seat;
 use trf16::cell::Colour;
 
@@ -146,13 +146,7 @@ fn by_preferences(
 pub(crate) fn decided(initial: Colour, high: &Seat, low: &Seat) -> Decision
     ensures { result ≡ decided initial (facts_in high.now) (facts_in low.now) }
 {
-    by_preferences(
-        initial,
-        high,
-        low,
-        preference(&high.played),
-        preference(&low.played),
-    )
+    by_preferences(initial, high, low, high.preference, low.preference)
 }
 
 /// Who has white and who has black, where the first gets a colour.

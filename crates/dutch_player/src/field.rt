@@ -12,7 +12,7 @@ use crate::colours::{Decision, decided, with_colour};
 use crate::fault::FieldFault;
 use crate::float::Float;
 use crate::meetings::{are_apart, clash, have_met};
-use crate::preference::{Pref, difference, last_two, preference};
+use crate::preference::{Pref, difference, last_two};
 use crate::present::seats_of;
 use crate::refusals::total_for;
 use crate::seat::Seat;
@@ -141,7 +141,7 @@ impl Field {
         requires { seat < length self.now.seats }
         ensures { result ≡ preference (seat_at self.now seat).played }
     {
-        preference(&self.seat(seat).played)
+        self.seat(seat).preference
     }
 
     /// Whether the player is a topscorer (A.7): more than half of the points that could be had, and only the last round is left.

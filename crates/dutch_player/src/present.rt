@@ -5,6 +5,7 @@ ghost use Rattle.dutch_player.specs.SeatOf.{facts_in};
 ghost use Rattle.dutch_player.specs.Facts.{seat_of, seats_of, ranked};
 
 use crate::history::{float_in, may_bye, opponents, played};
+use crate::preference::preference;
 use crate::ranking::ranked;
 use crate::seat::Seat;
 use std::alloc::{AllocError, Global};
@@ -28,6 +29,7 @@ fn seat_of(
     Ok(Seat {
         start: player.start,
         score: report.points_over(cells),
+        preference: preference(&played),
         played,
         opponents,
         apart: report.apart_from(alloc, player.start)?,

@@ -1,7 +1,9 @@
 // A present player, and his rank among others (C.04.3 A.2).
 ghost use Rattle.std.specs.Prelude.{◌≡◌, ◌≤◌, vec_len};
+ghost use Rattle.dutch_player.specs.Preferences.{preference as preference_of};
 
 use crate::float::Float;
+use crate::preference::Pref;
 use trf16::cell::Colour;
 
 /// What the rounds that were paired make of a player.
@@ -12,6 +14,8 @@ pub(crate) struct Seat {
     pub(crate) score: u16,
     // of the games played, the last game first
     pub(crate) played: Vec<Colour>,
+    // what those come to, worked out once
+    pub(crate) preference: Option<Pref>,
     // start ranks of those whom he has met
     pub(crate) opponents: Vec<u16>,
     // start ranks of those from whom a line `XXP` keeps him apart
@@ -22,4 +26,5 @@ pub(crate) struct Seat {
     pub(crate) may_bye: bool,
     ghost few_points: { score ≤ 64 },
     ghost few_games: { vec_len played ≤ 32 },
+    ghost preference_is: { preference ≡ preference_of played.items },
 }
