@@ -1,18 +1,20 @@
 -- The numbers of a cursor's text: printed ones are read back, and what is read is what is printed.
-use Rattle.std.proofs.Common.{◌≡◌, ◌≢◌, ℕ, zero, suc, ◌+◌, ◌-◌, ◌*◌, ◌/◌, ◌%◌, ◌≤◌, Bool, true, false, not, ◌&&◌, ◌==◌, cond, List, [], ◌∷◌, ◌++◌, map, length, refl, sym, ap, ◌∙◌, arith, inl, inr, subst, Option, Some, None}
+use Rattle.std.proofs.Common.{◌≡◌, ◌≢◌, ℕ, zero, suc, ◌+◌, ◌-◌, ◌*◌, ◌/◌, ◌%◌, ◌≤◌, Bool, true, false, not, ◌&&◌, ◌==◌, cond, List, [], ◌∷◌, ◌++◌, map, length, refl, sym, ap, ◌∙◌, arith, inl, inr, subst, append_assoc, Option, Some, None}
 use Rattle.std.specs.Prelude.{nat_le}
 use Rattle.std.specs.Fmt.{decimal, digits}
 use Rattle.std.specs.List.{list_all, AllByRecursion}
 use Rattle.std.specs.Char.{is_ascii_digit}
+use Rattle.std.proofs.lemmas.List.{append-nil}
 use Rattle.std.proofs.lemmas.Bool.{cases_lt, and_parts, eqb-true, leb-true, true≢false, eq-eqb, not-true}
 use Rattle.std.proofs.lemmas.Bool.Decides.{nat_tests}
 use Rattle.std.proofs.lemmas.Fmt.{decimal_digit, decimal_step}
 use Rattle.dutch_order.specs.Cursors.{number_after, is_numeral, number_of, numbers_of, ◌>>=◌}
+use Rattle.dutch_order.specs.declared.numbers.TheConstants.{LIMIT}
 
 -- the numbers that a cursor may have
 pub record IsNumber (n : ℕ) : Type 0 where
   pub some : 1 ≤ n
-  pub few : n ≤ 256
+  pub few : n ≤ LIMIT
 
 is_self : Option ℕ → ℕ → Bool
 is_self (Some read) n = read == n
@@ -25,9 +27,9 @@ all_read : ℕ → Bool
 all_read zero = true
 all_read (suc n) = reads (suc n) && all_read n
 
-all_read_256 : all_read 256 ≡ true
+all_read_limit : all_read LIMIT ≡ true
 unfolding all_read reads is_self digits
-all_read_256 = refl
+all_read_limit = refl
 
 reads_up_to : (n : ℕ) → all_read n ≡ true → (number : ℕ) → 1 ≤ number → number ≤ n → reads number ≡ true
 unfolding all_read
@@ -46,7 +48,7 @@ self_read (Some read) n h = ap Some (eqb-true read n h)
 
 pub number_of-decimal : (n : ℕ) → IsNumber n → number_of (decimal n) ≡ Some n
 unfolding reads
-number_of-decimal n is = self_read (number_of (decimal n)) n (reads_up_to 256 all_read_256 n is.some is.few)
+number_of-decimal n is = self_read (number_of (decimal n)) n (reads_up_to LIMIT all_read_limit n is.some is.few)
 
 pub numbers_of-decimals : (xs : List ℕ) → AllByRecursion IsNumber xs → numbers_of (map decimal xs) ≡ Some xs
 numbers_of-decimals [] all = refl
@@ -56,7 +58,7 @@ numbers_of-decimals (x ∷ xs) all =
 -- a word that is read
 pub record IsRead (word : List ℕ) (n : ℕ) : Type 0 where
   pub numeral : is_numeral word ≡ true
-  pub few : number_after 0 word ≤ 256
+  pub few : number_after 0 word ≤ LIMIT
   pub value : number_after 0 word ≡ n
 
 some_same : (x y : ℕ) → Some x ≡ Some y → x ≡ y
@@ -65,14 +67,14 @@ some_same x y h = cc
 none_some : {X : Type 0} (x : X) → None ≡ Some x → ⊥
 none_some x h = cc
 
-cond_read : (word : List ℕ) (b : Bool) (n : ℕ) → (is_numeral word && nat_le (number_after 0 word) 256) ≡ b → cond b (Some (number_after 0 word)) None ≡ Some n → IsRead word n
+cond_read : (word : List ℕ) (b : Bool) (n : ℕ) → (is_numeral word && nat_le (number_after 0 word) LIMIT) ≡ b → cond b (Some (number_after 0 word)) None ≡ Some n → IsRead word n
 cond_read word true n same h =
-    let both = and_parts (is_numeral word) (nat_le (number_after 0 word) 256) same in
-    record { numeral = both.0; few = leb-true (number_after 0 word) 256 both.1; value = some_same (number_after 0 word) n h }
+    let both = and_parts (is_numeral word) (nat_le (number_after 0 word) LIMIT) same in
+    record { numeral = both.0; few = leb-true (number_after 0 word) LIMIT both.1; value = some_same (number_after 0 word) n h }
 cond_read word false n same h = absurd (none_some n h)
 
 pub is_read : (word : List ℕ) (n : ℕ) → number_of word ≡ Some n → IsRead word n
-is_read word n h = cond_read word (is_numeral word && nat_le (number_after 0 word) 256) n refl h
+is_read word n h = cond_read word (is_numeral word && nat_le (number_after 0 word) LIMIT) n refl h
 
 digit : (b : ℕ) → is_ascii_digit b ≡ true → (48 ≤ b) × (b ≤ 57)
 digit b h = grind (arith, nat_tests)
@@ -80,45 +82,40 @@ digit b h = grind (arith, nat_tests)
 first_digit : (b : ℕ) → not (b == 48) ≡ true → b ≢ 48
 first_digit b h same = true≢false (sym (eq-eqb b 48 same) ∙ not-true (b == 48) h)
 
-step : (n : ℕ) → 10 ≤ n → n ≤ 256 → (front : ℕ) (last : ℕ) → n / 10 ≡ front → 48 + n % 10 ≡ last → decimal n ≡ decimal front ++ last ∷ []
+step : (n : ℕ) → 10 ≤ n → n ≤ LIMIT → (front : ℕ) (last : ℕ) → n / 10 ≡ front → 48 + n % 10 ≡ last → decimal n ≡ decimal front ++ last ∷ []
 step n some few front last tens ones =
     decimal_step n some (omega arith) ∙ ap (λ f. decimal f ++ (48 + n % 10) ∷ []) tens ∙ ap (λ l. decimal front ++ l ∷ []) ones
 
 one_digit : (a : ℕ) → 48 ≤ a → a ≤ 57 → decimal (a - 48) ≡ a ∷ []
 one_digit a low high = decimal_digit (a - 48) (omega arith) ∙ ap (λ d. d ∷ []) (let e : 48 + (a - 48) ≡ a = omega arith in e)
 
+above : (front : ℕ) (rest : List ℕ) → front ≤ number_after front rest
+above front [] = omega arith
+above front (c ∷ rest) = omega (arith, above (10 * front + (c - 48)) rest)
+
+longer : (front : ℕ) (word rest : List ℕ) → 1 ≤ front → decimal front ≡ word → list_all is_ascii_digit rest ≡ true → number_after front rest ≤ LIMIT
+    → decimal (number_after front rest) ≡ word ++ rest
+longer front word [] some same all few = same ∙ sym (append-nil word)
+longer front word (c ∷ rest) some same all few =
+    let both = and_parts (is_ascii_digit c) (list_all is_ascii_digit rest) all in
+    let is = digit c both.0 in
+    let n = 10 * front + (c - 48) in
+    let next : decimal n ≡ word ++ c ∷ [] =
+    step n (omega arith) (omega (arith, above n rest)) front c (omega (arith, is.0, is.1)) (omega (arith, is.0, is.1)) ∙ ap (λ f. f ++ c ∷ []) same in
+    longer n (word ++ c ∷ []) rest (omega arith) next both.1 few ∙ append_assoc word (c ∷ []) rest
+
 -- what is read is what is printed
-pub decimal-read : (word : List ℕ) → is_numeral word ≡ true → number_after 0 word ≤ 256 → (decimal (number_after 0 word) ≡ word) × (1 ≤ number_after 0 word)
+pub decimal-read : (word : List ℕ) → is_numeral word ≡ true → number_after 0 word ≤ LIMIT → (decimal (number_after 0 word) ≡ word) × (1 ≤ number_after 0 word)
 decimal-read [] h few = absurd (true≢false (sym h))
 decimal-read (a ∷ rest) h few =
-    let first = and_parts (not (a == 48)) (nat_le (length rest) 2 && list_all is_ascii_digit (a ∷ rest)) h in
-    let second = and_parts (nat_le (length rest) 2) (list_all is_ascii_digit (a ∷ rest)) first.1 in
+    let first = and_parts (not (a == 48)) (nat_le (length rest) 3 && list_all is_ascii_digit (a ∷ rest)) h in
+    let second = and_parts (nat_le (length rest) 3) (list_all is_ascii_digit (a ∷ rest)) first.1 in
     let third = and_parts (is_ascii_digit a) (list_all is_ascii_digit rest) second.1 in
-    behind rest (leb-true (length rest) 2 second.0) third.1 few (digit a third.0).0 (digit a third.0).1 (first_digit a first.0)
-  where
-    behind : (rest : List ℕ) → length rest ≤ 2 → list_all is_ascii_digit rest ≡ true → number_after 0 (a ∷ rest) ≤ 256 → 48 ≤ a → a ≤ 57 → a ≢ 48
-        → (decimal (number_after 0 (a ∷ rest)) ≡ a ∷ rest) × (1 ≤ number_after 0 (a ∷ rest))
-    behind [] short all few low high apart =
-        let value : 10 * 0 + (a - 48) ≡ a - 48 = omega arith in
-        let some : 1 ≤ a - 48 = omega (arith, apart) in
-        (ap decimal value ∙ one_digit a low high, omega (arith, some))
-    behind (b ∷ []) short all few low high apart =
-        let second = digit b (and_parts (is_ascii_digit b) true all).0 in
-        let n = 10 * (10 * 0 + (a - 48)) + (b - 48) in
-        let some : 1 ≤ a - 48 = omega (arith, apart) in
-        (step n (omega (arith, some)) few (a - 48) b (omega (arith, second.0, second.1)) (omega (arith, second.0, second.1)) ∙ ap (λ front. front ++ b ∷ []) (one_digit a low high), omega (arith, some))
-    behind (b ∷ c ∷ []) short all few low high apart =
-        let both = and_parts (is_ascii_digit b) (is_ascii_digit c && true) all in
-        let second = digit b both.0 in
-        let third = digit c (and_parts (is_ascii_digit c) true both.1).0 in
-        let m = 10 * (a - 48) + (b - 48) in
-        let n = 10 * (10 * (10 * 0 + (a - 48)) + (b - 48)) + (c - 48) in
-        let some : 1 ≤ a - 48 = omega (arith, apart) in (
-          step n (omega (arith, some)) few m c (omega (arith, second.0, second.1, third.0, third.1)) (omega (arith, second.0, second.1, third.0, third.1))
-              ∙ ap (λ front. front ++ c ∷ []) (step m (omega (arith, some)) (omega (arith, few)) (a - 48) b (omega (arith, second.0, second.1)) (omega (arith, second.0, second.1)) ∙ ap (λ front. front ++ b ∷ []) (one_digit a low high)),
-          omega (arith, some),
-        )
-    behind (b ∷ c ∷ d ∷ rest) short all few low high apart = absurd (omega arith)
+    let is = digit a third.0 in
+    let apart : a ≢ 48 = first_digit a first.0 in
+    let value : 10 * 0 + (a - 48) ≡ a - 48 = omega arith in
+    let some : 1 ≤ 10 * 0 + (a - 48) = omega (arith, is.0, apart) in
+    (longer (10 * 0 + (a - 48)) (a ∷ []) rest some (ap decimal value ∙ one_digit a is.0 is.1) third.1 few, omega (arith, some, above (10 * 0 + (a - 48)) rest))
 
 pub word_of : (word : List ℕ) (n : ℕ) → number_of word ≡ Some n → (word ≡ decimal n) × IsNumber n
 word_of word n h =

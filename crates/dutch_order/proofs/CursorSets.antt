@@ -14,6 +14,7 @@ use Rattle.dutch_order.specs.declared.cursor.CursorFault.TheVariants.{NotOfBrack
 use Rattle.dutch_order.proofs.HalfWalks.{Climbs}
 use Rattle.dutch_order.proofs.StageSets.{Climbs-length}
 use Rattle.dutch_order.proofs.Orders.{Rises, all_members, member_has, IsIn-append, IsIn-front, IsIn-back, IsIn-map, map-IsIn, IsIn-flat_map, flat_map-IsIn}
+use Rattle.dutch_order.specs.declared.numbers.TheConstants.{LIMIT}
 
 -- membership, as a test and as a fact
 pub member-in : (x : ℕ) (xs : List ℕ) → is_member x xs ≡ true → IsIn x xs
@@ -251,19 +252,19 @@ lists-are frame shape a h =
 pub left-within : (pool taken : List ℕ) → Within pool (left_of pool taken)
 left-within pool taken x m = (kept-in (λ y. not (is_member y taken)) x pool m).0
 
-pub of-short : (frame : Frame) (shape : Shape) (a : Arrangement) → frame.mdps ≤ 256 → length frame.scores - frame.mdps ≤ 256 → is_of frame shape a ≡ true → is_short a ≡ true
+pub of-short : (frame : Frame) (shape : Shape) (a : Arrangement) → frame.mdps ≤ LIMIT → length frame.scores - frame.mdps ≤ LIMIT → is_of frame shape a ≡ true → is_short a ≡ true
 of-short frame shape a few_down few h =
     let are = lists-are frame shape a h in
     let short1 : length a.s1 ≤ frame.mdps = set-short 1 frame.mdps a.s1 are.s1.rises are.s1.within in
     let short1r : length a.s1r ≤ length frame.scores - frame.mdps =
     set-short (frame.mdps + 1) (length frame.scores - frame.mdps) a.s1r are.s1r.rises (λ x m. left-within (residents_of frame) a.s2 x (are.s1r.within x m)) in
-    and_from (nat_le (length a.s1) 256) (nat_le (length a.s2) 256 && (nat_le (length a.s1r) 256 && nat_le (length a.s2r) 256)) (le-leb (length a.s1) 256 (omega (arith, short1)))
-    (and_from (nat_le (length a.s2) 256) (nat_le (length a.s1r) 256 && nat_le (length a.s2r) 256) (le-leb (length a.s2) 256 (omega (arith, short1, are.s1.count, are.s2.count)))
-    (and_from (nat_le (length a.s1r) 256) (nat_le (length a.s2r) 256) (le-leb (length a.s1r) 256 (omega (arith, short1r)))
-    (le-leb (length a.s2r) 256 (omega (arith, short1r, are.s1r.count, are.s2r.count)))))
+    and_from (nat_le (length a.s1) LIMIT) (nat_le (length a.s2) LIMIT && (nat_le (length a.s1r) LIMIT && nat_le (length a.s2r) LIMIT)) (le-leb (length a.s1) LIMIT (omega (arith, short1)))
+    (and_from (nat_le (length a.s2) LIMIT) (nat_le (length a.s1r) LIMIT && nat_le (length a.s2r) LIMIT) (le-leb (length a.s2) LIMIT (omega (arith, short1, are.s1.count, are.s2.count)))
+    (and_from (nat_le (length a.s1r) LIMIT) (nat_le (length a.s2r) LIMIT) (le-leb (length a.s1r) LIMIT (omega (arith, short1r)))
+    (le-leb (length a.s2r) LIMIT (omega (arith, short1r, are.s1r.count, are.s2r.count)))))
 
 -- an arrangement with a longer list is not of the bracket
-pub not_of : (frame : Frame) (shape : Shape) (read : Option Arrangement) → frame.mdps ≤ 256 → length frame.scores - frame.mdps ≤ 256 → is_some read ≡ true → IfSome read (λ a. is_short a ≡ false)
+pub not_of : (frame : Frame) (shape : Shape) (read : Option Arrangement) → frame.mdps ≤ LIMIT → length frame.scores - frame.mdps ≤ LIMIT → is_some read ≡ true → IfSome read (λ a. is_short a ≡ false)
     → of_bracket frame shape read ≡ Err NotOfBracket
 not_of frame shape None few_down few some long = absurd (true≢false (sym some))
 not_of frame shape (Some a) few_down few some long =

@@ -36,8 +36,8 @@ pub record IsPrinted (bytes : List ℕ) : Type 0 where
 printed-numeral : (bytes : List ℕ) → is_numeral bytes ≡ true → IsPrinted bytes
 printed-numeral [] h = absurd (true≢false (sym h))
 printed-numeral (b ∷ bytes) h =
-    let one = and_parts (not (b == 48)) (nat_le (length bytes) 2 && list_all is_ascii_digit (b ∷ bytes)) h in
-    let two = and_parts (nat_le (length bytes) 2) (list_all is_ascii_digit (b ∷ bytes)) one.1 in
+    let one = and_parts (not (b == 48)) (nat_le (length bytes) 3 && list_all is_ascii_digit (b ∷ bytes)) h in
+    let two = and_parts (nat_le (length bytes) 3) (list_all is_ascii_digit (b ∷ bytes)) one.1 in
     record {
       first = b;
       rest = bytes;

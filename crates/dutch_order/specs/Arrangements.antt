@@ -5,6 +5,7 @@ use Rattle.dutch_order.specs.Transposition.{all_tuples}
 use Rattle.dutch_order.specs.Exchange.{exchanges}
 use Rattle.dutch_order.specs.Limbo.{limbo_exchanges, IsNonAscending}
 use Rattle.dutch_order.specs.declared.bracket.Shape.{Shape}
+use Rattle.dutch_order.specs.declared.numbers.TheConstants.{LIMIT}
 
 -- A.3: a bracket: the scores of its players by rank, those moved down first; how many were moved down; and whether at most one
 -- player may be left over in it, as in the last one and in a collapsed one
@@ -48,9 +49,9 @@ pub record Fits (frame : Frame) (shape : Shape) : Type 0 where
   pub within_moved_down : shape.mdps ≤ frame.mdps
   pub residents_enough : shape.mdps + 2 * remainder_pairs shape ≤ length frame.scores - frame.mdps
 
--- A.3: a list of scores as a bracket has it: at most 256, not ascending, that of each moved-down player above that of each resident
+-- A.3: a list of scores as a bracket has it: at most LIMIT, not ascending, that of each moved-down player above that of each resident
 pub record IsBracket (scores : List ℕ) (mdps : ℕ) : Type 0 where
-  pub few : length scores ≤ 256
+  pub few : length scores ≤ LIMIT
   pub within : mdps ≤ length scores
   pub descends : IsNonAscending scores
   pub above : (i j : ℕ) → i < mdps → mdps ≤ j → j < length scores → slice_index scores j < slice_index scores i

@@ -2,11 +2,12 @@
 -- of its promise may pass by.
 use Rattle.std.specs.Prelude.{ℕ, ◌<◌, ◌&&◌, Bool, nat_le, List, length, Option, IfSome}
 use Rattle.dutch_order.specs.Arrangements.{Arrangement}
+use Rattle.dutch_order.specs.declared.numbers.TheConstants.{LIMIT}
 
--- where there is a list, it has more than 256 numbers
+-- where there is a list, it has more than LIMIT numbers
 abbrev pub IsLong : Option (List ℕ) → Type 0
-IsLong list = IfSome list (λ numbers. 256 < length numbers)
+IsLong list = IfSome list (λ numbers. LIMIT < length numbers)
 
--- whether each list of an arrangement has at most 256 numbers
+-- whether each list of an arrangement has at most LIMIT numbers
 abbrev pub is_short : Arrangement → Bool
-is_short a = nat_le (length a.s1) 256 && (nat_le (length a.s2) 256 && (nat_le (length a.s1r) 256 && nat_le (length a.s2r) 256))
+is_short a = nat_le (length a.s1) LIMIT && (nat_le (length a.s2) LIMIT && (nat_le (length a.s1r) LIMIT && nat_le (length a.s2r) LIMIT))

@@ -9,6 +9,7 @@ use Rattle.dutch_order.specs.Arrangements.{Frame, Arrangement, residents_of, lef
 use Rattle.dutch_order.specs.declared.bracket.Shape.{Shape}
 use Rattle.dutch_order.specs.declared.cursor.CursorFault.{CursorFault}
 use Rattle.dutch_order.specs.declared.cursor.CursorFault.TheVariants.{Syntax, NotOfBracket}
+use Rattle.dutch_order.specs.declared.numbers.TheConstants.{LIMIT}
 
 -- a list: its numbers with commas between them, or 0 alone where it has none
 abbrev pub list_text : List ℕ → List ℕ
@@ -34,14 +35,14 @@ abbrev pub number_after : ℕ → List ℕ → ℕ
 number_after front [] = front
 number_after front (digit ∷ rest) = number_after (10 * front + (digit - byte "0")) rest
 
--- one to three digits, of which the first is not 0
+-- one to four digits, of which the first is not 0
 abbrev pub is_numeral : List ℕ → Bool
 is_numeral [] = false
-is_numeral (first ∷ rest) = not (first == byte "0") && (nat_le (length rest) 2 && list_all is_ascii_digit (first ∷ rest))
+is_numeral (first ∷ rest) = not (first == byte "0") && (nat_le (length rest) 3 && list_all is_ascii_digit (first ∷ rest))
 
--- the number that a part of a list spells: 1 to 256, without leading zeros
+-- the number that a part of a list spells: 1 to LIMIT, without leading zeros
 abbrev pub number_of : List ℕ → Option ℕ
-number_of word = if is_numeral word && nat_le (number_after 0 word) 256 then Some (number_after 0 word) else None
+number_of word = if is_numeral word && nat_le (number_after 0 word) LIMIT then Some (number_after 0 word) else None
 
 -- what comes of a value, where there is one
 infixl 10 ◌>>=◌

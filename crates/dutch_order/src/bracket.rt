@@ -39,7 +39,7 @@ impl Model for Bracket {
 }
 
 impl Bracket {
-    /// A bracket of players with these scores in half points, at most 256, which do not ascend. The first `mdps` of them are moved
+    /// A bracket of players with these scores in half points, at most `LIMIT`, which do not ascend. The first `mdps` of them are moved
     /// down, so their scores are above those of the residents. `last` says that it may leave over at most one player, as the last
     /// bracket of a round and a collapsed one.
     pub fn new(scores: &[u16], mdps: usize, last: bool) -> Bracket
@@ -57,7 +57,7 @@ impl Bracket {
         }
     }
 
-    /// How many players there are: at most 256.
+    /// How many players there are: at most `LIMIT`.
     pub fn len(&self) -> usize
         ensures { result ≡ length self.now.scores }
     {

@@ -34,7 +34,7 @@ impl Model for Cursor {
 /// Why a text is no cursor of a bracket and shape.
 #[derive(Debug, Clone, Copy, PartialEq, Eq, Error)]
 pub enum CursorFault {
-    /// The text has not the form of a cursor, or a number in it is over 256.
+    /// The text has not the form of a cursor, or a number in it is over `LIMIT`.
     #[error("bad cursor")]
     Syntax,
     /// The lists are no arrangement of the bracket and shape.
@@ -76,9 +76,9 @@ fn split_part(text: &[u8], separator: u8) -> Option<(&[u8], &[u8])>
     Some((part, rest.split_at(1).1))
 }
 
-// The number that one to three digits spell.
+// The number that one to four digits spell.
 fn number_after(digits: &[u8]) -> u16
-    requires few { length digits.now ≤ 3 }
+    requires few { length digits.now ≤ 4 }
     requires decimal { list_all is_ascii_digit digits.now ≡ true }
     ensures { result ≡ number_after 0 digits.now }
 {
@@ -95,13 +95,13 @@ fn has_digits_alone(word: &[u8]) -> bool
     word.iter().all(|byte| byte.is_ascii_digit())
 }
 
-// Whether a word is one to three digits, of which the first is not 0.
+// Whether a word is one to four digits, of which the first is not 0.
 fn is_numeral(word: &[u8]) -> bool
     ensures { result ≡ is_numeral word.now }
 {
     match word {
         [] => false,
-        [first, rest @ ..] => *first != b'0' && rest.len() <= 2 && has_digits_alone(word),
+        [first, rest @ ..] => *first != b'0' && rest.len() <= 3 && has_digits_alone(word),
     }
 }
 
@@ -297,7 +297,7 @@ fn push_others(text: &mut CursorText, others: &[u16])
     }
 }
 
-// Appends a list to a text. It leaves room for a slash of what six bytes a number and 256 numbers take.
+// Appends a list to a text. It leaves room for a slash of what six bytes a number and `LIMIT` numbers take.
 fn push_list(text: &mut CursorText, numbers: &[u16])
     requires few { length numbers.now ≤ LIMIT }
     requires room { array_string_len text.old + 6 * LIMIT ≤ TEXT_LIMIT }
@@ -346,7 +346,7 @@ impl Cursor {
         }
     }
 
-    /// Whether a text has the form of a cursor, of whatever bracket: four lists joined by `/`, each of them numbers from 1 to 256
+    /// Whether a text has the form of a cursor, of whatever bracket: four lists joined by `/`, each of them numbers from 1 to `LIMIT`
     /// joined by `,`, or `0` alone where it is empty.
     pub fn syntax(text: &str) -> bool
         ensures { result ≡ has_syntax text.now }

@@ -1,4 +1,4 @@
-// The numbers of players, of which a bracket has 256 at most, and lists of them.
+// The numbers of players, of which a bracket has `LIMIT` at most, and lists of them.
 ghost use Rattle.std.specs.Prelude.{◌≡◌, ◌+◌, ◌≤◌, ℕ, length, true};
 ghost use Rattle.std.specs.List.Sorted.{IsStrictlyIncreasing};
 ghost use Rattle.dutch_order.specs.Arrangements.{left_of};
@@ -8,7 +8,7 @@ ghost use Rattle.dutch_order.specs.declared.numbers.TheConstants.{LIMIT};
 use arrayvec::ArrayVec;
 
 /// The most players of a bracket, and the most numbers that a generator chooses from.
-pub const LIMIT: usize = 256;
+pub const LIMIT: usize = 1024;
 
 /// Numbers of players, as a generator hands them out.
 pub type Numbers = ArrayVec<u16, LIMIT>;
