@@ -45,7 +45,7 @@ struct Reach {
 }
 
 /// What can still come where a place is tried for a number moved out.
-fn reach_out(pool: &[u16], k: usize, size: usize, path: &[usize], place: usize) -> Reach
+fn reach_out(pool: &[u16], k: usize, size: usize, path: &[u16], place: usize) -> Reach
     requires few { length pool.now ≤ LIMIT }
     requires enough { k ≤ length pool.now }
     requires outs { size ≤ k }
@@ -69,7 +69,7 @@ fn reach_out(pool: &[u16], k: usize, size: usize, path: &[usize], place: usize) 
 }
 
 /// What can still come where a place is tried for a number moved in.
-fn reach_in(pool: &[u16], k: usize, size: usize, path: &[usize], place: usize) -> Reach
+fn reach_in(pool: &[u16], k: usize, size: usize, path: &[u16], place: usize) -> Reach
     requires few { length pool.now ≤ LIMIT }
     requires enough { k ≤ length pool.now }
     requires outs { size ≤ k }
@@ -108,7 +108,7 @@ struct Stage<'a> {
 }
 
 /// What can still come where a place is tried in a stage.
-fn reach_of(stage: &Stage<'_>, path: &[usize], place: usize) -> Reach
+fn reach_of(stage: &Stage<'_>, path: &[u16], place: usize) -> Reach
     requires opened { IsOpen (exchange_plan stage.now.pool.now stage.now.k stage.now.size stage.now.difference) path.now }
     requires tried { place < (exchange_plan stage.now.pool.now stage.now.k stage.now.size stage.now.difference).stop path.now }
     ensures least { result.least ≡ least_at stage.now.pool.now stage.now.k stage.now.size path.now place }
@@ -134,21 +134,21 @@ impl<'a> Tree for Stage<'a> {
         self.size + self.size
     }
 
-    fn start(&self, path: &[usize]) -> usize {
+    fn start(&self, path: &[u16]) -> usize {
         first_of_half(self.size, path)
     }
 
-    fn stop(&self, path: &[usize]) -> usize {
+    fn stop(&self, path: &[u16]) -> usize {
         end_of_half(self.size, self.k, self.pool.len() - self.k, path)
     }
 
-    fn admits(&self, path: &[usize], place: usize) -> bool {
-        let reach = reach_of(self, path, place);
+    fn admits(&self, path: &[u16], place: u16) -> bool {
+        let reach = reach_of(self, path, place as usize);
         reach.least <= self.difference && self.difference <= reach.greatest
     }
 
-    fn beyond(&self, path: &[usize], place: usize) -> Option<usize> {
-        let reach = reach_of(self, path, place);
+    fn beyond(&self, path: &[u16], place: u16) -> Option<usize> {
+        let reach = reach_of(self, path, place as usize);
         if self.difference < reach.least {
             Some(reach.least)
         } else {
@@ -210,7 +210,7 @@ fn out_places(pool: &[u16], k: usize, set: &[u16]) -> Path
     let mut places = ArrayVec::new();
     for place in 0..k {
         if !set.contains(&pool[k - 1 - place]) {
-            places.push(place);
+            places.push(place as u16);
         }
     }
     places
@@ -227,7 +227,7 @@ fn in_places(pool: &[u16], k: usize, set: &[u16]) -> Path
     let mut places = ArrayVec::new();
     for place in 0..pool.len() - k {
         if set.contains(&pool[k + place]) {
-            places.push(place);
+            places.push(place as u16);
         }
     }
     places
@@ -349,7 +349,7 @@ fn next_set(pool: &[u16], k: usize, place: &mut Place, budget: &mut Budget) -> S
 }
 
 /// The original numbers that were not moved out, lowest first.
-fn kept(pool: &[u16], k: usize, outs: &[usize]) -> Numbers
+fn kept(pool: &[u16], k: usize, outs: &[u16]) -> Numbers
     requires few { length pool.now ≤ LIMIT }
     requires enough { k ≤ length pool.now }
     ensures items { result.items ≡ kept_of pool.now k outs.now }
@@ -358,7 +358,7 @@ fn kept(pool: &[u16], k: usize, outs: &[usize]) -> Numbers
     let mut numbers = ArrayVec::new();
     for position in 0..k {
         let place = k - 1 - position;
-        if !outs.contains(&place) {
+        if !outs.contains(&(place as u16)) {
             numbers.push(pool[position]);
         }
     }
@@ -366,7 +366,7 @@ fn kept(pool: &[u16], k: usize, outs: &[usize]) -> Numbers
 }
 
 /// The set that an exchange makes of the original one.
-fn exchanged(pool: &[u16], k: usize, outs: &[usize], ins: &[usize]) -> Numbers
+fn exchanged(pool: &[u16], k: usize, outs: &[u16], ins: &[u16]) -> Numbers
     requires few { length pool.now ≤ LIMIT }
     requires enough { k ≤ length pool.now }
     requires within { AllByRecursion (λ place. place < length pool.now - k) ins.now }
@@ -375,7 +375,7 @@ fn exchanged(pool: &[u16], k: usize, outs: &[usize], ins: &[usize]) -> Numbers
 {
     let mut numbers = kept(pool, k, outs);
     for place in ins {
-        numbers.push(pool[k + *place]);
+        numbers.push(pool[k + *place as usize]);
     }
     numbers
 }

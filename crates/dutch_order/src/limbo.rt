@@ -17,14 +17,14 @@ use arrayvec::ArrayVec;
 use std::marker::Model;
 
 /// How many places at the front of a list have a score.
-fn front_with(scores: &[u16], score: u16, places: &[usize]) -> usize
+fn front_with(scores: &[u16], score: u16, places: &[u16]) -> usize
     requires within { AllByRecursion (λ place. place < length scores.now) places.now }
     ensures count { result ≡ front_with scores.now score places.now }
     ensures few { result ≤ length places.now }
 {
     let mut count = 0;
     for place in places {
-        if scores[*place] != score {
+        if scores[*place as usize] != score {
             return count;
         }
         count += 1;
@@ -33,10 +33,8 @@ fn front_with(scores: &[u16], score: u16, places: &[usize]) -> usize
 }
 
 /// Whether a place may be the next one of a first set: it follows the last one, or is the first of its score.
-fn place_leads(scores: &[u16], k: usize, path: &[usize], place: usize) -> bool
-    requires within { AllByRecursion (λ place. place < length scores.now) path.now }
-    requires narrow { length scores.now ≤ LIMIT }
-    requires tried { place < length scores.now }
+fn place_leads(scores: &[u16], k: usize, path: &[u16], place: usize) -> bool
+    requires { place < length scores.now }
     ensures { result ≡ leads scores.now k path.now place }
 {
     place == first_of_half(k, path) || place == 0 || scores[place - 1] != scores[place]
@@ -44,7 +42,7 @@ fn place_leads(scores: &[u16], k: usize, path: &[usize], place: usize) -> bool
 
 /// Whether a place may be the next one of a set: it has the score of its place in the first set, and leaves as many of that score
 /// as must follow.
-fn place_mirrors(scores: &[u16], k: usize, path: &[usize], place: usize) -> bool
+fn place_mirrors(scores: &[u16], k: usize, path: &[u16], place: usize) -> bool
     requires within { AllByRecursion (λ place. place < length scores.now) path.now }
     requires second { k ≤ length path.now }
     requires opened { length path.now < k + k }
@@ -53,20 +51,20 @@ fn place_mirrors(scores: &[u16], k: usize, path: &[usize], place: usize) -> bool
     requires tried { place + (k + k - 1 - length path.now) < length scores.now }
     ensures { result ≡ mirrors scores.now k path.now place }
 {
-    let score = scores[path[path.len() - k]];
+    let score = scores[path[path.len() - k] as usize];
     let ahead = front_with(scores, score, &path[path.len() - k + 1..k]);
     scores[place] == score && scores[place + ahead] == score
 }
 
 /// The numbers of places, which count from 1.
-fn numbered(places: &[usize]) -> Numbers
+fn numbered(places: &[u16]) -> Numbers
     requires within { AllByRecursion (λ place. place < LIMIT) places.now }
     requires few { length places.now ≤ LIMIT }
     ensures { result.items ≡ numbers_of places.now }
 {
     let mut numbers = ArrayVec::new();
     for place in places {
-        numbers.push((*place + 1) as u16);
+        numbers.push(*place + 1);
     }
     numbers
 }
@@ -78,7 +76,7 @@ fn places_of(numbers: &[u16]) -> Path
 {
     let mut places = ArrayVec::new();
     for number in numbers {
-        places.push((*number as usize).saturating_sub(1));
+        places.push(number.saturating_sub(1));
     }
     places
 }
@@ -98,7 +96,7 @@ fn leader(scores: &[u16], first: usize, place: usize) -> usize
 }
 
 /// The first set with the scores of a set of places.
-fn leaders(scores: &[u16], places: &[usize]) -> Path
+fn leaders(scores: &[u16], places: &[u16]) -> Path
     requires within { AllByRecursion (λ place. place < length scores.now) places.now }
     requires few { length places.now ≤ LIMIT }
     requires narrow { length scores.now ≤ LIMIT }
@@ -107,8 +105,8 @@ fn leaders(scores: &[u16], places: &[usize]) -> Path
     let mut path = ArrayVec::new();
     let mut first = 0;
     for place in places {
-        let lead = leader(scores, first, *place);
-        path.push(lead);
+        let lead = leader(scores, first, *place as usize);
+        path.push(lead as u16);
         first = lead + 1;
     }
     path
@@ -136,24 +134,24 @@ impl<'a> Tree for Ranked<'a> {
         self.k + self.k
     }
 
-    fn start(&self, path: &[usize]) -> usize {
+    fn start(&self, path: &[u16]) -> usize {
         first_of_half(self.k, path)
     }
 
-    fn stop(&self, path: &[usize]) -> usize {
+    fn stop(&self, path: &[u16]) -> usize {
         let count = self.scores.len();
         end_of_half(self.k, count, count, path)
     }
 
-    fn beyond(&self, _path: &[usize], _place: usize) -> Option<usize> {
+    fn beyond(&self, _path: &[u16], _place: u16) -> Option<usize> {
         None
     }
 
-    fn admits(&self, path: &[usize], place: usize) -> bool {
+    fn admits(&self, path: &[u16], place: u16) -> bool {
         if path.len() < self.k {
-            place_leads(self.scores, self.k, path, place)
+            place_leads(self.scores, self.k, path, place as usize)
         } else {
-            place_mirrors(self.scores, self.k, path, place)
+            place_mirrors(self.scores, self.k, path, place as usize)
         }
     }
 }

@@ -19,7 +19,7 @@ use arrayvec::ArrayVec;
 pub const PLACES: usize = 2 * LIMIT;
 
 /// The numbers at the places of a search that are filled, one after another.
-pub type Path = ArrayVec<usize, PLACES>;
+pub type Path = ArrayVec<u16, PLACES>;
 
 /// What a search fills, and which numbers it tries where.
 pub trait Tree {
@@ -30,23 +30,23 @@ pub trait Tree {
         ensures { result ≡ (plan self.now).places };
 
     /// The first number to try after a beginning.
-    fn start(&self, path: &[usize]) -> usize
+    fn start(&self, path: &[u16]) -> usize
         requires { IsOpen (plan self.now) path.now }
         ensures { result ≡ (plan self.now).start path.now };
 
     /// The end of the numbers to try after a beginning.
-    fn stop(&self, path: &[usize]) -> usize
+    fn stop(&self, path: &[u16]) -> usize
         requires { IsOpen (plan self.now) path.now }
         ensures { result ≡ (plan self.now).stop path.now };
 
     /// Whether a number fits after a beginning.
-    fn admits(&self, path: &[usize], number: usize) -> bool
+    fn admits(&self, path: &[u16], number: u16) -> bool
         requires opened { IsOpen (plan self.now) path.now }
         requires tried { number < (plan self.now).stop path.now }
         ensures { result ≡ (plan self.now).fits path.now number };
 
     /// What a number that does not fit would have given at least, where that is known.
-    fn beyond(&self, path: &[usize], number: usize) -> Option<usize>
+    fn beyond(&self, path: &[u16], number: u16) -> Option<usize>
         requires opened { IsOpen (plan self.now) path.now }
         requires tried { number < (plan self.now).stop path.now }
         ensures { result ≡ (plan self.now).beyond path.now number };
@@ -64,7 +64,7 @@ pub trait CutsPaths {
     ghost MayAsk: { Self → List ℕ → Type 0 };
 
     /// Whether all paths that begin so are known to be idle. There is room for the numbers that a path stands for.
-    fn cuts(&self, begun: &[usize], room: &mut Numbers) -> bool
+    fn cuts(&self, begun: &[u16], room: &mut Numbers) -> bool
         requires { MayAsk self.now begun.now }
         ensures { result ≡ true → (path : List ℕ) → GoesOn begun.now path → Idle self.now path };
 }
@@ -78,13 +78,13 @@ impl CutsPaths for CutsNothing {
 
     ghost MayAsk = { λ _ _. Unit {0} };
 
-    fn cuts(&self, _begun: &[usize], _room: &mut Numbers) -> bool {
+    fn cuts(&self, _begun: &[u16], _room: &mut Numbers) -> bool {
         false
     }
 }
 
 /// Puts places behind a path.
-pub fn put_behind(path: &mut Path, places: &[usize])
+pub fn put_behind(path: &mut Path, places: &[u16])
     requires room { length path.old.items + length places.now ≤ PLACES }
     ensures { path.new.items ≡ path.old.items ++ places.now }
 {
@@ -94,7 +94,7 @@ pub fn put_behind(path: &mut Path, places: &[usize])
 }
 
 /// The number that follows a path in a longer one that begins with it.
-fn hint_after(hint: &[usize], path: &[usize]) -> Option<usize>
+fn hint_after(hint: &[u16], path: &[u16]) -> Option<usize>
     ensures { result ≡ hint_after hint.now path.now }
 {
     if hint.len() <= path.len() {
@@ -105,11 +105,11 @@ fn hint_after(hint: &[usize], path: &[usize]) -> Option<usize>
             return None;
         }
     }
-    Some(hint[path.len()])
+    Some(hint[path.len()] as usize)
 }
 
 /// The first number that a search tries which begins at a path.
-pub fn first_hint(hint: &[usize]) -> usize
+pub fn first_hint(hint: &[u16]) -> usize
     ensures { result ≡ first_hint hint.now }
 {
     hint_after(hint, &[]).unwrap_or(0)
@@ -133,22 +133,22 @@ impl<'a, T: Tree> Tree for Hinted<'a, T> {
         self.tree.places()
     }
 
-    fn start(&self, path: &[usize]) -> usize {
+    fn start(&self, path: &[u16]) -> usize {
         match hint_after(self.hint, path) {
             Some(number) => number,
             None => self.tree.start(path),
         }
     }
 
-    fn stop(&self, path: &[usize]) -> usize {
+    fn stop(&self, path: &[u16]) -> usize {
         self.tree.stop(path)
     }
 
-    fn admits(&self, path: &[usize], number: usize) -> bool {
+    fn admits(&self, path: &[u16], number: u16) -> bool {
         self.tree.admits(path, number)
     }
 
-    fn beyond(&self, path: &[usize], number: usize) -> Option<usize> {
+    fn beyond(&self, path: &[u16], number: u16) -> Option<usize> {
         self.tree.beyond(path, number)
     }
 }
@@ -181,7 +181,7 @@ impl Walk {
 }
 
 /// The first number to try after a path, 0 where the path is whole.
-fn first_number<T: Tree>(tree: &T, path: &[usize]) -> usize
+fn first_number<T: Tree>(tree: &T, path: &[u16]) -> usize
     requires { Stands (T.plan tree.now) path.now }
     ensures { result ≡ entry (T.plan tree.now) ((T.plan tree.now).places - length path.now) path.now }
 {
@@ -204,7 +204,7 @@ fn lower_of(one: Option<usize>, other: Option<usize>) -> Option<usize>
 }
 
 /// The end of the numbers to try after a path, 1 where the path is whole.
-fn end_number<T: Tree>(tree: &T, path: &[usize]) -> usize
+fn end_number<T: Tree>(tree: &T, path: &[u16]) -> usize
     requires { Stands (T.plan tree.now) path.now }
     ensures { IsSpent (T.plan tree.now) path.now result }
 {
@@ -244,9 +244,10 @@ fn try_number<T: Tree>(tree: &T, walk: &mut Walk) -> bool
     ensures beyond { walk.new.beyond ≡ lower walk.old.beyond ((T.plan tree.now).beyond walk.old.path.items walk.old.number) }
     ensures places { length walk.new.path.items ≤ length walk.old.path.items + 1 }
 {
-    walk.beyond = lower_of(walk.beyond, tree.beyond(&walk.path, walk.number));
-    if tree.admits(&walk.path, walk.number) {
-        walk.path.push(walk.number);
+    let number = walk.number as u16;
+    walk.beyond = lower_of(walk.beyond, tree.beyond(&walk.path, number));
+    if tree.admits(&walk.path, number) {
+        walk.path.push(number);
         walk.number = first_number(tree, &walk.path);
         true
     } else {
@@ -258,7 +259,6 @@ fn try_number<T: Tree>(tree: &T, walk: &mut Walk) -> bool
 /// Takes the last number from a path below which nothing is left, and goes on to the next one; false where the path is empty.
 fn go_back<T: Tree>(tree: &T, walk: &mut Walk) -> bool
     requires standing { Stands (T.plan tree.now) walk.old.path.items }
-    requires narrow { (T.plan tree.now).width ≤ PLACES }
     requires spent { IsSpent (T.plan tree.now) walk.old.path.items walk.old.number }
     ensures stands { Stands (T.plan tree.now) walk.new.path.items }
     ensures same { ahead (T.plan tree.now) walk.new.path.items walk.new.number
@@ -269,7 +269,7 @@ fn go_back<T: Tree>(tree: &T, walk: &mut Walk) -> bool
 {
     match walk.path.pop() {
         Some(number) => {
-            walk.number = number + 1;
+            walk.number = number as usize + 1;
             true
         }
         None => false,

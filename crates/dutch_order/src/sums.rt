@@ -22,7 +22,7 @@ pub fn value_at(pool: &[u16], k: usize, side: Side, place: usize) -> usize
 }
 
 /// The sum of the numbers at places of a side.
-pub fn total_of(pool: &[u16], k: usize, side: Side, places: &[usize]) -> usize
+pub fn total_of(pool: &[u16], k: usize, side: Side, places: &[u16]) -> usize
     requires few { k ≤ length pool.now }
     requires within { AllByRecursion (λ place. place < count_of pool.now k side) places.now }
     requires short { length places.now ≤ LIMIT }
@@ -31,7 +31,7 @@ pub fn total_of(pool: &[u16], k: usize, side: Side, places: &[usize]) -> usize
 {
     let mut sum = 0;
     for place in places {
-        sum += value_at(pool, k, side, *place);
+        sum += value_at(pool, k, side, *place as usize);
     }
     sum
 }

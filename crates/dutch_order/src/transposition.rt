@@ -17,20 +17,21 @@ use arrayvec::ArrayVec;
 use std::marker::Model;
 
 /// Fills a list with the numbers at places of a pool.
-fn pick(pool: &[u16], path: &[usize], numbers: &mut Numbers)
+fn pick(pool: &[u16], path: &[u16], numbers: &mut Numbers)
     requires within { AllByRecursion (λ place. place < length pool.now) path.now }
     requires few { length path.now ≤ LIMIT }
     ensures { numbers.new.items ≡ numbers_at pool.now path.now }
 {
     numbers.clear();
     for place in path {
-        numbers.push(pool[*place]);
+        numbers.push(pool[*place as usize]);
     }
 }
 
 /// The place of a number in a pool, or the length of a pool that does not have it.
 fn place_in(pool: &[u16], number: u16) -> usize
-    ensures { result ≡ place_in pool.now number }
+    ensures place { result ≡ place_in pool.now number }
+    ensures within { result ≤ length pool.now }
 {
     let mut place = 0;
     for other in pool {
@@ -44,12 +45,13 @@ fn place_in(pool: &[u16], number: u16) -> usize
 
 /// The places of numbers in a pool.
 fn places_in(pool: &[u16], numbers: &[u16]) -> Path
+    requires small { length pool.now ≤ LIMIT }
     requires few { length numbers.now ≤ LIMIT }
     ensures { result.items ≡ places_in pool.now numbers.now }
 {
     let mut places = ArrayVec::new();
     for number in numbers {
-        places.push(place_in(pool, *number));
+        places.push(place_in(pool, *number) as u16);
     }
     places
 }
@@ -73,23 +75,23 @@ impl<'a, R: Rule> Tree for Opponents<'a, R> {
         self.first.len()
     }
 
-    fn start(&self, _path: &[usize]) -> usize {
+    fn start(&self, _path: &[u16]) -> usize {
         0
     }
 
-    fn stop(&self, _path: &[usize]) -> usize {
+    fn stop(&self, _path: &[u16]) -> usize {
         self.pool.len()
     }
 
-    fn beyond(&self, _path: &[usize], _number: usize) -> Option<usize> {
+    fn beyond(&self, _path: &[u16], _number: u16) -> Option<usize> {
         None
     }
 
-    fn admits(&self, path: &[usize], number: usize) -> bool {
+    fn admits(&self, path: &[u16], number: u16) -> bool {
         !path.contains(&number)
             && self
                 .rule
-                .may_meet(self.first[path.len()], self.pool[number])
+                .may_meet(self.first[path.len()], self.pool[number as usize])
     }
 }
 
@@ -110,7 +112,7 @@ impl<'a, C: CutsTuples> CutsPaths for CutsPlaces<'a, C> {
 
     ghost MayAsk = { λ t path. AllByRecursion (λ place. place < length t.pool.now) path × (length path ≤ LIMIT) };
 
-    fn cuts(&self, begun: &[usize], room: &mut Numbers) -> bool {
+    fn cuts(&self, begun: &[u16], room: &mut Numbers) -> bool {
         pick(self.pool, begun, room);
         self.cuts.cuts(room)
     }

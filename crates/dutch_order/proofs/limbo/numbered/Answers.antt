@@ -7,10 +7,6 @@ pub overflow_add-place : goal.overflow_add-place
 overflow_add-place c =
     omega (arith, at_index (λ place. place < LIMIT) c.args.places.now c.loop-place.place-index c.requires.within c.loop-place-test.true)
 
-pub overflow_cast-place : goal.overflow_cast-place
-overflow_cast-place c =
-    omega (arith, at_index (λ place. place < LIMIT) c.args.places.now c.loop-place.place-index c.requires.within c.loop-place-test.true)
-
 pub loop-place-preserved : goal.loop-place-preserved
 loop-place-preserved c =
     map-turn (λ place. place + 1) c.args.places.now c.loop-place.place-index _ _ _ [] c.loop-place-test.true refl c.loop-place.invariant c.push.ensures.items

@@ -17,12 +17,6 @@ returns-in-None-clause-ended g c =
     λ _. ahead-ended (g.T.Tree.plan c.args.tree.now) c.args.walk.now.path.items c.pop.new.self.items c.args.walk.now.number
     (ap (λ v. v.items) c.in-None.ensures.empty) (zero_from _ c.in-None.ensures.variant.1) c.requires.spent
 
-pub overflow_add-walk : goal.overflow_add-walk
-overflow_add-walk g c =
-    let popped = Walked-shorter (g.T.Tree.plan c.args.tree.now) c.args.walk.now.path.items c.pop.new.self.items c.in-Some.number c.in-Some.ensures.items c.requires.standing.1 in
-    let low : c.in-Some.number < (g.T.Tree.plan c.args.tree.now).stop c.pop.new.self.items = popped.1 in
-    omega (arith, g.met.T.Tree.within c.args.tree.now c.pop.new.self.items)
-
 pub returns-in-Some-clause-stands : goal.returns-in-Some-clause-stands
 returns-in-Some-clause-stands g c =
     let popped = Walked-shorter (g.T.Tree.plan c.args.tree.now) c.args.walk.now.path.items c.pop.new.self.items c.in-Some.number c.in-Some.ensures.items c.requires.standing.1 in

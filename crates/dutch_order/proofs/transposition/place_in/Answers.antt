@@ -16,8 +16,8 @@ later pool number i within is_not =
     at_drop_more (λ rest. place_in rest number) pool i 0 within
     ∙ ap (λ b. if b then 0 else 1 + place_in (drop (i + 1) pool) number) (ne_eqb (get_or pool i 0) number is_not)
 
-pub returns-then-other-number : goal.returns-then-other-number
-returns-then-other-number c =
+pub returns-then-other-number-clause-place : goal.returns-then-other-number-clause-place
+returns-then-other-number-clause-place c =
     omega (arith, c.loop-other.invariant.so_far, here c.args.pool.now c.args.number c.loop-other.other-index c.loop-other-test.true c.if-other-number.true)
 
 pub loop-other-preserved : goal.loop-other-preserved
@@ -26,6 +26,6 @@ loop-other-preserved c = record {
   so_far = omega (arith, c.loop-other.invariant.so_far, later c.args.pool.now c.args.number c.loop-other.other-index c.loop-other-test.true c.if-other-number.false);
 }
 
-pub returns : goal.returns
-returns c =
+pub returns-clause-place : goal.returns-clause-place
+returns-clause-place c =
     omega (arith, c.loop-other.invariant.so_far, at_drop_all (λ rest. place_in rest c.args.number) c.args.pool.now c.loop-other.other-index c.loop-other-test.false)

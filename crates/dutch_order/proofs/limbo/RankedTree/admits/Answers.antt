@@ -4,11 +4,6 @@ use Rattle.dutch_order.proofs.HalfWalks.{half_stop-one}
 use Rattle.dutch_order.proofs.Moves.{Walked-below}
 use Rattle.dutch_order.proofs.limbo.RankedTree.admits.Goals as goal
 
-pub place_leads-requires-clause-within : goal.place_leads-requires-clause-within
-place_leads-requires-clause-within c =
-    Walked-below (limbo_plan c.args.self.now.scores.now c.args.self.now.k) (length c.args.self.now.scores.now)
-    (half_stop-one c.args.self.now.k (length c.args.self.now.scores.now)) [] c.args.path.now c.requires.opened.1
-
 pub place_mirrors-requires-clause-within : goal.place_mirrors-requires-clause-within
 place_mirrors-requires-clause-within c =
     Walked-below (limbo_plan c.args.self.now.scores.now c.args.self.now.k) (length c.args.self.now.scores.now)

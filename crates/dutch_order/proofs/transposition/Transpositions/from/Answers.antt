@@ -4,10 +4,10 @@ use Rattle.dutch_order.specs.TranspositionSearch.{places_in}
 use Rattle.dutch_order.proofs.TupleSearch.{transpositions-from, tuple-members, tuples-at}
 use Rattle.dutch_order.proofs.transposition.Transpositions.from.Goals as goal
 
-pub places_in-hint-requires : goal.places_in-hint-requires
-places_in-hint-requires g c =
+pub places_in-hint-requires-clause-few : goal.places_in-hint-requires-clause-few
+places_in-hint-requires-clause-few g c =
     let known = tuple-members (g.R.Rule.meets c.args.rule.now) c.args.first.now c.args.pool.now c.requires.ascends (length c.args.first.now) c.args.pool.now c.args.tuple.now c.requires.given in
-    record { few = omega (arith, known.0, c.requires.few_first) }
+    omega (arith, known.0, c.requires.few_first)
 
 pub returns : goal.returns
 returns g c =
