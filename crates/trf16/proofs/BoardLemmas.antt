@@ -10,6 +10,7 @@ use Rattle.trf16.specs.Sheet.{Sheet, known, rounds_played}
 use Rattle.trf16.specs.Absence.{absent}
 use Rattle.trf16.specs.Steps.{is_free, are_free}
 use Rattle.trf16.specs.Round.{CanBePaired, named_by}
+use Rattle.trf16.specs.declared.limits.TheConstants.{MOST_ROUNDS}
 
 pub eq-self : (n : ℕ) → nat_eq n n ≡ true
 eq-self n = grind (arith, nat_tests)
@@ -79,7 +80,7 @@ free sheet (start ∷ rest) players present once =
     let alone = none_from_all start rest (IsDistinct-head nat_eq start rest once) in
     rw (players.0, present.0, alone) (free sheet rest players.1 present.1 (IsDistinct-tail nat_eq start rest once))
 
-pub paired_from : (boards : List (ℕ × ℕ)) (sheet : Sheet) → rounds_played sheet < 32 → are_free sheet (named_by boards) ≡ true → CanBePaired boards sheet
+pub paired_from : (boards : List (ℕ × ℕ)) (sheet : Sheet) → rounds_played sheet < MOST_ROUNDS → are_free sheet (named_by boards) ≡ true → CanBePaired boards sheet
 paired_from boards sheet within all =
     let a = are sheet (named_by boards) all in
     record {

@@ -29,6 +29,7 @@ use Rattle.trf16.proofs.MeetingLemmas.{cell_of-fit}
 use Rattle.trf16.proofs.WrittenCells.{is_sound}
 use Rattle.trf16.proofs.WrittenPlayers.{IsSoundEntry}
 use Rattle.trf16.proofs.WrittenReport.{Turns, known-turned, are_all_sound, were_sound, were_fit, written_again}
+use Rattle.trf16.specs.declared.limits.TheConstants.{MOST_ROUNDS, MOST_BYTES}
 
 abbrev fits : Result (Unit {0}) Fault
 fits = Ok (tt {0})
@@ -525,10 +526,10 @@ cut-with (suc n) cell (first ∷ rest) said cut =
 
 record AreSound (cells : List Cell) : Type 0 where
   sound : list_all is_sound cells ≡ true
-  few : length cells ≤ 32
+  few : length cells ≤ MOST_ROUNDS
   cut : without_last is_blank_cell cells ≡ cells
 
-sound-with : (utf8 : Bool) (boards : List (ℕ × ℕ)) (n : ℕ) (entry : Entry) → AllByRecursion (λ k. is_small k ≡ true) (named_by boards) → n < 32 → IsSoundEntry utf8 entry
+sound-with : (utf8 : Bool) (boards : List (ℕ × ℕ)) (n : ℕ) (entry : Entry) → AllByRecursion (λ k. is_small k ≡ true) (named_by boards) → n < MOST_ROUNDS → IsSoundEntry utf8 entry
     → AreSound (cells_with boards n entry)
 sound-with utf8 boards n entry small lt s = by (cell_by boards entry.start) refl
   where
@@ -536,7 +537,7 @@ sound-with utf8 boards n entry small lt s = by (cell_by boards entry.start) refl
     by None e = record { sound = s.sound; few = s.few; cut = s.cut }
     by (Some cell) e =
         let g = given boards entry.start cell e in
-        let few : length entry.cells ≤ 32 = s.few in
+        let few : length entry.cells ≤ MOST_ROUNDS = s.few in
         let most : length (with_cell n cell entry.cells) ≤ max (n + 1) (length entry.cells) = length-with n cell entry.cells in
         record {
           sound = all-with n cell entry.cells (given_sound boards cell small g) s.sound;
@@ -544,7 +545,7 @@ sound-with utf8 boards n entry small lt s = by (cell_by boards entry.start) refl
           cut = cut-with n cell entry.cells g.said s.cut;
         }
 
-turns_with : (utf8 : Bool) (bye : ℕ) (boards : List (ℕ × ℕ)) (n : ℕ) → AllByRecursion (λ k. is_small k ≡ true) (named_by boards) → n < 32 → Turns utf8 (entry_with bye boards n)
+turns_with : (utf8 : Bool) (bye : ℕ) (boards : List (ℕ × ℕ)) (n : ℕ) → AllByRecursion (λ k. is_small k ≡ true) (named_by boards) → n < MOST_ROUNDS → Turns utf8 (entry_with bye boards n)
 turns_with utf8 bye boards n small lt = record {
   start = λ entry. refl;
   line = λ entry. refl;
@@ -594,7 +595,7 @@ played_again (board ∷ rest) sheet some named =
     omega arith
 
 pub round_again : (bytes : List ℕ) (bye : ℕ) (report : Sheet) (boards : List (ℕ × ℕ)) → bye ≤ 2 → verdict bytes bye ≡ Ok report → CanBePaired boards report → 0 < length boards
-    → length (written (with_round boards report)) ≤ 1048576 → verdict (written (with_round boards report)) report.bye ≡ Ok (with_round boards report)
+    → length (written (with_round boards report)) ≤ MOST_BYTES → verdict (written (with_round boards report)) report.bye ≡ Ok (with_round boards report)
 round_again bytes bye report boards worth e can some few =
     let n = rounds_played report in
     let sound = were_sound bytes bye report e in

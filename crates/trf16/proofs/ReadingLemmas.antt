@@ -1,11 +1,10 @@
 -- Reading one thing after the other, as a loop does.
-use Rattle.std.proofs.Common.{◌≡◌, ℕ, Bool, true, false, cond, ◌||◌, suc, ◌-◌, ◌+◌, ◌≤◌, ◌<◌, List, [], ◌∷◌, ◌++◌, length, Result, Ok, Err, refl, sym, ap, ◌∙◌, append_assoc, arith}
+use Rattle.std.proofs.Common.{◌≡◌, ℕ, Bool, true, false, cond, ◌||◌, suc, ◌-◌, ◌+◌, ◌<◌, List, [], ◌∷◌, ◌++◌, length, Result, Ok, Err, refl, sym, ap, ◌∙◌, append_assoc, arith}
 use Rattle.std.specs.Prelude.{MatchResult, is_ok, is_some, codes, Some}
 use Rattle.std.specs.Option.{ok_or}
 use Rattle.trf16.specs.Extensions.{is_kind, words_of, rounds_in, colour_in, are_start_ranks}
 use Rattle.std.specs.Str.{is_utf8, IsUtf8}
 use Rattle.std.proofs.lemmas.Str.{is_utf8-from_IsUtf8, IsUtf8-from_is_utf8}
-use Rattle.std.proofs.lemmas.List.{append-nil}
 use Rattle.trf16.specs.declared.cell.Cell.{Cell}
 use Rattle.trf16.specs.declared.fault.Fault.{Fault}
 use Rattle.trf16.specs.declared.fault.Fault.TheVariants.{BadNumber, Duplicate, Misaligned, BadCell, BadExtension, TooMany, NoPlayers, NoSuchOpponent, SelfOpponent, NotMutual, Colours, Results, Points, OutOfMemory}
@@ -13,6 +12,7 @@ use Rattle.trf16.specs.Verdict.{round_at, rounds_at, player_at, is_player, playe
 use Rattle.trf16.specs.Sheet.{Sheet, with_player}
 use Rattle.trf16.specs.Lines.{columns}
 use Rattle.trf16.specs.Outcomes.{◌>>=◌, Fails}
+use Rattle.trf16.specs.declared.limits.TheConstants.{MOST_ROUNDS}
 
 -- what was read before, and what is still read
 abbrev pub behind : List Cell → Result (List Cell) Fault → Result (List Cell) Fault
@@ -42,29 +42,21 @@ regroup front cell (Ok others) = ap (λ (cells : List Cell). Ok cells) (sym (app
 regroup front cell (Err fault) = refl
 
 pub rounds-go_on : (n : ℕ) (line : List (List ℕ)) (front : List Cell) (before : ℕ) (cell : Cell) (total : Result (List Cell) Fault)
-    → before < 32 → round_at n line before ≡ Ok cell → behind front (rounds_at n line before (32 - before)) ≡ total
-    → behind (front ++ cell ∷ []) (rounds_at n line (before + 1) (32 - (before + 1))) ≡ total
+    → before < MOST_ROUNDS → round_at n line before ≡ Ok cell → behind front (rounds_at n line before (MOST_ROUNDS - before)) ≡ total
+    → behind (front ++ cell ∷ []) (rounds_at n line (before + 1) (MOST_ROUNDS - (before + 1))) ≡ total
 unfolding rounds_at
 rounds-go_on n line front before cell total lt here so_far =
-    let more : 32 - before ≡ suc (32 - (before + 1)) = omega arith in
-    let one : behind front (rounds_at n line before (32 - before)) ≡ behind (front ++ cell ∷ []) (rounds_at n line (before + 1) (32 - (before + 1))) =
-    rw (more, here) (regroup front cell (rounds_at n line (before + 1) (32 - (before + 1)))) in
+    let more : MOST_ROUNDS - before ≡ suc (MOST_ROUNDS - (before + 1)) = omega arith in
+    let one : behind front (rounds_at n line before (MOST_ROUNDS - before)) ≡ behind (front ++ cell ∷ []) (rounds_at n line (before + 1) (MOST_ROUNDS - (before + 1))) =
+    rw (more, here) (regroup front cell (rounds_at n line (before + 1) (MOST_ROUNDS - (before + 1)))) in
     sym one ∙ so_far
 
-pub rounds-fail : (n : ℕ) (line : List (List ℕ)) (front : List Cell) (before : ℕ) (total : Result (List Cell) Fault) → before < 32
-    → behind front (rounds_at n line before (32 - before)) ≡ total → (fault : Fault) → round_at n line before ≡ Err fault → total ≡ Err fault
+pub rounds-fail : (n : ℕ) (line : List (List ℕ)) (front : List Cell) (before : ℕ) (total : Result (List Cell) Fault) → before < MOST_ROUNDS
+    → behind front (rounds_at n line before (MOST_ROUNDS - before)) ≡ total → (fault : Fault) → round_at n line before ≡ Err fault → total ≡ Err fault
 unfolding rounds_at
 rounds-fail n line front before total lt so_far fault here =
-    let more : 32 - before ≡ suc (32 - (before + 1)) = omega arith in
-    let one : behind front (rounds_at n line before (32 - before)) ≡ Err fault = rw (more, here) refl in
-    sym so_far ∙ one
-
-pub rounds-end : (n : ℕ) (line : List (List ℕ)) (front : List Cell) (before : ℕ) (total : Result (List Cell) Fault) → 32 ≤ before
-    → behind front (rounds_at n line before (32 - before)) ≡ total → total ≡ Ok front
-unfolding rounds_at
-rounds-end n line front before total le so_far =
-    let none : 32 - before ≡ 0 = omega arith in
-    let one : behind front (rounds_at n line before (32 - before)) ≡ Ok front = rw none (ap (λ (cells : List Cell). Ok cells) (append-nil front)) in
+    let more : MOST_ROUNDS - before ≡ suc (MOST_ROUNDS - (before + 1)) = omega arith in
+    let one : behind front (rounds_at n line before (MOST_ROUNDS - before)) ≡ Err fault = rw (more, here) refl in
     sym so_far ∙ one
 
 done : Sheet → Result Sheet Fault

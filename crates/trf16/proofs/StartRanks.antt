@@ -16,6 +16,7 @@ use Rattle.trf16.specs.declared.fault.Fault.{Fault}
 use Rattle.trf16.specs.declared.fault.Fault.TheVariants.{TooMany, NoPlayers}
 use Rattle.trf16.proofs.StepLemmas.{same_ok}
 use Rattle.trf16.proofs.WrittenReport.{are_all_sound, were_sound, verdict_is, report_is, line_keeps, line_adds, first_onto}
+use Rattle.trf16.specs.declared.limits.TheConstants.{MOST_PLAYERS, MOST_ROUNDS}
 
 all_more : (x : ℕ) (ys : List ℕ) (y : ℕ) → AllByRecursion (λ z. nat_eq x z ≡ false) ys → nat_eq x y ≡ false → AllByRecursion (λ z. nat_eq x z ≡ false) (ys ++ y ∷ [])
 all_more x [] y all other = (other, tt)
@@ -59,13 +60,13 @@ lines_distinct sheet final n (line ∷ rest) e distinct =
 not_ok : {A : Type 0} (fault : Fault) (x : A) → ◌≡◌ {A = Result A Fault} (Err fault) (Ok x) → ⊥
 not_ok fault x e = cc
 
-few_rounds : (total : Option ℕ) → option_map_or (λ total. nat_lt 32 total) total false ≡ false → IfSome total (λ total. total ≤ 32)
+few_rounds : (total : Option ℕ) → option_map_or (λ total. nat_lt MOST_ROUNDS total) total false ≡ false → IfSome total (λ total. total ≤ MOST_ROUNDS)
 few_rounds None e = tt
 few_rounds (Some total) e = grind (arith, nat_tests)
 
 few_named : (sheet : Sheet) (long : Bool) → sized sheet long ≡ Ok sheet → names_too_many_rounds sheet ≡ false
 unfolding sized
-few_named sheet long e = by (nat_lt 256 (length sheet.players)) (length sheet.players == 0) long (names_too_many_rounds sheet) e
+few_named sheet long e = by (nat_lt MOST_PLAYERS (length sheet.players)) (length sheet.players == 0) long (names_too_many_rounds sheet) e
   where
     by : (many none long named : Bool)
         → ◌≡◌ {A = Result Sheet Fault} (cond many (Err (TooMany Players)) (cond (long || named) (Err (TooMany Rounds)) (cond none (Err NoPlayers) (Ok sheet)))) (Ok sheet) → named ≡ false

@@ -20,6 +20,7 @@ use Rattle.trf16.proofs.BoardLemmas.{eq-self}
 use Rattle.trf16.proofs.PairedRound.{fits-same}
 use Rattle.trf16.proofs.StepLemmas.{then_ok, same_ok}
 use Rattle.trf16.proofs.WrittenReport.{IsLaidOutOf, Turns, laid_again, laid_of}
+use Rattle.trf16.specs.declared.limits.TheConstants.{MOST_BYTES}
 
 abbrev fits : Result (Unit {0}) Fault
 fits = Ok (tt {0})
@@ -146,7 +147,7 @@ unsummed_is bytes bye report e =
       fit = subst (λ (s : Sheet). all_cells_fit s s.players ≡ fits) same looked.1;
     }
 
-pub summed_again : (bytes : List ℕ) (bye : ℕ) (report : Sheet) → bye ≤ 2 → verdict_unsummed bytes bye ≡ Ok report → length (written (summed report)) ≤ 1048576
+pub summed_again : (bytes : List ℕ) (bye : ℕ) (report : Sheet) → bye ≤ 2 → verdict_unsummed bytes bye ≡ Ok report → length (written (summed report)) ≤ MOST_BYTES
     → verdict (written (summed report)) report.bye ≡ Ok (summed report)
 summed_again bytes bye report worth e few =
     let u = unsummed_is bytes bye report e in

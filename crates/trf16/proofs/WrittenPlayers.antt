@@ -29,6 +29,7 @@ use Rattle.trf16.proofs.StepLemmas.{then_ok, same_ok}
 use Rattle.trf16.proofs.WrittenRounds.{ok_or_ok, blank_ok, blank_from, tail_of, tail-rounds, lead_blank, rounds-written, rounds_were, ascii-blank, ascii_from, joined_at, fields_are}
 use Rattle.trf16.proofs.WrittenText.{is_inside, utf8_split, utf8_nil, utf8_behind, utf8_front}
 use Rattle.trf16.proofs.WrittenFields.{without_last-append, without_last-twice, cut, all_cut, length_cut, IsCarried, carried_is, filled, inside-plain, are_small, points_field_is, ascii-points, ascii-number}
+use Rattle.trf16.specs.declared.limits.TheConstants.{MOST_ROUNDS, LAST_COLUMN}
 
 -- what the line of a player is
 pub record IsPlayer (sheet : Sheet) (n : ℕ) (line : List (List ℕ)) (entry : Entry) : Type 0 where
@@ -128,7 +129,7 @@ pub record IsSoundEntry (utf8 : Bool) (entry : Entry) : Type 0 where
   pub left : IsCarried utf8 72 entry.left
   pub right : IsCarried utf8 5 entry.right
   pub sound : list_all is_sound entry.cells ≡ true
-  pub few : length entry.cells ≤ 32
+  pub few : length entry.cells ≤ MOST_ROUNDS
   pub cut : without_last is_blank_cell entry.cells ≡ entry.cells
 
 -- six parts of a line
@@ -199,17 +200,17 @@ cell_again opponent colour result cell e =
 pub cell_size : (opponent colour result : List ℕ) (cell : Cell) → cell_from opponent colour result ≡ Some cell → length (cell_text cell) ≡ 8
 cell_size opponent colour result cell e = length-cell cell (fields_are opponent colour result cell e).sound
 
-all_are_blank : (n : ℕ) → list_all is_blank_cell (replicate n Blank) ≡ true
+pub all_are_blank : (n : ℕ) → list_all is_blank_cell (replicate n Blank) ≡ true
 all_are_blank zero = refl
 all_are_blank (suc n) = all_are_blank n
 
-pub cells_written : (n : ℕ) (line : List (List ℕ)) (cells : List Cell) → list_all is_sound cells ≡ true → length cells ≤ 32 → without_last is_blank_cell cells ≡ cells
+pub cells_written : (n : ℕ) (line : List (List ℕ)) (cells : List Cell) → list_all is_sound cells ≡ true → length cells ≤ MOST_ROUNDS → without_last is_blank_cell cells ≡ cells
     → drop 89 line ≡ each (flat_map round_text cells) → cells_at n line ≡ Ok cells
 unfolding cells_at
 cells_written n line cells sound few cut e =
     let behind : drop (91 + 10 * 0) line ≡ tail_of cells = sym (drop-drop 2 89 line) ∙ ap (λ (cs : List (List ℕ)). drop 2 cs) e ∙ tail-rounds cells in
-    let read = rounds-written n line 0 32 cells sound few behind in
-    rw (read, without_last-append is_blank_cell cells (replicate (32 - length cells) Blank) (all_are_blank (32 - length cells)), cut) refl
+    let read = rounds-written n line 0 MOST_ROUNDS cells sound few behind in
+    rw (read, without_last-append is_blank_cell cells (replicate (MOST_ROUNDS - length cells) Blank) (all_are_blank (MOST_ROUNDS - length cells)), cut) refl
 
 -- what the written line of a player is
 pub record IsWrittenPlayer (sheet : Sheet) (utf8 : Bool) (entry : Entry) : Type 0 where
@@ -286,13 +287,13 @@ written_player sheet utf8 entry s small fresh =
       left = ap trimmed left ∙ l.read;
       right = ap trimmed right ∙ r.read;
     } in
-    let few : length entry.cells ≤ 32 = s.few in
-    let size : length (each C) ≤ 322 = omega (arith, length-each C, length-rounds entry.cells s.sound) in
-    let end : drop 411 W ≡ [] = sym (drop-drop 322 89 W) ∙ ap (λ (cs : List (List ℕ)). drop 322 cs) back ∙ drop_all 322 (each C) size in
+    let few : length entry.cells ≤ MOST_ROUNDS = s.few in
+    let size : length (each C) ≤ 2 + 10 * MOST_ROUNDS = omega (arith, length-each C, length-rounds entry.cells s.sound) in
+    let end : drop LAST_COLUMN W ≡ [] = sym (drop-drop (2 + 10 * MOST_ROUNDS) 89 W) ∙ ap (λ (cs : List (List ℕ)). drop (2 + 10 * MOST_ROUNDS) cs) back ∙ drop_all (2 + 10 * MOST_ROUNDS) (each C) size in
     record {
       read = rw cols (player_from sheet entry.line W entry player);
       named = rw cols front.1;
-      short = rw cols (ap not (blank_none (drop 411 W) end));
+      short = rw cols (ap not (blank_none (drop LAST_COLUMN W) end));
       inside = list_all-append is_inside (codes "001 ") (S ++ (L ++ (P ++ (R ++ C)))) refl (list_all-append is_inside S (L ++ (P ++ (R ++ C))) (inside-plain S plain-S)
           (list_all-append is_inside L (P ++ (R ++ C)) l.inside (list_all-append is_inside P (R ++ C) (inside-plain P p.plain)
           (list_all-append is_inside R C r.inside (inside-plain C plain-C)))));
@@ -325,10 +326,10 @@ pub record WasPlayer (utf8 : Bool) (line : List ℕ) (entry : Entry) : Type 0 wh
   pub same : is_utf8 line ≡ (is_utf8 entry.left && is_utf8 entry.right)
 
 pub cells_were : (n : ℕ) (line : List (List ℕ)) (cells : List Cell) → cells_at n line ≡ Ok cells
-    → (all : List Cell) × (rounds_at n line 0 32 ≡ Ok all) × (without_last is_blank_cell all ≡ cells)
+    → (all : List Cell) × (rounds_at n line 0 MOST_ROUNDS ≡ Ok all) × (without_last is_blank_cell all ≡ cells)
 unfolding cells_at
 cells_were n line cells e =
-    let s = then_ok (rounds_at n line 0 32) (λ all. Ok (without_last is_blank_cell all)) cells e in
+    let s = then_ok (rounds_at n line 0 MOST_ROUNDS) (λ all. Ok (without_last is_blank_cell all)) cells e in
     (s.0, s.1, same_ok (without_last is_blank_cell s.0) cells s.2)
 
 not_blank_end : (b : Bool) → not b ≡ false → b ≡ true
@@ -345,9 +346,9 @@ was_player utf8 sheet n line entry inside named short p =
     let number = ascii-number (text cols 5 8) entry.start p.number in
     let points = ascii-points (text cols 81 84) entry.points p.points in
     let cells = cells_were n cols entry.cells p.cells in
-    let rounds = rounds_were n cols 0 32 cells.0 cells.1 in
-    let count : length cells.0 ≡ 32 = rounds.count in
-    let end = ascii-blank (joined (drop 411 cols)) (not_blank_end (is_blank (joined (drop 411 cols))) short) in
+    let rounds = rounds_were n cols 0 MOST_ROUNDS cells.0 cells.1 in
+    let count : length cells.0 ≡ MOST_ROUNDS = rounds.count in
+    let end = ascii-blank (joined (drop LAST_COLUMN cols)) (not_blank_end (is_blank (joined (drop LAST_COLUMN cols))) short) in
     let behind91 : list_all is_ascii (joined (drop 91 cols)) ≡ true = rounds.ascii end in
     let behind90 : list_all is_ascii (joined (drop 90 cols)) ≡ true = ascii_from 90 1 cols (ascii-blank (text cols 91 91) p.blank91) behind91 in
     let behind89 : list_all is_ascii (joined (drop 89 cols)) ≡ true = ascii_from 89 1 cols (ascii-blank (text cols 90 90) p.blank90) behind90 in
@@ -372,7 +373,7 @@ was_player utf8 sheet n line entry inside named short p =
         right = subst (IsCarried utf8 5) p.right (carried_is utf8 line 83 5 inside);
         sound = subst (λ (cs : List Cell). list_all is_sound cs ≡ true) cells.2 (all_cut is_blank_cell is_sound cells.0 rounds.sound);
         few = let fewer : length (without_last is_blank_cell cells.0) ≤ length cells.0 = length_cut is_blank_cell cells.0 in
-            subst (λ (cs : List Cell). length cs ≤ 32) cells.2 (omega arith);
+            subst (λ (cs : List Cell). length cs ≤ MOST_ROUNDS) cells.2 (omega arith);
         cut = subst (λ (cs : List Cell). without_last is_blank_cell cs ≡ cs) cells.2 (without_last-twice is_blank_cell cells.0);
       };
       same = all ∙ ap is_utf8 (joined_at 8 72 cols) ∙ join_columns utf8 L (drop 80 cols) are points'

@@ -34,6 +34,7 @@ use Rattle.trf16.proofs.StepLemmas.{then_assoc, then_ok, same_ok}
 use Rattle.trf16.proofs.WrittenText.{is_inside, are_inside, are_utf8, lines-line, lines-inside, utf8_lines, has_mark, no_mark, without_marks-no_mark, line-no_mark}
 use Rattle.trf16.proofs.WrittenFields.{are_small}
 use Rattle.trf16.proofs.WrittenPlayers.{IsPlayer, IsSoundEntry, player_is, was_player, written_player}
+use Rattle.trf16.specs.declared.limits.TheConstants.{MOST_PLAYERS, MOST_ROUNDS, MOST_BYTES}
 
 -- what a fault would be
 not_ok : {A : Type 0} (fault : Fault) (y : A) → ◌≡◌ {A = Result A Fault} (Err fault) (Ok y) → ⊥
@@ -332,25 +333,25 @@ sum_le bye (cell ∷ cells) worth =
     let others : sum_by (half_points bye) cells ≤ 2 * length cells = sum_le bye cells worth in
     omega (arith, sum_by-cons (half_points bye) cell cells)
 
-small_points : (sheet : Sheet) (entry : Entry) (y : Unit {0}) → sheet.bye ≤ 2 → length entry.cells ≤ 32 → points_fit sheet entry ≡ Ok y → are_small entry.points
+small_points : (sheet : Sheet) (entry : Entry) (y : Unit {0}) → sheet.bye ≤ 2 → length entry.cells ≤ MOST_ROUNDS → points_fit sheet entry ≡ Ok y → are_small entry.points
 unfolding points_fit
 small_points sheet entry y worth few e = by entry.points e
   where
-    all : sum_by (half_points sheet.bye) entry.cells ≤ 64
+    all : sum_by (half_points sheet.bye) entry.cells ≤ 2 * MOST_ROUNDS
     all = let le : sum_by (half_points sheet.bye) entry.cells ≤ 2 * length entry.cells = sum_le sheet.bye entry.cells worth in omega arith
 
-    some : sum_by (half_points sheet.bye) (take (rounds_played sheet) entry.cells) ≤ 64
+    some : sum_by (half_points sheet.bye) (take (rounds_played sheet) entry.cells) ≤ 2 * MOST_ROUNDS
     some =
         let le : sum_by (half_points sheet.bye) (take (rounds_played sheet) entry.cells) ≤ sum_by (half_points sheet.bye) entry.cells = sum_by-take-le (half_points sheet.bye) entry.cells (rounds_played sheet) in
-        let le' : sum_by (half_points sheet.bye) entry.cells ≤ 64 = all in
+        let le' : sum_by (half_points sheet.bye) entry.cells ≤ 2 * MOST_ROUNDS = all in
         omega arith
 
     tests : (points : ℕ)
         → ((points == sum_by (half_points sheet.bye) (take (rounds_played sheet) entry.cells)) || (points == sum_by (half_points sheet.bye) entry.cells) || (has_other_points sheet && nat_lt points 200)) ≡ true
         → points < 200
     tests points h =
-        let le : sum_by (half_points sheet.bye) entry.cells ≤ 64 = all in
-        let le' : sum_by (half_points sheet.bye) (take (rounds_played sheet) entry.cells) ≤ 64 = some in
+        let le : sum_by (half_points sheet.bye) entry.cells ≤ 2 * MOST_ROUNDS = all in
+        let le' : sum_by (half_points sheet.bye) (take (rounds_played sheet) entry.cells) ≤ 2 * MOST_ROUNDS = some in
         elim (or_cases ((points == sum_by (half_points sheet.bye) (take (rounds_played sheet) entry.cells)) || (points == sum_by (half_points sheet.bye) entry.cells)) (has_other_points sheet && nat_lt points 200) h) [
           | inl sums ↦
               elim (or_cases (points == sum_by (half_points sheet.bye) (take (rounds_played sheet) entry.cells)) (points == sum_by (half_points sheet.bye) entry.cells) sums) [
@@ -390,7 +391,7 @@ record IsSized (sheet sized_sheet : Sheet) (long : Bool) : Type 0 where
 
 sized_is : (sheet next : Sheet) (long : Bool) → sized sheet long ≡ Ok next → IsSized sheet next long
 unfolding sized
-sized_is sheet next long e = by (nat_lt 256 (length sheet.players)) (length sheet.players == 0) long (names_too_many_rounds sheet) e
+sized_is sheet next long e = by (nat_lt MOST_PLAYERS (length sheet.players)) (length sheet.players == 0) long (names_too_many_rounds sheet) e
   where
     by : (many none long named : Bool)
         → ◌≡◌ {A = Result Sheet Fault} (cond many (Err (TooMany Players)) (cond (long || named) (Err (TooMany Rounds)) (cond none (Err NoPlayers) (Ok sheet)))) (Ok next) → IsSized sheet next long
@@ -402,7 +403,7 @@ sized_is sheet next long e = by (nat_lt 256 (length sheet.players)) (length shee
 
 sized_turn : (turn : Entry → Entry) (sheet : Sheet) (long : Bool) → sized sheet long ≡ Ok sheet → sized (turned turn sheet) long ≡ Ok (turned turn sheet)
 unfolding sized
-sized_turn turn sheet long e = rw (length-map sheet.players turn) (by (nat_lt 256 (length sheet.players)) (length sheet.players == 0) long (names_too_many_rounds sheet) e)
+sized_turn turn sheet long e = rw (length-map sheet.players turn) (by (nat_lt MOST_PLAYERS (length sheet.players)) (length sheet.players == 0) long (names_too_many_rounds sheet) e)
   where
     by : (many none long named : Bool)
         → ◌≡◌ {A = Result Sheet Fault} (cond many (Err (TooMany Players)) (cond (long || named) (Err (TooMany Rounds)) (cond none (Err NoPlayers) (Ok sheet)))) (Ok sheet)
@@ -510,7 +511,7 @@ rules sheet = players_fit sheet sheet.players >>= λ _. Ok sheet
 pub verdict_is : (bytes : List ℕ) (bye : ℕ) (report : Sheet) → verdict bytes bye ≡ Ok report
     → report_of (is_utf8 (without_marks bytes)) (lines (without_marks bytes)) bye ≡ Ok report
 unfolding verdict laid_out report_of rules
-verdict_is bytes bye report e = by (nat_lt 1048576 (length bytes)) e
+verdict_is bytes bye report e = by (nat_lt MOST_BYTES (length bytes)) e
   where
     read : Result Sheet Fault
     read = lines_onto (without_players (is_utf8 (without_marks bytes)) (lines (without_marks bytes)) bye) 1 (lines (without_marks bytes))
@@ -522,11 +523,11 @@ verdict_is bytes bye report e = by (nat_lt 1048576 (length bytes)) e
     by true e = absurd (not_ok (TooMany Bytes) report e)
     by false e = sym (then_assoc read size rules) ∙ e
 
-verdict_from : (bytes : List ℕ) (bye : ℕ) (report : Sheet) → length bytes ≤ 1048576 → without_marks bytes ≡ bytes
+verdict_from : (bytes : List ℕ) (bye : ℕ) (report : Sheet) → length bytes ≤ MOST_BYTES → without_marks bytes ≡ bytes
     → report_of (is_utf8 bytes) (lines bytes) bye ≡ Ok report → verdict bytes bye ≡ Ok report
 unfolding verdict laid_out report_of rules
 verdict_from bytes bye report few same e =
-    rw (le-ltb 1048576 (length bytes) few, same)
+    rw (le-ltb MOST_BYTES (length bytes) few, same)
     (then_assoc (lines_onto (without_players (is_utf8 bytes) (lines bytes) bye) 1 (lines bytes)) (λ sheet. sized sheet (has_too_many_rounds (is_utf8 bytes) (lines bytes))) rules ∙ e)
 
 -- the lines of a text behind its marks, laid out
@@ -550,7 +551,7 @@ laid_is bytes bye report r =
 
 pub laid_of : (bytes : List ℕ) (bye : ℕ) (report : Sheet) → laid_out bytes bye ≡ Ok report → IsLaidOutOf bytes bye report
 unfolding laid_out
-laid_of bytes bye report e = by (nat_lt 1048576 (length bytes)) e
+laid_of bytes bye report e = by (nat_lt MOST_BYTES (length bytes)) e
   where
     by : (b : Bool)
         → cond b (Err (TooMany Bytes))
@@ -587,7 +588,7 @@ kept_bye bytes bye report e = (laid_is bytes bye report (read_laid bytes bye rep
 
 -- the text of a report that is laid out and whose players were changed
 pub laid_again : (bytes : List ℕ) (bye : ℕ) (report : Sheet) (turn : Entry → Entry) → bye ≤ 2 → IsLaidOutOf bytes bye report → Turns report.utf8 turn
-    → players_fit (turned turn report) (map turn report.players) ≡ Ok tt → length (written (turned turn report)) ≤ 1048576
+    → players_fit (turned turn report) (map turn report.players) ≡ Ok tt → length (written (turned turn report)) ≤ MOST_BYTES
     → verdict (written (turned turn report)) report.bye ≡ Ok (turned turn report)
 laid_again bytes bye report turn worth r turns fit few =
     let body = without_marks bytes in
@@ -599,18 +600,18 @@ laid_again bytes bye report turn worth r turns fit few =
 
 -- the same of a report that was read
 pub written_again : (bytes : List ℕ) (bye : ℕ) (report : Sheet) (turn : Entry → Entry) → bye ≤ 2 → verdict bytes bye ≡ Ok report → Turns report.utf8 turn
-    → players_fit (turned turn report) (map turn report.players) ≡ Ok tt → length (written (turned turn report)) ≤ 1048576
+    → players_fit (turned turn report) (map turn report.players) ≡ Ok tt → length (written (turned turn report)) ≤ MOST_BYTES
     → verdict (written (turned turn report)) report.bye ≡ Ok (turned turn report)
 written_again bytes bye report turn worth e turns fit few = laid_again bytes bye report turn worth (read_laid bytes bye report e) turns fit few
 
 unchanged : (utf8 : Bool) → Turns utf8 (λ entry. entry)
 unchanged utf8 = record { start = λ entry. refl; line = λ entry. refl; left = λ entry. refl; right = λ entry. refl; sound = λ entry sound. sound }
 
-pub round_trip : (bytes : List ℕ) (bye : ℕ) (report : Sheet) → bye ≤ 2 → verdict bytes bye ≡ Ok report → length (written report) ≤ 1048576
+pub round_trip : (bytes : List ℕ) (bye : ℕ) (report : Sheet) → bye ≤ 2 → verdict bytes bye ≡ Ok report → length (written report) ≤ MOST_BYTES
     → verdict (written report) report.bye ≡ Ok report
 round_trip bytes bye report worth e few =
     let same : turned (λ entry. entry) report ≡ report = ap (λ (ps : List Entry). record report { players = ps }) (map-id report.players) in
     let fit : players_fit (turned (λ entry. entry) report) (map (λ entry. entry) report.players) ≡ Ok tt =
     subst (λ (s : Sheet). players_fit s s.players ≡ Ok tt) (sym same) (were_fit bytes bye report e) in
     subst (λ (s : Sheet). verdict (written s) report.bye ≡ Ok s) same
-    (written_again bytes bye report (λ entry. entry) worth e (unchanged report.utf8) fit (subst (λ (s : Sheet). length (written s) ≤ 1048576) (sym same) few))
+    (written_again bytes bye report (λ entry. entry) worth e (unchanged report.utf8) fit (subst (λ (s : Sheet). length (written s) ≤ MOST_BYTES) (sym same) few))

@@ -200,6 +200,13 @@ rounds-written n line before (suc more) (cell ∷ cells) sound few e =
     let left : suc more - length (cell ∷ cells) ≡ more - length cells = omega arith in
     rw (here, rounds-written n line (before + 1) more cells both.1 (omega arith) others, left) refl
 
+-- where a line has ended, all further rounds are blank
+pub rounds-none : (n : ℕ) (line : List (List ℕ)) (before more : ℕ) → drop (91 + 10 * before) line ≡ [] → rounds_at n line before more ≡ Ok (replicate more Blank)
+unfolding tail_of
+rounds-none n line before more e =
+    let all : more - 0 ≡ more = omega arith in
+    subst (λ m. rounds_at n line before more ≡ Ok (replicate m Blank)) all (rounds-written n line before more [] refl (omega arith) e)
+
 -- read rounds
 
 -- a field of which the words are ASCII

@@ -61,7 +61,7 @@ pub record Tells (notes : Notes) (sheet : Sheet) : Type 0 where
 
 -- whether two players, by their places in the order of the lines, are marked as named together
 abbrev pub are_marked : Apart → ℕ → ℕ → Bool
-are_marked apart i j = slice_index_or apart.marks.items (256 * i + j) false
+are_marked apart i j = slice_index_or apart.marks.items (vec_len apart.starts * i + j) false
 
 -- the start rank of the player at a place
 abbrev pub start_at : Apart → ℕ → ℕ

@@ -8,6 +8,7 @@ use Rattle.trf16.specs.declared.cell.Colour.TheVariants.{White, Black}
 use Rattle.trf16.specs.declared.cell.Bye.TheVariants.{Allocated}
 use Rattle.trf16.specs.declared.cell.Cell.{Cell}
 use Rattle.trf16.specs.declared.cell.Cell.TheVariants.{Blank, Bye, Unfinished}
+use Rattle.trf16.specs.declared.limits.TheConstants.{MOST_ROUNDS}
 
 -- the start ranks that some boards name, white and then black; where black is 0, white has the bye
 abbrev pub named_by : List (ℕ × ℕ) → List ℕ
@@ -20,7 +21,7 @@ pub record CanBePaired (boards : List (ℕ × ℕ)) (sheet : Sheet) : Type 0 whe
   pub players : All (λ start. known sheet start ≡ true) (named_by boards)
   pub present : All (λ start. absent sheet start ≡ false) (named_by boards)
   pub once : IsDistinct nat_eq (named_by boards)
-  pub within : rounds_played sheet < 32
+  pub within : rounds_played sheet < MOST_ROUNDS
 
 -- what a board gives a player, if it names him: a game without a result yet, or the pairing-allocated bye
 abbrev pub cell_on : ℕ × ℕ → ℕ → Option Cell

@@ -1,5 +1,5 @@
 -- What the inner functions cut off a text, or put of it, one step at a time.
-use Rattle.std.specs.Prelude.{◌≡◌, ℕ, ◌<◌, ◌≤◌, Bool, true, not, ◌&&◌, ◌==◌, nat_eq, if◌then◌else◌, List, [], ◌∷◌, ◌++◌, length, take, drop, slice_index, Option, Some, None}
+use Rattle.std.specs.Prelude.{◌≡◌, ℕ, ◌<◌, ◌≤◌, Bool, true, not, ◌&&◌, ◌==◌, nat_eq, if◌then◌else◌, List, [], ◌∷◌, ◌++◌, length, take, drop, slice_index_or, Option, Some, None}
 use Rattle.trf16.specs.Lines.{columns, joined}
 use Rattle.std.specs.List.{list_any}
 use Rattle.std.specs.Str.{byte}
@@ -19,9 +19,10 @@ pub record IsStart (utf8 : Bool) (bytes : List ℕ) (before at : ℕ) : Type 0 w
   pub front : take at bytes ≡ joined (take before (columns utf8 bytes))
   pub back : columns utf8 (drop at bytes) ≡ drop before (columns utf8 bytes)
 
--- the first `count` of these places are where columns begin, one after the other
+-- the first `count` of these places are where columns begin, one after the other; where there are fewer places, each further column
+-- begins at the end of the line
 abbrev pub AllStart : Bool → List ℕ → List ℕ → ℕ → Type 0
-AllStart utf8 bytes starts count = (k : ℕ) → k < count → IsStart utf8 bytes k (slice_index starts k)
+AllStart utf8 bytes starts count = (k : ℕ) → k < count → IsStart utf8 bytes k (slice_index_or starts k (length bytes))
 
 -- the line that is put next: one that is carried, or that of the next player
 abbrev pub next_text : Bool → Option (List ℕ) → List Entry → List ℕ

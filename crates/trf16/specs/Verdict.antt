@@ -15,6 +15,7 @@ use Rattle.trf16.specs.declared.cell.Cell.TheVariants.{Blank}
 use Rattle.trf16.specs.declared.fault.Excess.TheVariants.{Bytes, Players, Rounds}
 use Rattle.trf16.specs.declared.fault.Fault.{Fault}
 use Rattle.trf16.specs.declared.fault.Fault.TheVariants.{BadNumber, Duplicate, Misaligned, BadCell, BadExtension, TooMany, NoPlayers}
+use Rattle.trf16.specs.declared.limits.TheConstants.{MOST_PLAYERS, MOST_ROUNDS, MOST_BYTES, LAST_COLUMN}
 
 -- column k of line n must be blank
 unfoldable pub blank_at : ℕ → List (List ℕ) → ℕ → Result (Unit {0}) Fault
@@ -63,7 +64,7 @@ is_blank_cell _ = false
 -- the rounds of a line up to the last that is not blank
 unfoldable pub cells_at : ℕ → List (List ℕ) → Result (List Cell) Fault
 cells_at n line = do
-  cells ← rounds_at n line 0 32
+  cells ← rounds_at n line 0 MOST_ROUNDS
   Ok (without_last is_blank_cell cells)
 
 -- the player that line n names, behind those of the lines before
@@ -81,9 +82,9 @@ player_at sheet n line = do
 abbrev pub is_player : List (List ℕ) → Bool
 is_player line = bytes_eq (text line 1 3) (codes "001")
 
--- something stands behind the last round that is read, in column 412 or further on
+-- something stands behind the last round that there can be
 abbrev pub is_too_long : List (List ℕ) → Bool
-is_too_long line = not (is_blank (joined (drop 411 line)))
+is_too_long line = not (is_blank (joined (drop LAST_COLUMN line)))
 
 -- XXR: the number of rounds, which no earlier line has named
 unfoldable pub rounds_onto : Sheet → ℕ → List (List ℕ) → Result Sheet Fault
@@ -135,14 +136,14 @@ without_players utf8 all bye =
 abbrev pub has_too_many_rounds : Bool → List (List ℕ) → Bool
 has_too_many_rounds utf8 all = list_any (λ line. is_player (columns utf8 line) && is_too_long (columns utf8 line)) all
 
--- more than 32 rounds are named
+-- more rounds are named than there can be
 abbrev pub names_too_many_rounds : Sheet → Bool
-names_too_many_rounds sheet = option_map_or (λ total. nat_lt 32 total) sheet.total false
+names_too_many_rounds sheet = option_map_or (λ total. nat_lt MOST_ROUNDS total) sheet.total false
 
 -- the report, where it is not too large and has players
 unfoldable pub sized : Sheet → Bool → Result Sheet Fault
 sized sheet too_long =
-    if nat_lt 256 (length sheet.players) then Err (TooMany Players)
+    if nat_lt MOST_PLAYERS (length sheet.players) then Err (TooMany Players)
     else (if too_long || names_too_many_rounds sheet then Err (TooMany Rounds)
     else (if length sheet.players == 0 then Err NoPlayers else Ok sheet))
 
@@ -152,7 +153,7 @@ unfoldable pub laid_out : List ℕ → ℕ → Result Sheet Fault
 laid_out bytes bye =
     let utf8 = is_utf8 (without_marks bytes) in
     let all = lines (without_marks bytes) in
-    if nat_lt 1048576 (length bytes) then Err (TooMany Bytes)
+    if nat_lt MOST_BYTES (length bytes) then Err (TooMany Bytes)
     else (lines_onto (without_players utf8 all bye) 1 all >>= λ sheet. sized sheet (has_too_many_rounds utf8 all))
 
 -- the report that a text is where the pairing-allocated bye gives so many half points, or the first rule that it breaks

@@ -5,6 +5,7 @@ ghost use Rattle.trf16.specs.Outcomes.{Gives};
 ghost use Rattle.trf16.specs.Sheet.{entry_of, opponent_in_cell, rounds_played};
 ghost use Rattle.trf16.specs.Summed.{all_cells_fit};
 ghost use Rattle.trf16.specs.Answering.{are_opposite, is_forfeit, are_of_one_class, pair_fits, cell_fits, cells_fit, points_fit, player_fits, players_fit};
+ghost use Rattle.trf16.specs.declared.limits.TheConstants.{MOST_ROUNDS};
 
 use crate::cell::{Cell, Colour};
 use crate::cells::front;
@@ -104,7 +105,7 @@ fn names(cell: &Cell, player: u16) -> bool
 
 // All cells of a player.
 fn cells_fit(report: &Report<'_>, player: u16, cells: &[Cell]) -> Result<(), Fault>
-    requires { length cells.now ≤ 32 }
+    requires { length cells.now ≤ MOST_ROUNDS }
     ensures { Gives (λ x. x) result (cells_fit report.now player 1 cells.now) }
 {
     for (i, cell) in cells.iter().enumerate() {

@@ -1,11 +1,12 @@
 // Which players are named together by lines `XXP`.
 ghost use Rattle.std.specs.Prelude.{◌≤◌, vec_len};
+ghost use Rattle.trf16.specs.declared.limits.TheConstants.{MOST_PLAYERS};
 
 /// A mark for each two players, by their places in the order of the lines; no mark at all where no line names two.
 #[derive(Drop)]
 pub(crate) struct Apart {
     pub(crate) starts: Vec<u16>,
-    // the row of one player after the other, of 256 places each
+    // the row of one player after the other, of a place for each player
     pub(crate) marks: Vec<bool>,
-    ghost few: { vec_len starts ≤ 256 },
+    ghost few: { vec_len starts ≤ MOST_PLAYERS },
 }

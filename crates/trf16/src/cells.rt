@@ -1,7 +1,8 @@
 // The cells of a player, which stand for the rounds from 1 on: one of them, the first of them, and what they come to.
-ghost use Rattle.std.specs.Prelude.{◌≡◌, ◌<◌, ◌≤◌, length, sum_by, take};
+ghost use Rattle.std.specs.Prelude.{◌≡◌, ◌<◌, ◌≤◌, ◌*◌, length, sum_by, take};
 ghost use Rattle.trf16.specs.Sheet.{cell_at, half_points, is_paired, last_paired};
 ghost use Rattle.trf16.specs.Unfinished.{is_unfinished, first_unfinished};
+ghost use Rattle.trf16.specs.declared.limits.TheConstants.{MOST_ROUNDS};
 
 use crate::cell::{Bye, Cell};
 
@@ -26,10 +27,10 @@ pub fn front(cells: &[Cell], rounds: u8) -> &[Cell]
 
 /// The half points of some rounds, where the pairing-allocated bye gives `bye`, 0 to 2.
 pub(crate) fn points_of(cells: &[Cell], bye: u16) -> u16
-    requires rounds { length cells.now ≤ 32 }
+    requires rounds { length cells.now ≤ MOST_ROUNDS }
     requires worth { bye ≤ 2 }
     ensures value { result ≡ sum_by (half_points bye) cells.now }
-    ensures few { result ≤ 64 }
+    ensures few { result ≤ 2 * MOST_ROUNDS }
 {
     let mut sum = 0;
     for cell in cells {
@@ -52,7 +53,7 @@ fn is_paired(cell: &Cell) -> bool
 
 /// The last round in which one of some cells is paired.
 pub(crate) fn last_paired(cells: &[Cell]) -> u8
-    requires { length cells.now ≤ 32 }
+    requires { length cells.now ≤ MOST_ROUNDS }
     ensures value { result ≡ last_paired cells.now }
     ensures within { result ≤ length cells.now }
 {
@@ -76,7 +77,7 @@ fn is_unfinished(cell: &Cell) -> bool
 
 /// The first round with a game that has no result.
 pub(crate) fn first_unfinished(cells: &[Cell]) -> Option<usize>
-    requires { length cells.now ≤ 32 }
+    requires { length cells.now ≤ MOST_ROUNDS }
     ensures { result ≡ first_unfinished 1 cells.now }
 {
     for (i, cell) in cells.iter().enumerate() {

@@ -1,28 +1,28 @@
 // The columns of a line: its characters where the text is UTF-8, else its bytes.
-ghost use Rattle.std.specs.Prelude.{◌≡◌, ℕ, ◌+◌, ◌-◌, ◌<◌, ◌≤◌, ◌∷◌, List, length, slice_index, take, drop, true, false, not};
+ghost use Rattle.std.specs.Prelude.{◌≡◌, ℕ, ◌+◌, ◌-◌, ◌<◌, ◌≤◌, ◌∷◌, List, length, slice_index, take, drop, true, false, not, [], slice_index_or, IfOk};
 ghost use Rattle.trf16.specs.Lines.{columns, goes_on, text, joined, is_blank};
 ghost use Rattle.trf16.specs.Steps.{IsStart, AllStart};
+ghost use Rattle.trf16.specs.declared.limits.TheConstants.{LAST_COLUMN};
 
+use crate::limits::LAST_COLUMN;
+use std::alloc::{AllocError, Global};
 use std::marker::Model;
 
-/// The columns 1 to 411 of a line, found once: the last of them ends the 32nd round.
+/// The columns of a line up to the one that ends the last round that there can be, found once.
 #[derive(Drop)]
 pub(crate) struct Line<'a> {
     bytes: &'a [u8],
     utf8: bool,
-    // where each column begins, and at the end where the last one ends
-    starts: [usize; STARTS],
+    // where each of these columns begins, and the one behind them; where the line ends before, no further place
+    starts: Vec<usize>,
 }
-
-// 411 columns hold 32 rounds.
-const STARTS: usize = 412;
 
 impl<'a> Model for Line<'a> {
     ghost Value = { List (List ℕ) };
 
     ghost view = { λ l. columns l.utf8 l.bytes.now };
 
-    ghost invariant = { λ l. AllStart l.utf8 l.bytes.now l.starts 412 };
+    ghost invariant = { λ l. AllStart l.utf8 l.bytes.now l.starts.items (LAST_COLUMN + 1) };
 }
 
 // How many bytes in front go on with a character.
@@ -51,43 +51,76 @@ pub(crate) fn column_len(bytes: &[u8], utf8: bool) -> usize
     if utf8 { 1 + follow_len(rest) } else { 1 }
 }
 
+// The place of a column, of some; each further one begins at the end of the line.
+fn place_at(starts: &[usize], k: usize, end: usize) -> usize
+    ensures { result ≡ slice_index_or starts.now k end }
+{
+    starts.get(k).copied().unwrap_or(end)
+}
+
 impl<'a> Line<'a> {
     /// Finds the columns of a line.
-    pub(crate) fn new(bytes: &'a [u8], utf8: bool) -> Line<'a>
-        ensures { result ≡ columns utf8 bytes.now }
+    pub(crate) fn new(alloc: Global, bytes: &'a [u8], utf8: bool) -> Result<Line<'a>, AllocError>
+        ensures { IfOk result (λ line. line ≡ columns utf8 bytes.now) }
     {
-        let mut starts = [0; STARTS];
+        let mut starts = Vec::with_capacity(alloc, bytes.len().min(LAST_COLUMN + 1))?;
         let mut at = 0;
-        for k in 0..STARTS {
-            starts[k] = at;
+        while at < bytes.len() && starts.len() <= LAST_COLUMN {
+            starts.push(at)?;
             let (_, rest) = bytes.split_at(at);
             at += column_len(rest, utf8);
         }
-        Line {
+        Ok(Line {
             bytes,
             utf8,
             starts,
-        }
+        })
     }
 
     /// The bytes of the columns `first` to `last`, which count from 1.
     pub(crate) fn text(&self, first: usize, last: usize) -> &'a [u8]
         requires from_one { 0 < first }
         requires in_order { first ≤ last + 1 }
-        requires in_reach { last < 412 }
+        requires in_reach { last ≤ LAST_COLUMN }
         ensures { result.now ≡ text self.now first last }
     {
-        let (front, _) = self.bytes.split_at(self.starts[last]);
-        front.split_at(self.starts[first - 1]).1
+        let len = self.bytes.len();
+        let (front, _) = self.bytes.split_at(place_at(&self.starts, last, len));
+        front.split_at(place_at(&self.starts, first - 1, len)).1
+    }
+
+    /// Whether the line has a column; each is taken to be there that is not known to be missing.
+    pub(crate) fn reaches(&self, column: usize) -> bool
+        requires from_one { 0 < column }
+        requires in_reach { column ≤ LAST_COLUMN }
+        ensures { result ≡ false → drop (column - 1) self.now ≡ [] }
+    {
+        let len = self.bytes.len();
+        place_at(&self.starts, column - 1, len) < len
     }
 
     /// Whether something stands behind the last column that is read.
     pub(crate) fn is_too_long(&self) -> bool
-        ensures { result ≡ not (is_blank (joined (drop 411 self.now))) }
+        ensures { result ≡ not (is_blank (joined (drop LAST_COLUMN self.now))) }
     {
-        let (_, rest) = self.bytes.split_at(self.starts[411]);
+        let end = place_at(&self.starts, LAST_COLUMN, self.bytes.len());
+        let (_, rest) = self.bytes.split_at(end);
         !is_blank(rest)
     }
+}
+
+/// The first columns of a line, and what stands behind them.
+pub(crate) fn split_columns(bytes: &[u8], utf8: bool, count: usize) -> (&[u8], &[u8])
+    ensures front { result.0.now ≡ joined (take count (columns utf8 bytes.now)) }
+    ensures back { columns utf8 result.1.now ≡ drop count (columns utf8 bytes.now) }
+    ensures rest { result.1.now ≡ joined (drop count (columns utf8 bytes.now)) }
+{
+    let mut len = 0;
+    for _ in 0..count {
+        let (_, rest) = bytes.split_at(len);
+        len += column_len(rest, utf8);
+    }
+    bytes.split_at(len)
 }
 
 /// The first three columns of a line, and what stands behind them.
@@ -95,12 +128,7 @@ pub(crate) fn split_kind(bytes: &[u8], utf8: bool) -> (&[u8], &[u8])
     ensures kind { result.0.now ≡ text (columns utf8 bytes.now) 1 3 }
     ensures rest { result.1.now ≡ joined (drop 3 (columns utf8 bytes.now)) }
 {
-    let mut len = 0;
-    for _ in 0..3usize {
-        let (_, rest) = bytes.split_at(len);
-        len += column_len(rest, utf8);
-    }
-    bytes.split_at(len)
+    split_columns(bytes, utf8, 3)
 }
 
 /// How many columns a text has: characters where it is of a UTF-8 text, else bytes. It takes time in step with the text.

@@ -5,7 +5,9 @@ ghost use Rattle.trf16.specs.Outcomes.{Gives};
 ghost use Rattle.trf16.specs.Sheet.{entry_of, with_player, known};
 ghost use Rattle.trf16.specs.Verdict.{without_players, names_too_many_rounds};
 ghost use Rattle.trf16.specs.Notes.{Tells, TellsApart};
+ghost use Rattle.trf16.specs.declared.limits.TheConstants.{MOST_PLAYERS};
 
+use crate::limits::MOST_ROUNDS;
 use crate::apart::Apart;
 use crate::cell::Colour;
 use crate::fault::Fault;
@@ -124,12 +126,12 @@ impl<'a> Draft<'a> {
         self.initial = initial;
     }
 
-    /// Whether more than 32 rounds are named.
+    /// Whether more than `MOST_ROUNDS` rounds are named.
     pub(crate) fn names_too_many_rounds(&self) -> bool
         ensures { result ≡ names_too_many_rounds self.now }
     {
         match self.total {
-            Some(rounds) => 32 < rounds,
+            Some(rounds) => MOST_ROUNDS < usize::from(rounds),
             None => false,
         }
     }
@@ -149,7 +151,7 @@ impl<'a> Draft<'a> {
     /// Who is named together by lines `XXP`, where it is noted whether there is one.
     pub(crate) fn apart(&self, alloc: Global, notes: &Notes) -> Result<Apart, AllocError>
         requires noted { Tells notes.now self.now }
-        requires few { length self.now.players ≤ 256 }
+        requires few { length self.now.players ≤ MOST_PLAYERS }
         ensures { IfOk result (λ apart. TellsApart apart self.now) }
     {
         let starts = self.starts(alloc)?;
@@ -164,7 +166,7 @@ impl<'a> Draft<'a> {
     pub(crate) fn into_report(self, notes: Notes, apart: Apart) -> Report<'a>
         requires noted { Tells notes self }
         requires told_apart { TellsApart apart self }
-        requires few_players { length self.players ≤ 256 }
+        requires few_players { length self.players ≤ MOST_PLAYERS }
         requires few_rounds { names_too_many_rounds self ≡ false }
         ensures { result ≡ self.entry }
     {

@@ -11,10 +11,10 @@ pub enum Excess {
     /// More than 1,048,576 bytes.
     #[error("bytes")]
     Bytes,
-    /// More than 256 players.
+    /// More than `MOST_PLAYERS` players.
     #[error("players")]
     Players,
-    /// More than 32 rounds.
+    /// More than `MOST_ROUNDS` rounds.
     #[error("rounds")]
     Rounds,
 }

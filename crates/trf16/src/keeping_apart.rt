@@ -1,11 +1,12 @@
 // Marking which players are named together by lines `XXP`: each line names a set, and each two of it are marked.
-ghost use Rattle.std.specs.Prelude.{◌≡◌, ℕ, ◌<◌, ◌≤◌, ◌&&◌, ◌||◌, ◌==◌, nat_lt, false, codes, IfOk, length, vec_len};
+ghost use Rattle.std.specs.Prelude.{◌≡◌, ℕ, ◌<◌, ◌≤◌, ◌&&◌, ◌||◌, ◌==◌, ◌*◌, nat_lt, false, codes, IfOk, length, vec_len};
 ghost use Rattle.trf16.specs.Lines.{lines, columns};
 ghost use Rattle.trf16.specs.Fields.{words};
 ghost use Rattle.trf16.specs.Extensions.{is_word, is_named, names_both};
 ghost use Rattle.trf16.specs.Notes.{has_start, are_marked, start_at};
 ghost use Rattle.trf16.specs.Verdict.{without_players};
 ghost use Rattle.trf16.specs.Absence.{some_carried};
+ghost use Rattle.trf16.specs.declared.limits.TheConstants.{MOST_PLAYERS};
 
 use crate::apart::Apart;
 use crate::columns::split_kind;
@@ -14,13 +15,10 @@ use crate::lines::next_line;
 use crate::start_ranks::StartRanks;
 use std::alloc::{AllocError, Global};
 
-// A player has a place below this.
-const PLACES: usize = 256;
-
 impl Apart {
     /// Nobody is named together with another.
     pub(crate) fn none(alloc: Global, starts: Vec<u16>) -> Apart
-        requires { vec_len starts ≤ 256 }
+        requires { vec_len starts ≤ MOST_PLAYERS }
         ensures none { (i j : ℕ) → are_marked result i j ≡ false }
         ensures same { result.starts ≡ starts }
     {
@@ -32,15 +30,14 @@ impl Apart {
 
     // The same with room for a mark for each two.
     fn with_room(alloc: Global, starts: Vec<u16>) -> Result<Apart, AllocError>
-        requires { vec_len starts ≤ 256 }
+        requires { vec_len starts ≤ MOST_PLAYERS }
         ensures none { IfOk result (λ apart. (i j : ℕ) → are_marked apart i j ≡ false) }
         ensures same { IfOk result (λ apart. apart.starts ≡ starts) }
-        ensures room { IfOk result (λ apart. vec_len apart.marks ≡ 65536) }
+        ensures room { IfOk result (λ apart. vec_len apart.marks ≡ vec_len apart.starts * vec_len apart.starts) }
     {
-        Ok(Apart {
-            starts,
-            marks: Vec::from_elem(alloc, false, PLACES * PLACES)?,
-        })
+        let places = starts.len();
+        let marks = Vec::from_elem(alloc, false, places * places)?;
+        Ok(Apart { starts, marks })
     }
 
     /// The same once more.
@@ -57,11 +54,11 @@ impl Apart {
 
     /// Whether two players are named together.
     pub(crate) fn has(&self, i: usize, j: usize) -> bool
-        requires first { i < 256 }
-        requires second { j < 256 }
+        requires first { i < MOST_PLAYERS }
+        requires second { j < MOST_PLAYERS }
         ensures { result ≡ are_marked self.now i j }
     {
-        match self.marks.get(PLACES * i + j) {
+        match self.marks.get(self.starts.len() * i + j) {
             Some(marked) => *marked,
             None => false,
         }
@@ -69,23 +66,23 @@ impl Apart {
 
     // Marks two players.
     fn mark(&mut self, i: usize, j: usize)
-        requires first { i < 256 }
-        requires second { j < 256 }
-        requires room { vec_len self.old.marks ≡ 65536 }
-        ensures marked { (k l : ℕ) → l < 256 → are_marked self.new k l ≡ (are_marked self.old k l || ((i == k) && (j == l))) }
+        requires first { i < vec_len self.old.starts }
+        requires second { j < vec_len self.old.starts }
+        requires room { vec_len self.old.marks ≡ vec_len self.old.starts * vec_len self.old.starts }
+        ensures marked { (k l : ℕ) → l < vec_len self.old.starts → are_marked self.new k l ≡ (are_marked self.old k l || ((i == k) && (j == l))) }
         ensures same { self.new.starts ≡ self.old.starts }
-        ensures room { vec_len self.new.marks ≡ 65536 }
+        ensures room { vec_len self.new.marks ≡ vec_len self.new.starts * vec_len self.new.starts }
     {
-        self.marks[PLACES * i + j] = true;
+        self.marks[self.starts.len() * i + j] = true;
     }
 
     // Marks a player together with each one who is named.
     fn mark_row(&mut self, i: usize, named: &StartRanks)
-        requires first { i < 256 }
-        requires room { vec_len self.old.marks ≡ 65536 }
+        requires first { i < vec_len self.old.starts }
+        requires room { vec_len self.old.marks ≡ vec_len self.old.starts * vec_len self.old.starts }
         ensures marked { (k l : ℕ) → l < vec_len self.old.starts → are_marked self.new k l ≡ (are_marked self.old k l || ((i == k) && has_start named.now (start_at self.old l))) }
         ensures same { self.new.starts ≡ self.old.starts }
-        ensures room { vec_len self.new.marks ≡ 65536 }
+        ensures room { vec_len self.new.marks ≡ vec_len self.new.starts * vec_len self.new.starts }
     {
         for j in 0..self.starts.len() {
             if named.has(self.starts[j]) {
@@ -96,10 +93,10 @@ impl Apart {
 
     // Marks each two who are named.
     fn mark_named(&mut self, named: &StartRanks)
-        requires room { vec_len self.old.marks ≡ 65536 }
+        requires room { vec_len self.old.marks ≡ vec_len self.old.starts * vec_len self.old.starts }
         ensures marked { (k l : ℕ) → k < vec_len self.old.starts → l < vec_len self.old.starts → are_marked self.new k l ≡ (are_marked self.old k l || (has_start named.now (start_at self.old k) && has_start named.now (start_at self.old l))) }
         ensures same { self.new.starts ≡ self.old.starts }
-        ensures room { vec_len self.new.marks ≡ 65536 }
+        ensures room { vec_len self.new.marks ≡ vec_len self.new.starts * vec_len self.new.starts }
     {
         for i in 0..self.starts.len() {
             if named.has(self.starts[i]) {
@@ -110,10 +107,10 @@ impl Apart {
 
     // Marks each two whom a line names, if it is of the kind `XXP`.
     fn mark_line(&mut self, alloc: Global, line: &[u8], utf8: bool) -> Result<(), AllocError>
-        requires room { vec_len self.old.marks ≡ 65536 }
+        requires room { vec_len self.old.marks ≡ vec_len self.old.starts * vec_len self.old.starts }
         ensures marked { IfOk result (λ _. (k l : ℕ) → k < vec_len self.old.starts → l < vec_len self.old.starts → are_marked self.new k l ≡ (are_marked self.old k l || names_both (start_at self.old k) (start_at self.old l) (columns utf8 line.now))) }
         ensures same { IfOk result (λ _. self.new.starts ≡ self.old.starts) }
-        ensures room { IfOk result (λ _. vec_len self.new.marks ≡ 65536) }
+        ensures room { IfOk result (λ _. vec_len self.new.marks ≡ vec_len self.new.starts * vec_len self.new.starts) }
     {
         let (kind, rest) = split_kind(line, utf8);
         if is_word(kind, b"XXP") {
@@ -131,7 +128,7 @@ impl Apart {
         text: &[u8],
         utf8: bool,
     ) -> Result<Apart, AllocError>
-        requires { vec_len starts ≤ 256 }
+        requires { vec_len starts ≤ MOST_PLAYERS }
         ensures both { IfOk result (λ apart. (i j : ℕ) → i < vec_len starts → j < vec_len starts → are_marked apart i j ≡ some_carried (names_both (start_at apart i) (start_at apart j)) (without_players utf8 (lines text.now) 0)) }
         ensures same { IfOk result (λ apart. apart.starts ≡ starts) }
     {

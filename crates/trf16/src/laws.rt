@@ -15,6 +15,7 @@ ghost use Rattle.trf16.specs.Verdict.{verdict};
 ghost use Rattle.trf16.specs.Written.{right_in_four, points_text, cell_text, written};
 ghost use Rattle.trf16.specs.Round.{CanBePaired, with_round};
 ghost use Rattle.trf16.specs.declared.cell.Cell.{Cell};
+ghost use Rattle.trf16.specs.declared.limits.TheConstants.{MOST_BYTES};
 
 /// A number of one to four digits that is written at the right of four columns reads back as itself.
 pub fn law_numbers()
@@ -54,7 +55,7 @@ pub fn law_lines()
 /// The canonical text of a report that was read reads back as that report, by what the pairing-allocated bye gives in it, unless it is too
 /// long.
 pub fn law_round_trip()
-    ensures { (bytes : List ℕ) → (bye : ℕ) → (report : Sheet) → bye ≤ 2 → verdict bytes bye ≡ Ok report → length (written report) ≤ 1048576
+    ensures { (bytes : List ℕ) → (bye : ℕ) → (report : Sheet) → bye ≤ 2 → verdict bytes bye ≡ Ok report → length (written report) ≤ MOST_BYTES
         → verdict (written report) report.bye ≡ Ok report }
 {}
 
@@ -62,7 +63,7 @@ pub fn law_round_trip()
 /// pairing-allocated bye gives in it, unless it is too long.
 pub fn law_round_trip_with_round()
     ensures { (bytes : List ℕ) → (bye : ℕ) → (report : Sheet) → (boards : List (ℕ × ℕ)) → bye ≤ 2 → verdict bytes bye ≡ Ok report
-        → CanBePaired boards report → 0 < length boards → length (written (with_round boards report)) ≤ 1048576
+        → CanBePaired boards report → 0 < length boards → length (written (with_round boards report)) ≤ MOST_BYTES
         → verdict (written (with_round boards report)) report.bye ≡ Ok (with_round boards report) }
 {}
 
@@ -76,10 +77,10 @@ pub fn points_are_the_last_rule()
 /// with its sums, by what the pairing-allocated bye gives in it, unless it is too long.
 pub fn sums_are_accepted()
     ensures { (bytes : List ℕ) → (bye : ℕ) → (report : Sheet) → bye ≤ 2 → verdict_unsummed bytes bye ≡ Ok report
-        → length (written (summed report)) ≤ 1048576 → verdict (written (summed report)) report.bye ≡ Ok (summed report) }
+        → length (written (summed report)) ≤ MOST_BYTES → verdict (written (summed report)) report.bye ≡ Ok (summed report) }
 {}
 
-/// In an accepted report no two players have one start rank, each start rank is from 1 to 9999, and a total of rounds is at most 32.
+/// In an accepted report no two players have one start rank, each start rank is from 1 to 9999, and a total of rounds is at most `MOST_ROUNDS`.
 pub fn start_ranks_are_own()
     ensures { (bytes : List ℕ) (bye : ℕ) (sheet : Sheet) → verdict bytes bye ≡ Ok sheet → HasOwnStarts sheet }
 {}

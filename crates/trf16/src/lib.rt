@@ -15,6 +15,7 @@ mod grammar;
 mod keeping_apart;
 pub mod kind;
 pub mod laws;
+pub mod limits;
 mod lines;
 mod marking;
 pub mod meetings;

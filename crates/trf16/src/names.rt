@@ -4,7 +4,7 @@ ghost use Rattle.trf16.specs.Lines.{columns, text};
 ghost use Rattle.trf16.specs.Fields.{without_blanks};
 ghost use Rattle.trf16.specs.Names.{name_in};
 
-use crate::columns::Line;
+use crate::columns::split_columns;
 use crate::fields::without_blanks;
 use crate::report::Report;
 
@@ -12,7 +12,8 @@ use crate::report::Report;
 fn name_of(left: &[u8], utf8: bool) -> &[u8]
     ensures { result.now ≡ without_blanks (text (columns utf8 left.now) 7 39) }
 {
-    without_blanks(Line::new(left, utf8).text(7, 39))
+    let (_, behind) = split_columns(left, utf8, 6);
+    without_blanks(split_columns(behind, utf8, 33).0)
 }
 
 impl<'a> Report<'a> {

@@ -1,5 +1,6 @@
 // A player of a report: what his line says, field by field.
 ghost use Rattle.std.specs.Prelude.{◌≤◌, vec_len};
+ghost use Rattle.trf16.specs.declared.limits.TheConstants.{MOST_ROUNDS};
 
 use crate::cell::Cell;
 
@@ -18,5 +19,5 @@ pub struct Player<'a> {
     pub right: &'a [u8],
     /// The rounds from the first to the last that is not blank.
     pub cells: Vec<Cell>,
-    ghost few_cells: { vec_len cells ≤ 32 },
+    ghost few_cells: { vec_len cells ≤ MOST_ROUNDS },
 }

@@ -6,6 +6,7 @@ ghost use Rattle.trf16.specs.Extensions.{names_both};
 ghost use Rattle.trf16.specs.Sheet.{points_upto};
 ghost use Rattle.trf16.specs.Answering.{has_other_points};
 ghost use Rattle.trf16.specs.Unfinished.{unfinished};
+ghost use Rattle.trf16.specs.declared.limits.TheConstants.{MOST_PLAYERS};
 
 use crate::cell::{Bye, Cell};
 use crate::cells::{first_unfinished, front};
@@ -60,7 +61,7 @@ impl<'a> Report<'a> {
     fn place(&self, start: u16) -> Option<usize>
         ensures start { IfSome result (λ i. slice_index_or (map (λ entry. entry.start) self.now.players) i 0 ≡ start) }
         ensures within { IfSome result (λ i. i < length self.now.players) }
-        ensures few { IfSome result (λ i. i < 256) }
+        ensures few { IfSome result (λ i. i < MOST_PLAYERS) }
     {
         self.players.get_index_of(&start)
     }

@@ -1,5 +1,5 @@
 // Reading a report from its text, line by line, with the first rule that it breaks.
-ghost use Rattle.std.specs.Prelude.{◌≡◌, ℕ, ◌+◌, ◌<◌, ◌≤◌, ◌&&◌, false, IfOk, None, length, take, vec_len};
+ghost use Rattle.std.specs.Prelude.{◌≡◌, ℕ, ◌+◌, ◌<◌, ◌≤◌, ◌&&◌, ◌-◌, ◌++◌, false, replicate, IfOk, None, length, take, vec_len};
 ghost use Rattle.std.specs.Str.{is_utf8};
 ghost use Rattle.trf16.specs.Lines.{lines, columns};
 ghost use Rattle.trf16.specs.Fields.{without_last};
@@ -8,7 +8,10 @@ ghost use Rattle.trf16.specs.Sheet.{entry_of, known};
 ghost use Rattle.trf16.specs.Notes.{is_marked, first_noted, Tells};
 ghost use Rattle.trf16.specs.Summed.{verdict_unsummed};
 ghost use Rattle.trf16.specs.Verdict.{blank_at, start_number_at, start_at, points_at, round_at, rounds_at, is_blank_cell, cells_at, player_at, is_player, is_too_long, player_onto, rounds_onto, colour_onto, start_ranks_onto, line_onto, lines_onto, has_too_many_rounds, without_players, sized, laid_out, verdict};
+ghost use Rattle.trf16.specs.declared.cell.Cell.TheVariants.{Blank};
+ghost use Rattle.trf16.specs.declared.limits.TheConstants.{MOST_ROUNDS, LAST_COLUMN};
 
+use crate::limits::{MOST_BYTES, MOST_PLAYERS, MOST_ROUNDS};
 use crate::answering::{all_cells_fit, players_fit};
 use crate::cell::Cell;
 use crate::columns::{Line, is_blank, split_kind};
@@ -29,7 +32,7 @@ use std::str;
 #[tactic(auto, unfolding(crate::specs::Verdict::blank_at))]
 fn blank_at(n: usize, line: &Line<'_>, k: usize) -> Result<(), Fault>
     requires from_one { 0 < k }
-    requires in_reach { k < 412 }
+    requires in_reach { k ≤ LAST_COLUMN }
     ensures { Gives (λ x. x) result (blank_at n line.now k) }
 {
     if is_blank(line.text(k, k)) {
@@ -76,7 +79,7 @@ fn points_at(n: usize, line: &Line<'_>) -> Result<Option<u16>, Fault>
 // The round behind `before` others.
 #[tactic(auto, unfolding(crate::specs::Verdict::round_at))]
 fn round_at(n: usize, line: &Line<'_>, before: usize) -> Result<Cell, Fault>
-    requires { before < 32 }
+    requires { before < MOST_ROUNDS }
     ensures { Gives (λ x. x) result (round_at n line.now before) }
 {
     let further = 10 * before;
@@ -97,14 +100,14 @@ fn round_at(n: usize, line: &Line<'_>, before: usize) -> Result<Cell, Fault>
     }
 }
 
-// All rounds of a line.
+// The rounds that a line goes on to: all others are blank.
 fn rounds_at(alloc: Global, n: usize, line: &Line<'_>) -> Result<Vec<Cell>, Fault>
-    ensures cells { Gives (λ cells. cells.items) result (rounds_at n line.now 0 32) }
-    ensures all { IfOk result (λ cells. vec_len cells ≡ 32) }
+    ensures cells { Gives (λ cells. cells.items ++ replicate (MOST_ROUNDS - vec_len cells) Blank) result (rounds_at n line.now 0 MOST_ROUNDS) }
+    ensures few { IfOk result (λ cells. vec_len cells ≤ MOST_ROUNDS) }
 {
     let mut cells = Vec::new(alloc);
-    for before in 0..32 {
-        cells.push(round_at(n, line, before)?)?;
+    while cells.len() < MOST_ROUNDS && line.reaches(92 + 10 * cells.len()) {
+        cells.push(round_at(n, line, cells.len())?)?;
     }
     Ok(cells)
 }
@@ -135,7 +138,7 @@ fn said_len(cells: &[Cell]) -> usize
 #[tactic(auto, unfolding(crate::specs::Verdict::cells_at))]
 fn cells_at(alloc: Global, n: usize, line: &Line<'_>) -> Result<Vec<Cell>, Fault>
     ensures given { Gives (λ cells. cells.items) result (cells_at n line.now) }
-    ensures few { IfOk result (λ cells. vec_len cells ≤ 32) }
+    ensures few { IfOk result (λ cells. vec_len cells ≤ MOST_ROUNDS) }
 {
     let mut cells = rounds_at(alloc, n, line)?;
     let len = said_len(&cells);
@@ -222,7 +225,7 @@ fn player_onto<'a>(
     ensures given { Gives (λ _. draft.new) result (player_onto draft.old n (columns draft.old.utf8 bytes.now)) }
     ensures long { IfOk result (λ long. long ≡ is_too_long (columns draft.old.utf8 bytes.now)) }
 {
-    let line = Line::new(bytes, draft.is_utf8());
+    let line = Line::new(alloc, bytes, draft.is_utf8())?;
     let player = player_at(alloc, draft, n, &line)?;
     draft.enter(player)?;
     Ok(line.is_too_long())
@@ -301,7 +304,7 @@ fn sized<'a>(
     ensures { Gives (λ r. r) result (sized draft.entry too_long) }
 {
     let count = draft.count();
-    if 256 < count {
+    if MOST_PLAYERS < count {
         return Err(Fault::TooMany(Excess::Players));
     }
     let names_too_many = draft.names_too_many_rounds();
@@ -321,7 +324,7 @@ fn laid_out<'a>(alloc: Global, bytes: &'a [u8], bye: u16) -> Result<Report<'a>, 
     requires { bye ≤ 2 }
     ensures { Gives (λ report. report) result (laid_out bytes.now bye) }
 {
-    if 1_048_576 < bytes.len() {
+    if MOST_BYTES < bytes.len() {
         return Err(Fault::TooMany(Excess::Bytes));
     }
     let text = skip_marks(bytes);
@@ -341,7 +344,7 @@ pub fn read<'a>(alloc: Global, bytes: &'a [u8]) -> Result<Report<'a>, Fault>
     read_with(alloc, bytes, 2)
 }
 
-/// Reads a report of at most 1,048,576 bytes, 256 players and 32 rounds, in which the pairing-allocated bye gives `bye` half points, 0 to
+/// Reads a report of at most `MOST_BYTES` bytes, `MOST_PLAYERS` players and `MOST_ROUNDS` rounds, in which the pairing-allocated bye gives `bye` half points, 0 to
 /// 2: the report that the text is, or the first rule that it breaks. A column is a character where the text is UTF-8, else a byte; byte
 /// order marks in front are skipped.
 ///

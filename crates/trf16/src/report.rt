@@ -1,9 +1,10 @@
 // A report that was accepted, and what it says.
-ghost use Rattle.std.specs.Prelude.{◌≡◌, ◌<◌, ◌≤◌, map, length, option_copied, option_map, IfSome, [], sum_by};
+ghost use Rattle.std.specs.Prelude.{◌≡◌, ◌<◌, ◌≤◌, ◌*◌, map, length, option_copied, option_map, IfSome, [], sum_by};
 ghost use Rattle.std.specs.Option.{option_map_or};
 ghost use Rattle.trf16.specs.Names.{player_of};
 ghost use Rattle.trf16.specs.Sheet.{entry_of, known, cells_of, cell_in, carried_in, half_points, last_paired_of, rounds_played};
 ghost use Rattle.trf16.specs.Verdict.{carried_line};
+ghost use Rattle.trf16.specs.declared.limits.TheConstants.{MOST_PLAYERS, MOST_ROUNDS};
 
 use crate::apart::Apart;
 use crate::cell::{Cell, Colour};
@@ -43,6 +44,7 @@ impl<'a> Model for Report<'a> {
     ghost use Rattle.trf16.specs.Sheet.{Sheet, entry_of, last_paired_of};
     ghost use Rattle.trf16.specs.Notes.{Tells, TellsApart};
     ghost use Rattle.trf16.specs.Verdict.{carried_line, without_players};
+    ghost use Rattle.trf16.specs.declared.limits.TheConstants.{MOST_PLAYERS, MOST_ROUNDS};
 
     ghost Value = { Sheet };
 
@@ -56,8 +58,8 @@ impl<'a> Model for Report<'a> {
     } };
 
     ghost invariant = { λ r. (keys_of r.players.entries ≡ map (λ e. e.1.start) r.players.entries)
-        × (length r.players.entries ≤ 256) × ForSome r.total (λ total. total ≤ 32)
-        × (r.rounds ≡ last_paired_of (map (λ e. entry_of e.1) r.players.entries)) × (r.rounds ≤ 32)
+        × (length r.players.entries ≤ MOST_PLAYERS) × ForSome r.total (λ total. total ≤ MOST_ROUNDS)
+        × (r.rounds ≡ last_paired_of (map (λ e. entry_of e.1) r.players.entries)) × (r.rounds ≤ MOST_ROUNDS)
         × Tells r.notes (without_players r.utf8 (lines r.text.now) r.bye) × (r.bye ≤ 2)
         × TellsApart r.apart (record (without_players r.utf8 (lines r.text.now) r.bye) { players = map (λ e. entry_of e.1) r.players.entries }) };
 }
@@ -66,15 +68,15 @@ impl<'a> Report<'a> {
     /// The players, in the order of their lines.
     pub fn players(&self) -> Values<'_, u16, Player<'a>>
         ensures players { map entry_of result ≡ self.now.players }
-        ensures few { length result ≤ 256 }
+        ensures few { length result ≤ MOST_PLAYERS }
     {
         self.players.values()
     }
 
-    /// The total of rounds that a line `XXR` names, 1 to 32.
+    /// The total of rounds that a line `XXR` names, 1 to `MOST_ROUNDS`.
     pub fn total_rounds(&self) -> Option<u8>
         ensures value { result ≡ self.now.total }
-        ensures few { IfSome result (λ total. total ≤ 32) }
+        ensures few { IfSome result (λ total. total ≤ MOST_ROUNDS) }
     {
         self.total
     }
@@ -96,9 +98,9 @@ impl<'a> Report<'a> {
 
     /// The half points of some rounds, by what the pairing-allocated bye gives in this report.
     pub fn points_over(&self, cells: &[Cell]) -> u16
-        requires { length cells.now ≤ 32 }
+        requires { length cells.now ≤ MOST_ROUNDS }
         ensures value { result ≡ sum_by (half_points self.now.bye) cells.now }
-        ensures few { result ≤ 64 }
+        ensures few { result ≤ 2 * MOST_ROUNDS }
     {
         points_of(cells, self.bye)
     }
@@ -132,7 +134,7 @@ impl<'a> Report<'a> {
     /// The last round in which some player has an opponent or the pairing-allocated bye; 0 where there is none.
     pub fn rounds_played(&self) -> u8
         ensures value { result ≡ rounds_played self.now }
-        ensures few { result ≤ 32 }
+        ensures few { result ≤ MOST_ROUNDS }
     {
         self.rounds
     }
@@ -159,7 +161,7 @@ impl<'a> Report<'a> {
 /// The last round in which one of some players is paired.
 pub(crate) fn last_round_of(players: &IndexMap<u16, Player<'_>>) -> u8
     ensures value { result ≡ last_paired_of (map (λ e. entry_of e.1) players.now.entries) }
-    ensures few { result ≤ 32 }
+    ensures few { result ≤ MOST_ROUNDS }
 {
     let mut last = 0u8;
     for player in players.values() {

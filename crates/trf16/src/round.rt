@@ -4,7 +4,9 @@ ghost use Rattle.std.specs.List.{list_any};
 ghost use Rattle.trf16.specs.Sheet.{entry_of, half_points, rounds_played};
 ghost use Rattle.trf16.specs.Steps.{is_free, are_free};
 ghost use Rattle.trf16.specs.Round.{CanBePaired, named_by, cell_on, cell_by, with_cell, cells_with, entry_with, with_round};
+ghost use Rattle.trf16.specs.declared.limits.TheConstants.{MOST_ROUNDS};
 
+use crate::limits::MOST_ROUNDS;
 use crate::cell::{Bye, Cell, Colour};
 use crate::cells::front;
 use crate::player::Player;
@@ -49,10 +51,10 @@ fn cell_by(boards: &[(u16, u16)], start: u16) -> Option<Cell>
 
 // The same cells, with that of the round behind the first `before` set.
 fn with_cell(alloc: Global, cells: &[Cell], before: u8, cell: Cell) -> Result<Vec<Cell>, AllocError>
-    requires few { length cells.now ≤ 32 }
-    requires within { before < 32 }
+    requires few { length cells.now ≤ MOST_ROUNDS }
+    requires within { before < MOST_ROUNDS }
     ensures set { IfOk result (λ set. set.items ≡ with_cell before cell cells.now) }
-    ensures few { IfOk result (λ set. length set.items ≤ 32) }
+    ensures few { IfOk result (λ set. length set.items ≤ MOST_ROUNDS) }
 {
     let mut set = Vec::from_slice(alloc, cells)?;
     let place = usize::from(before);
@@ -70,9 +72,9 @@ fn cells_with(
     before: u8,
     player: &Player<'_>,
 ) -> Result<Vec<Cell>, AllocError>
-    requires within { before < 32 }
+    requires within { before < MOST_ROUNDS }
     ensures cells { IfOk result (λ cells. cells.items ≡ cells_with boards.now before (entry_of player.now)) }
-    ensures few { IfOk result (λ cells. length cells.items ≤ 32) }
+    ensures few { IfOk result (λ cells. length cells.items ≤ MOST_ROUNDS) }
 {
     match cell_by(boards, player.start) {
         Some(cell) => with_cell(alloc, &player.cells, before, cell),
@@ -130,7 +132,7 @@ impl<'a> Report<'a> {
 
     // A points field that is not blank becomes the sum of the first rounds.
     fn points_with(&self, points: Option<u16>, cells: &[Cell], rounds: u8) -> Option<u16>
-        requires { length cells.now ≤ 32 }
+        requires { length cells.now ≤ MOST_ROUNDS }
         ensures { result ≡ option_map (λ _. sum_by (half_points self.now.bye) (take rounds cells.now)) points }
     {
         match points {
@@ -147,7 +149,7 @@ impl<'a> Report<'a> {
         before: u8,
         player: &Player<'a>,
     ) -> Result<Player<'a>, AllocError>
-        requires { before < 32 }
+        requires { before < MOST_ROUNDS }
         ensures { IfOk result (λ paired. entry_of paired ≡ entry_with self.now.bye boards.now before (entry_of player.now)) }
     {
         let cells = cells_with(alloc, boards, before, player)?;
@@ -162,11 +164,11 @@ impl<'a> Report<'a> {
     }
 
     /// Whether some boards can be the next round: whoever they name is a player of the report, is present, and is named once; and no
-    /// round comes behind the 32nd.
+    /// round comes behind the last that there can be.
     pub fn can_be_paired(&self, boards: &[(u16, u16)]) -> bool
         ensures { IsTrue result ↔ CanBePaired boards.now self.now }
     {
-        if 32 <= self.rounds_played() {
+        if MOST_ROUNDS <= usize::from(self.rounds_played()) {
             return false;
         }
         for (i, board) in boards.iter().enumerate() {

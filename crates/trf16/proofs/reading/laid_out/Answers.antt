@@ -5,6 +5,7 @@ use Rattle.trf16.specs.Lines.{lines}
 use Rattle.trf16.specs.Sheet.{Sheet}
 use Rattle.trf16.proofs.NoteLemmas.{tells_same}
 use Rattle.trf16.proofs.reading.laid_out.Goals as goal
+use Rattle.trf16.specs.declared.limits.TheConstants.{MOST_BYTES}
 
 -- a sheet whose players are still to be read carries the lines of its own columns
 lines_of : (sheet : Sheet) (utf8 : Bool) (all : List (List ℕ)) (bye : ℕ) → sheet ≡ without_players utf8 all bye → sheet.carried ≡ (without_players sheet.utf8 all sheet.bye).carried
@@ -13,9 +14,9 @@ lines_of sheet utf8 all bye e = rw e refl
 above : (most count : ℕ) → most < count → nat_lt most count ≡ true
 above most count lt = grind (arith, nat_tests)
 
-pub returns-then-bytes-gt1048576 : goal.returns-then-bytes-gt1048576
+pub returns-then-bytes-gt-MOST_BYTES : goal.returns-then-bytes-gt-MOST_BYTES
 unfolding laid_out
-returns-then-bytes-gt1048576 c = rw (above 1048576 (length c.args.bytes.now) c.if-bytes-gt1048576.true) refl
+returns-then-bytes-gt-MOST_BYTES c = rw (above MOST_BYTES (length c.args.bytes.now) c.if-bytes-gt-MOST_BYTES.true) refl
 
 pub returns-in_err-too_long : goal.returns-in_err-too_long
 unfolding laid_out

@@ -2,9 +2,9 @@ use Rattle.std.proofs.Common.{rules}
 use Rattle.trf16.specs.Verdict.{sized}
 use Rattle.trf16.proofs.reading.sized.Goals as goal
 
-pub returns-then-count-gt256 : goal.returns-then-count-gt256
+pub returns-then-count-gt-MOST_PLAYERS : goal.returns-then-count-gt-MOST_PLAYERS
 unfolding sized
-returns-then-count-gt256 c = search rules
+returns-then-count-gt-MOST_PLAYERS c = search rules
 
 pub returns-then-too_long : goal.returns-then-too_long
 unfolding sized

@@ -1,5 +1,5 @@
 -- Who is marked, and whom the lines to come name together, are together whom all lines name so.
-use Rattle.std.proofs.Common.{◌≡◌, ℕ, ◌<◌, ◌||◌, length}
+use Rattle.std.proofs.Common.{◌≡◌, ℕ, ◌*◌, ◌<◌, ◌||◌, length}
 use Rattle.std.specs.Prelude.{vec_len}
 use Rattle.trf16.specs.Lines.{lines}
 use Rattle.trf16.specs.Extensions.{names_both}
@@ -12,7 +12,7 @@ invariant-loop-rest l =
     ((i j : ℕ) → i < vec_len l.apart.starts → j < vec_len l.apart.starts
     → (are_marked l.apart i j || some_of (names_both (start_at l.apart i) (start_at l.apart j)) l.utf8 (lines l.rest))
     ≡ some_of (names_both (start_at l.apart i) (start_at l.apart j)) l.utf8 (lines l.text))
-    × (l.apart.starts ≡ l.fn.starts) × (vec_len l.apart.marks ≡ 65536)
+    × (l.apart.starts ≡ l.fn.starts) × (vec_len l.apart.marks ≡ vec_len l.apart.starts * vec_len l.apart.starts)
 
 abbrev pub decreases-loop-rest : goal.decreases-loop-rest
 decreases-loop-rest l = length l.rest

@@ -1,6 +1,10 @@
-use Rattle.std.proofs.Common.{◌≡◌, length}
+use Rattle.std.proofs.Common.{◌+◌, ◌-◌, length}
 use Rattle.trf16.specs.Steps.{IsStart, AllStart}
+use Rattle.trf16.specs.declared.limits.TheConstants.{LAST_COLUMN}
 use Rattle.trf16.proofs.columns.Line.new.Given as goal
 
-abbrev pub invariant-loop-k : goal.invariant-loop-k
-invariant-loop-k l = AllStart l.utf8 l.bytes l.starts l.k × IsStart l.utf8 l.bytes l.k l.at × (length l.starts ≡ 412)
+abbrev pub invariant-loop-at : goal.invariant-loop-at
+invariant-loop-at l = AllStart l.utf8 l.bytes l.starts.items (length l.starts.items) × IsStart l.utf8 l.bytes (length l.starts.items) l.at
+
+abbrev pub decreases-loop-at : goal.decreases-loop-at
+decreases-loop-at l = LAST_COLUMN + 1 - length l.starts.items

@@ -8,13 +8,14 @@ use Rattle.trf16.proofs.NoteLemmas.{tells_same}
 use Rattle.trf16.proofs.ApartLemmas.{apart_same}
 use Rattle.trf16.specs.StartRanks.{starts_of}
 use Rattle.trf16.proofs.draft.Draft.into_report.Goals as goal
+use Rattle.trf16.specs.declared.limits.TheConstants.{MOST_PLAYERS}
 
 pub invariant_of-result : goal.invariant_of-result
 invariant_of-result c =
     let r = c.self.inside in
     let size : length r.players.entries ≡ length c.args.self.players =
     sym (length-map r.players.entries (λ (e : ℕ × Player). entry_of e.1)) ∙ ap (λ (sheet : Sheet). length sheet.players) c.self.view_is in
-    let few : length c.args.self.players ≤ 256 = c.requires.few_players in (
+    let few : length c.args.self.players ≤ MOST_PLAYERS = c.requires.few_players in (
       c.self.invariant.0,
       omega (arith, size, few),
       search rules,

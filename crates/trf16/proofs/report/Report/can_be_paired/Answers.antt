@@ -1,7 +1,8 @@
-use Rattle.std.proofs.Common.{◌<◌, refl, subst}
+use Rattle.std.proofs.Common.{◌<◌, refl, subst, ◌∙◌}
 use Rattle.trf16.specs.Sheet.{rounds_played}
 use Rattle.trf16.proofs.BoardLemmas.{paired_from, not_free, free_end}
 use Rattle.trf16.proofs.report.Report.can_be_paired.Goals as goal
+use Rattle.trf16.specs.declared.limits.TheConstants.{MOST_ROUNDS}
 
 pub returns-then-not-are_free : goal.returns-then-not-are_free
 returns-then-not-are_free c = (
@@ -12,7 +13,7 @@ returns-then-not-are_free c = (
 
 pub returns : goal.returns
 returns c =
-    let within : rounds_played c.args.self.now < 32 = subst (λ n. n < 32) c.rounds_played.ensures.value c.if-rounds_played-ge32.false in (
+    let within : rounds_played c.args.self.now < MOST_ROUNDS = subst (λ n. n < MOST_ROUNDS) (c.from.ensures ∙ c.rounds_played.ensures.value) c.if-from-ge-MOST_ROUNDS.false in (
       λ is. paired_from c.args.boards.now c.args.self.now within (free_end c.args.boards.now c.args.self.now c.loop-i.i c.loop-i-test.false c.loop-i.invariant),
       λ can. refl,
     )

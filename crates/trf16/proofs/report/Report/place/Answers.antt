@@ -8,6 +8,7 @@ use Rattle.trf16.specs.StartRanks.{starts_of}
 use Rattle.trf16.proofs.RoundLemmas.{starts-entries}
 use Rattle.trf16.proofs.ApartLemmas.{placed, some_so}
 use Rattle.trf16.proofs.report.Report.place.Goals as goal
+use Rattle.trf16.specs.declared.limits.TheConstants.{MOST_PLAYERS}
 
 pub returns-clause-start : goal.returns-clause-start
 returns-clause-start c =
@@ -29,8 +30,8 @@ returns-clause-within c =
 pub returns-clause-few : goal.returns-clause-few
 returns-clause-few c =
     let entries = c.self.inside.players.entries in
-    let few : length entries ≤ 256 = c.self.invariant.1 in
+    let few : length entries ≤ MOST_PLAYERS = c.self.invariant.1 in
     let starts = keys_of entries in
     let size : length starts ≡ length entries = length-map entries (λ (e : ℕ × Player). e.0) in
-    some_so c.get_index_of.result (λ i. (slice_index_or starts i 0 ≡ c.args.start) × (i < length starts)) (λ i. i < 256) (λ i p. omega (arith, p.1, size, few))
+    some_so c.get_index_of.result (λ i. (slice_index_or starts i 0 ≡ c.args.start) × (i < length starts)) (λ i. i < MOST_PLAYERS) (λ i p. omega (arith, p.1, size, few))
     (placed starts starts c.args.start c.get_index_of.result c.get_index_of.ensures.index refl)

@@ -11,6 +11,7 @@ use Rattle.trf16.proofs.ApartLemmas.{apart_again}
 use Rattle.trf16.specs.StartRanks.{starts_of}
 use Rattle.trf16.proofs.NoteLemmas.{tells_again}
 use Rattle.trf16.proofs.report.Report.with_round.Goals as goal
+use Rattle.trf16.specs.declared.limits.TheConstants.{MOST_PLAYERS}
 
 pub loop-player-preserved-in_ok-insert : goal.loop-player-preserved-in_ok-insert
 loop-player-preserved-in_ok-insert c =
@@ -37,7 +38,7 @@ invariant_of-result c =
     let size : length done ≡ length c.self.inside.players.entries =
     turned-length (entry_with c.args.self.now.bye c.args.boards.now c.rounds_played-before.result) done all same ∙ ap (λ (sheet : Sheet). length sheet.players) (sym c.self.view_is)
     ∙ length-map c.self.inside.players.entries (λ (e : ℕ × Player). entry_of e.1) in
-    let few : length c.self.inside.players.entries ≤ 256 = c.self.invariant.1 in (
+    let few : length c.self.inside.players.entries ≤ MOST_PLAYERS = c.self.invariant.1 in (
       c.loop-player.invariant.keyed,
       omega arith,
       c.self.invariant.2,
