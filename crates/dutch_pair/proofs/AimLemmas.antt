@@ -11,11 +11,11 @@ use Rattle.dutch_pair.specs.declared.choice.Best.{Best}
 use Rattle.dutch_pair.specs.Reached.{Stand}
 use Rattle.dutch_pair.specs.Quality.{Quality, is_better}
 use Rattle.dutch_pair.specs.QualityIn.{quality_in}
-use Rattle.dutch_pair.specs.Round.{quality_of, candidates_of}
-use Rattle.dutch_pair.specs.Choice.{first_unbeaten, chosen}
+use Rattle.dutch_pair.specs.Round.{quality_of, is_better_in, best_of_shape, candidates_of}
+use Rattle.dutch_pair.specs.Choice.{first_unbeaten, best}
 use Rattle.dutch_pair.specs.Eligible.{can_be_chosen}
-use Rattle.dutch_pair.specs.Kept.{kept_lists, wins, IsKept, is_better_in, chosen_in}
-use Rattle.dutch_pair.specs.Aims.{beats, is_idle, is_near, is_sought, chosen_yet, chosen_near}
+use Rattle.dutch_pair.specs.Kept.{kept_lists, wins, IsKept}
+use Rattle.dutch_pair.specs.Aims.{beats, is_idle, is_near, is_sought, best_yet, best_near}
 use Rattle.dutch_pair.proofs.ChoiceLemmas.{IsOrder, order_of, unfit_passed, worse_passed}
 use Rattle.dutch_pair.proofs.QualityOrder.{irreflexive, transitive, total}
 use Rattle.dutch_pair.proofs.BestLemmas.{order_in}
@@ -81,8 +81,8 @@ module _ {X : Type 0} (better : X → X → Bool) (order : IsOrder better) (near
   some_near others (y ∷ ys) c found = some_near_at others ys y c (near y) (some_near others ys c) found
 
   -- what is chosen of the near ones is chosen of all
-  pub chosen_of_near : (ys : List X) (c : X) → chosen better (filter near ys) ≡ Some c → chosen better ys ≡ Some c
-  chosen_of_near ys c found = first_near ys ys c (some_near (filter near ys) ys c found) found
+  pub best_of_near : (ys : List X) (c : X) → best better (filter near ys) ≡ Some c → best better ys ≡ Some c
+  best_of_near ys c found = first_near ys ys c (some_near (filter near ys) ys c found) found
 
 filter_both_at : {X : Type 0} (p q : X → Bool) (x : X) (xs : List X) (s t : Bool) → q x ≡ t → filter (λ y. p y && q y) xs ≡ filter q (filter p xs)
     → cond (s && t) (x ∷ filter (λ y. p y && q y) xs) (filter (λ y. p y && q y) xs) ≡ filter q (cond s (x ∷ filter p xs) (filter p xs))
@@ -135,25 +135,25 @@ module _ (facts : Facts) (stand : Stand) (lower : List ℕ) where
 
   -- what is chosen of those that an aim is not better than is chosen of all
   an_aim_serves : (aim : Option Quality) (fits : Arrangement → Bool) (xs : List Arrangement) (c : Arrangement)
-      → chosen (is_better_in facts stand lower) (filter (λ x. fits x && is_near facts stand lower aim x) xs) ≡ Some c
-      → chosen (is_better_in facts stand lower) (filter fits xs) ≡ Some c
+      → best (is_better_in facts stand lower) (filter (λ x. fits x && is_near facts stand lower aim x) xs) ≡ Some c
+      → best (is_better_in facts stand lower) (filter fits xs) ≡ Some c
   an_aim_serves aim fits xs c found =
-      chosen_of_near (is_better_in facts stand lower) (order_in facts stand lower) (is_near facts stand lower aim) (near_before_far aim) (filter fits xs) c
-      (ap (chosen (is_better_in facts stand lower)) (sym (filter_both fits (is_near facts stand lower aim) xs)) ∙ found)
+      best_of_near (is_better_in facts stand lower) (order_in facts stand lower) (is_near facts stand lower aim) (near_before_far aim) (filter fits xs) c
+      (ap (best (is_better_in facts stand lower)) (sym (filter_both fits (is_near facts stand lower aim) xs)) ∙ found)
 
   -- where a pass with an aim ends with a candidate, it is the choice
-  pub a_pass_serves : (aim : Option Quality) (shape : Shape) (c : Arrangement) → chosen_near facts stand lower aim shape ≡ Some c → chosen_in facts stand lower shape ≡ Some c
+  pub a_pass_serves : (aim : Option Quality) (shape : Shape) (c : Arrangement) → best_near facts stand lower aim shape ≡ Some c → best_of_shape facts stand lower shape ≡ Some c
   a_pass_serves aim shape c found =
-      ap (chosen (is_better_in facts stand lower)) (eligible_is facts stand lower shape)
+      ap (best (is_better_in facts stand lower)) (eligible_is facts stand lower shape)
       ∙ an_aim_serves aim (can_be_chosen facts stand lower) (candidates_of facts stand shape) c found
 
   -- without an aim a pass makes the choice
-  pub without_aim : (shape : Shape) → chosen_near facts stand lower None shape ≡ chosen_in facts stand lower shape
+  pub without_aim : (shape : Shape) → best_near facts stand lower None shape ≡ best_of_shape facts stand lower shape
   without_aim shape =
-      ap (chosen (is_better_in facts stand lower)) (filter_always (can_be_chosen facts stand lower) (candidates_of facts stand shape) ∙ sym (eligible_is facts stand lower shape))
+      ap (best (is_better_in facts stand lower)) (filter_always (can_be_chosen facts stand lower) (candidates_of facts stand shape) ∙ sym (eligible_is facts stand lower shape))
 
   beaten_passed : (aim : Option Quality) (kept : Option Best) (d : Arrangement) (rest : List Arrangement) → IsKept facts stand lower kept
-      → not (wins (quality_of facts stand lower d) kept) ≡ true → chosen_yet facts stand lower aim kept (d ∷ rest) ≡ chosen_yet facts stand lower aim kept rest
+      → not (wins (quality_of facts stand lower d) kept) ≡ true → best_yet facts stand lower aim kept (d ∷ rest) ≡ best_yet facts stand lower aim kept rest
   beaten_passed aim None d rest h lost = absurd (true≢false (sym lost))
   beaten_passed aim (Some best) d rest h lost =
       worse_passed (is_better_in facts stand lower) (order_in facts stand lower) (is_sought facts stand lower aim) best.candidate.lists d rest
@@ -161,7 +161,7 @@ module _ (facts : Facts) (stand : Stand) (lower : List ℕ) where
 
   idle_at : (aim : Option Quality) (kept : Option Best) (d : Arrangement) (rest : List Arrangement) (t : Bool) → beats aim (quality_of facts stand lower d) ≡ t
       → IsKept facts stand lower kept → (t || not (wins (quality_of facts stand lower d) kept)) ≡ true
-      → chosen_yet facts stand lower aim kept (d ∷ rest) ≡ chosen_yet facts stand lower aim kept rest
+      → best_yet facts stand lower aim kept (d ∷ rest) ≡ best_yet facts stand lower aim kept rest
   idle_at aim kept d rest true far h idle =
       unfit_passed (is_better_in facts stand lower) (order_in facts stand lower) (is_sought facts stand lower aim) (kept_lists kept) d rest
       (ap (λ t. can_be_chosen facts stand lower d && not t) far ∙ never (can_be_chosen facts stand lower d))
@@ -170,13 +170,13 @@ module _ (facts : Facts) (stand : Stand) (lower : List ℕ) where
   -- a candidate whose quality is of no interest is passed
   pub idle_passed : (aim : Option Quality) (kept : Option Best) (quality : Quality) (d : Arrangement) (rest : List Arrangement) → IsKept facts stand lower kept
       → quality ≡ quality_of facts stand lower d → is_idle aim kept quality ≡ true
-      → chosen_yet facts stand lower aim kept rest ≡ chosen_yet facts stand lower aim kept (d ∷ rest)
+      → best_yet facts stand lower aim kept rest ≡ best_yet facts stand lower aim kept (d ∷ rest)
   idle_passed aim kept quality d rest h e idle =
       sym (idle_at aim kept d rest (beats aim (quality_of facts stand lower d)) refl h (ap (is_idle aim kept) (sym e) ∙ idle))
 
   idle_front_passed : (aim : Option Quality) (kept : Option Best) (skipped rest : List Arrangement) → IsKept facts stand lower kept
       → AllByRecursion (λ a. is_idle aim kept (quality_of facts stand lower a) ≡ true) skipped
-      → chosen_yet facts stand lower aim kept (skipped ++ rest) ≡ chosen_yet facts stand lower aim kept rest
+      → best_yet facts stand lower aim kept (skipped ++ rest) ≡ best_yet facts stand lower aim kept rest
   idle_front_passed aim kept [] rest h idle = refl
   idle_front_passed aim kept (d ∷ skipped) rest h idle =
       sym (idle_passed aim kept (quality_of facts stand lower d) d (skipped ++ rest) h refl idle.0) ∙ idle_front_passed aim kept skipped rest h idle.1
@@ -184,9 +184,9 @@ module _ (facts : Facts) (stand : Stand) (lower : List ℕ) where
   -- what a listing skips changes nothing
   pub skipped_same : (aim : Option Quality) (kept : Option Best) (before after : List Arrangement) → IsKept facts stand lower kept
       → Passes (λ a. is_idle aim kept (quality_of facts stand lower a) ≡ true) before after
-      → chosen_yet facts stand lower aim kept before ≡ chosen_yet facts stand lower aim kept after
+      → best_yet facts stand lower aim kept before ≡ best_yet facts stand lower aim kept after
   skipped_same aim kept before after h (skipped, same, idle) =
-      ap (λ coming. chosen_yet facts stand lower aim kept coming) same ∙ idle_front_passed aim kept skipped after h idle
+      ap (λ coming. best_yet facts stand lower aim kept coming) same ∙ idle_front_passed aim kept skipped after h idle
 
 beyond_aim : (aim : Option Quality) (floor q : Quality) → is_better q floor ≡ false → beats aim floor ≡ true → beats aim q ≡ true
 beyond_aim None floor q low won = won

@@ -1,6 +1,6 @@
 -- No arrangement that leaves the Limbo of the first S1 has a better value of the next bracket than ghosts find (C.04.3 C.7); and in a
 -- bracket where all S1 leave the same scores, all arrangements do.
-use Rattle.std.proofs.Common.{◌≡◌, ℕ, ◌+◌, ◌-◌, ◌<◌, ◌≤◌, true, not, nat_lt, cond, List, [], ◌∷◌, map, filter, length, inl, inr, Option, Some, None, refl, sym, ap, ◌∙◌, arith, subst}
+use Rattle.std.proofs.Common.{◌≡◌, ℕ, ◌+◌, ◌-◌, ◌<◌, ◌≤◌, not, nat_lt, cond, List, [], ◌∷◌, map, filter, length, inl, inr, Option, Some, None, refl, sym, ap, ◌∙◌, arith, subst}
 use Rattle.std.specs.Prelude.{slice_index}
 use Rattle.std.specs.List.{AllByRecursion}
 use Rattle.std.proofs.lemmas.List.{length-map}
@@ -47,12 +47,12 @@ module _ (facts : Facts) (stand : Stand) (of' : IsOf facts stand) (flat : IsFlat
   -- no value of the next bracket is better than what ghosts find
   pub no_value_is_better_than_by_ghosts : stand.kind ≡ Ordinary → (next : List ℕ) → IsNext facts stand next
       → map (λ i. score_at facts (seat_of stand.seats i)) (left_of (numbers_from 1 stand.mdps) a.s1) ≡ first_limbo facts stand shape
-      → IsNotBetter (value_in true facts (downfloaters facts stand a) next) (ghost_value facts stand shape next).pairs (ghost_value facts stand shape next).psd
+      → IsNotBetter (value_in Ordinary facts (downfloaters facts stand a) next) (ghost_value facts stand shape next).pairs (ghost_value facts stand shape next).psd
   no_value_is_better_than_by_ghosts ordinary next below same =
       by_shape (shape_by_ghosts facts stand.seats next (first_ghosts facts stand shape)) refl
     where
       by_shape : (o : Option Shape) → shape_by_ghosts facts stand.seats next (first_ghosts facts stand shape) ≡ o
-          → IsNotBetter (value_in true facts (downfloaters facts stand a) next)
+          → IsNotBetter (value_in Ordinary facts (downfloaters facts stand a) next)
           (value_with_floor facts next (first_ghosts facts stand shape) (shape_by_ghosts facts stand.seats next (first_ghosts facts stand shape))).pairs
           (value_with_floor facts next (first_ghosts facts stand shape) (shape_by_ghosts facts stand.seats next (first_ghosts facts stand shape))).psd
       by_shape None e =
@@ -60,8 +60,8 @@ module _ (facts : Facts) (stand : Stand) (of' : IsOf facts stand) (flat : IsFlat
           absurd (always_a_shape (ghosts_meet facts stand.seats (length g) next) (ghost_may_be_left facts stand.seats (length g) next) (ghost_frame facts g next) refl e)
       by_shape (Some most) e =
           let g : List ℕ = first_ghosts facts stand shape in
-          subst (λ (o : Option Shape). IsNotBetter (value_in true facts (downfloaters facts stand a) next) (value_with_floor facts next g o).pairs (value_with_floor facts next g o).psd) (sym e)
-          (held (value_in true facts (downfloaters facts stand a) next) g (score_at facts (slice_index next 0)) (length next) most.pairs
+          subst (λ (o : Option Shape). IsNotBetter (value_in Ordinary facts (downfloaters facts stand a) next) (value_with_floor facts next g o).pairs (value_with_floor facts next g o).psd) (sym e)
+          (held (value_in Ordinary facts (downfloaters facts stand a) next) g (score_at facts (slice_index next 0)) (length next) most.pairs
           (ghosts_tell_of_the_next_bracket facts stand of' flat next below shape a m ordinary (first_limbo facts stand shape) same most e))
 
   -- where all S1 leave the same scores

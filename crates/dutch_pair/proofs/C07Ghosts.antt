@@ -237,7 +237,7 @@ module _ (facts : Facts) (stand : Stand) (of' : IsOf facts stand) (flat : IsFlat
       → greatest_shape (candidates (ghosts_meet facts stand.seats (length (ghost_scores facts stand shape limbo)) next)
       (ghost_may_be_left facts stand.seats (length (ghost_scores facts stand shape limbo)) next)
       (ghost_frame facts (ghost_scores facts stand shape limbo) next)) (ghost_frame facts (ghost_scores facts stand shape limbo) next) ≡ Some most
-      → IsNotBetter (value_in true facts (downfloaters facts stand a) next) most.pairs
+      → IsNotBetter (value_in Ordinary facts (downfloaters facts stand a) next) most.pairs
       (ghost_floor (ghost_scores facts stand shape limbo) (score_at facts (slice_index next 0)) (length next) most.pairs)
   ghosts_tell_of_the_next_bracket ordinary limbo given most found =
       let floats : List ℕ = downfloaters facts stand a in

@@ -20,7 +20,7 @@ use Rattle.dutch_pair.specs.NextBracket.{IsFlat, is_lower, next_stand, no_value,
 use Rattle.dutch_pair.specs.Outlooks.{HasNoBetter, IsOutlook, awaited, known_by, leaves_first_by, limbo_scores}
 use Rattle.dutch_pair.specs.Quality.{NextValue}
 use Rattle.dutch_pair.specs.Reached.{IsAbove, IsOf, Stand, frame_of}
-use Rattle.dutch_pair.specs.Round.{downfloaters, first_group, is_ordinary, quality_of, scoregroups}
+use Rattle.dutch_pair.specs.Round.{downfloaters, first_group, quality_of, scoregroups}
 use Rattle.dutch_pair.specs.Seated.{score_at, seat_of}
 use Rattle.dutch_pair.specs.PsdFloors.{IsUniform}
 use Rattle.dutch_pair.proofs.C06Psd.{flat_by_ends, uniform_by_ends}
@@ -35,20 +35,17 @@ not_better : (value next : NextValue) → IsNotBetter value next.pairs next.psd
 not_better value next (inl less) = (omega (arith, less), λ e. absurd (omega (arith, less, e)))
 not_better value next (inr same) = (omega (arith, same.0), λ e. same.1)
 
-ordinary_of : (kind : Kind) → is_ordinary kind ≡ true → kind ≡ Ordinary
-ordinary_of Ordinary e = refl
-ordinary_of Last e = let bad : false ≡ true = e in absurd (cc)
-ordinary_of Penultimate e = let bad : false ≡ true = e in absurd (cc)
-ordinary_of Collapsed e = let bad : false ≡ true = e in absurd (cc)
+-- where the next bracket does not count
+no_value_of : (facts : Facts) (kind : Kind) (moved_down next : List ℕ) → (kind ≡ Ordinary → ⊥) → value_in kind facts moved_down next ≡ no_value
+no_value_of facts Ordinary moved_down next other = absurd (other refl)
+no_value_of facts Last moved_down next other = refl
+no_value_of facts Penultimate moved_down next other = refl
+no_value_of facts Collapsed moved_down next other = refl
 
 -- below an ordinary bracket there is a scoregroup
-first_there : (facts : Facts) (stand : Stand) (lower : List ℕ) → IsAbove facts stand lower → is_ordinary stand.kind ≡ true
-    → 0 < length (first_group facts (scoregroups facts lower))
-first_there facts stand lower above ordinary = (first_is_next facts stand lower above).there (ordinary_of stand.kind ordinary)
-
 pub below_ordinary : (facts : Facts) (stand : Stand) (lower next : List ℕ) → next ≡ first_group facts (scoregroups facts lower) → IsAbove facts stand lower
-    → is_ordinary stand.kind ≡ true → 0 < length next
-below_ordinary facts stand lower next e above ordinary = subst (λ xs. 0 < length xs) (sym e) (first_there facts stand lower above ordinary)
+    → stand.kind ≡ Ordinary → 0 < length next
+below_ordinary facts stand lower next e above ordinary = subst (λ xs. 0 < length xs) (sym e) ((first_is_next facts stand lower above).there ordinary)
 
 pub flat_residents : (facts : Facts) (stand : Stand) → IsOf facts stand → is_flat facts stand ≡ true → IsFlat facts stand
 flat_residents facts stand of' h =
@@ -79,20 +76,22 @@ module _ (facts : Facts) (stand : Stand) (lower : List ℕ) (shape : Shape) wher
   abbrev group : List ℕ
   group = first_group facts (scoregroups facts lower)
 
-  abbrev value_at : Bool → Arrangement → NextValue
-  value_at ordinary a = value_in ordinary facts (downfloaters facts stand a) group
+  abbrev value_at : Kind → Arrangement → NextValue
+  value_at kind a = value_in kind facts (downfloaters facts stand a) group
 
   -- the value of a quality is that of the next bracket
-  from_value : (a : Arrangement) (next : NextValue) (t : Bool) → is_ordinary stand.kind ≡ t → IsNotBetter (value_at t a) next.pairs next.psd
+  from_value : (a : Arrangement) (next value : NextValue) → value_at stand.kind a ≡ value → IsNotBetter value next.pairs next.psd
       → HasNoBetter (quality_of facts stand lower a) next
-  from_value a next t e h =
-      not_better (value_at (is_ordinary stand.kind) a) next (subst (λ b. IsNotBetter (value_at b a) next.pairs next.psd) (sym e) h)
+  from_value a next value e h = not_better (value_at stand.kind a) next (subst (λ v. IsNotBetter v next.pairs next.psd) (sym e) h)
 
-  nothing_better : (a : Arrangement) → is_ordinary stand.kind ≡ false → HasNoBetter (quality_of facts stand lower a) no_value
-  nothing_better a e = from_value a no_value false e (inr (refl, refl))
+  ordinary_value : (a : Arrangement) → stand.kind ≡ Ordinary → value_at stand.kind a ≡ value_at Ordinary a
+  ordinary_value a e = ap (λ kind. value_at kind a) e
+
+  nothing_better : (a : Arrangement) → (stand.kind ≡ Ordinary → ⊥) → HasNoBetter (quality_of facts stand lower a) no_value
+  nothing_better a other = from_value a no_value no_value (no_value_of facts stand.kind (downfloaters facts stand a) group other) (inr (refl, refl))
 
   -- where the next bracket does not count
-  pub none_counts : (outlook : Outlook) → is_ordinary stand.kind ≡ false → outlook.first ≡ None → outlook.any ≡ no_value → IsOutlook facts stand lower shape outlook
+  pub none_counts : (outlook : Outlook) → (stand.kind ≡ Ordinary → ⊥) → outlook.first ≡ None → outlook.any ≡ no_value → IsOutlook facts stand lower shape outlook
   none_counts outlook e first any = record {
     any = λ a m. subst (HasNoBetter (quality_of facts stand lower a)) (sym any) (nothing_better a e);
     first = λ value some. let bad : None ≡ Some value = sym first ∙ some in absurd (cc);
@@ -107,17 +106,17 @@ module _ (facts : Facts) (stand : Stand) (lower : List ℕ) (shape : Shape) wher
       length-map (down (frame_of facts stand) a) (seat_of stand.seats) ∙ (let e : length (down (frame_of facts stand) a) ≡ length stand.seats - 2 * shape.pairs = omega (arith, left, counted) in e) in
       ap (λ n. n / 2) (length-append (downfloaters facts stand a) group ∙ ap (λ n. n + length group) many)
 
-  counts_hold : (a : Arrangement) (any : NextValue) → IsOf facts stand → Fits (frame_of facts stand) shape → is_ordinary stand.kind ≡ true
+  counts_hold : (a : Arrangement) (any : NextValue) → IsOf facts stand → Fits (frame_of facts stand) shape → stand.kind ≡ Ordinary
       → any ≡ record { pairs = pairs_by_counts stand shape group; psd = [] } → IsIn a (arrangements (frame_of facts stand) shape)
       → HasNoBetter (quality_of facts stand lower a) any
   counts_hold a any of' fits e same m =
       subst (HasNoBetter (quality_of facts stand lower a)) (sym same)
-      (from_value a (record { pairs = pairs_by_counts stand shape group; psd = [] }) true e
-      (subst (λ n. IsNotBetter (value_at true a) n []) (half_of a of' fits m)
+      (from_value a (record { pairs = pairs_by_counts stand shape group; psd = [] }) (value_at Ordinary a) (ordinary_value a e)
+      (subst (λ n. IsNotBetter (value_at Ordinary a) n []) (half_of a of' fits m)
       (no_value_has_more_than_half_the_players_in_pairs facts (next_stand (downfloaters facts stand a) group))))
 
   -- by counts alone
-  pub by_counts : (outlook : Outlook) (next : List ℕ) → next ≡ group → IsOf facts stand → Fits (frame_of facts stand) shape → is_ordinary stand.kind ≡ true
+  pub by_counts : (outlook : Outlook) (next : List ℕ) → next ≡ group → IsOf facts stand → Fits (frame_of facts stand) shape → stand.kind ≡ Ordinary
       → outlook.first ≡ None → outlook.any ≡ record { pairs = pairs_by_counts stand shape next; psd = [] } → IsOutlook facts stand lower shape outlook
   by_counts outlook next e of' fits ordinary first any = record {
     any = λ a m. counts_hold a outlook.any of' fits ordinary (any ∙ ap (λ xs. record { pairs = pairs_by_counts stand shape xs; psd = [] }) e) m;
@@ -126,7 +125,7 @@ module _ (facts : Facts) (stand : Stand) (lower : List ℕ) (shape : Shape) wher
 
   -- and by ghosts, where all residents have one score
   pub by_ghosts : (outlook : Outlook) (next : List ℕ) (value : NextValue) → next ≡ group → IsAbove facts stand lower → Fits (frame_of facts stand) shape
-      → is_ordinary stand.kind ≡ true → IsFlat facts stand → value ≡ ghost_value facts stand shape next → outlook.first ≡ Some value
+      → stand.kind ≡ Ordinary → IsFlat facts stand → value ≡ ghost_value facts stand shape next → outlook.first ≡ Some value
       → outlook.any ≡ record { pairs = pairs_by_counts stand shape next; psd = [] } → IsOutlook facts stand lower shape outlook
   by_ghosts outlook next value e above fits ordinary flat by first any = record {
     any = λ a m. counts_hold a outlook.any above.bracket fits ordinary (any ∙ ap (λ xs. record { pairs = pairs_by_counts stand shape xs; psd = [] }) e) m;
@@ -135,8 +134,8 @@ module _ (facts : Facts) (stand : Stand) (lower : List ℕ) (shape : Shape) wher
           flat,
           λ a m limbo.
               subst (HasNoBetter (quality_of facts stand lower a)) (sym same)
-              (from_value a (ghost_value facts stand shape group) true ordinary
-              (no_value_is_better_than_by_ghosts facts stand above.bracket flat shape a m (ordinary_of stand.kind ordinary) group (first_is_next facts stand lower above) limbo)),
+              (from_value a (ghost_value facts stand shape group) (value_at Ordinary a) (ordinary_value a ordinary)
+              (no_value_is_better_than_by_ghosts facts stand above.bracket flat shape a m ordinary group (first_is_next facts stand lower above) limbo)),
         );
   }
 

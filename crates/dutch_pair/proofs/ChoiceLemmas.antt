@@ -1,7 +1,7 @@
 -- The best of candidates, step by step: of two the later one is kept only if it is better.
 use Rattle.std.proofs.Common.{◌≡◌, ◌⊎◌, inl, inr, Bool, true, false, not, ◌||◌, cond, List, [], ◌∷◌, filter, Option, Some, None, refl, sym, ap, ◌∙◌}
 use Rattle.std.specs.List.{list_any}
-use Rattle.dutch_pair.specs.Choice.{is_unbeaten, first_unbeaten, chosen, chosen_of_rest}
+use Rattle.dutch_pair.specs.Choice.{is_unbeaten, first_unbeaten, best, best_with}
 
 -- what an order of better ones keeps
 pub record IsOrder {X : Type 0} (better : X → X → Bool) : Type 0 where
@@ -67,22 +67,22 @@ module _ {X : Type 0} (better : X → X → Bool) (order : IsOrder better) where
       in ap (λ t. cond (not t) (Some d) (first_unbeaten better (c ∷ rest) rest)) beaten
 
   -- of the first two the second goes on if it is better
-  pub chosen_wins : (c d : X) (rest : List X) → better d c ≡ true → chosen better (c ∷ d ∷ rest) ≡ chosen better (d ∷ rest)
-  chosen_wins c d rest wins =
+  pub best_wins : (c d : X) (rest : List X) → better d c ≡ true → best better (c ∷ d ∷ rest) ≡ best better (d ∷ rest)
+  best_wins c d rest wins =
       let beaten : list_any (λ e. better e c) (c ∷ d ∷ rest) ≡ true =
       ap (λ t. better c c || (t || list_any (λ e. better e c) rest)) wins ∙ or_true (better c c)
       in ap (λ t. cond (not t) (Some c) (first_unbeaten better (c ∷ d ∷ rest) (d ∷ rest))) beaten
       ∙ first_same (c ∷ d ∷ rest) (d ∷ rest) (d ∷ rest) (λ x. unbeaten_without c d x rest wins)
 
   -- else the first goes on
-  pub chosen_loses : (c d : X) (rest : List X) → better d c ≡ false → chosen better (c ∷ d ∷ rest) ≡ chosen better (c ∷ rest)
-  chosen_loses c d rest loses =
+  pub best_loses : (c d : X) (rest : List X) → better d c ≡ false → best better (c ∷ d ∷ rest) ≡ best better (c ∷ rest)
+  best_loses c d rest loses =
       first_same (c ∷ d ∷ rest) (c ∷ rest) (c ∷ d ∷ rest) (λ x. unbeaten_first c d x rest loses)
       ∙ pass_at c d rest (list_any (λ e. better e c) (c ∷ rest)) refl loses
 
   -- one alone is chosen
-  pub chosen_alone : (c : X) → chosen better (c ∷ []) ≡ Some c
-  chosen_alone c = ap (λ t. cond (not (t || false)) (Some c) None) (order.irreflexive c)
+  pub best_alone : (c : X) → best better (c ∷ []) ≡ Some c
+  best_alone c = ap (λ t. cond (not (t || false)) (Some c) None) (order.irreflexive c)
 
 -- what a strict and total order of qualities makes of candidates that have them
 module _ {X Q : Type 0} (quality_of : X → Q) (is_better : Q → Q → Bool) (irreflexive_of : (a : Q) → is_better a a ≡ false)
@@ -115,24 +115,24 @@ module _ {X Q : Type 0} (quality_of : X → Q) (is_better : Q → Q → Bool) (i
 
 -- one candidate more, where one may be kept already
 module _ {X : Type 0} (better : X → X → Bool) (order : IsOrder better) (fits : X → Bool) where
-  pub unfit_passed : (kept : Option X) (d : X) (rest : List X) → fits d ≡ false → chosen_of_rest better fits kept (d ∷ rest) ≡ chosen_of_rest better fits kept rest
-  unfit_passed None d rest unfit = ap (λ t. chosen better (cond t (d ∷ filter fits rest) (filter fits rest))) unfit
-  unfit_passed (Some c) d rest unfit = ap (λ t. chosen better (c ∷ cond t (d ∷ filter fits rest) (filter fits rest))) unfit
+  pub unfit_passed : (kept : Option X) (d : X) (rest : List X) → fits d ≡ false → best_with better fits kept (d ∷ rest) ≡ best_with better fits kept rest
+  unfit_passed None d rest unfit = ap (λ t. best better (cond t (d ∷ filter fits rest) (filter fits rest))) unfit
+  unfit_passed (Some c) d rest unfit = ap (λ t. best better (c ∷ cond t (d ∷ filter fits rest) (filter fits rest))) unfit
 
-  pub first_kept : (d : X) (rest : List X) → fits d ≡ true → chosen_of_rest better fits None (d ∷ rest) ≡ chosen_of_rest better fits (Some d) rest
-  first_kept d rest fit = ap (λ t. chosen better (cond t (d ∷ filter fits rest) (filter fits rest))) fit
+  pub first_kept : (d : X) (rest : List X) → fits d ≡ true → best_with better fits None (d ∷ rest) ≡ best_with better fits (Some d) rest
+  first_kept d rest fit = ap (λ t. best better (cond t (d ∷ filter fits rest) (filter fits rest))) fit
 
-  worse_at : (c d : X) (rest : List X) (t : Bool) → better d c ≡ false → chosen better (c ∷ cond t (d ∷ rest) rest) ≡ chosen better (c ∷ rest)
-  worse_at c d rest true loses = chosen_loses better order c d rest loses
+  worse_at : (c d : X) (rest : List X) (t : Bool) → better d c ≡ false → best better (c ∷ cond t (d ∷ rest) rest) ≡ best better (c ∷ rest)
+  worse_at c d rest true loses = best_loses better order c d rest loses
   worse_at c d rest false loses = refl
 
-  pub worse_passed : (c d : X) (rest : List X) → better d c ≡ false → chosen_of_rest better fits (Some c) (d ∷ rest) ≡ chosen_of_rest better fits (Some c) rest
+  pub worse_passed : (c d : X) (rest : List X) → better d c ≡ false → best_with better fits (Some c) (d ∷ rest) ≡ best_with better fits (Some c) rest
   worse_passed c d rest loses = worse_at c d (filter fits rest) (fits d) loses
 
-  pub better_kept : (c d : X) (rest : List X) → fits d ≡ true → better d c ≡ true → chosen_of_rest better fits (Some c) (d ∷ rest) ≡ chosen_of_rest better fits (Some d) rest
+  pub better_kept : (c d : X) (rest : List X) → fits d ≡ true → better d c ≡ true → best_with better fits (Some c) (d ∷ rest) ≡ best_with better fits (Some d) rest
   better_kept c d rest fit wins =
-      ap (λ t. chosen better (c ∷ cond t (d ∷ filter fits rest) (filter fits rest))) fit ∙ chosen_wins better order c d (filter fits rest) wins
+      ap (λ t. best better (c ∷ cond t (d ∷ filter fits rest) (filter fits rest))) fit ∙ best_wins better order c d (filter fits rest) wins
 
-  pub kept_at_end : (kept : Option X) → chosen_of_rest better fits kept [] ≡ kept
+  pub kept_at_end : (kept : Option X) → best_with better fits kept [] ≡ kept
   kept_at_end None = refl
-  kept_at_end (Some c) = chosen_alone better order c
+  kept_at_end (Some c) = best_alone better order c

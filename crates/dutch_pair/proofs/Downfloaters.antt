@@ -1,7 +1,6 @@
 -- What is chosen in a bracket leaves over seats of the bracket, each once; two of them who may meet, not both moved down, would make
 -- one pair more, so there are no such two where the choice has the most pairs (C.04.3 C.5).
-use Rattle.std.proofs.Common.{◌≡◌, ℕ, ◌-◌, ◌<◌, ◌≤◌, Bool, true, false, not, ◌&&◌, ◌||◌, ◌==◌, nat_le, cond, List, [], ◌∷◌, ◌++◌, length, refl, sym, ap, ◌∙◌, arith, subst, inl, inr, Option, Some, None, length-append}
-use Rattle.std.specs.Prelude.{option_map}
+use Rattle.std.proofs.Common.{◌≡◌, ℕ, ◌-◌, ◌<◌, ◌≤◌, Bool, true, false, not, ◌&&◌, ◌||◌, ◌==◌, nat_le, cond, List, [], ◌∷◌, ◌++◌, length, refl, sym, ap, ◌∙◌, arith, subst, inl, inr, Some, length-append}
 use Rattle.std.specs.List.{filter}
 use Rattle.std.proofs.lemmas.List.{length-map}
 use Rattle.std.proofs.lemmas.Bool.{cases_lt, cases_order, eq-eqb, ne_eqb, and_parts, and_from, not_from_false, not-true, le-leb, true≢false}
@@ -17,18 +16,17 @@ use Rattle.dutch_player.specs.Facts.{Facts}
 use Rattle.dutch_player.specs.Meetings.{may_meet}
 use Rattle.dutch_pair.specs.declared.reached.Kind.{Kind}
 use Rattle.dutch_pair.specs.Reached.{Stand, ends_round, frame_of, is_number, numbers_meet, number_may_be_left}
-use Rattle.dutch_pair.specs.Round.{Chosen, bracket, candidates_of, choice, choice_in, completable, downfloaters, eligible, is_penultimate, shape_of}
+use Rattle.dutch_pair.specs.Round.{Choice, bracket, candidates_of, choice, completable, downfloaters, eligible, is_penultimate}
 use Rattle.dutch_pair.specs.Seated.{seat_of, score_at}
 use Rattle.dutch_pair.specs.Seats.{is_seat, seats_meet}
 use Rattle.dutch_pair.specs.Shapes.{has_member}
-use Rattle.dutch_pair.specs.Kept.{chosen_in, is_better_in}
 use Rattle.dutch_pair.proofs.ArrangementParts.{numbers_rise}
 use Rattle.dutch_pair.proofs.FinalBrackets.{get_front, get_in, get_place, place_of}
 use Rattle.dutch_pair.proofs.MateLists.{IsNumber, has_kept, twice_map}
 use Rattle.dutch_pair.proofs.OnePairMore.{Larger, one_larger}
 use Rattle.dutch_pair.specs.SeatLaws.{seats_meet_sym}
 use Rattle.dutch_pair.proofs.ShapeLaws.{has_room, none_is_greater}
-use Rattle.dutch_pair.proofs.WalkEnds.{in_unbeaten}
+use Rattle.dutch_pair.proofs.BestLemmas.{chosen_is}
 
 -- ---- lists of arrangements
 
@@ -56,24 +54,6 @@ filter_all [] = refl
 filter_all (x ∷ xs) = ap (λ ys. x ∷ ys) (filter_all xs)
 
 module _ (facts : Facts) (stand : Stand) (lower : List ℕ) where
-  abbrev IsChosen : Option Shape → Chosen → Type 0
-  IsChosen o chosen = (o ≡ Some chosen.shape) × IsIn chosen.lists (eligible facts stand lower chosen.shape)
-
-  chosen_from : (chosen : Chosen) (shape : Shape) (o : Option Arrangement) → chosen_in facts stand lower shape ≡ o
-      → option_map (λ (lists : Arrangement). let made : Chosen = record { shape = shape; lists = lists } in made) o ≡ Some chosen → IsChosen (Some shape) chosen
-  chosen_from chosen shape None e h = let bad : None ≡ Some chosen = h in absurd (cc)
-  chosen_from chosen shape (Some lists) e h =
-      let same : (let made : Chosen = record { shape = shape; lists = lists } in made) ≡ chosen = cc in
-      subst (IsChosen (Some shape)) same (refl, in_unbeaten (is_better_in facts stand lower) (eligible facts stand lower shape) (eligible facts stand lower shape) lists e)
-
-  chosen_at : (chosen : Chosen) (o : Option Shape) → choice_in facts stand lower o ≡ Some chosen → IsChosen o chosen
-  chosen_at chosen None h = let bad : None ≡ Some chosen = h in absurd (cc)
-  chosen_at chosen (Some shape) h = chosen_from chosen shape (chosen_in facts stand lower shape) refl h
-
-  -- what is chosen is of the bracket's shape, and can be chosen
-  pub chosen_is : (chosen : Chosen) → choice facts stand lower ≡ Some chosen → IsChosen (shape_of facts stand lower) chosen
-  chosen_is chosen = chosen_at chosen (shape_of facts stand lower)
-
   -- elsewhere than in the penultimate bracket all candidates can be chosen
   pub eligible_all : (shape : Shape) → is_penultimate stand.kind ≡ false → eligible facts stand lower shape ≡ candidates_of facts stand shape
   eligible_all shape e =
@@ -156,7 +136,7 @@ module _ (facts : Facts) (number : ℕ) (kind : Kind) (md residents : List ℕ) 
   abbrev pub Strangers : List ℕ → Type 0
   Strangers players = (s t : ℕ) → IsIn s players → IsIn t players → seats_meet facts s t ≡ true → ⊥
 
-  module _ (lower : List ℕ) (chosen : Chosen) (is : choice facts stand lower ≡ Some chosen) (not_last : ends_round kind ≡ false) (strangers : Strangers md) where
+  module _ (lower : List ℕ) (chosen : Choice) (is : choice facts stand lower ≡ Some chosen) (not_last : ends_round kind ≡ false) (strangers : Strangers md) where
     -- a candidate with one pair more, by two downfloaters
     abbrev pub More : ℕ → ℕ → Type 0
     More x y = Larger (numbers_meet facts stand) (number_may_be_left facts stand) frame not_last chosen.shape chosen.lists x y

@@ -12,7 +12,7 @@ use Rattle.dutch_order.proofs.Members.{numbers-append}
 use Rattle.dutch_player.specs.Facts.{Facts}
 use Rattle.dutch_pair.specs.Seated.{seat_of, score_at, pairs_of, all_pairs}
 use Rattle.dutch_pair.specs.Reached.{Stand, frame_of}
-use Rattle.dutch_pair.specs.Round.{Chosen, choice, downfloaters}
+use Rattle.dutch_pair.specs.Round.{Choice, choice, downfloaters}
 use Rattle.dutch_pair.proofs.ArrangementParts.{subset_whole, numbers_rise, lists_of, residents_whole, parts_of}
 use Rattle.dutch_pair.proofs.PsdParts.{down_parts}
 use Rattle.dutch_pair.proofs.Totals.{total, total_append, total_map}
@@ -87,7 +87,7 @@ module _ (w : ℕ → ℕ) (facts : Facts) (stand : Stand) where
       omega (arith, numbers, firsts, others, both, floats, count, numbers_seated w seats)
 
   -- the same of what is chosen in it
-  pub choice_whole : (lower : List ℕ) (chosen : Chosen) → stand.mdps ≤ length stand.seats → choice facts stand lower ≡ Some chosen
+  pub choice_whole : (lower : List ℕ) (chosen : Choice) → stand.mdps ≤ length stand.seats → choice facts stand lower ≡ Some chosen
       → pairs_total w (all_pairs stand.seats chosen.lists) + total w (downfloaters facts stand chosen.lists) ≡ total w stand.seats
   choice_whole lower chosen within e =
       let draw : Draw = record { lists = chosen.lists; down = down (frame_of facts stand) chosen.lists } in

@@ -3,19 +3,18 @@ use Rattle.std.proofs.Common.{◌≡◌, ℕ, zero, suc, ◌-◌, ◌<◌, ◌�
 use Rattle.std.proofs.lemmas.List.{length-map}
 use Rattle.std.proofs.lemmas.Bool.{cases_eq, eq-eqb, ne_eqb, and_parts, and_from, not_from_false, le-leb}
 use Rattle.dutch_order.specs.declared.bracket.Shape.{Shape}
-use Rattle.dutch_order.specs.Arrangements.{Arrangement, Fits, Frame}
+use Rattle.dutch_order.specs.Arrangements.{Fits, Frame}
 use Rattle.dutch_order.specs.Forms.{NoneTwice, IsMovedDown}
 use Rattle.dutch_order.specs.Keys.{IsIn}
 use Rattle.dutch_player.specs.Facts.{Facts, seat_at}
 use Rattle.dutch_player.specs.Meetings.{may_meet}
 use Rattle.dutch_pair.specs.declared.reached.Kind.{Kind}
 use Rattle.dutch_pair.specs.Reached.{Stand, frame_of, is_number, numbers_meet, number_may_be_left}
-use Rattle.dutch_pair.specs.Round.{Chosen, bracket, candidates_of, choice, eligible, shape_of}
+use Rattle.dutch_pair.specs.Round.{Choice, bracket, candidates_of, choice, eligible, shape_of}
 use Rattle.dutch_pair.specs.Seated.{seat_of, score_at}
 use Rattle.dutch_pair.specs.Seats.{is_seat, seats_meet, seats_may_be_left}
 use Rattle.dutch_pair.specs.Shapes.{has_member}
-use Rattle.dutch_pair.specs.Kept.{chosen_in}
-use Rattle.dutch_pair.proofs.BestLemmas.{choice_is, shape_has_chosen}
+use Rattle.dutch_pair.proofs.BestLemmas.{choice_of_shape}
 use Rattle.dutch_pair.proofs.MateLists.{IsNumber, NumberMates, mates_candidate, mates_fit, mates_shape}
 use Rattle.dutch_pair.proofs.Mates.{AreMates}
 use Rattle.dutch_pair.proofs.ShapeLaws.{none_has_one}
@@ -167,16 +166,14 @@ module _ (facts : Facts) (number : ℕ) (kind : Kind) (md residents : List ℕ) 
 
 module _ (facts : Facts) (stand : Stand) (lower : List ℕ) where
   pub record Chooses : Type 0 where
-    pub chosen : Chosen
+    pub chosen : Choice
     pub is : choice facts stand lower ≡ Some chosen
-
-  chooses_of : (shape : Shape) (o : Option Arrangement) → shape_of facts stand lower ≡ Some shape → chosen_in facts stand lower shape ≡ o → Chooses
-  chooses_of shape None found e = absurd (shape_has_chosen facts stand lower shape found e)
-  chooses_of shape (Some lists) found e = record { chosen = record { shape = shape; lists = lists }; is = choice_is facts stand lower shape lists found e }
 
   chooses_at : (t : Shape) (o : Option Shape) → shape_of facts stand lower ≡ o → Fits (frame_of facts stand) t → has_member (eligible facts stand lower t) ≡ true → Chooses
   chooses_at t None e fit has = absurd (none_has_one facts stand lower t e fit has)
-  chooses_at t (Some shape) e fit has = chooses_of shape (chosen_in facts stand lower shape) e refl
+  chooses_at t (Some shape) e fit has =
+      let one = choice_of_shape facts stand lower shape e in
+      record { chosen = record { shape = shape; lists = one.0 }; is = one.1 }
 
   -- B.8: where a shape with room has a candidate that can be chosen, there is a choice
   pub chooses : (t : Shape) → Fits (frame_of facts stand) t → has_member (eligible facts stand lower t) ≡ true → Chooses

@@ -48,7 +48,6 @@ pub mod SkippedLemmas
 pub mod TellLemmas
 pub mod WalkLemmas
 pub mod FixedPairs
-pub mod FirstLemmas
 pub mod FloorLemmas
 pub mod WalkEnds
 pub mod GroupWalk

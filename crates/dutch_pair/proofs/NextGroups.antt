@@ -9,7 +9,7 @@ use Rattle.dutch_pair.specs.Seated.{score_at}
 use Rattle.dutch_pair.specs.Reached.{Stand, IsAbove, frame_of}
 use Rattle.dutch_pair.specs.Quality.{Quality}
 use Rattle.dutch_pair.specs.Groups.{front_with}
-use Rattle.dutch_pair.specs.Round.{is_ordinary, first_group, scoregroups, quality_of}
+use Rattle.dutch_pair.specs.Round.{first_group, scoregroups, quality_of}
 use Rattle.dutch_pair.specs.NextBracket.{IsNext, quality}
 use Rattle.dutch_pair.proofs.GroupLemmas.{first_group_is}
 
@@ -87,8 +87,8 @@ module _ (facts : Facts) where
 
   -- the quality of a candidate, by its lists
   pub quality_at : (stand : Stand) (lower next : List ℕ) (draw : Draw) (found : Quality) → next ≡ first_group facts (scoregroups facts lower)
-      → draw.down ≡ down (frame_of facts stand) draw.lists → found ≡ quality facts stand.seats (is_ordinary stand.kind) next draw
+      → draw.down ≡ down (frame_of facts stand) draw.lists → found ≡ quality facts stand next draw
       → found ≡ quality_of facts stand lower draw.lists
   quality_at stand lower next draw found e left h =
-      h ∙ ap (λ group. quality facts stand.seats (is_ordinary stand.kind) group draw) e
-      ∙ ap (λ down. quality facts stand.seats (is_ordinary stand.kind) (first_group facts (scoregroups facts lower)) (record { lists = draw.lists; down = down })) left
+      h ∙ ap (λ group. quality facts stand group draw) e
+      ∙ ap (λ down. quality facts stand (first_group facts (scoregroups facts lower)) (record { lists = draw.lists; down = down })) left

@@ -23,7 +23,7 @@ use Rattle.dutch_pair.specs.Completion.{Completable}
 use Rattle.dutch_pair.specs.declared.reached.Kind.{Kind}
 use Rattle.dutch_pair.specs.declared.reached.Kind.TheVariants.{Ordinary, Last, Penultimate, Collapsed}
 use Rattle.dutch_pair.specs.Reached.{Stand, ends_round, frame_of, numbers_meet, number_may_be_left}
-use Rattle.dutch_pair.specs.Round.{Chosen, Visit, Pairing, Round, bracket, brackets, candidates_of, shape_of, paired_again, choice, completable, downfloaters, eligible, everybody, final_bracket, final_chosen, is_penultimate, no_pairing, ordinary_bracket, ordinary_chosen, pairing_in, passing, penultimate_bracket, penultimate_chosen, round, scoregroups}
+use Rattle.dutch_pair.specs.Round.{Choice, Visit, Pairing, Round, bracket, brackets, candidates_of, shape_of, paired_again, choice, completable, downfloaters, eligible, everybody, final_bracket, final_by, is_penultimate, no_pairing, ordinary_bracket, ordinary_by, pairing_in, passing, penultimate_bracket, penultimate_by, round, scoregroups}
 use Rattle.dutch_pair.specs.SeatLaws.{seats_meet_sym}
 use Rattle.dutch_pair.specs.Seated.{seat_of, all_pairs}
 use Rattle.dutch_pair.specs.Seats.{seats_meet, seats_may_be_left}
@@ -31,7 +31,8 @@ use Rattle.dutch_pair.specs.Shapes.{has_member}
 use Rattle.dutch_pair.specs.WaysOut.{GoesOut, StandsIn}
 use Rattle.dutch_pair.proofs.ArrangementParts.{numbers_rise}
 use Rattle.dutch_pair.proofs.Covering.{completable_by_test}
-use Rattle.dutch_pair.proofs.Downfloaters.{chosen_is, count, down_number, down_seats, down_strangers, down_twice, eligible_all, eligible_some, kept_of, more_candidate, more_of, no_more, of_kept, same_number, within}
+use Rattle.dutch_pair.proofs.BestLemmas.{chosen_is}
+use Rattle.dutch_pair.proofs.Downfloaters.{count, down_number, down_seats, down_strangers, down_twice, eligible_all, eligible_some, kept_of, more_candidate, more_of, no_more, of_kept, same_number, within}
 use Rattle.dutch_pair.proofs.FinalBrackets.{Chooses, chooses, final_candidate, final_fits, final_shape}
 use Rattle.dutch_pair.proofs.GroupLemmas.{concat_scoregroups}
 use Rattle.dutch_pair.proofs.MateLists.{fits_arrangement, has_kept}
@@ -59,13 +60,13 @@ module _ (facts : Facts) where
   some_more f None h = h
   some_more f (Some pairing) h = refl
 
-  more_paired : (stand : Stand) (chosen : Chosen) (rest : Round) → IsPaired rest → IsPaired (pairing_in facts stand chosen rest)
+  more_paired : (stand : Stand) (chosen : Choice) (rest : Round) → IsPaired rest → IsPaired (pairing_in facts stand chosen rest)
   more_paired stand chosen rest = some_more (λ later. record { pairs = all_pairs stand.seats chosen.lists ++ later.pairs; bye = later.bye }) rest.pairing
 
   -- ---- the bracket that ends a round
 
   final_is : (stand : Stand) → Chooses facts stand [] → IsPaired (final_bracket facts stand)
-  final_is stand found = subst (λ o. IsPaired (final_chosen facts stand o)) (sym found.is) refl
+  final_is stand found = subst (λ o. IsPaired (final_by facts stand o)) (sym found.is) refl
 
   -- a bracket with a candidate has a choice, and no bracket without one has a shape
   has_choice : (stand : Stand) (lower : List ℕ) → HasCandidate facts stand lower → Chooses facts stand lower
@@ -173,7 +174,7 @@ module _ (facts : Facts) where
     again_has : HasCandidate facts stand lower
     again_has = record { shape = no_pairs; room = empty_fits number Penultimate md residents lower own_twice refl; candidate = empty_eligible }
 
-    module _ (chosen : Chosen) (is' : choice facts stand lower ≡ Some chosen) where
+    module _ (chosen : Choice) (is' : choice facts stand lower ≡ Some chosen) where
       abbrev lists : Arrangement
       lists = chosen.lists
 
@@ -267,11 +268,11 @@ module _ (facts : Facts) where
           let mates = mates_of (left ++ lower) (left_twice lists) ((by_test (left ++ lower)).1 left_complete) in
           final_has place Collapsed left lower refl (left_twice lists) mates.mate mates.are (no_mates mates.mate mates.are)
 
-    again_goes : IsPaired (penultimate_chosen facts stand lower (choice facts stand lower))
+    again_goes : IsPaired (penultimate_by facts stand lower (choice facts stand lower))
     again_goes =
         let found = has_choice stand lower again_has in
         let collapsed = bracket (number + 1) Collapsed (downfloaters facts stand found.chosen.lists) lower in
-        subst (λ o. IsPaired (penultimate_chosen facts stand lower o)) (sym found.is)
+        subst (λ o. IsPaired (penultimate_by facts stand lower o)) (sym found.is)
         (more_paired stand found.chosen (final_bracket facts collapsed)
         (final_is collapsed (has_choice collapsed [] (collapsed_has found.chosen found.is (number + 1)))))
 
@@ -300,7 +301,7 @@ module _ (facts : Facts) where
     }
 
     -- those whom it leaves over go out with the lower seats where they can be paired out with them
-    first_out : (chosen : Chosen) → choice facts first lower ≡ Some chosen → completable facts (downfloaters facts first chosen.lists ++ lower) ≡ true
+    first_out : (chosen : Choice) → choice facts first lower ≡ Some chosen → completable facts (downfloaters facts first chosen.lists ++ lower) ≡ true
         → GoesOut facts (downfloaters facts first chosen.lists) lower
     first_out chosen is' e = record {
       twice = all_down number Ordinary md residents lower first_twice refl first_all chosen.lists;
@@ -309,7 +310,7 @@ module _ (facts : Facts) where
     }
 
     module _ (goes_on : List ℕ → Round) (later : (left : List ℕ) → GoesOut facts left lower → IsPaired (goes_on left)) where
-      kept_on : (chosen : Chosen) → choice facts first lower ≡ Some chosen → (t : Bool) → completable facts (downfloaters facts first chosen.lists ++ lower) ≡ t
+      kept_on : (chosen : Choice) → choice facts first lower ≡ Some chosen → (t : Bool) → completable facts (downfloaters facts first chosen.lists ++ lower) ≡ t
           → IsPaired (cond t (pairing_in facts first chosen (goes_on (downfloaters facts first chosen.lists))) (passing facts first chosen (penultimate_bracket facts first lower)))
       kept_on chosen is' true e =
           let left = downfloaters facts first chosen.lists in
@@ -319,7 +320,7 @@ module _ (facts : Facts) where
       ordinary_goes : IsPaired (ordinary_bracket facts first lower goes_on)
       ordinary_goes =
           let found = has_choice first lower first_has in
-          subst (λ o. IsPaired (ordinary_chosen facts first lower goes_on o)) (sym found.is)
+          subst (λ o. IsPaired (ordinary_by facts first lower goes_on o)) (sym found.is)
           (kept_on found.chosen found.is (completable facts (downfloaters facts first found.chosen.lists ++ lower)) refl)
 
   -- ---- all brackets
@@ -418,7 +419,7 @@ module _ (facts : Facts) where
   ordinary_candidate stand lower h =
       subst (λ (s : Stand). HasCandidate facts s lower) (sym h.is) (first_has stand.number h.md h.residents lower h.out)
 
-  pub ordinary_out : (stand : Stand) (lower left : List ℕ) (chosen : Chosen) → StandsIn facts stand lower → choice facts stand lower ≡ Some chosen
+  pub ordinary_out : (stand : Stand) (lower left : List ℕ) (chosen : Choice) → StandsIn facts stand lower → choice facts stand lower ≡ Some chosen
       → left ≡ downfloaters facts stand chosen.lists → completable facts (left ++ lower) ≡ true → GoesOut facts left lower
   ordinary_out stand lower left chosen h is' same e =
       let own : left ≡ downfloaters facts (bracket stand.number Ordinary h.md h.residents) chosen.lists = same ∙ ap (λ (s : Stand). downfloaters facts s chosen.lists) h.is in
@@ -430,7 +431,7 @@ module _ (facts : Facts) where
   penultimate_candidate stand r lower h same =
       subst (λ (s : Stand). HasCandidate facts s lower) (sym (same ∙ ap paired_again h.is)) (again_has (stand.number + 1) h.md h.residents lower h.out)
 
-  pub collapsed_candidate : (stand r collapsed : Stand) (lower left : List ℕ) (chosen : Chosen) (number : ℕ) → StandsIn facts stand lower → r ≡ paired_again stand
+  pub collapsed_candidate : (stand r collapsed : Stand) (lower left : List ℕ) (chosen : Choice) (number : ℕ) → StandsIn facts stand lower → r ≡ paired_again stand
       → choice facts r lower ≡ Some chosen → left ≡ downfloaters facts r chosen.lists → collapsed ≡ bracket number Collapsed left lower → HasCandidate facts collapsed []
   collapsed_candidate stand r collapsed lower left chosen number h same is' left_is made =
       let own : r ≡ bracket (stand.number + 1) Penultimate h.md h.residents = same ∙ ap paired_again h.is in

@@ -10,14 +10,12 @@ use Rattle.dutch_order.specs.Keys.{IsIn}
 use Rattle.dutch_order.specs.Arrangements.{Frame, Arrangement, arrangements, down, is_legal, leaves_one}
 use Rattle.dutch_player.specs.Facts.{Facts}
 use Rattle.dutch_pair.specs.declared.reached.Kind.TheVariants.{Ordinary, Last, Collapsed}
-use Rattle.dutch_pair.specs.Choice.{chosen}
-use Rattle.dutch_pair.specs.Quality.{is_better}
 use Rattle.dutch_pair.specs.Reached.{Stand, ends_round, frame_of, numbers_meet, number_may_be_left}
-use Rattle.dutch_pair.specs.Round.{Round, Pairing, Chosen, bracket, candidates_of, choice, choice_in, completable, downfloaters, eligible, everybody, can_be_chosen, quality_of, scoregroups, shape_of, pairing_in, passing, no_pairing, final_chosen, final_bracket, penultimate_chosen, penultimate_bracket, paired_again, ordinary_chosen, brackets, round}
+use Rattle.dutch_pair.specs.Round.{Round, Pairing, Choice, bracket, candidates_of, choice, completable, downfloaters, eligible, everybody, can_be_chosen, scoregroups, pairing_in, passing, no_pairing, final_by, final_bracket, penultimate_by, penultimate_bracket, paired_again, ordinary_by, brackets, round}
 use Rattle.dutch_pair.specs.Seated.{all_pairs, seat_of}
 use Rattle.dutch_pair.proofs.LeastPsd.{in_filter}
 use Rattle.dutch_pair.proofs.LegalPairs.{in_passes}
-use Rattle.dutch_pair.proofs.WalkEnds.{in_unbeaten}
+use Rattle.dutch_pair.proofs.BestLemmas.{chosen_is}
 
 -- ---- what is chosen is legal
 
@@ -36,28 +34,13 @@ module _ (facts : Facts) (stand : Stand) where
       in_passes (λ c. legal c) a (arrangements (frame_of facts stand) shape)
       (in_filter (can_be_chosen facts stand lower) a (candidates_of facts stand shape) m)
 
-  legal_at : (shape : Shape) (found : Option Arrangement) (made : Chosen) → ((a : Arrangement) → found ≡ Some a → legal a ≡ true)
-      → option_map (λ (lists : Arrangement). let one : Chosen = record { shape = shape; lists = lists } in one) found ≡ Some made → legal made.lists ≡ true
-  legal_at shape None made each e = let bad : None ≡ Some made = e in cc
-  legal_at shape (Some a) made each e =
-      let same : (let one : Chosen = record { shape = shape; lists = a } in one) ≡ made = cc in
-      subst (λ (one : Chosen). legal one.lists ≡ true) same (each a refl)
-
-  legal_in : (lower : List ℕ) (found : Option Shape) (made : Chosen) → choice_in facts stand lower found ≡ Some made → legal made.lists ≡ true
-  legal_in lower None made e = let bad : None ≡ Some made = e in cc
-  legal_in lower (Some shape) made e =
-      let better : Arrangement → Arrangement → Bool = λ c d. is_better (quality_of facts stand lower c) (quality_of facts stand lower d) in
-      let all : List Arrangement = eligible facts stand lower shape in
-      legal_at shape (chosen better all) made
-      (λ a is. legal_of lower shape a (in_unbeaten better all all a is)) e
-
   -- who is left over by what is chosen, where at most one may be
-  left_few : (lower : List ℕ) (made : Chosen) → ends_round stand.kind ≡ true → choice facts stand lower ≡ Some made → length (downfloaters facts stand made.lists) ≤ 1
+  left_few : (lower : List ℕ) (made : Choice) → ends_round stand.kind ≡ true → choice facts stand lower ≡ Some made → length (downfloaters facts stand made.lists) ≤ 1
   unfolding legal
   left_few lower made ends e =
       let frame : Frame = frame_of facts stand in
       let a : Arrangement = made.lists in
-      let first = and_parts (all_meet (numbers_meet facts stand) a.s1 a.s2) _ (legal_in lower (shape_of facts stand lower) made e) in
+      let first = and_parts (all_meet (numbers_meet facts stand) a.s1 a.s2) _ (legal_of lower made.shape a (chosen_is facts stand lower made e).1) in
       let second = and_parts (all_meet (numbers_meet facts stand) a.s1r a.s2r) _ first.1 in
       let one : leaves_one (number_may_be_left facts stand) (down frame a) ≡ true =
       subst (λ b. (not b || leaves_one (number_may_be_left facts stand) (down frame a)) ≡ true) ends second.1 in
@@ -70,19 +53,19 @@ abbrev pub HasOneBye : Option Pairing → Type 0
 HasOneBye found = IfSome found (λ pairing. length pairing.bye ≤ 1)
 
 module _ (facts : Facts) where
-  bye_stays : (stand : Stand) (made : Chosen) (rest : Option Pairing) → HasOneBye rest
+  bye_stays : (stand : Stand) (made : Choice) (rest : Option Pairing) → HasOneBye rest
       → HasOneBye (option_map (λ later. record { pairs = all_pairs stand.seats made.lists ++ later.pairs; bye = later.bye }) rest)
   bye_stays stand made None one = tt
   bye_stays stand made (Some later) one = one
 
-  final_at : (stand : Stand) (found : Option Chosen) → ends_round stand.kind ≡ true → choice facts stand [] ≡ found → HasOneBye (final_chosen facts stand found).pairing
+  final_at : (stand : Stand) (found : Option Choice) → ends_round stand.kind ≡ true → choice facts stand [] ≡ found → HasOneBye (final_by facts stand found).pairing
   final_at stand None ends e = tt
   final_at stand (Some made) ends e = left_few facts stand [] made ends e
 
   final_bye : (stand : Stand) → ends_round stand.kind ≡ true → HasOneBye (final_bracket facts stand).pairing
   final_bye stand ends = final_at stand (choice facts stand []) ends refl
 
-  penultimate_at : (stand : Stand) (lower : List ℕ) (found : Option Chosen) → HasOneBye (penultimate_chosen facts stand lower found).pairing
+  penultimate_at : (stand : Stand) (lower : List ℕ) (found : Option Choice) → HasOneBye (penultimate_by facts stand lower found).pairing
   penultimate_at stand lower None = tt
   penultimate_at stand lower (Some made) =
       let last : Stand = bracket (stand.number + 1) Collapsed (downfloaters facts stand made.lists) lower in
@@ -91,14 +74,14 @@ module _ (facts : Facts) where
   penultimate_bye : (stand : Stand) (lower : List ℕ) → HasOneBye (penultimate_bracket facts stand lower).pairing
   penultimate_bye stand lower = penultimate_at (paired_again stand) lower (choice facts (paired_again stand) lower)
 
-  kept_at : (stand : Stand) (lower : List ℕ) (goes_on : List ℕ → Round) (made : Chosen) (t : Bool) → ((left : List ℕ) → HasOneBye (goes_on left).pairing)
+  kept_at : (stand : Stand) (lower : List ℕ) (goes_on : List ℕ → Round) (made : Choice) (t : Bool) → ((left : List ℕ) → HasOneBye (goes_on left).pairing)
       → HasOneBye (cond t (pairing_in facts stand made (goes_on (downfloaters facts stand made.lists))) (passing facts stand made (penultimate_bracket facts stand lower))).pairing
   kept_at stand lower goes_on made true later =
       bye_stays stand made (goes_on (downfloaters facts stand made.lists)).pairing (later (downfloaters facts stand made.lists))
   kept_at stand lower goes_on made false later = penultimate_bye stand lower
 
-  ordinary_at : (stand : Stand) (lower : List ℕ) (goes_on : List ℕ → Round) (found : Option Chosen) → ((left : List ℕ) → HasOneBye (goes_on left).pairing)
-      → HasOneBye (ordinary_chosen facts stand lower goes_on found).pairing
+  ordinary_at : (stand : Stand) (lower : List ℕ) (goes_on : List ℕ → Round) (found : Option Choice) → ((left : List ℕ) → HasOneBye (goes_on left).pairing)
+      → HasOneBye (ordinary_by facts stand lower goes_on found).pairing
   ordinary_at stand lower goes_on None later = tt
   ordinary_at stand lower goes_on (Some made) later =
       kept_at stand lower goes_on made (completable facts (downfloaters facts stand made.lists ++ lower)) later

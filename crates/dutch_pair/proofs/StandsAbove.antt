@@ -1,21 +1,18 @@
 -- Each bracket of a round stands above the players below it, above whom it has its shape.
-use Rattle.std.proofs.Common.{◌≡◌, ℕ, zero, suc, ◌+◌, ◌<◌, ◌≤◌, ◌⊎◌, Bool, true, false, cond, List, [], ◌∷◌, ◌++◌, length, drop, Option, Some, None, option_map, inl, inr, refl, sym, ap, ◌∙◌, subst, append_assoc, arith}
+use Rattle.std.proofs.Common.{◌≡◌, ℕ, zero, suc, ◌+◌, ◌<◌, ◌≤◌, ◌⊎◌, Bool, true, false, cond, List, [], ◌∷◌, ◌++◌, length, drop, Option, Some, None, inl, inr, refl, sym, ap, ◌∙◌, subst, append_assoc, arith}
 use Rattle.std.specs.List.{AllByRecursion, concat}
 use Rattle.std.proofs.lemmas.List.{append-nil}
-use Rattle.dutch_order.specs.declared.bracket.Shape.{Shape}
-use Rattle.dutch_order.specs.Arrangements.{Arrangement}
 use Rattle.dutch_order.specs.Keys.{IsIn}
 use Rattle.dutch_player.specs.Facts.{Facts}
 use Rattle.dutch_pair.specs.declared.reached.Kind.TheVariants.{Ordinary, Last, Collapsed}
 use Rattle.dutch_pair.specs.Seated.{score_at}
 use Rattle.dutch_pair.specs.Reached.{Stand, IsAbove}
-use Rattle.dutch_pair.specs.Quality.{is_better}
-use Rattle.dutch_pair.specs.Choice.{chosen}
 use Rattle.dutch_pair.specs.Walk.{AreAbove, Goes}
 use Rattle.dutch_pair.specs.Ends.{LeftGoOn}
 use Rattle.dutch_pair.specs.Lower.{lower_of}
 use Rattle.dutch_pair.specs.Outcomes.{visit_at, visit_of}
-use Rattle.dutch_pair.specs.Round.{Round, Visit, Chosen, bracket, choice, choice_in, completable, downfloaters, eligible, everybody, first_group, quality_of, scoregroups, shape_of, no_pairing, passing, pairing_in, final_chosen, final_bracket, penultimate_chosen, penultimate_bracket, paired_again, ordinary_chosen, brackets, round}
+use Rattle.dutch_pair.specs.Round.{Round, Visit, Choice, bracket, choice, completable, downfloaters, everybody, first_group, scoregroups, shape_of, no_pairing, passing, pairing_in, final_by, final_bracket, penultimate_by, penultimate_bracket, paired_again, ordinary_by, brackets, round}
+use Rattle.dutch_pair.proofs.BestLemmas.{chosen_is}
 use Rattle.dutch_pair.proofs.AllLemmas.{all_join}
 use Rattle.dutch_pair.proofs.GroupLemmas.{concat_scoregroups}
 use Rattle.dutch_pair.proofs.GroupWalk.{IsParted, parted_by, last_above, ordinary_above, ordinary_left, everybody_goes}
@@ -36,30 +33,16 @@ module _ (facts : Facts) where
   none_there zero = refl
   none_there (suc place) = refl
 
-  -- ---- the shape of a choice
+  -- ---- the bracket of a choice
 
-  picked : (stand : Stand) (lower : List ℕ) (shape : Shape) (made : Chosen) (found : Option Arrangement)
-      → option_map (λ (lists : Arrangement). let one : Chosen = record { shape = shape; lists = lists } in one) found ≡ Some made → Some shape ≡ Some made.shape
-  picked stand lower shape made None e = let bad : None ≡ Some made = e in cc
-  picked stand lower shape made (Some lists) e =
-      let same : (let one : Chosen = record { shape = shape; lists = lists } in one) ≡ made = cc in ap (λ (c : Chosen). Some c.shape) same
-
-  shape_at : (stand : Stand) (lower : List ℕ) (made : Chosen) (found : Option Shape) → choice_in facts stand lower found ≡ Some made → found ≡ Some made.shape
-  shape_at stand lower made None e = let bad : None ≡ Some made = e in cc
-  shape_at stand lower made (Some shape) e =
-      picked stand lower shape made (chosen (λ c d. is_better (quality_of facts stand lower c) (quality_of facts stand lower d)) (eligible facts stand lower shape)) e
-
-  shape_chosen : (stand : Stand) (lower : List ℕ) (made : Chosen) → choice facts stand lower ≡ Some made → shape_of facts stand lower ≡ Some made.shape
-  shape_chosen stand lower made e = shape_at stand lower made (shape_of facts stand lower) e
-
-  stands : (stand : Stand) (lower : List ℕ) (made : Chosen) → lower_of facts stand ≡ lower → IsAbove facts stand lower → choice facts stand lower ≡ Some made
+  stands : (stand : Stand) (lower : List ℕ) (made : Choice) → lower_of facts stand ≡ lower → IsAbove facts stand lower → choice facts stand lower ≡ Some made
       → StandsAbove (record { bracket = stand; shape = made.shape })
   stands stand lower made e above has =
-      (subst (IsAbove facts stand) (sym e) above, ap (shape_of facts stand) e ∙ shape_chosen stand lower made has)
+      (subst (IsAbove facts stand) (sym e) above, ap (shape_of facts stand) e ∙ (chosen_is facts stand lower made has).0)
 
   -- ---- the bracket that ends a round
 
-  final_at : (stand : Stand) (found : Option Chosen) → choice facts stand [] ≡ found → lower_of facts stand ≡ [] → IsAbove facts stand [] → AllStand (final_chosen facts stand found).reached
+  final_at : (stand : Stand) (found : Option Choice) → choice facts stand [] ≡ found → lower_of facts stand ≡ [] → IsAbove facts stand [] → AllStand (final_by facts stand found).reached
   final_at stand None e none above = tt
   final_at stand (Some made) e none above = (stands stand [] made none above e, tt)
 
@@ -99,8 +82,8 @@ module _ (facts : Facts) where
       })
 
   module _ (descends : Descends facts) where
-    penultimate_at : (stand : Stand) (tops lower : List ℕ) (found : Option Chosen) → IsPlaced stand tops lower → choice facts (paired_again stand) lower ≡ found
-        → AllStand (penultimate_chosen facts (paired_again stand) lower found).reached
+    penultimate_at : (stand : Stand) (tops lower : List ℕ) (found : Option Choice) → IsPlaced stand tops lower → choice facts (paired_again stand) lower ≡ found
+        → AllStand (penultimate_by facts (paired_again stand) lower found).reached
     penultimate_at stand tops lower None placed e = tt
     penultimate_at stand tops lower (Some made) placed e =
         let left : List ℕ = downfloaters facts (paired_again stand) made.lists in (
@@ -113,7 +96,7 @@ module _ (facts : Facts) where
     penultimate_stands : (stand : Stand) (tops lower : List ℕ) → IsPlaced stand tops lower → AllStand (penultimate_bracket facts stand lower).reached
     penultimate_stands stand tops lower placed = penultimate_at stand tops lower (choice facts (paired_again stand) lower) placed refl
 
-    kept_at : (stand : Stand) (tops lower : List ℕ) (goes_on : List ℕ → Round) (made : Chosen) (t : Bool) → IsPlaced stand tops lower → choice facts stand lower ≡ Some made
+    kept_at : (stand : Stand) (tops lower : List ℕ) (goes_on : List ℕ → Round) (made : Choice) (t : Bool) → IsPlaced stand tops lower → choice facts stand lower ≡ Some made
         → AllStand (goes_on (downfloaters facts stand made.lists)).reached
         → AllStand (cond t (pairing_in facts stand made (goes_on (downfloaters facts stand made.lists))) (passing facts stand made (penultimate_bracket facts stand lower))).reached
     kept_at stand tops lower goes_on made true placed e later =
@@ -121,9 +104,9 @@ module _ (facts : Facts) where
     kept_at stand tops lower goes_on made false placed e later =
         (stands stand lower made (lower_is facts stand tops lower placed.ends) placed.above e, penultimate_stands stand tops lower placed)
 
-    ordinary_at : (stand : Stand) (tops lower : List ℕ) (goes_on : List ℕ → Round) (found : Option Chosen) → IsPlaced stand tops lower → choice facts stand lower ≡ found
+    ordinary_at : (stand : Stand) (tops lower : List ℕ) (goes_on : List ℕ → Round) (found : Option Choice) → IsPlaced stand tops lower → choice facts stand lower ≡ found
         → ((left : List ℕ) → Goes facts left lower → AllStand (goes_on left).reached)
-        → AllStand (ordinary_chosen facts stand lower goes_on found).reached
+        → AllStand (ordinary_by facts stand lower goes_on found).reached
     ordinary_at stand tops lower goes_on None placed e later = tt
     ordinary_at stand tops lower goes_on (Some made) placed e later =
         kept_at stand tops lower goes_on made (completable facts (downfloaters facts stand made.lists ++ lower)) placed e

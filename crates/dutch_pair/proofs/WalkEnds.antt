@@ -1,5 +1,5 @@
 -- How the walk over the brackets ends, told from behind: a bracket more in front of a round that ends so.
-use Rattle.std.proofs.Common.{◌≡◌, ℕ, zero, suc, ◌+◌, ◌-◌, ◌≤◌, Bool, true, false, cond, List, [], ◌∷◌, ◌++◌, length, map, inl, inr, Option, Some, None, option_map, refl, sym, ap, ◌∙◌, subst, arith, append-nil, append_assoc}
+use Rattle.std.proofs.Common.{◌≡◌, ℕ, zero, suc, ◌+◌, ◌-◌, ◌≤◌, Bool, true, false, cond, List, [], ◌∷◌, ◌++◌, length, map, Option, Some, None, option_map, refl, sym, ap, ◌∙◌, subst, arith, append-nil, append_assoc}
 use Rattle.std.specs.List.{AllByRecursion}
 use Rattle.std.proofs.lemmas.Bool.Decides.{nat_tests}
 use Rattle.std.proofs.lemmas.List.{length-map}
@@ -15,16 +15,14 @@ use Rattle.dutch_pair.specs.Boards.{IsPair}
 use Rattle.dutch_pair.specs.Seated.{seat_of, all_pairs, AreSeats, AllNumbers, IsCandidate}
 use Rattle.dutch_pair.specs.Reached.{Stand, IsOf, IsAbove, frame_of, numbers_meet, number_may_be_left}
 use Rattle.dutch_pair.specs.NextBracket.{IsDraw}
-use Rattle.dutch_pair.specs.Choice.{is_unbeaten, first_unbeaten, chosen}
-use Rattle.dutch_pair.specs.Quality.{is_better}
 use Rattle.dutch_pair.specs.Walk.{AreAbove, Goes}
-use Rattle.dutch_pair.specs.Round.{Round, Visit, Pairing, Chosen, bracket, can_be_chosen, completable, downfloaters, candidates_of, eligible, quality_of, choice_in, choice, shape_of, no_pairing, passing, pairing_in, ending, final_chosen, final_bracket, penultimate_chosen, paired_again, penultimate_bracket, ordinary_chosen, ordinary_bracket}
+use Rattle.dutch_pair.specs.Round.{Round, Visit, Pairing, Choice, bracket, can_be_chosen, completable, downfloaters, candidates_of, eligible, choice, shape_of, no_pairing, passing, pairing_in, ending, final_by, final_bracket, penultimate_by, paired_again, penultimate_bracket, ordinary_by, ordinary_bracket}
 use Rattle.dutch_pair.specs.Outcomes.{visit_at}
 use Rattle.dutch_pair.specs.Context.{Context}
 use Rattle.dutch_pair.specs.Ends.{Ends, IsPaired, IsAhead, LeftGoOn, Misses, Settles, in_front, is_asked}
 use Rattle.dutch_pair.specs.declared.walk.Settled.{Settled}
 use Rattle.dutch_pair.proofs.LeastPsd.{in_filter}
-use Rattle.dutch_pair.proofs.FirstLemmas.{choice_of_shape}
+use Rattle.dutch_pair.proofs.BestLemmas.{choice_of_shape, chosen_is}
 use Rattle.dutch_pair.proofs.FlatBrackets.{candidate_of}
 use Rattle.dutch_pair.proofs.AllLemmas.{all_join}
 use Rattle.dutch_pair.proofs.CandidateSeats.{all_within}
@@ -33,20 +31,11 @@ use Rattle.dutch_pair.proofs.WalkLemmas.{Descends, is_above}
 
 -- ---- what is chosen is an arrangement
 
-in_unbeaten_at : (better : Arrangement → Arrangement → Bool) (all : List Arrangement) (c a : Arrangement) (rest : List Arrangement) (t : Bool)
-    → (first_unbeaten better all rest ≡ Some a → IsIn a rest) → cond t (Some c) (first_unbeaten better all rest) ≡ Some a → IsIn a (c ∷ rest)
-in_unbeaten_at better all c a rest true later e = let same : c ≡ a = cc in inl (sym same)
-in_unbeaten_at better all c a rest false later e = inr (later e)
-
 -- what is settled in a context is settled in the bracket that it was made of
 pub settled : (asked : Option ℕ) (stopped : Type 0) {k bracket : Context} {s t : Settled} → k ≡ bracket → s ≡ t
     → Settles k.facts k.stand k.lower asked stopped s → Settles bracket.facts bracket.stand bracket.lower asked stopped t
 settled asked stopped {bracket = bracket} {s = s} same is h =
     subst (λ r. Settles bracket.facts bracket.stand bracket.lower asked stopped r) is (subst (λ (k : Context). Settles k.facts k.stand k.lower asked stopped s) same h)
-
-pub in_unbeaten : (better : Arrangement → Arrangement → Bool) (all ys : List Arrangement) (a : Arrangement) → first_unbeaten better all ys ≡ Some a → IsIn a ys
-in_unbeaten better all [] a e = let bad : None ≡ Some a = e in cc
-in_unbeaten better all (c ∷ rest) a e = in_unbeaten_at better all c a rest (is_unbeaten better all c) (in_unbeaten better all rest a) e
 
 module _ (facts : Facts) where
   in_eligible : (stand : Stand) (lower : List ℕ) (shape : Shape) (a : Arrangement) → IsIn a (eligible facts stand lower shape) → IsIn a (arrangements (frame_of facts stand) shape)
@@ -54,28 +43,11 @@ module _ (facts : Facts) where
       in_filter (is_legal (numbers_meet facts stand) (number_may_be_left facts stand) (frame_of facts stand)) a (arrangements (frame_of facts stand) shape)
       (in_filter (can_be_chosen facts stand lower) a (candidates_of facts stand shape) m)
 
-  in_choice_at : (stand : Stand) (lower : List ℕ) (shape : Shape) (a : Arrangement) (found : Option Arrangement) (at' : Shape)
-      → (found ≡ Some a → IsIn a (arrangements (frame_of facts stand) at'))
-      → option_map (λ (lists : Arrangement). let made : Chosen = record { shape = at'; lists = lists } in made) found ≡ Some (record { shape = shape; lists = a })
-      → IsIn a (arrangements (frame_of facts stand) shape)
-  in_choice_at stand lower shape a None at' given e = let bad : None ≡ Some (let made : Chosen = record { shape = shape; lists = a } in made) = e in cc
-  in_choice_at stand lower shape a (Some b) at' given e =
-      let same : (let made : Chosen = record { shape = at'; lists = b } in made) ≡ record { shape = shape; lists = a } = cc in
-      subst (λ (s : Shape). IsIn a (arrangements (frame_of facts stand) s)) (ap (λ (c : Chosen). c.shape) same) (given (ap Some (ap (λ (c : Chosen). c.lists) same)))
-
-  in_choice_in : (stand : Stand) (lower : List ℕ) (shape : Shape) (a : Arrangement) (found : Option Shape)
-      → choice_in facts stand lower found ≡ Some (record { shape = shape; lists = a }) → IsIn a (arrangements (frame_of facts stand) shape)
-  in_choice_in stand lower shape a None e = let bad : None ≡ Some (let made : Chosen = record { shape = shape; lists = a } in made) = e in cc
-  in_choice_in stand lower shape a (Some at') e =
-      in_choice_at stand lower shape a (chosen (λ c d. is_better (quality_of facts stand lower c) (quality_of facts stand lower d)) (eligible facts stand lower at')) at'
-      (λ h. in_eligible stand lower at' a
-      (in_unbeaten (λ c d. is_better (quality_of facts stand lower c) (quality_of facts stand lower d)) (eligible facts stand lower at') (eligible facts stand lower at') a h)) e
-
   -- what is chosen in a bracket is an arrangement of it
   pub drawn : (stand : Stand) (lower : List ℕ) (shape : Shape) (draw : Draw) → choice facts stand lower ≡ Some (record { shape = shape; lists = draw.lists })
       → draw.down ≡ down (frame_of facts stand) draw.lists → IsDraw facts stand draw
   drawn stand lower shape draw e left =
-      record { lists = (shape, in_choice_in stand lower shape draw.lists (shape_of facts stand lower) e); down = left }
+      record { lists = (shape, in_eligible stand lower shape draw.lists (chosen_is facts stand lower (record { shape = shape; lists = draw.lists }) e).1); down = left }
 
   -- and so is each candidate
   pub candidate_drawn : (stand : Stand) (shape : Shape) (draw : Draw) → IsIn draw.lists (candidates_of facts stand shape) → draw.down ≡ down (frame_of facts stand) draw.lists
@@ -153,7 +125,7 @@ module _ (facts : Facts) (limit : ℕ) (asked : Option ℕ) where
       let count : length whole.reached ≡ suc (length rest.reached) = ap length e in
       (h.0, omega (arith, low), omega (arith, high, count))
 
-  pub ends_pairing : (stand : Stand) (chosen : Chosen) (rest : Round) (front all : List (ℕ × ℕ)) (ended : Ended)
+  pub ends_pairing : (stand : Stand) (chosen : Choice) (rest : Round) (front all : List (ℕ × ℕ)) (ended : Ended)
       → all ≡ front ++ all_pairs stand.seats chosen.lists → IsAhead asked (stand.number + 1)
       → Ends facts limit asked (stand.number + 1) all rest ended → Ends facts limit asked stand.number front (pairing_in facts stand chosen rest) ended
   ends_pairing stand chosen rest front all ended e ahead h =
@@ -161,7 +133,7 @@ module _ (facts : Facts) (limit : ℕ) (asked : Option ℕ) where
       refl (in_front_more front (all_pairs stand.seats chosen.lists) all rest.pairing e)
       (in_front_none (all_pairs stand.seats chosen.lists) rest.pairing) ahead h
 
-  pub ends_passing : (stand : Stand) (chosen : Chosen) (rest : Round) (front : List (ℕ × ℕ)) (ended : Ended) → IsAhead asked (stand.number + 1)
+  pub ends_passing : (stand : Stand) (chosen : Choice) (rest : Round) (front : List (ℕ × ℕ)) (ended : Ended) → IsAhead asked (stand.number + 1)
       → Ends facts limit asked (stand.number + 1) front rest ended → Ends facts limit asked stand.number front (passing facts stand chosen rest) ended
   ends_passing stand chosen rest front ended ahead h =
       ends_later stand.number front [] front (record { bracket = stand; shape = chosen.shape }) rest (passing facts stand chosen rest) ended
@@ -209,11 +181,11 @@ module _ (facts : Facts) where
       → AllByRecursion (IsPair facts) made → IsAhead asked stand.number → is_asked asked stand.number ≡ false
       → IsPaired facts asked stand.number front (final_bracket facts stand) made bye
   final_paired asked stand shape lists front made bye of' e all left pairs ahead other =
-      let chosen' : Chosen = record { shape = shape; lists = lists } in
+      let chosen' : Choice = record { shape = shape; lists = lists } in
       let last : Round = ending facts (downfloaters facts stand lists) in
       let end' : IsPaired facts asked (stand.number + 1) made last made bye =
       paired_ending asked (stand.number + 1) made (downfloaters facts stand lists) bye left pairs (down_seats stand lists bye of' left) in
-      subst (λ (c : Option Chosen). IsPaired facts asked stand.number front (final_chosen facts stand c) made bye) (sym e)
+      subst (λ (c : Option Choice). IsPaired facts asked stand.number front (final_by facts stand c) made bye) (sym e)
       (paired_later asked stand.number front (all_pairs stand.seats lists) made (record { bracket = stand; shape = shape }) last (pairing_in facts stand chosen' last) made bye
       refl (in_front_more front (all_pairs stand.seats lists) made last.pairing all) (ahead_more asked stand.number ahead other) end')
 
@@ -222,7 +194,7 @@ module _ (facts : Facts) (limit : ℕ) (asked : Option ℕ) (stand : Stand) (fro
       → Ends facts limit asked stand.number front (final_bracket facts stand) (Asked stand shape)
   final_asked shape of' is e fits =
       let one = choice_of_shape facts stand [] shape e in
-      ends_asked facts limit asked stand shape front (final_bracket facts stand) [] (ap (λ (c : Option Chosen). (final_chosen facts stand c).reached) one.1) is of' fits
+      ends_asked facts limit asked stand shape front (final_bracket facts stand) [] (ap (λ (c : Option Choice). (final_by facts stand c).reached) one.1) is of' fits
 
 -- the penultimate bracket, and the collapsed one
 pub above_again : (facts : Facts) (stand : Stand) (lower : List ℕ) → IsAbove facts stand lower → IsAbove facts (paired_again stand) lower
@@ -253,7 +225,7 @@ module _ (facts : Facts) (limit : ℕ) (asked : Option ℕ) (stand : Stand) (low
       let one = choice_of_shape facts (paired_again stand) lower shape e in
       let collapsed : Round = final_bracket facts (bracket ((stand.number + 1) + 1) Collapsed (downfloaters facts (paired_again stand) one.0) lower) in
       ends_asked facts limit asked (paired_again stand) shape front (penultimate_bracket facts stand lower) collapsed.reached
-      (ap (λ (c : Option Chosen). (penultimate_chosen facts (paired_again stand) lower c).reached) one.1) is of' fits
+      (ap (λ (c : Option Choice). (penultimate_by facts (paired_again stand) lower c).reached) one.1) is of' fits
 
   pub penultimate_goes_on : (shape : Shape) (lists : Arrangement) (all : List (ℕ × ℕ)) (left : List ℕ) (ended : Ended)
       → choice facts (paired_again stand) lower ≡ Some (record { shape = shape; lists = lists }) → all ≡ front ++ all_pairs stand.seats lists
@@ -261,15 +233,15 @@ module _ (facts : Facts) (limit : ℕ) (asked : Option ℕ) (stand : Stand) (low
       → Ends facts limit asked ((stand.number + 1) + 1) all (final_bracket facts (bracket ((stand.number + 1) + 1) Collapsed left lower)) ended
       → Ends facts limit asked (stand.number + 1) front (penultimate_bracket facts stand lower) ended
   penultimate_goes_on shape lists all left ended e pairs same ahead other h =
-      let chosen' : Chosen = record { shape = shape; lists = lists } in
+      let chosen' : Choice = record { shape = shape; lists = lists } in
       let collapsed : List ℕ → Round = λ xs. final_bracket facts (bracket ((stand.number + 1) + 1) Collapsed xs lower) in
-      subst (λ (c : Option Chosen). Ends facts limit asked (stand.number + 1) front (penultimate_chosen facts (paired_again stand) lower c) ended) (sym e)
+      subst (λ (c : Option Choice). Ends facts limit asked (stand.number + 1) front (penultimate_by facts (paired_again stand) lower c) ended) (sym e)
       (ends_pairing facts limit asked (paired_again stand) chosen' (collapsed (downfloaters facts (paired_again stand) lists)) front all ended pairs
       (ahead_more asked (stand.number + 1) ahead other)
       (subst (λ (xs : List ℕ). Ends facts limit asked ((stand.number + 1) + 1) all (collapsed xs) ended) same h))
 
   -- an ordinary bracket
-  ordinary_reached : (c : Chosen) (on : Round) (t : Bool) (shape : Shape) → c.shape ≡ shape → is_asked asked stand.number ≡ true → IsOf facts stand → Fits (frame_of facts stand) shape
+  ordinary_reached : (c : Choice) (on : Round) (t : Bool) (shape : Shape) → c.shape ≡ shape → is_asked asked stand.number ≡ true → IsOf facts stand → Fits (frame_of facts stand) shape
       → Ends facts limit asked stand.number front (cond t (pairing_in facts stand c on) (passing facts stand c (penultimate_bracket facts stand lower))) (Asked stand shape)
   ordinary_reached c on true shape e is of' fits =
       ends_asked facts limit asked stand shape front (pairing_in facts stand c on) on.reached
@@ -283,8 +255,8 @@ module _ (facts : Facts) (limit : ℕ) (asked : Option ℕ) (stand : Stand) (low
       → Ends facts limit asked stand.number front (ordinary_bracket facts stand lower goes_on) (Asked stand shape)
   ordinary_asked shape goes_on of' is e fits =
       let one = choice_of_shape facts stand lower shape e in
-      let chosen' : Chosen = record { shape = shape; lists = one.0 } in
-      subst (λ (c : Option Chosen). Ends facts limit asked stand.number front (ordinary_chosen facts stand lower goes_on c) (Asked stand shape)) (sym one.1)
+      let chosen' : Choice = record { shape = shape; lists = one.0 } in
+      subst (λ (c : Option Choice). Ends facts limit asked stand.number front (ordinary_by facts stand lower goes_on c) (Asked stand shape)) (sym one.1)
       (ordinary_reached chosen' (goes_on (downfloaters facts stand one.0)) (completable facts (downfloaters facts stand one.0 ++ lower)) shape refl is of' fits)
 
   pub ordinary_goes_on : (shape : Shape) (lists : Arrangement) (all : List (ℕ × ℕ)) (left : List ℕ) (goes_on : List ℕ → Round) (ended : Ended)
@@ -293,11 +265,11 @@ module _ (facts : Facts) (limit : ℕ) (asked : Option ℕ) (stand : Stand) (low
       → Ends facts limit asked (stand.number + 1) all (goes_on left) ended
       → Ends facts limit asked stand.number front (ordinary_bracket facts stand lower goes_on) ended
   ordinary_goes_on shape lists all left goes_on ended e pairs same ahead test h =
-      let chosen' : Chosen = record { shape = shape; lists = lists } in
+      let chosen' : Choice = record { shape = shape; lists = lists } in
       let down' : List ℕ = downfloaters facts stand lists in
       let passed : Round = passing facts stand chosen' (penultimate_bracket facts stand lower) in
       let here : completable facts (down' ++ lower) ≡ true = ap (λ (xs : List ℕ). completable facts (xs ++ lower)) (sym same) ∙ test in
-      subst (λ (c : Option Chosen). Ends facts limit asked stand.number front (ordinary_chosen facts stand lower goes_on c) ended) (sym e)
+      subst (λ (c : Option Choice). Ends facts limit asked stand.number front (ordinary_by facts stand lower goes_on c) ended) (sym e)
       (subst (λ (t : Bool). Ends facts limit asked stand.number front (cond t (pairing_in facts stand chosen' (goes_on down')) passed) ended) (sym here)
       (ends_pairing facts limit asked stand chosen' (goes_on down') front all ended pairs ahead
       (subst (λ (xs : List ℕ). Ends facts limit asked (stand.number + 1) all (goes_on xs) ended) same h)))
@@ -308,11 +280,11 @@ module _ (facts : Facts) (limit : ℕ) (asked : Option ℕ) (stand : Stand) (low
       → Ends facts limit asked (stand.number + 1) front (penultimate_bracket facts stand lower) ended
       → Ends facts limit asked stand.number front (ordinary_bracket facts stand lower goes_on) ended
   ordinary_again shape lists left goes_on ended e same ahead test h =
-      let chosen' : Chosen = record { shape = shape; lists = lists } in
+      let chosen' : Choice = record { shape = shape; lists = lists } in
       let down' : List ℕ = downfloaters facts stand lists in
       let later : Round = penultimate_bracket facts stand lower in
       let here : completable facts (down' ++ lower) ≡ false = ap (λ (xs : List ℕ). completable facts (xs ++ lower)) (sym same) ∙ test in
-      subst (λ (c : Option Chosen). Ends facts limit asked stand.number front (ordinary_chosen facts stand lower goes_on c) ended) (sym e)
+      subst (λ (c : Option Choice). Ends facts limit asked stand.number front (ordinary_by facts stand lower goes_on c) ended) (sym e)
       (subst (λ (t : Bool). Ends facts limit asked stand.number front (cond t (pairing_in facts stand chosen' (goes_on down')) (passing facts stand chosen' later)) ended) (sym here)
       (ends_passing facts limit asked stand chosen' later front ended ahead h))
 

@@ -6,7 +6,7 @@ use Rattle.dutch_player.specs.Facts.{Facts}
 use Rattle.dutch_pair.specs.declared.reached.Kind.{Kind}
 use Rattle.dutch_pair.specs.declared.reached.Kind.TheVariants.{Ordinary, Last, Collapsed}
 use Rattle.dutch_pair.specs.Reached.{Stand}
-use Rattle.dutch_pair.specs.Round.{Round, Pairing, Chosen, bracket, choice, completable, downfloaters, everybody, scoregroups, pairing_in, passing, no_pairing, final_chosen, final_bracket, penultimate_chosen, penultimate_bracket, paired_again, ordinary_chosen, ordinary_bracket, brackets, round}
+use Rattle.dutch_pair.specs.Round.{Round, Pairing, Choice, bracket, choice, completable, downfloaters, everybody, scoregroups, pairing_in, passing, no_pairing, final_by, final_bracket, penultimate_by, penultimate_bracket, paired_again, ordinary_by, ordinary_bracket, brackets, round}
 use Rattle.dutch_pair.specs.Seated.{all_pairs}
 use Rattle.dutch_pair.proofs.GroupLemmas.{concat_scoregroups}
 use Rattle.dutch_pair.proofs.Totals.{total, total_append}
@@ -25,7 +25,7 @@ module _ (w : ℕ → ℕ) where
   reweighed n m found same weighs = subst (λ k. Weighs k found) same weighs
 
   module _ (facts : Facts) where
-    pairing_more : (stand : Stand) (chosen : Chosen) (rest : Option Pairing) (n m : ℕ) → pairs_total w (all_pairs stand.seats chosen.lists) + m ≡ n → Weighs m rest
+    pairing_more : (stand : Stand) (chosen : Choice) (rest : Option Pairing) (n m : ℕ) → pairs_total w (all_pairs stand.seats chosen.lists) + m ≡ n → Weighs m rest
         → Weighs n (option_map (λ later. record { pairs = all_pairs stand.seats chosen.lists ++ later.pairs; bye = later.bye }) rest)
     pairing_more stand chosen None n m sum weighs = tt
     pairing_more stand chosen (Some later) n m sum weighs =
@@ -33,7 +33,7 @@ module _ (w : ℕ → ℕ) where
 
     -- ---- the bracket that ends a round
 
-    final_at : (stand : Stand) (found : Option Chosen) → stand.mdps ≤ length stand.seats → choice facts stand [] ≡ found → Weighs (total w stand.seats) (final_chosen facts stand found).pairing
+    final_at : (stand : Stand) (found : Option Choice) → stand.mdps ≤ length stand.seats → choice facts stand [] ≡ found → Weighs (total w stand.seats) (final_by facts stand found).pairing
     final_at stand None within e = tt
     final_at stand (Some chosen) within e =
         let whole = choice_whole w facts stand [] chosen within e in
@@ -48,8 +48,8 @@ module _ (w : ℕ → ℕ) where
 
     -- ---- the penultimate bracket
 
-    penultimate_at : (stand : Stand) (lower : List ℕ) (found : Option Chosen) → stand.mdps ≤ length stand.seats → choice facts stand lower ≡ found
-        → Weighs (total w stand.seats + total w lower) (penultimate_chosen facts stand lower found).pairing
+    penultimate_at : (stand : Stand) (lower : List ℕ) (found : Option Choice) → stand.mdps ≤ length stand.seats → choice facts stand lower ≡ found
+        → Weighs (total w stand.seats + total w lower) (penultimate_by facts stand lower found).pairing
     penultimate_at stand lower None within e = tt
     penultimate_at stand lower (Some chosen) within e =
         let left : List ℕ = downfloaters facts stand chosen.lists in
@@ -64,7 +64,7 @@ module _ (w : ℕ → ℕ) where
 
     -- ---- an ordinary bracket
 
-    kept_at : (stand : Stand) (lower : List ℕ) (goes_on : List ℕ → Round) (chosen : Chosen) (t : Bool) → stand.mdps ≤ length stand.seats → choice facts stand lower ≡ Some chosen
+    kept_at : (stand : Stand) (lower : List ℕ) (goes_on : List ℕ → Round) (chosen : Choice) (t : Bool) → stand.mdps ≤ length stand.seats → choice facts stand lower ≡ Some chosen
         → ((left : List ℕ) → Weighs (total w left + total w lower) (goes_on left).pairing)
         → Weighs (total w stand.seats + total w lower)
         (cond t (pairing_in facts stand chosen (goes_on (downfloaters facts stand chosen.lists))) (passing facts stand chosen (penultimate_bracket facts stand lower))).pairing
@@ -74,9 +74,9 @@ module _ (w : ℕ → ℕ) where
         pairing_more stand chosen (goes_on left).pairing (total w stand.seats + total w lower) (total w left + total w lower) (omega (arith, whole)) (later left)
     kept_at stand lower goes_on chosen false within e later = penultimate_whole stand lower within
 
-    ordinary_at : (stand : Stand) (lower : List ℕ) (goes_on : List ℕ → Round) (found : Option Chosen) → stand.mdps ≤ length stand.seats → choice facts stand lower ≡ found
+    ordinary_at : (stand : Stand) (lower : List ℕ) (goes_on : List ℕ → Round) (found : Option Choice) → stand.mdps ≤ length stand.seats → choice facts stand lower ≡ found
         → ((left : List ℕ) → Weighs (total w left + total w lower) (goes_on left).pairing)
-        → Weighs (total w stand.seats + total w lower) (ordinary_chosen facts stand lower goes_on found).pairing
+        → Weighs (total w stand.seats + total w lower) (ordinary_by facts stand lower goes_on found).pairing
     ordinary_at stand lower goes_on None within e later = tt
     ordinary_at stand lower goes_on (Some chosen) within e later =
         kept_at stand lower goes_on chosen (completable facts (downfloaters facts stand chosen.lists ++ lower)) within e later

@@ -1,4 +1,4 @@
--- What one pass over the candidates of a shape chooses, where an aim leaves out those that it is better than (C.04.3 B.8).
+-- The best that one pass over the candidates of a shape finds, where an aim leaves out those that it is better than (C.04.3 B.8).
 use Rattle.std.specs.Prelude.{ℕ, Bool, false, not, ◌&&◌, ◌||◌, List, Option, Some, None, option_map}
 use Rattle.dutch_order.specs.declared.bracket.Shape.{Shape}
 use Rattle.dutch_order.specs.Arrangements.{Arrangement}
@@ -8,10 +8,10 @@ use Rattle.dutch_pair.specs.declared.quality.Quality.{Quality as Fields}
 use Rattle.dutch_pair.specs.Quality.{Quality, is_better}
 use Rattle.dutch_pair.specs.QualityIn.{quality_in}
 use Rattle.dutch_pair.specs.Reached.{Stand}
-use Rattle.dutch_pair.specs.Round.{quality_of, candidates_of}
-use Rattle.dutch_pair.specs.Choice.{chosen_of_rest}
+use Rattle.dutch_pair.specs.Round.{quality_of, is_better_in, candidates_of}
+use Rattle.dutch_pair.specs.Choice.{best_with}
 use Rattle.dutch_pair.specs.Eligible.{can_be_chosen}
-use Rattle.dutch_pair.specs.Kept.{kept_lists, wins, is_better_in}
+use Rattle.dutch_pair.specs.Kept.{kept_lists, wins}
 
 -- the aim of a pass, if it has one
 abbrev pub aim_in : Option Fields → Option Quality
@@ -34,11 +34,11 @@ is_near facts stand lower aim c = not (beats aim (quality_of facts stand lower c
 abbrev pub is_sought : Facts → Stand → List ℕ → Option Quality → Arrangement → Bool
 is_sought facts stand lower aim c = can_be_chosen facts stand lower c && is_near facts stand lower aim c
 
--- what a pass chooses of the candidate that is kept and of those to come
-abbrev pub chosen_yet : Facts → Stand → List ℕ → Option Quality → Option Best → List Arrangement → Option Arrangement
-chosen_yet facts stand lower aim kept coming =
-    chosen_of_rest (is_better_in facts stand lower) (is_sought facts stand lower aim) (kept_lists kept) coming
+-- the best for a pass of the candidate that is kept and of those to come
+abbrev pub best_yet : Facts → Stand → List ℕ → Option Quality → Option Best → List Arrangement → Option Arrangement
+best_yet facts stand lower aim kept coming =
+    best_with (is_better_in facts stand lower) (is_sought facts stand lower aim) (kept_lists kept) coming
 
--- what a pass chooses of a shape
-abbrev pub chosen_near : Facts → Stand → List ℕ → Option Quality → Shape → Option Arrangement
-chosen_near facts stand lower aim shape = chosen_yet facts stand lower aim None (candidates_of facts stand shape)
+-- the best for a pass of a shape
+abbrev pub best_near : Facts → Stand → List ℕ → Option Quality → Shape → Option Arrangement
+best_near facts stand lower aim shape = best_yet facts stand lower aim None (candidates_of facts stand shape)

@@ -13,10 +13,10 @@ module _ {X : Type 0} (is_better : X → X → Bool) where
   first_unbeaten all (c ∷ rest) = if is_unbeaten all c then Some c else first_unbeaten all rest
 
   -- B.8: the first candidate that none is better than
-  abbrev pub chosen : List X → Option X
-  chosen candidates = first_unbeaten candidates candidates
+  abbrev pub best : List X → Option X
+  best candidates = first_unbeaten candidates candidates
 
-  -- what is chosen of one that is kept, if there is one, and those of others that fit
-  abbrev pub chosen_of_rest : (X → Bool) → Option X → List X → Option X
-  chosen_of_rest fits None rest = chosen (filter fits rest)
-  chosen_of_rest fits (Some kept) rest = chosen (kept ∷ filter fits rest)
+  -- the best of one that is kept, if there is one, and those of others that fit
+  abbrev pub best_with : (X → Bool) → Option X → List X → Option X
+  best_with fits None rest = best (filter fits rest)
+  best_with fits (Some kept) rest = best (kept ∷ filter fits rest)

@@ -1,6 +1,5 @@
 -- The best candidate so far, while a bracket's candidates are looked at one by one.
 use Rattle.std.specs.Prelude.{◌≡◌, ℕ, Bool, true, List, Option, Some, None}
-use Rattle.dutch_order.specs.declared.bracket.Shape.{Shape}
 use Rattle.dutch_order.specs.Arrangements.{Arrangement, down}
 use Rattle.dutch_order.specs.Draws.{Draw}
 use Rattle.dutch_player.specs.Facts.{Facts}
@@ -8,8 +7,7 @@ use Rattle.dutch_pair.specs.declared.choice.Best.{Best}
 use Rattle.dutch_pair.specs.Reached.{Stand, frame_of}
 use Rattle.dutch_pair.specs.Quality.{Quality, is_better}
 use Rattle.dutch_pair.specs.QualityIn.{quality_in}
-use Rattle.dutch_pair.specs.Round.{eligible, quality_of}
-use Rattle.dutch_pair.specs.Choice.{chosen}
+use Rattle.dutch_pair.specs.Round.{quality_of}
 
 -- the candidate that is kept, if there is one
 abbrev pub kept_draw : Option Best → Option Draw
@@ -31,11 +29,3 @@ abbrev pub IsKept : Facts → Stand → List ℕ → Option Best → Type 0
 IsKept facts stand lower None = Unit {0}
 IsKept facts stand lower (Some best) =
     (best.candidate.down ≡ down (frame_of facts stand) best.candidate.lists) × (quality_in best.quality ≡ quality_of facts stand lower best.candidate.lists)
-
--- B.8: a candidate is better than another one
-abbrev pub is_better_in : Facts → Stand → List ℕ → Arrangement → Arrangement → Bool
-is_better_in facts stand lower c d = is_better (quality_of facts stand lower c) (quality_of facts stand lower d)
-
--- B.8: what is chosen of a shape
-abbrev pub chosen_in : Facts → Stand → List ℕ → Shape → Option Arrangement
-chosen_in facts stand lower shape = chosen (is_better_in facts stand lower) (eligible facts stand lower shape)

@@ -8,7 +8,8 @@ use Rattle.dutch_order.specs.Arrangements.{Arrangement, down, arrangements, cand
 use Rattle.dutch_order.specs.Keys.{IsIn}
 use Rattle.dutch_order.specs.Draws.{Draw}
 use Rattle.dutch_player.specs.Facts.{Facts}
-use Rattle.dutch_pair.specs.declared.reached.Kind.TheVariants.{Ordinary}
+use Rattle.dutch_pair.specs.declared.reached.Kind.{Kind}
+use Rattle.dutch_pair.specs.declared.reached.Kind.TheVariants.{Ordinary, Last, Penultimate, Collapsed}
 use Rattle.dutch_pair.specs.Seated.{seat_of, score_at, by_seats, AreSeats, AllNumbers}
 use Rattle.dutch_pair.specs.Reached.{Stand, frame_of, numbers_meet, number_may_be_left}
 use Rattle.dutch_pair.specs.Shapes.{greatest_shape}
@@ -56,13 +57,16 @@ abbrev pub value_of : Facts → Stand → NextValue
 value_of facts stand = value_of_shape facts stand (greatest_shape (legal_in facts stand) (frame_of facts stand))
 
 -- C.7 counts in ordinary brackets alone
-abbrev pub value_in : Bool → Facts → List ℕ → List ℕ → NextValue
-value_in ordinary facts moved_down next = if ordinary then value_of facts (next_stand moved_down next) else no_value
+abbrev pub value_in : Kind → Facts → List ℕ → List ℕ → NextValue
+value_in Ordinary facts moved_down next = value_of facts (next_stand moved_down next)
+value_in Last facts moved_down next = no_value
+value_in Penultimate facts moved_down next = no_value
+value_in Collapsed facts moved_down next = no_value
 
--- C.6 to C.19: the quality of a candidate in a bracket with these seats, above a next lower scoregroup
-abbrev pub quality : Facts → List ℕ → Bool → List ℕ → Draw → Quality
-quality facts seats ordinary next draw =
-    quality_with facts (by_seats facts seats draw) (value_in ordinary facts (map (seat_of seats) draw.down) next)
+-- C.6 to C.19: the quality of a candidate of a bracket above a next lower scoregroup
+abbrev pub quality : Facts → Stand → List ℕ → Draw → Quality
+quality facts stand next draw =
+    quality_with facts (by_seats facts stand.seats draw) (value_in stand.kind facts (map (seat_of stand.seats) draw.down) next)
 
 -- a bracket with a resident, whose residents have one score, as a scoregroup has
 pub record IsFlat (facts : Facts) (stand : Stand) : Type 0 where

@@ -1,5 +1,5 @@
 -- What the next bracket can be (C.04.3 C.7), remembered for the last lists of downfloaters that were asked about.
-use Rattle.std.specs.Prelude.{◌≡◌, ℕ, Bool, true, false, ◌||◌, if◌then◌else◌, List, [], ◌∷◌, map, take, nat_eq, Contains, ◌⊎◌, Option, Some, None}
+use Rattle.std.specs.Prelude.{◌≡◌, ℕ, Bool, false, ◌||◌, if◌then◌else◌, List, [], ◌∷◌, map, take, nat_eq, Contains, ◌⊎◌, Option, Some, None}
 use Rattle.std.specs.Cmp.Lexicographic.{pointwise}
 use Rattle.arrayvec.specs.ArrayVec.{ArrayVec}
 use Rattle.lru.specs.LruCache.{LruCache}
@@ -11,7 +11,7 @@ use Rattle.dutch_pair.specs.declared.remembered.Look.TheVariants.{Value, Undecid
 use Rattle.dutch_pair.specs.Seated.{seat_of}
 use Rattle.dutch_pair.specs.Reached.{Stand, IsOf}
 use Rattle.dutch_pair.specs.Quality.{NextValue}
-use Rattle.dutch_pair.specs.Round.{is_ordinary, first_group, scoregroups}
+use Rattle.dutch_pair.specs.Round.{first_group, scoregroups}
 use Rattle.dutch_pair.specs.NextBracket.{IsNext, value_in}
 
 -- a look-ahead: the bracket that it looks down from, the next lower scoregroup, and the lists of downfloaters for which it keeps values,
@@ -22,9 +22,9 @@ pub record Remembered : Type 0 where
   pub next : List ℕ
   pub kept : List (List ℕ)
 
--- C.7: what the next bracket can be for downfloaters of an ordinary bracket
+-- C.7: what the next bracket can be for downfloaters of a bracket
 abbrev pub value_below : Facts → Stand → List ℕ → List ℕ → NextValue
-value_below facts stand next down = value_in true facts (map (seat_of stand.seats) down) next
+value_below facts stand next down = value_in stand.kind facts (map (seat_of stand.seats) down) next
 
 -- whether a list is one of those that are kept
 abbrev pub is_kept : List ℕ → List (List ℕ) → Bool
@@ -63,14 +63,14 @@ pub record LooksOn (old new : Remembered) : Type 0 where
 
 -- a look-ahead of an ordinary bracket above lower seats: it looks to their first scoregroup
 pub record LooksFrom (facts : Facts) (stand : Stand) (lower : List ℕ) (look : Remembered) : Type 0 where
-  pub ordinary : is_ordinary stand.kind ≡ true
+  pub ordinary : stand.kind ≡ Ordinary
   pub field : look.facts ≡ facts
   pub bracket : look.stand ≡ stand
   pub group : look.next ≡ first_group facts (scoregroups facts lower)
 
 -- there is a look-ahead in an ordinary bracket, and none in another one
 abbrev pub LooksBelow : Facts → Stand → List ℕ → Option Remembered → Type 0
-LooksBelow facts stand lower None = is_ordinary stand.kind ≡ false
+LooksBelow facts stand lower None = stand.kind ≡ Ordinary → ⊥
 LooksBelow facts stand lower (Some look) = LooksFrom facts stand lower look
 
 -- the lists for which values are kept

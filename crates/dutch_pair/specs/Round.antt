@@ -4,6 +4,7 @@ use Rattle.std.specs.List.{concat}
 use Rattle.dutch_order.specs.declared.bracket.Shape.{Shape}
 use Rattle.dutch_order.specs.Choices.{numbers_from}
 use Rattle.dutch_order.specs.Arrangements.{Arrangement, candidates, down}
+use Rattle.dutch_order.specs.Cursors.{◌>>=◌}
 use Rattle.dutch_player.specs.Facts.{Facts}
 use Rattle.dutch_pair.specs.declared.reached.Kind.{Kind}
 use Rattle.dutch_pair.specs.declared.reached.Kind.TheVariants.{Ordinary, Last, Penultimate, Collapsed}
@@ -14,10 +15,10 @@ use Rattle.dutch_pair.specs.Completion.{can_complete}
 use Rattle.dutch_pair.specs.Shapes.{greatest_shape}
 use Rattle.dutch_pair.specs.NextBracket.{quality}
 use Rattle.dutch_pair.specs.Quality.{Quality, is_better}
-use Rattle.dutch_pair.specs.Choice.{chosen}
+use Rattle.dutch_pair.specs.Choice.{best}
 
 -- a choice: a shape, and an arrangement of it
-pub record Chosen : Type 0 where
+pub record Choice : Type 0 where
   pub shape : Shape
   pub lists : Arrangement
 
@@ -35,13 +36,6 @@ pub record Pairing : Type 0 where
 pub record Round : Type 0 where
   pub reached : List Visit
   pub pairing : Option Pairing
-
--- a bracket whose downfloaters move down to the next one
-abbrev pub is_ordinary : Kind → Bool
-is_ordinary Ordinary = true
-is_ordinary Last = false
-is_ordinary Penultimate = false
-is_ordinary Collapsed = false
 
 -- A.9: a bracket that is paired again, by C.4
 abbrev pub is_penultimate : Kind → Bool
@@ -105,36 +99,40 @@ module _ (facts : Facts) where
   -- C.6 to C.19: the quality of a candidate above all lower seats, of which the first scoregroup is the next bracket's
   abbrev pub quality_of : Stand → List ℕ → Arrangement → Quality
   quality_of stand lower lists =
-      quality facts stand.seats (is_ordinary stand.kind) (first_group (scoregroups lower)) (record { lists = lists; down = down (frame_of facts stand) lists })
+      quality facts stand (first_group (scoregroups lower)) (record { lists = lists; down = down (frame_of facts stand) lists })
 
-  -- B.8: of a shape the first candidate that none is better than
-  abbrev pub choice_in : Stand → List ℕ → Option Shape → Option Chosen
-  choice_in stand lower None = None
-  choice_in stand lower (Some shape) =
-      option_map (λ lists. record { shape = shape; lists = lists })
-      (chosen (λ c d. is_better (quality_of stand lower c) (quality_of stand lower d)) (eligible stand lower shape))
+  -- B.8: a candidate is better than another one
+  abbrev pub is_better_in : Stand → List ℕ → Arrangement → Arrangement → Bool
+  is_better_in stand lower c d = is_better (quality_of stand lower c) (quality_of stand lower d)
+
+  -- B.8: of the candidates of a shape that can be chosen the first that none is better than
+  abbrev pub best_of_shape : Stand → List ℕ → Shape → Option Arrangement
+  best_of_shape stand lower shape = best (is_better_in stand lower) (eligible stand lower shape)
 
   -- C.5: the shape of a bracket
   abbrev pub shape_of : Stand → List ℕ → Option Shape
   shape_of stand lower = greatest_shape (eligible stand lower) (frame_of facts stand)
 
-  -- the choice in a bracket above all lower seats; none where no shape has a candidate
-  abbrev pub choice : Stand → List ℕ → Option Chosen
-  choice stand lower = choice_in stand lower (shape_of stand lower)
+  -- the choice in a bracket above all lower seats: its shape, and the best of it; none where no shape has a candidate
+  abbrev pub choice : Stand → List ℕ → Option Choice
+  choice stand lower = do
+    shape ← shape_of stand lower
+    lists ← best_of_shape stand lower shape
+    Some (record { shape = shape; lists = lists })
 
   -- there is no pairing, and no bracket from here on
   abbrev pub no_pairing : Round
   no_pairing = record { reached = []; pairing = None }
 
   -- a bracket that is passed before the rest of a round, without its pairs; it stays among those reached (our own choice)
-  abbrev pub passing : Stand → Chosen → Round → Round
+  abbrev pub passing : Stand → Choice → Round → Round
   passing stand choice rest = record {
     reached = record { bracket = stand; shape = choice.shape } ∷ rest.reached;
     pairing = rest.pairing;
   }
 
   -- a bracket before the rest of a round, with its pairs
-  abbrev pub pairing_in : Stand → Chosen → Round → Round
+  abbrev pub pairing_in : Stand → Choice → Round → Round
   pairing_in stand choice rest = record {
     reached = record { bracket = stand; shape = choice.shape } ∷ rest.reached;
     pairing = option_map (λ later. record { pairs = all_pairs stand.seats choice.lists ++ later.pairs; bye = later.bye }) rest.pairing;
@@ -144,37 +142,37 @@ module _ (facts : Facts) where
   abbrev pub ending : List ℕ → Round
   ending left = record { reached = []; pairing = Some (record { pairs = []; bye = left }) }
 
-  -- the same for its choice; none has no pairing
-  abbrev pub final_chosen : Stand → Option Chosen → Round
-  final_chosen stand None = no_pairing
-  final_chosen stand (Some choice) = pairing_in stand choice (ending (downfloaters stand choice.lists))
+  -- the bracket that ends the round, by its choice; none has no pairing
+  abbrev pub final_by : Stand → Option Choice → Round
+  final_by stand None = no_pairing
+  final_by stand (Some choice) = pairing_in stand choice (ending (downfloaters stand choice.lists))
 
   -- A.9: the last bracket or the collapsed one, which ends the round
   abbrev pub final_bracket : Stand → Round
-  final_bracket stand = final_chosen stand (choice stand [])
+  final_bracket stand = final_by stand (choice stand [])
 
   -- the penultimate bracket by its choice, and then the collapsed one of those whom it leaves over with all lower players
-  abbrev pub penultimate_chosen : Stand → List ℕ → Option Chosen → Round
-  penultimate_chosen stand lower None = no_pairing
-  penultimate_chosen stand lower (Some choice) =
+  abbrev pub penultimate_by : Stand → List ℕ → Option Choice → Round
+  penultimate_by stand lower None = no_pairing
+  penultimate_by stand lower (Some choice) =
       pairing_in stand choice (final_bracket (bracket (stand.number + 1) Collapsed (downfloaters stand choice.lists) lower))
 
   -- A.9: a bracket that is paired again, and the collapsed one behind it
   abbrev pub penultimate_bracket : Stand → List ℕ → Round
-  penultimate_bracket stand lower = penultimate_chosen (paired_again stand) lower (choice (paired_again stand) lower)
+  penultimate_bracket stand lower = penultimate_by (paired_again stand) lower (choice (paired_again stand) lower)
 
   -- an ordinary bracket by its choice: it keeps its pairs if those whom it leaves over can be paired out with all lower players; else
   -- it is paired again
-  abbrev pub ordinary_chosen : Stand → List ℕ → (List ℕ → Round) → Option Chosen → Round
-  ordinary_chosen stand lower goes_on None = no_pairing
-  ordinary_chosen stand lower goes_on (Some choice) =
+  abbrev pub ordinary_by : Stand → List ℕ → (List ℕ → Round) → Option Choice → Round
+  ordinary_by stand lower goes_on None = no_pairing
+  ordinary_by stand lower goes_on (Some choice) =
       if completable (downfloaters stand choice.lists ++ lower)
       then pairing_in stand choice (goes_on (downfloaters stand choice.lists))
       else passing stand choice (penultimate_bracket stand lower)
 
   -- A.9: an ordinary bracket, and how the round goes on behind it
   abbrev pub ordinary_bracket : Stand → List ℕ → (List ℕ → Round) → Round
-  ordinary_bracket stand lower goes_on = ordinary_chosen stand lower goes_on (choice stand lower)
+  ordinary_bracket stand lower goes_on = ordinary_by stand lower goes_on (choice stand lower)
 
   -- A.3: the brackets from a number on, for those moved down and the scoregroups to come
   abbrev pub brackets : ℕ → List ℕ → List (List ℕ) → Round

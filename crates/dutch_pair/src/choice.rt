@@ -6,10 +6,10 @@ ghost use Rattle.dutch_order.specs.Steps.{MatchStep, Spends};
 ghost use Rattle.dutch_pair.specs.Reached.{IsAbove, frame_of};
 ghost use Rattle.dutch_pair.specs.NextBracket.{IsDraw};
 ghost use Rattle.dutch_pair.specs.QualityIn.{quality_in};
-ghost use Rattle.dutch_pair.specs.Round.{quality_of};
+ghost use Rattle.dutch_pair.specs.Round.{best_of_shape, quality_of};
 ghost use Rattle.dutch_pair.specs.Eligible.{HasCandidate};
-ghost use Rattle.dutch_pair.specs.Kept.{kept_draw, IsKept, chosen_in};
-ghost use Rattle.dutch_pair.specs.Aims.{aim_in, chosen_near, chosen_yet, is_idle};
+ghost use Rattle.dutch_pair.specs.Kept.{kept_draw, IsKept};
+ghost use Rattle.dutch_pair.specs.Aims.{aim_in, best_near, best_yet, is_idle};
 ghost use Rattle.dutch_pair.specs.Outcomes.{IsChoice};
 ghost use Rattle.dutch_pair.specs.Remembered.{LooksBelow};
 
@@ -77,8 +77,8 @@ fn consider(
     requires look { LooksBelow pass.now.context.now.facts pass.now.context.now.stand pass.now.context.now.lower look.old }
     requires within { budget.old.used ≤ budget.old.limit }
     ensures same { result ≡ true → (coming : List Arrangement)
-        → chosen_yet pass.now.context.now.facts pass.now.context.now.stand pass.now.context.now.lower (aim_in pass.now.aim) kept.new coming
-        ≡ chosen_yet pass.now.context.now.facts pass.now.context.now.stand pass.now.context.now.lower (aim_in pass.now.aim) kept.old (candidate.lists ∷ coming) }
+        → best_yet pass.now.context.now.facts pass.now.context.now.stand pass.now.context.now.lower (aim_in pass.now.aim) kept.new coming
+        ≡ best_yet pass.now.context.now.facts pass.now.context.now.stand pass.now.context.now.lower (aim_in pass.now.aim) kept.old (candidate.lists ∷ coming) }
     ensures stopped { result ≡ false → budget.new.used ≡ budget.new.limit }
     ensures kept { IsKept pass.now.context.now.facts pass.now.context.now.stand pass.now.context.now.lower kept.new }
     ensures look { LooksBelow pass.now.context.now.facts pass.now.context.now.stand pass.now.context.now.lower look.new }
@@ -120,9 +120,9 @@ fn best_near<'a>(
     requires look { LooksBelow pass.now.context.now.facts pass.now.context.now.stand pass.now.context.now.lower look.old }
     requires within { budget.old.used ≤ budget.old.limit }
     ensures answer { MatchStep result
-        (λ c. (chosen_near pass.now.context.now.facts pass.now.context.now.stand pass.now.context.now.lower (aim_in pass.now.aim) pass.now.shape ≡ Some c.lists)
+        (λ c. (best_near pass.now.context.now.facts pass.now.context.now.stand pass.now.context.now.lower (aim_in pass.now.aim) pass.now.shape ≡ Some c.lists)
         × (c.down ≡ down (frame_of pass.now.context.now.facts pass.now.context.now.stand) c.lists))
-        (chosen_near pass.now.context.now.facts pass.now.context.now.stand pass.now.context.now.lower (aim_in pass.now.aim) pass.now.shape ≡ None)
+        (best_near pass.now.context.now.facts pass.now.context.now.stand pass.now.context.now.lower (aim_in pass.now.aim) pass.now.shape ≡ None)
         (budget.new.used ≡ budget.new.limit) }
     ensures look { LooksBelow pass.now.context.now.facts pass.now.context.now.stand pass.now.context.now.lower look.new }
     ensures spends { Spends budget.old budget.new }
@@ -156,7 +156,7 @@ fn best_by_aim<'a>(
     requires look { LooksBelow pass.now.context.now.facts pass.now.context.now.stand pass.now.context.now.lower look.old }
     requires within { budget.old.used ≤ budget.old.limit }
     ensures answer { MatchStep result
-        (λ c. (chosen_in pass.now.context.now.facts pass.now.context.now.stand pass.now.context.now.lower pass.now.shape ≡ Some c.lists)
+        (λ c. (best_of_shape pass.now.context.now.facts pass.now.context.now.stand pass.now.context.now.lower pass.now.shape ≡ Some c.lists)
         × (c.down ≡ down (frame_of pass.now.context.now.facts pass.now.context.now.stand) c.lists))
         (Unit {0})
         (budget.new.used ≡ budget.new.limit) }
@@ -182,8 +182,8 @@ fn best_of<'a>(
     requires fits { Fits (frame_of context.now.facts context.now.stand) shape }
     requires within { budget.old.used ≤ budget.old.limit }
     ensures answer { MatchStep result
-        (λ c. (chosen_in context.now.facts context.now.stand context.now.lower shape ≡ Some c.lists) × (c.down ≡ down (frame_of context.now.facts context.now.stand) c.lists))
-        (chosen_in context.now.facts context.now.stand context.now.lower shape ≡ None)
+        (λ c. (best_of_shape context.now.facts context.now.stand context.now.lower shape ≡ Some c.lists) × (c.down ≡ down (frame_of context.now.facts context.now.stand) c.lists))
+        (best_of_shape context.now.facts context.now.stand context.now.lower shape ≡ None)
         (budget.new.used ≡ budget.new.limit) }
     ensures spends { Spends budget.old budget.new }
 {
@@ -210,7 +210,7 @@ fn best_of<'a>(
 }
 
 /// The choice in a bracket that has a candidate.
-#[tactic(auto, using(crate::proofs::BestLemmas::choice_is, crate::proofs::BestLemmas::shape_has_chosen))]
+#[tactic(auto, using(crate::proofs::BestLemmas::choice_is, crate::proofs::BestLemmas::shape_has_best))]
 pub(crate) fn choose_in<'a>(
     alloc: Global,
     context: &'a Context<'a>,

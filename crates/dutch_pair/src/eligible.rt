@@ -6,7 +6,7 @@ ghost use Rattle.dutch_pair.specs.Reached.{frame_of};
 ghost use Rattle.dutch_pair.specs.Seated.{seat_of, AllNumbers};
 ghost use Rattle.dutch_pair.specs.Completion.{Tells};
 ghost use Rattle.dutch_pair.specs.Shapes.{has_member};
-ghost use Rattle.dutch_pair.specs.Round.{is_ordinary, is_penultimate, completable, eligible};
+ghost use Rattle.dutch_pair.specs.Round.{is_penultimate, completable, eligible};
 ghost use Rattle.dutch_pair.specs.Eligible.{can_be_chosen};
 ghost use Rattle.dutch_order.specs.Steps.{Spends};
 
@@ -22,13 +22,6 @@ use dutch_order::steps::{Budget, Step};
 use dutch_player::field::Field;
 
 impl Kind {
-    /// Whether the bracket's downfloaters move down to the next one.
-    pub fn is_ordinary(self) -> bool
-        ensures { result ≡ is_ordinary self }
-    {
-        matches!(self, Kind::Ordinary)
-    }
-
     /// Whether the bracket is paired again so that all lower players can be paired out.
     pub fn is_penultimate(self) -> bool
         ensures { result ≡ is_penultimate self }

@@ -64,7 +64,7 @@ pub fn ghosts_tell_of_the_next_bracket()
         → greatest_shape (candidates (ghosts_meet facts stand.seats (length (ghost_scores facts stand shape limbo)) next)
         (ghost_may_be_left facts stand.seats (length (ghost_scores facts stand shape limbo)) next)
         (ghost_frame facts (ghost_scores facts stand shape limbo) next)) (ghost_frame facts (ghost_scores facts stand shape limbo) next) ≡ Some most
-        → IsNotBetter (value_in true facts (downfloaters facts stand a) next) most.pairs
+        → IsNotBetter (value_in Ordinary facts (downfloaters facts stand a) next) most.pairs
         (ghost_floor (ghost_scores facts stand shape limbo) (score_at facts (slice_index next 0)) (length next) most.pairs) }
 {}
 
@@ -80,7 +80,7 @@ pub fn no_value_is_better_than_by_ghosts()
     ensures value { (facts : Facts) (stand : Stand) → IsOf facts stand → IsFlat facts stand → (shape : Shape) (a : Arrangement)
         → IsIn a (arrangements (frame_of facts stand) shape) → stand.kind ≡ Ordinary → (next : List ℕ) → IsNext facts stand next
         → map (λ i. score_at facts (seat_of stand.seats i)) (left_of (numbers_from 1 stand.mdps) a.s1) ≡ first_limbo facts stand shape
-        → IsNotBetter (value_in true facts (downfloaters facts stand a) next) (ghost_value facts stand shape next).pairs (ghost_value facts stand shape next).psd }
+        → IsNotBetter (value_in Ordinary facts (downfloaters facts stand a) next) (ghost_value facts stand shape next).pairs (ghost_value facts stand shape next).psd }
     ensures limbo { (facts : Facts) (stand : Stand) → IsOf facts stand → IsFlat facts stand → (shape : Shape) (a : Arrangement)
         → IsIn a (arrangements (frame_of facts stand) shape) → IsUniform facts stand shape
         → map (λ i. score_at facts (seat_of stand.seats i)) (left_of (numbers_from 1 stand.mdps) a.s1) ≡ first_limbo facts stand shape }

@@ -7,7 +7,6 @@ ghost use Rattle.dutch_pair.specs.Seated.{seat_of};
 ghost use Rattle.dutch_pair.specs.declared.reached.Kind.TheVariants.{Ordinary};
 ghost use Rattle.dutch_pair.specs.Reached.{IsOf};
 ghost use Rattle.dutch_pair.specs.QualityIn.{quality_in};
-ghost use Rattle.dutch_pair.specs.Round.{is_ordinary};
 ghost use Rattle.dutch_pair.specs.NextBracket.{IsDraw, IsFlat, AreLeft, IsNext, next_stand, value_in, value_of, quality};
 ghost use Rattle.dutch_order.specs.Steps.{Spends};
 
@@ -77,7 +76,7 @@ pub(crate) fn value_below(
     requires next { IsNext field.now reached.now next.now }
     requires within { budget.old.used ≤ budget.old.limit }
     ensures answer { MatchOption result (budget.new.used ≡ budget.new.limit)
-        (λ v. v ≡ value_in true field.now (map (seat_of reached.now.seats) down.now) next.now) }
+        (λ v. v ≡ value_in reached.now.kind field.now (map (seat_of reached.now.seats) down.now) next.now) }
     ensures spends { Spends budget.old budget.new }
 {
     value_of(field, &next_bracket(field, reached, down, next), budget)
@@ -97,7 +96,7 @@ fn next_value(
     requires next { IsNext field.now reached.now next.now }
     requires within { budget.old.used ≤ budget.old.limit }
     ensures answer { MatchOption result (budget.new.used ≡ budget.new.limit)
-        (λ v. v ≡ value_in (is_ordinary reached.now.kind) field.now (map (seat_of reached.now.seats) candidate.now.down) next.now) }
+        (λ v. v ≡ value_in reached.now.kind field.now (map (seat_of reached.now.seats) candidate.now.down) next.now) }
     ensures spends { Spends budget.old budget.new }
 {
     match reached.kind() {
@@ -120,7 +119,7 @@ pub fn quality(
     requires next { IsNext field.now reached.now next.now }
     requires within { budget.old.used ≤ budget.old.limit }
     ensures answer { MatchOption result (budget.new.used ≡ budget.new.limit)
-        (λ q. quality_in q ≡ quality field.now reached.now.seats (is_ordinary reached.now.kind) next.now candidate.now) }
+        (λ q. quality_in q ≡ quality field.now reached.now next.now candidate.now) }
     ensures spends { Spends budget.old budget.new }
 {
     match next_value(field, reached, candidate, next, budget) {

@@ -6,12 +6,12 @@ ghost use Rattle.arrayvec.specs.ArrayVec.{array_vec_len};
 ghost use Rattle.dutch_order.specs.Arrangements.{Fits, left_of};
 ghost use Rattle.dutch_order.specs.Choices.{is_same};
 ghost use Rattle.dutch_order.specs.declared.numbers.TheConstants.{LIMIT};
+ghost use Rattle.dutch_pair.specs.declared.reached.Kind.TheVariants.{Ordinary};
 ghost use Rattle.dutch_pair.specs.FloorOf.{is_flat};
 ghost use Rattle.dutch_pair.specs.Ghosts.{pairs_by_counts};
 ghost use Rattle.dutch_pair.specs.Outlooks.{IsOutlook, awaited, leaves_first, leaves_first_by, limbo_scores};
 ghost use Rattle.dutch_pair.specs.Reached.{IsOf, frame_of};
 ghost use Rattle.dutch_pair.specs.Seated.{AllNumbers, score_at, seat_of};
-ghost use Rattle.dutch_pair.specs.Round.{is_ordinary};
 ghost use Rattle.dutch_order.specs.Steps.{Spends};
 
 use crate::context::Context;
@@ -99,13 +99,6 @@ fn leaves_first_by(context: &Context<'_>, shape: Shape, filling: Filling, s1: &[
     }
 }
 
-/// Whether the next bracket counts (C.7).
-fn is_ordinary(kind: Kind) -> bool
-    ensures { result ≡ is_ordinary kind }
-{
-    matches!(kind, Kind::Ordinary)
-}
-
 /// What half of those who go down and of the next lower scoregroup come to in pairs.
 fn value_by_counts(reached: &Reached, shape: Shape, next: &[u16]) -> NextValue
     requires small { 2 * shape.pairs ≤ length reached.now.seats }
@@ -121,20 +114,32 @@ fn value_by_counts(reached: &Reached, shape: Shape, next: &[u16]) -> NextValue
 impl Outlook {
     /// The best that the next bracket of a bracket and a shape can be: none where the budget's limit was reached first. In brackets that
     /// are not ordinary the next one does not count.
-    #[tactic(auto, using(crate::proofs::C07Outlook::none_counts, crate::proofs::C07Outlook::by_counts, crate::proofs::C07Outlook::by_ghosts, crate::proofs::C07Outlook::few_pairs, crate::proofs::C07Outlook::flat_residents, crate::proofs::C07Outlook::below_ordinary, crate::proofs::NextGroups::is_next))]
+    #[tactic(auto, using(crate::proofs::C07Outlook::none_counts))]
     pub(crate) fn find(context: &Context<'_>, shape: Shape, budget: &mut Budget) -> Option<Outlook>
         requires fits { Fits (frame_of context.now.facts context.now.stand) shape }
         requires within { budget.old.used ≤ budget.old.limit }
         ensures answer { MatchOption result (budget.new.used ≡ budget.new.limit) (IsOutlook context.now.facts context.now.stand context.now.lower shape) }
         ensures spends { Spends budget.old budget.new }
     {
-        let (field, reached) = (context.field(), context.reached());
-        if !is_ordinary(reached.kind()) {
-            return Some(Outlook {
+        match context.reached().kind() {
+            Kind::Ordinary => Outlook::below_ordinary(context, shape, budget),
+            Kind::Last | Kind::Penultimate | Kind::Collapsed => Some(Outlook {
                 first: None,
                 any: NextValue::none(),
-            });
+            }),
         }
+    }
+
+    /// The same in an ordinary bracket.
+    #[tactic(auto, using(crate::proofs::C07Outlook::by_counts, crate::proofs::C07Outlook::by_ghosts, crate::proofs::C07Outlook::few_pairs, crate::proofs::C07Outlook::flat_residents, crate::proofs::C07Outlook::below_ordinary, crate::proofs::NextGroups::is_next))]
+    fn below_ordinary(context: &Context<'_>, shape: Shape, budget: &mut Budget) -> Option<Outlook>
+        requires ordinary { context.now.stand.kind ≡ Ordinary }
+        requires fits { Fits (frame_of context.now.facts context.now.stand) shape }
+        requires within { budget.old.used ≤ budget.old.limit }
+        ensures answer { MatchOption result (budget.new.used ≡ budget.new.limit) (IsOutlook context.now.facts context.now.stand context.now.lower shape) }
+        ensures spends { Spends budget.old budget.new }
+    {
+        let (field, reached) = (context.field(), context.reached());
         let next = split_first_group(field, context.lower()).0;
         let any = value_by_counts(reached, shape, next);
         if !is_flat(field, reached) {

@@ -178,7 +178,7 @@ impl<'a> LookAhead<'a> {
         requires candidate { IsDraw self.old.facts self.old.stand candidate.now }
         requires within { budget.old.used ≤ budget.old.limit }
         ensures answer { MatchOption result (budget.new.used ≡ budget.new.limit)
-            (λ q. quality_in q ≡ quality self.old.facts self.old.stand.seats true self.old.next candidate.now) }
+            (λ q. quality_in q ≡ quality self.old.facts self.old.stand self.old.next candidate.now) }
         ensures looks_on { LooksOn self.old self.new }
         ensures spends { Spends budget.old budget.new }
     {

@@ -5,10 +5,10 @@ use Rattle.dutch_order.specs.Keys.{IsIn}
 use Rattle.dutch_pair.specs.declared.reached.ByNumber.{ByNumber}
 use Rattle.dutch_pair.specs.Reached.{frame_of, numbers_meet, number_may_be_left}
 use Rattle.dutch_pair.specs.Round.{candidates_of, quality_of}
-use Rattle.dutch_pair.specs.Aims.{aim_in, is_idle, chosen_near, chosen_yet}
+use Rattle.dutch_pair.specs.Aims.{aim_in, is_idle, best_near, best_yet}
 use Rattle.dutch_pair.proofs.LeastPsd.{in_filter}
 use Rattle.dutch_pair.proofs.FlatBrackets.{listed_as}
-use Rattle.dutch_pair.proofs.BestLemmas.{chosen_last, handed}
+use Rattle.dutch_pair.proofs.BestLemmas.{best_last, handed}
 use Rattle.dutch_pair.proofs.AimLemmas.{skipped_same}
 use Rattle.dutch_pair.proofs.SkippedLemmas.{left_was_there}
 use Rattle.dutch_order.proofs.Spending.{spends-none, spends-more}
@@ -24,7 +24,7 @@ loop-candidate-init c =
     listed_as facts c.rule-rule.result.field.now stand c.rule-rule.result.reached.now c.frame.result.now pass.shape coming coming
     c.new-candidates.ensures.coming c.rule-rule.ensures.field c.rule-rule.ensures.reached c.frame.ensures refl in
     record {
-      chosen = ap (λ (all : List Arrangement). chosen_yet facts stand pass.context.now.lower (aim_in pass.aim) None all) listed;
+      chosen = ap (λ (all : List Arrangement). best_yet facts stand pass.context.now.lower (aim_in pass.aim) None all) listed;
       kept = tt;
       inside = λ lists m. subst (IsIn lists) (sym listed) m;
       frame = c.new-candidates.ensures.frame ∙ c.frame.ensures;
@@ -83,8 +83,8 @@ returns-in-End-clause-answer c =
     let lower = pass.context.now.lower in
     let kept = c.loop-candidate.kept in
     let aim = aim_in pass.aim in
-    let all = chosen_near facts stand lower aim pass.shape in
+    let all = best_near facts stand lower aim pass.shape in
     handed facts stand lower kept c.handed_out.result all (c.next_within.new.budget.used ≡ c.next_within.new.budget.limit) c.loop-candidate.invariant.kept
-    (chosen_last facts stand lower aim kept all
+    (best_last facts stand lower aim kept all
     (c.loop-candidate.invariant.chosen ∙ skipped_same facts stand lower aim kept c.loop-candidate.candidates.coming [] c.loop-candidate.invariant.kept c.in-End.ensures.answer.0))
     c.handed_out.ensures

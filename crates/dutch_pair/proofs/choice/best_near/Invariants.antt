@@ -5,7 +5,7 @@ use Rattle.dutch_order.specs.Keys.{IsIn}
 use Rattle.dutch_pair.specs.Reached.{frame_of}
 use Rattle.dutch_pair.specs.Round.{candidates_of}
 use Rattle.dutch_pair.specs.Kept.{IsKept}
-use Rattle.dutch_pair.specs.Aims.{aim_in, chosen_near, chosen_yet}
+use Rattle.dutch_pair.specs.Aims.{aim_in, best_near, best_yet}
 use Rattle.dutch_pair.specs.Remembered.{LooksBelow}
 use Rattle.dutch_order.specs.Steps.{Spends}
 use Rattle.dutch_pair.proofs.choice.best_near.Given as goal
@@ -15,8 +15,8 @@ decreases-loop-candidate l = length l.candidates.coming
 
 abbrev pub invariant-loop-candidate : goal.invariant-loop-candidate
 invariant-loop-candidate l = record {
-  chosen : chosen_near l.pass.context.now.facts l.pass.context.now.stand l.pass.context.now.lower (aim_in l.pass.aim) l.pass.shape
-      ≡ chosen_yet l.pass.context.now.facts l.pass.context.now.stand l.pass.context.now.lower (aim_in l.pass.aim) l.kept l.candidates.coming;
+  chosen : best_near l.pass.context.now.facts l.pass.context.now.stand l.pass.context.now.lower (aim_in l.pass.aim) l.pass.shape
+      ≡ best_yet l.pass.context.now.facts l.pass.context.now.stand l.pass.context.now.lower (aim_in l.pass.aim) l.kept l.candidates.coming;
   kept : IsKept l.pass.context.now.facts l.pass.context.now.stand l.pass.context.now.lower l.kept;
   inside : (lists : Arrangement) → IsIn lists l.candidates.coming → IsIn lists (candidates_of l.pass.context.now.facts l.pass.context.now.stand l.pass.shape);
   frame : l.candidates.frame ≡ frame_of l.pass.context.now.facts l.pass.context.now.stand;
