@@ -23,7 +23,7 @@ ghost use Rattle.dutch_order.specs.Trials.{ahead};
 ghost use Rattle.dutch_order.specs.Hints.{hinted, first_hint};
 
 use crate::halves::{end_of_half, first_of_half};
-use crate::numbers::{LIMIT, Numbers, copied};
+use crate::numbers::{LIMIT, Numbers, fill};
 use crate::search::{Hinted, Path, Tree, Walk, climb_on, first_hint, put_behind};
 use crate::steps::{Budget, Step};
 use crate::sums::{run_of, total_of, value_at};
@@ -199,6 +199,23 @@ struct Place {
     walk: Walk,
 }
 
+impl Place {
+    /// Begins a stage anew.
+    fn enter(&mut self, size: usize, difference: usize)
+        ensures size { self.new.size ≡ size }
+        ensures difference { self.new.difference ≡ difference }
+        ensures hint { self.new.hint.items ≡ [] }
+        ensures path { self.new.walk.path.items ≡ [] }
+        ensures number { self.new.walk.number ≡ 0 }
+        ensures beyond { self.new.walk.beyond ≡ None }
+    {
+        self.size = size;
+        self.difference = difference;
+        self.hint.clear();
+        self.walk.restart(0);
+    }
+}
+
 /// The places of the numbers that a set has moved out, from the highest.
 fn out_places(pool: &[u16], k: usize, set: &[u16]) -> Path
     requires few { length pool.now ≤ LIMIT }
@@ -233,31 +250,25 @@ fn in_places(pool: &[u16], k: usize, set: &[u16]) -> Path
     places
 }
 
-/// Where a search stands that begins at a set: in the set's stage, and no difference above the set's is passed over.
-fn place_of(pool: &[u16], k: usize, set: &[u16]) -> Place
+/// Begins a search anew at a set: in the set's stage, and no difference above the set's is passed over.
+fn enter_at(pool: &[u16], k: usize, set: &[u16], place: &mut Place)
     requires few { length pool.now ≤ LIMIT }
     requires enough { k ≤ length pool.now }
-    ensures size { result.size ≡ length (out_places pool.now k set.now) }
-    ensures difference { result.difference ≡ exchange_difference pool.now k set.now }
-    ensures hint { result.hint.items ≡ exchange_path pool.now k set.now }
-    ensures path { result.walk.path.items ≡ [] }
-    ensures number { result.walk.number ≡ first_hint (exchange_path pool.now k set.now) }
-    ensures beyond { result.walk.beyond ≡ Some (suc (exchange_difference pool.now k set.now)) }
+    ensures size { place.new.size ≡ length (out_places pool.now k set.now) }
+    ensures difference { place.new.difference ≡ exchange_difference pool.now k set.now }
+    ensures hint { place.new.hint.items ≡ exchange_path pool.now k set.now }
+    ensures path { place.new.walk.path.items ≡ [] }
+    ensures number { place.new.walk.number ≡ first_hint (exchange_path pool.now k set.now) }
+    ensures beyond { place.new.walk.beyond ≡ Some (suc (exchange_difference pool.now k set.now)) }
 {
-    let mut hint = out_places(pool, k, set);
+    place.hint = out_places(pool, k, set);
     let ins = in_places(pool, k, set);
-    let size = hint.len();
-    let out = total_of(pool, k, Side::Out, &hint);
-    let difference = total_of(pool, k, Side::In, &ins).saturating_sub(out);
-    put_behind(&mut hint, &ins);
-    let mut walk = Walk::new(first_hint(&hint));
-    walk.beyond = Some(difference + 1);
-    Place {
-        size,
-        difference,
-        hint,
-        walk,
-    }
+    place.size = place.hint.len();
+    let out = total_of(pool, k, Side::Out, &place.hint);
+    place.difference = total_of(pool, k, Side::In, &ins).saturating_sub(out);
+    put_behind(&mut place.hint, &ins);
+    place.walk.restart(first_hint(&place.hint));
+    place.walk.beyond = Some(place.difference + 1);
 }
 
 /// Goes on to the next stage, where there is one.
@@ -285,16 +296,12 @@ fn next_stage(pool: &[u16], k: usize, place: &mut Place) -> bool
         greatest_of(pool, k, place.size),
         place.walk.beyond,
     ) {
-        place.difference = next;
-        place.hint.clear();
-        place.walk = Walk::new(0);
+        place.enter(place.size, next);
         return true;
     }
     if place.size < k.min(pool.len() - k) {
-        place.size += 1;
-        place.difference = least_of(pool, k, place.size);
-        place.hint.clear();
-        place.walk = Walk::new(0);
+        let size = place.size + 1;
+        place.enter(size, least_of(pool, k, size));
         return true;
     }
     false
@@ -348,49 +355,47 @@ fn next_set(pool: &[u16], k: usize, place: &mut Place, budget: &mut Budget) -> S
     }
 }
 
-/// The original numbers that were not moved out, lowest first.
-fn kept(pool: &[u16], k: usize, outs: &[u16]) -> Numbers
+/// Fills a list with the original numbers that were not moved out, lowest first.
+fn put_kept(pool: &[u16], k: usize, outs: &[u16], numbers: &mut Numbers)
     requires few { length pool.now ≤ LIMIT }
     requires enough { k ≤ length pool.now }
-    ensures items { result.items ≡ kept_of pool.now k outs.now }
-    ensures fits { length result.items ≤ k }
+    ensures items { numbers.new.items ≡ kept_of pool.now k outs.now }
+    ensures fits { length numbers.new.items ≤ k }
 {
-    let mut numbers = ArrayVec::new();
+    numbers.clear();
     for position in 0..k {
         let place = k - 1 - position;
         if !outs.contains(&(place as u16)) {
             numbers.push(pool[position]);
         }
     }
-    numbers
 }
 
-/// The set that an exchange makes of the original one.
-fn exchanged(pool: &[u16], k: usize, outs: &[u16], ins: &[u16]) -> Numbers
+/// Puts the numbers moved in behind others.
+fn put_moved_in(pool: &[u16], k: usize, ins: &[u16], numbers: &mut Numbers)
     requires few { length pool.now ≤ LIMIT }
     requires enough { k ≤ length pool.now }
     requires within { AllByRecursion (λ place. place < length pool.now - k) ins.now }
-    requires room { length ins.now ≤ length pool.now - k }
-    ensures { result.items ≡ kept_of pool.now k outs.now ++ map (value_of pool.now k In) ins.now }
+    requires room { length numbers.old.items + length ins.now ≤ LIMIT }
+    ensures { numbers.new.items ≡ numbers.old.items ++ map (value_of pool.now k In) ins.now }
 {
-    let mut numbers = kept(pool, k, outs);
     for place in ins {
         numbers.push(pool[k + *place as usize]);
     }
-    numbers
 }
 
-/// The set that a whole search has found.
-fn found_set(pool: &[u16], k: usize, place: &Place) -> Numbers
+/// Fills a list with the set that a whole search has found.
+fn put_set(pool: &[u16], k: usize, place: &Place, numbers: &mut Numbers)
     requires few { length pool.now ≤ LIMIT }
     requires enough { k ≤ length pool.now }
     requires ins { place.now.size ≤ length pool.now - k }
     requires standing { Stands (hinted place.now.hint.items (exchange_plan pool.now k place.now.size place.now.difference)) place.now.walk.path.items }
     requires whole { length place.now.walk.path.items ≡ place.now.size + place.now.size }
-    ensures { result.items ≡ set_of pool.now k place.now.size place.now.walk.path.items }
+    ensures { numbers.new.items ≡ set_of pool.now k place.now.size place.now.walk.path.items }
 {
     let (outs, ins) = place.walk.path.split_at(place.size);
-    exchanged(pool, k, outs, ins)
+    put_kept(pool, k, outs, numbers);
+    put_moved_in(pool, k, ins, numbers);
 }
 
 /// The sets of `k` numbers of a pool, in the order of exchanges between the original set, which is the first `k` numbers, and the
@@ -433,16 +438,9 @@ impl Exchanges {
         ensures coming { result.coming ≡ exchanges pool.now k }
         ensures nothing { k ≡ 0 → result.left ≡ 0 }
     {
-        Exchanges {
-            pool: copied(pool),
-            k,
-            place: Place {
-                size: 0,
-                difference: 0,
-                hint: ArrayVec::new(),
-                walk: Walk::new(0),
-            },
-        }
+        let mut sets = Exchanges::ended();
+        sets.start(pool, k);
+        sets
     }
 
     /// The same from a set on. Each of its places that is tried again costs a step.
@@ -453,11 +451,51 @@ impl Exchanges {
         requires given { IsIn set.now (subsets pool.now k) }
         ensures coming { result.coming ≡ from_on set.now (exchanges pool.now k) }
     {
+        let mut sets = Exchanges::ended();
+        sets.start_from(pool, k, set);
+        sets
+    }
+
+    /// One that has ended.
+    pub(crate) fn ended() -> Exchanges
+        ensures { result.coming ≡ [] }
+    {
         Exchanges {
-            pool: copied(pool),
-            k,
-            place: place_of(pool, k, set),
+            pool: ArrayVec::new(),
+            k: 0,
+            place: Place {
+                size: 0,
+                difference: 0,
+                hint: ArrayVec::new(),
+                walk: Walk::new(1),
+            },
         }
+    }
+
+    /// Begins anew, in place, as `new` does.
+    pub(crate) fn start(&mut self, pool: &[u16], k: usize)
+        requires ascends { IsStrictlyIncreasing pool.now }
+        requires few { length pool.now ≤ LIMIT }
+        requires enough { k ≤ length pool.now }
+        ensures coming { self.new.coming ≡ exchanges pool.now k }
+        ensures nothing { k ≡ 0 → self.new.left ≡ 0 }
+    {
+        fill(&mut self.pool, pool);
+        self.k = k;
+        self.place.enter(0, 0);
+    }
+
+    /// Begins anew, in place, as `from` does.
+    pub(crate) fn start_from(&mut self, pool: &[u16], k: usize, set: &[u16])
+        requires ascends { IsStrictlyIncreasing pool.now }
+        requires few { length pool.now ≤ LIMIT }
+        requires enough { k ≤ length pool.now }
+        requires given { IsIn set.now (subsets pool.now k) }
+        ensures coming { self.new.coming ≡ from_on set.now (exchanges pool.now k) }
+    {
+        fill(&mut self.pool, pool);
+        self.k = k;
+        enter_at(pool, k, set, &mut self.place);
     }
 
     /// The next set, in ascending order. `Found` gives the first of those to come, `End` is answered where none is left, and
@@ -471,10 +509,30 @@ impl Exchanges {
         ensures steps { budget.new.used + self.new.left ≡ budget.old.used + self.old.left }
         ensures spends { Spends budget.old budget.new }
     {
-        match next_set(&self.pool, self.k, &mut self.place, budget) {
-            Step::Found(()) => Step::Found(found_set(&self.pool, self.k, &self.place)),
+        let mut numbers = ArrayVec::new();
+        match self.put_next(&mut numbers, budget) {
+            Step::Found(()) => Step::Found(numbers),
             Step::End => Step::End,
             Step::Undecided => Step::Undecided,
         }
+    }
+
+    /// Fills a list with the next one, as `next` gives it.
+    pub(crate) fn put_next(&mut self, numbers: &mut Numbers, budget: &mut Budget) -> Step<()>
+        requires { budget.old.used ≤ budget.old.limit }
+        ensures answer { MatchStep result
+            (λ _. self.old.coming ≡ numbers.new.items ∷ self.new.coming)
+            ((self.old.coming ≡ []) × (self.new.coming ≡ []) × (self.new.left ≡ 0))
+            ((self.new.coming ≡ self.old.coming) × (budget.new.used ≡ budget.new.limit) × (0 < self.new.left)) }
+        ensures steps { budget.new.used + self.new.left ≡ budget.old.used + self.old.left }
+        ensures spends { Spends budget.old budget.new }
+    {
+        match next_set(&self.pool, self.k, &mut self.place, budget) {
+            Step::Found(()) => {}
+            Step::End => return Step::End,
+            Step::Undecided => return Step::Undecided,
+        }
+        put_set(&self.pool, self.k, &self.place, numbers);
+        Step::Found(())
     }
 }

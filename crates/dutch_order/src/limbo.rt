@@ -10,7 +10,7 @@ ghost use Rattle.dutch_order.specs.Keys.{IsIn};
 ghost use Rattle.dutch_order.specs.Steps.{MatchStep, Spends};
 
 use crate::halves::{end_of_half, first_of_half};
-use crate::numbers::{LIMIT, Numbers, copied};
+use crate::numbers::{LIMIT, Numbers, fill};
 use crate::search::{Hinted, PLACES, Path, Tree, Walk, climb_on, first_hint, put_behind};
 use crate::steps::{Budget, Step};
 use arrayvec::ArrayVec;
@@ -56,17 +56,16 @@ fn place_mirrors(scores: &[u16], k: usize, path: &[u16], place: usize) -> bool
     scores[place] == score && scores[place + ahead] == score
 }
 
-/// The numbers of places, which count from 1.
-fn numbered(places: &[u16]) -> Numbers
+/// Fills a list with the numbers of places, which count from 1.
+fn put_numbers(places: &[u16], numbers: &mut Numbers)
     requires within { AllByRecursion (λ place. place < LIMIT) places.now }
     requires few { length places.now ≤ LIMIT }
-    ensures { result.items ≡ numbers_of places.now }
+    ensures { numbers.new.items ≡ numbers_of places.now }
 {
-    let mut numbers = ArrayVec::new();
+    numbers.clear();
     for place in places {
         numbers.push(*place + 1);
     }
-    numbers
 }
 
 /// The places of numbers, which count from 1.
@@ -197,12 +196,9 @@ impl LimboExchanges {
         ensures coming { result.coming ≡ limbo_exchanges scores.now k }
         ensures nothing { k ≡ 0 → result.left ≡ 0 }
     {
-        LimboExchanges {
-            scores: copied(scores),
-            k,
-            hint: ArrayVec::new(),
-            walk: Walk::new(0),
-        }
+        let mut sets = LimboExchanges::ended();
+        sets.start(scores, k);
+        sets
     }
 
     /// The same from a set on. Each of its places that is tried again costs a step.
@@ -213,15 +209,51 @@ impl LimboExchanges {
         requires given { IsIn set.now (subsets (numbers_from 1 (length scores.now)) k) }
         ensures coming { result.coming ≡ from_on set.now (limbo_exchanges scores.now k) }
     {
-        let places = places_of(set);
-        let mut hint = leaders(scores, &places);
-        put_behind(&mut hint, &places);
+        let mut sets = LimboExchanges::ended();
+        sets.start_from(scores, k, set);
+        sets
+    }
+
+    /// One that has ended.
+    pub(crate) fn ended() -> LimboExchanges
+        ensures { result.coming ≡ [] }
+    {
         LimboExchanges {
-            scores: copied(scores),
-            k,
-            walk: Walk::new(first_hint(&hint)),
-            hint,
+            scores: ArrayVec::new(),
+            k: 0,
+            hint: ArrayVec::new(),
+            walk: Walk::new(1),
         }
+    }
+
+    /// Begins anew, in place, as `new` does.
+    pub(crate) fn start(&mut self, scores: &[u16], k: usize)
+        requires descends { IsNonAscending scores.now }
+        requires few { length scores.now ≤ LIMIT }
+        requires enough { k ≤ length scores.now }
+        ensures coming { self.new.coming ≡ limbo_exchanges scores.now k }
+        ensures nothing { k ≡ 0 → self.new.left ≡ 0 }
+    {
+        fill(&mut self.scores, scores);
+        self.k = k;
+        self.hint.clear();
+        self.walk.restart(0);
+    }
+
+    /// Begins anew, in place, as `from` does.
+    pub(crate) fn start_from(&mut self, scores: &[u16], k: usize, set: &[u16])
+        requires descends { IsNonAscending scores.now }
+        requires few { length scores.now ≤ LIMIT }
+        requires enough { k ≤ length scores.now }
+        requires given { IsIn set.now (subsets (numbers_from 1 (length scores.now)) k) }
+        ensures coming { self.new.coming ≡ from_on set.now (limbo_exchanges scores.now k) }
+    {
+        fill(&mut self.scores, scores);
+        self.k = k;
+        let places = places_of(set);
+        self.hint = leaders(scores, &places);
+        put_behind(&mut self.hint, &places);
+        self.walk.restart(first_hint(&self.hint));
     }
 
     /// The next set, in ascending order. `Found` gives the first of those to come, `End` is answered where none is left, and
@@ -235,6 +267,24 @@ impl LimboExchanges {
         ensures steps { budget.new.used + self.new.left ≡ budget.old.used + self.old.left }
         ensures spends { Spends budget.old budget.new }
     {
+        let mut numbers = ArrayVec::new();
+        match self.put_next(&mut numbers, budget) {
+            Step::Found(()) => Step::Found(numbers),
+            Step::End => Step::End,
+            Step::Undecided => Step::Undecided,
+        }
+    }
+
+    /// Fills a list with the next one, as `next` gives it.
+    pub(crate) fn put_next(&mut self, numbers: &mut Numbers, budget: &mut Budget) -> Step<()>
+        requires { budget.old.used ≤ budget.old.limit }
+        ensures answer { MatchStep result
+            (λ _. self.old.coming ≡ numbers.new.items ∷ self.new.coming)
+            ((self.old.coming ≡ []) × (self.new.coming ≡ []) × (self.new.left ≡ 0))
+            ((self.new.coming ≡ self.old.coming) × (budget.new.used ≡ budget.new.limit) × (0 < self.new.left)) }
+        ensures steps { budget.new.used + self.new.left ≡ budget.old.used + self.old.left }
+        ensures spends { Spends budget.old budget.new }
+    {
         let tree = Hinted {
             tree: Ranked {
                 scores: &self.scores,
@@ -243,7 +293,10 @@ impl LimboExchanges {
             hint: &self.hint,
         };
         match climb_on(&tree, &mut self.walk, budget) {
-            Step::Found(()) => Step::Found(numbered(&self.walk.path[self.k..])),
+            Step::Found(()) => {
+                put_numbers(&self.walk.path[self.k..], numbers);
+                Step::Found(())
+            }
             Step::End => Step::End,
             Step::Undecided => Step::Undecided,
         }

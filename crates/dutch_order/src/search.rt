@@ -178,6 +178,17 @@ impl Walk {
             room: ArrayVec::new(),
         }
     }
+
+    /// Begins anew, with no place filled.
+    pub fn restart(&mut self, number: usize)
+        ensures path { self.new.path.items ≡ [] }
+        ensures number { self.new.number ≡ number }
+        ensures beyond { self.new.beyond ≡ None }
+    {
+        self.path.clear();
+        self.number = number;
+        self.beyond = None;
+    }
 }
 
 /// The first number to try after a path, 0 where the path is whole.

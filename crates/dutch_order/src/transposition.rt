@@ -9,7 +9,7 @@ ghost use Rattle.dutch_order.specs.Keys.{IsIn};
 ghost use Rattle.dutch_order.specs.Steps.{MatchStep, Passes, Spends};
 
 use crate::cuts::CutsTuples;
-use crate::numbers::{LIMIT, Numbers, copied};
+use crate::numbers::{LIMIT, Numbers, fill};
 use crate::rules::Rule;
 use crate::search::{CutsPaths, Hinted, Path, Tree, Walk, climb_on, climb_past, first_hint};
 use crate::steps::{Budget, Step};
@@ -43,17 +43,16 @@ fn place_in(pool: &[u16], number: u16) -> usize
     place
 }
 
-/// The places of numbers in a pool.
-fn places_in(pool: &[u16], numbers: &[u16]) -> Path
+/// Fills a path with the places of numbers in a pool.
+fn put_places(pool: &[u16], numbers: &[u16], path: &mut Path)
     requires small { length pool.now ≤ LIMIT }
     requires few { length numbers.now ≤ LIMIT }
-    ensures { result.items ≡ places_in pool.now numbers.now }
+    ensures { path.new.items ≡ places_in pool.now numbers.now }
 {
-    let mut places = ArrayVec::new();
+    path.clear();
     for number in numbers {
-        places.push(place_in(pool, *number) as u16);
+        path.push(place_in(pool, *number) as u16);
     }
-    places
 }
 
 /// First players and the pool from which each gets an opponent.
@@ -161,13 +160,9 @@ impl<'a, R: Rule> Transpositions<'a, R> {
         ensures coming { result.coming ≡ transpositions (R.meets rule.now) first.now pool.now }
         ensures left { result.left ≡ length pool.now * length (short_beginnings (R.meets rule.now) first.now pool.now) }
     {
-        Transpositions {
-            first: copied(first),
-            pool: copied(pool),
-            rule,
-            hint: ArrayVec::new(),
-            walk: Walk::new(0),
-        }
+        let mut lists = Transpositions::ended(rule);
+        lists.start(first, pool, rule);
+        lists
     }
 
     /// The same from a tuple of the pool on, whether the rule allows it or not. Each of its numbers that is tried again costs a step.
@@ -178,14 +173,52 @@ impl<'a, R: Rule> Transpositions<'a, R> {
         requires given { IsIn tuple.now (tuples pool.now (length first.now)) }
         ensures coming { result.coming ≡ filter (all_meet (R.meets rule.now) first.now) (from_on tuple.now (all_tuples pool.now (length first.now))) }
     {
-        let hint = places_in(pool, tuple);
+        let mut lists = Transpositions::ended(rule);
+        lists.start_from(first, pool, rule, tuple);
+        lists
+    }
+
+    /// One that has ended.
+    pub(crate) fn ended(rule: &'a R) -> Transpositions<'a, R>
+        ensures { result.coming ≡ [] }
+    {
         Transpositions {
-            first: copied(first),
-            pool: copied(pool),
+            first: ArrayVec::new(),
+            pool: ArrayVec::new(),
             rule,
-            walk: Walk::new(first_hint(&hint)),
-            hint,
+            hint: ArrayVec::new(),
+            walk: Walk::new(1),
         }
+    }
+
+    /// Begins anew, in place, as `new` does.
+    pub(crate) fn start(&mut self, first: &[u16], pool: &[u16], rule: &'a R)
+        requires ascends { IsStrictlyIncreasing pool.now }
+        requires few_first { length first.now ≤ LIMIT }
+        requires few { length pool.now ≤ LIMIT }
+        ensures coming { self.new.coming ≡ transpositions (R.meets rule.now) first.now pool.now }
+        ensures left { self.new.left ≡ length pool.now * length (short_beginnings (R.meets rule.now) first.now pool.now) }
+    {
+        fill(&mut self.first, first);
+        fill(&mut self.pool, pool);
+        self.rule = rule;
+        self.hint.clear();
+        self.walk.restart(0);
+    }
+
+    /// Begins anew, in place, as `from` does.
+    pub(crate) fn start_from(&mut self, first: &[u16], pool: &[u16], rule: &'a R, tuple: &[u16])
+        requires ascends { IsStrictlyIncreasing pool.now }
+        requires few_first { length first.now ≤ LIMIT }
+        requires few { length pool.now ≤ LIMIT }
+        requires given { IsIn tuple.now (tuples pool.now (length first.now)) }
+        ensures coming { self.new.coming ≡ filter (all_meet (R.meets rule.now) first.now) (from_on tuple.now (all_tuples pool.now (length first.now))) }
+    {
+        fill(&mut self.first, first);
+        fill(&mut self.pool, pool);
+        self.rule = rule;
+        put_places(pool, tuple, &mut self.hint);
+        self.walk.restart(first_hint(&self.hint));
     }
 
     /// The next list. `Found` gives the first of those to come, `End` is answered where none is left, and `Undecided` where the

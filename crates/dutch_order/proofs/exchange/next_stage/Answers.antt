@@ -9,39 +9,40 @@ one_up n = omega arith
 pub returns-in-Some-clause-sets : goal.returns-in-Some-clause-sets
 returns-in-Some-clause-sets c =
     let p = c.args.place.now in
-    sets-at c.args.pool.now c.args.pool.now c.args.k _ [] p.size p.size c.in-Some.next c.in-Some.next c.new-place.result.path.items c.new-place.result.number 0 c.new-place.result.beyond None
-    refl c.clear.ensures c.new-place.ensures.path c.new-place.ensures.number c.new-place.ensures.beyond refl refl
+    sets-at c.args.pool.now c.args.pool.now c.args.k _ [] _ p.size _ c.in-Some.next c.enter.new.self.walk.path.items c.enter.new.self.walk.number 0 c.enter.new.self.walk.beyond None
+    refl c.enter.ensures.hint c.enter.ensures.path c.enter.ensures.number c.enter.ensures.beyond c.enter.ensures.size c.enter.ensures.difference
     ∙ sets-next c.args.pool.now c.args.k p.hint.items p.size p.difference p.walk.path.items p.walk.number p.walk.beyond c.requires.spent c.in-Some.next (search rules)
 
 pub returns-in-Some-clause-trials : goal.returns-in-Some-clause-trials
 returns-in-Some-clause-trials c =
     let p = c.args.place.now in
-    trials-at c.args.pool.now c.args.pool.now c.args.k _ [] p.size p.size c.in-Some.next c.in-Some.next c.new-place.result.path.items c.new-place.result.number 0 c.new-place.result.beyond None
-    refl c.clear.ensures c.new-place.ensures.path c.new-place.ensures.number c.new-place.ensures.beyond refl refl
+    trials-at c.args.pool.now c.args.pool.now c.args.k _ [] _ p.size _ c.in-Some.next c.enter.new.self.walk.path.items c.enter.new.self.walk.number 0 c.enter.new.self.walk.beyond None
+    refl c.enter.ensures.hint c.enter.ensures.path c.enter.ensures.number c.enter.ensures.beyond c.enter.ensures.size c.enter.ensures.difference
     ∙ trials-next c.args.pool.now c.args.k p.hint.items p.size p.difference p.walk.path.items p.walk.number p.walk.beyond c.requires.spent c.in-Some.next (search rules)
 
 pub returns-then-place-min-clause-sets : goal.returns-then-place-min-clause-sets
 returns-then-place-min-clause-sets c =
     let p = c.args.place.now in
-    sets-at c.args.pool.now c.args.pool.now c.args.k _ [] (p.size + 1) (suc p.size) c.least_of-place.result (least_difference c.args.pool.now c.args.k (suc p.size)) c.new-place-then-place-min.result.path.items c.new-place-then-place-min.result.number 0 c.new-place-then-place-min.result.beyond None
-    refl c.clear-then-place-min.ensures c.new-place-then-place-min.ensures.path c.new-place-then-place-min.ensures.number c.new-place-then-place-min.ensures.beyond (omega arith) (c.least_of-place.ensures ∙ ap (least_difference c.args.pool.now c.args.k) (one_up p.size))
+    sets-at c.args.pool.now c.args.pool.now c.args.k _ [] _ (suc p.size) _ (least_difference c.args.pool.now c.args.k (suc p.size)) c.enter-then-place-min.new.self.walk.path.items c.enter-then-place-min.new.self.walk.number 0 c.enter-then-place-min.new.self.walk.beyond None
+    refl c.enter-then-place-min.ensures.hint c.enter-then-place-min.ensures.path c.enter-then-place-min.ensures.number c.enter-then-place-min.ensures.beyond (c.enter-then-place-min.ensures.size ∙ one_up p.size) (c.enter-then-place-min.ensures.difference ∙ c.least_of.ensures ∙ ap (least_difference c.args.pool.now c.args.k) (one_up p.size))
     ∙ sets-larger c.args.pool.now c.args.k p.hint.items p.size p.difference p.walk.path.items p.walk.number p.walk.beyond c.requires.spent (search rules) (search rules)
 
 pub returns-then-place-min-clause-trials : goal.returns-then-place-min-clause-trials
 returns-then-place-min-clause-trials c =
     let p = c.args.place.now in
-    trials-at c.args.pool.now c.args.pool.now c.args.k _ [] (p.size + 1) (suc p.size) c.least_of-place.result (least_difference c.args.pool.now c.args.k (suc p.size)) c.new-place-then-place-min.result.path.items c.new-place-then-place-min.result.number 0 c.new-place-then-place-min.result.beyond None
-    refl c.clear-then-place-min.ensures c.new-place-then-place-min.ensures.path c.new-place-then-place-min.ensures.number c.new-place-then-place-min.ensures.beyond (omega arith) (c.least_of-place.ensures ∙ ap (least_difference c.args.pool.now c.args.k) (one_up p.size))
+    trials-at c.args.pool.now c.args.pool.now c.args.k _ [] _ (suc p.size) _ (least_difference c.args.pool.now c.args.k (suc p.size)) c.enter-then-place-min.new.self.walk.path.items c.enter-then-place-min.new.self.walk.number 0 c.enter-then-place-min.new.self.walk.beyond None
+    refl c.enter-then-place-min.ensures.hint c.enter-then-place-min.ensures.path c.enter-then-place-min.ensures.number c.enter-then-place-min.ensures.beyond (c.enter-then-place-min.ensures.size ∙ one_up p.size) (c.enter-then-place-min.ensures.difference ∙ c.least_of.ensures ∙ ap (least_difference c.args.pool.now c.args.k) (one_up p.size))
     ∙ trials-larger c.args.pool.now c.args.k p.hint.items p.size p.difference p.walk.path.items p.walk.number p.walk.beyond c.requires.spent (search rules) (search rules)
 
 pub returns-then-place-min-clause-nearer : goal.returns-then-place-min-clause-nearer
 returns-then-place-min-clause-nearer c _ =
     let p = c.args.place.now in
+    let entered = c.enter-then-place-min.ensures in
     let larger : stages_ahead c.args.pool.now c.args.k (suc p.size) (least_difference c.args.pool.now c.args.k (suc p.size)) < stages_ahead c.args.pool.now c.args.k p.size p.difference =
     stages-larger c.args.pool.now c.args.k p.hint.items p.size p.difference p.walk.path.items p.walk.number p.walk.beyond c.requires.spent (search rules) (search rules) in
-    subst (λ size. stages_ahead c.args.pool.now c.args.k size c.least_of-place.result < stages_ahead c.args.pool.now c.args.k p.size p.difference) (sym (one_up p.size))
+    subst (λ size. stages_ahead c.args.pool.now c.args.k size c.enter-then-place-min.new.self.difference < stages_ahead c.args.pool.now c.args.k p.size p.difference) (sym (entered.size ∙ one_up p.size))
     (subst (λ d. stages_ahead c.args.pool.now c.args.k (suc p.size) d < stages_ahead c.args.pool.now c.args.k p.size p.difference)
-    (sym (c.least_of-place.ensures ∙ ap (least_difference c.args.pool.now c.args.k) (one_up p.size))) larger)
+    (sym (entered.difference ∙ c.least_of.ensures ∙ ap (least_difference c.args.pool.now c.args.k) (one_up p.size))) larger)
 
 pub returns-clause-ended : goal.returns-clause-ended
 returns-clause-ended c _ =
