@@ -1,11 +1,12 @@
 // The present players by rank, and what the next round asks of them.
-ghost use Rattle.std.specs.Prelude.{◌≡◌, ◌<◌, ◌≤◌, ◌≤ℤ◌, pos, negsuc, length, if◌then◌else◌, ◌==◌};
+ghost use Rattle.std.specs.Prelude.{◌≡◌, ◌<◌, ◌≤◌, ◌*◌, ◌-ℤ◌, ◌≤ℤ◌, pos, length, if◌then◌else◌, ◌==◌};
 ghost use Rattle.dutch_player.specs.Preferences.{difference, last_two, preference};
 ghost use Rattle.dutch_player.specs.Facts.{seat_at, facts_of};
 ghost use Rattle.dutch_player.specs.Outcomes.{Gives};
 ghost use Rattle.dutch_player.specs.SeatOf.{facts_in};
 ghost use Rattle.dutch_player.specs.Meetings.{is_topscorer, may_meet};
 ghost use Rattle.dutch_player.specs.Colours.{colours, colour_rule, decision_of};
+ghost use Rattle.trf16.specs.declared.limits.TheConstants.{MOST_PLAYERS, MOST_ROUNDS};
 
 use crate::colour_rule::ColourRule;
 use crate::colours::{Decision, decided, with_colour};
@@ -35,12 +36,13 @@ impl Model for Field {
     ghost use Rattle.std.specs.Prelude.{map, vec_len, ◌≤◌, ◌<◌};
     ghost use Rattle.dutch_player.specs.Facts.{Facts, IsRanked};
     ghost use Rattle.dutch_player.specs.SeatOf.{facts_in};
+    ghost use Rattle.trf16.specs.declared.limits.TheConstants.{MOST_PLAYERS};
 
     ghost Value = { Facts };
 
     ghost view = { λ f. record { seats = map facts_in f.seats.items; round = f.round; total = f.total; initial = f.initial } };
 
-    ghost invariant = { λ f. (vec_len f.seats ≤ 256) × (0 < f.round) × IsRanked (map facts_in f.seats.items) };
+    ghost invariant = { λ f. (vec_len f.seats ≤ MOST_PLAYERS) × (0 < f.round) × IsRanked (map facts_in f.seats.items) };
 }
 
 impl Field {
@@ -67,10 +69,10 @@ impl Field {
         })
     }
 
-    /// How many players are present: at most 256.
+    /// How many players are present: at most `MOST_PLAYERS` of `trf16`.
     pub fn len(&self) -> usize
         ensures value { result ≡ length self.now.seats }
-        ensures few { result ≤ 256 }
+        ensures few { result ≤ MOST_PLAYERS }
     {
         self.seats.len()
     }
@@ -90,11 +92,11 @@ impl Field {
         self.seat(seat).start
     }
 
-    /// The score in half points (A.2): at most 64.
+    /// The score in half points (A.2): at most two for each of `MOST_ROUNDS`.
     pub fn score(&self, seat: u16) -> u16
         requires { seat < length self.now.seats }
         ensures value { result ≡ (seat_at self.now seat).score }
-        ensures few { result ≤ 64 }
+        ensures few { result ≤ 2 * MOST_ROUNDS }
     {
         self.seat(seat).score
     }
@@ -118,12 +120,12 @@ impl Field {
         if back == 1 { seat.latest } else { seat.earlier }
     }
 
-    /// The colour difference (A.6): games with white minus games with black, from -32 to 32.
+    /// The colour difference (A.6): games with white minus games with black, each at most `MOST_ROUNDS`.
     pub fn difference(&self, seat: u16) -> i16
         requires { seat < length self.now.seats }
         ensures value { result ≡ difference (seat_at self.now seat).played }
-        ensures low { negsuc 31 ≤ℤ result }
-        ensures high { result ≤ℤ pos 32 }
+        ensures low { (pos 0 -ℤ pos MOST_ROUNDS) ≤ℤ result }
+        ensures high { result ≤ℤ pos MOST_ROUNDS }
     {
         difference(&self.seat(seat).played)
     }

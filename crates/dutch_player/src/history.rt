@@ -2,6 +2,7 @@
 ghost use Rattle.std.specs.Prelude.{◌≡◌, ◌≤◌, length, IfOk, vec_len};
 ghost use Rattle.std.specs.List.{list_any};
 ghost use Rattle.dutch_player.specs.Histories.{colour_played, played, opponent_played, opponents, bars_bye, may_bye, float_between, float_by, float_in};
+ghost use Rattle.trf16.specs.declared.limits.TheConstants.{MOST_ROUNDS};
 
 use crate::float::Float;
 use std::alloc::{AllocError, Global};
@@ -84,7 +85,7 @@ fn float_between(mine: u16, theirs: u16) -> Option<Float>
 }
 
 fn float_by(report: &Report<'_>, cells: &[Cell], before: u8, cell: &Cell) -> Option<Float>
-    requires { length cells.now ≤ 32 }
+    requires { length cells.now ≤ MOST_ROUNDS }
     ensures { result ≡ float_by report.now cells.now before cell.now }
 {
     match opponent_played(cell) {
@@ -98,7 +99,7 @@ fn float_by(report: &Report<'_>, cells: &[Cell], before: u8, cell: &Cell) -> Opt
 
 /// The float of a round; before round 1 there is none.
 pub(crate) fn float_in(report: &Report<'_>, cells: &[Cell], round: u8) -> Option<Float>
-    requires { length cells.now ≤ 32 }
+    requires { length cells.now ≤ MOST_ROUNDS }
     ensures { result ≡ float_in report.now cells.now round }
 {
     if round == 0 {

@@ -7,6 +7,7 @@ ghost use Rattle.dutch_player.specs.Meetings.{may_meet};
 ghost use Rattle.dutch_player.specs.Colours.{colours, colour_rule};
 ghost use Rattle.dutch_player.specs.Facts.{Facts, facts_of, seat_at, goes_before};
 ghost use Rattle.dutch_player.specs.Laws.{GrantsBoth, IsFieldOf, TellsRule};
+ghost use Rattle.trf16.specs.declared.limits.TheConstants.{MOST_PLAYERS};
 
 use crate::field::Field;
 
@@ -54,11 +55,11 @@ pub fn seats_are_ranked(field: &Field, a: u16, b: u16)
     let _ = &field.seats;
 }
 
-/// Scores do not ascend along the seats of a field, of which there are at most 256 (A.2).
+/// Scores do not ascend along the seats of a field, of which there are at most `MOST_PLAYERS` of `trf16` (A.2).
 #[tactic(auto, using(crate::proofs::RankLemmas::scores_fall))]
 pub fn scores_do_not_ascend(field: &Field)
     ensures scores { (a b : ℕ) → a < b → b < length field.now.seats → (seat_at field.now b).score ≤ (seat_at field.now a).score }
-    ensures few { length field.now.seats ≤ 256 }
+    ensures few { length field.now.seats ≤ MOST_PLAYERS }
 {
     let _ = &field.seats;
 }

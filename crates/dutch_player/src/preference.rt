@@ -1,6 +1,7 @@
 // Colour preferences, from the colours of a player's games, the last game first (C.04.3 A.6).
-ghost use Rattle.std.specs.Prelude.{◌≡◌, ◌≤◌, ◌-ℤ◌, ◌≤ℤ◌, pos, negsuc, length, count_by};
+ghost use Rattle.std.specs.Prelude.{◌≡◌, ◌≤◌, ◌-ℤ◌, ◌≤ℤ◌, pos, length, count_by};
 ghost use Rattle.dutch_player.specs.Preferences.{other, is_white, is_black, is_same, whites, blacks, difference, last_two, mild, strong_or_mild, preference};
+ghost use Rattle.trf16.specs.declared.limits.TheConstants.{MOST_ROUNDS};
 
 use trf16::cell::Colour;
 
@@ -79,10 +80,10 @@ pub(crate) fn blacks(played: &[Colour]) -> usize
 
 /// Games with white minus games with black.
 pub(crate) fn difference(played: &[Colour]) -> i16
-    requires { length played.now ≤ 32 }
+    requires { length played.now ≤ MOST_ROUNDS }
     ensures value { result ≡ difference played.now }
-    ensures low { negsuc 31 ≤ℤ result }
-    ensures high { result ≤ℤ pos 32 }
+    ensures low { (pos 0 -ℤ pos MOST_ROUNDS) ≤ℤ result }
+    ensures high { result ≤ℤ pos MOST_ROUNDS }
 {
     whites(played) as i16 - blacks(played) as i16
 }
@@ -138,7 +139,7 @@ fn strong_or_mild(played: &[Colour]) -> Option<Pref>
 
 /// The colour preference of a player with these games.
 pub(crate) fn preference(played: &[Colour]) -> Option<Pref>
-    requires { length played.now ≤ 32 }
+    requires { length played.now ≤ MOST_ROUNDS }
     ensures { result ≡ preference played.now }
 {
     let (whites, blacks) = (whites(played), blacks(played));

@@ -3,6 +3,7 @@ ghost use Rattle.std.specs.Prelude.{◌≡◌, ◌≤◌, map, IfOk, vec_len};
 ghost use Rattle.trf16.specs.Sheet.{entry_of, rounds_played};
 ghost use Rattle.dutch_player.specs.SeatOf.{facts_in};
 ghost use Rattle.dutch_player.specs.Facts.{seat_of, seats_of, ranked};
+ghost use Rattle.trf16.specs.declared.limits.TheConstants.{MOST_PLAYERS};
 
 use crate::history::{float_in, may_bye, opponents, played};
 use crate::preference::preference;
@@ -42,7 +43,7 @@ fn seat_of(
 // The seats of the present players, in the order of their lines.
 fn seats_in_lines(alloc: Global, report: &Report<'_>) -> Result<Vec<Seat>, AllocError>
     ensures value { IfOk result (λ seats. map facts_in seats.items ≡ seats_of report.now report.now.players) }
-    ensures few { IfOk result (λ seats. vec_len seats ≤ 256) }
+    ensures few { IfOk result (λ seats. vec_len seats ≤ MOST_PLAYERS) }
 {
     let rounds = report.rounds_played();
     let mut seats = Vec::new(alloc);
@@ -58,7 +59,7 @@ fn seats_in_lines(alloc: Global, report: &Report<'_>) -> Result<Vec<Seat>, Alloc
 /// The seats of the present players, by rank.
 pub(crate) fn seats_of(alloc: Global, report: &Report<'_>) -> Result<Vec<Seat>, AllocError>
     ensures value { IfOk result (λ seats. map facts_in seats.items ≡ ranked (seats_of report.now report.now.players)) }
-    ensures few { IfOk result (λ seats. vec_len seats ≤ 256) }
+    ensures few { IfOk result (λ seats. vec_len seats ≤ MOST_PLAYERS) }
 {
     let seats = seats_in_lines(alloc, report)?;
     ranked(alloc, seats)

@@ -1,5 +1,6 @@
 // A present player, and his rank among others (C.04.3 A.2).
-ghost use Rattle.std.specs.Prelude.{◌≡◌, ◌≤◌, vec_len};
+ghost use Rattle.std.specs.Prelude.{◌≡◌, ◌≤◌, ◌*◌, vec_len};
+ghost use Rattle.trf16.specs.declared.limits.TheConstants.{MOST_ROUNDS};
 ghost use Rattle.dutch_player.specs.Preferences.{preference as preference_of};
 
 use crate::float::Float;
@@ -24,7 +25,7 @@ pub(crate) struct Seat {
     pub(crate) latest: Option<Float>,
     pub(crate) earlier: Option<Float>,
     pub(crate) may_bye: bool,
-    ghost few_points: { score ≤ 64 },
-    ghost few_games: { vec_len played ≤ 32 },
+    ghost few_points: { score ≤ 2 * MOST_ROUNDS },
+    ghost few_games: { vec_len played ≤ MOST_ROUNDS },
     ghost preference_is: { preference ≡ preference_of played.items },
 }

@@ -7,10 +7,10 @@ ghost use Rattle.trf16.specs.Verdict.{without_players, names_too_many_rounds};
 ghost use Rattle.trf16.specs.Notes.{Tells, TellsApart};
 ghost use Rattle.trf16.specs.declared.limits.TheConstants.{MOST_PLAYERS};
 
-use crate::limits::MOST_ROUNDS;
 use crate::apart::Apart;
 use crate::cell::Colour;
 use crate::fault::Fault;
+use crate::limits::MOST_ROUNDS;
 use crate::notes::Notes;
 use crate::player::Player;
 use crate::report::{Report, last_round_of};

@@ -11,7 +11,6 @@ ghost use Rattle.trf16.specs.Verdict.{blank_at, start_number_at, start_at, point
 ghost use Rattle.trf16.specs.declared.cell.Cell.TheVariants.{Blank};
 ghost use Rattle.trf16.specs.declared.limits.TheConstants.{MOST_ROUNDS, LAST_COLUMN};
 
-use crate::limits::{MOST_BYTES, MOST_PLAYERS, MOST_ROUNDS};
 use crate::answering::{all_cells_fit, players_fit};
 use crate::cell::Cell;
 use crate::columns::{Line, is_blank, split_kind};
@@ -21,6 +20,7 @@ use crate::fault::{Excess, Fault};
 use crate::fields::{number_in, points_in, trimmed};
 use crate::grammar::cell_from;
 use crate::kind::Kind;
+use crate::limits::{MOST_BYTES, MOST_PLAYERS, MOST_ROUNDS};
 use crate::lines::{next_line, skip_marks};
 use crate::notes::Notes;
 use crate::player::Player;

@@ -6,9 +6,9 @@ ghost use Rattle.trf16.specs.Steps.{is_free, are_free};
 ghost use Rattle.trf16.specs.Round.{CanBePaired, named_by, cell_on, cell_by, with_cell, cells_with, entry_with, with_round};
 ghost use Rattle.trf16.specs.declared.limits.TheConstants.{MOST_ROUNDS};
 
-use crate::limits::MOST_ROUNDS;
 use crate::cell::{Bye, Cell, Colour};
 use crate::cells::front;
+use crate::limits::MOST_ROUNDS;
 use crate::player::Player;
 use crate::report::{Report, last_round_of};
 use indexmap::IndexMap;

@@ -3,8 +3,9 @@ use Rattle.trf16.specs.Sheet.{entry_of}
 use Rattle.dutch_player.specs.SeatOf.{facts_in}
 use Rattle.dutch_player.specs.Facts.{seats_of}
 use Rattle.dutch_player.proofs.present.seats_in_lines.Given as goal
+use Rattle.trf16.specs.declared.limits.TheConstants.{MOST_PLAYERS}
 
 abbrev pub invariant-loop-player : goal.invariant-loop-player
 invariant-loop-player l =
     (map facts_in l.seats.items ++ seats_of l.report (map entry_of l.player-iterator) ≡ seats_of l.report l.report.players)
-    × (vec_len l.seats + length l.player-iterator ≤ 256)
+    × (vec_len l.seats + length l.player-iterator ≤ MOST_PLAYERS)

@@ -26,7 +26,7 @@ loop-cells-preserved c =
     let one_more : vec_len c.push.new.self ≡ vec_len cells + 1 = c.in_ok-push.ensures.len in
     let here : round_at c.args.n c.args.line.now (vec_len cells) ≡ Ok c.in_ok-round_at.field-0 = rw (← c.len-in-loop-cells-2.ensures) c.in_ok-round_at.ensures in (
       rw (c.in_ok-push.ensures.items, one_more)
-      (rounds-go_on c.args.n c.args.line.now cells.items (vec_len cells) c.in_ok-round_at.field-0 whole more here c.loop-cells.invariant.0),
+          (rounds-go_on c.args.n c.args.line.now cells.items (vec_len cells) c.in_ok-round_at.field-0 whole more here c.loop-cells.invariant.0),
       omega (arith, one_more, more),
     )
 
