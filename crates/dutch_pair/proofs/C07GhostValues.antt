@@ -25,6 +25,7 @@ use Rattle.dutch_pair.proofs.ArrangementParts.{parts_of, numbers_within}
 use Rattle.dutch_pair.proofs.GhostPairs.{either}
 use Rattle.dutch_pair.proofs.C07WeakerRules.{always_a_shape}
 use Rattle.dutch_pair.proofs.C07Ghosts.{all_same, none_lower_than_none, ghosts_tell_of_the_next_bracket}
+use Rattle.dutch_order.specs.declared.numbers.TheConstants.{LIMIT}
 
 -- a value that is not better than with a PSD is not better than with none
 without_psd : (value : NextValue) (pairs : ℕ) (psd : List ℕ) → IsNotBetter value pairs psd → IsNotBetter value pairs []
@@ -33,7 +34,7 @@ without_psd value pairs psd (inr same) = inr (same.0, none_lower_than_none value
 
 held : (value : NextValue) (ghosts : List ℕ) (s residents pairs : ℕ) → IsNotBetter value pairs (ghost_floor ghosts s residents pairs) → IsNotBetter value pairs (floor_held ghosts s residents pairs)
 held value ghosts s residents pairs h =
-    elim (either (nat_lt 256 (floor_length (length ghosts) residents pairs))) [
+    elim (either (nat_lt LIMIT (floor_length (length ghosts) residents pairs))) [
       | inl on ↦
           subst (λ t. IsNotBetter value pairs (cond t [] (ghost_floor ghosts s residents pairs))) (sym on) (without_psd value pairs (ghost_floor ghosts s residents pairs) h)
       | inr off ↦ subst (λ t. IsNotBetter value pairs (cond t [] (ghost_floor ghosts s residents pairs))) (sym off) h

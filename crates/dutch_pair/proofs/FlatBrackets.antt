@@ -20,6 +20,7 @@ use Rattle.dutch_pair.proofs.ArrangementParts.{parts_of, Residents}
 use Rattle.dutch_pair.proofs.PsdParts.{OneScore, down_parts}
 use Rattle.dutch_pair.proofs.DownLemmas.{down_numbers}
 use Rattle.dutch_pair.proofs.LeastPsd.{Descends, first_is_least, in_filter}
+use Rattle.dutch_order.specs.declared.numbers.TheConstants.{LIMIT}
 
 players : (facts : Facts) (stand : Stand) → length (frame_of facts stand).scores ≡ length stand.seats
 players facts stand = length-map stand.seats (score_at facts)
@@ -56,7 +57,7 @@ candidate_of facts stand shape draw of' m e =
     let counted : length (numbers_from 1 q) ≡ q = length-numbers 1 q in
     let halves : length draw.down ≡ length low + length rest = ap length (e ∙ down_parts frame shape.mdps (remainder_pairs shape) a inside parts) ∙ length-append low rest in
     let left : length rest + (shape.mdps + (remainder_pairs shape + remainder_pairs shape)) ≡ n - q = parts.left in
-    let few : n ≤ 256 = of'.sound.few in
+    let few : n ≤ LIMIT = of'.sound.few in
     record {
       moved_down = parts.s1_count ∙ sym parts.s2_count;
       residents = parts.s1r_count ∙ sym parts.s2r_count;

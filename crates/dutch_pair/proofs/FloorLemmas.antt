@@ -13,6 +13,7 @@ use Rattle.dutch_pair.specs.ColourFloors.{residents_down}
 use Rattle.dutch_pair.specs.FloorOf.{HasNumbers, are_numbers, is_of_shape}
 use Rattle.dutch_order.proofs.Members.{length-numbers}
 use Rattle.dutch_pair.proofs.ArrangementParts.{numbers_within}
+use Rattle.dutch_order.specs.declared.numbers.TheConstants.{LIMIT}
 
 both : (s t : Bool) → (s && t) ≡ true → (s ≡ true) × (t ≡ true)
 both true t e = (refl, e)
@@ -26,18 +27,18 @@ all_numbers stand (x ∷ numbers) e =
     let first = leb-true 1 x ends.0 in
     ((omega (arith, first), leb-true x (length stand.seats) ends.1), all_numbers stand numbers here.1)
 
-pub small_pairs : (facts : Facts) (stand : Stand) (shape : Shape) → Fits (frame_of facts stand) shape → IsOf facts stand → shape.pairs ≤ 256
+pub small_pairs : (facts : Facts) (stand : Stand) (shape : Shape) → Fits (frame_of facts stand) shape → IsOf facts stand → shape.pairs ≤ LIMIT
 small_pairs facts stand shape fits of =
     let counted = length-map stand.seats (score_at facts) in
-    let few : length (map (score_at facts) stand.seats) ≤ 256 = of.sound.few in
+    let few : length (map (score_at facts) stand.seats) ≤ LIMIT = of.sound.few in
     let enough : shape.mdps + 2 * (shape.pairs - shape.mdps) ≤ length (map (score_at facts) stand.seats) - stand.mdps = fits.residents_enough in
     omega (arith, counted, few, enough)
 
 pub has_room : (facts : Facts) (stand : Stand) (shape : Shape) (count : ℕ) → Fits (frame_of facts stand) shape → IsOf facts stand → count ≤ shape.mdps
-    → (count + stand.mdps) + (remainder_pairs shape + residents_down stand shape) ≤ 256
+    → (count + stand.mdps) + (remainder_pairs shape + residents_down stand shape) ≤ LIMIT
 has_room facts stand shape count fits of le =
     let counted = length-map stand.seats (score_at facts) in
-    let few : length (map (score_at facts) stand.seats) ≤ 256 = of.sound.few in
+    let few : length (map (score_at facts) stand.seats) ≤ LIMIT = of.sound.few in
     let within : stand.mdps ≤ length (map (score_at facts) stand.seats) = of.sound.within in
     let enough : shape.mdps + 2 * (shape.pairs - shape.mdps) ≤ length (map (score_at facts) stand.seats) - stand.mdps = fits.residents_enough in
     omega (arith, counted, few, within, enough, le)

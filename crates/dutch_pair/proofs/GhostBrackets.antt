@@ -1,5 +1,5 @@
 -- Ghosts in front of the next scoregroup are a bracket (C.04.3 C.7): the scores of the Limbo, those of the residents who go down, and
--- those of the next lower scoregroup do not ascend, and they are at most 256.
+-- those of the next lower scoregroup do not ascend, and they are at most LIMIT.
 use Rattle.std.proofs.Common.{◌≡◌, ℕ, zero, suc, ◌+◌, ◌-◌, ◌<◌, ◌≤◌, min, List, ◌++◌, map, length, get_or, ◌⊎◌, inl, inr, sym, ap, ◌∙◌, arith, length-append}
 use Rattle.std.specs.Prelude.{slice_index}
 use Rattle.std.proofs.lemmas.List.{length-map, get_or-map}
@@ -18,6 +18,7 @@ use Rattle.dutch_pair.specs.GhostValues.{first_limbo, first_ghosts}
 use Rattle.dutch_pair.proofs.GhostPairs.{append_low, append_high}
 use Rattle.dutch_pair.proofs.FlatBrackets.{seats_fall}
 use Rattle.dutch_pair.proofs.RepeatedLemmas.{length-repeated, repeated_at}
+use Rattle.dutch_order.specs.declared.numbers.TheConstants.{LIMIT}
 
 number_at : (first count i : ℕ) → i < count → get_or (numbers_from first count) i 0 ≡ first + i
 number_at first zero i h = absurd (omega (arith, h))

@@ -18,6 +18,7 @@ use Rattle.dutch_pair.specs.Ends.{Ends, LeftGoOn}
 use Rattle.dutch_pair.proofs.GroupLemmas.{first_group_is, first_group_taken, concat_scoregroups}
 use Rattle.dutch_pair.proofs.WalkEnds.{ends_nothing}
 use Rattle.dutch_pair.proofs.WalkLemmas.{Descends, is_above, left_go_on, ranked_seats, ranked_front}
+use Rattle.dutch_order.specs.declared.numbers.TheConstants.{LIMIT}
 
 eq_of : (a b : ℕ) → (a == b) ≡ true → a ≡ b
 eq_of a b h = grind (arith, nat_tests)
@@ -163,10 +164,10 @@ module _ (facts : Facts) where
   moved_inside md rest goes = ranked_seats facts md (ranked_front facts md rest goes.ranked)
 
   module _ {md rest group lower : List ℕ} (parted' : IsParted md rest group lower) where
-    pub few_parted : (now : List ℕ) → now ≡ md → length now + length group ≤ 256
+    pub few_parted : (now : List ℕ) → now ≡ md → length now + length group ≤ LIMIT
     few_parted now e =
         let above = is_above facts parted'.descends 0 Last md group lower parted'.goes parted'.above (λ e. let bad : Last ≡ Ordinary = e in absurd (cc)) in
-        let few : length (md ++ group) + length lower ≤ 256 = above.few in
+        let few : length (md ++ group) + length lower ≤ LIMIT = above.few in
         omega (arith, few, length-append md group, ap length e)
 
     pub last_above : (number : ℕ) (now : List ℕ) (stand : Stand) → now ≡ md → lower ≡ [] → stand ≡ bracket number Last now group → IsAbove facts stand []

@@ -12,6 +12,7 @@ use Rattle.dutch_pair.specs.Groups.{front_with}
 use Rattle.dutch_pair.specs.Round.{first_group, scoregroups, quality_of}
 use Rattle.dutch_pair.specs.NextBracket.{IsNext, quality}
 use Rattle.dutch_pair.proofs.GroupLemmas.{first_group_is}
+use Rattle.dutch_order.specs.declared.numbers.TheConstants.{LIMIT}
 
 equal_of : (a b : ℕ) → (a == b) ≡ true → a ≡ b
 equal_of a b h = grind (arith, nat_tests)
@@ -56,7 +57,7 @@ module _ (facts : Facts) where
     few =
         let n = front_with facts (score_at facts x) xs in
         let short : length (take n xs) ≡ min n (length xs) = length-take n xs in
-        let few : length stand.seats + length (x ∷ xs) ≤ 256 = above.few in
+        let few : length stand.seats + length (x ∷ xs) ≤ LIMIT = above.few in
         omega (arith, short, few);
     same = λ i j h g. (group_at x xs i h).0 ∙ sym (group_at x xs j g).0;
     below = λ i j h g.

@@ -15,6 +15,7 @@ use Rattle.dutch_pair.specs.BitTables.{has_bit}
 use Rattle.dutch_pair.specs.Context.{Context}
 use Rattle.dutch_pair.specs.PairFacts.{place_of, KnowsPairs, NotedUpto}
 use Rattle.dutch_pair.proofs.PairMisses.{pair_sym}
+use Rattle.dutch_order.specs.declared.numbers.TheConstants.{LIMIT}
 
 numbers_sym : (facts : Facts) (stand : Stand) (a b : ℕ) → numbers_meet facts stand a b ≡ numbers_meet facts stand b a
 numbers_sym facts stand a b =
@@ -31,7 +32,7 @@ suits_sym facts stand x y =
 
 -- whether the two numbers at a place suit
 abbrev suits_at : Context → ℕ → Bool
-suits_at known place = suits known.facts known.stand (place / 256 + 1) (place % 256 + 1)
+suits_at known place = suits known.facts known.stand (place / LIMIT + 1) (place % LIMIT + 1)
 
 pub passed : (known : Context) (table : List ℕ) (from end : ℕ) → from ≤ end → ((i : ℕ) → from ≤ i → i < end → suits_at known i ≡ false)
     → NotedUpto known table from → NotedUpto known table end
@@ -73,29 +74,29 @@ pub beyond_suits : (facts : Facts) (stand : Stand) (x y : ℕ) → length stand.
 beyond_suits facts stand x y lt =
     no_suit facts stand x y (is_number stand x) (elim (nat_le 1 y) as (λ t. (t && nat_le y (length stand.seats)) ≡ false) [ true ↦ lt-leb y (length stand.seats) lt | false ↦ refl ]) refl
 
-at_place : (known : Context) (x y : ℕ) → (0 < x) × (x ≤ 256) → (0 < y) × (y ≤ 256) → suits_at known (place_of x y) ≡ suits known.facts known.stand x y
+at_place : (known : Context) (x y : ℕ) → (0 < x) × (x ≤ LIMIT) → (0 < y) × (y ≤ LIMIT) → suits_at known (place_of x y) ≡ suits known.facts known.stand x y
 at_place known x y p q =
-    let first : place_of x y / 256 + 1 ≡ x = omega arith in
-    let second : place_of x y % 256 + 1 ≡ y = omega arith in
-    ap (λ a. suits known.facts known.stand a (place_of x y % 256 + 1)) first ∙ ap (λ b. suits known.facts known.stand x b) second
+    let first : place_of x y / LIMIT + 1 ≡ x = omega arith in
+    let second : place_of x y % LIMIT + 1 ≡ y = omega arith in
+    ap (λ a. suits known.facts known.stand a (place_of x y % LIMIT + 1)) first ∙ ap (λ b. suits known.facts known.stand x b) second
 
 -- a place that is passed tells whether its numbers suit
-pub noted_at : (known : Context) (table : List ℕ) (end x y : ℕ) → (0 < x) × (x ≤ 256) → (0 < y) × (y ≤ 256) → place_of x y < end
+pub noted_at : (known : Context) (table : List ℕ) (end x y : ℕ) → (0 < x) × (x ≤ LIMIT) → (0 < y) × (y ≤ LIMIT) → place_of x y < end
     → NotedUpto known table end → has_bit table (place_of x y) ≡ suits known.facts known.stand x y
 noted_at known table end x y p q lt noted =
     noted (place_of x y) ∙ (ap (λ t. t && suits_at known (place_of x y)) (lt-ltb (place_of x y) end lt) ∙ at_place known x y p q)
 
-pub noted_before : (known : Context) (table : List ℕ) (x y : ℕ) → (0 < x) × (x ≤ 256) → (0 < y) × (y ≤ 256) → y < x
+pub noted_before : (known : Context) (table : List ℕ) (x y : ℕ) → (0 < x) × (x ≤ LIMIT) → (0 < y) × (y ≤ LIMIT) → y < x
     → NotedUpto known table (place_of x y) → has_bit table (place_of y x) ≡ suits known.facts known.stand x y
 noted_before known table x y p q lt noted =
     noted_at known table (place_of x y) y x q p (omega arith) noted ∙ suits_sym known.facts known.stand y x
 
-pub suits_more : (known : Context) (old new : List ℕ) (x y : ℕ) → (0 < x) × (x ≤ 256) → (0 < y) × (y ≤ 256) → suits known.facts known.stand x y ≡ true
+pub suits_more : (known : Context) (old new : List ℕ) (x y : ℕ) → (0 < x) × (x ≤ LIMIT) → (0 < y) × (y ≤ LIMIT) → suits known.facts known.stand x y ≡ true
     → has_bit new (place_of x y) ≡ true → ((i : ℕ) → ¬ (i ≡ place_of x y) → has_bit new i ≡ has_bit old i)
     → NotedUpto known old (place_of x y) → NotedUpto known new (place_of x y + 1)
 suits_more known old new x y p q suit set others noted = set_more known old new (place_of x y) (at_place known x y p q ∙ suit) set others noted
 
-pub suits_not : (known : Context) (table : List ℕ) (x y : ℕ) → (0 < x) × (x ≤ 256) → (0 < y) × (y ≤ 256) → suits known.facts known.stand x y ≡ false
+pub suits_not : (known : Context) (table : List ℕ) (x y : ℕ) → (0 < x) × (x ≤ LIMIT) → (0 < y) × (y ≤ LIMIT) → suits known.facts known.stand x y ≡ false
     → NotedUpto known table (place_of x y) → NotedUpto known table (place_of x y + 1)
 suits_not known table x y p q suit noted =
     passed known table (place_of x y) (place_of x y + 1) (omega arith)
@@ -105,16 +106,16 @@ pub noted_same : (known : Context) (table : List ℕ) (from end : ℕ) → from 
 noted_same known table from end same noted = passed known table from end (omega arith) (λ i ge lt. absurd (omega arith)) noted
 
 -- what stands behind the last number of a row suits nobody
-pub row_end : (known : Context) (table : List ℕ) (x end : ℕ) → (0 < x) × (x ≤ 256) → length known.stand.seats ≤ 256
-    → length known.stand.seats ≤ end → end ≤ 256 → NotedUpto known table (place_of x 1 + end) → NotedUpto known table (256 * x)
+pub row_end : (known : Context) (table : List ℕ) (x end : ℕ) → (0 < x) × (x ≤ LIMIT) → length known.stand.seats ≤ LIMIT
+    → length known.stand.seats ≤ end → end ≤ LIMIT → NotedUpto known table (place_of x 1 + end) → NotedUpto known table (LIMIT * x)
 row_end known table x end p few all short noted =
-    passed known table (place_of x 1 + end) (256 * x) (omega arith)
-    (λ i ge lt. beyond_suits known.facts known.stand (i / 256 + 1) (i % 256 + 1) (omega arith)) noted
+    passed known table (place_of x 1 + end) (LIMIT * x) (omega arith)
+    (λ i ge lt. beyond_suits known.facts known.stand (i / LIMIT + 1) (i % LIMIT + 1) (omega arith)) noted
 
-pub knows_all : (known : Context) (table : List ℕ) → NotedUpto known table (256 * length known.stand.seats) → KnowsPairs known table
+pub knows_all : (known : Context) (table : List ℕ) → NotedUpto known table (LIMIT * length known.stand.seats) → KnowsPairs known table
 knows_all known table noted x y p q =
     elim (cases_lt (length known.stand.seats) x) [
-      | inl lt ↦ noted (place_of x y) ∙ (ap (λ t. t && suits_at known (place_of x y)) (le-ltb (place_of x y) (256 * length known.stand.seats) (omega arith))
+      | inl lt ↦ noted (place_of x y) ∙ (ap (λ t. t && suits_at known (place_of x y)) (le-ltb (place_of x y) (LIMIT * length known.stand.seats) (omega arith))
           ∙ sym (suits_sym known.facts known.stand x y ∙ beyond_suits known.facts known.stand y x lt))
-      | inr le ↦ noted_at known table (256 * length known.stand.seats) x y p q (omega arith) noted
+      | inr le ↦ noted_at known table (LIMIT * length known.stand.seats) x y p q (omega arith) noted
     ]

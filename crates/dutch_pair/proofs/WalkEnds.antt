@@ -28,6 +28,7 @@ use Rattle.dutch_pair.proofs.AllLemmas.{all_join}
 use Rattle.dutch_pair.proofs.CandidateSeats.{all_within}
 use Rattle.dutch_pair.proofs.DownLemmas.{down_numbers, down_few}
 use Rattle.dutch_pair.proofs.WalkLemmas.{Descends, is_above}
+use Rattle.dutch_order.specs.declared.numbers.TheConstants.{LIMIT}
 
 -- ---- what is chosen is an arrangement
 
@@ -303,7 +304,7 @@ module _ (facts : Facts) (stand : Stand) (lists : Arrangement) where
   left_is seats numbers left s e h =
       h ∙ (ap (λ (xs : List ℕ). map (seat_of xs) numbers) s ∙ ap (map (seat_of stand.seats)) e)
 
-  pub left_few : (lower left : List ℕ) → left ≡ downfloaters facts stand lists → length stand.seats + length lower ≤ 256 → length left + length lower ≤ 256
+  pub left_few : (lower left : List ℕ) → left ≡ downfloaters facts stand lists → length stand.seats + length lower ≤ LIMIT → length left + length lower ≤ LIMIT
   left_few lower left e few =
       let own : length (downfloaters facts stand lists) ≡ length (down (frame_of facts stand) lists) = length-map (down (frame_of facts stand) lists) (seat_of stand.seats) in
       let short = down_few facts stand lists in

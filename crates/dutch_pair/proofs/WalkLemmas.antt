@@ -14,11 +14,12 @@ use Rattle.dutch_pair.specs.Reached.{IsAbove}
 use Rattle.dutch_pair.specs.Round.{bracket, downfloaters}
 use Rattle.dutch_pair.specs.Walk.{AreRanked, AreAbove, Goes}
 use Rattle.dutch_pair.proofs.AllLemmas.{all_join}
+use Rattle.dutch_order.specs.declared.numbers.TheConstants.{LIMIT}
 
--- scores do not ascend along the seats of a field, of which there are at most 256
+-- scores do not ascend along the seats of a field, of which there are at most LIMIT
 pub record Descends (facts : Facts) : Type 0 where
   pub falls : (a b : ℕ) → a < b → b < length facts.seats → score_at facts b ≤ score_at facts a
-  pub few : length facts.seats ≤ 256
+  pub few : length facts.seats ≤ LIMIT
 
 all_front : (P : ℕ → Type 0) (xs ys : List ℕ) → AllByRecursion P (xs ++ ys) → AllByRecursion P xs
 all_front P [] ys h = tt
@@ -131,7 +132,7 @@ module _ (facts : Facts) where
         let seats : length (md ++ residents) ≡ length md + length residents = length-append md residents in
         let scores : length (map (score_at facts) (md ++ residents)) ≡ length (md ++ residents) = length-map (md ++ residents) (score_at facts) in
         let few : length ((md ++ residents) ++ lower) ≤ length facts.seats = few_ranked ((md ++ residents) ++ lower) all in
-        let most : length facts.seats ≤ 256 = descends.few in
+        let most : length facts.seats ≤ LIMIT = descends.few in
         record {
           bracket = record {
             inside = ranked_seats (md ++ residents) own;

@@ -19,6 +19,7 @@ use Rattle.dutch_pair.specs.PsdFloors.{psd_with}
 use Rattle.dutch_pair.specs.declared.outlook.Outlook.{Outlook}
 use Rattle.dutch_pair.specs.Outlooks.{IsOutlook, awaited}
 use Rattle.dutch_pair.specs.Floors.{floor_with}
+use Rattle.dutch_order.specs.declared.numbers.TheConstants.{LIMIT}
 
 -- a bracket of a field, the shape of its arrangements, and what the next bracket can be at best
 pub record Basis : Type 0 where
@@ -116,7 +117,7 @@ abbrev pub more_in : Bool → Facts → Stand → Shape → List (ℕ × ℕ) �
 more_in firm facts stand shape pairs =
     max (surplus_in (wish_of firm facts White) stand shape pairs) (surplus_in (wish_of firm facts Black) stand shape pairs)
 
--- lists of numbers of a bracket: of those who meet the second is not the longer one, and they make at most 256 pairs
+-- lists of numbers of a bracket: of those who meet the second is not the longer one, and they make at most LIMIT pairs
 pub record HasNumbers (stand : Stand) (lists : Arrangement) : Type 0 where
   pub s1 : AllNumbers stand.seats lists.s1
   pub s2 : AllNumbers stand.seats lists.s2
@@ -124,8 +125,8 @@ pub record HasNumbers (stand : Stand) (lists : Arrangement) : Type 0 where
   pub s2r : AllNumbers stand.seats lists.s2r
   pub moved_down : length lists.s2 ≤ length lists.s1
   pub residents : length lists.s2r ≤ length lists.s1r
-  pub few : length lists.s2 + length lists.s2r ≤ 256
-  pub few_first : length lists.s1r ≤ 256
+  pub few : length lists.s2 + length lists.s2r ≤ LIMIT
+  pub few_first : length lists.s1r ≤ LIMIT
 
 -- floors stand on this bracket and shape, and on an outlook that holds of it
 pub record IsBasis (facts : Facts) (stand : Stand) (lower : List ℕ) (shape : Shape) (basis : Basis) : Type 0 where

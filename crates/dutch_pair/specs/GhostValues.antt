@@ -10,6 +10,7 @@ use Rattle.dutch_pair.specs.Reached.{Stand}
 use Rattle.dutch_pair.specs.Seated.{seat_of, score_at}
 use Rattle.dutch_pair.specs.Shapes.{greatest_shape}
 use Rattle.dutch_pair.specs.Ghosts.{ghosts_meet, ghost_may_be_left, ghost_scores, ghost_frame, ghost_floor}
+use Rattle.dutch_order.specs.declared.numbers.TheConstants.{LIMIT}
 
 -- the scores of the moved-down players whom the first S1 of a shape leaves over
 abbrev pub first_limbo : Facts → Stand → Shape → List ℕ
@@ -31,7 +32,7 @@ floor_length ghosts residents pairs = ghosts + ((pairs - ghosts) + ((ghosts + re
 -- that floor, where a bracket can have so many differences; otherwise nothing is known of the PSD
 abbrev pub floor_held : List ℕ → ℕ → ℕ → ℕ → List ℕ
 floor_held ghosts s residents pairs =
-    if nat_lt 256 (floor_length (length ghosts) residents pairs) then [] else ghost_floor ghosts s residents pairs
+    if nat_lt LIMIT (floor_length (length ghosts) residents pairs) then [] else ghost_floor ghosts s residents pairs
 
 -- what the next bracket is worth with that shape and the floor
 abbrev pub value_with_floor : Facts → List ℕ → List ℕ → Option Shape → NextValue

@@ -14,6 +14,7 @@ use Rattle.dutch_pair.specs.Seated.{seat_of, score_at, by_seats, AreSeats, AllNu
 use Rattle.dutch_pair.specs.Reached.{Stand, frame_of, numbers_meet, number_may_be_left}
 use Rattle.dutch_pair.specs.Shapes.{greatest_shape}
 use Rattle.dutch_pair.specs.Quality.{Quality, NextValue, psd, quality_with}
+use Rattle.dutch_order.specs.declared.numbers.TheConstants.{LIMIT}
 
 -- a list of numbers before another: at the first difference its number is lower, or it has ended
 abbrev pub is_lower : List ℕ → List ℕ → Bool
@@ -83,11 +84,11 @@ pub record AreLeft (stand : Stand) (down : List ℕ) : Type 0 where
   pub numbers : AllNumbers stand.seats down
   pub ascend : IsStrictlyIncreasing down
 
--- the next lower scoregroup: seats with one score, below those of a bracket with which it has at most 256 players; below an ordinary
+-- the next lower scoregroup: seats with one score, below those of a bracket with which it has at most LIMIT players; below an ordinary
 -- bracket there is one
 pub record IsNext (facts : Facts) (stand : Stand) (next : List ℕ) : Type 0 where
   pub inside : AreSeats facts next
-  pub few : length stand.seats + length next ≤ 256
+  pub few : length stand.seats + length next ≤ LIMIT
   pub same : (i j : ℕ) → i < length next → j < length next → score_at facts (slice_index next i) ≡ score_at facts (slice_index next j)
   pub below : (i j : ℕ) → i < length stand.seats → j < length next → score_at facts (slice_index next j) < score_at facts (slice_index stand.seats i)
   pub there : stand.kind ≡ Ordinary → 0 < length next

@@ -6,6 +6,7 @@ use Rattle.dutch_pair.specs.declared.reached.Kind.TheVariants.{Ordinary, Last, P
 use Rattle.dutch_player.specs.Facts.{Facts, seat_at}
 use Rattle.dutch_player.specs.Meetings.{may_meet}
 use Rattle.dutch_pair.specs.Seated.{seat_of, score_at, AreSeats}
+use Rattle.dutch_order.specs.declared.numbers.TheConstants.{LIMIT}
 
 -- A.3: a bracket that is reached: its number, counted from 1, its kind, how many of its players were moved down, and the seats of its
 -- players by rank
@@ -48,11 +49,11 @@ pub record IsOf (facts : Facts) (stand : Stand) : Type 0 where
   pub inside : AreSeats facts stand.seats
   pub sound : IsBracket (frame_of facts stand).scores stand.mdps
 
--- a bracket of a field above some lower seats, with which it has at most 256: their scores are below those of the bracket, and below
+-- a bracket of a field above some lower seats, with which it has at most LIMIT: their scores are below those of the bracket, and below
 -- an ordinary one there is a seat
 pub record IsAbove (facts : Facts) (stand : Stand) (lower : List ℕ) : Type 0 where
   pub bracket : IsOf facts stand
   pub inside : AreSeats facts lower
-  pub few : length stand.seats + length lower ≤ 256
+  pub few : length stand.seats + length lower ≤ LIMIT
   pub below : (i j : ℕ) → i < length stand.seats → j < length lower → score_at facts (slice_index lower j) < score_at facts (slice_index stand.seats i)
   pub there : stand.kind ≡ Ordinary → 0 < length lower

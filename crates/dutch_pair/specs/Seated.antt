@@ -5,6 +5,7 @@ use Rattle.dutch_order.specs.Arrangements.{Arrangement}
 use Rattle.dutch_order.specs.Draws.{Draw}
 use Rattle.dutch_player.specs.Facts.{Facts, seat_at}
 use Rattle.dutch_pair.specs.declared.seated.Mover.{Mover}
+use Rattle.dutch_order.specs.declared.numbers.TheConstants.{LIMIT}
 
 -- the pairs of a candidate, its downfloaters, and the lowest score in its bracket
 pub record Seated : Type 0 where
@@ -96,18 +97,18 @@ AllPairs facts pairs = AllByRecursion (λ pair. (pair.0 < length facts.seats) ×
 abbrev pub AllMovers : Facts → List Mover → Type 0
 AllMovers facts movers = AllByRecursion (λ mover. mover.seat < length facts.seats) movers
 
--- a candidate of players of a field: pairs and downfloaters are at most 256
+-- a candidate of players of a field: pairs and downfloaters are at most LIMIT
 pub record HasSeats (facts : Facts) (candidate : Seated) : Type 0 where
   pub pairs : AllPairs facts candidate.pairs
   pub down : AreSeats facts candidate.down
-  pub few : length candidate.pairs + length candidate.down ≤ 256
+  pub few : length candidate.pairs + length candidate.down ≤ LIMIT
 
 -- numbers that a bracket with these seats has
 abbrev pub AllNumbers : List ℕ → List ℕ → Type 0
 AllNumbers seats numbers = AllByRecursion (λ number. (0 < number) × (number ≤ length seats)) numbers
 
 -- a candidate of a bracket with these seats: its numbers are the bracket's, the lists of those who meet have one length, and pairs
--- and downfloaters are at most 256
+-- and downfloaters are at most LIMIT
 pub record IsCandidate (seats : List ℕ) (draw : Draw) : Type 0 where
   pub moved_down : length draw.lists.s1 ≡ length draw.lists.s2
   pub residents : length draw.lists.s1r ≡ length draw.lists.s2r
@@ -116,4 +117,4 @@ pub record IsCandidate (seats : List ℕ) (draw : Draw) : Type 0 where
   pub s1r : AllNumbers seats draw.lists.s1r
   pub s2r : AllNumbers seats draw.lists.s2r
   pub down : AllNumbers seats draw.down
-  pub few : (length draw.lists.s1 + length draw.lists.s1r) + length draw.down ≤ 256
+  pub few : (length draw.lists.s1 + length draw.lists.s1r) + length draw.down ≤ LIMIT

@@ -55,7 +55,7 @@ fn are_above(field: &Field, seats: &[u16], score: u16) -> bool
     true
 }
 
-/// Whether seats are a next lower scoregroup of a bracket: of one score, below the bracket's, with which there are at most 256; below an
+/// Whether seats are a next lower scoregroup of a bracket: of one score, below the bracket's, with which there are at most `LIMIT`; below an
 /// ordinary bracket there is one.
 pub fn is_next(field: &Field, reached: &Reached, next: &[u16]) -> bool
     requires { IsOf field.now reached.now }

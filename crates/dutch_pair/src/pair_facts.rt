@@ -23,6 +23,7 @@ pub(crate) struct PairFacts<'a> {
 
 impl<'a> Model for PairFacts<'a> {
     ghost use Rattle.std.specs.Prelude.{◌≤◌, length};
+    ghost use Rattle.dutch_order.specs.declared.numbers.TheConstants.{LIMIT};
     ghost use Rattle.dutch_pair.specs.Context.{Context};
     ghost use Rattle.dutch_pair.specs.PairFacts.{KnowsPairs};
 
@@ -30,10 +31,10 @@ impl<'a> Model for PairFacts<'a> {
 
     ghost view = { λ p. p.context.now };
 
-    ghost invariant = { λ p. (KnowsPairs p.context.now p.suiting) × (length p.context.now.stand.seats ≤ 256) };
+    ghost invariant = { λ p. (KnowsPairs p.context.now p.suiting) × (length p.context.now.stand.seats ≤ LIMIT) };
 }
 
-/// Where the table has two numbers, which are 1 to 256.
+/// Where the table has two numbers, which are 1 to `LIMIT`.
 fn place_of(x: u16, y: u16) -> usize
     requires first { (0 < x) × (x ≤ LIMIT) }
     requires second { (0 < y) × (y ≤ LIMIT) }

@@ -6,13 +6,14 @@ use Rattle.dutch_pair.specs.Quality.{placed_all}
 use Rattle.dutch_pair.specs.Ghosts.{ghost_floor}
 use Rattle.dutch_pair.specs.GhostValues.{floor_length, floor_held}
 use Rattle.dutch_pair.proofs.Places.{placed_all_append}
+use Rattle.dutch_order.specs.declared.numbers.TheConstants.{LIMIT}
 use Rattle.dutch_pair.proofs.ghost_value.floor_held.Goals as goal
 
 held_is : (ghosts : List ℕ) (least residents pairs evens twos : ℕ) (all none first second : List ℕ) → evens ≡ pairs - length ghosts → twos ≡ (length ghosts + residents) - 2 * pairs
-    → length ghosts + (evens + twos) ≤ 256 → none ≡ [] → first ≡ placed_all none (map (λ x. x - least) ghosts) → second ≡ placed_all first (repeated 0 evens)
+    → length ghosts + (evens + twos) ≤ LIMIT → none ≡ [] → first ≡ placed_all none (map (λ x. x - least) ghosts) → second ≡ placed_all first (repeated 0 evens)
     → all ≡ placed_all second (repeated 2 twos) → all ≡ floor_held ghosts least residents pairs
 held_is ghosts least residents pairs evens twos all none first second e t few start one two three =
-    let room : nat_lt 256 (floor_length (length ghosts) residents pairs) ≡ false = (let le : floor_length (length ghosts) residents pairs ≤ 256 = omega (arith, few, e, t) in grind (arith, nat_tests)) in
+    let room : nat_lt LIMIT (floor_length (length ghosts) residents pairs) ≡ false = (let le : floor_length (length ghosts) residents pairs ≤ LIMIT = omega (arith, few, e, t) in grind (arith, nat_tests)) in
     let above : List ℕ = map (λ x. x - least) ghosts in
     three
     ∙ ap (λ xs. placed_all xs (repeated 2 twos)) (two ∙ ap (λ xs. placed_all xs (repeated 0 evens)) (one ∙ ap (λ xs. placed_all xs above) start))

@@ -1,4 +1,5 @@
 -- The law is the lemma on the brackets of a round, in a field whose scores do not ascend.
+use Rattle.std.proofs.Common.{arith}
 use Rattle.dutch_pair.specs.Lower.{lower_of}
 use Rattle.dutch_pair.proofs.ShapeLaws.{has_one, has_room}
 use Rattle.dutch_pair.proofs.StandsAbove.{bracket_stands}
@@ -7,7 +8,7 @@ use Rattle.dutch_pair.proofs.laws.a_bracket_stands_above_the_lower.Goals as goal
 pub returns : goal.returns
 returns c =
     let stands =
-    bracket_stands c.args.field.now (record { falls = c.scores_do_not_ascend.ensures.scores; few = c.scores_do_not_ascend.ensures.few }) c.args.number
+    bracket_stands c.args.field.now (record { falls = c.scores_do_not_ascend.ensures.scores; few = omega (arith, c.scores_do_not_ascend.ensures.few) }) c.args.number
     (record { bracket = c.args.reached.now; shape = c.args.shape }) c.requires in
     let lower = lower_of c.args.field.now c.args.reached.now in
     record {

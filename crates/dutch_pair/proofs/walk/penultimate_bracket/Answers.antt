@@ -1,5 +1,5 @@
 -- How the round ends with the penultimate bracket and the collapsed one, for each way in which the first is settled.
-use Rattle.std.proofs.Common.{◌+◌, ◌≤◌, length, sym, ap, ◌∙◌, subst}
+use Rattle.std.proofs.Common.{◌+◌, ◌≤◌, length, sym, ap, ◌∙◌, subst, arith}
 use Rattle.std.proofs.lemmas.Result.{IfOk-weaker}
 use Rattle.dutch_pair.specs.declared.reached.Kind.TheVariants.{Collapsed}
 use Rattle.dutch_pair.specs.Reached.{IsAbove, IsOf, Stand}
@@ -9,6 +9,7 @@ use Rattle.dutch_pair.specs.Eligible.{HasCandidate}
 use Rattle.dutch_pair.specs.Ends.{Ends}
 use Rattle.dutch_pair.proofs.WalkEnds.{settled, above_again, drawn, numbers_left, left_is, left_few, left_above, asked_again, goes_on_again}
 use Rattle.dutch_pair.proofs.NoDeadEnd.{collapsed_candidate, penultimate_candidate}
+use Rattle.dutch_order.specs.declared.numbers.TheConstants.{LIMIT}
 use Rattle.dutch_pair.proofs.walk.penultimate_bracket.Goals as goal
 
 pub new-context-requires : goal.new-context-requires
@@ -55,7 +56,7 @@ bracket-collapsed-requires c =
     let now = c.deref.result.now in
     let same = c.deref.ensures.0 ∙ left in
     left_few c.args.field.now r c.in-Chosen.candidate.lists c.args.lower.now now same
-    (subst (λ (s : Stand). length s.seats + length c.args.lower.now ≤ 256) (sym c.again-reached.ensures) c.requires.above.few)
+    (subst (λ (s : Stand). length s.seats + length c.args.lower.now ≤ LIMIT) (sym c.again-reached.ensures) c.requires.above.few)
 
 pub final_bracket-requires-clause-above : goal.final_bracket-requires-clause-above
 final_bracket-requires-clause-above c =
@@ -66,7 +67,7 @@ final_bracket-requires-clause-above c =
     let now = c.deref.result.now in
     let same = c.deref.ensures.0 ∙ left in
     left_above c.args.field.now c.args.limit c.args.asked c.args.reached c.args.lower.now c.args.pairs.items r c.bracket-collapsed.result c.in-Chosen.candidate.lists now
-    (c.number.result + 1) (record { falls = c.scores_do_not_ascend.ensures.scores; few = c.scores_do_not_ascend.ensures.few })
+    (c.number.result + 1) (record { falls = c.scores_do_not_ascend.ensures.scores; few = omega (arith, c.scores_do_not_ascend.ensures.few) })
     c.requires.goes c.again-reached.ensures same c.bracket-collapsed.ensures
 
 pub returns-in-Asked : goal.returns-in-Asked

@@ -11,12 +11,13 @@ use Rattle.dutch_pair.specs.Ends.{Ends, IsAhead, IsPaired, Turns}
 use Rattle.dutch_pair.proofs.WalkEnds.{paired_ending}
 use Rattle.dutch_pair.proofs.GroupWalk.{parted_by, rest_inside, moved_inside, few_parted, last_above, last_is, ordinary_above, ordinary_left, ordinary_is, everybody_goes, everybody_few, none_by_test, some_by_test, ends_first, goes_further, shrinks}
 use Rattle.dutch_pair.proofs.NoDeadEnd.{group_stands, last_candidate}
+use Rattle.dutch_order.specs.declared.numbers.TheConstants.{LIMIT}
 use Rattle.dutch_pair.proofs.walk.walk_on.Goals as goal
 
 pub loop-rest-init : goal.loop-rest-init
 loop-rest-init c =
     let facts = c.args.field.now in
-    let few : length facts.seats ≤ 256 = c.scores_do_not_ascend.ensures.few in
+    let few : length facts.seats ≤ LIMIT = omega (arith, c.scores_do_not_ascend.ensures.few) in
     let count : length c.args.all.now ≡ length facts.seats = everybody_few facts c.args.all.now c.requires.all in
     record {
       tells = λ ended h. ends_first facts c.args.budget.limit c.args.asked c.new-pairs.result.items c.new-moved_down.result.items c.args.all.now ended
@@ -50,7 +51,7 @@ bracket-last-requires c =
     let facts = c.args.field.now in
     let test = c.if-is_empty.ensures in
     let some : 0 < length c.loop-rest.rest.now = some_by_test c.loop-rest.rest.now test in
-    let parts = parted_by facts (record { falls = c.scores_do_not_ascend.ensures.scores; few = c.scores_do_not_ascend.ensures.few })
+    let parts = parted_by facts (record { falls = c.scores_do_not_ascend.ensures.scores; few = omega (arith, c.scores_do_not_ascend.ensures.few) })
     c.loop-rest.invariant.goes some c.split_first_group.ensures.whole c.split_first_group.ensures.first in
     few_parted facts parts c.deref.result.now c.deref.ensures.0
 
@@ -59,7 +60,7 @@ final_bracket-requires-clause-above c =
     let facts = c.args.field.now in
     let test = c.if-is_empty.ensures in
     let some : 0 < length c.loop-rest.rest.now = some_by_test c.loop-rest.rest.now test in
-    let parts = parted_by facts (record { falls = c.scores_do_not_ascend.ensures.scores; few = c.scores_do_not_ascend.ensures.few })
+    let parts = parted_by facts (record { falls = c.scores_do_not_ascend.ensures.scores; few = omega (arith, c.scores_do_not_ascend.ensures.few) })
     c.loop-rest.invariant.goes some c.split_first_group.ensures.whole c.split_first_group.ensures.first in
     let empty = c.if-is_empty-2.ensures in
     let none : c.split_first_group.result.1.now ≡ [] = none_by_test c.split_first_group.result.1.now empty in
@@ -70,7 +71,7 @@ returns-then-is_empty-2 c =
     let facts = c.args.field.now in
     let test = c.if-is_empty.ensures in
     let some : 0 < length c.loop-rest.rest.now = some_by_test c.loop-rest.rest.now test in
-    let parts = parted_by facts (record { falls = c.scores_do_not_ascend.ensures.scores; few = c.scores_do_not_ascend.ensures.few })
+    let parts = parted_by facts (record { falls = c.scores_do_not_ascend.ensures.scores; few = omega (arith, c.scores_do_not_ascend.ensures.few) })
     c.loop-rest.invariant.goes some c.split_first_group.ensures.whole c.split_first_group.ensures.first in
     let empty = c.if-is_empty-2.ensures in
     let none : c.split_first_group.result.1.now ≡ [] = none_by_test c.split_first_group.result.1.now empty in
@@ -90,7 +91,7 @@ bracket-reached-requires c =
     let facts = c.args.field.now in
     let test = c.if-is_empty.ensures in
     let some : 0 < length c.loop-rest.rest.now = some_by_test c.loop-rest.rest.now test in
-    let parts = parted_by facts (record { falls = c.scores_do_not_ascend.ensures.scores; few = c.scores_do_not_ascend.ensures.few })
+    let parts = parted_by facts (record { falls = c.scores_do_not_ascend.ensures.scores; few = omega (arith, c.scores_do_not_ascend.ensures.few) })
     c.loop-rest.invariant.goes some c.split_first_group.ensures.whole c.split_first_group.ensures.first in
     few_parted facts parts c.deref-in-loop-rest.result.now c.deref-in-loop-rest.ensures.0
 
@@ -99,7 +100,7 @@ ordinary_bracket-requires-clause-above c =
     let facts = c.args.field.now in
     let test = c.if-is_empty.ensures in
     let some : 0 < length c.loop-rest.rest.now = some_by_test c.loop-rest.rest.now test in
-    let parts = parted_by facts (record { falls = c.scores_do_not_ascend.ensures.scores; few = c.scores_do_not_ascend.ensures.few })
+    let parts = parted_by facts (record { falls = c.scores_do_not_ascend.ensures.scores; few = omega (arith, c.scores_do_not_ascend.ensures.few) })
     c.loop-rest.invariant.goes some c.split_first_group.ensures.whole c.split_first_group.ensures.first in
     let empty = c.if-is_empty-2.ensures in
     let there : 0 < length c.split_first_group.result.1.now = some_by_test c.split_first_group.result.1.now empty in
@@ -110,7 +111,7 @@ ordinary_bracket-requires-clause-goes c =
     let facts = c.args.field.now in
     let test = c.if-is_empty.ensures in
     let some : 0 < length c.loop-rest.rest.now = some_by_test c.loop-rest.rest.now test in
-    let parts = parted_by facts (record { falls = c.scores_do_not_ascend.ensures.scores; few = c.scores_do_not_ascend.ensures.few })
+    let parts = parted_by facts (record { falls = c.scores_do_not_ascend.ensures.scores; few = omega (arith, c.scores_do_not_ascend.ensures.few) })
     c.loop-rest.invariant.goes some c.split_first_group.ensures.whole c.split_first_group.ensures.first in
     ordinary_left facts parts c.loop-rest.number c.deref-in-loop-rest.result.now c.bracket-reached.result c.deref-in-loop-rest.ensures.0 c.bracket-reached.ensures
 
@@ -119,7 +120,7 @@ returns-in-Ended c =
     let facts = c.args.field.now in
     let test = c.if-is_empty.ensures in
     let some : 0 < length c.loop-rest.rest.now = some_by_test c.loop-rest.rest.now test in
-    let parts = parted_by facts (record { falls = c.scores_do_not_ascend.ensures.scores; few = c.scores_do_not_ascend.ensures.few })
+    let parts = parted_by facts (record { falls = c.scores_do_not_ascend.ensures.scores; few = omega (arith, c.scores_do_not_ascend.ensures.few) })
     c.loop-rest.invariant.goes some c.split_first_group.ensures.whole c.split_first_group.ensures.first in
     let empty = c.if-is_empty-2.ensures in
     let there : 0 < length c.split_first_group.result.1.now = some_by_test c.split_first_group.result.1.now empty in
@@ -139,7 +140,7 @@ loop-rest-smaller c =
     let facts = c.args.field.now in
     let test = c.if-is_empty.ensures in
     let some : 0 < length c.loop-rest.rest.now = some_by_test c.loop-rest.rest.now test in
-    let parts = parted_by facts (record { falls = c.scores_do_not_ascend.ensures.scores; few = c.scores_do_not_ascend.ensures.few })
+    let parts = parted_by facts (record { falls = c.scores_do_not_ascend.ensures.scores; few = omega (arith, c.scores_do_not_ascend.ensures.few) })
     c.loop-rest.invariant.goes some c.split_first_group.ensures.whole c.split_first_group.ensures.first in
     let count = parts.count in
     let more = parts.some in
@@ -150,7 +151,7 @@ loop-rest-preserved c =
     let facts = c.args.field.now in
     let test = c.if-is_empty.ensures in
     let some : 0 < length c.loop-rest.rest.now = some_by_test c.loop-rest.rest.now test in
-    let parts = parted_by facts (record { falls = c.scores_do_not_ascend.ensures.scores; few = c.scores_do_not_ascend.ensures.few })
+    let parts = parted_by facts (record { falls = c.scores_do_not_ascend.ensures.scores; few = omega (arith, c.scores_do_not_ascend.ensures.few) })
     c.loop-rest.invariant.goes some c.split_first_group.ensures.whole c.split_first_group.ensures.first in
     let empty = c.if-is_empty-2.ensures in
     let there : 0 < length c.split_first_group.result.1.now = some_by_test c.split_first_group.result.1.now empty in

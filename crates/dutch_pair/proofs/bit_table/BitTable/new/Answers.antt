@@ -3,4 +3,4 @@ use Rattle.dutch_pair.proofs.BitLemmas.{none_set}
 use Rattle.dutch_pair.proofs.bit_table.BitTable.new.Goals as goal
 
 pub returns : goal.returns
-returns c = none_set 1024
+returns c = none_set 16384
