@@ -2,7 +2,7 @@
 use Rattle.std.proofs.Common.{◌≡◌, ℕ, Bool, true, false, ◌&&◌, cond, if◌then◌else◌, List, [], ◌∷◌, ◌++◌, map, length, take, Some, refl, sym, ◌∙◌, ap, subst, inl, inr}
 use Rattle.std.specs.List.{filter, flat_map}
 use Rattle.std.proofs.lemmas.List.Elements.{filter-append}
-use Rattle.std.proofs.lemmas.Bool.{cases_Bool, true≢false, and_from}
+use Rattle.std.proofs.lemmas.Bool.{cases_Bool, true≢false, and_from, and_left}
 use Rattle.dutch_order.specs.declared.bracket.Shape.{Shape}
 use Rattle.dutch_order.specs.Choices.{tuples, subsets, all_meet, is_same, from_on, numbers_from}
 use Rattle.dutch_order.specs.Keys.{IsIn, sorted}
@@ -166,9 +166,6 @@ second-differs : (p q r : Bool) → q ≡ false → (p && (q && r)) ≡ false
 second-differs true q r h = ap (λ b. b && r) h
 second-differs false q r h = refl
 
-first-differs : (p q : Bool) → p ≡ false → (p && q) ≡ false
-first-differs p q h = ap (λ b. b && q) h
-
 module _ (frame : Frame) (shape : Shape) where
   -- the lists of a block's arrangements are those that were chosen
   pub chosen-s1r : (s1 s2 s1r : List ℕ) (b : Arrangement) → IsIn b (with_s2r frame shape s1 s2 s1r) → b.s1r ≡ s1r
@@ -314,7 +311,7 @@ module _ (frame : Frame) (shape : Shape) where
     -- S1
     s1-apart : (x : List ℕ) (b : Arrangement) → IsIn b (with_s2 frame shape x) → is_same x a.s1 ≡ false → is_same_arrangement b a ≡ false
     s1-apart x b m other =
-        first-differs (is_same b.s1 a.s1) (is_same b.s2 a.s2 && (is_same b.s1r a.s1r && is_same b.s2r a.s2r))
+        and_left (is_same b.s1 a.s1) (is_same b.s2 a.s2 && (is_same b.s1r a.s1r && is_same b.s2r a.s2r))
         (ap (λ s. is_same s a.s1) (chosen-s1 x b m) ∙ other)
 
     pub s1-behind : joined (s1_blocks meets (Some a) (remainder_pairs shape) (residents_of frame) (from_on a.s1 (limbo_exchanges (moved_down_scores frame) shape.mdps))) ≡ filter (pairs_meet meets) (behind a (arrangements frame shape))

@@ -12,6 +12,7 @@ use Rattle.dutch_order.proofs.Orders.{all_members, IsIn-append, IsIn-map, IsIn-f
 use Rattle.dutch_order.proofs.Sets.{sorted-in}
 use Rattle.dutch_order.proofs.Members.{filter-length, length-numbers}
 use Rattle.dutch_order.proofs.Lists.{filter-filter, filter-same}
+use Rattle.dutch_order.proofs.Skipping.{all-filter}
 
 -- a set of k members has k of them
 pub subsets-length : (xs : List ℕ) (k : ℕ) (set : List ℕ) → IsIn set (subsets xs k) → length set ≡ k
@@ -84,13 +85,6 @@ pub left-length : (ys xs : List ℕ) → IsStrictlyIncreasing ys → length ys �
 left-length ys xs rises = omega (arith, taken-length xs ys (Rises-from ys rises), filter-length (λ y. is_member y xs) ys)
 
 -- what holds of all members holds of those that pass a test, and of those from one on
-filtered-all : (P : List ℕ → Type 0) (q : List ℕ → Bool) (xs : List (List ℕ)) → AllByRecursion P xs → AllByRecursion P (filter q xs)
-filtered-all P q [] all = tt
-filtered-all P q (x ∷ xs) all =
-    elim (q x) as (λ b. AllByRecursion P (cond b (x ∷ filter q xs) (filter q xs))) [
-      | true ↦ (all.0, filtered-all P q xs all.1)
-      | false ↦ filtered-all P q xs all.1
-    ]
 
 pub from_on-all : (P : List ℕ → Type 0) (c : List ℕ) (xs : List (List ℕ)) → AllByRecursion P xs → AllByRecursion P (from_on c xs)
 from_on-all P c [] all = tt
@@ -109,12 +103,12 @@ tuples-leave s1 residents k rises enough =
 
 pub opponents-leave : (meets : ℕ → ℕ → Bool) (s1 residents : List ℕ) (k : ℕ) → IsStrictlyIncreasing residents → length s1 + k ≤ length residents → AllByRecursion (λ s2. k ≤ length (left_of residents s2)) (transpositions meets s1 residents)
 opponents-leave meets s1 residents k rises enough =
-    filtered-all (λ s2. k ≤ length (left_of residents s2)) (all_meet meets s1) (sorted tuple_key (tuples residents (length s1)))
+    all-filter (λ s2. k ≤ length (left_of residents s2)) (all_meet meets s1) (sorted tuple_key (tuples residents (length s1)))
     (tuples-leave s1 residents k rises enough)
 
 pub opponents-leave-from : (meets : ℕ → ℕ → Bool) (s1 residents s2 : List ℕ) (k : ℕ) → IsStrictlyIncreasing residents → length s1 + k ≤ length residents → AllByRecursion (λ s2. k ≤ length (left_of residents s2)) (filter (all_meet meets s1) (from_on s2 (sorted tuple_key (tuples residents (length s1)))))
 opponents-leave-from meets s1 residents s2 k rises enough =
-    filtered-all (λ s2. k ≤ length (left_of residents s2)) (all_meet meets s1) (from_on s2 (sorted tuple_key (tuples residents (length s1))))
+    all-filter (λ s2. k ≤ length (left_of residents s2)) (all_meet meets s1) (from_on s2 (sorted tuple_key (tuples residents (length s1))))
     (from_on-all (λ s2. k ≤ length (left_of residents s2)) s2 (sorted tuple_key (tuples residents (length s1)))
     (tuples-leave s1 residents k rises enough))
 
@@ -144,7 +138,7 @@ neither true b = refl
 neither false b = refl
 
 -- what is left of what is left
-member-append : (x : ℕ) (xs ys : List ℕ) → is_member x (xs ++ ys) ≡ (is_member x xs || is_member x ys)
+pub member-append : (x : ℕ) (xs ys : List ℕ) → is_member x (xs ++ ys) ≡ (is_member x xs || is_member x ys)
 member-append x [] ys = refl
 member-append x (y ∷ xs) ys = ap (λ b. eqb y x || b) (member-append x xs ys) ∙ or-assoc (eqb y x) (is_member x xs) (is_member x ys)
 

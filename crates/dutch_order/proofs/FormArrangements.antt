@@ -10,7 +10,8 @@ use Rattle.dutch_order.specs.Forms.{by_place, pairs_by_number, players_in, NoneT
 use Rattle.dutch_order.proofs.Orders.{all_members, IsIn-append, IsIn-front, IsIn-back}
 use Rattle.dutch_order.proofs.CursorSets.{AreLists, lists-are, numbers-within}
 use Rattle.dutch_order.proofs.CursorArrangements.{of-in, in-of, are-lists}
-use Rattle.dutch_order.proofs.NoneTwice.{different-twice, twice-different, rises-twice, twice-join, twice-front, twice-back, twice-apart, left-in, in-left, number-in, players-append, first-in, second-in, seconds-twice, halves-apart, firsts-rise, places-are, places-count, place-in, in-place, places-twice, places-all, places-ascend}
+use Rattle.dutch_order.proofs.NoneTwice.{different-twice, twice-different, rises-twice, twice-join, twice-front, twice-back, twice-apart, left-in, in-left, players-append, first-in, second-in, seconds-twice, halves-apart, firsts-rise, places-are, places-count, place-in, in-place, places-twice, places-all, places-ascend}
+use Rattle.dutch_order.proofs.FoundPaths.{in-numbers}
 
 -- the lists of an arrangement, as sets and tuples
 pub lists-in : (frame : Frame) (shape : Shape) (a : Arrangement) → frame.mdps ≤ length frame.scores → IsIn a (arrangements frame shape) → AreLists frame shape a
@@ -20,14 +21,14 @@ pub in-lists : (frame : Frame) (shape : Shape) (a : Arrangement) → frame.mdps 
 in-lists frame shape a within are = of-in frame shape a within (are-lists frame shape a are)
 
 pub moved_down-in : (frame : Frame) (z : ℕ) → IsMovedDown frame z → IsIn z (moved_down_of frame)
-moved_down-in frame z h = number-in z 1 frame.mdps (omega (arith, h.0)) (omega (arith, h.1))
+moved_down-in frame z h = in-numbers z 1 frame.mdps (omega (arith, h.0)) (omega (arith, h.1))
 
 pub in-moved_down : (frame : Frame) (z : ℕ) → IsIn z (moved_down_of frame) → IsMovedDown frame z
 in-moved_down frame z m = let h = numbers-within 1 frame.mdps z m in (omega (arith, h.0), omega (arith, h.1))
 
 pub resident-in : (frame : Frame) (z : ℕ) → IsResident frame z → IsIn z (residents_of frame)
 resident-in frame z h =
-    number-in z (frame.mdps + 1) (length frame.scores - frame.mdps) (omega (arith, h.0)) (omega (arith, h.0, h.1))
+    in-numbers z (frame.mdps + 1) (length frame.scores - frame.mdps) (omega (arith, h.0)) (omega (arith, h.0, h.1))
 
 pub in-residents : (frame : Frame) (z : ℕ) → frame.mdps ≤ length frame.scores → IsIn z (residents_of frame) → IsResident frame z
 in-residents frame z within m =

@@ -12,10 +12,6 @@ use Rattle.dutch_order.proofs.Found.{found, ahead-new}
 use Rattle.dutch_order.proofs.FoundPaths.{found-admitted, admitted-found, found-ascends}
 use Rattle.dutch_order.proofs.Orders.{is_before-lower, is_before-equal, is_before-asymmetric, Ascends-filter, Ascends-unique, IsIn-filter, filter-IsIn}
 
--- a search without such a path is as it was
-pub hinted-none : (plan : Plan) → hinted [] plan ≡ plan
-hinted-none plan = refl
-
 -- the number after a beginning of the path
 pub hint-on : (begun : List ℕ) (x : ℕ) (rest : List ℕ) → hint_after (begun ++ x ∷ rest) begun ≡ Some x
 hint-on [] x rest = refl

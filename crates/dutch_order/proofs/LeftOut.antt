@@ -10,11 +10,8 @@ use Rattle.dutch_order.specs.Walks.{IsSpent, NoneIdle}
 use Rattle.dutch_order.specs.declared.steps.Step.{Step}
 use Rattle.dutch_order.specs.declared.steps.Step.TheVariants.{Found, End, Undecided}
 use Rattle.dutch_order.proofs.Found.{hits-append}
-
--- what holds of each of two lists holds of both behind one another
-pub all-append : {T : Type 0} (P : T → Type 0) (xs ys : List T) → AllByRecursion P xs → AllByRecursion P ys → AllByRecursion P (xs ++ ys)
-all-append P [] ys all more = more
-all-append P (x ∷ xs) ys all more = (all.0, all-append P xs ys all.1 more)
+use Rattle.dutch_order.proofs.Skipping.{all-append}
+pub use Rattle.dutch_order.proofs.Skipping.{passes-none, passes-more}
 
 -- and of what follows from it
 pub all-each : {T : Type 0} (P Q : T → Type 0) → ((x : T) → P x → Q x) → (xs : List T) → AllByRecursion P xs → AllByRecursion Q xs
@@ -22,21 +19,10 @@ all-each P Q each [] all = tt
 all-each P Q each (x ∷ xs) all = (each x all.0, all-each P Q each xs all.1)
 
 module _ {T : Type 0} (Idle : T → Type 0) where
-  -- nothing is skipped
-  pub passes-none : (xs ys : List T) → xs ≡ ys → Passes Idle xs ys
-  passes-none xs ys same = ([], same, tt)
-
-  -- what skips and then skips more
-  pub passes-more : (xs ys zs : List T) → Passes Idle xs ys → Passes Idle ys zs → Passes Idle xs zs
-  passes-more xs ys zs (front, same, idle) (front', same', idle') = (
-    front ++ front',
-    same ∙ ap (λ rest. front ++ rest) same' ∙ sym (append_assoc front front' zs),
-    all-append Idle front front' idle idle',
-  )
 
   -- what is left may be named otherwise
   pub passes-same : (xs ys zs : List T) → Passes Idle xs ys → ys ≡ zs → Passes Idle xs zs
-  passes-same xs ys zs passes same = passes-more xs ys zs passes (passes-none ys zs same)
+  passes-same xs ys zs passes same = passes-more Idle xs ys zs passes (passes-none Idle ys zs same)
 
   none-left_out : NoneIdle Idle → (front : List T) → AllByRecursion Idle front → front ≡ []
   none-left_out none [] idle = refl

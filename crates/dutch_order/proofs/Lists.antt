@@ -44,10 +44,6 @@ map-numbers_from f (x ∷ xs) first reads =
     (map-numbers_from f xs (suc first)
     (λ j lt. let moved : suc first + j ≡ first + suc j = omega arith in ap f moved ∙ reads (suc j) (omega arith)))
 
-pub map-cond : {A B : Type 0} (f : A → B) (b : Bool) (xs : List A) → map f (cond b xs []) ≡ cond b (map f xs) []
-map-cond f true xs = refl
-map-cond f false xs = refl
-
 pub map-same : {A B : Type 0} (f g : A → B) (xs : List A) → ((x : A) → f x ≡ g x) → map f xs ≡ map g xs
 map-same f g [] same = refl
 map-same f g (x ∷ xs) same = ap (λ y. y ∷ map f xs) (same x) ∙ ap (λ rest. g x ∷ rest) (map-same f g xs same)

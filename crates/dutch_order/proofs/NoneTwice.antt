@@ -1,8 +1,8 @@
 -- Lists in which no number comes twice, and the players of pairs.
-use Rattle.std.proofs.Common.{◌≡◌, ℕ, zero, suc, ◌+◌, ◌<◌, ◌≤◌, true, not, List, [], ◌∷◌, ◌++◌, map, length, refl, sym, ap, ◌∙◌, arith, subst, inl, inr, ◌⊎◌}
+use Rattle.std.proofs.Common.{◌≡◌, ℕ, suc, ◌<◌, ◌≤◌, true, not, List, [], ◌∷◌, ◌++◌, map, length, refl, sym, ap, ◌∙◌, arith, subst, inl, inr, ◌⊎◌}
 use Rattle.std.specs.List.{AllByRecursion}
 use Rattle.std.proofs.lemmas.Bool.{cases_order, and_parts, and_from, not-true, not_from_false, false_from_ne_true, true≢false}
-use Rattle.dutch_order.specs.Choices.{is_member, numbers_from}
+use Rattle.dutch_order.specs.Choices.{is_member}
 use Rattle.dutch_order.specs.Keys.{IsIn}
 use Rattle.dutch_order.specs.Arrangements.{left_of}
 use Rattle.dutch_order.specs.Cursors.{are_different}
@@ -64,14 +64,6 @@ in-left z numbers taken m =
     let kept = kept-in (λ x. not (is_member x taken)) z numbers m in
     (kept.0, λ n. true≢false (sym (in-member z taken n) ∙ not-true (is_member z taken) kept.1))
 
-pub number-in : (z first count : ℕ) → first ≤ z → z < first + count → IsIn z (numbers_from first count)
-number-in z first zero from below = absurd (omega (arith, from, below))
-number-in z first (suc count) from below =
-    elim (le-cases first z from) [
-      | inl same ↦ inl (sym same)
-      | inr above ↦ inr (number-in z (suc first) count above (omega (arith, below)))
-    ]
-
 -- ---- the players of pairs
 
 pub players-append : (xs ys : List (ℕ × ℕ)) → players_in (xs ++ ys) ≡ players_in xs ++ players_in ys
@@ -87,13 +79,6 @@ pub second-in : (z : ℕ) (pairs : List (ℕ × ℕ)) → IsIn z (map (λ p. p.1
 second-in z [] m = absurd m
 second-in z (p ∷ pairs) (inl same) = inr (inl same)
 second-in z (p ∷ pairs) (inr m) = inr (inr (second-in z pairs m))
-
--- who plays is first or second in a pair
-pub player-of : (z : ℕ) (pairs : List (ℕ × ℕ)) → IsIn z (players_in pairs) → IsIn z (map (λ p. p.0) pairs) ⊎ IsIn z (map (λ p. p.1) pairs)
-player-of z [] m = absurd m
-player-of z (p ∷ pairs) (inl same) = inl (inl same)
-player-of z (p ∷ pairs) (inr (inl same)) = inr (inl same)
-player-of z (p ∷ pairs) (inr (inr m)) = elim (player-of z pairs m) [ inl front ↦ inl (inr front) | inr back ↦ inr (inr back) ]
 
 pub seconds-twice : (pairs : List (ℕ × ℕ)) → NoneTwice (players_in pairs) → NoneTwice (map (λ p. p.1) pairs)
 seconds-twice [] h = tt

@@ -46,7 +46,7 @@ flat_map-once f part (x ∷ xs) tells each once =
     let from = IsIn-flat_map f y xs n in
     once.0 (subst (λ z. IsIn z xs) (sym (tells from.0 y from.2) ∙ tells x y m) from.1))
 
-kept-is_in : {X : Type 0} (p : X → Bool) (x : X) (xs : List X) → IsIn x (filter p xs) → IsIn x xs
+pub kept-is_in : {X : Type 0} (p : X → Bool) (x : X) (xs : List X) → IsIn x (filter p xs) → IsIn x xs
 kept-is_in p x [] m = m
 kept-is_in p x (y ∷ ys) m =
     elim (cases_Bool (p y)) [

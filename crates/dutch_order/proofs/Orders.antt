@@ -6,6 +6,8 @@ use Rattle.std.proofs.lemmas.List.Kept.{AllPairs-from_increasing}
 use Rattle.std.proofs.lemmas.List.Elements.{recursion_from_All}
 use Rattle.std.proofs.lemmas.Bool.{ltb-true, lt-ltb, le-ltb, eq-eqb, eqb-true, or_cases, and_parts, or_left, cases_order, true≢false, cases_Bool}
 use Rattle.dutch_order.specs.Keys.{is_before, put, sorted, IsIn, Ascends}
+use Rattle.dutch_order.proofs.Skipping.{all-filter}
+pub use Rattle.dutch_order.proofs.Skipping.{all-members as all_members}
 
 -- lower numbers go first
 pub is_before-lower : (x y : ℕ) (xs ys : List ℕ) → x < y → is_before (x ∷ xs) (y ∷ ys) ≡ true
@@ -71,11 +73,6 @@ is_before-total (x ∷ xs) (y ∷ ys) =
       | inr (inl lower) ↦ inr (inl (is_before-lower x y xs ys lower))
       | inr (inr higher) ↦ inr (inr (is_before-lower y x ys xs higher))
     ]
-
--- members
-pub all_members : {X : Type 0} (P : X → Type 0) (xs : List X) → ((x : X) → IsIn x xs → P x) → AllByRecursion P xs
-all_members P [] each = tt
-all_members P (x ∷ xs) each = (each x (inl refl), all_members P xs (λ y m. each y (inr m)))
 
 pub member_has : {X : Type 0} (P : X → Type 0) (xs : List X) → AllByRecursion P xs → (x : X) → IsIn x xs → P x
 member_has P [] all x m = absurd m
@@ -214,19 +211,12 @@ Ascends-head x (first ∷ tuples') p = (
 )
 
 -- a filter of an ascending list ascends, and has the members that pass
-AllByRecursion-filtered : (P : List ℕ → Type 0) (p : List ℕ → Bool) (xs : List (List ℕ)) → AllByRecursion P xs → AllByRecursion P (filter p xs)
-AllByRecursion-filtered P p [] all = tt
-AllByRecursion-filtered P p (x ∷ xs) all =
-    elim (p x) as (λ b. AllByRecursion P (cond b (x ∷ filter p xs) (filter p xs))) [
-      | true ↦ (all.0, AllByRecursion-filtered P p xs all.1)
-      | false ↦ AllByRecursion-filtered P p xs all.1
-    ]
 
 pub Ascends-filter : (key : List ℕ → List ℕ) (p : List ℕ → Bool) (xs : List (List ℕ)) → Ascends key xs → Ascends key (filter p xs)
 Ascends-filter key p [] ascends = tt
 Ascends-filter key p (x ∷ xs) ascends =
     elim (p x) as (λ b. Ascends key (cond b (x ∷ filter p xs) (filter p xs))) [
-      | true ↦ (AllByRecursion-filtered (λ other. is_before (key x) (key other) ≡ true) p xs ascends.0, Ascends-filter key p xs ascends.1)
+      | true ↦ (all-filter (λ other. is_before (key x) (key other) ≡ true) p xs ascends.0, Ascends-filter key p xs ascends.1)
       | false ↦ Ascends-filter key p xs ascends.1
     ]
 

@@ -26,11 +26,6 @@ pub all-members : {T : Type 0} (P : T → Type 0) (xs : List T) → ((x : T) →
 all-members P [] each = tt {0}
 all-members P (x ∷ xs) each = (each x (inl refl), all-members P xs (λ y m. each y (inr m)))
 
--- where one fact follows from another
-pub all-weaker : {T : Type 0} (P Q : T → Type 0) (xs : List T) → ((x : T) → P x → Q x) → AllByRecursion P xs → AllByRecursion Q xs
-all-weaker P Q [] from all = tt {0}
-all-weaker P Q (x ∷ xs) from all = (from x all.0, all-weaker P Q xs from all.1)
-
 -- through a map
 pub all-map : {S T : Type 0} (P : S → Type 0) (Q : T → Type 0) (f : S → T) (xs : List S) → ((x : S) → P x → Q (f x)) → AllByRecursion P xs → AllByRecursion Q (map f xs)
 all-map P Q f [] from all = tt {0}

@@ -2,7 +2,7 @@
 -- interest changes nothing.
 use Rattle.std.proofs.Common.{◌≡◌, ℕ, Bool, true, false, not, ◌&&◌, ◌||◌, cond, List, [], ◌∷◌, ◌++◌, filter, Option, Some, None, refl, sym, ap, ◌∙◌}
 use Rattle.std.specs.List.{list_any, AllByRecursion}
-use Rattle.std.proofs.lemmas.Bool.{true≢false}
+use Rattle.std.proofs.lemmas.Bool.{true≢false, not-true, not-false, or_left, or_right, and_right}
 use Rattle.dutch_order.specs.Steps.{Passes}
 use Rattle.dutch_order.specs.declared.bracket.Shape.{Shape}
 use Rattle.dutch_order.specs.Arrangements.{Arrangement}
@@ -45,10 +45,7 @@ module _ {X : Type 0} (better : X → X → Bool) (order : IsOrder better) (near
   beaten_at : (x y : X) (rest : List X) (t : Bool) → near y ≡ t → near x ≡ false → (list_any near rest ≡ true → list_any (λ d. better d x) rest ≡ true)
       → (t || list_any near rest) ≡ true → (better y x || list_any (λ d. better d x) rest) ≡ true
   beaten_at x y rest true is h later some = ap (λ t. t || list_any (λ d. better d x) rest) (split y x is h)
-  beaten_at x y rest false is h later some = or_right (better y x) (list_any (λ d. better d x) rest) (later some) where
-    or_right : (p q : Bool) → q ≡ true → (p || q) ≡ true
-    or_right true q e = refl
-    or_right false q e = e
+  beaten_at x y rest false is h later some = or_right (better y x) (list_any (λ d. better d x) rest) (later some)
 
   -- and a far one by each near one
   beaten_far : (x : X) (ys : List X) → near x ≡ false → list_any near ys ≡ true → list_any (λ d. better d x) ys ≡ true
@@ -103,26 +100,6 @@ filter_always p [] = refl
 filter_always p (x ∷ xs) =
     ap (λ t. cond t (x ∷ filter (λ y. p y && true) xs) (filter (λ y. p y && true) xs)) (always (p x)) ∙ ap (λ ys. cond (p x) (x ∷ ys) ys) (filter_always p xs)
 
-never : (p : Bool) → (p && false) ≡ false
-never true = refl
-never false = refl
-
-was_false : (b : Bool) → not b ≡ true → b ≡ false
-was_false true h = sym h
-was_false false h = refl
-
-was_true : (b : Bool) → not b ≡ false → b ≡ true
-was_true true h = refl
-was_true false h = sym h
-
-or_first : (p q : Bool) → p ≡ true → (p || q) ≡ true
-or_first true q h = refl
-or_first false q h = absurd (true≢false (sym h))
-
-or_second : (p q : Bool) → q ≡ true → (p || q) ≡ true
-or_second true q h = refl
-or_second false q h = h
-
 quality_order : IsOrder is_better
 quality_order = order_of (λ (q : Quality). q) is_better irreflexive transitive total
 
@@ -131,7 +108,7 @@ module _ (facts : Facts) (stand : Stand) (lower : List ℕ) where
       → is_better_in facts stand lower x y ≡ true
   near_before_far None x y near far = absurd (true≢false far)
   near_before_far (Some aim) x y near far =
-      quality_order.between aim (quality_of facts stand lower x) (quality_of facts stand lower y) (was_true _ far) (was_false _ near)
+      quality_order.between aim (quality_of facts stand lower x) (quality_of facts stand lower y) (not-false _ far) (not-true _ near)
 
   -- what is chosen of those that an aim is not better than is chosen of all
   an_aim_serves : (aim : Option Quality) (fits : Arrangement → Bool) (xs : List Arrangement) (c : Arrangement)
@@ -157,14 +134,14 @@ module _ (facts : Facts) (stand : Stand) (lower : List ℕ) where
   beaten_passed aim None d rest h lost = absurd (true≢false (sym lost))
   beaten_passed aim (Some best) d rest h lost =
       worse_passed (is_better_in facts stand lower) (order_in facts stand lower) (is_sought facts stand lower aim) best.candidate.lists d rest
-      (ap (is_better (quality_of facts stand lower d)) (sym h.1) ∙ was_false _ lost)
+      (ap (is_better (quality_of facts stand lower d)) (sym h.1) ∙ not-true _ lost)
 
   idle_at : (aim : Option Quality) (kept : Option Best) (d : Arrangement) (rest : List Arrangement) (t : Bool) → beats aim (quality_of facts stand lower d) ≡ t
       → IsKept facts stand lower kept → (t || not (wins (quality_of facts stand lower d) kept)) ≡ true
       → best_yet facts stand lower aim kept (d ∷ rest) ≡ best_yet facts stand lower aim kept rest
   idle_at aim kept d rest true far h idle =
       unfit_passed (is_better_in facts stand lower) (order_in facts stand lower) (is_sought facts stand lower aim) (kept_lists kept) d rest
-      (ap (λ t. can_be_chosen facts stand lower d && not t) far ∙ never (can_be_chosen facts stand lower d))
+      (ap (λ t. can_be_chosen facts stand lower d && not t) far ∙ and_right (can_be_chosen facts stand lower d) false refl)
   idle_at aim kept d rest false near h idle = beaten_passed aim kept d rest h idle
 
   -- a candidate whose quality is of no interest is passed
@@ -194,7 +171,7 @@ beyond_aim (Some aim) floor q low won = quality_order.within aim q floor won low
 
 below_kept_at : (kept q floor : Quality) (t : Bool) → is_better q kept ≡ t → is_better q floor ≡ false → not (is_better floor kept) ≡ true → not t ≡ true
 below_kept_at kept q floor true won low lost =
-    absurd (true≢false (sym (quality_order.between q floor kept won low) ∙ was_false _ lost))
+    absurd (true≢false (sym (quality_order.between q floor kept won low) ∙ not-true _ lost))
 below_kept_at kept q floor false won low lost = refl
 
 below_kept : (kept : Option Best) (floor q : Quality) → is_better q floor ≡ false → not (wins floor kept) ≡ true → not (wins q kept) ≡ true
@@ -203,8 +180,8 @@ below_kept (Some best) floor q low lost = below_kept_at (quality_in best.quality
 
 idle_by : (aim : Option Quality) (kept : Option Best) (floor q : Quality) (t : Bool) → beats aim floor ≡ t → is_better q floor ≡ false
     → (t || not (wins floor kept)) ≡ true → is_idle aim kept q ≡ true
-idle_by aim kept floor q true won low idle = or_first _ (not (wins q kept)) (beyond_aim aim floor q low won)
-idle_by aim kept floor q false lost low idle = or_second (beats aim q) _ (below_kept kept floor q low idle)
+idle_by aim kept floor q true won low idle = or_left _ (not (wins q kept)) (beyond_aim aim floor q low won)
+idle_by aim kept floor q false lost low idle = or_right (beats aim q) _ (below_kept kept floor q low idle)
 
 -- a quality is of no interest where a floor is that it is not better than
 pub idle_floor : (aim : Option Quality) (kept : Option Best) (floor q : Quality) → is_better q floor ≡ false → is_idle aim kept floor ≡ true → is_idle aim kept q ≡ true

@@ -108,7 +108,7 @@ module _ (w : ℕ → ℕ) where
             omega (arith, ap (total w) kept, subset_whole xs (suc k) set rises.1 out)
       ]
 
-numbers_above : (low first count : ℕ) → low < first → AllByRecursion (λ y. low < y) (numbers_from first count)
+pub numbers_above : (low first count : ℕ) → low < first → AllByRecursion (λ y. low < y) (numbers_from first count)
 numbers_above low first zero h = tt
 numbers_above low first (suc count) h = (h, numbers_above low (suc first) count (omega arith))
 

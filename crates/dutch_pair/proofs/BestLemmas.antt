@@ -1,6 +1,6 @@
 -- One candidate more beside the best so far, and what is chosen in the end: it is of the bracket's shape.
-use Rattle.std.proofs.Common.{◌≡◌, ℕ, Bool, true, false, not, ◌&&◌, cond, List, [], ◌∷◌, Option, Some, None, is_some, inl, inr, refl, sym, ap, ◌∙◌, subst}
-use Rattle.std.proofs.lemmas.Bool.{or_parts}
+use Rattle.std.proofs.Common.{◌≡◌, ℕ, Bool, true, false, not, cond, List, [], ◌∷◌, Option, Some, None, is_some, inl, inr, refl, sym, ap, ◌∙◌, subst}
+use Rattle.std.proofs.lemmas.Bool.{or_parts, and_from, and_left, not-false}
 use Rattle.dutch_order.specs.declared.bracket.Shape.{Shape}
 use Rattle.dutch_order.specs.declared.steps.Step.{Step}
 use Rattle.dutch_order.specs.declared.steps.Step.TheVariants.{Found, End, Undecided}
@@ -60,18 +60,6 @@ module _ (facts : Facts) (stand : Stand) (lower : List ℕ) where
   pub order_in : IsOrder (is_better_in facts stand lower)
   order_in = order_of (quality_of facts stand lower) is_better irreflexive transitive total
 
-  both : (p q : Bool) → p ≡ true → q ≡ true → (p && q) ≡ true
-  both true q h g = g
-  both false q h g = h
-
-  neither : (p q : Bool) → p ≡ false → (p && q) ≡ false
-  neither true q h = let bad : true ≡ false = h in absurd (cc)
-  neither false q h = refl
-
-  won_of : (b : Bool) → not b ≡ false → b ≡ true
-  won_of true h = refl
-  won_of false h = let bad : true ≡ false = h in absurd (cc)
-
   near_of : (aim : Option Quality) (quality : Quality) (lists : Arrangement) → quality ≡ quality_of facts stand lower lists → beats aim quality ≡ false
       → is_near facts stand lower aim lists ≡ true
   near_of aim quality lists e far = ap (λ q. not (beats aim q)) (sym e) ∙ ap not far
@@ -83,21 +71,21 @@ module _ (facts : Facts) (stand : Stand) (lower : List ℕ) where
   winner_kept aim None best lists coming h same e won fit =
       let near = near_of aim (quality_in best.quality) lists e (or_parts _ _ won).0 in
       ap (λ (c : Arrangement). best_with (is_better_in facts stand lower) (is_sought facts stand lower aim) (Some c) coming) same
-      ∙ sym (first_kept (is_better_in facts stand lower) order_in (is_sought facts stand lower aim) lists coming (both _ _ fit near))
+      ∙ sym (first_kept (is_better_in facts stand lower) order_in (is_sought facts stand lower aim) lists coming (and_from _ _ fit near))
   winner_kept aim (Some other) best lists coming h same e won fit =
       let parts = or_parts (beats aim (quality_in best.quality)) (not (wins (quality_in best.quality) (Some other))) won in
       let near = near_of aim (quality_in best.quality) lists e parts.0 in
       ap (λ (c : Arrangement). best_with (is_better_in facts stand lower) (is_sought facts stand lower aim) (Some c) coming) same
-      ∙ sym (better_kept (is_better_in facts stand lower) order_in (is_sought facts stand lower aim) other.candidate.lists lists coming (both _ _ fit near)
+      ∙ sym (better_kept (is_better_in facts stand lower) order_in (is_sought facts stand lower aim) other.candidate.lists lists coming (and_from _ _ fit near)
       (ap (λ q. is_better q (quality_of facts stand lower other.candidate.lists)) (sym e) ∙ ap (is_better (quality_in best.quality)) (sym h.1)
-      ∙ won_of (is_better (quality_in best.quality) (quality_in other.quality)) parts.1))
+      ∙ not-false (is_better (quality_in best.quality) (quality_in other.quality)) parts.1))
 
   -- and one that cannot be chosen is passed
   pub unfit_is_passed : (aim : Option Quality) (kept : Option Best) (lists : Arrangement) (coming : List Arrangement) → can_be_chosen facts stand lower lists ≡ false
       → best_yet facts stand lower aim kept coming ≡ best_yet facts stand lower aim kept (lists ∷ coming)
   unfit_is_passed aim kept lists coming unfit =
       sym (unfit_passed (is_better_in facts stand lower) order_in (is_sought facts stand lower aim) (kept_lists kept) lists coming
-      (neither _ (is_near facts stand lower aim lists) unfit))
+      (and_left _ (is_near facts stand lower aim lists) unfit))
 
   -- behind the last one the one that is kept is chosen
   pub best_last : (aim : Option Quality) (kept : Option Best) (all : Option Arrangement) → all ≡ best_yet facts stand lower aim kept [] → all ≡ kept_lists kept

@@ -8,7 +8,7 @@ use Rattle.std.specs.declared.cmp.Ordering.TheVariants.{Less, Equal, Greater}
 use Rattle.std.specs.Ordering.{nat_cmp, is_lt, ordering_reverse}
 use Rattle.std.specs.Cmp.Lexicographic.{slice_cmp}
 use Rattle.std.proofs.lemmas.Cmp.{nat_list_cmp_total}
-use Rattle.std.proofs.lemmas.List.{map-append, length-map}
+use Rattle.std.proofs.lemmas.List.{map-append, length-map, nil_from_length}
 use Rattle.std.proofs.lemmas.Map.Lookups.{exact_bytes}
 use Rattle.dutch_order.specs.declared.bracket.Shape.{Shape}
 use Rattle.dutch_order.specs.Choices.{numbers_from, is_member}
@@ -79,10 +79,6 @@ psd_by_first facts stand lower shape a of' flat member =
       copies_append d (repeated 0 j) (repeated 2 left),
     ))
 
-none_of_nothing : (xs : List ℕ) → length xs ≡ 0 → xs ≡ []
-none_of_nothing [] e = refl
-none_of_nothing (x ∷ xs) e = absurd (omega (arith, e))
-
 -- numbers that climb and are as many as there is room for are all of them
 all_that_fit : (low bound : ℕ) (xs : List ℕ) → Climbs low bound xs → low + length xs ≡ bound → xs ≡ numbers_from low (length xs)
 all_that_fit low bound [] climbs full = refl
@@ -139,7 +135,7 @@ module _ (facts : Facts) (stand : Stand) (shape : Shape) (s : ℕ) where
   psd_of_any : (s1 : List ℕ) → IsUniform facts stand shape → Climbs 1 (1 + stand.mdps) s1 → length s1 ≡ shape.mdps
       → psd_with facts stand shape s s1 ≡ psd_with facts stand shape s (numbers_from 1 shape.mdps)
   psd_of_any s1 (inl none) climbs counted =
-      ap (psd_with facts stand shape s) (none_of_nothing s1 (counted ∙ none) ∙ sym (ap (numbers_from 1) none))
+      ap (psd_with facts stand shape s) (nil_from_length s1 (counted ∙ none) ∙ sym (ap (numbers_from 1) none))
   psd_of_any s1 (inr (inl all)) climbs counted =
       ap (psd_with facts stand shape s) (all_that_fit 1 (1 + stand.mdps) s1 climbs (omega (arith, counted, all)) ∙ ap (numbers_from 1) counted)
   psd_of_any s1 (inr (inr same)) climbs counted =

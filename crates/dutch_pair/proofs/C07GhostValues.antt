@@ -1,9 +1,9 @@
 -- No arrangement that leaves the Limbo of the first S1 has a better value of the next bracket than ghosts find (C.04.3 C.7); and in a
 -- bracket where all S1 leave the same scores, all arrangements do.
-use Rattle.std.proofs.Common.{◌≡◌, ℕ, ◌+◌, ◌-◌, ◌<◌, ◌≤◌, not, nat_lt, cond, List, [], ◌∷◌, map, filter, length, inl, inr, Option, Some, None, refl, sym, ap, ◌∙◌, arith, subst}
+use Rattle.std.proofs.Common.{◌≡◌, ℕ, ◌+◌, ◌-◌, ◌<◌, ◌≤◌, not, nat_lt, cond, List, [], map, filter, length, inl, inr, Option, Some, None, refl, sym, ap, ◌∙◌, arith, subst}
 use Rattle.std.specs.Prelude.{slice_index}
 use Rattle.std.specs.List.{AllByRecursion}
-use Rattle.std.proofs.lemmas.List.{length-map}
+use Rattle.std.proofs.lemmas.List.{length-map, nil_from_length}
 use Rattle.dutch_order.specs.declared.bracket.Shape.{Shape}
 use Rattle.dutch_order.specs.Choices.{numbers_from, is_member}
 use Rattle.dutch_order.specs.Keys.{IsIn}
@@ -39,10 +39,6 @@ held value ghosts s residents pairs h =
           subst (λ t. IsNotBetter value pairs (cond t [] (ghost_floor ghosts s residents pairs))) (sym on) (without_psd value pairs (ghost_floor ghosts s residents pairs) h)
       | inr off ↦ subst (λ t. IsNotBetter value pairs (cond t [] (ghost_floor ghosts s residents pairs))) (sym off) h
     ]
-
-nothing : (xs : List ℕ) → length xs ≡ 0 → xs ≡ []
-nothing [] e = refl
-nothing (x ∷ xs) e = absurd (omega (arith, e))
 
 module _ (facts : Facts) (stand : Stand) (of' : IsOf facts stand) (flat : IsFlat facts stand) (shape : Shape) (a : Arrangement) (m : IsIn a (arrangements (frame_of facts stand) shape)) where
   -- no value of the next bracket is better than what ghosts find
@@ -82,12 +78,12 @@ module _ (facts : Facts) (stand : Stand) (of' : IsOf facts stand) (flat : IsFlat
       omega (arith, all, found, length-numbers 1 q, parts.s1_count)) in
       elim uniform [
         | inl none ↦
-            let empty : a.s1 ≡ [] = nothing a.s1 (omega (arith, parts.s1_count, none)) in
+            let empty : a.s1 ≡ [] = nil_from_length a.s1 (omega (arith, parts.s1_count, none)) in
             ap (λ xs. map f (left_of low xs)) empty ∙ ap (map f) (filter-all low) ∙ ap (λ k. map f (numbers_from 1 k)) (let e : q ≡ q - 0 = omega arith in e)
             ∙ ap (λ k. map f (numbers_from (k + 1) (q - k))) (sym none)
         | inr (inl all) ↦
-            ap (map f) (nothing limbo (omega (arith, many, all)))
-            ∙ ap (map f) (sym (nothing first (let e = length-numbers (shape.mdps + 1) (q - shape.mdps) in omega (arith, e, all))))
+            ap (map f) (nil_from_length limbo (omega (arith, many, all)))
+            ∙ ap (map f) (sym (nil_from_length first (let e = length-numbers (shape.mdps + 1) (q - shape.mdps) in omega (arith, e, all))))
         | inr (inr same) ↦
             let P : ℕ → Type 0 = λ i. (0 < i) × (i ≤ q) in
             let in_low : AllByRecursion P low = numbers_within 0 1 q q (omega arith) (omega arith) in

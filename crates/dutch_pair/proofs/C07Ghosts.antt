@@ -127,9 +127,6 @@ pub all_same : (P : ℕ → Type 0) (f : ℕ → ℕ) (s : ℕ) → ((i : ℕ) �
 all_same P f s each [] all = refl
 all_same P f s each (x ∷ xs) all = ap (λ y. y ∷ map f xs) (each x all.0) ∙ ap (λ ys. s ∷ ys) (all_same P f s each xs all.1)
 
-sides : (i k : ℕ) → (i ≤ k) ⊎ (k < i)
-sides i k = grind arith
-
 -- the most pairs of ghosts in a bracket of these scores
 abbrev most_of : Facts → List ℕ → List ℕ → ℕ → List ℕ → Option Shape
 most_of facts seats next k scores =

@@ -1,7 +1,7 @@
 -- What the next bracket can be at best, whatever arrangement is chosen (C.04.3 C.7): no more pairs than half of its players are, and no
 -- better value than ghosts find, where the arrangement leaves the Limbo that they stand for.
-use Rattle.std.proofs.Common.{◌≡◌, ℕ, ◌+◌, ◌-◌, ◌*◌, ◌/◌, ◌<◌, ◌≤◌, Bool, true, false, ◌||◌, ◌==◌, nat_lt, List, [], ◌++◌, length, Option, Some, None, refl, sym, ap, subst, ◌∙◌, ◌⊎◌, inl, inr, arith}
-use Rattle.std.proofs.lemmas.Bool.{and_parts, eqb-true, ltb-true}
+use Rattle.std.proofs.Common.{◌≡◌, ℕ, ◌+◌, ◌-◌, ◌*◌, ◌/◌, ◌<◌, ◌≤◌, Bool, true, false, ◌||◌, ◌==◌, nat_lt, List, [], ◌++◌, length, Option, Some, None, refl, sym, ap, subst, ◌∙◌, inl, inr, arith}
+use Rattle.std.proofs.lemmas.Bool.{and_parts, eqb-true, ltb-true, or_cases}
 use Rattle.std.proofs.lemmas.List.{length-map, length-append}
 use Rattle.dutch_order.specs.declared.bracket.Shape.{Shape}
 use Rattle.dutch_order.specs.declared.prefix.Filling.{Filling}
@@ -53,14 +53,10 @@ flat_residents facts stand of' h =
     flat_by_ends facts stand of' (ltb-true stand.mdps (length stand.seats) parts.0)
     (eqb-true (residents_score facts stand) (score_at facts (seat_of stand.seats (length stand.seats))) parts.1)
 
-or_split : (x y : Bool) → (x || y) ≡ true → (x ≡ true) ⊎ (y ≡ true)
-or_split true y h = inl refl
-or_split false y h = inr h
-
 pub uniform_of : (facts : Facts) (stand : Stand) (shape : Shape) → IsOf facts stand → is_uniform facts stand shape ≡ true → IsUniform facts stand shape
-uniform_of facts stand shape of' h = elim (or_split (shape.mdps == 0) _ h) [
+uniform_of facts stand shape of' h = elim (or_cases (shape.mdps == 0) _ h) [
   | inl none ↦ inl (eqb-true shape.mdps 0 none)
-  | inr others ↦ elim (or_split (shape.mdps == stand.mdps) _ others) [
+  | inr others ↦ elim (or_cases (shape.mdps == stand.mdps) _ others) [
     | inl all ↦ inr (inl (eqb-true shape.mdps stand.mdps all))
     | inr one ↦ uniform_by_ends facts stand shape of' (eqb-true (score_at facts (seat_of stand.seats 1)) (score_at facts (seat_of stand.seats stand.mdps)) one)
   ]

@@ -5,10 +5,9 @@
 -- them stand at the difference e in the floor. For e from 3 on the arrangement has h (e - 2) copies of e where the floor has h e. So if
 -- both agree above some d from 3 on, then h is zero from d - 1 on, since it is zero far out; and at d the arrangement has no fewer copies. If both agree
 -- above 2, nobody is left over at all, and the two lists are the same.
-use Rattle.std.proofs.Common.{◌≡◌, ℕ, zero, suc, ◌+◌, ◌-◌, ◌*◌, ◌<◌, ◌≤◌, false, not, eqb, List, [], ◌∷◌, ◌++◌, map, filter, length, ◌⊎◌, inl, inr, refl, sym, ap, ◌∙◌, arith}
+use Rattle.std.proofs.Common.{◌≡◌, ℕ, zero, suc, ◌+◌, ◌-◌, ◌*◌, ◌<◌, ◌≤◌, false, not, eqb, List, [], ◌∷◌, ◌++◌, map, filter, length, ◌⊎◌, inl, inr, refl, ap, ◌∙◌, arith}
 use Rattle.std.specs.List.{AllByRecursion}
 use Rattle.std.proofs.lemmas.Bool.{ne_eqb, eq-eqb}
-use Rattle.std.proofs.lemmas.Bool.Decides.{nat_tests}
 use Rattle.std.proofs.lemmas.List.{length-map}
 use Rattle.dutch_order.specs.declared.bracket.Shape.{Shape}
 use Rattle.dutch_order.specs.Choices.{numbers_from, is_member}
@@ -26,6 +25,7 @@ use Rattle.dutch_pair.proofs.AllLemmas.{all_filter}
 use Rattle.dutch_pair.proofs.Copies.{copies, copies_append, Lower, not_lower, highest_first_falls, highest_first_copies}
 use Rattle.dutch_pair.proofs.FlatBrackets.{one_score_of}
 use Rattle.dutch_pair.proofs.PsdParts.{OneScore, psd_copies, copies_shared}
+use Rattle.dutch_pair.proofs.LeastPsd.{two_more, lower_by}
 
 -- what is the same two further on is zero, if it is so far out
 vanish : (h : ℕ → ℕ) (bound start : ℕ) → ((e : ℕ) → bound ≤ e → h e ≡ 0) → ((e : ℕ) → start ≤ e → h e ≡ h (e + 2))
@@ -53,23 +53,6 @@ nobody_there (x ∷ xs) none = absurd (let e = none x in let one : one_if (eqb x
 copies_other : (d x n : ℕ) → ((x ≡ d) → ⊥) → copies d (repeated x n) ≡ 0
 copies_other d x zero ne = refl
 copies_other d x (suc n) ne = let off : one_if (eqb x d) ≡ 0 = ap one_if (ne_eqb x d ne) in omega (arith, off, copies_other d x n ne)
-
-copies_itself : (x n : ℕ) → copies x (repeated x n) ≡ n
-copies_itself x zero = refl
-copies_itself x (suc n) = let on : one_if (eqb x x) ≡ 1 = ap one_if (eq-eqb x x refl) in omega (arith, on, copies_itself x n)
-
--- a difference two more
-two_more : (d : ℕ) (f : ℕ → ℕ) (xs : List ℕ) → copies d (map f xs) ≡ copies (d + 2) (map (λ i. f i + 2) xs)
-two_more d f [] = refl
-two_more d f (x ∷ xs) =
-    let first : one_if (eqb (f x) d) ≡ one_if (eqb (f x + 2) (d + 2)) = ap one_if (let e : eqb (f x) d ≡ eqb (f x + 2) (d + 2) = grind (arith, nat_tests) in e) in
-    omega (arith, first, two_more d f xs)
-
-low_none : (d : ℕ) (f : ℕ → ℕ) (xs : List ℕ) → d < 2 → copies d (map (λ i. f i + 2) xs) ≡ 0
-low_none d f [] h = refl
-low_none d f (x ∷ xs) h =
-    let off : one_if (eqb (f x + 2) d) ≡ 0 = ap one_if (ne_eqb (f x + 2) d (λ e. omega (arith, h, e))) in
-    omega (arith, off, low_none d f xs h)
 
 zero_or_more : (e : ℕ) (h : ℕ → ℕ) → h 0 ≡ 0 → ((e : ℕ) → 1 ≤ e → h e ≡ 0) → h e ≡ 0
 zero_or_more zero h first later = first
@@ -105,11 +88,6 @@ lower_than c h l t u j r evens twos bound whole more none tail nobody zs ts d ab
           let w : copies d (repeated 2 twos) ≡ 0 = copies_other d 2 twos (λ same. omega (arith, same, high)) in
           omega (arith, z, w, whole d, gone)
     ]
-
-lower_by : (f g f' g' : ℕ → ℕ) → ((d : ℕ) → f d ≡ f' d) → ((d : ℕ) → g d ≡ g' d) → Lower f' g' → Lower f g
-lower_by f g f' g' p q lower d above =
-    let h : f' d ≤ g' d = lower d (λ e lt. sym (p e) ∙ above e lt ∙ q e) in
-    omega (arith, h, p d, q d)
 
 -- no moved-down player has the score of the residents
 none_even : (score : ℕ → ℕ) (s q : ℕ) → ((i : ℕ) → 0 < i → i ≤ q → s < score i) → (xs : List ℕ) → AllByRecursion (λ i. (0 < i) × (i ≤ q)) xs → copies 0 (map (λ i. score i - s) xs) ≡ 0

@@ -17,7 +17,7 @@ use Rattle.dutch_pair.specs.declared.colours_missed.Miss.TheVariants.{Wide, Thir
 use Rattle.dutch_pair.specs.Beginnings.{HasPairsOf, fixed}
 use Rattle.dutch_pair.specs.Floors.{NotBelow}
 use Rattle.dutch_pair.specs.NextBracket.{is_lower}
-use Rattle.dutch_pair.specs.Quality.{again, count_in, count_in_pairs, count_with_topscorers, differences, has_topscorer, highest_first, misses}
+use Rattle.dutch_pair.specs.Quality.{again, count_in, count_with_topscorers, differences, has_topscorer, highest_first, misses}
 use Rattle.dutch_pair.specs.Reached.{Stand, frame_of}
 use Rattle.dutch_pair.specs.Round.{quality_of}
 use Rattle.dutch_pair.specs.Seated.{Seated, by_seats, floats_down, goes_down, goes_up, going_down, going_up, is_uneven}
@@ -30,9 +30,6 @@ more_copies xs ys more =
     not_lower (highest_first xs) (highest_first ys) (highest_first_falls xs) (highest_first_falls ys)
     (λ d above. omega (arith, more d, highest_first_copies d xs, highest_first_copies d ys))
 
-pub pairs_add_up : (facts : Facts) (holds : SeatFacts → Colour → Bool) → AddsUp (count_in_pairs facts holds)
-pairs_add_up facts holds xs ys = sum_by-append (count_in facts holds) xs ys
-
 pub with_topscorers_add_up : (facts : Facts) (holds : SeatFacts → Colour → Bool) → AddsUp (count_with_topscorers facts holds)
 with_topscorers_add_up facts holds xs ys =
     ap (sum_by (count_in facts holds)) (filter-append (has_topscorer facts) xs ys)
@@ -44,9 +41,6 @@ filtered_add_up f test adds xs ys = ap f (filter-append test xs ys) ∙ adds (fi
 
 mapped_add_up : {X Y : Type 0} (f : List Y → ℕ) (made : X → Y) → AddsUp f → AddsUp (λ xs. f (map made xs))
 mapped_add_up f made adds xs ys = ap f (map-append made xs ys) ∙ adds (map made xs) (map made ys)
-
-lengths_add_up : {X : Type 0} → AddsUp (λ (xs : List X). length xs)
-lengths_add_up xs ys = length-append xs ys
 
 -- what adds up over a list is nothing for none
 none_of_none : {X : Type 0} (f : List X → ℕ) → AddsUp f → f [] ≡ 0

@@ -26,7 +26,7 @@ module _ (p : ℕ → Bool) where
   kept_few first zero = omega arith
   kept_few first (suc count) = fewer_at first (filter p (numbers_from (suc first) count)) count (p first) (kept_few (suc first) count)
 
-players : (facts : Facts) (stand : Stand) → length (frame_of facts stand).scores ≡ length stand.seats
+pub players : (facts : Facts) (stand : Stand) → length (frame_of facts stand).scores ≡ length stand.seats
 players facts stand = length-map stand.seats (score_at facts)
 
 pub down_numbers : (facts : Facts) (stand : Stand) (lists : Arrangement) → AllNumbers stand.seats (down (frame_of facts stand) lists)

@@ -12,6 +12,7 @@ use Rattle.dutch_order.specs.Keys.{IsIn}
 use Rattle.dutch_order.proofs.CursorSets.{numbers-within}
 use Rattle.dutch_order.proofs.NoneTwice.{in-left, rises-twice}
 use Rattle.dutch_order.proofs.Orders.{IsIn-map, Rises-filter}
+use Rattle.dutch_order.proofs.Lists.{filter-all}
 use Rattle.dutch_player.specs.Facts.{Facts}
 use Rattle.dutch_player.specs.Meetings.{may_meet}
 use Rattle.dutch_pair.specs.declared.reached.Kind.{Kind}
@@ -49,16 +50,12 @@ of_kept p a (b ∷ all) (inr m) e =
 
 -- ---- what is chosen
 
-filter_all : {X : Type 0} (xs : List X) → filter (λ x. true) xs ≡ xs
-filter_all [] = refl
-filter_all (x ∷ xs) = ap (λ ys. x ∷ ys) (filter_all xs)
-
 module _ (facts : Facts) (stand : Stand) (lower : List ℕ) where
   -- elsewhere than in the penultimate bracket all candidates can be chosen
   pub eligible_all : (shape : Shape) → is_penultimate stand.kind ≡ false → eligible facts stand lower shape ≡ candidates_of facts stand shape
   eligible_all shape e =
       ap (λ t. filter (λ lists. not t || completable facts (downfloaters facts stand lists ++ lower)) (candidates_of facts stand shape)) e
-      ∙ filter_all (candidates_of facts stand shape)
+      ∙ filter-all (candidates_of facts stand shape)
 
   -- in it those that leave players who can be paired out with the lower ones
   pub eligible_some : (shape : Shape) → is_penultimate stand.kind ≡ true

@@ -1,7 +1,8 @@
 -- Brackets whose residents have one score, and the candidates of a bracket.
 use Rattle.std.proofs.Common.{◌≡◌, ℕ, zero, suc, ◌+◌, ◌-◌, ◌<◌, ◌≤◌, min, List, [], ◌∷◌, length, get_or, ◌⊎◌, inl, inr, refl, sym, ap, ◌∙◌, subst, arith, length-append}
 use Rattle.std.specs.Prelude.{filter, slice_index, Some}
-use Rattle.std.proofs.lemmas.List.{length-map, get_or-map}
+use Rattle.std.proofs.lemmas.List.{get_or-map}
+use Rattle.std.proofs.lemmas.Bool.{cases_lt}
 use Rattle.dutch_order.specs.declared.bracket.Shape.{Shape}
 use Rattle.dutch_order.specs.Choices.{numbers_from, is_member}
 use Rattle.dutch_order.specs.Keys.{IsIn}
@@ -18,12 +19,9 @@ use Rattle.dutch_pair.specs.Shapes.{IsFirst, greatest_shape}
 use Rattle.dutch_pair.specs.NextBracket.{legal_in, psd_in, value_of_shape, IsFlat}
 use Rattle.dutch_pair.proofs.ArrangementParts.{parts_of, Residents}
 use Rattle.dutch_pair.proofs.PsdParts.{OneScore, down_parts}
-use Rattle.dutch_pair.proofs.DownLemmas.{down_numbers}
+use Rattle.dutch_pair.proofs.DownLemmas.{players, down_numbers}
 use Rattle.dutch_pair.proofs.LeastPsd.{Descends, first_is_least, in_filter}
 use Rattle.dutch_order.specs.declared.numbers.TheConstants.{LIMIT}
-
-players : (facts : Facts) (stand : Stand) → length (frame_of facts stand).scores ≡ length stand.seats
-players facts stand = length-map stand.seats (score_at facts)
 
 seat_score : (facts : Facts) (stand : Stand) (i : ℕ) → i < length stand.seats → slice_index (frame_of facts stand).scores i ≡ score_at facts (get_or stand.seats i 0)
 seat_score facts stand i h = get_or-map (score_at facts) stand.seats i 0 0 h
@@ -124,9 +122,6 @@ lowest_of facts s [] k h each e = absurd (omega arith)
 lowest_of facts s (seat ∷ seats) zero h each e = lowest_is facts s (score_at facts seat) seats (each 0 (omega arith)) (λ i lt. each (suc i) (omega arith)) (inl e)
 lowest_of facts s (seat ∷ seats) (suc k) h each e = lowest_is facts s (score_at facts seat) seats (each 0 (omega arith)) (λ i lt. each (suc i) (omega arith)) (inr (k, omega arith, e))
 
-two_kinds : (i q : ℕ) → (i < q) ⊎ (q ≤ i)
-two_kinds i q = grind arith
-
 pub one_score_of : (facts : Facts) (stand : Stand) → IsOf facts stand → IsFlat facts stand → OneScore facts stand (score_at facts (seat_of stand.seats (stand.mdps + 1)))
 one_score_of facts stand of' flat =
     let s : ℕ = score_at facts (seat_of stand.seats (stand.mdps + 1)) in
@@ -144,7 +139,7 @@ one_score_of facts stand of' flat =
       least = lowest_of facts s stand.seats q resident
           (λ i lt.
           let back : score_at facts (seat_of stand.seats (i + 1)) ≡ score_at facts (get_or stand.seats i 0) = ap (λ k. score_at facts (get_or stand.seats k 0)) (let e : (i + 1) - 1 ≡ i = omega arith in e) in
-          elim (two_kinds i q) [
+          elim (cases_lt i q) [
             | inl h ↦ let up = higher (i + 1) (omega arith) (omega arith) in omega (arith, up, back)
             | inr h ↦ let level = flat.same (i + 1) (omega arith) (omega arith) in omega (arith, level, back)
           ])

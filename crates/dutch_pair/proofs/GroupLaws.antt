@@ -2,13 +2,11 @@
 use Rattle.std.proofs.Common.{◌≡◌, ℕ, Bool, true, false, ◌==◌, ◌≢◌, cond, List, [], ◌∷◌, refl, sym, ◌∙◌, arith}
 use Rattle.std.specs.List.{AllByRecursion}
 use Rattle.std.proofs.lemmas.Bool.Decides.{nat_tests}
+use Rattle.std.proofs.lemmas.Bool.{eqb-true}
 use Rattle.dutch_player.specs.Facts.{Facts}
 use Rattle.dutch_pair.specs.Seated.{score_at}
 use Rattle.dutch_pair.specs.Groups.{IsScoregroup, NeighboursDiffer}
 use Rattle.dutch_pair.specs.Round.{onto_group, scoregroups}
-
-same_of : (a b : ℕ) → (a == b) ≡ true → a ≡ b
-same_of a b h = grind (arith, nat_tests)
 
 differ_of : (a b : ℕ) → (a == b) ≡ false → a ≢ b
 differ_of a b h = grind (arith, nat_tests)
@@ -28,7 +26,7 @@ module _ (facts : Facts) where
       → AllByRecursion (IsScoregroup facts) (cond t ((seat ∷ first ∷ others) ∷ groups) ((seat ∷ []) ∷ (first ∷ others) ∷ groups))
       × NeighboursDiffer facts (cond t ((seat ∷ first ∷ others) ∷ groups) ((seat ∷ []) ∷ (first ∷ others) ∷ groups))
   onto_at seat first others groups true e h =
-      let same : score_at facts seat ≡ score_at facts first = same_of (score_at facts seat) (score_at facts first) e in
+      let same : score_at facts seat ≡ score_at facts first = eqb-true (score_at facts seat) (score_at facts first) e in
       (((sym same, rescored (score_at facts first) (score_at facts seat) others (sym same) h.0.0), h.0.1), joined_differ seat first others groups same h.1)
   onto_at seat first others groups false e h =
       ((tt, h.0), (differ_of (score_at facts seat) (score_at facts first) e, h.1))

@@ -3,13 +3,11 @@ use Rattle.std.proofs.Common.{◌≡◌, ℕ, suc, ◌+◌, ◌<◌, Bool, true,
 use Rattle.std.specs.List.{concat}
 use Rattle.std.proofs.lemmas.List.{drop_more}
 use Rattle.std.proofs.lemmas.Bool.Decides.{nat_tests}
+use Rattle.std.proofs.lemmas.Bool.{eqb-true}
 use Rattle.dutch_player.specs.Facts.{Facts}
 use Rattle.dutch_pair.specs.Seated.{score_at}
 use Rattle.dutch_pair.specs.Round.{onto_group, first_group, scoregroups}
 use Rattle.dutch_pair.specs.Groups.{front_with}
-
-eq_of : (a b : ℕ) → (a == b) ≡ true → a ≡ b
-eq_of a b h = grind (arith, nat_tests)
 
 swap_of : (a b : ℕ) (t : Bool) → (a == b) ≡ t → (b == a) ≡ t
 swap_of a b true h = grind (arith, nat_tests)
@@ -39,7 +37,7 @@ group_at : (facts : Facts) (x y : ℕ) (ys : List ℕ) (t : Bool) → (score_at 
     ((x ∷ []) ∷ split facts y (front_with facts (score_at facts y) ys) ys)
     ≡ split facts x (cond (score_at facts y == score_at facts x) (suc (front_with facts (score_at facts x) ys)) 0) (y ∷ ys)
 group_at facts x y ys true h inner =
-    let same : score_at facts x ≡ score_at facts y = eq_of (score_at facts x) (score_at facts y) h in
+    let same : score_at facts x ≡ score_at facts y = eqb-true (score_at facts x) (score_at facts y) h in
     ap (λ n. split facts x n (y ∷ ys)) (ap (λ s. suc (front_with facts s ys)) (sym same))
     ∙ sym (ap (λ t. split facts x (cond t (suc (front_with facts (score_at facts x) ys)) 0) (y ∷ ys)) (swap_of (score_at facts x) (score_at facts y) true h))
 group_at facts x y ys false h inner =

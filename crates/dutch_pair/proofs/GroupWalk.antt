@@ -2,7 +2,8 @@
 use Rattle.std.proofs.Common.{◌≡◌, ℕ, zero, suc, ◌+◌, ◌<◌, ◌≤◌, Bool, true, false, cond, ◌==◌, List, [], ◌∷◌, ◌++◌, Option, length, length-append, take, drop, refl, sym, ap, ◌∙◌, subst, arith}
 use Rattle.std.specs.List.{AllByRecursion, concat}
 use Rattle.std.proofs.lemmas.Bool.Decides.{nat_tests}
-use Rattle.std.proofs.lemmas.List.{append_cancel_left, take-append-drop}
+use Rattle.std.proofs.lemmas.List.{append_cancel_left, take-append-drop, nil_from_length}
+use Rattle.std.proofs.lemmas.Bool.{eqb-true}
 use Rattle.dutch_order.specs.Choices.{numbers_from}
 use Rattle.dutch_order.proofs.Members.{length-numbers}
 use Rattle.dutch_player.specs.Facts.{Facts}
@@ -17,11 +18,10 @@ use Rattle.dutch_pair.specs.Round.{Round, bracket, completable, no_pairing, roun
 use Rattle.dutch_pair.specs.Ends.{Ends, LeftGoOn}
 use Rattle.dutch_pair.proofs.GroupLemmas.{first_group_is, first_group_taken, concat_scoregroups}
 use Rattle.dutch_pair.proofs.WalkEnds.{ends_nothing}
-use Rattle.dutch_pair.proofs.WalkLemmas.{Descends, is_above, left_go_on, ranked_seats, ranked_front}
+use Rattle.dutch_pair.proofs.WalkLemmas.{Descends, is_above, left_go_on, ranked_seats, ranked_front, ranked_back}
+use Rattle.dutch_pair.proofs.ArrangementParts.{numbers_above}
 use Rattle.dutch_order.specs.declared.numbers.TheConstants.{LIMIT}
 
-eq_of : (a b : ℕ) → (a == b) ≡ true → a ≡ b
-eq_of a b h = grind (arith, nat_tests)
 
 ne_of : (a b : ℕ) → (a == b) ≡ false → a ≤ b → a < b
 ne_of a b h le = grind (arith, nat_tests)
@@ -29,13 +29,9 @@ ne_of a b h le = grind (arith, nat_tests)
 add-one : (n : ℕ) → n + 1 ≡ suc n
 add-one n = omega arith
 
-pub none_of : (xs : List ℕ) → length xs ≡ 0 → xs ≡ []
-none_of [] h = refl
-none_of (x ∷ xs) h = absurd (omega (arith, h))
-
 -- whether there is somebody, by a test
 pub none_by_test : (xs : List ℕ) → true ≡ (length xs == 0) → xs ≡ []
-none_by_test xs h = none_of xs (eq_of (length xs) 0 (sym h))
+none_by_test xs h = nil_from_length xs (eqb-true (length xs) 0 (sym h))
 
 pub some_by_test : (xs : List ℕ) → false ≡ (length xs == 0) → 0 < length xs
 some_by_test xs h = grind (arith, nat_tests)
@@ -44,7 +40,7 @@ module _ (facts : Facts) where
   -- those at the front have the score
   front_at : (score y : ℕ) (ys : List ℕ) (t : Bool) → (score_at facts y == score) ≡ t → AllByRecursion (λ a. score_at facts a ≡ score) (take (front_with facts score ys) ys)
       → AllByRecursion (λ a. score_at facts a ≡ score) (take (cond t (suc (front_with facts score ys)) 0) (y ∷ ys))
-  front_at score y ys true e h = (eq_of (score_at facts y) score e, h)
+  front_at score y ys true e h = (eqb-true (score_at facts y) score e, h)
   front_at score y ys false e h = tt
 
   front_same : (score : ℕ) (xs : List ℕ) → AllByRecursion (λ a. score_at facts a ≡ score) (take (front_with facts score xs) xs)
@@ -61,7 +57,7 @@ module _ (facts : Facts) where
   back_at : (score x y : ℕ) (ys : List ℕ) (t : Bool) → Descends facts → score_at facts x ≡ score → AreRanked facts (x ∷ y ∷ ys) → (score_at facts y == score) ≡ t
       → (score_at facts y ≡ score → AllByRecursion (λ b. score_at facts b < score) (drop (front_with facts score ys) ys))
       → AllByRecursion (λ b. score_at facts b < score) (drop (cond t (suc (front_with facts score ys)) 0) (y ∷ ys))
-  back_at score x y ys true descends same h e later = later (eq_of (score_at facts y) score e)
+  back_at score x y ys true descends same h e later = later (eqb-true (score_at facts y) score e)
   back_at score x y ys false descends same h e later =
       let fall : score_at facts y ≤ score_at facts x = descends.falls x y h.1.0 h.2.0 in
       let lt : score_at facts y < score = ne_of (score_at facts y) score e (omega (arith, fall, same)) in
@@ -78,10 +74,6 @@ module _ (facts : Facts) where
   all_above score (a ∷ tops) lows h g =
       (subst (λ (s : ℕ). AllByRecursion (λ b. score_at facts b < s) lows) (sym h.0) g, all_above score tops lows h.1 g)
 
-  ranked_rest : (xs ys : List ℕ) → AreRanked facts (xs ++ ys) → AreRanked facts ys
-  ranked_rest [] ys h = h
-  ranked_rest (x ∷ xs) ys h = ranked_rest xs ys h.2
-
   -- the first scoregroup is above all lower seats
   pub group_above : (md xs : List ℕ) (x n : ℕ) → Descends facts → Goes facts md (x ∷ xs) → n ≡ front_with facts (score_at facts x) xs
       → AreAbove facts (take (n + 1) (x ∷ xs)) (drop (n + 1) (x ∷ xs))
@@ -90,7 +82,7 @@ module _ (facts : Facts) where
       let same : n + 1 ≡ suc k = omega (arith, e) in
       subst (λ (m : ℕ). AreAbove facts (take m (x ∷ xs)) (drop m (x ∷ xs))) (sym same)
       (all_above (score_at facts x) (x ∷ take k xs) (drop k xs) (refl, front_same (score_at facts x) xs)
-      (back_below (score_at facts x) x xs descends refl (ranked_rest md (x ∷ xs) goes.ranked)))
+      (back_below (score_at facts x) x xs descends refl (ranked_back facts md (x ∷ xs) goes.ranked)))
 
   parted : (md xs : List ℕ) (n : ℕ) → Goes facts md xs → Goes facts md (take n xs ++ drop n xs)
   parted md xs n goes = subst (λ (all : List ℕ). Goes facts md all) (sym (take-append-drop n xs)) goes
@@ -157,8 +149,13 @@ module _ (facts : Facts) where
       → group ≡ first_group facts (scoregroups facts rest) → IsParted md rest group lower
   parted_by {md = md} {rest = rest} {group = group} {lower = lower} = parted_at_first md rest group lower
 
+  -- where the rest is found not to be empty
+  pub parted_by_test : {md rest group lower : List ℕ} → Descends facts → Goes facts md rest → false ≡ (length rest == 0) → group ++ lower ≡ rest
+      → group ≡ first_group facts (scoregroups facts rest) → IsParted md rest group lower
+  parted_by_test {rest = rest} descends goes test = parted_by descends goes (some_by_test rest test)
+
   pub rest_inside : (md rest : List ℕ) → Goes facts md rest → AreSeats facts rest
-  rest_inside md rest goes = ranked_seats facts rest (ranked_rest md rest goes.ranked)
+  rest_inside md rest goes = ranked_seats facts rest (ranked_back facts md rest goes.ranked)
 
   pub moved_inside : (md rest : List ℕ) → Goes facts md rest → AreSeats facts md
   moved_inside md rest goes = ranked_seats facts md (ranked_front facts md rest goes.ranked)
@@ -201,14 +198,10 @@ module _ (facts : Facts) where
         (made ∙ ap (λ (m : List ℕ). bracket number Ordinary m group) e)
         ∙ sym (ap (brackets facts number md) parted'.groups ∙ brackets_lower number md group lower there)
 
-  above_numbers : (low first count : ℕ) → low < first → AllByRecursion (λ y. low < y) (numbers_from first count)
-  above_numbers low first zero h = tt
-  above_numbers low first (suc count) h = (h, above_numbers low (suc first) count (omega (arith, h)))
-
   numbers_ranked : (first count : ℕ) → first + count ≤ length facts.seats → AreRanked facts (numbers_from first count)
   numbers_ranked first zero h = tt
   numbers_ranked first (suc count) h =
-      (omega (arith, h), above_numbers first (suc first) count (omega arith), numbers_ranked (suc first) count (omega (arith, h)))
+      (omega (arith, h), numbers_above first (suc first) count (omega arith), numbers_ranked (suc first) count (omega (arith, h)))
 
   -- at first all seats are to come
   pub everybody_goes : (md all : List ℕ) → md ≡ [] → all ≡ everybody facts → Goes facts md all

@@ -18,6 +18,7 @@ use Rattle.dutch_order.proofs.Orders.{member_has, IsIn-append, IsIn-map, IsIn-fl
 use Rattle.dutch_order.proofs.Members.{climbs-filter}
 use Rattle.dutch_order.proofs.Sets.{subsets-climb, subsets-ascend, sorted-ascends}
 use Rattle.dutch_order.proofs.LimboSets.{limbo_key-apart}
+pub use Rattle.dutch_order.proofs.Once.{kept-is_in as in_filter}
 use Rattle.dutch_player.specs.Facts.{Facts}
 use Rattle.dutch_pair.specs.Seated.{seat_of, score_at, all_pairs, lowest, difference, difference_down}
 use Rattle.dutch_pair.specs.Reached.{Stand, frame_of, numbers_meet, number_may_be_left}
@@ -51,7 +52,7 @@ combined ha hb ca cb la lb t k bound sa sb ta tb tail lower d above =
     let at_d : hb d ≤ ha d = lower d (λ e h. sym (same e h)) in
     omega (arith, at_d, same (d + 2) (omega arith), sa d, sb d, ta d, tb d)
 
-lower_by : (f g f' g' : ℕ → ℕ) → ((d : ℕ) → f d ≡ f' d) → ((d : ℕ) → g d ≡ g' d) → Lower f' g' → Lower f g
+pub lower_by : (f g f' g' : ℕ → ℕ) → ((d : ℕ) → f d ≡ f' d) → ((d : ℕ) → g d ≡ g' d) → Lower f' g' → Lower f g
 lower_by f g f' g' p q lower d above =
     let h : f' d ≤ g' d = lower d (λ e lt. sym (p e) ∙ above e lt ∙ q e) in
     omega (arith, h, p d, q d)
@@ -63,7 +64,7 @@ none_over d (x ∷ xs) h =
     let off : one_if (eqb x d) ≡ 0 = ap one_if (ne_eqb x d (λ e. omega (arith, h, e))) in
     omega (arith, off, none_over d xs (omega arith))
 
-two_more : (d : ℕ) (f : ℕ → ℕ) (xs : List ℕ) → copies d (map f xs) ≡ copies (d + 2) (map (λ i. f i + 2) xs)
+pub two_more : (d : ℕ) (f : ℕ → ℕ) (xs : List ℕ) → copies d (map f xs) ≡ copies (d + 2) (map (λ i. f i + 2) xs)
 two_more d f [] = refl
 two_more d f (x ∷ xs) =
     let first : one_if (eqb (f x) d) ≡ one_if (eqb (f x + 2) (d + 2)) = ap one_if (let e : eqb (f x) d ≡ eqb (f x + 2) (d + 2) = grind (arith, nat_tests) in e) in
@@ -105,14 +106,6 @@ module _ (score : ℕ → ℕ) (s q : ℕ) (falling : (i j : ℕ) → 0 < i → 
             same_first (by x) (by y) (map by xs) (map by ys) (omega (arith, same.0, one.0, one.1, one.2, two.0, two.1, two.2))
             ∙ key_lower sc xs ys p p' f.1 g.1 (omega arith) same.1
       ]
-
-pub in_filter : {X : Type 0} (p : X → Bool) (x : X) (xs : List X) → IsIn x (filter p xs) → IsIn x xs
-in_filter p x [] m = m
-in_filter {X} p x (y ∷ ys) m =
-    elim (p y) as (λ t. IsIn x (cond t (y ∷ filter p ys) (filter p ys)) → IsIn x (y ∷ ys)) [
-      | true ↦ λ m. elim m [ inl same ↦ inl same | inr later ↦ inr (in_filter p x ys later) ]
-      | false ↦ λ m. inr (in_filter p x ys m)
-    ] m
 
 -- an arrangement has the S1 for which it is listed
 s1_of : (frame : Frame) (shape : Shape) (s1 : List ℕ) (a : Arrangement) → IsIn a (with_s2 frame shape s1) → a.s1 ≡ s1

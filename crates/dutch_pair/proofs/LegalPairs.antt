@@ -1,5 +1,5 @@
 -- The pairs of a candidate, those of a beginning and the others, may meet (C.04.3 C.1, C.3).
-use Rattle.std.proofs.Common.{◌≡◌, ℕ, Bool, true, not, ◌&&◌, ◌==◌, cond, List, [], ◌∷◌, ◌++◌, inl, inr, ap, ◌∙◌, subst}
+use Rattle.std.proofs.Common.{◌≡◌, ℕ, Bool, true, not, ◌&&◌, ◌==◌, cond, List, [], ◌∷◌, inl, inr, ap, ◌∙◌, subst}
 use Rattle.std.specs.Prelude.{filter}
 use Rattle.std.specs.List.{AllByRecursion}
 use Rattle.std.proofs.lemmas.Bool.{and_parts, cases_Bool}
@@ -15,6 +15,7 @@ use Rattle.dutch_pair.specs.Round.{candidates_of}
 use Rattle.dutch_pair.proofs.AllLemmas.{all_join}
 use Rattle.dutch_pair.proofs.FixedPairs.{Beside, others_of}
 use Rattle.dutch_pair.proofs.LeastPsd.{in_filter}
+use Rattle.dutch_order.proofs.Skipping.{all-behind}
 
 pub in_passes : {X : Type 0} (p : X → Bool) (x : X) (xs : List X) → IsIn x (filter p xs) → p x ≡ true
 in_passes p x [] m = absurd m
@@ -22,10 +23,6 @@ in_passes p x (y ∷ ys) m = elim (cases_Bool (p y)) [
   | inl passes ↦ elim (subst (λ b. IsIn x (cond b (y ∷ filter p ys) (filter p ys))) passes m) [ inl same ↦ ap p same ∙ passes | inr later ↦ in_passes p x ys later ]
   | inr fails ↦ in_passes p x ys (subst (λ b. IsIn x (cond b (y ∷ filter p ys) (filter p ys))) fails m)
 ]
-
-all_back : {X : Type 0} (P : X → Type 0) (xs ys : List X) → AllByRecursion P (xs ++ ys) → AllByRecursion P ys
-all_back P [] ys all = all
-all_back P (x ∷ xs) ys all = all_back P xs ys all.1
 
 -- a candidate is an arrangement whose pairs meet
 pub record IsArranged (facts : Facts) (stand : Stand) (shape : Shape) (a : Arrangement) : Type 0 where
@@ -62,5 +59,5 @@ others_meet facts stand shape b a legal others =
     let firsts = subst (AllByRecursion (MayMeet facts)) others.first (pairs_meet facts stand a.s1 a.s2 legal.moved_down) in
     let seconds = subst (AllByRecursion (MayMeet facts)) others.second (pairs_meet facts stand a.s1r a.s2r legal.residents) in
     all_join (MayMeet facts) others.moved_down others.residents
-    (all_back (MayMeet facts) (pairs_of seats b.s1 b.s2) others.moved_down firsts)
-    (all_back (MayMeet facts) (pairs_of seats b.s1r b.s2r) others.residents seconds)
+    (all-behind (MayMeet facts) (pairs_of seats b.s1 b.s2) others.moved_down firsts)
+    (all-behind (MayMeet facts) (pairs_of seats b.s1r b.s2r) others.residents seconds)

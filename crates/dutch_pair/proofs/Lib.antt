@@ -1,6 +1,5 @@
 pub mod AimLemmas
 pub mod AllLemmas
-pub mod Along
 pub mod C04Takers
 pub mod C07WeakerRules
 pub mod C07PsdFloor

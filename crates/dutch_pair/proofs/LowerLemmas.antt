@@ -4,6 +4,7 @@ use Rattle.std.specs.List.{AllByRecursion}
 use Rattle.std.proofs.lemmas.Bool.Decides.{nat_tests}
 use Rattle.std.proofs.lemmas.List.{drop_more, drop_all, append-nil}
 use Rattle.std.proofs.lemmas.List.Elements.{filter-append}
+use Rattle.std.proofs.lemmas.Bool.{and_right}
 use Rattle.dutch_order.specs.Keys.{IsIn}
 use Rattle.dutch_player.specs.Facts.{Facts}
 use Rattle.dutch_pair.specs.Seated.{score_at, AreSeats}
@@ -116,10 +117,6 @@ module _ (facts : Facts) where
       let test : nat_lt (score_at facts seat) (score_at facts a) ≡ true = grind (arith, nat_tests) in
       ap (λ (t : Bool). t && is_below facts seats seat) test ∙ below_all seats seat (λ b m. h b (inr m))
 
-  and_false : (t u : Bool) → u ≡ false → (t && u) ≡ false
-  and_false true u e = e
-  and_false false u e = refl
-
   below_some_not : (seats : List ℕ) (seat a : ℕ) → IsIn a seats → score_at facts a ≤ score_at facts seat → is_below facts seats seat ≡ false
   below_some_not [] seat a m high = absurd m
   below_some_not (b ∷ seats) seat a (inl e) high =
@@ -127,7 +124,7 @@ module _ (facts : Facts) where
       let test : nat_lt (score_at facts seat) (score_at facts b) ≡ false = grind (arith, nat_tests) in
       ap (λ (t : Bool). t && is_below facts seats seat) test
   below_some_not (b ∷ seats) seat a (inr m) high =
-      and_false (nat_lt (score_at facts seat) (score_at facts b)) (is_below facts seats seat) (below_some_not seats seat a m high)
+      and_right (nat_lt (score_at facts seat) (score_at facts b)) (is_below facts seats seat) (below_some_not seats seat a m high)
 
   -- ---- where the lower players begin
 

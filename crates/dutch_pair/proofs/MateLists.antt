@@ -1,9 +1,9 @@
 -- Mates among the players of a bracket, of whom no two are moved down, are the pairs of an arrangement; its downfloaters are their
 -- own mates.
-use Rattle.std.proofs.Common.{◌≡◌, ℕ, ◌+◌, ◌-◌, ◌<◌, ◌≤◌, Bool, true, false, not, ◌||◌, ◌==◌, ltb, cond, List, [], ◌∷◌, ◌++◌, map, length, refl, sym, ap, ◌∙◌, arith, subst, inl, inr}
+use Rattle.std.proofs.Common.{◌≡◌, ℕ, ◌+◌, ◌-◌, ◌<◌, ◌≤◌, Bool, true, false, not, ◌==◌, ltb, cond, List, [], ◌∷◌, ◌++◌, map, length, refl, sym, ap, ◌∙◌, arith, subst, inl, inr}
 use Rattle.std.specs.List.{filter}
 use Rattle.std.proofs.lemmas.List.{length-map}
-use Rattle.std.proofs.lemmas.Bool.{cases_eq, cases_order, cases_lt, eq-eqb, ne_eqb, ltb-true, lt-ltb, not_from_false, not-true, and_from, true≢false}
+use Rattle.std.proofs.lemmas.Bool.{cases_eq, cases_order, cases_lt, eq-eqb, ne_eqb, ltb-true, lt-ltb, not_from_false, not-true, and_from, true≢false, or_right}
 use Rattle.dutch_order.specs.declared.bracket.Shape.{Shape}
 use Rattle.dutch_order.specs.Choices.{is_member, all_meet}
 use Rattle.dutch_order.specs.Cursors.{moved_down_of}
@@ -54,10 +54,6 @@ one_left : (may_be_left : ℕ → Bool) (xs : List ℕ) → NoneTwice xs → ((x
 one_left may_be_left [] twice may same = refl
 one_left may_be_left (x ∷ []) twice may same = may x (inl refl)
 one_left may_be_left (x ∷ y ∷ xs) twice may same = absurd (twice.0 (inl (same x y (inl refl) (inr (inl refl)))))
-
-pub or_true : (p q : Bool) → q ≡ true → (p || q) ≡ true
-or_true true q e = refl
-or_true false q e = e
 
 -- a number of a bracket
 abbrev pub IsNumber : Frame → ℕ → Type 0
@@ -235,7 +231,7 @@ module _ (frame : Frame) (mate : ℕ → ℕ) (within : frame.mdps ≤ length fr
         and_from (all_meet meets s1 s2) _ (all_meet_mates meets mate s1 (λ x m. let h = in_s1 x m in met x (low_number x h.0) h.1))
         (and_from (all_meet meets s1r s2r) _
         (all_meet_mates meets mate s1r (λ x m. let h = in_s1r x m in met x (high_number x h.0) (λ e. let less : x < mate x = h.1 in omega (arith, e, less))))
-        (or_true (not frame.last) (leaves_one may_be_left (down frame of_mates)) down_one))
+        (or_right (not frame.last) (leaves_one may_be_left (down frame of_mates)) down_one))
 
     pub mates_candidate : has_member (candidates meets may_be_left frame mates_shape) ≡ true
     mates_candidate = has_kept (is_legal meets may_be_left frame) of_mates (arrangements frame mates_shape) mates_arranged legal_mates

@@ -1,11 +1,12 @@
 -- The next bracket is one of the field, and its residents have one score.
-use Rattle.std.proofs.Common.{◌≡◌, ℕ, zero, suc, ◌+◌, ◌-◌, ◌<◌, ◌≤◌, not, List, [], ◌∷◌, ◌++◌, map, length, get_or, ◌⊎◌, inl, inr, refl, sym, ap, ◌∙◌, subst, arith, length-append}
+use Rattle.std.proofs.Common.{◌≡◌, ℕ, zero, suc, ◌+◌, ◌-◌, ◌<◌, ◌≤◌, not, List, [], ◌∷◌, ◌++◌, map, length, get_or, inl, inr, refl, sym, ap, ◌∙◌, subst, arith, length-append}
 use Rattle.std.specs.List.{AllByRecursion}
 use Rattle.std.specs.Prelude.{slice_index}
 use Rattle.std.specs.List.Sorted.{IsStrictlyIncreasing}
-use Rattle.std.proofs.lemmas.List.{length-map, get_or-map, map-append}
+use Rattle.std.proofs.lemmas.List.{length-map, get_or-map, map-append, get_or_append_left, get_or-append_right}
 use Rattle.std.proofs.lemmas.List.Kept.{IsStrictlyIncreasing-filter}
 use Rattle.std.proofs.lemmas.Simd.{map-map}
+use Rattle.std.proofs.lemmas.Bool.{cases_lt}
 use Rattle.dutch_order.specs.Choices.{numbers_from, is_member}
 use Rattle.dutch_order.specs.Draws.{Draw}
 use Rattle.dutch_order.specs.Limbo.{IsNonAscending}
@@ -23,20 +24,6 @@ use Rattle.dutch_pair.proofs.CandidateSeats.{all_within}
 use Rattle.dutch_pair.proofs.DownLemmas.{down_numbers}
 use Rattle.dutch_pair.proofs.FlatBrackets.{seats_fall}
 use Rattle.dutch_pair.proofs.Copies.{Falls}
-
-append_low : (xs ys : List ℕ) (i : ℕ) → i < length xs → get_or (xs ++ ys) i 0 ≡ get_or xs i 0
-append_low [] ys i h = absurd (omega arith)
-append_low (x ∷ xs) ys zero h = refl
-append_low (x ∷ xs) ys (suc i) h = append_low xs ys i (omega arith)
-
-append_high : (xs ys : List ℕ) (i : ℕ) → length xs ≤ i → get_or (xs ++ ys) i 0 ≡ get_or ys (i - length xs) 0
-append_high [] ys i h = ap (λ k. get_or ys k 0) (let e : i ≡ i - 0 = omega arith in e)
-append_high (x ∷ xs) ys zero h = absurd (omega arith)
-append_high (x ∷ xs) ys (suc i) h =
-    append_high xs ys i (omega arith) ∙ ap (λ k. get_or ys k 0) (let e : i - length xs ≡ suc i - suc (length xs) = omega arith in e)
-
-sides : (i n : ℕ) → (i < n) ⊎ (n ≤ i)
-sides i n = grind arith
 
 falls_index : (xs : List ℕ) → Falls xs → IsNonAscending xs
 falls_index [] falls i h = absurd (omega arith)
@@ -137,14 +124,14 @@ module _ (facts : Facts) (stand : Stand) (left next : List ℕ) (of' : IsOf fact
 
   inside : AreSeats facts (map (seat_of stand.seats) left ++ next)
   inside i h =
-      elim (sides i (length left)) [
+      elim (cases_lt i (length left)) [
         | inl low ↦
             let lt : i < length (map (seat_of stand.seats) left) = omega (arith, low, count) in
             let seat : slice_index (map (seat_of stand.seats) left) i < length facts.seats = all_within facts stand.seats left of'.inside numbers i lt in
-            omega (arith, seat, append_low (map (seat_of stand.seats) left) next i lt)
+            omega (arith, seat, get_or_append_left (map (seat_of stand.seats) left) next 0 i lt)
         | inr high ↦
             let seat : slice_index next (i - length (map (seat_of stand.seats) left)) < length facts.seats = below.inside (i - length (map (seat_of stand.seats) left)) (omega (arith, h, high, count, long)) in
-            omega (arith, seat, append_high (map (seat_of stand.seats) left) next i (omega (arith, high, count)))
+            omega (arith, seat, get_or-append_right (map (seat_of stand.seats) left) next (length (map (seat_of stand.seats) left)) i 0 refl (omega (arith, high, count)))
       ]
 
   score_in : (i : ℕ) → i < length left + length next → slice_index (map (score_at facts) (map (seat_of stand.seats) left ++ next)) i ≡ score_at facts (get_or (map (seat_of stand.seats) left ++ next) i 0)
@@ -169,8 +156,8 @@ module _ (facts : Facts) (stand : Stand) (left next : List ℕ) (of' : IsOf fact
                 one,
                 score_in i (omega (arith, low)),
                 score_in j (omega (arith, k, scored)),
-                ap (score_at facts) (append_low (map (seat_of stand.seats) left) next i h),
-                ap (score_at facts) (append_high (map (seat_of stand.seats) left) next j g),
+                ap (score_at facts) (get_or_append_left (map (seat_of stand.seats) left) next 0 i h),
+                ap (score_at facts) (get_or-append_right (map (seat_of stand.seats) left) next (length (map (seat_of stand.seats) left)) j 0 refl g),
               );
         };
   }
@@ -184,6 +171,6 @@ module _ (facts : Facts) (stand : Stand) (left next : List ℕ) (of' : IsOf fact
         same = λ i h g.
             let first : score_at facts (get_or next ((i - 1) - length md) 0) ≡ score_at facts (get_or next (((length md + 1) - 1) - length md) 0) =
             below.same ((i - 1) - length md) (((length md + 1) - 1) - length md) (omega (arith, h, g, long, count, some)) (omega (arith, some)) in
-            ap (score_at facts) (append_high md next (i - 1) (omega (arith, h))) ∙ first
-            ∙ sym (ap (score_at facts) (append_high md next ((length md + 1) - 1) (omega arith)));
+            ap (score_at facts) (get_or-append_right md next (length md) (i - 1) 0 refl (omega (arith, h))) ∙ first
+            ∙ sym (ap (score_at facts) (get_or-append_right md next (length md) ((length md + 1) - 1) 0 refl (omega arith)));
       }

@@ -1,7 +1,7 @@
 -- The next lower scoregroup is the front of the lower seats with one score.
 use Rattle.std.proofs.Common.{◌≡◌, ℕ, zero, suc, ◌+◌, ◌<◌, ◌≤◌, Bool, true, false, ◌==◌, cond, List, [], ◌∷◌, length, take, get_or, min, refl, sym, ap, ◌∙◌, subst, arith}
-use Rattle.std.proofs.lemmas.Bool.Decides.{nat_tests}
 use Rattle.std.proofs.lemmas.List.{length-take}
+use Rattle.std.proofs.lemmas.Bool.{eqb-true}
 use Rattle.dutch_order.specs.Arrangements.{down}
 use Rattle.dutch_order.specs.Draws.{Draw}
 use Rattle.dutch_player.specs.Facts.{Facts}
@@ -14,9 +14,6 @@ use Rattle.dutch_pair.specs.NextBracket.{IsNext, quality}
 use Rattle.dutch_pair.proofs.GroupLemmas.{first_group_is}
 use Rattle.dutch_order.specs.declared.numbers.TheConstants.{LIMIT}
 
-equal_of : (a b : ℕ) → (a == b) ≡ true → a ≡ b
-equal_of a b h = grind (arith, nat_tests)
-
 -- the seat at a place of a front has the score, and is that at the same place of all
 abbrev pub IsAt : Facts → ℕ → List ℕ → List ℕ → ℕ → Type 0
 IsAt facts score front xs i = (score_at facts (get_or front i 0) ≡ score) × (i < length xs) × (get_or front i 0 ≡ get_or xs i 0)
@@ -26,7 +23,7 @@ module _ (facts : Facts) where
       → ((j : ℕ) → j < length (take (front_with facts score xs) xs) → IsAt facts score (take (front_with facts score xs) xs) xs j)
       → i < length (take (cond t (suc (front_with facts score xs)) 0) (x ∷ xs)) → IsAt facts score (take (cond t (suc (front_with facts score xs)) 0) (x ∷ xs)) (x ∷ xs) i
   front_at score x xs i false e rest h = let bad : ⊥ = omega (arith, h) in absurd bad
-  front_at score x xs zero true e rest h = (equal_of (score_at facts x) score e, omega arith, refl)
+  front_at score x xs zero true e rest h = (eqb-true (score_at facts x) score e, omega arith, refl)
   front_at score x xs (suc i) true e rest h =
       let later = rest i (omega (arith, h)) in
       let lt : i < length xs = later.1 in

@@ -6,12 +6,13 @@ use Rattle.std.proofs.lemmas.List.{map-append}
 use Rattle.std.proofs.lemmas.List.Elements.{filter-append}
 use Rattle.std.proofs.lemmas.Simd.{map-map}
 use Rattle.std.proofs.lemmas.Bool.{ne_eqb}
+use Rattle.std.proofs.Math.Bool.{or-false}
 use Rattle.dutch_order.proofs.Lists.{filter-all}
 use Rattle.dutch_order.specs.Choices.{numbers_from, is_member}
 use Rattle.dutch_order.specs.Arrangements.{Frame, Arrangement, left_of, paired, down}
 use Rattle.dutch_order.proofs.HalfWalks.{Climbs}
 use Rattle.dutch_order.proofs.Members.{filter-numbers, numbers-append}
-use Rattle.dutch_order.proofs.Counts.{left-append}
+use Rattle.dutch_order.proofs.Counts.{left-append, member-append}
 use Rattle.dutch_player.specs.Facts.{Facts}
 use Rattle.dutch_pair.specs.Seated.{seat_of, score_at, pairs_of, all_pairs, lowest, difference, difference_down}
 use Rattle.dutch_pair.specs.Reached.{Stand, frame_of}
@@ -77,32 +78,16 @@ above_low : (q n i : ℕ) (xs : List ℕ) → i ≤ q → Residents q n xs → A
 above_low q n i [] h residents = tt
 above_low q n i (x ∷ xs) h residents = (omega (arith, residents.0.0), above_low q n i xs h residents.1)
 
-below_all : (q low i : ℕ) (xs : List ℕ) → i < low → Climbs low (1 + q) xs → AllByRecursion (λ y. i < y) xs
-below_all q low i [] h climbs = tt
-below_all q low i (x ∷ xs) h climbs = let le : low ≤ x = climbs.0 in (omega arith, below_all q (suc x) i xs (omega arith) climbs.2)
-
-or_none : (b : Bool) → (b || false) ≡ b
-or_none true = refl
-or_none false = refl
-
-or_assoc : (a b c : Bool) → (a || (b || c)) ≡ ((a || b) || c)
-or_assoc true b c = refl
-or_assoc false b c = refl
-
-member_append : (x : ℕ) (xs ys : List ℕ) → is_member x (xs ++ ys) ≡ (is_member x xs || is_member x ys)
-member_append x [] ys = refl
-member_append x (y ∷ xs) ys = ap (λ b. eqb y x || b) (member_append x xs ys) ∙ or_assoc (eqb y x) (is_member x xs) (is_member x ys)
-
 none_of_three : (q n i : ℕ) (a : Arrangement) (m j : ℕ) → i ≤ q → Parts q n m j a → is_member i (paired a) ≡ is_member i a.s1
 none_of_three q n i a m j h parts =
-    member_append i a.s1 (a.s2 ++ (a.s1r ++ a.s2r))
+    member-append i a.s1 (a.s2 ++ (a.s1r ++ a.s2r))
     ∙ ap (λ b. is_member i a.s1 || b)
-    (member_append i a.s2 (a.s1r ++ a.s2r)
+    (member-append i a.s2 (a.s1r ++ a.s2r)
     ∙ ap (λ b. b || is_member i (a.s1r ++ a.s2r)) (not_member i a.s2 (above_low q n i a.s2 h parts.s2))
-    ∙ member_append i a.s1r a.s2r
+    ∙ member-append i a.s1r a.s2r
     ∙ ap (λ b. b || is_member i a.s2r) (not_member i a.s1r (above_low q n i a.s1r h parts.s1r))
     ∙ not_member i a.s2r (above_low q n i a.s2r h parts.s2r))
-    ∙ or_none (is_member i a.s1)
+    ∙ or-false (is_member i a.s1)
 
 -- no number from q + 1 on is among moved-down players
 climbs_miss : (q low i : ℕ) (xs : List ℕ) → q < i → Climbs low (1 + q) xs → is_member i xs ≡ false

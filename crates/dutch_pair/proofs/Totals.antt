@@ -3,15 +3,8 @@ use Rattle.std.proofs.Common.{◌≡◌, ℕ, ◌+◌, ◌<◌, nat_eq, cond, Li
 use Rattle.std.specs.Prelude.{IsPermutation}
 use Rattle.std.proofs.lemmas.Bool.{cases_Bool, eqb-true, eq-eqb}
 use Rattle.std.proofs.lemmas.List.Sorted.{IsPermutation-refl, IsPermutation-cons, IsPermutation-middle, IsPermutation-sym, IsPermutation-trans}
-
--- what the members of a list weigh
-abbrev pub total : (ℕ → ℕ) → List ℕ → ℕ
-total w [] = 0
-total w (x ∷ xs) = w x + total w xs
-
-pub total_append : (w : ℕ → ℕ) (xs ys : List ℕ) → total w (xs ++ ys) ≡ total w xs + total w ys
-total_append w [] ys = omega arith
-total_append w (x ∷ xs) ys = omega (arith, total_append w xs ys)
+pub use Rattle.dutch_order.specs.Stages.{total}
+pub use Rattle.dutch_order.proofs.Reach.{total-append as total_append}
 
 -- where each weighs one, it is how many there are
 pub total_length : (xs : List ℕ) → total (λ x. 1) xs ≡ length xs

@@ -1,11 +1,12 @@
 -- The walk over the brackets keeps its seats by rank, so each bracket is one of the field.
 use Rattle.std.proofs.Common.{◌≡◌, ℕ, zero, suc, ◌+◌, ◌-◌, ◌<◌, ◌≤◌, Bool, true, false, not, cond, List, [], ◌∷◌, ◌++◌, length, get_or, map, filter, refl, sym, ap, ◌∙◌, subst, arith, append_assoc, length-append}
 use Rattle.std.specs.List.{AllByRecursion}
-use Rattle.std.proofs.lemmas.List.{length-map, get_or-map}
+use Rattle.std.proofs.lemmas.List.{length-map, get_or-map, get_or_append_left, get_or-append_right}
 use Rattle.dutch_order.specs.Arrangements.{Arrangement, paired}
 use Rattle.dutch_order.specs.Choices.{numbers_from, is_member}
 use Rattle.dutch_order.specs.Limbo.{IsNonAscending}
 use Rattle.dutch_order.proofs.Turns.{at_index}
+use Rattle.dutch_order.proofs.Skipping.{all-behind}
 use Rattle.dutch_player.specs.Facts.{Facts}
 use Rattle.dutch_pair.specs.declared.reached.Kind.{Kind}
 use Rattle.dutch_pair.specs.declared.reached.Kind.TheVariants.{Ordinary}
@@ -24,10 +25,6 @@ pub record Descends (facts : Facts) : Type 0 where
 all_front : (P : ℕ → Type 0) (xs ys : List ℕ) → AllByRecursion P (xs ++ ys) → AllByRecursion P xs
 all_front P [] ys h = tt
 all_front P (x ∷ xs) ys h = (h.0, all_front P xs ys h.1)
-
-all_back : (P : ℕ → Type 0) (xs ys : List ℕ) → AllByRecursion P (xs ++ ys) → AllByRecursion P ys
-all_back P [] ys h = h
-all_back P (x ∷ xs) ys h = all_back P xs ys h.1
 
 all_of : (P Q : ℕ → Type 0) (xs : List ℕ) → ((x : ℕ) → P x → Q x) → AllByRecursion P xs → AllByRecursion Q xs
 all_of P Q [] f h = tt
@@ -49,7 +46,7 @@ module _ (facts : Facts) where
   ranked_front [] ys h = tt
   ranked_front (x ∷ xs) ys h = (h.0, all_front (λ b. x < b) xs ys h.1, ranked_front xs ys h.2)
 
-  ranked_back : (xs ys : List ℕ) → AreRanked facts (xs ++ ys) → AreRanked facts ys
+  pub ranked_back : (xs ys : List ℕ) → AreRanked facts (xs ++ ys) → AreRanked facts ys
   ranked_back [] ys h = h
   ranked_back (x ∷ xs) ys h = ranked_back xs ys h.2
 
@@ -84,16 +81,6 @@ module _ (facts : Facts) where
         at_index (λ b. score_at facts b < score_at facts (get_or md i 0)) rest j
         (at_index (λ a. AllByRecursion (λ b. score_at facts b < score_at facts a) rest) md i h lti) ltj
 
-    get_front : (xs ys : List ℕ) (i : ℕ) → i < length xs → get_or (xs ++ ys) i 0 ≡ get_or xs i 0
-    get_front [] ys i lt = absurd (omega (arith, lt))
-    get_front (x ∷ xs) ys zero lt = refl
-    get_front (x ∷ xs) ys (suc i) lt = get_front xs ys i (omega (arith, lt))
-
-    get_back : (xs ys : List ℕ) (j : ℕ) → length xs ≤ j → get_or (xs ++ ys) j 0 ≡ get_or ys (j - length xs) 0
-    get_back [] ys j le = ap (λ k. get_or ys k 0) (let e : j ≡ j - 0 = omega arith in e)
-    get_back (x ∷ xs) ys zero le = absurd (omega (arith, le))
-    get_back (x ∷ xs) ys (suc j) le = get_back xs ys j (omega (arith, le)) ∙ ap (λ k. get_or ys k 0) (let e : j - length xs ≡ suc j - suc (length xs) = omega arith in e)
-
     -- those moved down are above the residents
     scores_above : (md residents : List ℕ) → AreAbove facts md residents → (i j : ℕ) → i < length md → length md ≤ j → j < length (map (score_at facts) (md ++ residents))
         → get_or (map (score_at facts) (md ++ residents)) j 0 < get_or (map (score_at facts) (md ++ residents)) i 0
@@ -102,9 +89,9 @@ module _ (facts : Facts) where
         let count : length all ≡ length md + length residents = length-append md residents in
         let here : j < length all = omega (arith, ltj, length-map all (score_at facts)) in
         let low : get_or (map (score_at facts) all) j 0 ≡ score_at facts (get_or residents (j - length md) 0) =
-        score_get all j here ∙ ap (score_at facts) (get_back md residents j le) in
+        score_get all j here ∙ ap (score_at facts) (get_or-append_right md residents (length md) j 0 refl le) in
         let high : get_or (map (score_at facts) all) i 0 ≡ score_at facts (get_or md i 0) =
-        score_get all i (omega (arith, count, lti)) ∙ ap (score_at facts) (get_front md residents i lti) in
+        score_get all i (omega (arith, count, lti)) ∙ ap (score_at facts) (get_or_append_left md residents 0 i lti) in
         let falls : score_at facts (get_or residents (j - length md) 0) < score_at facts (get_or md i 0) =
         above_at md residents i (j - length md) h lti (omega (arith, count, here, le)) in
         omega (arith, low, high, falls)
@@ -117,7 +104,7 @@ module _ (facts : Facts) where
     pub above_back : (md xs ys : List ℕ) → AreAbove facts md (xs ++ ys) → AreAbove facts md ys
     above_back md xs ys h =
         all_of (λ a. AllByRecursion (λ b. score_at facts b < score_at facts a) (xs ++ ys)) (λ a. AllByRecursion (λ b. score_at facts b < score_at facts a) ys) md
-        (λ a g. all_back (λ b. score_at facts b < score_at facts a) xs ys g) h
+        (λ a g. all-behind (λ b. score_at facts b < score_at facts a) xs ys g) h
 
     whole : (md residents lower : List ℕ) → Goes facts md (residents ++ lower) → AreRanked facts ((md ++ residents) ++ lower)
     whole md residents lower goes = subst (AreRanked facts) (sym (append_assoc md residents lower)) goes.ranked
@@ -160,7 +147,7 @@ module _ (facts : Facts) where
     seat_behind : (front : List ℕ) (seat : ℕ) (seats : List ℕ) → seat_of (front ++ seat ∷ seats) (suc (length front)) ≡ seat
     seat_behind front seat seats =
         ap (λ k. get_or (front ++ seat ∷ seats) k 0) (let e : suc (length front) - 1 ≡ length front = omega arith in e)
-        ∙ (get_back front (seat ∷ seats) (length front) (omega arith)
+        ∙ (get_or-append_right front (seat ∷ seats) (length front) (length front) 0 refl (omega arith)
         ∙ ap (λ k. get_or (seat ∷ seats) k 0) (let e : length front - length front ≡ 0 = omega arith in e))
 
     map_kept : (f : ℕ → ℕ) (x : ℕ) (xs : List ℕ) (t : Bool) → map f (cond t (x ∷ xs) xs) ≡ cond t (f x ∷ map f xs) (map f xs)
@@ -204,7 +191,7 @@ module _ (facts : Facts) where
     picked_ranked p first (seat ∷ seats) lower h =
         picked_ranked_at seat (picked p (suc first) seats) lower (p first) h.0
         (all_join (λ b. seat < b) (picked p (suc first) seats) lower
-        (picked_all (λ b. seat < b) p (suc first) seats (all_front (λ b. seat < b) seats lower h.1)) (all_back (λ b. seat < b) seats lower h.1))
+        (picked_all (λ b. seat < b) p (suc first) seats (all_front (λ b. seat < b) seats lower h.1)) (all-behind (λ b. seat < b) seats lower h.1))
         (picked_ranked p (suc first) seats lower h.2)
 
     -- those left over go on above the lower seats

@@ -17,13 +17,6 @@ ghost use Rattle.dutch_pair.specs.Ghosts.{IsNotBetter, ghosts_meet, ghost_may_be
 ghost use Rattle.dutch_pair.specs.GhostValues.{first_limbo, first_ghosts, ghost_value};
 ghost use Rattle.dutch_pair.specs.Takers.{can_go_out};
 
-/// Completable players stay so where a function takes them to others of whom no fewer may meet.
-pub fn completable_players_stay_so()
-    ensures { (f : ℕ → ℕ) (meets meets' : ℕ → ℕ → Bool) (left left' : ℕ → Bool)
-        → ((a b : ℕ) → meets a b ≡ true → meets' (f a) (f b) ≡ true) → ((a : ℕ) → left a ≡ true → left' (f a) ≡ true)
-        → (n : ℕ) (xs : List ℕ) → can_cover meets left n xs ≡ true → can_cover meets' left' n (map f xs) ≡ true }
-{}
-
 /// Where as many downfloaters as a number of pairs leaves cannot be paired out with the lower players, whoever they are, a penultimate
 /// bracket has no candidate with so many pairs.
 pub fn a_count_of_downfloaters_tells_of_pairs()

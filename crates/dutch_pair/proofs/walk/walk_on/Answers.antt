@@ -1,5 +1,5 @@
 -- One bracket more of the walk, and its end.
-use Rattle.std.proofs.Common.{◌≡◌, ℕ, ◌+◌, ◌<◌, ◌≤◌, [], List, length, refl, sym, ap, subst, arith}
+use Rattle.std.proofs.Common.{◌≡◌, ℕ, ◌+◌, ◌≤◌, [], List, length, refl, sym, ap, subst, arith}
 use Rattle.std.proofs.lemmas.Result.{IfOk-weaker}
 use Rattle.std.specs.List.{AllByRecursion}
 use Rattle.dutch_pair.specs.declared.walk.Ended.TheVariants.{Paired}
@@ -9,15 +9,14 @@ use Rattle.dutch_pair.specs.Round.{Round, brackets, everybody, scoregroups, fina
 use Rattle.dutch_pair.specs.WaysOut.{GoesOut}
 use Rattle.dutch_pair.specs.Ends.{Ends, IsAhead, IsPaired, Turns}
 use Rattle.dutch_pair.proofs.WalkEnds.{paired_ending}
-use Rattle.dutch_pair.proofs.GroupWalk.{parted_by, rest_inside, moved_inside, few_parted, last_above, last_is, ordinary_above, ordinary_left, ordinary_is, everybody_goes, everybody_few, none_by_test, some_by_test, ends_first, goes_further, shrinks}
+use Rattle.dutch_pair.proofs.GroupWalk.{parted_by_test, rest_inside, moved_inside, few_parted, last_above, last_is, ordinary_above, ordinary_left, ordinary_is, everybody_goes, everybody_few, none_by_test, some_by_test, ends_first, goes_further, shrinks}
 use Rattle.dutch_pair.proofs.NoDeadEnd.{group_stands, last_candidate}
-use Rattle.dutch_order.specs.declared.numbers.TheConstants.{LIMIT}
 use Rattle.dutch_pair.proofs.walk.walk_on.Goals as goal
 
 pub loop-rest-init : goal.loop-rest-init
 loop-rest-init c =
     let facts = c.args.field.now in
-    let few : length facts.seats ≤ LIMIT = omega (arith, c.scores_do_not_ascend.ensures.few) in
+    let few : length facts.seats ≤ 256 = c.scores_do_not_ascend.ensures.few in
     let count : length c.args.all.now ≡ length facts.seats = everybody_few facts c.args.all.now c.requires.all in
     record {
       tells = λ ended h. ends_first facts c.args.budget.limit c.args.asked c.new-pairs.result.items c.new-moved_down.result.items c.args.all.now ended
@@ -35,8 +34,7 @@ pub returns-then-is_empty : goal.returns-then-is_empty
 returns-then-is_empty c =
     let facts = c.args.field.now in
     let md = c.loop-rest.moved_down.items in
-    let empty = c.if-is_empty.ensures in
-    let none : c.loop-rest.rest.now ≡ [] = none_by_test c.loop-rest.rest.now empty in
+    let none = none_by_test c.loop-rest.rest.now c.if-is_empty.ensures in
     c.loop-rest.invariant.tells (Paired c.loop-rest.pairs c.loop-rest.moved_down)
     (subst (λ (rest : List ℕ). IsPaired facts c.args.asked c.loop-rest.number c.loop-rest.pairs.items (brackets facts c.loop-rest.number md (scoregroups facts rest)) c.loop-rest.pairs.items md)
     (sym none)
@@ -49,32 +47,24 @@ split_first_group-requires c = record { inside = rest_inside c.args.field.now c.
 pub bracket-last-requires : goal.bracket-last-requires
 bracket-last-requires c =
     let facts = c.args.field.now in
-    let test = c.if-is_empty.ensures in
-    let some : 0 < length c.loop-rest.rest.now = some_by_test c.loop-rest.rest.now test in
-    let parts = parted_by facts (record { falls = c.scores_do_not_ascend.ensures.scores; few = omega (arith, c.scores_do_not_ascend.ensures.few) })
-    c.loop-rest.invariant.goes some c.split_first_group.ensures.whole c.split_first_group.ensures.first in
+    let parts = parted_by_test facts (record { falls = c.scores_do_not_ascend.ensures.scores; few = omega (arith, c.scores_do_not_ascend.ensures.few) })
+    c.loop-rest.invariant.goes c.if-is_empty.ensures c.split_first_group.ensures.whole c.split_first_group.ensures.first in
     few_parted facts parts c.deref.result.now c.deref.ensures.0
 
 pub final_bracket-requires-clause-above : goal.final_bracket-requires-clause-above
 final_bracket-requires-clause-above c =
     let facts = c.args.field.now in
-    let test = c.if-is_empty.ensures in
-    let some : 0 < length c.loop-rest.rest.now = some_by_test c.loop-rest.rest.now test in
-    let parts = parted_by facts (record { falls = c.scores_do_not_ascend.ensures.scores; few = omega (arith, c.scores_do_not_ascend.ensures.few) })
-    c.loop-rest.invariant.goes some c.split_first_group.ensures.whole c.split_first_group.ensures.first in
-    let empty = c.if-is_empty-2.ensures in
-    let none : c.split_first_group.result.1.now ≡ [] = none_by_test c.split_first_group.result.1.now empty in
+    let parts = parted_by_test facts (record { falls = c.scores_do_not_ascend.ensures.scores; few = omega (arith, c.scores_do_not_ascend.ensures.few) })
+    c.loop-rest.invariant.goes c.if-is_empty.ensures c.split_first_group.ensures.whole c.split_first_group.ensures.first in
+    let none = none_by_test c.split_first_group.result.1.now c.if-is_empty-2.ensures in
     last_above facts parts c.loop-rest.number c.deref.result.now c.bracket-last.result c.deref.ensures.0 none c.bracket-last.ensures
 
 pub returns-then-is_empty-2 : goal.returns-then-is_empty-2
 returns-then-is_empty-2 c =
     let facts = c.args.field.now in
-    let test = c.if-is_empty.ensures in
-    let some : 0 < length c.loop-rest.rest.now = some_by_test c.loop-rest.rest.now test in
-    let parts = parted_by facts (record { falls = c.scores_do_not_ascend.ensures.scores; few = omega (arith, c.scores_do_not_ascend.ensures.few) })
-    c.loop-rest.invariant.goes some c.split_first_group.ensures.whole c.split_first_group.ensures.first in
-    let empty = c.if-is_empty-2.ensures in
-    let none : c.split_first_group.result.1.now ≡ [] = none_by_test c.split_first_group.result.1.now empty in
+    let parts = parted_by_test facts (record { falls = c.scores_do_not_ascend.ensures.scores; few = omega (arith, c.scores_do_not_ascend.ensures.few) })
+    c.loop-rest.invariant.goes c.if-is_empty.ensures c.split_first_group.ensures.whole c.split_first_group.ensures.first in
+    let none = none_by_test c.split_first_group.result.1.now c.if-is_empty-2.ensures in
     let same = last_is facts parts c.loop-rest.number c.deref.result.now c.bracket-last.result c.deref.ensures.0 none c.bracket-last.ensures in
     let at' = ap (λ (b : Stand). b.number) c.bracket-last.ensures in
     let whole : Round = brackets facts 1 [] (scoregroups facts (everybody facts)) in
@@ -89,41 +79,31 @@ returns-then-is_empty-2 c =
 pub bracket-reached-requires : goal.bracket-reached-requires
 bracket-reached-requires c =
     let facts = c.args.field.now in
-    let test = c.if-is_empty.ensures in
-    let some : 0 < length c.loop-rest.rest.now = some_by_test c.loop-rest.rest.now test in
-    let parts = parted_by facts (record { falls = c.scores_do_not_ascend.ensures.scores; few = omega (arith, c.scores_do_not_ascend.ensures.few) })
-    c.loop-rest.invariant.goes some c.split_first_group.ensures.whole c.split_first_group.ensures.first in
+    let parts = parted_by_test facts (record { falls = c.scores_do_not_ascend.ensures.scores; few = omega (arith, c.scores_do_not_ascend.ensures.few) })
+    c.loop-rest.invariant.goes c.if-is_empty.ensures c.split_first_group.ensures.whole c.split_first_group.ensures.first in
     few_parted facts parts c.deref-in-loop-rest.result.now c.deref-in-loop-rest.ensures.0
 
 pub ordinary_bracket-requires-clause-above : goal.ordinary_bracket-requires-clause-above
 ordinary_bracket-requires-clause-above c =
     let facts = c.args.field.now in
-    let test = c.if-is_empty.ensures in
-    let some : 0 < length c.loop-rest.rest.now = some_by_test c.loop-rest.rest.now test in
-    let parts = parted_by facts (record { falls = c.scores_do_not_ascend.ensures.scores; few = omega (arith, c.scores_do_not_ascend.ensures.few) })
-    c.loop-rest.invariant.goes some c.split_first_group.ensures.whole c.split_first_group.ensures.first in
-    let empty = c.if-is_empty-2.ensures in
-    let there : 0 < length c.split_first_group.result.1.now = some_by_test c.split_first_group.result.1.now empty in
+    let parts = parted_by_test facts (record { falls = c.scores_do_not_ascend.ensures.scores; few = omega (arith, c.scores_do_not_ascend.ensures.few) })
+    c.loop-rest.invariant.goes c.if-is_empty.ensures c.split_first_group.ensures.whole c.split_first_group.ensures.first in
+    let there = some_by_test c.split_first_group.result.1.now c.if-is_empty-2.ensures in
     ordinary_above facts parts c.loop-rest.number c.deref-in-loop-rest.result.now c.bracket-reached.result c.deref-in-loop-rest.ensures.0 there c.bracket-reached.ensures
 
 pub ordinary_bracket-requires-clause-goes : goal.ordinary_bracket-requires-clause-goes
 ordinary_bracket-requires-clause-goes c =
     let facts = c.args.field.now in
-    let test = c.if-is_empty.ensures in
-    let some : 0 < length c.loop-rest.rest.now = some_by_test c.loop-rest.rest.now test in
-    let parts = parted_by facts (record { falls = c.scores_do_not_ascend.ensures.scores; few = omega (arith, c.scores_do_not_ascend.ensures.few) })
-    c.loop-rest.invariant.goes some c.split_first_group.ensures.whole c.split_first_group.ensures.first in
+    let parts = parted_by_test facts (record { falls = c.scores_do_not_ascend.ensures.scores; few = omega (arith, c.scores_do_not_ascend.ensures.few) })
+    c.loop-rest.invariant.goes c.if-is_empty.ensures c.split_first_group.ensures.whole c.split_first_group.ensures.first in
     ordinary_left facts parts c.loop-rest.number c.deref-in-loop-rest.result.now c.bracket-reached.result c.deref-in-loop-rest.ensures.0 c.bracket-reached.ensures
 
 pub returns-in-Ended : goal.returns-in-Ended
 returns-in-Ended c =
     let facts = c.args.field.now in
-    let test = c.if-is_empty.ensures in
-    let some : 0 < length c.loop-rest.rest.now = some_by_test c.loop-rest.rest.now test in
-    let parts = parted_by facts (record { falls = c.scores_do_not_ascend.ensures.scores; few = omega (arith, c.scores_do_not_ascend.ensures.few) })
-    c.loop-rest.invariant.goes some c.split_first_group.ensures.whole c.split_first_group.ensures.first in
-    let empty = c.if-is_empty-2.ensures in
-    let there : 0 < length c.split_first_group.result.1.now = some_by_test c.split_first_group.result.1.now empty in
+    let parts = parted_by_test facts (record { falls = c.scores_do_not_ascend.ensures.scores; few = omega (arith, c.scores_do_not_ascend.ensures.few) })
+    c.loop-rest.invariant.goes c.if-is_empty.ensures c.split_first_group.ensures.whole c.split_first_group.ensures.first in
+    let there = some_by_test c.split_first_group.result.1.now c.if-is_empty-2.ensures in
     let number = c.loop-rest.number in
     let lower = c.split_first_group.result.1.now in
     let goes_on = λ (left : List ℕ). brackets facts (number + 1) left (scoregroups facts lower) in
@@ -138,23 +118,16 @@ returns-in-Ended c =
 pub loop-rest-smaller : goal.loop-rest-smaller
 loop-rest-smaller c =
     let facts = c.args.field.now in
-    let test = c.if-is_empty.ensures in
-    let some : 0 < length c.loop-rest.rest.now = some_by_test c.loop-rest.rest.now test in
-    let parts = parted_by facts (record { falls = c.scores_do_not_ascend.ensures.scores; few = omega (arith, c.scores_do_not_ascend.ensures.few) })
-    c.loop-rest.invariant.goes some c.split_first_group.ensures.whole c.split_first_group.ensures.first in
-    let count = parts.count in
-    let more = parts.some in
-    omega (arith, count, more)
+    let parts = parted_by_test facts (record { falls = c.scores_do_not_ascend.ensures.scores; few = omega (arith, c.scores_do_not_ascend.ensures.few) })
+    c.loop-rest.invariant.goes c.if-is_empty.ensures c.split_first_group.ensures.whole c.split_first_group.ensures.first in
+    omega (arith, parts.count, parts.some)
 
 pub loop-rest-preserved : goal.loop-rest-preserved
 loop-rest-preserved c =
     let facts = c.args.field.now in
-    let test = c.if-is_empty.ensures in
-    let some : 0 < length c.loop-rest.rest.now = some_by_test c.loop-rest.rest.now test in
-    let parts = parted_by facts (record { falls = c.scores_do_not_ascend.ensures.scores; few = omega (arith, c.scores_do_not_ascend.ensures.few) })
-    c.loop-rest.invariant.goes some c.split_first_group.ensures.whole c.split_first_group.ensures.first in
-    let empty = c.if-is_empty-2.ensures in
-    let there : 0 < length c.split_first_group.result.1.now = some_by_test c.split_first_group.result.1.now empty in
+    let parts = parted_by_test facts (record { falls = c.scores_do_not_ascend.ensures.scores; few = omega (arith, c.scores_do_not_ascend.ensures.few) })
+    c.loop-rest.invariant.goes c.if-is_empty.ensures c.split_first_group.ensures.whole c.split_first_group.ensures.first in
+    let there = some_by_test c.split_first_group.result.1.now c.if-is_empty-2.ensures in
     let number = c.loop-rest.number in
     let lower = c.split_first_group.result.1.now in
     let goes_on = λ (left : List ℕ). brackets facts (number + 1) left (scoregroups facts lower) in
@@ -180,8 +153,7 @@ loop-rest-preserved c =
 
 pub final_bracket-requires-clause-candidate : goal.final_bracket-requires-clause-candidate
 final_bracket-requires-clause-candidate c =
-    let empty = c.if-is_empty-2.ensures in
-    let none : c.split_first_group.result.1.now ≡ [] = none_by_test c.split_first_group.result.1.now empty in
+    let none = none_by_test c.split_first_group.result.1.now c.if-is_empty-2.ensures in
     last_candidate c.args.field.now c.loop-rest.number c.loop-rest.moved_down.items c.deref.result.now c.split_first_group.result.0.now c.split_first_group.result.1.now
     c.loop-rest.rest.now c.bracket-last.result c.loop-rest.invariant.out c.split_first_group.ensures.whole none c.deref.ensures.0 c.bracket-last.ensures
 
