@@ -9,6 +9,9 @@ use crate::prefix::Prefix;
 
 /// Which candidates of a bracket and a shape are without interest, told by how they begin. It answers for all beginnings.
 pub trait Bound {
+    /// What it works a question out in. It is lent for each question, so that none makes it anew.
+    type Room;
+
     /// The bracket whose candidates it knows.
     ghost frame: { Self → Frame };
 
@@ -25,7 +28,7 @@ pub trait Bound {
     ghost is_dull: { Self → Arrangement → Bool };
 
     /// Whether it knows that every candidate with a beginning is without interest.
-    fn cannot_win(&self, prefix: &Prefix<'_>) -> bool
+    fn cannot_win(&self, prefix: &Prefix<'_>, room: &mut Self::Room) -> bool
         ensures { result ≡ true → (a : Arrangement) → IsIn a (candidates (meets self.now) (may_be_left self.now) (frame self.now) (shape self.now))
             → Begins prefix.now a → is_dull self.now a ≡ true };
 }

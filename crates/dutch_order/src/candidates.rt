@@ -99,6 +99,7 @@ fn draw_listed<L: Arranges, C: Cuts>(
     drawn: &mut Drawn,
     level: &mut L,
     cuts: &C,
+    room: &mut C::Room,
     budget: &mut Budget,
 ) -> Step<()>
     requires { budget.old.used ≤ budget.old.limit }
@@ -113,7 +114,7 @@ fn draw_listed<L: Arranges, C: Cuts>(
         drawn.is_ready = false;
         return Step::Found(());
     }
-    level.next(cuts, &mut drawn.lists, budget)
+    level.next(cuts, room, &mut drawn.lists, budget)
 }
 
 /// Draws the next arrangement that leaves over whom its bracket may leave, where those may be skipped of which `cuts` tells.
@@ -123,6 +124,7 @@ fn draw_legal<R: Rule, L: Arranges, C: Cuts>(
     drawn: &mut Drawn,
     level: &mut L,
     cuts: &C,
+    room: &mut C::Room,
     budget: &mut Budget,
 ) -> Step<()>
     requires { budget.old.used ≤ budget.old.limit }
@@ -139,7 +141,7 @@ fn draw_legal<R: Rule, L: Arranges, C: Cuts>(
     ensures spends { Spends budget.old budget.new }
 {
     loop {
-        match draw_listed(drawn, level, cuts, budget) {
+        match draw_listed(drawn, level, cuts, room, budget) {
             Step::Found(()) => {}
             Step::End => return Step::End,
             Step::Undecided => return Step::Undecided,
@@ -281,7 +283,12 @@ impl<'a, R: Rule> Candidates<'a, R> {
     }
 
     // The next candidate, where those may be skipped of which `cuts` tells.
-    fn go_on<C: Cuts>(&mut self, cuts: &C, budget: &mut Budget) -> Step<Candidate>
+    fn go_on<C: Cuts>(
+        &mut self,
+        cuts: &C,
+        room: &mut C::Room,
+        budget: &mut Budget,
+    ) -> Step<Candidate>
         requires { budget.old.used ≤ budget.old.limit }
         ensures answer { MatchStep result
             (λ c. Passes (C.Idle cuts.now) self.old.coming (c.lists ∷ self.new.coming) × (c.down ≡ down self.old.frame c.lists) × (self.new.latest ≡ Some c.lists))
@@ -300,7 +307,7 @@ impl<'a, R: Rule> Candidates<'a, R> {
         if self.ended {
             return Step::End;
         }
-        if self.hopeless || cuts.cuts(&Prefix::nothing()) {
+        if self.hopeless || cuts.cuts(&Prefix::nothing(), room) {
             self.ended = true;
             return Step::End;
         }
@@ -310,6 +317,7 @@ impl<'a, R: Rule> Candidates<'a, R> {
             &mut self.drawn,
             &mut self.level,
             cuts,
+            room,
             budget,
         ) {
             Step::Found(()) => {
@@ -344,7 +352,7 @@ impl<'a, R: Rule> Candidates<'a, R> {
         ensures rule { self.new.rule ≡ self.old.rule }
         ensures spends { Spends budget.old budget.new }
     {
-        self.go_on(&NoCuts, budget)
+        self.go_on(&NoCuts, &mut (), budget)
     }
 
     /// The next candidate, where those may be left out of which the bound knows that they are without interest. It is asked about
@@ -353,7 +361,12 @@ impl<'a, R: Rule> Candidates<'a, R> {
     /// `End` is answered where all that were to come are without interest, and then none is to come. After `Undecided`, where the
     /// budget is used up first, a part of what was to come is without interest and the rest is still to come. After `End` every
     /// further call answers `End` without a step.
-    pub fn next_within<B: Bound>(&mut self, bound: &B, budget: &mut Budget) -> Step<Candidate>
+    pub fn next_within<B: Bound>(
+        &mut self,
+        bound: &B,
+        room: &mut B::Room,
+        budget: &mut Budget,
+    ) -> Step<Candidate>
         requires frame { B.frame bound.now ≡ self.old.frame }
         requires shape { B.shape bound.now ≡ self.old.shape }
         requires meets { B.meets bound.now ≡ R.meets self.old.rule }
@@ -372,7 +385,7 @@ impl<'a, R: Rule> Candidates<'a, R> {
         ensures rule { self.new.rule ≡ self.old.rule }
         ensures spends { Spends budget.old budget.new }
     {
-        self.go_on(&Within { bound }, budget)
+        self.go_on(&Within { bound }, room, budget)
     }
 
     /// The candidate handed out last, or the one behind which the listing began: a later listing can go on behind it.

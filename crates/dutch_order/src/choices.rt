@@ -100,6 +100,7 @@ fn put_next_other<R: Rule, C: CutsTuples>(
     lists: &mut Transpositions<'_, R>,
     resume: &mut Option<Cursor>,
     cuts: &C,
+    room: &mut C::Room,
     numbers: &mut Numbers,
     budget: &mut Budget,
 ) -> Step<()>
@@ -111,7 +112,7 @@ fn put_next_other<R: Rule, C: CutsTuples>(
     ensures spends { Spends budget.old budget.new }
 {
     let Some(cursor) = resume else {
-        return lists.put_next_past(cuts, numbers, budget);
+        return lists.put_next_past(cuts, room, numbers, budget);
     };
     match lists.put_next(numbers, budget) {
         Step::Found(()) => {}
@@ -123,13 +124,19 @@ fn put_next_other<R: Rule, C: CutsTuples>(
     if !is_own {
         return Step::Found(());
     }
-    lists.put_next_past(cuts, numbers, budget)
+    lists.put_next_past(cuts, room, numbers, budget)
 }
 
 impl<'a, R: Rule> Arranges for ByS2r<'a, R> {
     ghost coming = { λ l. l };
 
-    fn next<C: Cuts>(&mut self, cuts: &C, lists: &mut Cursor, budget: &mut Budget) -> Step<()> {
+    fn next<C: Cuts>(
+        &mut self,
+        cuts: &C,
+        room: &mut C::Room,
+        lists: &mut Cursor,
+        budget: &mut Budget,
+    ) -> Step<()> {
         let tuples = OfS2r {
             cuts,
             s1: &self.s1,
@@ -140,6 +147,7 @@ impl<'a, R: Rule> Arranges for ByS2r<'a, R> {
             &mut self.lists,
             &mut self.resume,
             &tuples,
+            room,
             &mut lists.s2r,
             budget,
         ) {
@@ -235,14 +243,20 @@ impl<'a, R: Rule> Blocks for ByS1r<'a, R> {
 
     ghost blocks = { λ l. l };
 
-    fn next_block<C: Cuts>(&mut self, cuts: &C, budget: &mut Budget) -> Step<ByS2r<'a, R>> {
-        if cuts.cuts(&Prefix {
+    fn next_block<C: Cuts>(
+        &mut self,
+        cuts: &C,
+        room: &mut C::Room,
+        budget: &mut Budget,
+    ) -> Step<ByS2r<'a, R>> {
+        let prefix = Prefix {
             filling: Filling::S2,
             s1: &self.s1,
             s2: &self.s2,
             s1r: &[],
             s2r: &[],
-        }) {
+        };
+        if cuts.cuts(&prefix, room) {
             return Step::End;
         }
         match self.sets.next(budget) {
@@ -342,11 +356,16 @@ impl<'a, R: Rule> Blocks for ByS2<'a, R> {
 
     ghost blocks = { λ l. l };
 
-    fn next_block<C: Cuts>(&mut self, cuts: &C, budget: &mut Budget) -> Step<Level<ByS1r<'a, R>>> {
+    fn next_block<C: Cuts>(
+        &mut self,
+        cuts: &C,
+        room: &mut C::Room,
+        budget: &mut Budget,
+    ) -> Step<Level<ByS1r<'a, R>>> {
         let Some(cursor) = self.resume.take() else {
             let tuples = OfS2 { cuts, s1: &self.s1 };
             let mut s2 = ArrayVec::new();
-            match self.lists.put_next_past(&tuples, &mut s2, budget) {
+            match self.lists.put_next_past(&tuples, room, &mut s2, budget) {
                 Step::Found(()) => {}
                 Step::End => return Step::End,
                 Step::Undecided => return Step::Undecided,
@@ -467,7 +486,12 @@ impl<'a, R: Rule> Blocks for ByS1<'a, R> {
 
     ghost blocks = { λ l. l };
 
-    fn next_block<C: Cuts>(&mut self, _cuts: &C, budget: &mut Budget) -> Step<Level<ByS2<'a, R>>> {
+    fn next_block<C: Cuts>(
+        &mut self,
+        _cuts: &C,
+        _room: &mut C::Room,
+        budget: &mut Budget,
+    ) -> Step<Level<ByS2<'a, R>>> {
         match self.sets.next(budget) {
             Step::Found(s1) => {
                 if let Some(cursor) = self.resume.take() {

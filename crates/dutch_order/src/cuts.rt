@@ -10,21 +10,27 @@ use crate::prefix::{Filling, Prefix};
 
 /// Tells of beginnings of arrangements that all arrangements which begin so are idle.
 pub trait Cuts {
+    /// What a question is worked out in.
+    type Room;
+
     /// An arrangement is idle.
     ghost Idle: { Self → Arrangement → Type 0 };
 
     /// Whether all arrangements that begin so are known to be idle.
-    fn cuts(&self, prefix: &Prefix<'_>) -> bool
+    fn cuts(&self, prefix: &Prefix<'_>, room: &mut Self::Room) -> bool
         ensures { result ≡ true → (a : Arrangement) → Begins prefix.now a → Idle self.now a };
 }
 
 /// Tells of beginnings of tuples that all tuples which begin so are idle.
 pub trait CutsTuples {
+    /// What a question is worked out in.
+    type Room;
+
     /// A tuple is idle.
     ghost Idle: { Self → List ℕ → Type 0 };
 
     /// Whether all tuples that begin so are known to be idle.
-    fn cuts(&self, begun: &[u16]) -> bool
+    fn cuts(&self, begun: &[u16], room: &mut Self::Room) -> bool
         ensures { result ≡ true → (tuple : List ℕ) → GoesOn begun.now tuple → Idle self.now tuple };
 }
 
@@ -33,9 +39,11 @@ pub trait CutsTuples {
 pub struct NoCuts;
 
 impl Cuts for NoCuts {
+    type Room = ();
+
     ghost Idle = { λ _ _. ⊥ };
 
-    fn cuts(&self, _prefix: &Prefix<'_>) -> bool {
+    fn cuts(&self, _prefix: &Prefix<'_>, _room: &mut ()) -> bool {
         false
     }
 }
@@ -47,12 +55,14 @@ pub struct Within<'b, B> {
 }
 
 impl<'b, B: Bound> Cuts for Within<'b, B> {
+    type Room = B::Room;
+
     ghost Idle = { λ w a.
         IsIn a (candidates (B.meets w.bound.now) (B.may_be_left w.bound.now) (B.frame w.bound.now) (B.shape w.bound.now))
         → B.is_dull w.bound.now a ≡ true };
 
-    fn cuts(&self, prefix: &Prefix<'_>) -> bool {
-        self.bound.cannot_win(prefix)
+    fn cuts(&self, prefix: &Prefix<'_>, room: &mut Self::Room) -> bool {
+        self.bound.cannot_win(prefix, room)
     }
 }
 
@@ -64,16 +74,19 @@ pub struct OfS2<'c, C> {
 }
 
 impl<'c, C: Cuts> CutsTuples for OfS2<'c, C> {
+    type Room = C::Room;
+
     ghost Idle = { λ o s2. (a : Arrangement) → o.s1.now ≡ a.s1 → s2 ≡ a.s2 → C.Idle o.cuts.now a };
 
-    fn cuts(&self, begun: &[u16]) -> bool {
-        self.cuts.cuts(&Prefix {
+    fn cuts(&self, begun: &[u16], room: &mut Self::Room) -> bool {
+        let prefix = Prefix {
             filling: Filling::S2,
             s1: self.s1,
             s2: begun,
             s1r: &[],
             s2r: &[],
-        })
+        };
+        self.cuts.cuts(&prefix, room)
     }
 }
 
@@ -87,15 +100,18 @@ pub struct OfS2r<'c, C> {
 }
 
 impl<'c, C: Cuts> CutsTuples for OfS2r<'c, C> {
+    type Room = C::Room;
+
     ghost Idle = { λ o s2r. C.Idle o.cuts.now (arranged o.s1.now o.s2.now o.s1r.now s2r) };
 
-    fn cuts(&self, begun: &[u16]) -> bool {
-        self.cuts.cuts(&Prefix {
+    fn cuts(&self, begun: &[u16], room: &mut Self::Room) -> bool {
+        let prefix = Prefix {
             filling: Filling::S2r,
             s1: self.s1,
             s2: self.s2,
             s1r: self.s1r,
             s2r: begun,
-        })
+        };
+        self.cuts.cuts(&prefix, room)
     }
 }

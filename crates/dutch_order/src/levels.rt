@@ -21,7 +21,13 @@ pub trait Arranges {
 
     /// Fills `lists` with the next arrangement, where those may be skipped of which `cuts` tells. `End` says that all to come are
     /// idle: what is to come after it is nowhere said.
-    fn next<C: Cuts>(&mut self, cuts: &C, lists: &mut Cursor, budget: &mut Budget) -> Step<()>
+    fn next<C: Cuts>(
+        &mut self,
+        cuts: &C,
+        room: &mut C::Room,
+        lists: &mut Cursor,
+        budget: &mut Budget,
+    ) -> Step<()>
         requires { budget.old.used ≤ budget.old.limit }
         ensures answer { MatchStep result
             (λ _. Passes (C.Idle cuts.now) (coming self.old) (lists.new ∷ coming self.new))
@@ -38,7 +44,12 @@ pub trait Blocks {
     ghost blocks: { Self → List (List Arrangement) };
 
     /// The next block, where those may be skipped in which all are idle.
-    fn next_block<C: Cuts>(&mut self, cuts: &C, budget: &mut Budget) -> Step<Self::Block>
+    fn next_block<C: Cuts>(
+        &mut self,
+        cuts: &C,
+        room: &mut C::Room,
+        budget: &mut Budget,
+    ) -> Step<Self::Block>
         requires { budget.old.used ≤ budget.old.limit }
         ensures answer { MatchStep result
             (λ block. Passes (AllByRecursion (C.Idle cuts.now)) (blocks self.old) (Self.Block.coming block ∷ blocks self.new))
@@ -80,6 +91,7 @@ impl<B: Blocks> Level<B> {
 fn draw<T: Arranges, C: Cuts>(
     block: &mut Option<T>,
     cuts: &C,
+    room: &mut C::Room,
     lists: &mut Cursor,
     budget: &mut Budget,
 ) -> Step<()>
@@ -91,7 +103,7 @@ fn draw<T: Arranges, C: Cuts>(
     ensures spends { Spends budget.old budget.new }
 {
     match block {
-        Some(block) => block.next(cuts, lists, budget),
+        Some(block) => block.next(cuts, room, lists, budget),
         None => Step::End,
     }
 }
@@ -102,6 +114,7 @@ fn enter<B: Blocks, C: Cuts>(
     blocks: &mut B,
     block: &mut Option<B::Block>,
     cuts: &C,
+    room: &mut C::Room,
     budget: &mut Budget,
 ) -> Step<()>
     requires { budget.old.used ≤ budget.old.limit }
@@ -111,7 +124,7 @@ fn enter<B: Blocks, C: Cuts>(
         (Passes (AllByRecursion (C.Idle cuts.now)) (B.blocks blocks.old) (B.blocks blocks.new) × (block.new ≡ None) × (budget.new.used ≡ budget.new.limit)) }
     ensures spends { Spends budget.old budget.new }
 {
-    match blocks.next_block(cuts, budget) {
+    match blocks.next_block(cuts, room, budget) {
         Step::Found(next) => {
             *block = Some(next);
             Step::Found(())
@@ -127,14 +140,20 @@ fn enter<B: Blocks, C: Cuts>(
 impl<B: Blocks> Arranges for Level<B> {
     ghost coming = { λ l. l };
 
-    fn next<C: Cuts>(&mut self, cuts: &C, lists: &mut Cursor, budget: &mut Budget) -> Step<()> {
+    fn next<C: Cuts>(
+        &mut self,
+        cuts: &C,
+        room: &mut C::Room,
+        lists: &mut Cursor,
+        budget: &mut Budget,
+    ) -> Step<()> {
         loop {
-            match draw(&mut self.block, cuts, lists, budget) {
+            match draw(&mut self.block, cuts, room, lists, budget) {
                 Step::Found(()) => return Step::Found(()),
                 Step::Undecided => return Step::Undecided,
                 Step::End => {}
             }
-            match enter(&mut self.blocks, &mut self.block, cuts, budget) {
+            match enter(&mut self.blocks, &mut self.block, cuts, room, budget) {
                 Step::Found(()) => {}
                 Step::Undecided => return Step::Undecided,
                 Step::End => return Step::End,

@@ -57,14 +57,17 @@ pub trait Tree {
 
 /// Tells of beginnings of paths that all whole paths which begin so are idle.
 pub trait CutsPaths {
+    /// What a question is worked out in.
+    type Room;
+
     /// A whole path is idle.
     ghost Idle: { Self → List ℕ → Type 0 };
 
     /// A beginning can be asked about.
     ghost MayAsk: { Self → List ℕ → Type 0 };
 
-    /// Whether all paths that begin so are known to be idle. There is room for the numbers that a path stands for.
-    fn cuts(&self, begun: &[u16], room: &mut Numbers) -> bool
+    /// Whether all paths that begin so are known to be idle. There is a list for the numbers that a path stands for.
+    fn cuts(&self, begun: &[u16], numbers: &mut Numbers, room: &mut Self::Room) -> bool
         requires { MayAsk self.now begun.now }
         ensures { result ≡ true → (path : List ℕ) → GoesOn begun.now path → Idle self.now path };
 }
@@ -74,11 +77,13 @@ pub trait CutsPaths {
 struct CutsNothing;
 
 impl CutsPaths for CutsNothing {
+    type Room = ();
+
     ghost Idle = { λ _ _. ⊥ };
 
     ghost MayAsk = { λ _ _. Unit {0} };
 
-    fn cuts(&self, _begun: &[u16], _room: &mut Numbers) -> bool {
+    fn cuts(&self, _begun: &[u16], _numbers: &mut Numbers, _room: &mut ()) -> bool {
         false
     }
 }
@@ -227,7 +232,7 @@ fn end_number<T: Tree>(tree: &T, path: &[u16]) -> usize
 }
 
 /// Leaves out all that is still to come below a path, where all of it is known to be idle.
-fn leave_idle<T: Tree, C: CutsPaths>(tree: &T, cuts: &C, walk: &mut Walk)
+fn leave_idle<T: Tree, C: CutsPaths>(tree: &T, cuts: &C, room: &mut C::Room, walk: &mut Walk)
     requires standing { Stands (T.plan tree.now) walk.old.path.items }
     requires may_ask { (path : List ℕ) → Stands (T.plan tree.now) path → C.MayAsk cuts.now path }
     ensures path { walk.new.path.items ≡ walk.old.path.items }
@@ -237,7 +242,7 @@ fn leave_idle<T: Tree, C: CutsPaths>(tree: &T, cuts: &C, walk: &mut Walk)
     ensures number { NoneIdle (C.Idle cuts.now) → walk.new.number ≡ walk.old.number }
 {
     let end = end_number(tree, &walk.path);
-    if walk.number < end && cuts.cuts(&walk.path, &mut walk.room) {
+    if walk.number < end && cuts.cuts(&walk.path, &mut walk.room, room) {
         walk.number = end;
     }
 }
@@ -292,6 +297,7 @@ fn go_back<T: Tree>(tree: &T, walk: &mut Walk) -> bool
 pub fn climb_past<T: Tree, C: CutsPaths>(
     tree: &T,
     cuts: &C,
+    room: &mut C::Room,
     walk: &mut Walk,
     budget: &mut Budget,
 ) -> Step<()>
@@ -317,7 +323,7 @@ pub fn climb_past<T: Tree, C: CutsPaths>(
         ≡ lower walk.old.beyond (lowest (ahead (T.plan tree.now) walk.old.path.items walk.old.number)) }
     ensures spends { Spends budget.old budget.new }
 {
-    leave_idle(tree, cuts, walk);
+    leave_idle(tree, cuts, room, walk);
     loop {
         if walk.path.len() == tree.places() {
             if walk.number == 0 {
@@ -330,14 +336,14 @@ pub fn climb_past<T: Tree, C: CutsPaths>(
             }
             budget.used += 1;
             if try_number(tree, walk) {
-                leave_idle(tree, cuts, walk);
+                leave_idle(tree, cuts, room, walk);
             }
             continue;
         }
         if !go_back(tree, walk) {
             return Step::End;
         }
-        leave_idle(tree, cuts, walk);
+        leave_idle(tree, cuts, room, walk);
     }
 }
 
@@ -365,5 +371,5 @@ pub fn climb_on<T: Tree>(tree: &T, walk: &mut Walk, budget: &mut Budget) -> Step
         ≡ lower walk.old.beyond (lowest (ahead (T.plan tree.now) walk.old.path.items walk.old.number)) }
     ensures spends { Spends budget.old budget.new }
 {
-    climb_past(tree, &CutsNothing, walk, budget)
+    climb_past(tree, &CutsNothing, &mut (), walk, budget)
 }

@@ -107,13 +107,15 @@ impl<'a, C: CutsTuples> CutsPaths for CutsPlaces<'a, C> {
     ghost use Rattle.std.specs.List.{AllByRecursion};
     ghost use Rattle.dutch_order.specs.TranspositionSearch.{numbers_at};
 
+    type Room = C::Room;
+
     ghost Idle = { λ t path. C.Idle t.cuts.now (numbers_at t.pool.now path) };
 
     ghost MayAsk = { λ t path. AllByRecursion (λ place. place < length t.pool.now) path × (length path ≤ LIMIT) };
 
-    fn cuts(&self, begun: &[u16], room: &mut Numbers) -> bool {
-        pick(self.pool, begun, room);
-        self.cuts.cuts(room)
+    fn cuts(&self, begun: &[u16], numbers: &mut Numbers, room: &mut C::Room) -> bool {
+        pick(self.pool, begun, numbers);
+        self.cuts.cuts(numbers, room)
     }
 }
 
@@ -273,6 +275,7 @@ impl<'a, R: Rule> Transpositions<'a, R> {
     pub(crate) fn put_next_past<C: CutsTuples>(
         &mut self,
         cuts: &C,
+        room: &mut C::Room,
         numbers: &mut Numbers,
         budget: &mut Budget,
     ) -> Step<()>
@@ -295,7 +298,7 @@ impl<'a, R: Rule> Transpositions<'a, R> {
             pool: &self.pool,
             cuts,
         };
-        match climb_past(&tree, &places, &mut self.walk, budget) {
+        match climb_past(&tree, &places, room, &mut self.walk, budget) {
             Step::Found(()) => {}
             Step::End => return Step::End,
             Step::Undecided => return Step::Undecided,

@@ -20,6 +20,16 @@ use Rattle.dutch_order.proofs.Counts.{subsets-length, tuples-length, left-append
 use Rattle.dutch_pair.proofs.AllLemmas.{all_filter}
 use Rattle.dutch_pair.proofs.Totals.{total, total_length}
 
+-- the first of the numbers to come
+pub next_number : (i n : ℕ) → i < n → numbers_from (i + 1) (n - i) ≡ (i + 1) ∷ numbers_from ((i + 1) + 1) (n - (i + 1))
+next_number i n h =
+    let more : n - i ≡ suc (n - (i + 1)) = omega (arith, h) in
+    ap (numbers_from (i + 1)) more ∙ ap (λ k. (i + 1) ∷ numbers_from k (n - (i + 1))) (let e : suc (i + 1) ≡ (i + 1) + 1 = omega arith in e)
+
+-- and none is to come behind the last one
+pub no_number : (i n : ℕ) → n ≤ i → numbers_from (i + 1) (n - i) ≡ []
+no_number i n h = ap (numbers_from (i + 1)) (let e : n - i ≡ 0 = omega (arith, h) in e)
+
 -- what holds of a pool holds of what is chosen from it
 pub tuple_members : (P : ℕ → Type 0) (pool : List ℕ) (k : ℕ) (t : List ℕ) → AllByRecursion P pool → IsIn t (tuples pool k) → AllByRecursion P t
 tuple_members P pool zero t all (inl same) = subst (AllByRecursion P) (sym same) tt

@@ -18,9 +18,6 @@ use Rattle.dutch_pair.specs.Outlooks.{IsOutlook, awaited}
 use Rattle.dutch_pair.specs.NextBracket.{IsFlat, is_lower}
 use Rattle.dutch_pair.specs.PsdFloors.{psd_with, repeated}
 use Rattle.dutch_pair.specs.Quality.{Quality, count_in_pairs, highest_first, is_better, misses, psd}
-use Rattle.std.specs.Prelude.{Option, Some, None, MatchOption}
-use Rattle.dutch_pair.specs.declared.quality.Quality.{Quality as Fields}
-use Rattle.dutch_pair.specs.QualityIn.{quality_in}
 use Rattle.dutch_pair.specs.Reached.{IsOf, Stand, frame_of}
 use Rattle.dutch_pair.specs.Round.{candidates_of, quality_of}
 use Rattle.dutch_pair.specs.Seated.{all_pairs, difference, score_at, seat_of}
@@ -144,11 +141,3 @@ no_better facts stand lower shape basis b floor is of' known e a m h =
     ∙ (ap (λ st. is_better (quality_of basis.facts st lower a) floor) (sym s)
     ∙ (ap (λ q. is_better (quality_of basis.facts basis.stand lower a) q) e
     ∙ floor_stands basis lower b a of'' m' h (known_s1 basis b known) outlook))
-
--- and where none is known nothing is said
-pub known_or_none : (facts : Facts) (stand : Stand) (lower : List ℕ) (shape : Shape) (basis : Basis) (b : Beginning) (found : Option Fields)
-    → IsBasis facts stand lower shape basis → IsOf facts stand
-    → MatchOption found (is_known basis b ≡ false) (λ f. (is_known basis b ≡ true) × (quality_in f ≡ floor_of basis b))
-    → MatchOption found (Unit {0}) (λ f. (a : Arrangement) → IsIn a (candidates_of facts stand shape) → Begins b a → is_better (quality_of facts stand lower a) (quality_in f) ≡ false)
-known_or_none facts stand lower shape basis b None is of' h = tt {0}
-known_or_none facts stand lower shape basis b (Some f) is of' h = no_better facts stand lower shape basis b (quality_in f) is of' h.0 h.1

@@ -28,7 +28,6 @@ pub mod FlatBrackets
 pub mod FloorOrder
 pub mod GroupLemmas
 pub mod LonelyLemmas
-pub mod MoverSeats
 pub mod KeptValues
 pub mod NextBrackets
 pub mod PairMisses

@@ -1,6 +1,5 @@
 -- The items of a quality, as they stand in its fields.
 use Rattle.dutch_pair.specs.declared.quality.Quality.{Quality as Fields}
-use Rattle.std.specs.Prelude.{ℕ, List}
 use Rattle.dutch_player.specs.Facts.{Facts}
 use Rattle.dutch_pair.specs.Seated.{Seated}
 use Rattle.dutch_pair.specs.Quality.{Quality, NextValue, quality_with}
@@ -25,15 +24,17 @@ quality_in q = record {
   up_again_before_by = q.up_again_before_by.items;
 }
 
--- what a quality says of the differences, of the next bracket, and of missed preferences: C.6, C.7, C.10, C.11
-pub record Given : Type 0 where
-  pub psd : List ℕ
-  pub next : NextValue
-  pub missed_preferences : ℕ
-  pub missed_strong : ℕ
+-- what a quality says of the next bracket: C.7
+abbrev pub next_in : Quality → NextValue
+next_in q = record { pairs = q.next_pairs; psd = q.next_psd }
 
--- a quality with items that are given, the others being those of a candidate by seats
-abbrev pub quality_by : Facts → Seated → Given → Quality
-quality_by facts candidate given =
-    let k = quality_with facts candidate given.next in
-    record k { psd = given.psd; missed_preferences = given.missed_preferences; missed_strong = given.missed_strong }
+-- a quality with what is said of the next bracket
+abbrev pub with_next : NextValue → Quality → Quality
+with_next next q = record q { next_pairs = next.pairs; next_psd = next.psd }
+
+-- a quality with the items of a candidate by seats, but for what it says of the differences, of the next bracket, and of missed
+-- preferences: C.6, C.7, C.10, C.11
+abbrev pub with_others : Facts → Seated → Quality → Quality
+with_others facts candidate q =
+    let k = quality_with facts candidate (next_in q) in
+    record k { psd = q.psd; missed_preferences = q.missed_preferences; missed_strong = q.missed_strong }

@@ -3,6 +3,8 @@ use Rattle.std.specs.Prelude.{◌≡◌, ℕ, ◌+◌, ◌-◌, ◌<◌, ◌≤�
 use Rattle.std.specs.List.{AllByRecursion}
 use Rattle.dutch_order.specs.Arrangements.{Arrangement}
 use Rattle.dutch_order.specs.Draws.{Draw}
+use Rattle.dutch_player.specs.declared.float.Float.{Float}
+use Rattle.dutch_player.specs.declared.float.Float.TheVariants.{Up, Down}
 use Rattle.dutch_player.specs.Facts.{Facts, seat_at}
 use Rattle.dutch_pair.specs.declared.seated.Mover.{Mover}
 use Rattle.dutch_order.specs.declared.numbers.TheConstants.{LIMIT}
@@ -72,6 +74,11 @@ abbrev pub goes_up : Facts → ℕ × ℕ → Mover
 goes_up facts pair =
     record { seat = if nat_lt (score_at facts pair.0) (score_at facts pair.1) then pair.0 else pair.1; by = difference facts pair }
 
+-- A.4: the player of such a pair who floats so
+abbrev pub goes : Facts → Float → ℕ × ℕ → Mover
+goes facts Up = goes_up facts
+goes facts Down = goes_down facts
+
 -- who is in no pair goes down too (our own choice)
 abbrev pub floats_down : Facts → ℕ → ℕ → Mover
 floats_down facts least seat = record { seat = seat; by = difference_down facts least seat }
@@ -92,10 +99,6 @@ AreSeats facts seats = (i : ℕ) → i < length seats → slice_index seats i < 
 -- pairs of such seats
 abbrev pub AllPairs : Facts → List (ℕ × ℕ) → Type 0
 AllPairs facts pairs = AllByRecursion (λ pair. (pair.0 < length facts.seats) × (pair.1 < length facts.seats)) pairs
-
--- players who move, of a field
-abbrev pub AllMovers : Facts → List Mover → Type 0
-AllMovers facts movers = AllByRecursion (λ mover. mover.seat < length facts.seats) movers
 
 -- a candidate of players of a field: pairs and downfloaters are at most LIMIT
 pub record HasSeats (facts : Facts) (candidate : Seated) : Type 0 where

@@ -11,7 +11,7 @@ use crate::reached::Reached;
 use crate::seated::{Pair, Seated, push_pairs};
 use arrayvec::ArrayVec;
 use dutch_order::bracket::Shape;
-use dutch_order::numbers::{LIMIT, Numbers};
+use dutch_order::numbers::LIMIT;
 use dutch_order::prefix::{Filling, Prefix};
 use std::marker::Model;
 
@@ -90,30 +90,27 @@ pub(crate) fn is_of_shape(reached: &Reached, shape: Shape, begun: &Begun<'_>) ->
     numbers && (moved_down && residents)
 }
 
-/// The pairs that lists make, by seats.
+/// Fills a list with the pairs that lists make, by seats.
 #[tactic(auto, using(crate::proofs::BegunLemmas::front_pairs, crate::proofs::BegunLemmas::front_numbers, crate::proofs::BegunLemmas::fixed_within))]
-pub(crate) fn fixed_pairs(context: &Context<'_>, begun: &Begun<'_>) -> ArrayVec<Pair, LIMIT>
+fn fill_pairs(context: &Context<'_>, begun: &Begun<'_>, pairs: &mut ArrayVec<Pair, LIMIT>)
     requires { HasNumbers context.now.stand begun.now }
-    ensures items { result.items ≡ all_pairs context.now.stand.seats begun.now }
-    ensures inside { AllPairs context.now.facts result.items }
-    ensures few { length result.items ≤ LIMIT }
+    ensures items { pairs.new.items ≡ all_pairs context.now.stand.seats begun.now }
+    ensures inside { AllPairs context.now.facts pairs.new.items }
+    ensures few { length pairs.new.items ≤ LIMIT }
 {
     let seats = context.reached().seats();
-    let mut pairs = ArrayVec::new();
-    push_pairs(seats, &begun.s1[..begun.s2.len()], begun.s2, &mut pairs);
-    push_pairs(seats, &begun.s1r[..begun.s2r.len()], begun.s2r, &mut pairs);
-    pairs
+    pairs.clear();
+    push_pairs(seats, &begun.s1[..begun.s2.len()], begun.s2, pairs);
+    push_pairs(seats, &begun.s1r[..begun.s2r.len()], begun.s2r, pairs);
 }
 
-/// Lists by seats: their pairs, and nobody who goes down.
-pub(crate) fn fixed(context: &Context<'_>, begun: &Begun<'_>) -> Seated
+/// Fills in lists by seats: their pairs, and nobody who goes down.
+pub(crate) fn fill_fixed(context: &Context<'_>, begun: &Begun<'_>, seated: &mut Seated)
     requires { HasNumbers context.now.stand begun.now }
-    ensures value { result ≡ fixed context.now.facts context.now.stand begun.now }
-    ensures inside { HasSeats context.now.facts result }
+    ensures value { seated.new ≡ fixed context.now.facts context.now.stand begun.now }
+    ensures inside { HasSeats context.now.facts seated.new }
 {
-    Seated {
-        pairs: fixed_pairs(context, begun),
-        down: Numbers::new(),
-        lowest: context.lowest(),
-    }
+    fill_pairs(context, begun, &mut seated.pairs);
+    seated.down.clear();
+    seated.lowest = context.lowest();
 }

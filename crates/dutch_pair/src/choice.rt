@@ -133,7 +133,7 @@ fn best_near<'a>(
     let mut kept = None;
     loop {
         let skipper = Skipper { pass, kept: &kept };
-        match candidates.next_within(&skipper, budget) {
+        match candidates.next_within(&skipper, &mut (), budget) {
             Step::Found(candidate) => {
                 if !consider(pass, candidate, &mut kept, look, budget) {
                     return Step::Undecided;

@@ -1,87 +1,15 @@
 // Players who go down or up again, as in one of the last two rounds (C.04.3 C.12 to C.19).
-ghost use Rattle.std.specs.Prelude.{◌≡◌, ◌+◌, ◌<◌, ◌≤◌, ◌++◌, length, map, filter};
+ghost use Rattle.std.specs.Prelude.{◌≡◌, ◌+◌, ◌≤◌, length, map, filter};
 ghost use Rattle.arrayvec.specs.ArrayVec.{array_vec_len};
-ghost use Rattle.dutch_pair.specs.Seated.{is_uneven, goes_down, goes_up, floats_down, going_down, going_up, AreSeats, AllPairs, AllMovers, HasSeats};
-ghost use Rattle.dutch_pair.specs.Quality.{is_float, again, differences};
+ghost use Rattle.dutch_player.specs.declared.float.Float.TheVariants.{Up, Down};
+ghost use Rattle.dutch_pair.specs.Seated.{is_uneven, goes, floats_down, going_down, going_up, AreSeats, AllPairs, HasSeats};
+ghost use Rattle.dutch_pair.specs.Quality.{is_float, again, placed_all, differences};
 
 use crate::differences::put;
-use crate::seated::{Mover, Pair, Seated, difference_down, goes_down, goes_up, is_uneven};
-use arrayvec::ArrayVec;
+use crate::seated::{Pair, Seated, difference_down, goes, is_uneven};
 use dutch_order::numbers::{LIMIT, Numbers};
 use dutch_player::field::Field;
 use dutch_player::float::Float;
-
-/// Players who go down or up.
-type Movers = ArrayVec<Mover, LIMIT>;
-
-/// Adds the players of pairs who go down.
-fn push_pairs_down(field: &Field, pairs: &[Pair], movers: &mut Movers)
-    requires inside { AllPairs field.now pairs.now }
-    requires room { array_vec_len movers.old + length pairs.now ≤ LIMIT }
-    ensures items { movers.new.items ≡ movers.old.items ++ map (goes_down field.now) (filter (is_uneven field.now) pairs.now) }
-    ensures len { array_vec_len movers.new ≤ array_vec_len movers.old + length pairs.now }
-{
-    for pair in pairs {
-        if is_uneven(field, *pair) {
-            movers.push(goes_down(field, *pair));
-        }
-    }
-}
-
-/// Adds the players of pairs who go up.
-fn push_pairs_up(field: &Field, pairs: &[Pair], movers: &mut Movers)
-    requires inside { AllPairs field.now pairs.now }
-    requires room { array_vec_len movers.old + length pairs.now ≤ LIMIT }
-    ensures items { movers.new.items ≡ movers.old.items ++ map (goes_up field.now) (filter (is_uneven field.now) pairs.now) }
-    ensures len { array_vec_len movers.new ≤ array_vec_len movers.old + length pairs.now }
-{
-    for pair in pairs {
-        if is_uneven(field, *pair) {
-            movers.push(goes_up(field, *pair));
-        }
-    }
-}
-
-/// Adds the downfloaters.
-fn push_down(field: &Field, least: u16, down: &[u16], movers: &mut Movers)
-    requires inside { AreSeats field.now down.now }
-    requires room { array_vec_len movers.old + length down.now ≤ LIMIT }
-    ensures items { movers.new.items ≡ movers.old.items ++ map (floats_down field.now least) down.now }
-    ensures len { array_vec_len movers.new ≡ array_vec_len movers.old + length down.now }
-{
-    for seat in down {
-        movers.push(Mover {
-            seat: *seat,
-            by: difference_down(field, least, *seat),
-        });
-    }
-}
-
-/// All who go down.
-pub(crate) fn going_down(field: &Field, candidate: &Seated) -> Movers
-    requires { HasSeats field.now candidate.now }
-    ensures items { result.items ≡ going_down field.now candidate.now }
-    ensures few { array_vec_len result ≤ LIMIT }
-    ensures inside { AllMovers field.now result.items }
-{
-    let mut movers = ArrayVec::new();
-    push_pairs_down(field, &candidate.pairs, &mut movers);
-    push_down(field, candidate.lowest, &candidate.down, &mut movers);
-    movers
-}
-
-/// All who go up.
-#[tactic(auto, using(crate::proofs::MoverSeats::up_within))]
-pub(crate) fn going_up(field: &Field, candidate: &Seated) -> Movers
-    requires { HasSeats field.now candidate.now }
-    ensures items { result.items ≡ going_up field.now candidate.now }
-    ensures few { array_vec_len result ≤ LIMIT }
-    ensures inside { AllMovers field.now result.items }
-{
-    let mut movers = ArrayVec::new();
-    push_pairs_up(field, &candidate.pairs, &mut movers);
-    movers
-}
 
 fn is_float(float: Float, had: Option<Float>) -> bool
     ensures { result ≡ is_float float had }
@@ -92,19 +20,62 @@ fn is_float(float: Float, had: Option<Float>) -> bool
     }
 }
 
-/// The differences of those who had this float in the last round (1) or in the one before it (2), the highest first.
-pub(crate) fn again(field: &Field, float: Float, back: u8, movers: &[Mover]) -> Numbers
-    requires inside { AllMovers field.now movers.now }
-    requires few { length movers.now ≤ LIMIT }
+/// Puts the differences of the players of pairs who float so, and did in the last round (1) or in the one before it (2), to their places.
+fn put_pairs(field: &Field, float: Float, back: u8, pairs: &[Pair], by: &mut Numbers)
+    requires inside { AllPairs field.now pairs.now }
+    requires room { array_vec_len by.old + length pairs.now ≤ LIMIT }
     requires one { 1 ≤ back }
     requires two { back ≤ 2 }
-    ensures items { result.items ≡ differences (again field.now float back movers.now) }
+    ensures items { by.new.items ≡ placed_all by.old.items
+        (map (λ mover. mover.by) (again field.now float back (map (goes field.now float) (filter (is_uneven field.now) pairs.now)))) }
+    ensures len { array_vec_len by.new ≤ array_vec_len by.old + length pairs.now }
 {
-    let mut by = ArrayVec::new();
-    for mover in movers {
-        if is_float(float, field.float(mover.seat, back)) {
-            put(&mut by, mover.by);
+    for pair in pairs {
+        if is_uneven(field, *pair) {
+            let mover = goes(field, float, *pair);
+            if is_float(float, field.float(mover.seat, back)) {
+                put(by, mover.by);
+            }
         }
     }
-    by
+}
+
+/// The same of downfloaters.
+fn put_down(field: &Field, least: u16, back: u8, down: &[u16], by: &mut Numbers)
+    requires inside { AreSeats field.now down.now }
+    requires room { array_vec_len by.old + length down.now ≤ LIMIT }
+    requires one { 1 ≤ back }
+    requires two { back ≤ 2 }
+    ensures items { by.new.items ≡ placed_all by.old.items (map (λ mover. mover.by) (again field.now Down back (map (floats_down field.now least) down.now))) }
+{
+    for seat in down {
+        if is_float(Float::Down, field.float(*seat, back)) {
+            put(by, difference_down(field, least, *seat));
+        }
+    }
+}
+
+/// Fills a list with the differences of those who go down and had a downfloat in the last round (1) or in the one before it (2), the
+/// highest first.
+#[tactic(auto, using(crate::proofs::Places::placed_again))]
+pub(crate) fn fill_down_again(field: &Field, candidate: &Seated, back: u8, by: &mut Numbers)
+    requires inside { HasSeats field.now candidate.now }
+    requires one { 1 ≤ back }
+    requires two { back ≤ 2 }
+    ensures { by.new.items ≡ differences (again field.now Down back (going_down field.now candidate.now)) }
+{
+    by.clear();
+    put_pairs(field, Float::Down, back, &candidate.pairs, by);
+    put_down(field, candidate.lowest, back, &candidate.down, by);
+}
+
+/// The same of those who go up and had an upfloat.
+pub(crate) fn fill_up_again(field: &Field, candidate: &Seated, back: u8, by: &mut Numbers)
+    requires inside { HasSeats field.now candidate.now }
+    requires one { 1 ≤ back }
+    requires two { back ≤ 2 }
+    ensures { by.new.items ≡ differences (again field.now Up back (going_up field.now candidate.now)) }
+{
+    by.clear();
+    put_pairs(field, Float::Up, back, &candidate.pairs, by);
 }

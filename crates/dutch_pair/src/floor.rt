@@ -1,6 +1,6 @@
 // The floor of a beginning: a quality that no candidate with it is better than (C.04.3 C.6 to C.19). It is asked at each beginning
 // that a choice comes to, so it takes no memory and looks at each player a few times.
-ghost use Rattle.std.specs.Prelude.{◌≡◌, ◌<◌, ◌≤◌, ◌||◌, ◌&&◌, true, false, length, MatchOption};
+ghost use Rattle.std.specs.Prelude.{◌≡◌, ◌<◌, ◌≤◌, ◌||◌, ◌&&◌, true, length};
 ghost use Rattle.dutch_order.specs.Arrangements.{Fits};
 ghost use Rattle.dutch_order.specs.declared.numbers.TheConstants.{LIMIT};
 ghost use Rattle.dutch_pair.specs.QualityIn.{quality_in};
@@ -11,15 +11,15 @@ ghost use Rattle.dutch_pair.specs.Seated.{all_pairs, AllNumbers, AllPairs, HasSe
 ghost use Rattle.dutch_pair.specs.Outlooks.{awaited};
 ghost use Rattle.dutch_pair.specs.FloorOf.{HasNumbers, is_flat, is_uniform, is_known, has_s1, residents_score, psd_by, more_by, floor_by, floor_of};
 
-use crate::begun::{Begun, fixed, fixed_lists, is_of_shape};
+use crate::begun::{Begun, fill_fixed, fixed_lists, is_of_shape};
 use crate::colour_floor::{missed, missed_strong, more_missed};
 use crate::context::Context;
-use crate::differences::psd;
+use crate::differences::fill_psd;
 use crate::lonely::lonely;
 use crate::outlook::Outlook;
 use crate::pair_facts::PairFacts;
-use crate::psd_floor::psd_with;
-use crate::quality::{Given, NextValue, Quality, quality_by};
+use crate::psd_floor::fill_psd_with;
+use crate::quality::{NextValue, Quality, Room, fill_others};
 use crate::seated::{Pair, Seated};
 use dutch_order::bracket::Shape;
 use dutch_order::numbers::{LIMIT, Numbers, numbered_from};
@@ -37,11 +37,14 @@ pub(crate) struct Floors<'a> {
     flat: bool,
     // all S1 leave moved-down players with the same scores
     uniform: bool,
+    // the first S1
+    first: Numbers,
 }
 
 impl<'a> Model for Floors<'a> {
     ghost use Rattle.std.specs.Prelude.{◌≡◌};
     ghost use Rattle.dutch_order.specs.Arrangements.{Fits};
+    ghost use Rattle.dutch_order.specs.Choices.{numbers_from};
     ghost use Rattle.dutch_pair.specs.Reached.{frame_of};
     ghost use Rattle.dutch_pair.specs.FloorOf.{Basis, is_flat, is_uniform};
 
@@ -50,7 +53,8 @@ impl<'a> Model for Floors<'a> {
     ghost view = { λ f. record { facts = f.pairs.facts; stand = f.pairs.stand; shape = f.shape; outlook = f.outlook } };
 
     ghost invariant = { λ f. (Fits (frame_of f.pairs.facts f.pairs.stand) f.shape)
-        × (f.flat ≡ is_flat f.pairs.facts f.pairs.stand) × (f.uniform ≡ is_uniform f.pairs.facts f.pairs.stand f.shape) };
+        × (f.flat ≡ is_flat f.pairs.facts f.pairs.stand) × (f.uniform ≡ is_uniform f.pairs.facts f.pairs.stand f.shape)
+        × (f.first.items ≡ numbers_from 1 f.shape.mdps) };
 }
 
 /// Whether there is a resident, and all residents have one score.
@@ -100,6 +104,7 @@ impl<'a> Floors<'a> {
             outlook,
             flat,
             uniform,
+            first: numbered_from(1, shape.mdps),
         }
     }
 
@@ -115,22 +120,22 @@ impl<'a> Floors<'a> {
         self.shape
     }
 
-    /// The PSD that S1 gives where all residents have one score.
+    /// Fills a list with the PSD that S1 gives where all residents have one score.
     #[tactic(auto, using(crate::proofs::FloorLemmas::has_room))]
-    fn psd_with(&self, s1: &[u16]) -> Numbers
+    fn fill_psd_with(&self, s1: &[u16], psd: &mut Numbers)
         requires resident { self.now.stand.mdps < length self.now.stand.seats }
         requires numbers { AllNumbers self.now.stand.seats s1.now }
         requires few { length s1.now ≤ self.now.shape.mdps }
-        ensures { result.items ≡ psd_with self.now.facts self.now.stand self.now.shape (residents_score self.now.facts self.now.stand) s1.now }
+        ensures { psd.new.items ≡ psd_with self.now.facts self.now.stand self.now.shape (residents_score self.now.facts self.now.stand) s1.now }
     {
         let context = self.pairs.context();
         let score = context.score(context.reached().mdps() as u16 + 1);
-        psd_with(context, self.shape(), score, s1)
+        fill_psd_with(context, self.shape(), score, s1, psd)
     }
 
     /// The best that the next bracket can be behind arrangements with an S1 (C.7).
-    fn awaited(&self, filling: Filling, s1: &[u16]) -> NextValue
-        ensures { result ≡ awaited self.now.facts self.now.stand self.now.shape self.now.outlook filling s1.now }
+    fn awaited(&self, filling: Filling, s1: &[u16]) -> &NextValue
+        ensures { result.now ≡ awaited self.now.facts self.now.stand self.now.shape self.now.outlook filling s1.now }
     {
         self.outlook
             .awaited(self.pairs.context(), self.shape(), filling, s1)
@@ -153,61 +158,62 @@ impl<'a> Floors<'a> {
         }
     }
 
-    /// The PSD (C.6).
-    #[tactic(auto, using(crate::proofs::FloorLemmas::first_numbers))]
-    fn psd_by(&self, filling: Filling, begun: &Begun<'_>, seated: &Seated) -> Numbers
+    /// Fills a list with the PSD (C.6).
+    #[tactic(auto, using(crate::proofs::FloorLemmas::first_numbers, crate::proofs::FloorLemmas::first_length))]
+    fn fill_psd(&self, filling: Filling, begun: &Begun<'_>, seated: &Seated, psd: &mut Numbers)
         requires seated { seated.now ≡ fixed self.now.facts self.now.stand begun.now }
         requires inside { HasSeats self.now.facts seated.now }
         requires numbers { AllNumbers self.now.stand.seats begun.now.s1 }
         requires few { length begun.now.s1 ≤ self.now.shape.mdps }
-        ensures { result.items ≡ psd_by filling self.now begun.now }
+        ensures { psd.new.items ≡ psd_by filling self.now begun.now }
     {
-        let shape = self.shape();
+        let _shape = self.shape();
         if !self.flat {
-            return psd(self.pairs.context().field(), seated);
+            return fill_psd(self.pairs.context().field(), seated, psd);
         }
         match filling {
-            Filling::S1 => return self.psd_with(&numbered_from(1, shape.mdps)),
-            Filling::S2 | Filling::S2r => return self.psd_with(begun.s1),
+            Filling::S1 => return self.fill_psd_with(&self.first, psd),
+            Filling::S2 | Filling::S2r => return self.fill_psd_with(begun.s1, psd),
         }
     }
 
-    /// The floor by the list that is being filled and those that are fixed.
-    fn floor_by(&self, filling: Filling, begun: &Begun<'_>) -> Quality
+    /// Fills the floor by the list that is being filled and those that are fixed.
+    fn fill_floor(&self, filling: Filling, begun: &Begun<'_>, room: &mut Room)
         requires numbers { HasNumbers self.now.stand begun.now }
         requires few { length begun.now.s1 ≤ self.now.shape.mdps }
-        ensures { quality_in result ≡ floor_by filling self.now begun.now }
+        ensures { quality_in room.new.quality ≡ floor_by filling self.now begun.now }
     {
         let context = self.pairs.context();
-        let shape = self.shape();
-        let seated = fixed(context, begun);
+        let seated = &mut room.seated;
+        let quality = &mut room.quality;
+        fill_fixed(context, begun, seated);
         let more = self.more_by(filling, begun, &seated.pairs);
-        let more_strong = more_missed(context, shape, &seated.pairs, true);
-        let given = Given {
-            psd: self.psd_by(filling, begun, &seated),
-            next: self.awaited(filling, begun.s1),
-            missed_preferences: missed(context, &seated.pairs) + more as u16,
-            missed_strong: missed_strong(context, &seated.pairs) + more_strong as u16,
-        };
-        quality_by(context.field(), &seated, given)
+        let more_strong = more_missed(context, self.shape(), &seated.pairs, true);
+        self.fill_psd(filling, begun, seated, &mut quality.psd);
+        let next = self.awaited(filling, begun.s1);
+        quality.put_next(next.pairs, &next.psd);
+        quality.missed_preferences = missed(context, &seated.pairs) + more as u16;
+        quality.missed_strong = missed_strong(context, &seated.pairs) + more_strong as u16;
+        fill_others(context.field(), seated, quality);
     }
 
-    /// The floor of a beginning. None is known where its lists are not of the bracket and the shape, or where S1 is not chosen and
+    /// Fills the floor of a beginning. None is known where its lists are not of the bracket and the shape, or where S1 is not chosen and
     /// it matters which is.
     #[tactic(auto, using(crate::proofs::FloorLemmas::numbers_fit, crate::proofs::FloorLemmas::first_few))]
-    pub(crate) fn floor(&self, prefix: &Prefix<'_>) -> Option<Quality>
-        ensures { MatchOption result (is_known self.now prefix.now ≡ false)
-            (λ f. (is_known self.now prefix.now ≡ true) × (quality_in f ≡ floor_of self.now prefix.now)) }
+    pub(crate) fn floor(&self, prefix: &Prefix<'_>, room: &mut Room) -> bool
+        ensures known { result ≡ is_known self.now prefix.now }
+        ensures value { result ≡ true → quality_in room.new.quality ≡ floor_of self.now prefix.now }
     {
         let begun = fixed_lists(prefix);
         let shape = self.shape();
         if !is_of_shape(self.pairs.context().reached(), shape, &begun) {
-            return None;
+            return false;
         }
         if !has_s1(prefix.filling()) && !self.uniform {
-            return None;
+            return false;
         }
-        Some(self.floor_by(prefix.filling(), &begun))
+        self.fill_floor(prefix.filling(), &begun, room);
+        true
     }
 
     /// The quality that a first pass aims at, where all residents have one score: what a beginning with the first S1 promises up to
@@ -217,14 +223,15 @@ impl<'a> Floors<'a> {
         if !self.flat {
             return None;
         }
-        let first = numbered_from(1, self.shape().mdps);
+        let _shape = self.shape();
         let begun = Begun {
-            s1: &first,
+            s1: &self.first,
             s2: &[],
             s1r: &[],
             s2r: &[],
         };
-        let floor = self.floor_by(Filling::S2, &begun);
-        Some(floor.with_the_worst_floats())
+        let mut room = Room::default();
+        self.fill_floor(Filling::S2, &begun, &mut room);
+        Some(room.quality.with_the_worst_floats())
     }
 }

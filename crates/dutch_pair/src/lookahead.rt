@@ -10,12 +10,13 @@ ghost use Rattle.dutch_pair.specs.QualityIn.{quality_in};
 ghost use Rattle.dutch_pair.specs.NextBracket.{IsDraw, IsFlat, AreLeft, IsNext, next_stand, value_in, value_of, quality};
 ghost use Rattle.dutch_order.specs.Steps.{Spends};
 
-use crate::differences::psd;
+use crate::differences::fill_psd;
 use crate::greatest::greatest_shape;
-use crate::quality::{NextValue, Quality, quality_with};
+use crate::quality::{NextValue, Quality, Room, fill_quality};
 use crate::reached::{Kind, Reached, bracket};
 use crate::seated::{by_seats, seats_of};
 use dutch_order::candidate::Candidate;
+use dutch_order::numbers::Numbers;
 use dutch_order::steps::{Budget, Step};
 use dutch_player::field::Field;
 
@@ -40,9 +41,11 @@ pub(crate) fn value_of(field: &Field, reached: &Reached, budget: &mut Budget) ->
     match greatest_shape(&bracket, &rule, budget) {
         Step::Found(greatest) => {
             let first = by_seats(field, reached.seats(), &greatest.first);
+            let mut psd = Numbers::new();
+            fill_psd(field, &first, &mut psd);
             Some(NextValue {
                 pairs: greatest.shape.pairs,
-                psd: psd(field, &first),
+                psd,
             })
         }
         Step::End => Some(NextValue::none()),
@@ -123,7 +126,12 @@ pub fn quality(
     ensures spends { Spends budget.old budget.new }
 {
     match next_value(field, reached, candidate, next, budget) {
-        Some(value) => Some(quality_with(field, reached.seats(), candidate, value)),
+        Some(value) => {
+            let mut room = Room::default();
+            room.quality.put_next(value.pairs, &value.psd);
+            fill_quality(field, reached.seats(), candidate, &mut room);
+            Some(room.quality)
+        }
         None => None,
     }
 }

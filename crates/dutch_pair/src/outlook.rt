@@ -1,25 +1,20 @@
 // The best that the next bracket can be, found before any candidate is looked at (C.04.3 C.7): by ghosts where the bracket's residents
 // have one score, and else by counting players.
-ghost use Rattle.std.specs.Prelude.{◌≡◌, ◌+◌, ◌*◌, ◌++◌, ◌≤◌, [], length, map};
+ghost use Rattle.std.specs.Prelude.{◌≡◌, ◌*◌, ◌≤◌, [], length};
 ghost use Rattle.std.specs.Option.{MatchOption};
-ghost use Rattle.arrayvec.specs.ArrayVec.{array_vec_len};
-ghost use Rattle.dutch_order.specs.Arrangements.{Fits, left_of};
-ghost use Rattle.dutch_order.specs.Choices.{is_same};
-ghost use Rattle.dutch_order.specs.declared.numbers.TheConstants.{LIMIT};
+ghost use Rattle.dutch_order.specs.Arrangements.{Fits};
 ghost use Rattle.dutch_pair.specs.declared.reached.Kind.TheVariants.{Ordinary};
 ghost use Rattle.dutch_pair.specs.FloorOf.{is_flat};
 ghost use Rattle.dutch_pair.specs.Ghosts.{pairs_by_counts};
-ghost use Rattle.dutch_pair.specs.Outlooks.{IsOutlook, awaited, leaves_first, leaves_first_by, limbo_scores};
+ghost use Rattle.dutch_pair.specs.Outlooks.{IsOutlook, awaited, leaves_first, leaves_first_by};
 ghost use Rattle.dutch_pair.specs.Reached.{IsOf, frame_of};
-ghost use Rattle.dutch_pair.specs.Seated.{AllNumbers, score_at, seat_of};
 ghost use Rattle.dutch_order.specs.Steps.{Spends};
 
 use crate::context::Context;
-use crate::ghost_value::{ghost_value, limbo_scores as first_limbo};
+use crate::ghost_value::ghost_value;
 use crate::group::split_first_group;
 use crate::quality::NextValue;
-use crate::reached::{Kind, Reached, push_all};
-use arrayvec::ArrayVec;
+use crate::reached::{Kind, Reached};
 use dutch_order::bracket::Shape;
 use dutch_order::numbers::Numbers;
 use dutch_order::prefix::Filling;
@@ -35,57 +30,28 @@ pub(crate) struct Outlook {
     pub(crate) any: NextValue,
 }
 
-/// A value once more.
-fn copied(value: &NextValue) -> NextValue
-    ensures { result ≡ value.now }
-{
-    let mut psd = Numbers::new();
-    push_all(&value.psd, &mut psd);
-    NextValue {
-        pairs: value.pairs,
-        psd,
-    }
-}
-
-/// Adds the scores of those of some numbers who are not in S1.
-fn push_left(context: &Context<'_>, numbers: &[u16], s1: &[u16], scores: &mut Numbers)
-    requires numbers { AllNumbers context.now.stand.seats numbers.now }
-    requires room { array_vec_len scores.old + length numbers.now ≤ LIMIT }
-    ensures items { scores.new.items ≡ scores.old.items
-        ++ map (λ i. score_at context.now.facts (seat_of context.now.stand.seats i)) (left_of numbers.now s1.now) }
-{
-    for number in numbers {
-        if !s1.contains(number) {
-            scores.push(context.score(*number));
-        }
-    }
-}
-
-/// The scores of the moved-down players who are not in an S1, in half points.
-fn limbo_scores(context: &Context<'_>, s1: &[u16]) -> Numbers
-    ensures { result.items ≡ limbo_scores context.now.facts context.now.stand s1.now }
-{
-    let moved_down = context.moved_down();
-    let mut scores = ArrayVec::new();
-    push_left(context, &moved_down, s1, &mut scores);
-    scores
-}
-
-/// Whether two lists are the same.
-fn is_same(one: &[u16], other: &[u16]) -> bool
-    ensures { result ≡ is_same one.now other.now }
-{
-    one == other
-}
-
 /// Whether an S1 leaves a Limbo with the scores of the first one of a shape.
+#[tactic(auto, using(crate::proofs::ArrangementParts::next_number))]
 fn leaves_first(context: &Context<'_>, shape: Shape, s1: &[u16]) -> bool
     requires { Fits (frame_of context.now.facts context.now.stand) shape }
     ensures { result ≡ leaves_first context.now.facts context.now.stand shape s1.now }
 {
-    let left = limbo_scores(context, s1);
-    let first = first_limbo(context.field(), context.reached(), shape);
-    is_same(&left, &first)
+    let moved_down = context.reached().mdps();
+    // how many numbers stand before those of the first Limbo that are to come
+    let mut passed = shape.mdps;
+    for above in 0..moved_down {
+        let number = above as u16 + 1;
+        if !s1.contains(&number) {
+            if passed == moved_down {
+                return false;
+            }
+            if context.score(number) != context.score(passed as u16 + 1) {
+                return false;
+            }
+            passed += 1;
+        }
+    }
+    passed == moved_down
 }
 
 /// The same, where it is known that every S1 does as long as none is chosen.
@@ -161,18 +127,18 @@ impl Outlook {
         shape: Shape,
         filling: Filling,
         s1: &[u16],
-    ) -> NextValue
+    ) -> &NextValue
         requires { Fits (frame_of context.now.facts context.now.stand) shape }
-        ensures { result ≡ awaited context.now.facts context.now.stand shape self.now filling s1.now }
+        ensures { result.now ≡ awaited context.now.facts context.now.stand shape self.now filling s1.now }
     {
         match &self.first {
             Some(first) => {
                 if leaves_first_by(context, shape, filling, s1) {
-                    return copied(first);
+                    return first;
                 }
-                return copied(&self.any);
+                return &self.any;
             }
-            None => return copied(&self.any),
+            None => return &self.any,
         }
     }
 }

@@ -11,16 +11,8 @@ ghost use Rattle.dutch_pair.specs.PsdFloors.{repeated, psd_with};
 
 use crate::context::Context;
 use crate::differences::{put, put_times};
-use arrayvec::ArrayVec;
 use dutch_order::bracket::Shape;
 use dutch_order::numbers::Numbers;
-
-/// Moved-down context, and S1.
-#[derive(Clone, Copy)]
-struct Left<'a> {
-    moved_down: &'a [u16],
-    s1: &'a [u16],
-}
 
 /// Puts the differences of moved-down players who are paired with residents of a score.
 fn put_paired(context: &Context<'_>, score: u16, s1: &[u16], psd: &mut Numbers)
@@ -34,53 +26,39 @@ fn put_paired(context: &Context<'_>, score: u16, s1: &[u16], psd: &mut Numbers)
     }
 }
 
-/// Puts the differences of those of some moved-down players who are not in S1, and so are not paired.
-fn put_left(context: &Context<'_>, score: u16, lists: Left<'_>, psd: &mut Numbers)
-    requires numbers { AllNumbers context.now.stand.seats lists.moved_down.now }
-    requires room { array_vec_len psd.old + length lists.moved_down.now ≤ LIMIT }
-    ensures items { psd.new.items ≡ placed_all psd.old.items
-        (map (λ i. (score_at context.now.facts (seat_of context.now.stand.seats i) - score) + 2) (left_of lists.entry.moved_down.now lists.entry.s1.now)) }
-    ensures len { array_vec_len psd.new ≤ array_vec_len psd.old + length lists.entry.moved_down.now }
-{
-    for number in lists.moved_down {
-        if !lists.s1.contains(number) {
-            put(psd, context.score(*number).saturating_sub(score) + 2);
-        }
-    }
-}
-
-/// The same of all moved-down players.
+/// Puts the differences of the moved-down players who are not in S1, and so are not paired.
+#[tactic(auto, using(crate::proofs::ArrangementParts::next_number))]
 fn put_limbo(context: &Context<'_>, score: u16, s1: &[u16], psd: &mut Numbers)
     requires room { array_vec_len psd.old + context.now.stand.mdps ≤ LIMIT }
     ensures items { psd.new.items ≡ placed_all psd.old.items
         (map (λ i. (score_at context.now.facts (seat_of context.now.stand.seats i) - score) + 2) (left_of (numbers_from 1 context.now.stand.mdps) s1.now)) }
     ensures len { array_vec_len psd.new ≤ array_vec_len psd.old + context.now.stand.mdps }
 {
-    let moved_down = context.moved_down();
-    put_left(
-        context,
-        score,
-        Left {
-            moved_down: &moved_down,
-            s1,
-        },
-        psd,
-    );
+    for above in 0..context.reached().mdps() {
+        let number = above as u16 + 1;
+        if !s1.contains(&number) {
+            put(psd, context.score(number).saturating_sub(score) + 2);
+        }
+    }
 }
 
-/// The PSD of each arrangement of a shape with an S1, where all residents have a score.
+/// Fills a list with the PSD of each arrangement of a shape with an S1, where all residents have a score.
 #[tactic(auto, using(crate::proofs::Places::placed_all_append))]
-pub(crate) fn psd_with(context: &Context<'_>, shape: Shape, score: u16, s1: &[u16]) -> Numbers
+pub(crate) fn fill_psd_with(
+    context: &Context<'_>,
+    shape: Shape,
+    score: u16,
+    s1: &[u16],
+    psd: &mut Numbers,
+)
     requires numbers { AllNumbers context.now.stand.seats s1.now }
     requires room { (length s1.now + context.now.stand.mdps) + (remainder_pairs shape + residents_down context.now.stand shape) ≤ LIMIT }
     requires small { shape.pairs ≤ LIMIT }
-    ensures { result.items ≡ psd_with context.now.facts context.now.stand shape score s1.now }
+    ensures { psd.new.items ≡ psd_with context.now.facts context.now.stand shape score s1.now }
 {
-    let pairs = shape.pairs.saturating_sub(shape.mdps);
-    let mut psd = ArrayVec::new();
-    put_paired(context, score, s1, &mut psd);
-    put_limbo(context, score, s1, &mut psd);
-    put_times(0, pairs, &mut psd);
-    put_times(2, context.residents_down(shape), &mut psd);
-    psd
+    psd.clear();
+    put_paired(context, score, s1, psd);
+    put_limbo(context, score, s1, psd);
+    put_times(0, shape.pairs.saturating_sub(shape.mdps), psd);
+    put_times(2, context.residents_down(shape), psd);
 }

@@ -1,19 +1,18 @@
 // The quality of a candidate, by which candidates of one shape are compared (C.04.3 C.6 to C.19), specified item by item.
-ghost use Rattle.std.specs.Prelude.{◌≡◌};
+ghost use Rattle.std.specs.Prelude.{◌≡◌, ◌≤◌, length};
 ghost use Rattle.dutch_pair.specs.Seated.{by_seats, AreSeats, HasSeats, IsCandidate};
 ghost use Rattle.dutch_pair.specs.Quality.{quality_with, is_better};
 ghost use Rattle.dutch_pair.specs.NextBracket.{no_value};
-ghost use Rattle.dutch_pair.specs.QualityIn.{quality_in, quality_by};
+ghost use Rattle.dutch_pair.specs.QualityIn.{quality_in, next_in, with_next, with_others};
 
 use crate::colours_missed::{Miss, count_in_pairs, count_with_topscorers};
-use crate::differences::psd;
-use crate::floats::{again, going_down, going_up};
+use crate::differences::fill_psd;
+use crate::floats::{fill_down_again, fill_up_again};
 use crate::reached::push_all;
-use crate::seated::{Seated, by_seats};
+use crate::seated::Seated;
 use dutch_order::candidate::Candidate;
-use dutch_order::numbers::Numbers;
+use dutch_order::numbers::{LIMIT, Numbers};
 use dutch_player::field::Field;
-use dutch_player::float::Float;
 use std::cmp::Reverse;
 use std::marker::Model;
 
@@ -58,15 +57,15 @@ impl NextValue {
 
 /// The quality of a candidate: the items in the order in which they count. The smaller goes first, of the pairs of the next bracket
 /// the greater.
-#[derive(Debug, Drop, PartialEq, Eq, PartialOrd, Ord)]
+#[derive(Debug, Default, Drop, PartialEq, Eq, PartialOrd, Ord)]
 pub struct Quality {
-    psd: Numbers,
+    pub(crate) psd: Numbers,
     next_pairs: Reverse<usize>,
     next_psd: Numbers,
     wide_differences: u16,
     third_colours: u16,
-    missed_preferences: u16,
-    missed_strong: u16,
+    pub(crate) missed_preferences: u16,
+    pub(crate) missed_strong: u16,
     down_again: usize,
     up_again: usize,
     down_again_before: usize,
@@ -83,6 +82,16 @@ impl Quality {
         ensures { result ≡ is_better (quality_in self.now) (quality_in other.now) }
     {
         self.cmp(other).is_lt()
+    }
+
+    /// Fills what it says of the next bracket (C.7).
+    pub(crate) fn put_next(&mut self, pairs: usize, psd: &[u16])
+        requires { length psd.now ≤ LIMIT }
+        ensures { quality_in self.new ≡ with_next (record { pairs = pairs; psd = psd.now }) (quality_in self.old) }
+    {
+        self.next_pairs = Reverse(pairs);
+        self.next_psd.clear();
+        push_all(psd, &mut self.next_psd);
     }
 
     /// The same quality, but worse than any other one in the first item that floats decide (C.12), so that none of those counts.
@@ -198,66 +207,42 @@ impl Quality {
     }
 }
 
-/// What a quality says of the differences, of the next bracket, and of missed preferences (C.6, C.7, C.10, C.11).
-#[derive(Debug, Drop)]
-pub(crate) struct Given {
-    pub(crate) psd: Numbers,
-    pub(crate) next: NextValue,
-    pub(crate) missed_preferences: u16,
-    pub(crate) missed_strong: u16,
+/// Where a quality is worked out, filled anew for each candidate and each beginning: its players by seats, and its items.
+#[derive(Debug, Default, Drop)]
+pub(crate) struct Room {
+    pub(crate) seated: Seated,
+    pub(crate) quality: Quality,
 }
 
-impl Model for Given {
-    ghost use Rattle.dutch_pair.specs.QualityIn.{Given};
-
-    ghost Value = { Given };
-
-    ghost view = { λ g. record { psd = g.psd.items; next = g.next; missed_preferences = g.missed_preferences; missed_strong = g.missed_strong } };
-}
-
-/// A quality with items that are given, the others being those of a candidate by seats.
+/// Fills a quality with the items of a candidate by seats, but for those of C.6, C.7, C.10 and C.11, which stay.
 #[tactic(auto, using(crate::proofs::Places::length_differences))]
-pub(crate) fn quality_by(field: &Field, candidate: &Seated, given: Given) -> Quality
+pub(crate) fn fill_others(field: &Field, candidate: &Seated, quality: &mut Quality)
     requires { HasSeats field.now candidate.now }
-    ensures { quality_in result ≡ quality_by field.now candidate.now given }
+    ensures { quality_in quality.new ≡ with_others field.now candidate.now (quality_in quality.old) }
 {
-    let down = going_down(field, candidate);
-    let up = going_up(field, candidate);
-    let down_again_by = again(field, Float::Down, 1, &down);
-    let up_again_by = again(field, Float::Up, 1, &up);
-    let down_again_before_by = again(field, Float::Down, 2, &down);
-    let up_again_before_by = again(field, Float::Up, 2, &up);
-    Quality {
-        psd: given.psd,
-        next_pairs: Reverse(given.next.pairs),
-        next_psd: given.next.psd,
-        wide_differences: count_with_topscorers(field, Miss::Wide, &candidate.pairs),
-        third_colours: count_with_topscorers(field, Miss::Third, &candidate.pairs),
-        missed_preferences: given.missed_preferences,
-        missed_strong: given.missed_strong,
-        down_again: down_again_by.len(),
-        up_again: up_again_by.len(),
-        down_again_before: down_again_before_by.len(),
-        up_again_before: up_again_before_by.len(),
-        down_again_by,
-        up_again_by,
-        down_again_before_by,
-        up_again_before_by,
-    }
+    quality.wide_differences = count_with_topscorers(field, Miss::Wide, &candidate.pairs);
+    quality.third_colours = count_with_topscorers(field, Miss::Third, &candidate.pairs);
+    fill_down_again(field, candidate, 1, &mut quality.down_again_by);
+    fill_up_again(field, candidate, 1, &mut quality.up_again_by);
+    fill_down_again(field, candidate, 2, &mut quality.down_again_before_by);
+    fill_up_again(field, candidate, 2, &mut quality.up_again_before_by);
+    quality.down_again = quality.down_again_by.len();
+    quality.up_again = quality.up_again_by.len();
+    quality.down_again_before = quality.down_again_before_by.len();
+    quality.up_again_before = quality.up_again_before_by.len();
 }
 
-/// The quality of a candidate of a bracket with these seats, for a value of the next bracket.
-pub fn quality_with(field: &Field, seats: &[u16], candidate: &Candidate, next: NextValue) -> Quality
+/// Fills the quality of a candidate of a bracket with these seats, for the value of the next bracket that it has.
+pub(crate) fn fill_quality(field: &Field, seats: &[u16], candidate: &Candidate, room: &mut Room)
     requires bracket { AreSeats field.now seats.now }
     requires candidate { IsCandidate seats.now candidate.now }
-    ensures { quality_in result ≡ quality_with field.now (by_seats field.now seats.now candidate.now) next }
+    ensures { quality_in room.new.quality ≡ quality_with field.now (by_seats field.now seats.now candidate.now) (next_in (quality_in room.old.quality)) }
 {
-    let candidate = by_seats(field, seats, candidate);
-    let given = Given {
-        psd: psd(field, &candidate),
-        next,
-        missed_preferences: count_in_pairs(field, Miss::Preference, &candidate.pairs),
-        missed_strong: count_in_pairs(field, Miss::StrongPreference, &candidate.pairs),
-    };
-    quality_by(field, &candidate, given)
+    let seated = &mut room.seated;
+    let quality = &mut room.quality;
+    seated.fill(field, seats, candidate);
+    fill_psd(field, seated, &mut quality.psd);
+    quality.missed_preferences = count_in_pairs(field, Miss::Preference, &seated.pairs);
+    quality.missed_strong = count_in_pairs(field, Miss::StrongPreference, &seated.pairs);
+    fill_others(field, seated, quality);
 }

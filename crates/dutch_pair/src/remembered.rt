@@ -18,7 +18,7 @@ use crate::context::Context;
 use crate::fault::PairFault;
 use crate::group::split_first_group;
 use crate::lookahead::{quality, value_below};
-use crate::quality::{NextValue, Quality, quality_with};
+use crate::quality::{NextValue, Quality, Room, fill_quality};
 use crate::reached::{Kind, Reached, Seats, push_all};
 use dutch_order::candidate::Candidate;
 use dutch_order::numbers::{LIMIT, Numbers};
@@ -184,12 +184,12 @@ impl<'a> LookAhead<'a> {
     {
         let (field, reached) = (self.field, self.reached);
         match self.value(candidate.down(), budget) {
-            Look::Value { pairs, psd } => Some(quality_with(
-                field,
-                reached.seats(),
-                candidate,
-                NextValue { pairs, psd },
-            )),
+            Look::Value { pairs, psd } => {
+                let mut room = Room::default();
+                room.quality.put_next(pairs, &psd);
+                fill_quality(field, reached.seats(), candidate, &mut room);
+                Some(room.quality)
+            }
             Look::Undecided => None,
         }
     }

@@ -1,12 +1,13 @@
 // A candidate by the seats of its players: its pairs, and who goes down or up in them (C.04.3 A.8).
 ghost use Rattle.std.specs.Prelude.{◌≡◌, ◌+◌, ◌<◌, ◌≤◌, ◌++◌, length, map};
 ghost use Rattle.arrayvec.specs.ArrayVec.{array_vec_len};
-ghost use Rattle.dutch_pair.specs.Seated.{seat_of, pairs_of, lowest, lowest_upto, by_seats, difference, difference_down, is_uneven, goes_down, goes_up, AreSeats, AllNumbers, HasSeats, IsCandidate};
+ghost use Rattle.dutch_pair.specs.Seated.{seat_of, pairs_of, lowest, lowest_upto, by_seats, difference, difference_down, is_uneven, goes, AreSeats, AllNumbers, HasSeats, IsCandidate};
 
 use arrayvec::ArrayVec;
 use dutch_order::candidate::Candidate;
 use dutch_order::numbers::{LIMIT, Numbers};
 use dutch_player::field::Field;
+use dutch_player::float::Float;
 use std::marker::Model;
 
 /// A player who goes down or up, and by how much.
@@ -20,7 +21,7 @@ pub struct Mover {
 pub type Pair = (u16, u16);
 
 /// A candidate by seats.
-#[derive(Debug, Drop)]
+#[derive(Debug, Default, Drop)]
 pub struct Seated {
     pub(crate) pairs: ArrayVec<Pair, LIMIT>,
     pub(crate) down: Numbers,
@@ -94,33 +95,18 @@ pub(crate) fn is_uneven(field: &Field, pair: Pair) -> bool
     field.score(pair.0) != field.score(pair.1)
 }
 
-/// The player of a pair with the higher score.
-pub(crate) fn goes_down(field: &Field, pair: Pair) -> Mover
+/// The player of a pair with different scores who floats so.
+pub(crate) fn goes(field: &Field, float: Float, pair: Pair) -> Mover
     requires first { pair.0 < length field.now.seats }
     requires second { pair.1 < length field.now.seats }
-    ensures value { result ≡ goes_down field.now pair }
+    ensures value { result ≡ goes field.now float pair }
     ensures inside { result.seat < length field.now.seats }
 {
     let by = difference(field, pair);
-    if field.score(pair.0) < field.score(pair.1) {
-        Mover { seat: pair.1, by }
-    } else {
-        Mover { seat: pair.0, by }
-    }
-}
-
-/// The player of a pair with the lower score.
-pub(crate) fn goes_up(field: &Field, pair: Pair) -> Mover
-    requires first { pair.0 < length field.now.seats }
-    requires second { pair.1 < length field.now.seats }
-    ensures value { result ≡ goes_up field.now pair }
-    ensures inside { result.seat < length field.now.seats }
-{
-    let by = difference(field, pair);
-    if field.score(pair.0) < field.score(pair.1) {
-        Mover { seat: pair.0, by }
-    } else {
-        Mover { seat: pair.1, by }
+    let first_is_lower = field.score(pair.0) < field.score(pair.1);
+    match (float, first_is_lower) {
+        (Float::Up, true) | (Float::Down, false) => Mover { seat: pair.0, by },
+        (Float::Up, false) | (Float::Down, true) => Mover { seat: pair.1, by },
     }
 }
 
@@ -143,17 +129,43 @@ pub(crate) fn push_pairs(
     }
 }
 
+/// Adds the seats of numbers.
+fn push_seats(seats: &[u16], numbers: &[u16], own: &mut Numbers)
+    requires inside { AllNumbers seats.now numbers.now }
+    requires room { array_vec_len own.old + length numbers.now ≤ LIMIT }
+    ensures { own.new.items ≡ own.old.items ++ map (seat_of seats.now) numbers.now }
+{
+    for number in numbers {
+        own.push(seat_of(seats, *number));
+    }
+}
+
 /// The seats of numbers.
 pub(crate) fn seats_of(seats: &[u16], numbers: &[u16]) -> Numbers
     requires inside { AllNumbers seats.now numbers.now }
     requires few { length numbers.now ≤ LIMIT }
     ensures { result.items ≡ map (seat_of seats.now) numbers.now }
 {
-    let mut own = ArrayVec::new();
-    for number in numbers {
-        own.push(seat_of(seats, *number));
-    }
+    let mut own = Numbers::new();
+    push_seats(seats, numbers, &mut own);
     own
+}
+
+impl Seated {
+    /// Fills it with a candidate of a bracket with these seats.
+    pub(crate) fn fill(&mut self, field: &Field, seats: &[u16], candidate: &Candidate)
+        requires bracket { AreSeats field.now seats.now }
+        requires candidate { IsCandidate seats.now candidate.now }
+        ensures value { self.new ≡ by_seats field.now seats.now candidate.now }
+        ensures inside { HasSeats field.now self.new }
+    {
+        self.pairs.clear();
+        push_pairs(seats, candidate.s1(), candidate.s2(), &mut self.pairs);
+        push_pairs(seats, candidate.s1r(), candidate.s2r(), &mut self.pairs);
+        self.down.clear();
+        push_seats(seats, candidate.down(), &mut self.down);
+        self.lowest = lowest(field, seats);
+    }
 }
 
 /// A candidate of a bracket with these seats, by seats.
@@ -163,12 +175,7 @@ pub(crate) fn by_seats(field: &Field, seats: &[u16], candidate: &Candidate) -> S
     ensures value { result ≡ by_seats field.now seats.now candidate.now }
     ensures inside { HasSeats field.now result }
 {
-    let mut pairs = ArrayVec::new();
-    push_pairs(seats, candidate.s1(), candidate.s2(), &mut pairs);
-    push_pairs(seats, candidate.s1r(), candidate.s2r(), &mut pairs);
-    Seated {
-        pairs,
-        down: seats_of(seats, candidate.down()),
-        lowest: lowest(field, seats),
-    }
+    let mut seated = Seated::default();
+    seated.fill(field, seats, candidate);
+    seated
 }

@@ -2,8 +2,7 @@
 //
 // A candidate is of no interest where the aim of the pass is better than it, or where it is not better than the candidate that is kept.
 // Both hold of each candidate with a beginning where they hold of a floor, a quality that none of them is better than.
-ghost use Rattle.std.specs.Prelude.{◌≡◌, false};
-ghost use Rattle.std.specs.Option.{MatchOption};
+ghost use Rattle.std.specs.Prelude.{◌≡◌, true, false};
 ghost use Rattle.dutch_order.specs.Arrangements.{Arrangement, Fits};
 ghost use Rattle.dutch_order.specs.Keys.{IsIn};
 ghost use Rattle.dutch_order.specs.Prefixes.{Begins};
@@ -16,7 +15,7 @@ ghost use Rattle.dutch_pair.specs.Round.{candidates_of, quality_of};
 use crate::choice::{Best, is_idle};
 use crate::context::Context;
 use crate::floor::Floors;
-use crate::quality::Quality;
+use crate::quality::{Quality, Room};
 use dutch_order::bound::Bound;
 use dutch_order::bracket::Shape;
 use dutch_order::prefix::Prefix;
@@ -33,14 +32,13 @@ pub(crate) struct Pass<'a> {
     ghost basis: { IsBasis context.now.facts context.now.stand context.now.lower shape floors },
 }
 
-/// A quality that no candidate with a beginning is better than; `None` where none is known.
-fn floor_of_prefix(pass: &Pass<'_>, prefix: &Prefix<'_>) -> Option<Quality>
-    ensures { MatchOption result (Unit {0})
-        (λ floor. (a : Arrangement) → IsIn a (candidates_of pass.now.context.now.facts pass.now.context.now.stand pass.now.shape) → Begins prefix.now a
-        → is_better (quality_of pass.now.context.now.facts pass.now.context.now.stand pass.now.context.now.lower a) (quality_in floor) ≡ false) }
+/// Fills a quality that no candidate with a beginning is better than: no where none is known.
+fn fill_floor(pass: &Pass<'_>, prefix: &Prefix<'_>, room: &mut Room) -> bool
+    ensures { result ≡ true → (a : Arrangement) → IsIn a (candidates_of pass.now.context.now.facts pass.now.context.now.stand pass.now.shape) → Begins prefix.now a
+        → is_better (quality_of pass.now.context.now.facts pass.now.context.now.stand pass.now.context.now.lower a) (quality_in room.new.quality) ≡ false }
 {
     let _reached = pass.context.reached();
-    pass.floors.floor(prefix)
+    pass.floors.floor(prefix, room)
 }
 
 /// Tells which beginnings a pass may skip, beside the candidate that it keeps.
@@ -51,6 +49,8 @@ pub(crate) struct Skipper<'a, 'k> {
 }
 
 impl<'a, 'k> Bound for Skipper<'a, 'k> {
+    type Room = ();
+
     ghost use Rattle.dutch_pair.specs.Reached.{frame_of, numbers_meet, number_may_be_left};
     ghost use Rattle.dutch_pair.specs.Round.{quality_of};
     ghost use Rattle.dutch_pair.specs.Aims.{aim_in, is_idle};
@@ -66,14 +66,15 @@ impl<'a, 'k> Bound for Skipper<'a, 'k> {
     ghost is_dull = { λ s a. is_idle (aim_in s.pass.now.aim) s.kept.now (quality_of s.pass.now.context.now.facts s.pass.now.context.now.stand s.pass.now.context.now.lower a) };
 
     #[tactic(auto, using(crate::proofs::AimLemmas::idle_floor))]
-    fn cannot_win(&self, prefix: &Prefix<'_>) -> bool {
+    fn cannot_win(&self, prefix: &Prefix<'_>, _room: &mut ()) -> bool {
         // then all are of interest
         if self.pass.aim.is_none() && self.kept.is_none() {
             return false;
         }
-        match floor_of_prefix(self.pass, prefix) {
-            Some(floor) => is_idle(&floor, &self.pass.aim, self.kept),
-            None => false,
+        let mut room = Room::default();
+        if !fill_floor(self.pass, prefix, &mut room) {
+            return false;
         }
+        is_idle(&room.quality, &self.pass.aim, self.kept)
     }
 }

@@ -229,6 +229,8 @@ struct Keeps<'a> {
 }
 
 impl<'a> Bound for Keeps<'a> {
+    type Room = ();
+
     ghost use Rattle.std.specs.Prelude.{not, ◌==◌, ◌&&◌, ◌||◌, slice_index};
 
     ghost frame = { λ k. k.bracket.now };
@@ -241,7 +243,7 @@ impl<'a> Bound for Keeps<'a> {
 
     ghost is_dull = { λ k a. not k.all && (not (slice_index a.s1r 0 == 1) || not (slice_index a.s1r 1 == 2)) };
 
-    fn cannot_win(&self, prefix: &Prefix<'_>) -> bool {
+    fn cannot_win(&self, prefix: &Prefix<'_>, _room: &mut ()) -> bool {
         if self.all {
             return false;
         }
@@ -260,6 +262,7 @@ fn are_left<B: Bound>(
     alloc: Global,
     mut candidates: Candidates<'_, Barred>,
     bound: &B,
+    room: &mut B::Room,
     numbers: &[u16],
 ) -> Result<bool, Fail>
     requires frame { B.frame bound.now ≡ candidates.frame }
@@ -273,7 +276,7 @@ fn are_left<B: Bound>(
     };
     let mut left = Vec::new(alloc);
     for _turn in 0..100u32 {
-        match candidates.next_within(bound, &mut budget) {
+        match candidates.next_within(bound, room, &mut budget) {
             Step::Found(candidate) => left.extend_from_slice(&numbers_of(alloc, &candidate)?)?,
             Step::End => return Ok(left.as_slice() == numbers),
             Step::Undecided => return Ok(false),
@@ -294,7 +297,7 @@ fn a_bound_leaves_one_s1r(rt: HostRuntime) -> Result<(), Fail> {
     };
     let candidates = Candidates::new(&bracket, shape, &FREE);
     let numbers = [1, 2, 3, 4, 1, 2, 4, 3];
-    assert!(rt; are_left(rt.alloc(), candidates, &bound, &numbers)?);
+    assert!(rt; are_left(rt.alloc(), candidates, &bound, &mut (), &numbers)?);
     Ok(())
 }
 
@@ -309,7 +312,7 @@ fn a_bound_that_always_says_no_leaves_all(rt: HostRuntime) -> Result<(), Fail> {
         all: true,
     };
     let candidates = Candidates::new(&bracket, shape, &FREE);
-    assert!(rt; are_left(rt.alloc(), candidates, &bound, &FOUR)?);
+    assert!(rt; are_left(rt.alloc(), candidates, &bound, &mut (), &FOUR)?);
     Ok(())
 }
 

@@ -4,8 +4,8 @@ use Rattle.dutch_pair.specs.Seated.{IsCandidate}
 use Rattle.dutch_pair.proofs.FlatBrackets.{candidate_of}
 use Rattle.dutch_pair.proofs.lookahead.quality.Goals as goal
 
-pub quality_with-requires-clause-candidate : goal.quality_with-requires-clause-candidate
-quality_with-requires-clause-candidate c =
+pub fill_quality-requires-clause-candidate : goal.fill_quality-requires-clause-candidate
+fill_quality-requires-clause-candidate c =
     let P : List ℕ → Type 0 = λ seats. IsCandidate seats c.args.candidate.now in
     subst P (sym c.seats.ensures)
     (candidate_of c.args.field.now c.args.reached.now c.requires.candidate.lists.0 c.args.candidate.now c.requires.of c.requires.candidate.lists.1 c.requires.candidate.down)

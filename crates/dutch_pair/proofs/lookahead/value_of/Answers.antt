@@ -25,9 +25,9 @@ returns-in-Found-clause-answer c =
     let greatest = c.in-Found.greatest in
     let known = greatest_as facts c.rule-rule.result.field.now stand c.rule-rule.result.reached.now c.frame-bracket.result greatest.shape greatest.first
     c.rule-rule.ensures.field c.rule-rule.ensures.reached c.frame-bracket.ensures c.in-Found.ensures.answer in
-    value_found facts stand greatest.shape greatest.first known.1.others c.psd.result.items c.requires.of c.requires.flat
+    value_found facts stand greatest.shape greatest.first known.1.others c.fill_psd.new.numbers.items c.requires.of c.requires.flat
     (let P : Frame → Type 0 = λ frame. (i : ℕ) → slice_index frame.scores i ≤ 65535 in
     subst P c.frame-bracket.ensures (let Q : List ℕ → Type 0 = λ scores. (i : ℕ) → slice_index scores i ≤ 65535 in subst Q c.scores.ensures.scores c.are_small.ensures))
     known.1.first known.1.down
-    (c.psd.ensures ∙ ap (λ (candidate : Seated). psd facts candidate) (c.by_seats-first.ensures.value ∙ ap (λ seats. by_seats facts seats greatest.first) c.seats.ensures))
+    (c.fill_psd.ensures ∙ ap (λ (candidate : Seated). psd facts candidate) (c.by_seats-first.ensures.value ∙ ap (λ seats. by_seats facts seats greatest.first) c.seats.ensures))
     ∙ ap (value_of_shape facts stand) (sym known.0)

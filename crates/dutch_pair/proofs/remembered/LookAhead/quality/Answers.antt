@@ -5,8 +5,8 @@ use Rattle.dutch_pair.specs.NextBracket.{IsDraw}
 use Rattle.dutch_pair.proofs.FlatBrackets.{candidate_of}
 use Rattle.dutch_pair.proofs.remembered.LookAhead.quality.Goals as goal
 
-pub quality_with-requires-clause-candidate : goal.quality_with-requires-clause-candidate
-quality_with-requires-clause-candidate c =
+pub fill_quality-requires-clause-candidate : goal.fill_quality-requires-clause-candidate
+fill_quality-requires-clause-candidate c =
     let drawn : IsDraw c.self.inside.field.now c.self.inside.reached.now c.args.candidate.now =
     subst (λ r. IsDraw r.facts r.stand c.args.candidate.now) (sym c.self.view_is) c.requires.candidate in
     let P : List ℕ → Type 0 = λ seats. IsCandidate seats c.args.candidate.now in
