@@ -236,24 +236,3 @@ module _ (pool : List ℕ) (k : ℕ) (hint : List ℕ) (size difference : ℕ) (
 
   pub trials-after : trials_of_stages pool k (greatest_difference pool k size - difference) size (suc difference) (lower beyond (lowest (ahead (hinted hint (exchange_plan pool k size difference)) path place))) ≡ trials_of_stages pool k (greatest_difference pool k size - difference) size (suc difference) (lower beyond' (lowest (ahead (hinted hint (exchange_plan pool k size difference)) path' place')))
   trials-after = ap (trials_of_stages pool k (greatest_difference pool k size - difference) size (suc difference)) next
-
--- at the numbers that the code has
-pub sets-at : (pool pool' : List ℕ) (k : ℕ) (hint hint' : List ℕ) (size size' difference difference' : ℕ) (path : List ℕ) (place place' : ℕ) (beyond beyond' : Option ℕ) → pool ≡ pool' → hint ≡ hint' → path ≡ [] → place ≡ place' → beyond ≡ beyond' → size ≡ size' → difference ≡ difference' → sets_ahead pool k hint size difference path place beyond ≡ sets_ahead pool' k hint' size' difference' [] place' beyond'
-sets-at pool pool' k hint hint' size size' difference difference' path place place' beyond beyond' same_pool same_hint no_path same_place same_beyond same_size same =
-    ap (λ pool. sets_ahead pool k hint size difference path place beyond) same_pool
-    ∙ ap (λ hint. sets_ahead pool' k hint size difference path place beyond) same_hint
-    ∙ ap (λ path. sets_ahead pool' k hint' size difference path place beyond) no_path
-    ∙ ap (λ place. sets_ahead pool' k hint' size difference [] place beyond) same_place
-    ∙ ap (λ beyond. sets_ahead pool' k hint' size difference [] place' beyond) same_beyond
-    ∙ ap (λ size. sets_ahead pool' k hint' size difference [] place' beyond') same_size
-    ∙ ap (λ difference. sets_ahead pool' k hint' size' difference [] place' beyond') same
-
-pub trials-at : (pool pool' : List ℕ) (k : ℕ) (hint hint' : List ℕ) (size size' difference difference' : ℕ) (path : List ℕ) (place place' : ℕ) (beyond beyond' : Option ℕ) → pool ≡ pool' → hint ≡ hint' → path ≡ [] → place ≡ place' → beyond ≡ beyond' → size ≡ size' → difference ≡ difference' → trials_ahead pool k hint size difference path place beyond ≡ trials_ahead pool' k hint' size' difference' [] place' beyond'
-trials-at pool pool' k hint hint' size size' difference difference' path place place' beyond beyond' same_pool same_hint no_path same_place same_beyond same_size same =
-    ap (λ pool. trials_ahead pool k hint size difference path place beyond) same_pool
-    ∙ ap (λ hint. trials_ahead pool' k hint size difference path place beyond) same_hint
-    ∙ ap (λ path. trials_ahead pool' k hint' size difference path place beyond) no_path
-    ∙ ap (λ place. trials_ahead pool' k hint' size difference [] place beyond) same_place
-    ∙ ap (λ beyond. trials_ahead pool' k hint' size difference [] place' beyond) same_beyond
-    ∙ ap (λ size. trials_ahead pool' k hint' size difference [] place' beyond') same_size
-    ∙ ap (λ difference. trials_ahead pool' k hint' size' difference [] place' beyond') same

@@ -1,12 +1,14 @@
 -- How exchanges are searched, stage by stage, one for each number of exchanged players and each difference of the sums: a model that
 -- carries the search, and which a reader of the promises may pass by.
-use Rattle.std.specs.Prelude.{ℕ, zero, suc, ◌+◌, ◌-◌, Bool, false, not, ◌&&◌, ◌==◌, nat_lt, nat_le, min, List, [], ◌∷◌, ◌++◌, map, filter, reverse, take, drop, length, slice_index, if◌then◌else◌, Option, Some, None}
+use Rattle.std.specs.Prelude.{ℕ, zero, suc, ◌+◌, ◌-◌, ◌≤◌, Bool, false, not, ◌&&◌, ◌==◌, nat_lt, nat_le, min, List, [], ◌∷◌, ◌++◌, map, filter, reverse, take, drop, length, slice_index, if◌then◌else◌, Option, Some, None}
 use Rattle.dutch_order.specs.Choices.{is_member, numbers_from}
+use Rattle.dutch_order.specs.declared.exchange.Place.{Place}
 use Rattle.dutch_order.specs.declared.exchange.Side.{Side}
 use Rattle.dutch_order.specs.declared.exchange.Side.TheVariants.{Out, In}
 use Rattle.dutch_order.specs.Trials.{Plan, hits, trials, lower, lowest, ahead}
 use Rattle.dutch_order.specs.Halves.{two_halves}
 use Rattle.dutch_order.specs.Hints.{hinted}
+use Rattle.dutch_order.specs.Walks.{Stands}
 
 -- the sum of what a function gives over a list
 abbrev pub total : (ℕ → ℕ) → List ℕ → ℕ
@@ -163,3 +165,17 @@ module _ (pool : List ℕ) (k : ℕ) where
   abbrev pub stages_ahead : ℕ → ℕ → ℕ
   stages_ahead size difference =
       (greatest_difference size - difference) + stages_of_sizes (most_exchanged - size) (suc size)
+
+  -- where a search may stand: so many can be exchanged, and its path is one of its stage
+  abbrev pub IsPlace : Place → Type 0
+  IsPlace place =
+      (place.size ≤ k) × (place.size ≤ length pool - k)
+      × Stands (hinted place.hint.items (exchange_plan place.size place.difference)) place.walk.path.items
+
+  -- the sets to come from where it stands
+  abbrev pub sets_from : Place → List (List ℕ)
+  sets_from place = sets_ahead place.hint.items place.size place.difference place.walk.path.items place.walk.number place.walk.beyond
+
+  -- and the trials
+  abbrev pub trials_from : Place → ℕ
+  trials_from place = trials_ahead place.hint.items place.size place.difference place.walk.path.items place.walk.number place.walk.beyond

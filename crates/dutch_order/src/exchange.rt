@@ -11,14 +11,14 @@
 ghost use Rattle.dutch_order.specs.declared.numbers.TheConstants.{LIMIT};
 ghost use Rattle.std.specs.Prelude.{◌≡◌, ◌+◌, ◌*◌, ◌-◌, ◌<◌, ◌≤◌, ℕ, suc, true, false, Some, [], ◌∷◌, ◌++◌, length, map, take, drop};
 ghost use Rattle.std.specs.List.{AllByRecursion};
-ghost use Rattle.dutch_order.specs.Stages.{least_at, greatest_at, least_difference, greatest_difference, exchange_plan, sets_ahead, trials_ahead, stages_ahead, set_of, kept_of, value_of, following, out_places, in_places, exchange_path, exchange_difference};
+ghost use Rattle.dutch_order.specs.Stages.{least_at, greatest_at, least_difference, greatest_difference, exchange_plan, IsPlace, sets_from, trials_from, stages_ahead, set_of, kept_of, value_of, following, out_places, in_places, exchange_path, exchange_difference};
 ghost use Rattle.dutch_order.specs.Exchange.{exchanges};
 ghost use Rattle.dutch_order.specs.Choices.{subsets, from_on, numbers_from};
 ghost use Rattle.dutch_order.specs.Keys.{IsIn};
 ghost use Rattle.std.specs.List.Sorted.{IsStrictlyIncreasing};
 ghost use Rattle.dutch_order.specs.declared.exchange.Side.TheVariants.{In};
 ghost use Rattle.dutch_order.specs.Steps.{MatchStep, Spends};
-ghost use Rattle.dutch_order.specs.Walks.{Stands, IsOpen};
+ghost use Rattle.dutch_order.specs.Walks.{IsOpen};
 ghost use Rattle.dutch_order.specs.Trials.{ahead};
 ghost use Rattle.dutch_order.specs.Hints.{hinted, first_hint};
 
@@ -95,7 +95,7 @@ fn reach_in(pool: &[u16], k: usize, size: usize, path: &[u16], place: usize) -> 
 }
 
 /// One stage of the search: a number of exchanged players, and a difference of the sums.
-#[derive(Clone, Copy)]
+#[derive(Drop)]
 struct Stage<'a> {
     pool: &'a [u16],
     k: usize,
@@ -275,21 +275,13 @@ fn enter_at(pool: &[u16], k: usize, set: &[u16], place: &mut Place)
 fn next_stage(pool: &[u16], k: usize, place: &mut Place) -> bool
     requires few { length pool.now ≤ LIMIT }
     requires enough { k ≤ length pool.now }
-    requires outs { place.old.size ≤ k }
-    requires ins { place.old.size ≤ length pool.now - k }
     requires spent { ahead (hinted place.old.hint.items (exchange_plan pool.now k place.old.size place.old.difference)) place.old.walk.path.items place.old.walk.number ≡ [] }
-    requires standing { Stands (hinted place.old.hint.items (exchange_plan pool.now k place.old.size place.old.difference)) place.old.walk.path.items }
-    ensures outs { place.new.size ≤ k }
-    ensures ins { place.new.size ≤ length pool.now - k }
-    ensures stands { Stands (hinted place.new.hint.items (exchange_plan pool.now k place.new.size place.new.difference)) place.new.walk.path.items }
-    ensures sets { sets_ahead pool.now k place.new.hint.items place.new.size place.new.difference place.new.walk.path.items place.new.walk.number place.new.walk.beyond
-        ≡ sets_ahead pool.now k place.old.hint.items place.old.size place.old.difference place.old.walk.path.items place.old.walk.number place.old.walk.beyond }
-    ensures trials { trials_ahead pool.now k place.new.hint.items place.new.size place.new.difference place.new.walk.path.items place.new.walk.number place.new.walk.beyond
-        ≡ trials_ahead pool.now k place.old.hint.items place.old.size place.old.difference place.old.walk.path.items place.old.walk.number place.old.walk.beyond }
+    requires standing { IsPlace pool.now k place.old }
+    ensures stands { IsPlace pool.now k place.new }
+    ensures sets { sets_from pool.now k place.new ≡ sets_from pool.now k place.old }
+    ensures trials { trials_from pool.now k place.new ≡ trials_from pool.now k place.old }
     ensures nearer { result ≡ true → stages_ahead pool.now k place.new.size place.new.difference < stages_ahead pool.now k place.old.size place.old.difference }
-    ensures ended { result ≡ false
-        → (sets_ahead pool.now k place.new.hint.items place.new.size place.new.difference place.new.walk.path.items place.new.walk.number place.new.walk.beyond ≡ [])
-        × (trials_ahead pool.now k place.new.hint.items place.new.size place.new.difference place.new.walk.path.items place.new.walk.number place.new.walk.beyond ≡ 0) }
+    ensures ended { result ≡ false → (sets_from pool.now k place.new ≡ []) × (trials_from pool.now k place.new ≡ 0) }
 {
     if let Some(next) = following_of(
         place.difference,
@@ -311,27 +303,16 @@ fn next_stage(pool: &[u16], k: usize, place: &mut Place) -> bool
 fn next_set(pool: &[u16], k: usize, place: &mut Place, budget: &mut Budget) -> Step<()>
     requires few { length pool.now ≤ LIMIT }
     requires enough { k ≤ length pool.now }
-    requires outs { place.old.size ≤ k }
-    requires ins { place.old.size ≤ length pool.now - k }
-    requires standing { Stands (hinted place.old.hint.items (exchange_plan pool.now k place.old.size place.old.difference)) place.old.walk.path.items }
+    requires standing { IsPlace pool.now k place.old }
     requires within { budget.old.used ≤ budget.old.limit }
-    ensures outs { place.new.size ≤ k }
-    ensures ins { place.new.size ≤ length pool.now - k }
-    ensures stands { Stands (hinted place.new.hint.items (exchange_plan pool.now k place.new.size place.new.difference)) place.new.walk.path.items }
+    ensures stands { IsPlace pool.now k place.new }
     ensures answer { MatchStep result
-        (λ _. (sets_ahead pool.now k place.old.hint.items place.old.size place.old.difference place.old.walk.path.items place.old.walk.number place.old.walk.beyond
-        ≡ set_of pool.now k place.new.size place.new.walk.path.items
-        ∷ sets_ahead pool.now k place.new.hint.items place.new.size place.new.difference place.new.walk.path.items place.new.walk.number place.new.walk.beyond)
+        (λ _. (sets_from pool.now k place.old ≡ set_of pool.now k place.new.size place.new.walk.path.items ∷ sets_from pool.now k place.new)
         × (length place.new.walk.path.items ≡ place.new.size + place.new.size))
-        ((sets_ahead pool.now k place.old.hint.items place.old.size place.old.difference place.old.walk.path.items place.old.walk.number place.old.walk.beyond ≡ [])
-        × (sets_ahead pool.now k place.new.hint.items place.new.size place.new.difference place.new.walk.path.items place.new.walk.number place.new.walk.beyond ≡ [])
-        × (trials_ahead pool.now k place.new.hint.items place.new.size place.new.difference place.new.walk.path.items place.new.walk.number place.new.walk.beyond ≡ 0))
-        ((sets_ahead pool.now k place.new.hint.items place.new.size place.new.difference place.new.walk.path.items place.new.walk.number place.new.walk.beyond
-        ≡ sets_ahead pool.now k place.old.hint.items place.old.size place.old.difference place.old.walk.path.items place.old.walk.number place.old.walk.beyond)
-        × (budget.new.used ≡ budget.new.limit)
-        × (0 < trials_ahead pool.now k place.new.hint.items place.new.size place.new.difference place.new.walk.path.items place.new.walk.number place.new.walk.beyond)) }
-    ensures steps { budget.new.used + trials_ahead pool.now k place.new.hint.items place.new.size place.new.difference place.new.walk.path.items place.new.walk.number place.new.walk.beyond
-        ≡ budget.old.used + trials_ahead pool.now k place.old.hint.items place.old.size place.old.difference place.old.walk.path.items place.old.walk.number place.old.walk.beyond }
+        ((sets_from pool.now k place.old ≡ []) × (sets_from pool.now k place.new ≡ []) × (trials_from pool.now k place.new ≡ 0))
+        ((sets_from pool.now k place.new ≡ sets_from pool.now k place.old)
+        × (budget.new.used ≡ budget.new.limit) × (0 < trials_from pool.now k place.new)) }
+    ensures steps { budget.new.used + trials_from pool.now k place.new ≡ budget.old.used + trials_from pool.now k place.old }
     ensures spends { Spends budget.old budget.new }
 {
     loop {
@@ -388,8 +369,7 @@ fn put_moved_in(pool: &[u16], k: usize, ins: &[u16], numbers: &mut Numbers)
 fn put_set(pool: &[u16], k: usize, place: &Place, numbers: &mut Numbers)
     requires few { length pool.now ≤ LIMIT }
     requires enough { k ≤ length pool.now }
-    requires ins { place.now.size ≤ length pool.now - k }
-    requires standing { Stands (hinted place.now.hint.items (exchange_plan pool.now k place.now.size place.now.difference)) place.now.walk.path.items }
+    requires standing { IsPlace pool.now k place.now }
     requires whole { length place.now.walk.path.items ≡ place.now.size + place.now.size }
     ensures { numbers.new.items ≡ set_of pool.now k place.now.size place.now.walk.path.items }
 {
@@ -413,20 +393,17 @@ impl Model for Exchanges {
     ghost use Rattle.dutch_order.specs.declared.numbers.TheConstants.{LIMIT};
     ghost use Rattle.std.specs.Prelude.{◌≤◌, ◌-◌, length};
     ghost use Rattle.dutch_order.specs.Steps.{Ahead};
-    ghost use Rattle.dutch_order.specs.Walks.{Stands};
-    ghost use Rattle.dutch_order.specs.Hints.{hinted};
-    ghost use Rattle.dutch_order.specs.Stages.{exchange_plan, sets_ahead, trials_ahead};
+    ghost use Rattle.dutch_order.specs.Stages.{IsPlace, sets_from, trials_from};
 
     ghost Value = { Ahead };
 
     ghost view = { λ t. record {
-      coming = sets_ahead t.pool.items t.k t.place.hint.items t.place.size t.place.difference t.place.walk.path.items t.place.walk.number t.place.walk.beyond;
-      left = trials_ahead t.pool.items t.k t.place.hint.items t.place.size t.place.difference t.place.walk.path.items t.place.walk.number t.place.walk.beyond;
+      coming = sets_from t.pool.items t.k t.place;
+      left = trials_from t.pool.items t.k t.place;
     } };
 
     ghost invariant = { λ t.
-        (length t.pool.items ≤ LIMIT) × (t.k ≤ length t.pool.items) × (t.place.size ≤ t.k) × (t.place.size ≤ length t.pool.items - t.k)
-        × Stands (hinted t.place.hint.items (exchange_plan t.pool.items t.k t.place.size t.place.difference)) t.place.walk.path.items };
+        (length t.pool.items ≤ LIMIT) × (t.k ≤ length t.pool.items) × IsPlace t.pool.items t.k t.place };
 }
 
 impl Exchanges {

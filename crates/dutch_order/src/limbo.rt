@@ -112,7 +112,7 @@ fn leaders(scores: &[u16], places: &[u16]) -> Path
 }
 
 /// Moved-down players by their scores, of whom sets of `k` are wanted.
-#[derive(Clone, Copy)]
+#[derive(Drop)]
 struct Ranked<'a> {
     scores: &'a [u16],
     k: usize,

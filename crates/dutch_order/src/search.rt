@@ -121,7 +121,7 @@ pub fn first_hint(hint: &[u16]) -> usize
 }
 
 /// A search that begins at a path which is known: after a beginning of that path it starts with the path's own next number.
-#[derive(Clone, Copy)]
+#[derive(Drop)]
 pub struct Hinted<'a, T> {
     pub tree: T,
     pub hint: &'a Path,

@@ -56,7 +56,7 @@ fn put_places(pool: &[u16], numbers: &[u16], path: &mut Path)
 }
 
 /// First players and the pool from which each gets an opponent.
-#[derive(Clone, Copy)]
+#[derive(Drop)]
 struct Opponents<'a, R> {
     first: &'a [u16],
     pool: &'a [u16],

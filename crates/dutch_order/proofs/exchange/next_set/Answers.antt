@@ -36,8 +36,6 @@ loop-place-preserved c =
     (ap hits c.in-End.ensures.answer.1 ∙ sym c.in-End.ensures.answer.0) in
     let after = trials-after c.args.pool.now c.args.k p.hint.items p.size p.difference c.climb_on.new.walk.path.items p.walk.path.items c.climb_on.new.walk.number p.walk.number c.climb_on.new.walk.beyond p.walk.beyond c.in-End.ensures.beyond in
     record {
-      outs = c.next_stage.ensures.outs;
-      ins = c.next_stage.ensures.ins;
       stands = c.next_stage.ensures.stands;
       sets = c.next_stage.ensures.sets ∙ same ∙ c.loop-place.invariant.sets;
       steps = omega (arith, after, c.next_stage.ensures.trials, c.in-End.ensures.steps, c.loop-place.invariant.steps);

@@ -1,6 +1,6 @@
-use Rattle.std.proofs.Common.{◌≡◌, ◌+◌, ◌<◌, ℕ, suc, ◌∙◌, ap, refl, subst, sym, arith, rules, [], None}
+use Rattle.std.proofs.Common.{◌≡◌, ◌+◌, ◌<◌, ℕ, suc, ◌∙◌, ap, subst, sym, arith, rules}
 use Rattle.dutch_order.specs.Stages.{least_difference, stages_ahead}
-use Rattle.dutch_order.proofs.StageMoves.{sets-next, trials-next, sets-larger, trials-larger, stages-larger, sets-none, trials-none, sets-at, trials-at}
+use Rattle.dutch_order.proofs.StageMoves.{sets-next, trials-next, sets-larger, trials-larger, stages-larger, sets-none, trials-none}
 use Rattle.dutch_order.proofs.exchange.next_stage.Goals as goal
 
 one_up : (n : ℕ) → n + 1 ≡ suc n
@@ -9,30 +9,28 @@ one_up n = omega arith
 pub returns-in-Some-clause-sets : goal.returns-in-Some-clause-sets
 returns-in-Some-clause-sets c =
     let p = c.args.place.now in
-    sets-at c.args.pool.now c.args.pool.now c.args.k _ [] _ p.size _ c.in-Some.next c.enter.new.self.walk.path.items c.enter.new.self.walk.number 0 c.enter.new.self.walk.beyond None
-    refl c.enter.ensures.hint c.enter.ensures.path c.enter.ensures.number c.enter.ensures.beyond c.enter.ensures.size c.enter.ensures.difference
-    ∙ sets-next c.args.pool.now c.args.k p.hint.items p.size p.difference p.walk.path.items p.walk.number p.walk.beyond c.requires.spent c.in-Some.next (search rules)
+    let same = sets-next c.args.pool.now c.args.k p.hint.items p.size p.difference p.walk.path.items p.walk.number p.walk.beyond c.requires.spent c.in-Some.next (search rules) in
+    cc
 
 pub returns-in-Some-clause-trials : goal.returns-in-Some-clause-trials
 returns-in-Some-clause-trials c =
     let p = c.args.place.now in
-    trials-at c.args.pool.now c.args.pool.now c.args.k _ [] _ p.size _ c.in-Some.next c.enter.new.self.walk.path.items c.enter.new.self.walk.number 0 c.enter.new.self.walk.beyond None
-    refl c.enter.ensures.hint c.enter.ensures.path c.enter.ensures.number c.enter.ensures.beyond c.enter.ensures.size c.enter.ensures.difference
-    ∙ trials-next c.args.pool.now c.args.k p.hint.items p.size p.difference p.walk.path.items p.walk.number p.walk.beyond c.requires.spent c.in-Some.next (search rules)
+    let same = trials-next c.args.pool.now c.args.k p.hint.items p.size p.difference p.walk.path.items p.walk.number p.walk.beyond c.requires.spent c.in-Some.next (search rules) in
+    cc
 
 pub returns-then-place-min-clause-sets : goal.returns-then-place-min-clause-sets
 returns-then-place-min-clause-sets c =
     let p = c.args.place.now in
-    sets-at c.args.pool.now c.args.pool.now c.args.k _ [] _ (suc p.size) _ (least_difference c.args.pool.now c.args.k (suc p.size)) c.enter-then-place-min.new.self.walk.path.items c.enter-then-place-min.new.self.walk.number 0 c.enter-then-place-min.new.self.walk.beyond None
-    refl c.enter-then-place-min.ensures.hint c.enter-then-place-min.ensures.path c.enter-then-place-min.ensures.number c.enter-then-place-min.ensures.beyond (c.enter-then-place-min.ensures.size ∙ one_up p.size) (c.enter-then-place-min.ensures.difference ∙ c.least_of.ensures ∙ ap (least_difference c.args.pool.now c.args.k) (one_up p.size))
-    ∙ sets-larger c.args.pool.now c.args.k p.hint.items p.size p.difference p.walk.path.items p.walk.number p.walk.beyond c.requires.spent (search rules) (search rules)
+    let up = one_up p.size in
+    let same = sets-larger c.args.pool.now c.args.k p.hint.items p.size p.difference p.walk.path.items p.walk.number p.walk.beyond c.requires.spent (search rules) (search rules) in
+    cc
 
 pub returns-then-place-min-clause-trials : goal.returns-then-place-min-clause-trials
 returns-then-place-min-clause-trials c =
     let p = c.args.place.now in
-    trials-at c.args.pool.now c.args.pool.now c.args.k _ [] _ (suc p.size) _ (least_difference c.args.pool.now c.args.k (suc p.size)) c.enter-then-place-min.new.self.walk.path.items c.enter-then-place-min.new.self.walk.number 0 c.enter-then-place-min.new.self.walk.beyond None
-    refl c.enter-then-place-min.ensures.hint c.enter-then-place-min.ensures.path c.enter-then-place-min.ensures.number c.enter-then-place-min.ensures.beyond (c.enter-then-place-min.ensures.size ∙ one_up p.size) (c.enter-then-place-min.ensures.difference ∙ c.least_of.ensures ∙ ap (least_difference c.args.pool.now c.args.k) (one_up p.size))
-    ∙ trials-larger c.args.pool.now c.args.k p.hint.items p.size p.difference p.walk.path.items p.walk.number p.walk.beyond c.requires.spent (search rules) (search rules)
+    let up = one_up p.size in
+    let same = trials-larger c.args.pool.now c.args.k p.hint.items p.size p.difference p.walk.path.items p.walk.number p.walk.beyond c.requires.spent (search rules) (search rules) in
+    cc
 
 pub returns-then-place-min-clause-nearer : goal.returns-then-place-min-clause-nearer
 returns-then-place-min-clause-nearer c _ =

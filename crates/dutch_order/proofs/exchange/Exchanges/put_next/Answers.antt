@@ -1,13 +1,7 @@
 use Rattle.std.proofs.Common.{ℕ, List, ◌+◌, ◌≡◌, ◌<◌, ◌∷◌, [], ◌∙◌, ap, sym, subst}
 use Rattle.dutch_order.specs.declared.exchange.Place.{Place}
-use Rattle.dutch_order.specs.Stages.{sets_ahead, trials_ahead, set_of}
+use Rattle.dutch_order.specs.Stages.{sets_from, trials_from, set_of}
 use Rattle.dutch_order.proofs.exchange.Exchanges.put_next.Goals as goal
-
-abbrev sets_at : List ℕ → ℕ → Place → List (List ℕ)
-sets_at pool k place = sets_ahead pool k place.hint.items place.size place.difference place.walk.path.items place.walk.number place.walk.beyond
-
-abbrev trials_at : List ℕ → ℕ → Place → ℕ
-trials_at pool k place = trials_ahead pool k place.hint.items place.size place.difference place.walk.path.items place.walk.number place.walk.beyond
 
 pub returns-clause-answer : goal.returns-clause-answer
 returns-clause-answer c =
@@ -15,17 +9,17 @@ returns-clause-answer c =
     let old = c.self.inside.place in
     let new = c.next_set.new.place in
     sym (ap (λ v. v.coming) c.self.view_is)
-    ∙ subst (λ pool. sets_at pool k old ≡ set_of pool k new.size new.walk.path.items ∷ sets_at pool k new) c.deref.ensures.0 c.in-Found.ensures.answer.0
-    ∙ ap (λ set. set ∷ sets_at c.self.inside.pool.items k new) (sym (c.put_set.ensures ∙ ap (λ pool. set_of pool k new.size new.walk.path.items) c.deref-2.ensures.0))
+    ∙ subst (λ pool. sets_from pool k old ≡ set_of pool k new.size new.walk.path.items ∷ sets_from pool k new) c.deref.ensures.0 c.in-Found.ensures.answer.0
+    ∙ ap (λ set. set ∷ sets_from c.self.inside.pool.items k new) (sym (c.put_set.ensures ∙ ap (λ pool. set_of pool k new.size new.walk.path.items) c.deref-2.ensures.0))
 
 pub returns-in-End-clause-answer : goal.returns-in-End-clause-answer
 returns-in-End-clause-answer c =
     let k = c.self.inside.k in
     let old = c.self.inside.place in
     let new = c.next_set.new.place in (
-      sym (ap (λ v. v.coming) c.self.view_is) ∙ subst (λ pool. sets_at pool k old ≡ []) c.deref.ensures.0 c.in-End.ensures.answer.0,
-      subst (λ pool. sets_at pool k new ≡ []) c.deref.ensures.0 c.in-End.ensures.answer.1,
-      subst (λ pool. trials_at pool k new ≡ 0) c.deref.ensures.0 c.in-End.ensures.answer.2,
+      sym (ap (λ v. v.coming) c.self.view_is) ∙ subst (λ pool. sets_from pool k old ≡ []) c.deref.ensures.0 c.in-End.ensures.answer.0,
+      subst (λ pool. sets_from pool k new ≡ []) c.deref.ensures.0 c.in-End.ensures.answer.1,
+      subst (λ pool. trials_from pool k new ≡ 0) c.deref.ensures.0 c.in-End.ensures.answer.2,
     )
 
 pub returns-in-Undecided-clause-answer : goal.returns-in-Undecided-clause-answer
@@ -33,15 +27,15 @@ returns-in-Undecided-clause-answer c =
     let k = c.self.inside.k in
     let old = c.self.inside.place in
     let new = c.next_set.new.place in (
-      subst (λ pool. sets_at pool k new ≡ sets_at pool k old) c.deref.ensures.0 c.in-Undecided.ensures.answer.0 ∙ ap (λ v. v.coming) c.self.view_is,
+      subst (λ pool. sets_from pool k new ≡ sets_from pool k old) c.deref.ensures.0 c.in-Undecided.ensures.answer.0 ∙ ap (λ v. v.coming) c.self.view_is,
       c.in-Undecided.ensures.answer.1,
-      subst (λ pool. 0 < trials_at pool k new) c.deref.ensures.0 c.in-Undecided.ensures.answer.2,
+      subst (λ pool. 0 < trials_from pool k new) c.deref.ensures.0 c.in-Undecided.ensures.answer.2,
     )
 
 -- the steps, over the pool that the search is lent
-steps-at : (pool pool' : List ℕ) (k left before after : ℕ) (old new : Place) → pool ≡ pool' → trials_at pool' k old ≡ left → after + trials_at pool k new ≡ before + trials_at pool k old → after + trials_at pool' k new ≡ before + left
+steps-at : (pool pool' : List ℕ) (k left before after : ℕ) (old new : Place) → pool ≡ pool' → trials_from pool' k old ≡ left → after + trials_from pool k new ≡ before + trials_from pool k old → after + trials_from pool' k new ≡ before + left
 steps-at pool pool' k left before after old new same was steps =
-    subst (λ pool. after + trials_at pool k new ≡ before + trials_at pool k old) same steps ∙ ap (λ left. before + left) was
+    subst (λ pool. after + trials_from pool k new ≡ before + trials_from pool k old) same steps ∙ ap (λ left. before + left) was
 
 pub returns-clause-steps : goal.returns-clause-steps
 returns-clause-steps c =

@@ -1,9 +1,8 @@
-use Rattle.std.proofs.Common.{◌∙◌, [], length, ap, arith, subst, sym, suc, Some}
-use Rattle.dutch_order.specs.Hints.{hinted, first_hint}
+use Rattle.std.proofs.Common.{[], length, ap, arith, subst, sym}
+use Rattle.dutch_order.specs.Hints.{hinted}
 use Rattle.dutch_order.specs.Walks.{Walked}
-use Rattle.dutch_order.specs.Stages.{exchange_plan, exchange_path, exchange_difference, out_places}
+use Rattle.dutch_order.specs.Stages.{exchange_plan}
 use Rattle.dutch_order.proofs.LateSets.{exchange-room, exchanges-from}
-use Rattle.dutch_order.proofs.StageMoves.{sets-at}
 use Rattle.dutch_order.proofs.exchange.Exchanges.start_from.Goals as goal
 
 pub invariant_of-self : goal.invariant_of-self
@@ -13,24 +12,14 @@ invariant_of-self c =
     let long = ap length c.fill.ensures in (
       omega (arith, long, c.requires.few),
       omega (arith, long, c.requires.enough),
-      omega (arith, c.enter_at.ensures.size, room.0),
-      omega (arith, long, c.enter_at.ensures.size, room.2),
       (
-        omega (arith, ap length c.enter_at.ensures.path),
-        subst (Walked (hinted place.hint.items (exchange_plan c.fill.new.list.items c.args.k place.size place.difference)) []) (sym c.enter_at.ensures.path) tt,
+        omega (arith, c.enter_at.ensures.size, room.0),
+        omega (arith, long, c.enter_at.ensures.size, room.2),
+        (omega (arith, ap length c.enter_at.ensures.path), subst (Walked (hinted place.hint.items (exchange_plan c.fill.new.list.items c.args.k place.size place.difference)) []) (sym c.enter_at.ensures.path) tt),
       ),
     )
 
 pub returns : goal.returns
 returns c =
-    let pool = c.args.pool.now in
-    let k = c.args.k in
-    let set = c.args.set.now in
-    let place = c.enter_at.new.place in
-    let hint = exchange_path pool k set in
-    let difference = exchange_difference pool k set in
-    record {
-      coming = sets-at _ pool k _ hint _ (length (out_places pool k set)) _ difference _ _ (first_hint hint) _ (Some (suc difference))
-          c.fill.ensures c.enter_at.ensures.hint c.enter_at.ensures.path c.enter_at.ensures.number c.enter_at.ensures.beyond c.enter_at.ensures.size c.enter_at.ensures.difference
-          ∙ exchanges-from pool k c.requires.ascends c.requires.enough (λ i. omega (arith, c.type_inv.pool i)) set c.requires.given;
-    }
+    let late = exchanges-from c.args.pool.now c.args.k c.requires.ascends c.requires.enough (λ i. omega (arith, c.type_inv.pool i)) c.args.set.now c.requires.given in
+    record { coming = cc }
