@@ -19,7 +19,6 @@ all-each P Q each [] all = tt
 all-each P Q each (x ∷ xs) all = (each x all.0, all-each P Q each xs all.1)
 
 module _ {T : Type 0} (Idle : T → Type 0) where
-
   -- what is left may be named otherwise
   pub passes-same : (xs ys zs : List T) → Passes Idle xs ys → ys ≡ zs → Passes Idle xs zs
   passes-same xs ys zs passes same = passes-more Idle xs ys zs passes (passes-none Idle ys zs same)

@@ -1,24 +1,30 @@
 -- The seats of a field are those of the present players of its report, by rank.
-use Rattle.std.proofs.Common.{◌≡◌, ℕ, ◌+◌, ◌<◌, ◌≤◌, Bool, true, false, cond, ◌==◌, nat_eq, nat_lt, List, [], ◌∷◌, map, Option, Some, None, Result, Ok, Err, ◌||◌, inl, inr, refl, sym, ap, ◌∙◌, subst, arith}
-use Rattle.std.specs.Prelude.{All, Contains, IsPermutation, option_map, slice_index_or}
+use Rattle.std.proofs.Common.{◌≡◌, ℕ, ◌+◌, ◌<◌, ◌≤◌, Bool, true, false, cond, ◌==◌, nat_eq, nat_lt, List, [], ◌∷◌, map, Option, Some, None, Result, Ok, Err, not, length, ◌&&◌, ◌||◌, inl, inr, refl, sym, ap, ◌∙◌, subst, arith}
+use Rattle.std.specs.Prelude.{All, Contains, IsPermutation, codes, option_map, slice_index_or}
 use Rattle.std.specs.List.{AllByRecursion, IsDistinct, list_any}
-use Rattle.std.specs.Option.{ok_or}
+use Rattle.std.specs.Option.{ok_or, option_map_or}
 use Rattle.std.proofs.lemmas.Bool.{eq-eqb, eqb-true, or_left, or_right, or_cases, true≢false}
 use Rattle.std.proofs.lemmas.Bool.Decides.{nat_tests}
-use Rattle.std.proofs.lemmas.List.Elements.{All-from_recursion, recursion_from_All}
+use Rattle.std.proofs.lemmas.List.Elements.{All-from_recursion, All-get_or, recursion_from_All}
 use Rattle.std.proofs.lemmas.List.Folds.{Any-from_list_any}
 use Rattle.std.proofs.lemmas.List.Sorted.{All-permutation, IsPermutation-refl, IsPermutation-cons, IsPermutation-middle, IsPermutation-sym, IsPermutation-trans, IsPermutation-map, list_any-IsPermutation}
 use Rattle.std.proofs.lemmas.Map.Keys.{IsDistinct-IsPermutation}
+use Rattle.std.proofs.lemmas.Map.Views.{any-filter_same}
+use Rattle.std.proofs.lemmas.List.{get_or-map, length-map}
+use Rattle.std.proofs.Math.Bool.{and-true, and_comm}
 use Rattle.trf16.specs.declared.cell.Colour.{Colour}
 use Rattle.trf16.specs.Sheet.{Entry, Sheet, known, rounds_played}
-use Rattle.trf16.specs.Absence.{absent}
+use Rattle.trf16.specs.Absence.{absent, apart, apart_from, some_carried}
+use Rattle.trf16.specs.Extensions.{is_kind, is_named, names_both, words_of}
+use Rattle.trf16.specs.Lines.{columns}
 use Rattle.trf16.specs.Unfinished.{unfinished}
 use Rattle.trf16.specs.StartRanks.{starts_of, HasOwnStarts}
 use Rattle.dutch_player.specs.declared.fault.FieldFault.{FieldFault}
 use Rattle.dutch_player.specs.declared.fault.FieldFault.TheVariants.{Unfinished, Unsupported, RoundsUnknown, RoundsOver}
 use Rattle.trf16.specs.Outcomes.{◌>>=◌}
-use Rattle.dutch_player.specs.Facts.{SeatFacts, Facts, goes_before, placed, ranked, seat_of, seats_of, initial_of, total_of, unsupported, refused, total_for, facts_of}
-use Rattle.dutch_player.specs.Laws.{IsFieldOf}
+use Rattle.dutch_player.specs.Facts.{SeatFacts, Facts, no_seat, seat_at, goes_before, placed, ranked, seat_of, seats_of, initial_of, total_of, unsupported, refused, total_for, facts_of}
+use Rattle.dutch_player.specs.Laws.{IsFieldOf, start_ranks}
+use Rattle.dutch_player.specs.Meetings.{is_kept_from, are_apart}
 
 -- ---- the order by rank
 
@@ -201,3 +207,82 @@ field_of sheet asked initial facts own e =
     let s = then_ok (total_for sheet asked) (λ total. Ok (made sheet initial total)) facts e in
     let rounds = total_is sheet asked s.0 s.1 in
     subst (IsFieldOf sheet asked) (same_ok (made sheet initial s.0) facts s.2) (field_made sheet asked initial s.0 own rounds.0 rounds.1)
+
+-- ---- who is kept apart
+
+-- a seat has those from whom the report keeps its player apart
+abbrev IsOwn : Sheet → SeatFacts → Type 0
+IsOwn sheet seat = seat.apart ≡ apart_from sheet seat.start
+
+own_at : (sheet : Sheet) (entry : Entry) (rest : List SeatFacts) (t : Bool) → AllByRecursion (IsOwn sheet) rest
+    → AllByRecursion (IsOwn sheet) (cond t rest (seat_of sheet entry ∷ rest))
+own_at sheet entry rest true all = all
+own_at sheet entry rest false all = (refl, all)
+
+own_all : (sheet : Sheet) (entries : List Entry) → AllByRecursion (IsOwn sheet) (seats_of sheet entries)
+own_all sheet [] = tt
+own_all sheet (entry ∷ rest) = own_at sheet entry (seats_of sheet rest) (absent sheet entry.start) (own_all sheet rest)
+
+own_seats : (sheet : Sheet) (asked : Option ℕ) (initial : Option Colour) (facts : Facts) → facts_of sheet asked initial ≡ Ok facts → All (IsOwn sheet) facts.seats
+unfolding facts_of made
+own_seats sheet asked initial facts e =
+    let s = then_ok (total_for sheet asked) (λ total. Ok (made sheet initial total)) facts e in
+    let seats : List SeatFacts = seats_of sheet sheet.players in
+    subst (λ (f : Facts). All (IsOwn sheet) f.seats) (same_ok (made sheet initial s.0) facts s.2)
+    (All-permutation (IsOwn sheet) seats (ranked seats) (ranked_permutes seats) (All-from_recursion (IsOwn sheet) seats (own_all sheet sheet.players)))
+
+started : (entries : List Entry) (start : ℕ) → has_start (starts_of entries) start ≡ named_in entries start
+unfolding has_start named_in
+started [] start = refl
+started (entry ∷ rest) start = ap (λ t. (entry.start == start) || t) (started rest start)
+
+-- the list of those from whom one is kept apart has whom the report names
+kept_from : (sheet : Sheet) (one other : ℕ) → known sheet other ≡ true → has_start (apart_from sheet one) other ≡ apart sheet one other
+unfolding has_start named_in
+kept_from sheet one other named =
+    any-filter_same (λ (start : ℕ). start == other) (apart sheet one) (apart sheet one other) (λ start same. ap (apart sheet one) (eqb-true start other same))
+    (starts_of sheet.players)
+    ∙ ap (λ t. apart sheet one other && t) (started sheet.players other ∙ named) ∙ and-true (apart sheet one other)
+
+apart_sym : (sheet : Sheet) (one other : ℕ) → apart sheet one other ≡ apart sheet other one
+apart_sym sheet one other =
+    ap (λ t. not t && some_carried (names_both one other) sheet) (let e : (one == other) ≡ (other == one) = grind (arith, nat_tests) in e)
+    ∙ ap (λ t. not (other == one) && t) (lines sheet.carried) where
+      line_sym : (line : Option (List ℕ))
+          → option_map_or (λ bytes. names_both one other (columns sheet.utf8 bytes)) line false ≡ option_map_or (λ bytes. names_both other one (columns sheet.utf8 bytes)) line false
+      line_sym None = refl
+      line_sym (Some bytes) =
+          let line = columns sheet.utf8 bytes in
+          ap (λ t. is_kind (codes "XXP") line && t) (and_comm (is_named (words_of line) one) (is_named (words_of line) other))
+
+      lines : (all : List (Option (List ℕ)))
+          → list_any (λ line. option_map_or (λ bytes. names_both one other (columns sheet.utf8 bytes)) line false) all
+          ≡ list_any (λ line. option_map_or (λ bytes. names_both other one (columns sheet.utf8 bytes)) line false) all
+      lines [] = refl
+      lines (line ∷ rest) = cc (line_sym line, lines rest)
+
+both_same : (b : Bool) → (b || b) ≡ b
+both_same true = refl
+both_same false = refl
+
+-- two seats are kept apart where the report keeps their players apart
+pub seats_apart : (sheet : Sheet) (asked : Option ℕ) (initial : Option Colour) (facts : Facts) → HasOwnStarts sheet → facts_of sheet asked initial ≡ Ok facts
+    → (a b : ℕ) → a < length facts.seats → b < length facts.seats
+    → are_apart (seat_at facts a) (seat_at facts b) ≡ apart sheet (seat_at facts a).start (seat_at facts b).start
+unfolding has_start
+seats_apart sheet asked initial facts own e a b first second =
+    let one = (seat_at facts a).start in
+    let other = (seat_at facts b).start in
+    ap (λ t. t || is_kept_from (seat_at facts b) (seat_at facts a)) (kept a b first second)
+    ∙ ap (λ t. apart sheet one other || t) (kept b a second first ∙ apart_sym sheet other one) ∙ both_same (apart sheet one other) where
+      named : (i : ℕ) → i < length facts.seats → known sheet (seat_at facts i).start ≡ true
+      named i inside =
+          subst (λ start. known sheet start ≡ true) (get_or-map (λ (seat : SeatFacts). seat.start) facts.seats i no_seat 0 inside)
+          (All-get_or (λ start. known sheet start ≡ true) (start_ranks facts) i 0 (let h : i < length (start_ranks facts) = omega (arith, inside, length-map facts.seats (λ (seat : SeatFacts). seat.start)) in h)
+          (field_of sheet asked initial facts own e).players)
+
+      kept : (i j : ℕ) → i < length facts.seats → j < length facts.seats
+          → is_kept_from (seat_at facts i) (seat_at facts j) ≡ apart sheet (seat_at facts i).start (seat_at facts j).start
+      kept i j here there =
+          ap (λ starts. has_start starts (seat_at facts j).start) (All-get_or (IsOwn sheet) facts.seats i no_seat here (own_seats sheet asked initial facts e))
+          ∙ kept_from sheet (seat_at facts i).start (seat_at facts j).start (named j there)

@@ -1,9 +1,10 @@
 // Laws of the rules, which hold of every field.
 ghost use Rattle.std.specs.Prelude.{◌≡◌, ◌<◌, ◌≤◌, ◌≢◌, ℕ, Ok, Option, false, length};
+ghost use Rattle.trf16.specs.Absence.{apart};
 ghost use Rattle.trf16.specs.Sheet.{Sheet};
 ghost use Rattle.trf16.specs.StartRanks.{HasOwnStarts};
 ghost use Rattle.trf16.specs.declared.cell.Colour.{Colour};
-ghost use Rattle.dutch_player.specs.Meetings.{may_meet};
+ghost use Rattle.dutch_player.specs.Meetings.{are_apart, may_meet};
 ghost use Rattle.dutch_player.specs.Colours.{colours, colour_rule};
 ghost use Rattle.dutch_player.specs.Facts.{Facts, facts_of, seat_at, goes_before};
 ghost use Rattle.dutch_player.specs.Laws.{GrantsBoth, IsFieldOf, TellsRule};
@@ -69,4 +70,11 @@ pub fn scores_do_not_ascend(field: &Field)
 pub fn seats_are_present_players()
     ensures { (sheet : Sheet) (asked : Option ℕ) (initial : Option Colour) (facts : Facts) → HasOwnStarts sheet → facts_of sheet asked initial ≡ Ok facts
         → IsFieldOf sheet asked facts }
+{}
+
+/// Two seats of a field are kept apart exactly where the report keeps their start ranks apart: they are two, and a line `XXP` names both.
+pub fn the_report_tells_who_is_kept_apart()
+    ensures { (sheet : Sheet) (asked : Option ℕ) (initial : Option Colour) (facts : Facts) → HasOwnStarts sheet → facts_of sheet asked initial ≡ Ok facts
+        → (a b : ℕ) → a < length facts.seats → b < length facts.seats
+        → are_apart (seat_at facts a) (seat_at facts b) ≡ apart sheet (seat_at facts a).start (seat_at facts b).start }
 {}
