@@ -112,21 +112,21 @@ module _ (facts : Facts) (stand : Stand) (lower : List ℕ) (shape : Shape) wher
       (no_value_has_more_than_half_the_players_in_pairs facts (next_stand (downfloaters facts stand a) group))))
 
   -- by counts alone
-  pub by_counts : (outlook : Outlook) (next : List ℕ) → next ≡ group → IsOf facts stand → Fits (frame_of facts stand) shape → stand.kind ≡ Ordinary
-      → outlook.first ≡ None → outlook.any ≡ record { pairs = pairs_by_counts stand shape next; psd = [] } → IsOutlook facts stand lower shape outlook
-  by_counts outlook next e of' fits ordinary first any = record {
-    any = λ a m. counts_hold a outlook.any of' fits ordinary (any ∙ ap (λ xs. record { pairs = pairs_by_counts stand shape xs; psd = [] }) e) m;
+  pub by_counts : (outlook : Outlook) → IsOf facts stand → Fits (frame_of facts stand) shape → stand.kind ≡ Ordinary
+      → outlook.first ≡ None → outlook.any ≡ record { pairs = pairs_by_counts stand shape group; psd = [] } → IsOutlook facts stand lower shape outlook
+  by_counts outlook of' fits ordinary first any = record {
+    any = λ a m. counts_hold a outlook.any of' fits ordinary any m;
     first = λ value some. let bad : None ≡ Some value = sym first ∙ some in absurd (cc);
   }
 
   -- and by ghosts, where all residents have one score
-  pub by_ghosts : (outlook : Outlook) (next : List ℕ) (value : NextValue) → next ≡ group → IsAbove facts stand lower → Fits (frame_of facts stand) shape
-      → stand.kind ≡ Ordinary → IsFlat facts stand → value ≡ ghost_value facts stand shape next → outlook.first ≡ Some value
-      → outlook.any ≡ record { pairs = pairs_by_counts stand shape next; psd = [] } → IsOutlook facts stand lower shape outlook
-  by_ghosts outlook next value e above fits ordinary flat by first any = record {
-    any = λ a m. counts_hold a outlook.any above.bracket fits ordinary (any ∙ ap (λ xs. record { pairs = pairs_by_counts stand shape xs; psd = [] }) e) m;
+  pub by_ghosts : (outlook : Outlook) (value : NextValue) → IsAbove facts stand lower → Fits (frame_of facts stand) shape
+      → stand.kind ≡ Ordinary → IsFlat facts stand → value ≡ ghost_value facts stand shape group → outlook.first ≡ Some value
+      → outlook.any ≡ record { pairs = pairs_by_counts stand shape group; psd = [] } → IsOutlook facts stand lower shape outlook
+  by_ghosts outlook value above fits ordinary flat by first any = record {
+    any = λ a m. counts_hold a outlook.any above.bracket fits ordinary any m;
     first = λ found some.
-        let same : found ≡ ghost_value facts stand shape group = (let one : Some value ≡ Some found = sym first ∙ some in let v : found ≡ value = cc in v) ∙ by ∙ ap (ghost_value facts stand shape) e in (
+        let same : found ≡ ghost_value facts stand shape group = (let one : Some value ≡ Some found = sym first ∙ some in let v : found ≡ value = cc in v) ∙ by in (
           flat,
           λ a m limbo.
               subst (HasNoBetter (quality_of facts stand lower a)) (sym same)

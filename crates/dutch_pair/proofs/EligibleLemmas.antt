@@ -1,4 +1,4 @@
--- Whether a shape has a candidate that can be chosen, one candidate after another.
+-- The candidates of a shape that can be chosen, one candidate after another.
 use Rattle.std.proofs.Common.{◌≡◌, ℕ, Bool, true, false, cond, List, [], ◌∷◌, filter, refl, ap, ◌∙◌}
 use Rattle.dutch_order.specs.Arrangements.{Arrangement}
 use Rattle.dutch_order.specs.declared.bracket.Shape.{Shape}
@@ -14,11 +14,11 @@ pub eligible_is : (facts : Facts) (stand : Stand) (lower : List ℕ) (shape : Sh
 eligible_is facts stand lower shape = refl
 
 module _ (p : Arrangement → Bool) where
-  pub passes_unfit : (c : Arrangement) (old new : List Arrangement) → old ≡ c ∷ new → p c ≡ false → has_member (filter p old) ≡ has_member (filter p new)
-  passes_unfit c old new e unfit = ap (λ all. has_member (filter p all)) e ∙ ap (λ t. has_member (cond t (c ∷ filter p new) (filter p new))) unfit
+  pub passes_unfit : (c : Arrangement) (old new : List Arrangement) → old ≡ c ∷ new → p c ≡ false → filter p old ≡ filter p new
+  passes_unfit c old new e unfit = ap (filter p) e ∙ ap (λ t. cond t (c ∷ filter p new) (filter p new)) unfit
 
-  pub has_fit : (c : Arrangement) (old new : List Arrangement) → old ≡ c ∷ new → p c ≡ true → has_member (filter p old) ≡ true
-  has_fit c old new e fit = ap (λ all. has_member (filter p all)) e ∙ ap (λ t. has_member (cond t (c ∷ filter p new) (filter p new))) fit
+  pub first_fit : (c : Arrangement) (old new : List Arrangement) → old ≡ c ∷ new → p c ≡ true → filter p old ≡ c ∷ filter p new
+  first_fit c old new e fit = ap (filter p) e ∙ ap (λ t. cond t (c ∷ filter p new) (filter p new)) fit
 
   pub has_none : (old : List Arrangement) → old ≡ [] → has_member (filter p old) ≡ false
   has_none old e = ap (λ all. has_member (filter p all)) e

@@ -6,6 +6,7 @@ pub mod QualityIn
 pub mod NextBracket
 pub mod Completion
 pub mod Seats
+pub mod Stops
 pub mod Reached
 pub mod Context
 pub mod Choice

@@ -6,11 +6,6 @@ use Rattle.dutch_player.specs.Facts.{Facts}
 use Rattle.dutch_pair.specs.Completion.{some_partner, nobody, left_over}
 use Rattle.dutch_pair.specs.Seats.{seats_meet, seats_may_be_left}
 
--- the players of a bracket, by seat
-pub record Downward : Type 0 where
-  pub facts : Facts
-  pub seats : List ℕ
-
 -- a player is paired with one of k downfloaters, if he may be, and something holds with one fewer of them
 abbrev pub takes_one : Bool → (ℕ → Bool) → ℕ → Bool
 takes_one may holds zero = false

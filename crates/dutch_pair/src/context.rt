@@ -1,8 +1,6 @@
 // A bracket in its field above all lower seats, and what its shape, its choice and their floors ask of it, read once when the round
 // reaches it (C.04.3 A.3, A.6).
-ghost use Rattle.std.specs.Prelude.{◌≡◌, ◌<◌, ◌≤◌, length};
-ghost use Rattle.dutch_player.specs.Facts.{seat_at};
-ghost use Rattle.dutch_player.specs.Preferences.{preference, is_same};
+ghost use Rattle.std.specs.Prelude.{◌≡◌, ◌+◌, ◌<◌, ◌≤◌, length};
 ghost use Rattle.dutch_pair.specs.declared.colours_missed.Miss.TheVariants.{Preference};
 ghost use Rattle.dutch_pair.specs.Quality.{one_if, misses, count_in};
 ghost use Rattle.arrayvec.specs.ArrayVec.{array_vec_len};
@@ -10,13 +8,14 @@ ghost use Rattle.dutch_order.specs.Choices.{numbers_from};
 ghost use Rattle.dutch_pair.specs.Reached.{IsAbove, IsOf, frame_of, numbers_meet, number_may_be_left};
 ghost use Rattle.dutch_pair.specs.Seated.{seat_of, score_at, lowest, AllNumbers};
 ghost use Rattle.dutch_pair.specs.ColourFloors.{is_firm, wants, wants_firmly, suits, residents_down};
-ghost use Rattle.dutch_pair.specs.Context.{preferences_of};
 ghost use Rattle.dutch_pair.specs.PairFacts.{collide};
+ghost use Rattle.dutch_pair.specs.Round.{first_group, scoregroups};
+ghost use Rattle.dutch_pair.specs.NextBracket.{IsNext};
 
 use crate::colours_missed::is_same;
+use crate::group::split_first_group;
 use crate::reached::{ByNumber, Reached};
 use crate::seated::{Pair, lowest};
-use arrayvec::ArrayVec;
 use dutch_order::bracket::{Bracket, Shape};
 use dutch_order::numbers::{LIMIT, Numbers, numbered_from};
 use dutch_order::rules::Rule;
@@ -35,8 +34,8 @@ pub(crate) struct Context<'a> {
     frame: Bracket,
     // the lowest of them, in half points
     lowest: u16,
-    // by seat
-    preferences: ArrayVec<Option<Pref>, LIMIT>,
+    // the next lower scoregroup
+    next: &'a [u16],
 }
 
 impl<'a> Model for Context<'a> {
@@ -46,18 +45,7 @@ impl<'a> Model for Context<'a> {
 
     ghost view = { λ c. record { facts = c.field.now; stand = c.reached.now; lower = c.lower.now } };
 
-    ghost invariant = { λ c. IsRead c.field.now c.reached.now c.lower.now c.frame c.lowest c.preferences.items };
-}
-
-/// The colour preferences of a field's players, by seat.
-fn read_preferences(field: &Field) -> ArrayVec<Option<Pref>, LIMIT>
-    ensures { result.items ≡ preferences_of field.now }
-{
-    let mut own = ArrayVec::new();
-    for seat in 0..field.len() {
-        own.push(field.preference(seat as u16));
-    }
-    own
+    ghost invariant = { λ c. IsRead c.field.now c.reached.now c.lower.now c.frame c.lowest c.next.now };
 }
 
 fn is_firm(kind: Kind) -> bool
@@ -91,7 +79,7 @@ impl<'a> Context<'a> {
             lower,
             frame: reached.frame(field),
             lowest: lowest(field, reached.seats()),
-            preferences: read_preferences(field),
+            next: split_first_group(field, lower).0,
         }
     }
 
@@ -113,9 +101,19 @@ impl<'a> Context<'a> {
 
     /// The seats below the bracket, by rank.
     pub(crate) fn lower(&self) -> &'a [u16]
-        ensures { result.now ≡ self.now.lower }
+        ensures value { result.now ≡ self.now.lower }
+        ensures few { length self.now.stand.seats + length result.now ≤ LIMIT }
     {
         self.lower
+    }
+
+    /// The next lower scoregroup, by rank; it is empty where no seat is below the bracket.
+    #[tactic(auto, using(crate::proofs::NextGroups::is_next))]
+    pub(crate) fn next(&self) -> &'a [u16]
+        ensures value { result.now ≡ first_group self.now.facts (scoregroups self.now.facts self.now.lower) }
+        ensures sound { IsNext self.now.facts self.now.stand result.now }
+    {
+        self.next
     }
 
     /// The bracket by scores.
@@ -180,20 +178,13 @@ impl<'a> Context<'a> {
         numbered_from(1, self.reached().mdps())
     }
 
-    fn preference(&self, seat: u16) -> Option<Pref>
-        requires { seat < length self.now.facts.seats }
-        ensures { result ≡ preference (seat_at self.now.facts seat).played }
-    {
-        self.preferences[usize::from(seat)]
-    }
-
     /// 1 for a seat whose preference is this colour.
     pub(crate) fn wants(&self, colour: Colour, seat: u16) -> u16
         requires { seat < length self.now.facts.seats }
         ensures value { result ≡ wants self.now.facts colour seat }
         ensures one { result ≤ 1 }
     {
-        match self.preference(seat) {
+        match self.field.preference(seat) {
             Some(wanted) => u16::from(is_same(wanted.colour, colour)),
             None => 0,
         }
@@ -205,7 +196,7 @@ impl<'a> Context<'a> {
         ensures value { result ≡ wants_firmly self.now.facts colour seat }
         ensures one { result ≤ 1 }
     {
-        match self.preference(seat) {
+        match self.field.preference(seat) {
             Some(wanted) => u16::from(is_firm(wanted.kind) && is_same(wanted.colour, colour)),
             None => 0,
         }
@@ -217,7 +208,7 @@ impl<'a> Context<'a> {
         requires second { pair.1 < length self.now.facts.seats }
         ensures { count_in self.now.facts (misses Preference) pair ≡ one_if result }
     {
-        collide(self.preference(pair.0), self.preference(pair.1))
+        collide(self.field.preference(pair.0), self.field.preference(pair.1))
     }
 
     /// Whether two numbers may meet, and neither misses his preference. It says no of a number that is not the bracket's.

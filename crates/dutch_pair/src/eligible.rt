@@ -1,14 +1,14 @@
-// Which candidates of a bracket can be chosen (C.04.3 C.4), and whether a shape has one.
-ghost use Rattle.std.specs.Prelude.{◌≡◌, ◌+◌, ◌≤◌, ◌++◌, length, map};
+// Which candidates of a bracket can be chosen (C.04.3 C.4), and the first of a shape.
+ghost use Rattle.std.specs.Prelude.{◌≡◌, ◌+◌, ◌≤◌, ◌++◌, false, length, map};
 ghost use Rattle.dutch_order.specs.declared.numbers.TheConstants.{LIMIT};
 ghost use Rattle.dutch_order.specs.Arrangements.{Fits, down};
 ghost use Rattle.dutch_pair.specs.Reached.{frame_of};
 ghost use Rattle.dutch_pair.specs.Seated.{seat_of, AllNumbers};
 ghost use Rattle.dutch_pair.specs.Completion.{Tells};
-ghost use Rattle.dutch_pair.specs.Shapes.{has_member};
+ghost use Rattle.dutch_pair.specs.Shapes.{IsFirst, has_member};
 ghost use Rattle.dutch_pair.specs.Round.{is_penultimate, completable, eligible};
 ghost use Rattle.dutch_pair.specs.Eligible.{can_be_chosen};
-ghost use Rattle.dutch_order.specs.Steps.{Spends};
+ghost use Rattle.dutch_order.specs.Steps.{MatchStep, Spends};
 
 use crate::completion::{Answer, completes};
 use crate::context::Context;
@@ -86,28 +86,32 @@ pub(crate) fn can_be_chosen(
     leaves_completable(context, candidate, budget)
 }
 
-/// Whether a shape has a candidate that can be chosen.
-#[tactic(auto, using(crate::proofs::EligibleLemmas::has_fit, crate::proofs::EligibleLemmas::has_none, crate::proofs::EligibleLemmas::passes_unfit))]
-pub(crate) fn has_candidate(context: &Context<'_>, shape: Shape, budget: &mut Budget) -> Answer
+/// The first candidate of a shape that can be chosen.
+#[tactic(auto, using(crate::proofs::EligibleLemmas::first_fit, crate::proofs::EligibleLemmas::passes_unfit, crate::proofs::EligibleLemmas::has_none))]
+pub(crate) fn first_eligible(
+    context: &Context<'_>,
+    shape: Shape,
+    budget: &mut Budget,
+) -> Step<Candidate>
     requires fits { Fits (frame_of context.now.facts context.now.stand) shape }
     requires within { budget.old.used ≤ budget.old.limit }
-    ensures answer { Tells result (has_member (eligible context.now.facts context.now.stand context.now.lower shape)) (budget.new.used ≡ budget.new.limit) }
+    ensures answer { MatchStep result
+        (IsFirst (eligible context.now.facts context.now.stand context.now.lower shape) (frame_of context.now.facts context.now.stand))
+        (has_member (eligible context.now.facts context.now.stand context.now.lower shape) ≡ false)
+        (budget.new.used ≡ budget.new.limit) }
     ensures spends { Spends budget.old budget.new }
 {
-    let bracket = context.frame();
     let rule = context.rule();
-    let mut candidates = Candidates::new(bracket, shape, &rule);
+    let mut candidates = Candidates::new(context.frame(), shape, &rule);
     loop {
         match candidates.next(budget) {
-            Step::Found(candidate) => {
-                match can_be_chosen(context, &candidate, budget) {
-                    Answer::Yes => return Answer::Yes,
-                    Answer::No => {}
-                    Answer::Undecided => return Answer::Undecided,
-                }
-            }
-            Step::End => return Answer::No,
-            Step::Undecided => return Answer::Undecided,
+            Step::Found(candidate) => match can_be_chosen(context, &candidate, budget) {
+                Answer::Yes => return Step::Found(candidate),
+                Answer::No => {}
+                Answer::Undecided => return Step::Undecided,
+            },
+            Step::End => return Step::End,
+            Step::Undecided => return Step::Undecided,
         }
     }
 }

@@ -3,49 +3,54 @@
 ghost use Rattle.std.specs.Prelude.{◌≡◌, ◌+◌, ◌-◌, ◌*◌, ◌<◌, ◌≤◌, ◌++◌, false, length, map, slice_index};
 ghost use Rattle.std.specs.Option.{MatchOption};
 ghost use Rattle.arrayvec.specs.ArrayVec.{array_vec_len};
-ghost use Rattle.dutch_order.specs.Arrangements.{Fits, IsBracket};
-ghost use Rattle.dutch_pair.specs.ColourFloors.{residents_down};
+ghost use Rattle.dutch_order.specs.Arrangements.{Fits, IsBracket, left_of};
+ghost use Rattle.dutch_pair.specs.declared.reached.Kind.TheVariants.{Ordinary};
 ghost use Rattle.dutch_pair.specs.Ghosts.{ghost_frame};
 ghost use Rattle.dutch_pair.specs.GhostValues.{first_limbo, first_ghosts, floor_held, ghost_value};
-ghost use Rattle.dutch_pair.specs.NextBracket.{IsFlat, IsNext};
+ghost use Rattle.dutch_pair.specs.NextBracket.{IsFlat};
 ghost use Rattle.dutch_pair.specs.PsdFloors.{repeated};
 ghost use Rattle.dutch_pair.specs.Quality.{placed_all};
-ghost use Rattle.dutch_pair.specs.Reached.{IsOf, frame_of};
-ghost use Rattle.dutch_pair.specs.Seated.{score_at, AreSeats};
+ghost use Rattle.dutch_pair.specs.Reached.{frame_of};
+ghost use Rattle.dutch_pair.specs.Seated.{seat_of, score_at, AllNumbers, AreSeats};
+ghost use Rattle.dutch_pair.specs.Round.{first_group, scoregroups};
 ghost use Rattle.dutch_order.specs.Steps.{Spends};
 
+use crate::context::Context;
 use crate::differences::{put, put_times};
 use crate::ghosts::Ghosts;
-use crate::greatest::greatest_shape;
+use crate::greatest::{Legal, greatest_shape};
 use crate::quality::NextValue;
-use crate::reached::{Reached, push_all};
-use crate::seated::seats_of;
+use crate::reached::push_all;
 use arrayvec::ArrayVec;
 use dutch_order::bracket::{Bracket, Shape};
 use dutch_order::numbers::{LIMIT, Numbers, numbered_from};
 use dutch_order::steps::{Budget, Step};
 use dutch_player::field::Field;
 
-/// The residents who go down with a shape.
-fn residents_down(field: &Field, reached: &Reached, shape: Shape) -> usize
-    requires of { IsOf field.now reached.now }
-    requires fits { Fits (frame_of field.now reached.now) shape }
-    ensures { result ≡ residents_down reached.now shape }
+/// Adds the scores of those of some numbers who are not in S1.
+pub(crate) fn push_left(context: &Context<'_>, numbers: &[u16], s1: &[u16], scores: &mut Numbers)
+    requires numbers { AllNumbers context.now.stand.seats numbers.now }
+    requires room { array_vec_len scores.old + length numbers.now ≤ LIMIT }
+    ensures items { scores.new.items ≡ scores.old.items
+        ++ map (λ i. score_at context.now.facts (seat_of context.now.stand.seats i)) (left_of numbers.now s1.now) }
 {
-    reached.seats().len() - reached.mdps() - shape.mdps - 2 * (shape.pairs - shape.mdps)
+    for number in numbers {
+        if !s1.contains(number) {
+            scores.push(context.score(*number));
+        }
+    }
 }
 
 /// The scores of the moved-down players whom the first S1 of a shape leaves over, in half points.
-pub(crate) fn limbo_scores(field: &Field, reached: &Reached, shape: Shape) -> Numbers
-    requires of { IsOf field.now reached.now }
-    requires fits { Fits (frame_of field.now reached.now) shape }
-    ensures items { result.items ≡ first_limbo field.now reached.now shape }
-    ensures len { array_vec_len result ≡ reached.now.mdps - shape.mdps }
+pub(crate) fn first_limbo(context: &Context<'_>, shape: Shape) -> Numbers
+    requires { Fits (frame_of context.now.facts context.now.stand) shape }
+    ensures items { result.items ≡ first_limbo context.now.facts context.now.stand shape }
+    ensures len { array_vec_len result ≡ context.now.stand.mdps - shape.mdps }
 {
-    let limbo = numbered_from(shape.mdps + 1, reached.mdps() - shape.mdps);
-    let seats = seats_of(reached.seats(), &limbo);
+    let left = context.reached().mdps() - shape.mdps;
+    let limbo = numbered_from(shape.mdps + 1, left);
     let mut scores = ArrayVec::new();
-    push_scores(field, &seats, &mut scores);
+    push_left(context, &limbo, &[], &mut scores);
     scores
 }
 
@@ -73,27 +78,28 @@ fn push_scores(field: &Field, seats: &[u16], scores: &mut Numbers)
 }
 
 /// The scores of the ghosts for a shape: those of the Limbo of its first S1, and the residents' score for each who goes down.
-fn ghost_scores(field: &Field, reached: &Reached, shape: Shape) -> Numbers
-    requires of { IsOf field.now reached.now }
-    requires flat { IsFlat field.now reached.now }
-    requires fits { Fits (frame_of field.now reached.now) shape }
-    ensures items { result.items ≡ first_ghosts field.now reached.now shape }
+#[tactic(auto, using(crate::proofs::C07Outlook::few_pairs))]
+fn ghost_scores(context: &Context<'_>, shape: Shape) -> Numbers
+    requires flat { IsFlat context.now.facts context.now.stand }
+    requires fits { Fits (frame_of context.now.facts context.now.stand) shape }
+    ensures items { result.items ≡ first_ghosts context.now.facts context.now.stand shape }
+    ensures bracket { IsBracket (ghost_frame context.now.facts (first_ghosts context.now.facts context.now.stand shape) (first_group context.now.facts (scoregroups context.now.facts context.now.lower))).scores (length (first_ghosts context.now.facts context.now.stand shape)) }
 {
-    let mut scores = limbo_scores(field, reached, shape);
-    let resident = field.score(reached.seats()[reached.mdps()]);
-    push_times(resident, residents_down(field, reached, shape), &mut scores);
+    let mut scores = first_limbo(context, shape);
+    let reached = context.reached();
+    let resident = context.field().score(reached.seats()[reached.mdps()]);
+    push_times(resident, context.residents_down(shape), &mut scores);
     scores
 }
 
 /// The next bracket, with ghosts of these scores in front.
-fn ghost_bracket(field: &Field, ghosts: &[u16], next: &[u16]) -> Bracket
-    requires inside { AreSeats field.now next.now }
-    requires bracket { IsBracket (ghost_frame field.now ghosts.now next.now).scores (length ghosts.now) }
-    ensures { result ≡ ghost_frame field.now ghosts.now next.now }
+fn ghost_bracket(context: &Context<'_>, ghosts: &[u16]) -> Bracket
+    requires { IsBracket (ghost_frame context.now.facts ghosts.now (first_group context.now.facts (scoregroups context.now.facts context.now.lower))).scores (length ghosts.now) }
+    ensures { result ≡ ghost_frame context.now.facts ghosts.now (first_group context.now.facts (scoregroups context.now.facts context.now.lower)) }
 {
     let mut scores = ArrayVec::new();
     push_all(ghosts, &mut scores);
-    push_scores(field, next, &mut scores);
+    push_scores(context.field(), context.next(), &mut scores);
     Bracket::new(&scores, ghosts.len(), false)
 }
 
@@ -129,31 +135,32 @@ fn floor_held(ghosts: &[u16], least: u16, residents: usize, pairs: usize) -> Num
 /// What no value of the next bracket is better than (C.7), where an arrangement of a shape of an ordinary bracket leaves the Limbo of
 /// the first S1: none where the budget's limit was reached first. A step is a player of the bracket with one of the next scoregroup,
 /// or one number tried at one place in the ghosts' bracket.
+#[tactic(auto, using(crate::proofs::C07Outlook::below_ordinary))]
 pub(crate) fn ghost_value(
-    field: &Field,
-    reached: &Reached,
+    context: &Context<'_>,
     shape: Shape,
-    next: &[u16],
     budget: &mut Budget,
 ) -> Option<NextValue>
-    requires of { IsOf field.now reached.now }
-    requires flat { IsFlat field.now reached.now }
-    requires fits { Fits (frame_of field.now reached.now) shape }
-    requires next { IsNext field.now reached.now next.now }
-    requires there { 0 < length next.now }
+    requires ordinary { context.now.stand.kind ≡ Ordinary }
+    requires flat { IsFlat context.now.facts context.now.stand }
+    requires fits { Fits (frame_of context.now.facts context.now.stand) shape }
     requires within { budget.old.used ≤ budget.old.limit }
-    ensures answer { MatchOption result (budget.new.used ≡ budget.new.limit) (λ v. v ≡ ghost_value field.now reached.now shape next.now) }
+    ensures answer { MatchOption result (budget.new.used ≡ budget.new.limit)
+        (λ v. v ≡ ghost_value context.now.facts context.now.stand shape (first_group context.now.facts (scoregroups context.now.facts context.now.lower))) }
     ensures spends { Spends budget.old budget.new }
 {
-    let Some(ghosts) = Ghosts::read(field, reached.seats(), next, budget) else {
-        return None;
-    };
-    let scores = ghost_scores(field, reached, shape);
-    let bracket = ghost_bracket(field, &scores, next);
+    let ghosts = Ghosts::read(context, budget)?;
+    let scores = ghost_scores(context, shape);
+    let bracket = ghost_bracket(context, &scores);
     let rule = ghosts.rule(scores.len());
-    match greatest_shape(&bracket, &rule, budget) {
+    let legal = Legal {
+        bracket: &bracket,
+        rule: &rule,
+    };
+    match greatest_shape(&legal, budget) {
         Step::Found(most) => {
-            let least = field.score(next[0]);
+            let next = context.next();
+            let least = context.field().score(next[0]);
             let pairs = most.shape.pairs;
             Some(NextValue {
                 pairs,

@@ -8,8 +8,10 @@ ghost use Rattle.dutch_player.specs.Meetings.{may_meet};
 ghost use Rattle.dutch_pair.specs.Seated.{AreSeats};
 ghost use Rattle.dutch_pair.specs.Ghosts.{is_upto, some_meets, may_bye, ghosts_meet, ghost_may_be_left};
 ghost use Rattle.dutch_pair.specs.GhostRules.{IsRead};
+ghost use Rattle.dutch_pair.specs.Round.{first_group, scoregroups};
 ghost use Rattle.dutch_order.specs.Steps.{Spends};
 
+use crate::context::Context;
 use crate::spending::spend;
 use arrayvec::ArrayVec;
 use dutch_order::numbers::LIMIT;
@@ -82,22 +84,15 @@ fn read_met(field: &Field, seats: &[u16], lower: &[u16]) -> ArrayVec<bool, LIMIT
 }
 
 impl<'a> Ghosts<'a> {
-    /// Reads whom some player of a bracket may meet, in a step for each of its players and each lower one. `None` is answered where
-    /// the budget's limit was reached first.
-    pub(crate) fn read(
-        field: &'a Field,
-        seats: &'a [u16],
-        lower: &'a [u16],
-        budget: &mut Budget,
-    ) -> Option<Ghosts<'a>>
-        requires seats { AreSeats field.now seats.now }
-        requires lower { AreSeats field.now lower.now }
-        requires few { length seats.now + length lower.now ≤ LIMIT }
+    /// Reads whom of the next lower scoregroup some player of a bracket may meet, in a step for each player of the one with each of the
+    /// other. `None` is answered where the budget's limit was reached first.
+    pub(crate) fn read(context: &Context<'a>, budget: &mut Budget) -> Option<Ghosts<'a>>
         requires within { budget.old.used ≤ budget.old.limit }
         ensures answer { MatchOption result (budget.new.used ≡ budget.new.limit)
-            (λ ghosts. ghosts ≡ record { facts = field.now; seats = seats.now; lower = lower.now }) }
+            (λ ghosts. ghosts ≡ record { facts = context.now.facts; seats = context.now.stand.seats; lower = first_group context.now.facts (scoregroups context.now.facts context.now.lower) }) }
         ensures spends { Spends budget.old budget.new }
     {
+        let (field, seats, lower) = (context.field(), context.reached().seats(), context.next());
         let steps = seats.len() as u64 * lower.len() as u64;
         if !spend(steps, budget) {
             return None;

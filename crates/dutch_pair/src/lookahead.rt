@@ -11,7 +11,7 @@ ghost use Rattle.dutch_pair.specs.NextBracket.{IsDraw, IsFlat, AreLeft, IsNext, 
 ghost use Rattle.dutch_order.specs.Steps.{Spends};
 
 use crate::differences::fill_psd;
-use crate::greatest::greatest_shape;
+use crate::greatest::{Legal, greatest_shape};
 use crate::quality::{NextValue, Quality, Room, fill_quality};
 use crate::reached::{Kind, Reached, bracket};
 use crate::seated::{by_seats, seats_of};
@@ -38,7 +38,11 @@ pub(crate) fn value_of(field: &Field, reached: &Reached, budget: &mut Budget) ->
     let bracket = reached.frame(field);
     are_small(bracket.scores());
     let rule = reached.rule(field);
-    match greatest_shape(&bracket, &rule, budget) {
+    let legal = Legal {
+        bracket: &bracket,
+        rule: &rule,
+    };
+    match greatest_shape(&legal, budget) {
         Step::Found(greatest) => {
             let first = by_seats(field, reached.seats(), &greatest.first);
             let mut psd = Numbers::new();

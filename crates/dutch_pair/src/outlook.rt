@@ -1,25 +1,24 @@
 // The best that the next bracket can be, found before any candidate is looked at (C.04.3 C.7): by ghosts where the bracket's residents
 // have one score, and else by counting players.
-ghost use Rattle.std.specs.Prelude.{◌≡◌, ◌*◌, ◌≤◌, [], length};
+ghost use Rattle.std.specs.Prelude.{◌≡◌, ◌≤◌, []};
 ghost use Rattle.std.specs.Option.{MatchOption};
 ghost use Rattle.dutch_order.specs.Arrangements.{Fits};
 ghost use Rattle.dutch_pair.specs.declared.reached.Kind.TheVariants.{Ordinary};
 ghost use Rattle.dutch_pair.specs.FloorOf.{is_flat};
 ghost use Rattle.dutch_pair.specs.Ghosts.{pairs_by_counts};
 ghost use Rattle.dutch_pair.specs.Outlooks.{IsOutlook, awaited, leaves_first, leaves_first_by};
-ghost use Rattle.dutch_pair.specs.Reached.{IsOf, frame_of};
+ghost use Rattle.dutch_pair.specs.Reached.{frame_of};
+ghost use Rattle.dutch_pair.specs.Round.{first_group, scoregroups};
 ghost use Rattle.dutch_order.specs.Steps.{Spends};
 
 use crate::context::Context;
 use crate::ghost_value::ghost_value;
-use crate::group::split_first_group;
 use crate::quality::NextValue;
-use crate::reached::{Kind, Reached};
+use crate::reached::Kind;
 use dutch_order::bracket::Shape;
 use dutch_order::numbers::Numbers;
 use dutch_order::prefix::Filling;
 use dutch_order::steps::Budget;
-use dutch_player::field::Field;
 
 /// What the next bracket can be at best.
 #[derive(Debug, Drop)]
@@ -66,15 +65,28 @@ fn leaves_first_by(context: &Context<'_>, shape: Shape, filling: Filling, s1: &[
 }
 
 /// What half of those who go down and of the next lower scoregroup come to in pairs.
-fn value_by_counts(reached: &Reached, shape: Shape, next: &[u16]) -> NextValue
-    requires small { 2 * shape.pairs ≤ length reached.now.seats }
-    ensures { result ≡ record { pairs = pairs_by_counts reached.now shape next.now; psd = [] } }
+#[tactic(auto, using(crate::proofs::C07Outlook::few_pairs))]
+fn value_by_counts(context: &Context<'_>, shape: Shape) -> NextValue
+    requires { Fits (frame_of context.now.facts context.now.stand) shape }
+    ensures { result ≡ record { pairs = pairs_by_counts context.now.stand shape (first_group context.now.facts (scoregroups context.now.facts context.now.lower)); psd = [] } }
 {
-    let down = reached.seats().len() - 2 * shape.pairs;
+    let down = context.reached().seats().len() - 2 * shape.pairs;
     NextValue {
-        pairs: (down + next.len()) / 2,
+        pairs: (down + context.next().len()) / 2,
         psd: Numbers::new(),
     }
+}
+
+/// Whether there is a resident, and all residents have one score.
+fn is_flat(context: &Context<'_>) -> bool
+    ensures { result ≡ is_flat context.now.facts context.now.stand }
+{
+    let (field, reached) = (context.field(), context.reached());
+    let seats = reached.seats();
+    if seats.len() <= reached.mdps() {
+        return false;
+    }
+    field.score(seats[reached.mdps()]) == field.score(seats[seats.len() - 1])
 }
 
 impl Outlook {
@@ -97,7 +109,7 @@ impl Outlook {
     }
 
     /// The same in an ordinary bracket.
-    #[tactic(auto, using(crate::proofs::C07Outlook::by_counts, crate::proofs::C07Outlook::by_ghosts, crate::proofs::C07Outlook::few_pairs, crate::proofs::C07Outlook::flat_residents, crate::proofs::C07Outlook::below_ordinary, crate::proofs::NextGroups::is_next))]
+    #[tactic(auto, using(crate::proofs::C07Outlook::by_counts, crate::proofs::C07Outlook::by_ghosts, crate::proofs::C07Outlook::flat_residents))]
     fn below_ordinary(context: &Context<'_>, shape: Shape, budget: &mut Budget) -> Option<Outlook>
         requires ordinary { context.now.stand.kind ≡ Ordinary }
         requires fits { Fits (frame_of context.now.facts context.now.stand) shape }
@@ -105,15 +117,12 @@ impl Outlook {
         ensures answer { MatchOption result (budget.new.used ≡ budget.new.limit) (IsOutlook context.now.facts context.now.stand context.now.lower shape) }
         ensures spends { Spends budget.old budget.new }
     {
-        let (field, reached) = (context.field(), context.reached());
-        let next = split_first_group(field, context.lower()).0;
-        let any = value_by_counts(reached, shape, next);
-        if !is_flat(field, reached) {
+        let _reached = context.reached();
+        let any = value_by_counts(context, shape);
+        if !is_flat(context) {
             return Some(Outlook { first: None, any });
         }
-        let Some(first) = ghost_value(field, reached, shape, next, budget) else {
-            return None;
-        };
+        let first = ghost_value(context, shape, budget)?;
         Some(Outlook {
             first: Some(first),
             any,
@@ -141,16 +150,4 @@ impl Outlook {
             None => return &self.any,
         }
     }
-}
-
-/// Whether there is a resident, and all residents have one score.
-fn is_flat(field: &Field, reached: &Reached) -> bool
-    requires { IsOf field.now reached.now }
-    ensures { result ≡ is_flat field.now reached.now }
-{
-    let seats = reached.seats();
-    if seats.len() <= reached.mdps() {
-        return false;
-    }
-    field.score(seats[reached.mdps()]) == field.score(seats[seats.len() - 1])
 }

@@ -1,8 +1,26 @@
-// Steps that are made at once, for so many questions.
+// Steps that are made at once, for so many questions, and one by one.
 ghost use Rattle.std.specs.Prelude.{◌≡◌, ◌≤◌, false};
+ghost use Rattle.std.specs.Result.{MatchResult};
 ghost use Rattle.dutch_order.specs.Steps.{Spends};
 
 use dutch_order::steps::Budget;
+
+/// The budget's limit was reached first.
+#[derive(Debug, Clone, Copy)]
+pub(crate) struct Stopped;
+
+/// Makes one step.
+pub(crate) fn step(budget: &mut Budget) -> Result<(), Stopped>
+    requires within { budget.old.used ≤ budget.old.limit }
+    ensures stopped { MatchResult result (λ _. Unit {0}) (λ _. budget.new.used ≡ budget.new.limit) }
+    ensures spends { Spends budget.old budget.new }
+{
+    if budget.used == budget.limit {
+        return Err(Stopped);
+    }
+    budget.used += 1;
+    Ok(())
+}
 
 /// Makes steps, as many as are asked for. It says no if the budget's limit would be passed: then all that are left are made.
 pub(crate) fn spend(steps: u64, budget: &mut Budget) -> bool

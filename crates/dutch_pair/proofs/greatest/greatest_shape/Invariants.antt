@@ -1,8 +1,8 @@
--- No number of pairs passed so far has a legal arrangement.
-use Rattle.std.proofs.Common.{◌≡◌, ◌≤◌, length, filter}
+-- No number of pairs passed so far has an arrangement that counts.
+use Rattle.std.proofs.Common.{◌≡◌, ◌≤◌, ◌*◌, length}
 use Rattle.std.specs.Prelude.{flat_map}
-use Rattle.dutch_order.specs.Arrangements.{candidates}
-use Rattle.dutch_pair.specs.Shapes.{down_from, fits, shapes_with, first_with, greatest_shape}
+use Rattle.dutch_pair.specs.Shapes.{down_from, fits, shapes_with, greatest_shape}
+use Rattle.dutch_pair.proofs.ShapeSearch.{found_in}
 use Rattle.dutch_order.specs.Steps.{Spends}
 use Rattle.dutch_pair.proofs.greatest.greatest_shape.Given as goal
 
@@ -10,10 +10,9 @@ abbrev pub decreases-loop-found : goal.decreases-loop-found
 decreases-loop-found g l = l.pairs
 
 abbrev pub invariant-loop-found : goal.invariant-loop-found
-invariant-loop-found g l =
-    let legal = candidates (g.R.Rule.meets l.rule) (g.R.Rule.may_be_left l.rule) l.bracket in
-    record {
-      found : greatest_shape legal l.bracket ≡ first_with legal (filter (fits l.bracket) (flat_map shapes_with (down_from l.pairs)));
-      few : l.pairs ≤ length l.bracket.scores;
-      spends : Spends l.initial.budget l.budget;
-    }
+invariant-loop-found g l = record {
+  found : greatest_shape (g.S.Shapes.counting l.asked) (g.S.Shapes.frame l.asked)
+      ≡ found_in (g.S.Shapes.counting l.asked) (fits (g.S.Shapes.frame l.asked)) (flat_map shapes_with (down_from l.pairs));
+  few : 2 * l.pairs ≤ length (g.S.Shapes.frame l.asked).scores;
+  spends : Spends l.initial.budget l.budget;
+}

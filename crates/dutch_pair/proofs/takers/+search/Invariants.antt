@@ -23,8 +23,8 @@ decreases-leave_first l = 3 * length l.later.now + 1
 
 abbrev pub invariant-pair_first-loop-place : goal.invariant-pair_first-loop-place
 invariant-pair_first-loop-place l =
-    let meets = seats_meet l.above.facts l.first in
-    let holds = can_take_out l.above.facts l.above.seats l.room.bye (length l.later - 1) l.room.takers in
+    let meets = seats_meet l.context.facts l.first in
+    let holds = can_take_out l.context.facts l.context.stand.seats l.room.bye (length l.later - 1) l.room.takers in
     record {
       same : some_partner meets holds (take l.place l.later) (drop l.place l.later) ≡ some_partner meets holds [] l.later;
       spends : Spends l.initial.budget l.budget;

@@ -5,9 +5,9 @@ use Rattle.dutch_pair.specs.Shapes.{has_member}
 use Rattle.dutch_pair.specs.Round.{candidates_of}
 use Rattle.dutch_pair.specs.Eligible.{can_be_chosen}
 use Rattle.dutch_pair.proofs.FlatBrackets.{listed_as}
-use Rattle.dutch_pair.proofs.EligibleLemmas.{eligible_is, passes_unfit, has_fit, has_none}
+use Rattle.dutch_pair.proofs.EligibleLemmas.{eligible_is, passes_unfit, first_fit, has_none}
 use Rattle.dutch_order.proofs.Spending.{spends-none, spends-more}
-use Rattle.dutch_pair.proofs.eligible.has_candidate.Goals as goal
+use Rattle.dutch_pair.proofs.eligible.first_eligible.Goals as goal
 
 pub loop-candidate-init : goal.loop-candidate-init
 loop-candidate-init c =
@@ -16,11 +16,11 @@ loop-candidate-init c =
     let lower = c.args.context.now.lower in
     let coming = c.new-candidates.result.coming in
     let listed : candidates_of facts stand c.args.shape ≡ coming =
-    listed_as facts c.rule-rule.result.field.now stand c.rule-rule.result.reached.now c.frame-bracket.result.now c.args.shape coming coming
-    c.new-candidates.ensures.coming c.rule-rule.ensures.field c.rule-rule.ensures.reached c.frame-bracket.ensures refl in
+    listed_as facts c.rule-rule.result.field.now stand c.rule-rule.result.reached.now c.frame.result.now c.args.shape coming coming
+    c.new-candidates.ensures.coming c.rule-rule.ensures.field c.rule-rule.ensures.reached c.frame.ensures refl in
     record {
-      member = ap has_member (eligible_is facts stand lower c.args.shape) ∙ ap (λ all. has_member (filter (can_be_chosen facts stand lower) all)) listed;
-      frame = c.new-candidates.ensures.frame ∙ c.frame-bracket.ensures;
+      same = eligible_is facts stand lower c.args.shape ∙ ap (filter (can_be_chosen facts stand lower)) listed;
+      frame = c.new-candidates.ensures.frame ∙ c.frame.ensures;
       spends = spends-none _ c.requires.within;
     }
 
@@ -29,14 +29,17 @@ can_be_chosen-requires-clause-left c =
     c.in-Found.ensures.answer.1 ∙ ap (λ (frame : Frame). down frame c.in-Found.candidate.lists) c.loop-candidate.invariant.frame
 
 pub returns-in-Yes-clause-answer : goal.returns-in-Yes-clause-answer
-returns-in-Yes-clause-answer c =
-    c.loop-candidate.invariant.member
-    ∙ has_fit (can_be_chosen c.args.context.now.facts c.args.context.now.stand c.args.context.now.lower) c.in-Found.candidate.lists c.loop-candidate.candidates.coming c.next.new.self.coming
-    c.in-Found.ensures.answer.0 c.in-Yes.ensures.answer
+returns-in-Yes-clause-answer c = record {
+  others = filter (can_be_chosen c.args.context.now.facts c.args.context.now.stand c.args.context.now.lower) c.next.new.self.coming;
+  first = c.loop-candidate.invariant.same
+      ∙ first_fit (can_be_chosen c.args.context.now.facts c.args.context.now.stand c.args.context.now.lower) c.in-Found.candidate.lists c.loop-candidate.candidates.coming c.next.new.self.coming
+      c.in-Found.ensures.answer.0 c.in-Yes.ensures.answer;
+  down = c.in-Found.ensures.answer.1 ∙ ap (λ (frame : Frame). down frame c.in-Found.candidate.lists) c.loop-candidate.invariant.frame;
+}
 
 pub loop-candidate-preserved : goal.loop-candidate-preserved
 loop-candidate-preserved c = record {
-  member = c.loop-candidate.invariant.member
+  same = c.loop-candidate.invariant.same
       ∙ passes_unfit (can_be_chosen c.args.context.now.facts c.args.context.now.stand c.args.context.now.lower) c.in-Found.candidate.lists c.loop-candidate.candidates.coming c.next.new.self.coming
       c.in-Found.ensures.answer.0 c.in-No.ensures.answer;
   frame = c.in-Found.ensures.frame ∙ c.loop-candidate.invariant.frame;
@@ -45,5 +48,5 @@ loop-candidate-preserved c = record {
 
 pub returns-in-End-clause-answer : goal.returns-in-End-clause-answer
 returns-in-End-clause-answer c =
-    c.loop-candidate.invariant.member
+    ap has_member c.loop-candidate.invariant.same
     ∙ has_none (can_be_chosen c.args.context.now.facts c.args.context.now.stand c.args.context.now.lower) c.loop-candidate.candidates.coming c.in-End.ensures.answer.0
