@@ -14,23 +14,17 @@ returns-clause-answer c =
 
 pub returns-in-End-clause-answer : goal.returns-in-End-clause-answer
 returns-in-End-clause-answer c =
-    let k = c.self.inside.k in
-    let old = c.self.inside.place in
-    let new = c.next_set.new.place in (
-      sym (ap (λ v. v.coming) c.self.view_is) ∙ subst (λ pool. sets_from pool k old ≡ []) c.deref.ensures.0 c.in-End.ensures.answer.0,
-      subst (λ pool. sets_from pool k new ≡ []) c.deref.ensures.0 c.in-End.ensures.answer.1,
-      subst (λ pool. trials_from pool k new ≡ 0) c.deref.ensures.0 c.in-End.ensures.answer.2,
-    )
+    let was = ap (λ v. v.coming) c.self.view_is in
+    let ended = c.in-End.ensures.answer.0 in
+    let nothing = c.in-End.ensures.answer.1 in
+    let untried = c.in-End.ensures.answer.2 in
+    (cc, cc, cc)
 
 pub returns-in-Undecided-clause-answer : goal.returns-in-Undecided-clause-answer
 returns-in-Undecided-clause-answer c =
-    let k = c.self.inside.k in
-    let old = c.self.inside.place in
-    let new = c.next_set.new.place in (
-      subst (λ pool. sets_from pool k new ≡ sets_from pool k old) c.deref.ensures.0 c.in-Undecided.ensures.answer.0 ∙ ap (λ v. v.coming) c.self.view_is,
-      c.in-Undecided.ensures.answer.1,
-      subst (λ pool. 0 < trials_from pool k new) c.deref.ensures.0 c.in-Undecided.ensures.answer.2,
-    )
+    let was = ap (λ v. v.coming) c.self.view_is in
+    let same = c.in-Undecided.ensures.answer.0 in
+    (cc, c.in-Undecided.ensures.answer.1, subst (λ pool. 0 < trials_from pool c.self.inside.k c.next_set.new.place) c.deref.ensures.0 c.in-Undecided.ensures.answer.2)
 
 -- the steps, over the pool that the search is lent
 steps-at : (pool pool' : List ℕ) (k left before after : ℕ) (old new : Place) → pool ≡ pool' → trials_from pool' k old ≡ left → after + trials_from pool k new ≡ before + trials_from pool k old → after + trials_from pool' k new ≡ before + left
