@@ -37,6 +37,7 @@ pub mod PairsWithBeginning
 pub mod NextGroups
 pub mod TakenSteps
 pub mod TakersSearch
+pub mod Turned
 pub mod Places
 pub mod PsdParts
 pub mod QualityOrder

@@ -2,6 +2,7 @@
 use Rattle.std.proofs.Common.{◌≡◌, ℕ, zero, suc, ◌+◌, ◌-◌, ◌<◌, ◌≤◌, Bool, true, false, not, ◌||◌, cond, List, [], ◌∷◌, length, map, get_or, drop, filter, inl, inr, refl, sym, ap, ◌∙◌, subst, arith}
 use Rattle.std.proofs.lemmas.Bool.{eq-eqb, ne_eqb, cases_eq}
 use Rattle.std.proofs.lemmas.List.{drop_more, length-map}
+use Rattle.std.specs.List.{AllByRecursion}
 use Rattle.dutch_order.specs.Choices.{is_member, numbers_from}
 use Rattle.dutch_order.specs.Arrangements.{left_of, Arrangement}
 use Rattle.dutch_player.specs.Facts.{Facts}
@@ -70,6 +71,10 @@ pool_is facts stand b table xs count e h is =
     let l = length-map stand.seats (score_at facts) in omega (arith, l, e) in
     is ∙ (left_is table b.s2 b.s1r b.s2r (numbers_from (stand.mdps + 1) count) h
     ∙ ap (λ k. left_of (left_of (left_of (numbers_from (stand.mdps + 1) k) b.s2) b.s1r) b.s2r) counted)
+
+pub numbers_few : (first count n : ℕ) → first + count ≤ n + 1 → AllByRecursion (λ i. i ≤ n) (numbers_from first count)
+numbers_few first zero n h = tt
+numbers_few first (suc count) n h = (omega arith, numbers_few (suc first) count n (omega arith))
 
 pub pool_numbers : (stand : Stand) (table xs : List ℕ) (count : ℕ) → stand.mdps ≤ length stand.seats → count ≡ length stand.seats - stand.mdps
     → xs ≡ filter (λ x. not (has_bit table x)) (numbers_from (stand.mdps + 1) count) → AllNumbers stand.seats xs

@@ -1,7 +1,8 @@
 -- A table of pairs that is filled place by place.
-use Rattle.std.proofs.Common.{◌≡◌, ℕ, ◌+◌, ◌*◌, ◌/◌, ◌%◌, ◌<◌, ◌≤◌, ◌==◌, Bool, true, false, not, ◌&&◌, nat_lt, nat_le, List, length, inl, inr, refl, sym, ap, ◌∙◌, arith}
+use Rattle.std.proofs.Common.{◌≡◌, ℕ, ◌+◌, ◌-◌, ◌*◌, ◌<◌, ◌≤◌, ◌==◌, Bool, true, false, not, ◌&&◌, nat_lt, List, length, replicate, inl, inr, sym, ap, ◌∙◌, subst, arith, mul_comm}
+use Rattle.std.proofs.Math.Nat.{mul-le-mul_right}
 use Rattle.std.proofs.Math.Bool.{and_comm}
-use Rattle.std.proofs.lemmas.Bool.{lt-ltb, le-ltb, lt-leb, cases_lt, cases_eq}
+use Rattle.std.proofs.lemmas.Bool.{lt-ltb, le-ltb, cases_lt, cases_eq}
 use Rattle.std.proofs.lemmas.Bool.Decides.{nat_tests}
 use Rattle.dutch_player.specs.Facts.{Facts}
 use Rattle.dutch_player.specs.Meetings.{may_meet}
@@ -15,7 +16,7 @@ use Rattle.dutch_pair.specs.BitTables.{has_bit}
 use Rattle.dutch_pair.specs.Context.{Context}
 use Rattle.dutch_pair.specs.PairFacts.{place_of, KnowsPairs, NotedUpto}
 use Rattle.dutch_pair.proofs.PairMisses.{pair_sym}
-use Rattle.dutch_order.specs.declared.numbers.TheConstants.{LIMIT}
+use Rattle.dutch_pair.proofs.BitLemmas.{none_set}
 
 numbers_sym : (facts : Facts) (stand : Stand) (a b : ℕ) → numbers_meet facts stand a b ≡ numbers_meet facts stand b a
 numbers_sym facts stand a b =
@@ -30,92 +31,88 @@ suits_sym facts stand x y =
     ap (λ t. t && (count_in facts (misses Preference) (seat_of stand.seats x, seat_of stand.seats y) == 0)) (numbers_sym facts stand x y)
     ∙ ap (λ k. numbers_meet facts stand y x && (k == 0)) (pair_sym facts (seat_of stand.seats x) (seat_of stand.seats y))
 
--- whether the two numbers at a place suit
-abbrev suits_at : Context → ℕ → Bool
-suits_at known place = suits known.facts known.stand (place / LIMIT + 1) (place % LIMIT + 1)
+row : (n r s : ℕ) → r < s → r * n + n ≤ s * n
+row n r s lt = let le : (r + 1) * n ≤ s * n = mul-le-mul_right n (omega arith) in omega (arith, le)
 
-pub passed : (known : Context) (table : List ℕ) (from end : ℕ) → from ≤ end → ((i : ℕ) → from ≤ i → i < end → suits_at known i ≡ false)
-    → NotedUpto known table from → NotedUpto known table end
-passed known table from end le none noted i =
-    elim (cases_lt i from) [
-      | inl lt ↦ noted i ∙ ap (λ t. t && suits_at known i) (lt-ltb i from lt ∙ sym (lt-ltb i end (omega arith)))
-      | inr ge ↦ noted i ∙ ap (λ t. t && suits_at known i) (le-ltb i from ge) ∙ sym (elim (cases_lt i end) [
-        | inl lt ↦ ap (λ t. nat_lt i end && t) (none i ge lt) ∙ ap (λ t. t && false) (lt-ltb i end lt)
-        | inr more ↦ ap (λ t. t && suits_at known i) (le-ltb i end more)
-      ])
+same_place : (n x y a b : ℕ) → (0 < x) × (x ≤ n) → (0 < y) × (y ≤ n) → (0 < a) × (a ≤ n) → (0 < b) × (b ≤ n)
+    → place_of n a b ≡ place_of n x y → (a ≡ x) × (b ≡ y)
+same_place n x y a b p q u v e =
+    elim (cases_lt (a - 1) (x - 1)) [
+      | inl lt ↦ absurd (let le = row n (a - 1) (x - 1) lt in omega (arith, le))
+      | inr ge ↦ elim (cases_lt (x - 1) (a - 1)) [
+        | inl lt ↦ absurd (let le = row n (x - 1) (a - 1) lt in omega (arith, le))
+        | inr le ↦
+            let rows : (a - 1) * n ≡ (x - 1) * n = ap (λ k. k * n) (let same : a - 1 ≡ x - 1 = omega arith in same) in
+            (omega arith, omega (arith, rows))
+      ]
     ]
 
-pub set_more : (known : Context) (old new : List ℕ) (end : ℕ) → suits_at known end ≡ true → has_bit new end ≡ true
-    → ((i : ℕ) → ¬ (i ≡ end) → has_bit new i ≡ has_bit old i) → NotedUpto known old end → NotedUpto known new (end + 1)
-set_more known old new end suit set others noted i =
-    elim (cases_eq i end) [
-      | inl same ↦ ap (has_bit new) same ∙ (set ∙ sym (ap (λ j. nat_lt j (end + 1) && suits_at known j) same
-          ∙ (ap (λ t. nat_lt end (end + 1) && t) suit ∙ ap (λ t. t && true) (lt-ltb end (end + 1) (omega arith)))))
-      | inr other ↦ others i other ∙ (noted i ∙ ap (λ t. t && suits_at known i) (elim (cases_lt i end) [
-        | inl lt ↦ lt-ltb i end lt ∙ sym (lt-ltb i (end + 1) (omega arith))
-        | inr ge ↦ le-ltb i end ge ∙ sym (le-ltb i (end + 1) (more ge other))
-      ]))
+pub inside : (n x y : ℕ) → (0 < x) × (x ≤ n) → (0 < y) × (y ≤ n) → place_of n x y < n * n
+inside n x y p q = let le = row n (x - 1) n (omega arith) in omega (arith, le)
+
+pub next_row : (n x : ℕ) → 0 < x → place_of n x 1 + n ≡ n * x
+next_row n x some =
+    let up : (x - 1 + 1) * n ≡ x * n = ap (λ k. k * n) (let e : x - 1 + 1 ≡ x = omega arith in e) in
+    omega (arith, up, mul_comm n x)
+
+pub row_start : (n x : ℕ) → n * x ≡ place_of n (x + 1) 1
+row_start n x =
+    let e : (x + 1 - 1) * n ≡ x * n = ap (λ k. k * n) (let s : x + 1 - 1 ≡ x = omega arith in s) in
+    omega (arith, e, mul_comm n x)
+
+further : (i end : ℕ) → ¬ (i ≡ end) → nat_lt i end ≡ nat_lt i (end + 1)
+further i end other =
+    elim (cases_lt i end) [
+      | inl lt ↦ lt-ltb i end lt ∙ sym (lt-ltb i (end + 1) (omega arith))
+      | inr ge ↦ le-ltb i end ge ∙ sym (le-ltb i (end + 1) (elim (cases_lt end i) [ inl lt ↦ omega arith | inr le ↦ absurd (other (omega arith)) ]))
     ]
-  where
-    more : end ≤ i → ¬ (i ≡ end) → end + 1 ≤ i
-    more ge other = elim (cases_lt end i) [ inl lt ↦ omega arith | inr le ↦ absurd (other (omega arith)) ]
-
-no_suit : (facts : Facts) (stand : Stand) (x y : ℕ) (t : Bool) → is_number stand y ≡ false → is_number stand x ≡ t → suits facts stand x y ≡ false
-no_suit facts stand x y true p q =
-    ap (λ u. ((is_number stand x && u) && (not (x == y) && may_meet facts (seat_of stand.seats x) (seat_of stand.seats y)))
-    && (count_in facts (misses Preference) (seat_of stand.seats x, seat_of stand.seats y) == 0)) p
-    ∙ ap (λ u. ((u && false) && (not (x == y) && may_meet facts (seat_of stand.seats x) (seat_of stand.seats y)))
-    && (count_in facts (misses Preference) (seat_of stand.seats x, seat_of stand.seats y) == 0)) q
-no_suit facts stand x y false p q =
-    ap (λ u. ((u && is_number stand y) && (not (x == y) && may_meet facts (seat_of stand.seats x) (seat_of stand.seats y)))
-    && (count_in facts (misses Preference) (seat_of stand.seats x, seat_of stand.seats y) == 0)) q
-
-pub beyond_suits : (facts : Facts) (stand : Stand) (x y : ℕ) → length stand.seats < y → suits facts stand x y ≡ false
-beyond_suits facts stand x y lt =
-    no_suit facts stand x y (is_number stand x) (elim (nat_le 1 y) as (λ t. (t && nat_le y (length stand.seats)) ≡ false) [ true ↦ lt-leb y (length stand.seats) lt | false ↦ refl ]) refl
-
-at_place : (known : Context) (x y : ℕ) → (0 < x) × (x ≤ LIMIT) → (0 < y) × (y ≤ LIMIT) → suits_at known (place_of x y) ≡ suits known.facts known.stand x y
-at_place known x y p q =
-    let first : place_of x y / LIMIT + 1 ≡ x = omega arith in
-    let second : place_of x y % LIMIT + 1 ≡ y = omega arith in
-    ap (λ a. suits known.facts known.stand a (place_of x y % LIMIT + 1)) first ∙ ap (λ b. suits known.facts known.stand x b) second
-
--- a place that is passed tells whether its numbers suit
-pub noted_at : (known : Context) (table : List ℕ) (end x y : ℕ) → (0 < x) × (x ≤ LIMIT) → (0 < y) × (y ≤ LIMIT) → place_of x y < end
-    → NotedUpto known table end → has_bit table (place_of x y) ≡ suits known.facts known.stand x y
-noted_at known table end x y p q lt noted =
-    noted (place_of x y) ∙ (ap (λ t. t && suits_at known (place_of x y)) (lt-ltb (place_of x y) end lt) ∙ at_place known x y p q)
-
-pub noted_before : (known : Context) (table : List ℕ) (x y : ℕ) → (0 < x) × (x ≤ LIMIT) → (0 < y) × (y ≤ LIMIT) → y < x
-    → NotedUpto known table (place_of x y) → has_bit table (place_of y x) ≡ suits known.facts known.stand x y
-noted_before known table x y p q lt noted =
-    noted_at known table (place_of x y) y x q p (omega arith) noted ∙ suits_sym known.facts known.stand y x
-
-pub suits_more : (known : Context) (old new : List ℕ) (x y : ℕ) → (0 < x) × (x ≤ LIMIT) → (0 < y) × (y ≤ LIMIT) → suits known.facts known.stand x y ≡ true
-    → has_bit new (place_of x y) ≡ true → ((i : ℕ) → ¬ (i ≡ place_of x y) → has_bit new i ≡ has_bit old i)
-    → NotedUpto known old (place_of x y) → NotedUpto known new (place_of x y + 1)
-suits_more known old new x y p q suit set others noted = set_more known old new (place_of x y) (at_place known x y p q ∙ suit) set others noted
-
-pub suits_not : (known : Context) (table : List ℕ) (x y : ℕ) → (0 < x) × (x ≤ LIMIT) → (0 < y) × (y ≤ LIMIT) → suits known.facts known.stand x y ≡ false
-    → NotedUpto known table (place_of x y) → NotedUpto known table (place_of x y + 1)
-suits_not known table x y p q suit noted =
-    passed known table (place_of x y) (place_of x y + 1) (omega arith)
-    (λ i ge lt. let same : i ≡ place_of x y = omega arith in ap (suits_at known) same ∙ (at_place known x y p q ∙ suit)) noted
 
 pub noted_same : (known : Context) (table : List ℕ) (from end : ℕ) → from ≡ end → NotedUpto known table from → NotedUpto known table end
-noted_same known table from end same noted = passed known table from end (omega arith) (λ i ge lt. absurd (omega arith)) noted
+noted_same known table from end same noted = subst (NotedUpto known table) same noted
 
--- what stands behind the last number of a row suits nobody
-pub row_end : (known : Context) (table : List ℕ) (x end : ℕ) → (0 < x) × (x ≤ LIMIT) → length known.stand.seats ≤ LIMIT
-    → length known.stand.seats ≤ end → end ≤ LIMIT → NotedUpto known table (place_of x 1 + end) → NotedUpto known table (LIMIT * x)
-row_end known table x end p few all short noted =
-    passed known table (place_of x 1 + end) (LIMIT * x) (omega arith)
-    (λ i ge lt. beyond_suits known.facts known.stand (i / LIMIT + 1) (i % LIMIT + 1) (omega arith)) noted
+module _ (known : Context) where
+  abbrev n : ℕ
+  n = length known.stand.seats
 
-pub knows_all : (known : Context) (table : List ℕ) → NotedUpto known table (LIMIT * length known.stand.seats) → KnowsPairs known table
-knows_all known table noted x y p q =
-    elim (cases_lt (length known.stand.seats) x) [
-      | inl lt ↦ noted (place_of x y) ∙ (ap (λ t. t && suits_at known (place_of x y)) (le-ltb (place_of x y) (LIMIT * length known.stand.seats) (omega arith))
-          ∙ sym (suits_sym known.facts known.stand x y ∙ beyond_suits known.facts known.stand y x lt))
-      | inr le ↦ noted_at known table (LIMIT * length known.stand.seats) x y p q (omega arith) noted
-    ]
+  abbrev suit : ℕ → ℕ → Bool
+  suit x y = suits known.facts known.stand x y
+
+  suit_same : (x y a b : ℕ) (t : Bool) → (a ≡ x) × (b ≡ y) → suit x y ≡ t → suit a b ≡ t
+  suit_same x y a b t at e = ap (λ k. suit k b) at.0 ∙ (ap (suit x) at.1 ∙ e)
+
+  pub noted_before : (table : List ℕ) (x y : ℕ) → (0 < x) × (x ≤ n) → (0 < y) × (y ≤ n) → y < x
+      → NotedUpto known table (place_of n x y) → has_bit table (place_of n y x) ≡ suit x y
+  noted_before table x y p q lt noted =
+      let le = row n (y - 1) (x - 1) (omega arith) in
+      noted y x q p ∙ (ap (λ t. t && suit y x) (lt-ltb (place_of n y x) (place_of n x y) (omega (arith, le))) ∙ suits_sym known.facts known.stand y x)
+
+  pub suits_more : (old new : List ℕ) (x y : ℕ) → (0 < x) × (x ≤ n) → (0 < y) × (y ≤ n) → suit x y ≡ true
+      → has_bit new (place_of n x y) ≡ true → ((i : ℕ) → ¬ (i ≡ place_of n x y) → has_bit new i ≡ has_bit old i)
+      → NotedUpto known old (place_of n x y) → NotedUpto known new (place_of n x y + 1)
+  suits_more old new x y p q suited set others noted a b u v =
+      let end = place_of n x y in
+      elim (cases_eq (place_of n a b) end) [
+        | inl same ↦ ap (has_bit new) same ∙ (set ∙ sym (ap (λ j. nat_lt j (end + 1) && suit a b) same
+            ∙ (ap (λ t. t && suit a b) (lt-ltb end (end + 1) (omega arith)) ∙ suit_same x y a b true (same_place n x y a b p q u v same) suited)))
+        | inr other ↦ others (place_of n a b) other ∙ (noted a b u v ∙ ap (λ t. t && suit a b) (further (place_of n a b) end other))
+      ]
+
+  pub suits_not : (table : List ℕ) (x y : ℕ) → (0 < x) × (x ≤ n) → (0 < y) × (y ≤ n) → suit x y ≡ false
+      → NotedUpto known table (place_of n x y) → NotedUpto known table (place_of n x y + 1)
+  suits_not table x y p q unsuited noted a b u v =
+      let end = place_of n x y in
+      elim (cases_eq (place_of n a b) end) [
+        | inl same ↦
+            let none : suit a b ≡ false = suit_same x y a b false (same_place n x y a b p q u v same) unsuited in
+            noted a b u v ∙ (ap (λ t. t && suit a b) (le-ltb (place_of n a b) end (omega (arith, same)))
+            ∙ sym (ap (λ t. nat_lt (place_of n a b) (end + 1) && t) none ∙ ap (λ t. t && false) (lt-ltb (place_of n a b) (end + 1) (omega (arith, same)))))
+        | inr other ↦ noted a b u v ∙ ap (λ t. t && suit a b) (further (place_of n a b) end other)
+      ]
+
+  pub knows_all : (table : List ℕ) (end : ℕ) → end ≡ n * n → NotedUpto known table end → KnowsPairs known table
+  knows_all table end same noted x y p q =
+      noted x y p q ∙ ap (λ t. t && suit x y) (lt-ltb (place_of n x y) end (omega (arith, same, inside n x y p q)))
+
+  pub knows_none : (table : List ℕ) (count : ℕ) → table ≡ replicate count 0 → NotedUpto known table 0
+  knows_none table count same x y p q =
+      ap (λ words. has_bit words (place_of n x y)) same ∙ (none_set count (place_of n x y) ∙ sym (ap (λ t. t && suit x y) (le-ltb (place_of n x y) 0 (omega arith))))

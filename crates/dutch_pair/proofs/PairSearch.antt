@@ -43,7 +43,7 @@ takes-found Yes n k players trials old mid new first few ne taken = omega arith
 takes-found No n k players trials old mid new first few ne taken = absurd (ne refl)
 takes-found Undecided n k players trials old mid new first few ne taken = tt {0}
 
-some_partner-step : (meets : ℕ → Bool) (holds : List ℕ → Bool) (later : List ℕ) (i : ℕ) → i < length later
+pub some_partner-step : (meets : ℕ → Bool) (holds : List ℕ → Bool) (later : List ℕ) (i : ℕ) → i < length later
     → some_partner meets holds (take i later) (drop i later)
     ≡ ((meets (get_or later i 0) && holds (take i later ++ drop (i + 1) later)) || some_partner meets holds (take (i + 1) later) (drop (i + 1) later))
 some_partner-step meets holds later i lt =

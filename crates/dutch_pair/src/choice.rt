@@ -173,25 +173,26 @@ fn best_by_aim<'a>(
 /// without. `End` is answered where no candidate can be chosen.
 #[tactic(auto, using(crate::proofs::AimLemmas::without_aim))]
 fn best_of<'a>(
+    alloc: Global,
     context: &'a Context<'a>,
     shape: Shape,
     look: &mut Option<LookAhead<'_>>,
     budget: &mut Budget,
-) -> Step<Candidate>
+) -> Result<Step<Candidate>, PairFault>
     requires look { LooksBelow context.now.facts context.now.stand context.now.lower look.old }
     requires fits { Fits (frame_of context.now.facts context.now.stand) shape }
     requires within { budget.old.used ≤ budget.old.limit }
-    ensures answer { MatchStep result
+    ensures answer { IfOk result (λ step. MatchStep step
         (λ c. (best_of_shape context.now.facts context.now.stand context.now.lower shape ≡ Some c.lists) × (c.down ≡ down (frame_of context.now.facts context.now.stand) c.lists))
         (best_of_shape context.now.facts context.now.stand context.now.lower shape ≡ None)
-        (budget.new.used ≡ budget.new.limit) }
+        (budget.new.used ≡ budget.new.limit)) }
     ensures spends { Spends budget.old budget.new }
 {
-    let Some(pairs) = PairFacts::read(context, budget) else {
-        return Step::Undecided;
+    let Some(pairs) = PairFacts::read(alloc, context, budget)? else {
+        return Ok(Step::Undecided);
     };
     let Some(outlook) = Outlook::find(context, shape, budget) else {
-        return Step::Undecided;
+        return Ok(Step::Undecided);
     };
     let floors = Floors::new(pairs, shape, outlook);
     let mut pass = Pass {
@@ -201,12 +202,12 @@ fn best_of<'a>(
         floors,
     };
     match best_by_aim(&pass, look, budget) {
-        Step::Found(candidate) => return Step::Found(candidate),
-        Step::Undecided => return Step::Undecided,
+        Step::Found(candidate) => return Ok(Step::Found(candidate)),
+        Step::Undecided => return Ok(Step::Undecided),
         Step::End => {}
     }
     pass.aim = None;
-    best_near(&pass, look, budget)
+    Ok(best_near(&pass, look, budget))
 }
 
 /// The choice in a bracket that has a candidate.
@@ -227,7 +228,7 @@ pub(crate) fn choose_in<'a>(
         Step::Undecided => return Ok(Choice::Undecided),
     };
     let mut look = look_below(alloc, context)?;
-    match best_of(context, shape, &mut look, budget) {
+    match best_of(alloc, context, shape, &mut look, budget)? {
         Step::Found(candidate) => Ok(Choice::Chosen { shape, candidate }),
         Step::End => unreachable!(),
         Step::Undecided => Ok(Choice::Undecided),

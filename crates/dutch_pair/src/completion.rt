@@ -1,8 +1,12 @@
 // Completion, article A.9: whether players can be paired so that at most one is left out, specified by a list of pairs.
+//
+// The search works in one list. Each later player in turn is swapped to the front, those before him keep their order behind him, and
+// once none of them has served the list is turned back. So a level of the search keeps no list of its own.
 ghost use Rattle.std.specs.Prelude.{◌≡◌, ◌+◌, ◌-◌, ◌*◌, ◌<◌, ◌≤◌, true, false, ◌&&◌, [], ◌++◌, take, drop, length, slice_index, if◌then◌else◌};
 ghost use Rattle.dutch_pair.specs.Completion.{Completable, can_cover, some_partner, nobody, left_over, most, Spends, IsStopped, Takes, MatchAnswer, Tells};
+ghost use Rattle.dutch_pair.specs.declared.completion.Answer.TheVariants.{No};
 
-use arrayvec::ArrayVec;
+use crate::reached::push_all;
 use dutch_order::numbers::{LIMIT, Numbers};
 use dutch_order::rules::Rule;
 use dutch_order::steps::Budget;
@@ -28,34 +32,31 @@ pub fn completes<R: Rule>(players: &[u16], rule: &R, budget: &mut Budget) -> Ans
     ensures steps { Spends (most (length players.now) true) budget.old budget.new }
     ensures taken { Takes result (length players.now) (length players.now) budget.old budget.new }
 {
-    can_pair(players, true, rule, budget)
+    let mut all = Numbers::new();
+    push_all(players, &mut all);
+    can_pair(&mut all, true, rule, budget)
 }
 
-/// The players of a list but for the one at a place.
-pub(crate) fn without(players: &[u16], place: usize) -> Numbers
-    requires few { length players.now ≤ LIMIT }
-    requires inside { place < length players.now }
-    ensures { result.items ≡ take place players.now ++ drop (place + 1) players.now }
+/// Puts the first of a list behind the others.
+pub(crate) fn put_last(list: &mut [u16])
+    ensures { list.new ≡ drop 1 list.old ++ take 1 list.old }
 {
-    let mut others = ArrayVec::new();
-    for player in players {
-        others.push(*player);
+    if !list.is_empty() {
+        list.rotate_left(1);
     }
-    others.remove(place);
-    others
 }
 
-/// Whether players can be paired, where one may be left out (`bye`) or none.
+/// Whether players can be paired, where one may be left out (`bye`) or none. Where they cannot, they stand as before.
 #[cycle(search)]
-fn can_pair<R: Rule>(players: &[u16], bye: bool, rule: &R, budget: &mut Budget) -> Answer
-    requires few { length players.now ≤ LIMIT }
+fn can_pair<R: Rule>(players: &mut [u16], bye: bool, rule: &R, budget: &mut Budget) -> Answer
     requires within { budget.old.used ≤ budget.old.limit }
-    ensures answer { Tells result (can_cover (R.meets rule.now) (left_over bye (R.may_be_left rule.now)) (length players.now) players.now)
-        (IsStopped (most (length players.now) bye) budget.old budget.new) }
-    ensures steps { Spends (most (length players.now) bye) budget.old budget.new }
-    ensures taken { Takes result (length players.now) (if bye then length players.now else 0) budget.old budget.new }
+    ensures answer { Tells result (can_cover (R.meets rule.now) (left_over bye (R.may_be_left rule.now)) (length players.old) players.old)
+        (IsStopped (most (length players.old) bye) budget.old budget.new) }
+    ensures steps { Spends (most (length players.old) bye) budget.old budget.new }
+    ensures taken { Takes result (length players.old) (if bye then length players.old else 0) budget.old budget.new }
+    ensures kept { result ≡ No → players.new ≡ players.old }
 {
-    let Some((first, later)) = players.split_first() else {
+    let Some((first, later)) = players.split_first_mut() else {
         return Answer::Yes;
     };
     // Of an odd number somebody is left out.
@@ -68,75 +69,77 @@ fn can_pair<R: Rule>(players: &[u16], bye: bool, rule: &R, budget: &mut Budget) 
     }
 }
 
-/// Whether the first player can be paired with one of the later ones, so that the others can be paired.
+/// Whether the first player can be paired with one of the later ones, so that the others can be paired. Each comes to their front in
+/// turn, and where none serves they stand as before.
 #[cycle(search)]
 fn pair_first<R: Rule>(
     first: u16,
-    later: &[u16],
+    later: &mut [u16],
     bye: bool,
     rule: &R,
     budget: &mut Budget,
 ) -> Answer
-    requires few { length later.now < LIMIT }
     requires within { budget.old.used ≤ budget.old.limit }
-    ensures answer { Tells result (some_partner (R.meets rule.now first) (can_cover (R.meets rule.now) (left_over bye (R.may_be_left rule.now)) (length later.now - 1)) [] later.now)
-        (IsStopped (length later.now * (1 + most (length later.now - 1) bye)) budget.old budget.new) }
-    ensures steps { Spends (length later.now * (1 + most (length later.now - 1) bye)) budget.old budget.new }
-    ensures taken { Takes result (length later.now + 1) (length later.now) budget.old budget.new }
+    ensures answer { Tells result (some_partner (R.meets rule.now first) (can_cover (R.meets rule.now) (left_over bye (R.may_be_left rule.now)) (length later.old - 1)) [] later.old)
+        (IsStopped (length later.old * (1 + most (length later.old - 1) bye)) budget.old budget.new) }
+    ensures steps { Spends (length later.old * (1 + most (length later.old - 1) bye)) budget.old budget.new }
+    ensures taken { Takes result (length later.old + 1) (length later.old) budget.old budget.new }
+    ensures kept { result ≡ No → later.new ≡ later.old }
 {
     for place in 0..later.len() {
-        match pair_with(first, later, place, bye, rule, budget) {
+        later.swap(0, place);
+        match pair_with(first, later, bye, rule, budget) {
             Answer::No => {}
             answer => return answer,
         }
     }
+    put_last(later);
     Answer::No
 }
 
-/// Whether the first player may meet the one at a place, so that the others can be paired.
+/// Whether the first player may meet the first of the later ones, so that the others can be paired.
 #[cycle(search)]
 fn pair_with<R: Rule>(
     first: u16,
-    later: &[u16],
-    place: usize,
+    later: &mut [u16],
     bye: bool,
     rule: &R,
     budget: &mut Budget,
 ) -> Answer
-    requires few { length later.now < LIMIT }
-    requires inside { place < length later.now }
+    requires some { 0 < length later.old }
     requires within { budget.old.used ≤ budget.old.limit }
-    ensures answer { Tells result (R.meets rule.now first (slice_index later.now place)
-        && can_cover (R.meets rule.now) (left_over bye (R.may_be_left rule.now)) (length later.now - 1) (take place later.now ++ drop (place + 1) later.now))
-        (IsStopped (1 + most (length later.now - 1) bye) budget.old budget.new) }
-    ensures steps { Spends (1 + most (length later.now - 1) bye) budget.old budget.new }
-    ensures taken { Takes result (length later.now + 1) 1 budget.old budget.new }
+    ensures answer { Tells result (R.meets rule.now first (slice_index later.old 0)
+        && can_cover (R.meets rule.now) (left_over bye (R.may_be_left rule.now)) (length later.old - 1) (drop 1 later.old))
+        (IsStopped (1 + most (length later.old - 1) bye) budget.old budget.new) }
+    ensures steps { Spends (1 + most (length later.old - 1) bye) budget.old budget.new }
+    ensures taken { Takes result (length later.old + 1) 1 budget.old budget.new }
+    ensures kept { result ≡ No → later.new ≡ later.old }
 {
     if budget.used == budget.limit {
         return Answer::Undecided;
     }
     budget.used += 1;
-    if !rule.may_meet(first, later[place]) {
+    if !rule.may_meet(first, later[0]) {
         return Answer::No;
     }
-    can_pair(&without(later, place), bye, rule, budget)
+    can_pair(&mut later[1..], bye, rule, budget)
 }
 
 /// Whether the first player may be left out, where one may be, so that all later ones can be paired.
 #[cycle(search)]
 fn leave_first<R: Rule>(
     first: u16,
-    later: &[u16],
+    later: &mut [u16],
     bye: bool,
     rule: &R,
     budget: &mut Budget,
 ) -> Answer
-    requires few { length later.now < LIMIT }
     requires within { budget.old.used ≤ budget.old.limit }
-    ensures answer { Tells result (left_over bye (R.may_be_left rule.now) first && can_cover (R.meets rule.now) nobody (length later.now) later.now)
-        (IsStopped (if bye then 1 + most (length later.now) false else 0) budget.old budget.new) }
-    ensures steps { Spends (if bye then 1 + most (length later.now) false else 0) budget.old budget.new }
-    ensures taken { Takes result (length later.now + 1) (if bye then 1 else 0) budget.old budget.new }
+    ensures answer { Tells result (left_over bye (R.may_be_left rule.now) first && can_cover (R.meets rule.now) nobody (length later.old) later.old)
+        (IsStopped (if bye then 1 + most (length later.old) false else 0) budget.old budget.new) }
+    ensures steps { Spends (if bye then 1 + most (length later.old) false else 0) budget.old budget.new }
+    ensures taken { Takes result (length later.old + 1) (if bye then 1 else 0) budget.old budget.new }
+    ensures kept { result ≡ No → later.new ≡ later.old }
 {
     if !bye {
         return Answer::No;

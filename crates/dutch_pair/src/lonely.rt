@@ -1,6 +1,6 @@
 // Players who miss their preference whoever of those left is their opponent, once S1R is chosen (C.04.3 C.10).
 ghost use Rattle.std.specs.Prelude.{◌≡◌, ◌-◌, ◌<◌, ◌≤◌, ◌||◌, ◌++◌, ℕ, not, length, filter, max};
-ghost use Rattle.std.specs.List.{list_any};
+ghost use Rattle.std.specs.List.{list_any, AllByRecursion};
 ghost use Rattle.arrayvec.specs.ArrayVec.{array_vec_len};
 ghost use Rattle.dutch_order.specs.declared.numbers.TheConstants.{LIMIT};
 ghost use Rattle.dutch_order.specs.Choices.{is_member, numbers_from};
@@ -10,40 +10,47 @@ ghost use Rattle.dutch_pair.specs.ColourFloors.{suits, waiting, pool, lonely};
 ghost use Rattle.dutch_pair.specs.FloorOf.{HasNumbers};
 
 use crate::begun::Begun;
-use crate::bit_table::BitTable;
+use crate::bit_table::{WORD, has_bit, set_bit};
 use crate::context::Context;
 use crate::pair_facts::PairFacts;
 use dutch_order::bracket::Shape;
 use dutch_order::numbers::{LIMIT, Numbers, numbered_from};
 
+/// A mark for each number of a bracket.
+type Marks = [u64; LIMIT / WORD + 1];
+
 /// Marks numbers.
-fn mark(numbers: &[u16], taken: &mut BitTable)
-    ensures { (i : ℕ) → has_bit taken.new i ≡ (has_bit taken.old i || is_member i numbers.now) }
+fn mark(numbers: &[u16], marks: &mut Marks)
+    requires { AllByRecursion (λ number. number ≤ LIMIT) numbers.now }
+    ensures { (i : ℕ) → has_bit marks.new i ≡ (has_bit marks.old i || is_member i numbers.now) }
 {
     for number in numbers {
-        taken.set(usize::from(*number));
+        set_bit(marks, usize::from(*number));
     }
 }
 
 /// The residents who have a place.
-fn taken(begun: &Begun<'_>) -> BitTable
+fn taken(context: &Context<'_>, begun: &Begun<'_>) -> Marks
+    requires { HasNumbers context.now.stand begun.now }
     ensures { (i : ℕ) → has_bit result i ≡ ((is_member i begun.now.s2 || is_member i begun.now.s1r) || is_member i begun.now.s2r) }
 {
-    let mut taken = BitTable::new();
-    mark(begun.s2, &mut taken);
-    mark(begun.s1r, &mut taken);
-    mark(begun.s2r, &mut taken);
-    taken
+    let _count = context.len();
+    let mut marks = [0; LIMIT / WORD + 1];
+    mark(begun.s2, &mut marks);
+    mark(begun.s1r, &mut marks);
+    mark(begun.s2r, &mut marks);
+    marks
 }
 
 /// Those of some numbers that are not marked.
-fn unmarked(numbers: &[u16], taken: &BitTable) -> Numbers
+fn unmarked(numbers: &[u16], marks: &Marks) -> Numbers
     requires few { length numbers.now ≤ LIMIT }
-    ensures { result.items ≡ filter (λ x. not (has_bit taken.now x)) numbers.now }
+    requires small { AllByRecursion (λ number. number ≤ LIMIT) numbers.now }
+    ensures { result.items ≡ filter (λ x. not (has_bit marks.now x)) numbers.now }
 {
     let mut left = Numbers::new();
     for number in numbers {
-        if !taken.has(usize::from(*number)) {
+        if !has_bit(marks, usize::from(*number)) {
             left.push(*number);
         }
     }
@@ -53,13 +60,14 @@ fn unmarked(numbers: &[u16], taken: &BitTable) -> Numbers
 /// The residents with whom S1R can still be paired.
 #[tactic(auto, using(crate::proofs::LonelyLemmas::pool_is, crate::proofs::LonelyLemmas::pool_numbers))]
 fn pool(context: &Context<'_>, begun: &Begun<'_>) -> Numbers
+    requires { HasNumbers context.now.stand begun.now }
     ensures items { result.items ≡ pool context.now.facts context.now.stand begun.now }
     ensures numbers { AllNumbers context.now.stand.seats result.items }
     ensures few { length result.items ≤ LIMIT }
 {
     let mdps = context.reached().mdps();
     let residents = numbered_from(mdps + 1, context.len().saturating_sub(mdps));
-    unmarked(&residents, &taken(begun))
+    unmarked(&residents, &taken(context, begun))
 }
 
 /// The players of S1R who have no opponent yet.

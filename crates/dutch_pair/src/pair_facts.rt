@@ -1,109 +1,130 @@
 // Which numbers of a bracket suit each other, read once: they may meet, and neither misses his preference (C.04.3 C.1, C.3, C.10).
 //
-// A bit for each ordered pair of numbers, row by row. A row takes the pairs with the numbers before it from the rows that are there,
-// so that each pair is looked at once.
-ghost use Rattle.std.specs.Prelude.{◌≡◌, ◌+◌, ◌*◌, ◌<◌, ◌≤◌, false, length, MatchOption};
+// A bit for each ordered pair of numbers, row by row, so that what it takes follows the bracket's size. A row takes the pairs with the
+// numbers before it from the rows that are there, so that each pair is looked at once.
+ghost use Rattle.std.specs.Prelude.{◌≡◌, ◌+◌, ◌*◌, ◌<◌, ◌≤◌, false, length, IfOk, MatchOption};
+ghost use Rattle.dutch_order.specs.declared.numbers.TheConstants.{LIMIT};
 ghost use Rattle.dutch_pair.specs.ColourFloors.{suits};
-ghost use Rattle.dutch_pair.specs.PairFacts.{place_of, NotedUpto};
+ghost use Rattle.dutch_pair.specs.PairFacts.{place_of, NotedUpto, KnowsPairs, HasRoom};
 ghost use Rattle.dutch_order.specs.Steps.{Spends};
 
-use crate::bit_table::{BitTable, PLACES};
+use crate::bit_table::{WORD, has_bit, set_bit};
 use crate::context::Context;
+use crate::fault::PairFault;
 use crate::spending::spend;
-use dutch_order::numbers::LIMIT;
 use dutch_order::steps::Budget;
+use std::alloc::{AllocError, Global};
 use std::marker::Model;
 
 /// A bracket, and which of its numbers suit each other.
 #[derive(Drop)]
 pub(crate) struct PairFacts<'a> {
     context: &'a Context<'a>,
-    suiting: BitTable,
+    suiting: Vec<u64>,
 }
 
 impl<'a> Model for PairFacts<'a> {
-    ghost use Rattle.std.specs.Prelude.{◌≤◌, length};
-    ghost use Rattle.dutch_order.specs.declared.numbers.TheConstants.{LIMIT};
     ghost use Rattle.dutch_pair.specs.Context.{Context};
-    ghost use Rattle.dutch_pair.specs.PairFacts.{KnowsPairs};
+    ghost use Rattle.dutch_pair.specs.PairFacts.{KnowsPairs, HasRoom};
 
     ghost Value = { Context };
 
     ghost view = { λ p. p.context.now };
 
-    ghost invariant = { λ p. (KnowsPairs p.context.now p.suiting) × (length p.context.now.stand.seats ≤ LIMIT) };
+    ghost invariant = { λ p. (KnowsPairs p.context.now p.suiting.items) × HasRoom p.context.now p.suiting.items };
 }
 
-/// Where the table has two numbers, which are 1 to `LIMIT`.
-fn place_of(x: u16, y: u16) -> usize
-    requires first { (0 < x) × (x ≤ LIMIT) }
-    requires second { (0 < y) × (y ≤ LIMIT) }
-    ensures value { result ≡ place_of x y }
-    ensures within { result < PLACES }
+/// Where a table of so many players has two numbers.
+fn place_of(n: usize, x: u16, y: u16) -> usize
+    requires few { n ≤ LIMIT }
+    requires first { (0 < x) × (x ≤ n) }
+    requires second { (0 < y) × (y ≤ n) }
+    ensures value { result ≡ place_of n x y }
+    ensures within { result < n * n }
 {
-    usize::from(x - 1) * LIMIT + usize::from(y - 1)
+    usize::from(x - 1) * n + usize::from(y - 1)
 }
 
 /// Whether two numbers suit, where those before them in the table are noted.
-fn suits_by(context: &Context<'_>, table: &BitTable, x: u16, y: u16) -> bool
-    requires noted { NotedUpto context.now table.now (place_of x y) }
-    requires first { (0 < x) × (x ≤ LIMIT) }
-    requires second { (0 < y) × (y ≤ LIMIT) }
+fn suits_by(context: &Context<'_>, table: &[u64], x: u16, y: u16) -> bool
+    requires room { HasRoom context.now table.now }
+    requires noted { NotedUpto context.now table.now (place_of (length context.now.stand.seats) x y) }
+    requires first { (0 < x) × (x ≤ length context.now.stand.seats) }
+    requires second { (0 < y) × (y ≤ length context.now.stand.seats) }
     ensures { result ≡ suits context.now.facts context.now.stand x y }
 {
     if y < x {
-        return table.has(place_of(y, x));
+        return has_bit(table, place_of(context.len(), y, x));
     }
     context.suits(x, y)
 }
 
 /// Notes whether two numbers suit.
-fn note(context: &Context<'_>, table: &mut BitTable, x: u16, y: u16)
-    requires noted { NotedUpto context.now table.old (place_of x y) }
-    requires first { (0 < x) × (x ≤ LIMIT) }
-    requires second { (0 < y) × (y ≤ LIMIT) }
-    ensures { NotedUpto context.now table.new (place_of x y + 1) }
+fn note(context: &Context<'_>, table: &mut [u64], x: u16, y: u16)
+    requires room { HasRoom context.now table.old }
+    requires noted { NotedUpto context.now table.old (place_of (length context.now.stand.seats) x y) }
+    requires first { (0 < x) × (x ≤ length context.now.stand.seats) }
+    requires second { (0 < y) × (y ≤ length context.now.stand.seats) }
+    ensures noted { NotedUpto context.now table.new (place_of (length context.now.stand.seats) x y + 1) }
+    ensures room { length table.new ≡ length table.old }
 {
     if suits_by(context, table, x, y) {
-        table.set(place_of(x, y));
+        set_bit(table, place_of(context.len(), x, y));
     }
 }
 
 /// Notes whom a number suits.
-fn note_row(context: &Context<'_>, table: &mut BitTable, x: u16)
-    requires noted { NotedUpto context.now table.old (place_of x 1) }
-    requires number { (0 < x) × (x ≤ LIMIT) }
-    ensures { NotedUpto context.now table.new (LIMIT * x) }
+fn note_row(context: &Context<'_>, table: &mut [u64], x: u16)
+    requires room { HasRoom context.now table.old }
+    requires noted { NotedUpto context.now table.old (place_of (length context.now.stand.seats) x 1) }
+    requires number { (0 < x) × (x ≤ length context.now.stand.seats) }
+    ensures noted { NotedUpto context.now table.new (length context.now.stand.seats * x) }
+    ensures room { length table.new ≡ length table.old }
 {
     for y in 0..context.len() {
         note(context, table, x, y as u16 + 1);
     }
 }
 
-/// Which numbers suit each other.
-fn noted(context: &Context<'_>) -> BitTable
-    ensures { NotedUpto context.now result (LIMIT * length context.now.stand.seats) }
+/// Notes of all numbers whom they suit, in a table in which nothing is noted yet.
+fn note_all(context: &Context<'_>, table: &mut [u64])
+    requires room { HasRoom context.now table.old }
+    requires none { NotedUpto context.now table.old 0 }
+    ensures knows { KnowsPairs context.now table.new }
+    ensures room { length table.new ≡ length table.old }
 {
-    let mut table = BitTable::new();
-    for x in 1..=context.len() {
-        note_row(context, &mut table, x as u16);
+    for x in 0..context.len() {
+        note_row(context, table, x as u16 + 1);
     }
-    table
+}
+
+/// A table in which nothing is noted yet.
+fn empty(alloc: Global, context: &Context<'_>) -> Result<Vec<u64>, AllocError>
+    ensures none { IfOk result (λ table. NotedUpto context.now table.items 0) }
+    ensures room { IfOk result (λ table. HasRoom context.now table.items) }
+{
+    let n = context.len();
+    vec![in alloc; 0; n * n / WORD + 1]
 }
 
 impl<'a> PairFacts<'a> {
     /// Looks at all pairs of numbers of a bracket, a step a pair: none where the budget's limit would be passed.
-    pub(crate) fn read(context: &'a Context<'a>, budget: &mut Budget) -> Option<PairFacts<'a>>
+    pub(crate) fn read(
+        alloc: Global,
+        context: &'a Context<'a>,
+        budget: &mut Budget,
+    ) -> Result<Option<PairFacts<'a>>, PairFault>
         requires within { budget.old.used ≤ budget.old.limit }
-        ensures answer { MatchOption result (budget.new.used ≡ budget.new.limit) (λ facts. facts ≡ context.now) }
+        ensures answer { IfOk result (λ read. MatchOption read (budget.new.used ≡ budget.new.limit) (λ facts. facts ≡ context.now)) }
         ensures spends { Spends budget.old budget.new }
     {
         let count = context.len();
         if !spend((count * count.saturating_sub(1) / 2) as u64, budget) {
-            return None;
+            return Ok(None);
         }
-        let suiting = noted(context);
-        Some(PairFacts { context, suiting })
+        let mut suiting = empty(alloc, context)?;
+        note_all(context, &mut suiting);
+        Ok(Some(PairFacts { context, suiting }))
     }
 
     /// The bracket.
@@ -119,6 +140,6 @@ impl<'a> PairFacts<'a> {
         requires second { (0 < y) × (y ≤ length self.now.stand.seats) }
         ensures { result ≡ suits self.now.facts self.now.stand x y }
     {
-        self.suiting.has(place_of(x, y))
+        has_bit(&self.suiting, place_of(self.context.len(), x, y))
     }
 }

@@ -2,19 +2,22 @@
 // lists of pairs.
 //
 // Where only their number is known, downfloaters are all alike. So the search pairs the lower players with one another, and only counts
-// those whom it leaves to downfloaters: which of them takes whom is never tried.
-ghost use Rattle.std.specs.Prelude.{◌≡◌, ◌+◌, ◌-◌, ◌<◌, ◌≤◌, true, false, ◌&&◌, [], ◌++◌, take, drop, length, slice_index};
+// those whom it leaves to downfloaters: which of them takes whom is never tried. It works in one list, as the search for a completion.
+ghost use Rattle.std.specs.Prelude.{◌≡◌, ◌+◌, ◌-◌, ◌<◌, ◌≤◌, true, false, ◌&&◌, [], drop, length, slice_index};
 ghost use Rattle.dutch_order.specs.declared.numbers.TheConstants.{LIMIT};
-ghost use Rattle.dutch_pair.specs.Completion.{some_partner, nobody, left_over};
+ghost use Rattle.dutch_pair.specs.Completion.{some_partner, nobody, left_over, Tells};
 ghost use Rattle.dutch_pair.specs.Seats.{seats_meet, seats_may_be_left};
-ghost use Rattle.dutch_pair.specs.Takers.{takes_one, meets_bracket, can_take_out, can_go_out};
+ghost use Rattle.dutch_pair.specs.declared.completion.Answer.TheVariants.{No};
 ghost use Rattle.dutch_pair.specs.Stops.{Decides};
+ghost use Rattle.dutch_pair.specs.Takers.{takes_one, meets_bracket, can_take_out, can_go_out};
 ghost use Rattle.dutch_order.specs.Steps.{Spends};
 
-use crate::completion::without;
+use crate::completion::{Answer, put_last};
 use crate::context::Context;
+use crate::reached::push_all;
 use crate::seats::seats;
-use crate::spending::{Stopped, step};
+use crate::spending::Stopped;
+use dutch_order::numbers::Numbers;
 use dutch_order::rules::Rule;
 use dutch_order::steps::Budget;
 
@@ -57,106 +60,103 @@ pub(crate) fn can_go_out(
 {
     let lower = context.lower();
     let bye = (takers + lower.len()) % 2 == 1;
-    can_pair(context, lower, Room { takers, bye }, budget)
+    let mut all = Numbers::new();
+    push_all(lower, &mut all);
+    match can_pair(context, &mut all, Room { takers, bye }, budget) {
+        Answer::Yes => Ok(true),
+        Answer::No => Ok(false),
+        Answer::Undecided => Err(Stopped),
+    }
 }
 
 /// Whether lower players can be paired out, where there is room for some at downfloaters and for one who is left out.
 #[cycle(search)]
 #[tactic(auto, using(crate::proofs::TakersSearch::nobody_there, crate::proofs::TakersSearch::first_paired, crate::proofs::TakersSearch::first_taken, crate::proofs::TakersSearch::first_left))]
-fn can_pair(
-    context: &Context<'_>,
-    players: &[u16],
-    room: Room,
-    budget: &mut Budget,
-) -> Result<bool, Stopped>
-    requires few { length players.now ≤ LIMIT }
+fn can_pair(context: &Context<'_>, players: &mut [u16], room: Room, budget: &mut Budget) -> Answer
     requires within { budget.old.used ≤ budget.old.limit }
-    ensures answer { Decides result (can_take_out context.now.facts context.now.stand.seats room.bye (length players.now) room.takers players.now) (budget.new.used ≡ budget.new.limit) }
+    ensures answer { Tells result (can_take_out context.now.facts context.now.stand.seats room.bye (length players.old) room.takers players.old) (budget.new.used ≡ budget.new.limit) }
     ensures spends { Spends budget.old budget.new }
+    ensures kept { result ≡ No → players.new ≡ players.old }
 {
-    let Some((first, later)) = players.split_first() else {
-        return Ok(true);
+    let Some((first, later)) = players.split_first_mut() else {
+        return Answer::Yes;
     };
-    if pair_first(context, *first, later, room, budget)? {
-        return Ok(true);
+    match pair_first(context, *first, later, room, budget) {
+        Answer::Yes => return Answer::Yes,
+        Answer::No => {}
+        Answer::Undecided => return Answer::Undecided,
     }
-    if take_first(context, *first, later, room, budget)? {
-        return Ok(true);
+    match take_first(context, *first, later, room, budget) {
+        Answer::Yes => return Answer::Yes,
+        Answer::No => {}
+        Answer::Undecided => return Answer::Undecided,
     }
     leave_first(context, *first, later, room, budget)
 }
 
-/// Whether the first player can be paired with one of the later ones, so that the others can be paired out.
+/// Whether the first player can be paired with one of the later ones, so that the others can be paired out. Each comes to their front
+/// in turn, and where none serves they stand as before.
 #[cycle(search)]
-fn pair_first(
-    context: &Context<'_>,
-    first: u16,
-    later: &[u16],
-    room: Room,
-    budget: &mut Budget,
-) -> Result<bool, Stopped>
-    requires few { length later.now < LIMIT }
+fn pair_first(context: &Context<'_>, first: u16, later: &mut [u16], room: Room, budget: &mut Budget) -> Answer
     requires within { budget.old.used ≤ budget.old.limit }
-    ensures answer { Decides result
-        (some_partner (seats_meet context.now.facts first) (can_take_out context.now.facts context.now.stand.seats room.bye (length later.now - 1) room.takers) [] later.now)
+    ensures answer { Tells result
+        (some_partner (seats_meet context.now.facts first) (can_take_out context.now.facts context.now.stand.seats room.bye (length later.old - 1) room.takers) [] later.old)
         (budget.new.used ≡ budget.new.limit) }
     ensures spends { Spends budget.old budget.new }
+    ensures kept { result ≡ No → later.new ≡ later.old }
 {
     for place in 0..later.len() {
-        if pair_with(context, first, later, place, room, budget)? {
-            return Ok(true);
+        later.swap(0, place);
+        match pair_with(context, first, later, room, budget) {
+            Answer::Yes => return Answer::Yes,
+            Answer::No => {}
+            Answer::Undecided => return Answer::Undecided,
         }
     }
-    Ok(false)
+    put_last(later);
+    Answer::No
 }
 
-/// Whether the first player may meet the one at a place, so that the others can be paired out.
+/// Whether the first player may meet the first of the later ones, so that the others can be paired out.
 #[cycle(search)]
-fn pair_with(
-    context: &Context<'_>,
-    first: u16,
-    later: &[u16],
-    place: usize,
-    room: Room,
-    budget: &mut Budget,
-) -> Result<bool, Stopped>
-    requires few { length later.now < LIMIT }
-    requires inside { place < length later.now }
+fn pair_with(context: &Context<'_>, first: u16, later: &mut [u16], room: Room, budget: &mut Budget) -> Answer
+    requires some { 0 < length later.old }
     requires within { budget.old.used ≤ budget.old.limit }
-    ensures answer { Decides result (seats_meet context.now.facts first (slice_index later.now place)
-        && can_take_out context.now.facts context.now.stand.seats room.bye (length later.now - 1) room.takers (take place later.now ++ drop (place + 1) later.now))
+    ensures answer { Tells result (seats_meet context.now.facts first (slice_index later.old 0)
+        && can_take_out context.now.facts context.now.stand.seats room.bye (length later.old - 1) room.takers (drop 1 later.old))
         (budget.new.used ≡ budget.new.limit) }
     ensures spends { Spends budget.old budget.new }
+    ensures kept { result ≡ No → later.new ≡ later.old }
 {
-    step(budget)?;
-    if !may_meet(context, first, later[place]) {
-        return Ok(false);
+    if budget.used == budget.limit {
+        return Answer::Undecided;
     }
-    can_pair(context, &without(later, place), room, budget)
+    budget.used += 1;
+    if !may_meet(context, first, later[0]) {
+        return Answer::No;
+    }
+    can_pair(context, &mut later[1..], room, budget)
 }
 
 /// Whether the first player can be paired with a downfloater, so that all later ones can be paired out.
 #[cycle(search)]
-fn take_first(
-    context: &Context<'_>,
-    first: u16,
-    later: &[u16],
-    room: Room,
-    budget: &mut Budget,
-) -> Result<bool, Stopped>
-    requires few { length later.now < LIMIT }
+fn take_first(context: &Context<'_>, first: u16, later: &mut [u16], room: Room, budget: &mut Budget) -> Answer
     requires within { budget.old.used ≤ budget.old.limit }
-    ensures answer { Decides result
-        (takes_one (meets_bracket context.now.facts context.now.stand.seats first) (λ k. can_take_out context.now.facts context.now.stand.seats room.bye (length later.now) k later.now) room.takers)
+    ensures answer { Tells result
+        (takes_one (meets_bracket context.now.facts context.now.stand.seats first) (λ k. can_take_out context.now.facts context.now.stand.seats room.bye (length later.old) k later.old) room.takers)
         (budget.new.used ≡ budget.new.limit) }
     ensures spends { Spends budget.old budget.new }
+    ensures kept { result ≡ No → later.new ≡ later.old }
 {
     if room.takers == 0 {
-        return Ok(false);
+        return Answer::No;
     }
-    step(budget)?;
+    if budget.used == budget.limit {
+        return Answer::Undecided;
+    }
+    budget.used += 1;
     if !takes(context, first) {
-        return Ok(false);
+        return Answer::No;
     }
     let fewer = Room {
         takers: room.takers - 1,
@@ -167,26 +167,22 @@ fn take_first(
 
 /// Whether the first player may be left out, where one may be, so that all later ones can be paired out.
 #[cycle(search)]
-fn leave_first(
-    context: &Context<'_>,
-    first: u16,
-    later: &[u16],
-    room: Room,
-    budget: &mut Budget,
-) -> Result<bool, Stopped>
-    requires few { length later.now < LIMIT }
+fn leave_first(context: &Context<'_>, first: u16, later: &mut [u16], room: Room, budget: &mut Budget) -> Answer
     requires within { budget.old.used ≤ budget.old.limit }
-    ensures answer { Decides result
-        (left_over room.bye (seats_may_be_left context.now.facts) first && can_take_out context.now.facts context.now.stand.seats false (length later.now) room.takers later.now)
+    ensures answer { Tells result (left_over room.bye (seats_may_be_left context.now.facts) first && can_take_out context.now.facts context.now.stand.seats false (length later.old) room.takers later.old)
         (budget.new.used ≡ budget.new.limit) }
     ensures spends { Spends budget.old budget.new }
+    ensures kept { result ≡ No → later.new ≡ later.old }
 {
     if !room.bye {
-        return Ok(false);
+        return Answer::No;
     }
-    step(budget)?;
+    if budget.used == budget.limit {
+        return Answer::Undecided;
+    }
+    budget.used += 1;
     if !seats(context.field()).last_ok(first) {
-        return Ok(false);
+        return Answer::No;
     }
     let nobody_else = Room {
         takers: room.takers,

@@ -1,6 +1,7 @@
 -- No partner tried so far completes the players, and each trial took its steps.
 use Rattle.std.proofs.Common.{◌≡◌, ◌+◌, ◌*◌, ◌-◌, ◌≤◌, take, drop, length, []}
 use Rattle.dutch_pair.specs.Completion.{can_cover, left_over, some_partner, most, Spends}
+use Rattle.dutch_pair.proofs.Turned.{turned}
 use Rattle.dutch_pair.proofs.completion.+search.Given as goal
 
 abbrev pub decreases-can_pair : goal.decreases-can_pair
@@ -18,9 +19,12 @@ decreases-leave_first g l = 3 * length l.later.now + 1
 abbrev pub invariant-pair_first-loop-place : goal.invariant-pair_first-loop-place
 invariant-pair_first-loop-place g l =
     let meets = g.R.Rule.meets l.rule in
-    let holds = can_cover meets (left_over l.bye (g.R.Rule.may_be_left l.rule)) (length l.later - 1) in
+    let all = l.initial.later in
+    let holds = can_cover meets (left_over l.bye (g.R.Rule.may_be_left l.rule)) (length all - 1) in
     record {
-      same : some_partner (meets l.first) holds (take l.place l.later) (drop l.place l.later) ≡ some_partner (meets l.first) holds [] l.later;
-      steps : Spends (l.place * (1 + most (length l.later - 1) l.bye)) l.initial.budget l.budget;
+      turned : l.later ≡ turned l.place all;
+      len : length l.later ≡ length all;
+      same : some_partner (meets l.first) holds (take l.place all) (drop l.place all) ≡ some_partner (meets l.first) holds [] all;
+      steps : Spends (l.place * (1 + most (length all - 1) l.bye)) l.initial.budget l.budget;
       taken : l.initial.budget.used + l.place ≤ l.budget.used;
     }

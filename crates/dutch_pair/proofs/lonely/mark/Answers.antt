@@ -9,12 +9,12 @@ use Rattle.dutch_pair.proofs.lonely.mark.Goals as goal
 pub loop-number-preserved : goal.loop-number-preserved
 loop-number-preserved c = λ i.
     let same : c.from.result ≡ get_or c.args.numbers.now c.loop-number.number-index 0 = c.from.ensures in
-    mark_more c.loop-number.taken c.set.new.self c.args.numbers.now c.loop-number.number-index i c.loop-number-test.true
-    (ap (has_bit c.set.new.self) (sym same) ∙ c.set.ensures.set) (λ j other. c.set.ensures.others j (λ e. other (e ∙ same)))
+    mark_more c.loop-number.marks c.set_bit.new.words c.args.numbers.now c.loop-number.number-index i c.loop-number-test.true
+    (ap (has_bit c.set_bit.new.words) (sym same) ∙ c.set_bit.ensures.set) (λ j other. c.set_bit.ensures.others j (λ e. other (e ∙ same)))
     ∙ c.loop-number.invariant i
 
 pub returns : goal.returns
 returns c = λ i.
-    or_false (has_bit c.loop-number.taken i)
-    ∙ (ap (λ (xs : List ℕ). has_bit c.loop-number.taken i || is_member i xs) (sym (drop_all c.loop-number.number-index c.args.numbers.now c.loop-number-test.false))
+    or_false (has_bit c.loop-number.marks i)
+    ∙ (ap (λ (xs : List ℕ). has_bit c.loop-number.marks i || is_member i xs) (sym (drop_all c.loop-number.number-index c.args.numbers.now c.loop-number-test.false))
     ∙ c.loop-number.invariant i)

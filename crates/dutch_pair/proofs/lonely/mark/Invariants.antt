@@ -5,4 +5,4 @@ use Rattle.dutch_pair.specs.BitTables.{has_bit}
 use Rattle.dutch_pair.proofs.lonely.mark.Given as goal
 
 abbrev pub invariant-loop-number : goal.invariant-loop-number
-invariant-loop-number l = (i : ℕ) → (has_bit l.taken i || is_member i (drop l.number-index l.numbers)) ≡ (has_bit l.initial.taken i || is_member i l.numbers)
+invariant-loop-number l = (i : ℕ) → (has_bit l.marks i || is_member i (drop l.number-index l.numbers)) ≡ (has_bit l.initial.marks i || is_member i l.numbers)

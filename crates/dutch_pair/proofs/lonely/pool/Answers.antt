@@ -1,12 +1,23 @@
 -- The residents that are not marked.
-use Rattle.std.proofs.Common.{◌≡◌, ◌∙◌, ◌+◌, ◌≤◌, not, filter, length, map, ap, arith}
+use Rattle.std.proofs.Common.{◌≡◌, ◌∙◌, ◌+◌, ◌≤◌, ℕ, not, filter, length, map, sym, ap, subst, arith}
+use Rattle.std.specs.List.{AllByRecursion}
 use Rattle.std.proofs.lemmas.List.{length-map}
 use Rattle.dutch_order.specs.Choices.{numbers_from}
+use Rattle.dutch_order.specs.declared.numbers.TheConstants.{LIMIT}
 use Rattle.dutch_pair.specs.BitTables.{has_bit}
 use Rattle.dutch_pair.specs.Reached.{Stand}
 use Rattle.dutch_pair.specs.Seated.{score_at}
-use Rattle.dutch_pair.proofs.LonelyLemmas.{pool_is, pool_numbers}
+use Rattle.dutch_pair.proofs.LonelyLemmas.{pool_is, pool_numbers, numbers_few}
 use Rattle.dutch_pair.proofs.lonely.pool.Goals as goal
+
+pub unmarked-requires-clause-small : goal.unmarked-requires-clause-small
+unmarked-requires-clause-small c =
+    let mdps : c.mdps-mdps.result ≡ c.args.context.now.stand.mdps = c.mdps-mdps.ensures ∙ ap (λ (s : Stand). s.mdps) c.reached.ensures.value in
+    let within : c.args.context.now.stand.mdps ≤ length (map (score_at c.args.context.now.facts) c.args.context.now.stand.seats) = c.reached.ensures.sound.sound.within in
+    let counted = length-map c.args.context.now.stand.seats (score_at c.args.context.now.facts) in
+    subst (AllByRecursion (λ (i : ℕ). i ≤ LIMIT)) (sym (c.deref.ensures.0 ∙ c.numbered_from-residents.ensures.items))
+    (numbers_few (c.mdps-mdps.result + 1) c.saturating_sub.result LIMIT
+    (omega (arith, c.saturating_sub.ensures, c.len.ensures.value, c.len.ensures.few, mdps, within, counted)))
 
 pub returns-clause-items : goal.returns-clause-items
 returns-clause-items c =

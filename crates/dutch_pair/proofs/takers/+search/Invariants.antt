@@ -4,6 +4,7 @@ use Rattle.dutch_pair.specs.Completion.{some_partner}
 use Rattle.dutch_pair.specs.Seats.{seats_meet}
 use Rattle.dutch_pair.specs.Takers.{can_take_out}
 use Rattle.dutch_order.specs.Steps.{Spends}
+use Rattle.dutch_pair.proofs.Turned.{turned}
 use Rattle.dutch_pair.proofs.takers.+search.Given as goal
 
 abbrev pub decreases-can_pair : goal.decreases-can_pair
@@ -24,8 +25,11 @@ decreases-leave_first l = 3 * length l.later.now + 1
 abbrev pub invariant-pair_first-loop-place : goal.invariant-pair_first-loop-place
 invariant-pair_first-loop-place l =
     let meets = seats_meet l.context.facts l.first in
-    let holds = can_take_out l.context.facts l.context.stand.seats l.room.bye (length l.later - 1) l.room.takers in
+    let all = l.initial.later in
+    let holds = can_take_out l.context.facts l.context.stand.seats l.room.bye (length all - 1) l.room.takers in
     record {
-      same : some_partner meets holds (take l.place l.later) (drop l.place l.later) ≡ some_partner meets holds [] l.later;
+      turned : l.later ≡ turned l.place all;
+      len : length l.later ≡ length all;
+      same : some_partner meets holds (take l.place all) (drop l.place all) ≡ some_partner meets holds [] all;
       spends : Spends l.initial.budget l.budget;
     }
