@@ -20,9 +20,9 @@ use crate::fault::PairFault;
 use crate::floor::Floors;
 use crate::outlook::Outlook;
 use crate::pair_facts::PairFacts;
-use crate::quality::Quality;
+use crate::quality::{Quality, Room};
 use crate::reached::Reached;
-use crate::remembered::{LookAhead, look_below, remembered_quality};
+use crate::remembered::{Judge, judge_candidate, look_below};
 use crate::shape::shape_of;
 use crate::skipper::{Pass, Skipper};
 use dutch_order::bracket::Shape;
@@ -31,6 +31,7 @@ use dutch_order::candidates::Candidates;
 use dutch_order::steps::{Budget, Step};
 use dutch_player::field::Field;
 use std::alloc::Global;
+use std::mem::take;
 
 /// What is chosen in a bracket.
 #[derive(Debug, Drop)]
@@ -69,29 +70,30 @@ fn consider(
     pass: &Pass<'_>,
     candidate: Candidate,
     kept: &mut Option<Best>,
-    look: &mut Option<LookAhead<'_>>,
+    judge: &mut Judge<'_>,
     budget: &mut Budget,
 ) -> bool
     requires candidate { IsDraw pass.now.context.now.facts pass.now.context.now.stand candidate }
     requires kept { IsKept pass.now.context.now.facts pass.now.context.now.stand pass.now.context.now.lower kept.old }
-    requires look { LooksBelow pass.now.context.now.facts pass.now.context.now.stand pass.now.context.now.lower look.old }
+    requires look { LooksBelow pass.now.context.now.facts pass.now.context.now.stand pass.now.context.now.lower judge.old.look }
     requires within { budget.old.used ≤ budget.old.limit }
     ensures same { result ≡ true → (coming : List Arrangement)
         → best_yet pass.now.context.now.facts pass.now.context.now.stand pass.now.context.now.lower (aim_in pass.now.aim) kept.new coming
         ≡ best_yet pass.now.context.now.facts pass.now.context.now.stand pass.now.context.now.lower (aim_in pass.now.aim) kept.old (candidate.lists ∷ coming) }
     ensures stopped { result ≡ false → budget.new.used ≡ budget.new.limit }
     ensures kept { IsKept pass.now.context.now.facts pass.now.context.now.stand pass.now.context.now.lower kept.new }
-    ensures look { LooksBelow pass.now.context.now.facts pass.now.context.now.stand pass.now.context.now.lower look.new }
+    ensures look { LooksBelow pass.now.context.now.facts pass.now.context.now.stand pass.now.context.now.lower judge.new.look }
     ensures spends { Spends budget.old budget.new }
 {
-    let Some(quality) = remembered_quality(pass.context, &candidate, look, budget) else {
+    if !judge_candidate(pass.context, &candidate, judge, budget) {
         return false;
-    };
-    if is_idle(&quality, &pass.aim, kept) {
+    }
+    if is_idle(&judge.room.quality, &pass.aim, kept) {
         return true;
     }
     match can_be_chosen(pass.context, &candidate, budget) {
         Answer::Yes => {
+            let quality = take(&mut judge.room.quality);
             *kept = Some(Best { candidate, quality });
             true
         }
@@ -114,17 +116,17 @@ fn handed_out(kept: Option<Best>) -> Step<Candidate>
 /// none.
 fn best_near<'a>(
     pass: &'a Pass<'a>,
-    look: &mut Option<LookAhead<'_>>,
+    judge: &mut Judge<'_>,
     budget: &mut Budget,
 ) -> Step<Candidate>
-    requires look { LooksBelow pass.now.context.now.facts pass.now.context.now.stand pass.now.context.now.lower look.old }
+    requires look { LooksBelow pass.now.context.now.facts pass.now.context.now.stand pass.now.context.now.lower judge.old.look }
     requires within { budget.old.used ≤ budget.old.limit }
     ensures answer { MatchStep result
         (λ c. (best_near pass.now.context.now.facts pass.now.context.now.stand pass.now.context.now.lower (aim_in pass.now.aim) pass.now.shape ≡ Some c.lists)
         × (c.down ≡ down (frame_of pass.now.context.now.facts pass.now.context.now.stand) c.lists))
         (best_near pass.now.context.now.facts pass.now.context.now.stand pass.now.context.now.lower (aim_in pass.now.aim) pass.now.shape ≡ None)
         (budget.new.used ≡ budget.new.limit) }
-    ensures look { LooksBelow pass.now.context.now.facts pass.now.context.now.stand pass.now.context.now.lower look.new }
+    ensures look { LooksBelow pass.now.context.now.facts pass.now.context.now.stand pass.now.context.now.lower judge.new.look }
     ensures spends { Spends budget.old budget.new }
 {
     let context = pass.context;
@@ -133,9 +135,9 @@ fn best_near<'a>(
     let mut kept = None;
     loop {
         let skipper = Skipper { pass, kept: &kept };
-        match candidates.next_within(&skipper, &mut (), budget) {
+        match candidates.next_within(&skipper, &mut judge.room, budget) {
             Step::Found(candidate) => {
-                if !consider(pass, candidate, &mut kept, look, budget) {
+                if !consider(pass, candidate, &mut kept, judge, budget) {
                     return Step::Undecided;
                 }
             }
@@ -150,23 +152,23 @@ fn best_near<'a>(
 #[tactic(auto, using(crate::proofs::AimLemmas::a_pass_serves))]
 fn best_by_aim<'a>(
     pass: &'a Pass<'a>,
-    look: &mut Option<LookAhead<'_>>,
+    judge: &mut Judge<'_>,
     budget: &mut Budget,
 ) -> Step<Candidate>
-    requires look { LooksBelow pass.now.context.now.facts pass.now.context.now.stand pass.now.context.now.lower look.old }
+    requires look { LooksBelow pass.now.context.now.facts pass.now.context.now.stand pass.now.context.now.lower judge.old.look }
     requires within { budget.old.used ≤ budget.old.limit }
     ensures answer { MatchStep result
         (λ c. (best_of_shape pass.now.context.now.facts pass.now.context.now.stand pass.now.context.now.lower pass.now.shape ≡ Some c.lists)
         × (c.down ≡ down (frame_of pass.now.context.now.facts pass.now.context.now.stand) c.lists))
         (Unit {0})
         (budget.new.used ≡ budget.new.limit) }
-    ensures look { LooksBelow pass.now.context.now.facts pass.now.context.now.stand pass.now.context.now.lower look.new }
+    ensures look { LooksBelow pass.now.context.now.facts pass.now.context.now.stand pass.now.context.now.lower judge.new.look }
     ensures spends { Spends budget.old budget.new }
 {
     if pass.aim.is_none() {
         return Step::End;
     }
-    best_near(pass, look, budget)
+    best_near(pass, judge, budget)
 }
 
 /// Of the candidates of a shape that can be chosen the first that none is better than: what a pass with an aim ends with, or else one
@@ -176,10 +178,10 @@ fn best_of<'a>(
     alloc: Global,
     context: &'a Context<'a>,
     shape: Shape,
-    look: &mut Option<LookAhead<'_>>,
+    judge: &mut Judge<'_>,
     budget: &mut Budget,
 ) -> Result<Step<Candidate>, PairFault>
-    requires look { LooksBelow context.now.facts context.now.stand context.now.lower look.old }
+    requires look { LooksBelow context.now.facts context.now.stand context.now.lower judge.old.look }
     requires fits { Fits (frame_of context.now.facts context.now.stand) shape }
     requires within { budget.old.used ≤ budget.old.limit }
     ensures answer { IfOk result (λ step. MatchStep step
@@ -201,13 +203,13 @@ fn best_of<'a>(
         aim: floors.aim(),
         floors,
     };
-    match best_by_aim(&pass, look, budget) {
+    match best_by_aim(&pass, judge, budget) {
         Step::Found(candidate) => return Ok(Step::Found(candidate)),
         Step::Undecided => return Ok(Step::Undecided),
         Step::End => {}
     }
     pass.aim = None;
-    Ok(best_near(&pass, look, budget))
+    Ok(best_near(&pass, judge, budget))
 }
 
 /// The choice in a bracket that has a candidate.
@@ -227,8 +229,11 @@ pub(crate) fn choose_in<'a>(
         Step::End => unreachable!(),
         Step::Undecided => return Ok(Choice::Undecided),
     };
-    let mut look = look_below(alloc, context)?;
-    match best_of(alloc, context, shape, &mut look, budget)? {
+    let mut judge = Judge {
+        look: look_below(alloc, context)?,
+        room: Room::default(),
+    };
+    match best_of(alloc, context, shape, &mut judge, budget)? {
         Step::Found(candidate) => Ok(Choice::Chosen { shape, candidate }),
         Step::End => unreachable!(),
         Step::Undecided => Ok(Choice::Undecided),

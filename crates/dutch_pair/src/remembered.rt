@@ -17,8 +17,8 @@ ghost use Rattle.dutch_order.specs.Steps.{Spends};
 use crate::context::Context;
 use crate::fault::PairFault;
 use crate::group::split_first_group;
-use crate::lookahead::{quality, value_below};
-use crate::quality::{NextValue, Quality, Room, fill_quality};
+use crate::lookahead::value_below;
+use crate::quality::{NextValue, Room, fill_quality};
 use crate::reached::{Kind, Reached, Seats, push_all};
 use dutch_order::candidate::Candidate;
 use dutch_order::numbers::{LIMIT, Numbers};
@@ -172,25 +172,24 @@ impl<'a> LookAhead<'a> {
         }
     }
 
-    /// The quality of a candidate of the bracket; `None` where the budget's limit was reached first.
+    /// Fills the quality of a candidate of the bracket: no where the budget's limit was reached first.
     #[tactic(auto, using(crate::proofs::NextBrackets::left_by_draw))]
-    fn quality(&mut self, candidate: &Candidate, budget: &mut Budget) -> Option<Quality>
+    fn fill_quality(&mut self, candidate: &Candidate, room: &mut Room, budget: &mut Budget) -> bool
         requires candidate { IsDraw self.old.facts self.old.stand candidate.now }
         requires within { budget.old.used ≤ budget.old.limit }
-        ensures answer { MatchOption result (budget.new.used ≡ budget.new.limit)
-            (λ q. quality_in q ≡ quality self.old.facts self.old.stand self.old.next candidate.now) }
+        ensures filled { result ≡ true → quality_in room.new.quality ≡ quality self.old.facts self.old.stand self.old.next candidate.now }
+        ensures stopped { result ≡ false → budget.new.used ≡ budget.new.limit }
         ensures looks_on { LooksOn self.old self.new }
         ensures spends { Spends budget.old budget.new }
     {
         let (field, reached) = (self.field, self.reached);
         match self.value(candidate.down(), budget) {
             Look::Value { pairs, psd } => {
-                let mut room = Room::default();
                 room.quality.put_next(pairs, &psd);
-                fill_quality(field, reached.seats(), candidate, &mut room);
-                Some(room.quality)
+                fill_quality(field, reached.seats(), candidate, room);
+                true
             }
-            Look::Undecided => None,
+            Look::Undecided => false,
         }
     }
 
@@ -221,31 +220,37 @@ pub(crate) fn look_below<'a>(
     }
 }
 
-/// The quality of a candidate above all lower seats, by the look-ahead of its bracket; `None` where the budget's limit was reached
+/// What tells the quality of a bracket's candidates: the look-ahead, in an ordinary bracket, and room to work it out.
+#[derive(Drop)]
+pub(crate) struct Judge<'a> {
+    pub(crate) look: Option<LookAhead<'a>>,
+    pub(crate) room: Room,
+}
+
+/// Fills the quality of a candidate above all lower seats, by the look-ahead of its bracket: no where the budget's limit was reached
 /// first.
 #[tactic(auto, using(crate::proofs::NextGroups::is_next, crate::proofs::NextGroups::quality_at))]
-pub(crate) fn remembered_quality(
+pub(crate) fn judge_candidate(
     context: &Context<'_>,
     candidate: &Candidate,
-    look: &mut Option<LookAhead<'_>>,
+    judge: &mut Judge<'_>,
     budget: &mut Budget,
-) -> Option<Quality>
+) -> bool
     requires candidate { IsDraw context.now.facts context.now.stand candidate.now }
-    requires look { LooksBelow context.now.facts context.now.stand context.now.lower look.old }
+    requires look { LooksBelow context.now.facts context.now.stand context.now.lower judge.old.look }
     requires within { budget.old.used ≤ budget.old.limit }
-    ensures answer { MatchOption result (budget.new.used ≡ budget.new.limit)
-        (λ found. quality_in found ≡ quality_of context.now.facts context.now.stand context.now.lower candidate.now.lists) }
-    ensures look { LooksBelow context.now.facts context.now.stand context.now.lower look.new }
+    ensures judged { result ≡ true → quality_in judge.new.room.quality ≡ quality_of context.now.facts context.now.stand context.now.lower candidate.now.lists }
+    ensures stopped { result ≡ false → budget.new.used ≡ budget.new.limit }
+    ensures look { LooksBelow context.now.facts context.now.stand context.now.lower judge.new.look }
     ensures spends { Spends budget.old budget.new }
 {
-    match look {
-        Some(look) => look.quality(candidate, budget),
-        None => quality(
-            context.field(),
-            context.reached(),
-            candidate,
-            split_first_group(context.field(), context.lower()).0,
-            budget,
-        ),
+    let room = &mut judge.room;
+    match &mut judge.look {
+        Some(look) => look.fill_quality(candidate, room, budget),
+        None => {
+            room.quality.put_next(0, &[]);
+            fill_quality(context.field(), context.reached().seats(), candidate, room);
+            true
+        }
     }
 }

@@ -49,7 +49,7 @@ pub(crate) struct Skipper<'a, 'k> {
 }
 
 impl<'a, 'k> Bound for Skipper<'a, 'k> {
-    type Room = ();
+    type Room = Room;
 
     ghost use Rattle.dutch_pair.specs.Reached.{frame_of, numbers_meet, number_may_be_left};
     ghost use Rattle.dutch_pair.specs.Round.{quality_of};
@@ -66,13 +66,12 @@ impl<'a, 'k> Bound for Skipper<'a, 'k> {
     ghost is_dull = { λ s a. is_idle (aim_in s.pass.now.aim) s.kept.now (quality_of s.pass.now.context.now.facts s.pass.now.context.now.stand s.pass.now.context.now.lower a) };
 
     #[tactic(auto, using(crate::proofs::AimLemmas::idle_floor))]
-    fn cannot_win(&self, prefix: &Prefix<'_>, _room: &mut ()) -> bool {
+    fn cannot_win(&self, prefix: &Prefix<'_>, room: &mut Room) -> bool {
         // then all are of interest
         if self.pass.aim.is_none() && self.kept.is_none() {
             return false;
         }
-        let mut room = Room::default();
-        if !fill_floor(self.pass, prefix, &mut room) {
+        if !fill_floor(self.pass, prefix, room) {
             return false;
         }
         is_idle(&room.quality, &self.pass.aim, self.kept)

@@ -23,6 +23,6 @@ invariant-loop-candidate l = record {
   shape : l.candidates.shape ≡ l.pass.shape;
   field : l.candidates.rule.field.now ≡ l.pass.context.now.facts;
   reached : l.candidates.rule.reached.now ≡ l.pass.context.now.stand;
-  look : LooksBelow l.pass.context.now.facts l.pass.context.now.stand l.pass.context.now.lower l.look;
+  look : LooksBelow l.pass.context.now.facts l.pass.context.now.stand l.pass.context.now.lower l.judge.look;
   spends : Spends l.initial.budget l.budget;
 }

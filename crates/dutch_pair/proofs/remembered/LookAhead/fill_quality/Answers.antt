@@ -3,7 +3,7 @@ use Rattle.std.proofs.Common.{List, ℕ, sym, subst}
 use Rattle.dutch_pair.specs.Seated.{IsCandidate}
 use Rattle.dutch_pair.specs.NextBracket.{IsDraw}
 use Rattle.dutch_pair.proofs.FlatBrackets.{candidate_of}
-use Rattle.dutch_pair.proofs.remembered.LookAhead.quality.Goals as goal
+use Rattle.dutch_pair.proofs.remembered.LookAhead.fill_quality.Goals as goal
 
 pub fill_quality-requires-clause-candidate : goal.fill_quality-requires-clause-candidate
 fill_quality-requires-clause-candidate c =
