@@ -13,7 +13,7 @@ ghost use Rattle.dutch_order.specs.Steps.{Spends};
 use crate::differences::fill_psd;
 use crate::greatest::{Legal, greatest_shape};
 use crate::quality::{NextValue, Quality, Room, fill_quality};
-use crate::reached::{Kind, Reached, bracket};
+use crate::reached::{Kind, Reached, push_all};
 use crate::seated::{by_seats, seats_of};
 use dutch_order::candidate::Candidate;
 use dutch_order::numbers::Numbers;
@@ -65,8 +65,15 @@ fn next_bracket(field: &Field, reached: &Reached, down: &[u16], next: &[u16]) ->
     requires next { IsNext field.now reached.now next.now }
     ensures { result ≡ next_stand (map (seat_of reached.now.seats) down.now) next.now }
 {
-    let moved_down = seats_of(reached.seats(), down);
-    bracket(0, Kind::Ordinary, &moved_down, next)
+    let mut seats = seats_of(reached.seats(), down);
+    let mdps = seats.len();
+    push_all(next, &mut seats);
+    Reached {
+        number: 0,
+        kind: Kind::Ordinary,
+        mdps,
+        seats,
+    }
 }
 
 /// What the next bracket can be for downfloaters of an ordinary bracket (C.7): none where the budget's limit was reached first.
@@ -129,13 +136,9 @@ pub fn quality(
         (λ q. quality_in q ≡ quality field.now reached.now next.now candidate.now) }
     ensures spends { Spends budget.old budget.new }
 {
-    match next_value(field, reached, candidate, next, budget) {
-        Some(value) => {
-            let mut room = Room::default();
-            room.quality.put_next(value.pairs, &value.psd);
-            fill_quality(field, reached.seats(), candidate, &mut room);
-            Some(room.quality)
-        }
-        None => None,
-    }
+    let value = next_value(field, reached, candidate, next, budget)?;
+    let mut room = Room::default();
+    room.quality.put_next(value.pairs, &value.psd);
+    fill_quality(field, reached.seats(), candidate, &mut room);
+    Some(room.quality)
 }

@@ -16,7 +16,6 @@ ghost use Rattle.dutch_order.specs.Steps.{Spends};
 
 use crate::context::Context;
 use crate::fault::PairFault;
-use crate::group::split_first_group;
 use crate::lookahead::value_below;
 use crate::quality::{NextValue, Room, fill_quality};
 use crate::reached::{Kind, Reached, Seats, push_all};
@@ -203,7 +202,6 @@ impl<'a> LookAhead<'a> {
 }
 
 /// The look-ahead of a bracket above all lower seats: one for an ordinary bracket, and none for another kind.
-#[tactic(auto, using(crate::proofs::NextGroups::is_next))]
 pub(crate) fn look_below<'a>(
     alloc: Global,
     context: &'a Context<'a>,
@@ -212,8 +210,7 @@ pub(crate) fn look_below<'a>(
 {
     match context.reached().kind() {
         Kind::Ordinary => {
-            let next = split_first_group(context.field(), context.lower()).0;
-            let look = LookAhead::new(alloc, context.field(), context.reached(), next)?;
+            let look = LookAhead::new(alloc, context.field(), context.reached(), context.next())?;
             Ok(Some(look))
         }
         _ => Ok(None),

@@ -5,7 +5,7 @@ use Rattle.dutch_pair.specs.Seated.{seat_of}
 use Rattle.dutch_pair.proofs.NextBrackets.{down_short}
 use Rattle.dutch_pair.proofs.lookahead.next_bracket.Goals as goal
 
-pub bracket-requires : goal.bracket-requires
-bracket-requires c =
+pub push_all-requires : goal.push_all-requires
+push_all-requires c =
     let short = down_short c.args.field.now c.args.reached.now c.args.down.now c.args.next.now c.requires.of c.requires.down c.requires.next in
-    omega (arith, short, c.requires.next.few, ap length c.deref.ensures.0, ap length c.seats_of-moved_down.ensures, length-map c.args.down.now (seat_of c.seats.result.now))
+    omega (arith, short, c.requires.next.few, ap length c.seats_of-seats.ensures, length-map c.args.down.now (seat_of c.seats.result.now))
