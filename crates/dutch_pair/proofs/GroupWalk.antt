@@ -7,18 +7,16 @@ use Rattle.std.proofs.lemmas.Bool.{eqb-true}
 use Rattle.dutch_order.specs.Choices.{numbers_from}
 use Rattle.dutch_order.proofs.Members.{length-numbers}
 use Rattle.dutch_player.specs.Facts.{Facts}
+use Rattle.dutch_pair.specs.declared.reached.Kind.{Kind}
 use Rattle.dutch_pair.specs.declared.reached.Kind.TheVariants.{Ordinary, Last}
-use Rattle.dutch_pair.specs.declared.walk.Ended.{Ended}
-use Rattle.dutch_pair.specs.declared.walk.Ended.TheVariants.{NoPairing}
 use Rattle.dutch_pair.specs.Seated.{score_at, AreSeats}
 use Rattle.dutch_pair.specs.Reached.{Stand, IsAbove}
 use Rattle.dutch_pair.specs.Groups.{front_with}
 use Rattle.dutch_pair.specs.Walk.{AreRanked, AreAbove, Goes}
 use Rattle.dutch_pair.specs.Round.{Round, bracket, completable, no_pairing, round, first_group, scoregroups, everybody, final_bracket, ordinary_bracket, brackets}
-use Rattle.dutch_pair.specs.Ends.{Ends, LeftGoOn}
+use Rattle.dutch_pair.specs.Stages.{group_kind, round_by}
 use Rattle.dutch_pair.proofs.GroupLemmas.{first_group_is, first_group_taken, concat_scoregroups}
-use Rattle.dutch_pair.proofs.WalkEnds.{ends_nothing}
-use Rattle.dutch_pair.proofs.WalkLemmas.{Descends, is_above, left_go_on, ranked_seats, ranked_front, ranked_back}
+use Rattle.dutch_pair.proofs.WalkLemmas.{Descends, LeftGoOn, is_above, left_go_on, ranked_seats, ranked_front, ranked_back}
 use Rattle.dutch_pair.proofs.ArrangementParts.{numbers_above}
 use Rattle.dutch_order.specs.declared.numbers.TheConstants.{LIMIT}
 
@@ -160,43 +158,28 @@ module _ (facts : Facts) where
   pub moved_inside : (md rest : List ℕ) → Goes facts md rest → AreSeats facts md
   moved_inside md rest goes = ranked_seats facts md (ranked_front facts md rest goes.ranked)
 
-  module _ {md rest group lower : List ℕ} (parted' : IsParted md rest group lower) where
-    pub few_parted : (now : List ℕ) → now ≡ md → length now + length group ≤ LIMIT
-    few_parted now e =
-        let above = is_above facts parted'.descends 0 Last md group lower parted'.goes parted'.above (λ e. let bad : Last ≡ Ordinary = e in absurd (cc)) in
+  module _ {md rest group lower : List ℕ} (parts : IsParted md rest group lower) where
+    pub parted_above : (number : ℕ) (kind : Kind) → (kind ≡ Ordinary → 0 < length lower) → IsAbove facts (bracket number kind md group) lower
+    parted_above number kind there = is_above facts parts.descends number kind md group lower parts.goes parts.above there
+
+    pub parted_left : (number : ℕ) (kind : Kind) → LeftGoOn facts (bracket number kind md group) lower
+    parted_left number kind lists = left_go_on facts parts.descends number kind md group lower lists parts.goes parts.above
+
+    pub parted_few : length md + length group ≤ LIMIT
+    parted_few =
+        let above = parted_above 0 Last (λ e. let bad : Last ≡ Ordinary = e in absurd (cc)) in
         let few : length (md ++ group) + length lower ≤ LIMIT = above.few in
-        omega (arith, few, length-append md group, ap length e)
+        omega (arith, few, length-append md group)
 
-    pub last_above : (number : ℕ) (now : List ℕ) (stand : Stand) → now ≡ md → lower ≡ [] → stand ≡ bracket number Last now group → IsAbove facts stand []
-    last_above number now stand e none made =
-        subst (λ (b : Stand). IsAbove facts b []) (sym (made ∙ ap (λ (m : List ℕ). bracket number Last m group) e))
-        (subst (λ (l : List ℕ). IsAbove facts (bracket number Last md group) l) none
-        (is_above facts parted'.descends number Last md group lower parted'.goes parted'.above (λ e. let bad : Last ≡ Ordinary = e in absurd (cc))))
+  -- the round from a scoregroup on is the one from its bracket on
+  group_round_at : (number : ℕ) (md group lower : List ℕ)
+      → brackets facts number md (group ∷ scoregroups facts lower) ≡ round_by facts (group_kind lower) (bracket number (group_kind lower) md group) lower
+  group_round_at number md group [] = refl
+  group_round_at number md group (y ∷ ys) = brackets_lower number md group (y ∷ ys) (omega arith)
 
-    pub ordinary_above : (number : ℕ) (now : List ℕ) (stand : Stand) → now ≡ md → 0 < length lower → stand ≡ bracket number Ordinary now group → IsAbove facts stand lower
-    ordinary_above number now stand e there made =
-        subst (λ (b : Stand). IsAbove facts b lower) (sym (made ∙ ap (λ (m : List ℕ). bracket number Ordinary m group) e))
-        (is_above facts parted'.descends number Ordinary md group lower parted'.goes parted'.above (λ e. there))
-
-    pub ordinary_left : (number : ℕ) (now : List ℕ) (stand : Stand) → now ≡ md → stand ≡ bracket number Ordinary now group → LeftGoOn facts stand lower
-    ordinary_left number now stand e made =
-        subst (λ (b : Stand). LeftGoOn facts b lower) (sym (made ∙ ap (λ (m : List ℕ). bracket number Ordinary m group) e))
-        (λ lists. left_go_on facts parted'.descends number Ordinary md group lower lists parted'.goes parted'.above)
-
-    -- behind the last scoregroup there is none
-    pub last_is : (number : ℕ) (now : List ℕ) (stand : Stand) → now ≡ md → lower ≡ [] → stand ≡ bracket number Last now group
-        → final_bracket facts stand ≡ brackets facts number md (scoregroups facts rest)
-    last_is number now stand e none made =
-        ap (final_bracket facts) (made ∙ ap (λ (m : List ℕ). bracket number Last m group) e)
-        ∙ sym (ap (brackets facts number md) (parted'.groups ∙ ap (λ (l : List ℕ). group ∷ scoregroups facts l) none))
-
-    -- above lower seats the first bracket is an ordinary one
-    pub ordinary_is : (number : ℕ) (now : List ℕ) (stand : Stand) → now ≡ md → 0 < length lower → stand ≡ bracket number Ordinary now group
-        → ordinary_bracket facts stand lower (λ left. brackets facts (number + 1) left (scoregroups facts lower)) ≡ brackets facts number md (scoregroups facts rest)
-    ordinary_is number now stand e there made =
-        ap (λ (b : Stand). ordinary_bracket facts b lower (λ left. brackets facts (number + 1) left (scoregroups facts lower)))
-        (made ∙ ap (λ (m : List ℕ). bracket number Ordinary m group) e)
-        ∙ sym (ap (brackets facts number md) parted'.groups ∙ brackets_lower number md group lower there)
+  pub group_round : {md rest group lower : List ℕ} → IsParted md rest group lower → (number : ℕ)
+      → brackets facts number md (scoregroups facts rest) ≡ round_by facts (group_kind lower) (bracket number (group_kind lower) md group) lower
+  group_round {md = md} {group = group} {lower = lower} parts number = ap (brackets facts number md) parts.groups ∙ group_round_at number md group lower
 
   numbers_ranked : (first count : ℕ) → first + count ≤ length facts.seats → AreRanked facts (numbers_from first count)
   numbers_ranked first zero h = tt
@@ -209,37 +192,5 @@ module _ (facts : Facts) where
       subst (λ (m : List ℕ). Goes facts m all) (sym none)
       (subst (λ (seats : List ℕ). Goes facts [] seats) (sym e) (record { ranked = numbers_ranked 0 (length facts.seats) (omega arith); above = tt }))
 
-  pub ends_first : (limit : ℕ) (asked : Option ℕ) (pairs : List (ℕ × ℕ)) (md all : List ℕ) (ended : Ended) → pairs ≡ [] → md ≡ [] → all ≡ everybody facts
-      → Ends facts limit asked 1 pairs (brackets facts 1 md (scoregroups facts all)) ended
-      → Ends facts limit asked 1 [] (brackets facts 1 [] (scoregroups facts (everybody facts))) ended
-  ends_first limit asked pairs md all ended no_pairs no_md e h =
-      subst (λ (seats : List ℕ). Ends facts limit asked 1 [] (brackets facts 1 [] (scoregroups facts seats)) ended) e
-      (subst (λ (m : List ℕ). Ends facts limit asked 1 [] (brackets facts 1 m (scoregroups facts all)) ended) no_md
-      (subst (λ (front : List (ℕ × ℕ)). Ends facts limit asked 1 front (brackets facts 1 md (scoregroups facts all)) ended) no_pairs h))
-
-  -- the same end, with other words for its round
-  pub goes_further : (limit limit' : ℕ) (asked : Option ℕ) (n n' : ℕ) (pairs : List (ℕ × ℕ)) (whole whole' : Round) (ended : Ended) → limit ≡ limit' → n ≡ n' → whole ≡ whole'
-      → Ends facts limit asked n pairs whole ended → Ends facts limit' asked n' pairs whole' ended
-  goes_further limit limit' asked n n' pairs whole whole' ended l e w h =
-      subst (λ (r : Round). Ends facts limit' asked n' pairs r ended) w
-      (subst (λ (k : ℕ). Ends facts limit' asked k pairs whole ended) e (subst (λ (k : ℕ). Ends facts k asked n pairs whole ended) l h))
-
-  pub shrinks : {md rest group lower : List ℕ} → IsParted md rest group lower → (number : ℕ) → number + length rest ≤ 257 → (number + 1) + length lower ≤ 257
-  shrinks parted' number h = omega (arith, h, parted'.count, parted'.some)
-
   pub everybody_few : (all : List ℕ) → all ≡ everybody facts → length all ≡ length facts.seats
   everybody_few all e = ap length e ∙ length-numbers 0 (length facts.seats)
-
-  -- a round in which all can be paired out is the one of its brackets
-  pub round_walked : (limit budget_limit : ℕ) (asked : Option ℕ) (all : List ℕ) (ended : Ended) → all ≡ everybody facts → completable facts all ≡ true → budget_limit ≡ limit
-      → Ends facts budget_limit asked 1 [] (brackets facts 1 [] (scoregroups facts (everybody facts))) ended → Ends facts limit asked 1 [] (round facts) ended
-  round_walked limit budget_limit asked all ended e test same h =
-      let here : completable facts (everybody facts) ≡ true = ap (completable facts) (sym e) ∙ test in
-      subst (λ (t : Bool). Ends facts limit asked 1 [] (cond t (brackets facts 1 [] (scoregroups facts (everybody facts))) (no_pairing facts)) ended) (sym here)
-      (subst (λ (n : ℕ). Ends facts n asked 1 [] (brackets facts 1 [] (scoregroups facts (everybody facts))) ended) same h)
-
-  pub round_nothing : (limit : ℕ) (asked : Option ℕ) (all : List ℕ) → all ≡ everybody facts → completable facts all ≡ false → Ends facts limit asked 1 [] (round facts) NoPairing
-  round_nothing limit asked all e test =
-      let here : completable facts (everybody facts) ≡ false = ap (completable facts) (sym e) ∙ test in
-      subst (λ (t : Bool). Ends facts limit asked 1 [] (cond t (brackets facts 1 [] (scoregroups facts (everybody facts))) (no_pairing facts)) NoPairing) (sym here)
-      (ends_nothing facts limit asked 1 [])

@@ -49,6 +49,7 @@ pub mod WalkLemmas
 pub mod FixedPairs
 pub mod FloorLemmas
 pub mod WalkEnds
+pub mod WalkSteps
 pub mod GroupWalk
 pub mod RoundEnds
 pub mod Totals

@@ -1,6 +1,6 @@
 -- No dead end (C.04.3 A.9, C.5): where all players can be paired out, each bracket that the round reaches has a candidate that can be
 -- chosen, so the round is paired.
-use Rattle.std.proofs.Common.{◌≡◌, ℕ, ◌+◌, ◌-◌, ◌<◌, Bool, true, false, cond, List, [], ◌∷◌, ◌++◌, map, length, get_or, is_some, refl, sym, ap, ◌∙◌, arith, subst, inl, inr, Option, Some, None, append_assoc}
+use Rattle.std.proofs.Common.{◌≡◌, ℕ, zero, suc, ◌+◌, ◌-◌, ◌<◌, Bool, true, false, cond, List, [], ◌∷◌, ◌++◌, map, length, get_or, is_some, refl, sym, ap, ◌∙◌, arith, subst, inl, inr, Option, Some, None, append_assoc}
 use Rattle.std.specs.Prelude.{option_map, ◌↔◌}
 use Rattle.std.specs.List.{concat}
 use Rattle.std.proofs.lemmas.List.{append-nil}
@@ -17,9 +17,8 @@ use Rattle.dutch_order.proofs.NoneTwice.{rises-twice, twice-apart, twice-back, t
 use Rattle.dutch_order.proofs.Orders.{IsIn-append, IsIn-back, IsIn-front, IsIn-map, map-IsIn}
 use Rattle.dutch_player.specs.Facts.{Facts}
 use Rattle.dutch_pair.specs.Eligible.{HasCandidate}
-use Rattle.dutch_pair.specs.Ends.{in_front}
-use Rattle.dutch_pair.specs.Outcomes.{visit_at}
 use Rattle.dutch_pair.specs.Completion.{Completable}
+use Rattle.dutch_pair.specs.Outcomes.{visit_of}
 use Rattle.dutch_pair.specs.declared.reached.Kind.{Kind}
 use Rattle.dutch_pair.specs.declared.reached.Kind.TheVariants.{Ordinary, Last, Penultimate, Collapsed}
 use Rattle.dutch_pair.specs.Reached.{Stand, ends_round, frame_of, numbers_meet, number_may_be_left}
@@ -28,7 +27,7 @@ use Rattle.dutch_pair.specs.SeatLaws.{seats_meet_sym}
 use Rattle.dutch_pair.specs.Seated.{seat_of, all_pairs}
 use Rattle.dutch_pair.specs.Seats.{seats_meet, seats_may_be_left}
 use Rattle.dutch_pair.specs.Shapes.{has_member}
-use Rattle.dutch_pair.specs.WaysOut.{GoesOut, StandsIn}
+use Rattle.dutch_pair.specs.WaysOut.{GoesOut, HasWayOut, StandsBefore}
 use Rattle.dutch_pair.proofs.ArrangementParts.{numbers_rise}
 use Rattle.dutch_pair.proofs.Covering.{completable_by_test}
 use Rattle.dutch_pair.proofs.BestLemmas.{chosen_is}
@@ -38,9 +37,12 @@ use Rattle.dutch_pair.proofs.GroupLemmas.{concat_scoregroups}
 use Rattle.dutch_pair.proofs.MateLists.{fits_arrangement, has_kept}
 use Rattle.dutch_pair.proofs.Mates.{AreMates, FoundMates, complete_mates, fewer_mates, mates_complete}
 use Rattle.dutch_pair.proofs.OnePairMore.{pairs_legal}
-use Rattle.dutch_pair.proofs.RoundEnds.{is_paired}
 use Rattle.dutch_pair.proofs.ShapeLaws.{none_has_one}
 use Rattle.dutch_pair.proofs.WalkEnds.{visit_none}
+
+no_visit : (number : ℕ) → visit_of number [] ≡ None
+no_visit zero = refl
+no_visit (suc place) = visit_none place
 
 module _ (facts : Facts) where
   -- a round has a pairing
@@ -373,24 +375,22 @@ module _ (facts : Facts) where
 
   -- ---- what the calls on a round answer
 
-  pub none_complete : (round facts).pairing ≡ None → Completable (seats_meet facts) (seats_may_be_left facts) (everybody facts) → ⊥
-  none_complete h whole = let bad : true ≡ false = sym (paired_exactly.0 whole) ∙ ap is_some h in cc
+  pub all_complete : completable facts (everybody facts) ≡ true → Completable (seats_meet facts) (seats_may_be_left facts) (everybody facts)
+  all_complete = (by_test (everybody facts)).1
 
-  pub pairs_complete : (pairs : List (ℕ × ℕ)) (bye : List ℕ) → option_map (in_front []) (round facts).pairing ≡ Some (record { pairs = pairs; bye = bye })
-      → Completable (seats_meet facts) (seats_may_be_left facts) (everybody facts)
-  pairs_complete pairs bye e = paired_exactly.1 (is_paired facts pairs bye e)
+  pub not_complete : completable facts (everybody facts) ≡ false → Completable (seats_meet facts) (seats_may_be_left facts) (everybody facts) → ⊥
+  not_complete e whole = let bad : true ≡ false = sym ((by_test (everybody facts)).0 whole) ∙ e in cc
 
-  visit_at_test : (t : Bool) (place : ℕ) (visit : Visit) → completable facts (everybody facts) ≡ t → visit_at place (round facts).reached ≡ Some visit → completable facts (everybody facts) ≡ true
-  visit_at_test true place visit e h = e
-  visit_at_test false place visit e h =
-      let none : (round facts).reached ≡ [] = ap (λ (t : Bool). (cond t (brackets facts 1 [] (scoregroups facts (everybody facts))) (no_pairing facts)).reached) e in
-      let bad : None ≡ Some visit = sym (visit_none place) ∙ sym (ap (visit_at place) none) ∙ h in absurd (cc)
+  pub not_paired : completable facts (everybody facts) ≡ false → (round facts).pairing ≡ None
+  not_paired e = ap (λ (t : Bool). (cond t (brackets facts 1 [] (scoregroups facts (everybody facts))) (no_pairing facts)).pairing) e
 
-  pub visit_complete : (place : ℕ) (visit : Visit) → visit_at place (round facts).reached ≡ Some visit → Completable (seats_meet facts) (seats_may_be_left facts) (everybody facts)
-  visit_complete place visit h = (by_test (everybody facts)).1 (visit_at_test (completable facts (everybody facts)) place visit refl h)
+  pub nothing_reached : (number : ℕ) → completable facts (everybody facts) ≡ false → visit_of number (round facts).reached ≡ None
+  nothing_reached number e =
+      ap (λ (t : Bool). visit_of number (cond t (brackets facts 1 [] (scoregroups facts (everybody facts))) (no_pairing facts)).reached) e ∙ no_visit number
 
   -- ---- along the walk
 
+  -- what all have to be where a walk begins
   pub everybody_out : (all : List ℕ) → all ≡ everybody facts → completable facts all ≡ true → GoesOut facts [] all
   everybody_out all same e = record {
     twice = subst NoneTwice (sym same) (rises-twice (everybody facts) (numbers_rise 0 (length facts.seats)));
@@ -398,43 +398,33 @@ module _ (facts : Facts) where
     complete = (by_test all).1 e;
   }
 
-  pub last_candidate : (number : ℕ) (md now group lower rest : List ℕ) (reached : Stand) → GoesOut facts md rest → group ++ lower ≡ rest → lower ≡ [] → now ≡ md
-      → reached ≡ bracket number Last now group → HasCandidate facts reached []
-  last_candidate number md now group lower rest reached goes whole none same is' =
-      subst (λ (s : Stand). HasCandidate facts s []) (sym (is' ∙ ap (λ xs. bracket number Last xs group) same))
-      (last_has number md group (subst (GoesOut facts md) (sym whole ∙ ap (λ xs. group ++ xs) none ∙ append-nil group) goes))
+  has_by : (kind : Kind) (number : ℕ) (md residents lower : List ℕ) → HasWayOut facts kind number md residents lower → HasCandidate facts (bracket number kind md residents) lower
+  has_by Ordinary number md residents lower out = first_has number md residents lower out.0
+  has_by Last number md residents lower out =
+      subst (HasCandidate facts (bracket number Last md residents)) (sym out.1)
+      (last_has number md residents (subst (GoesOut facts md) (ap (λ xs. residents ++ xs) out.1 ∙ append-nil residents) out.0))
+  has_by Penultimate number md residents lower out = again_has number md residents lower out.0
+  has_by Collapsed number md residents lower out = out.0
 
-  pub group_stands : (number : ℕ) (md now group lower rest : List ℕ) (reached : Stand) → GoesOut facts md rest → group ++ lower ≡ rest → now ≡ md
-      → reached ≡ bracket number Ordinary now group → StandsIn facts reached lower
-  group_stands number md now group lower rest reached goes whole same is' =
-      let own = is' ∙ ap (λ xs. bracket number Ordinary xs group) same in
-      record {
-        md = md;
-        residents = group;
-        is = own ∙ ap (λ n. bracket n Ordinary md group) (sym (ap (λ (s : Stand). s.number) own));
-        out = subst (GoesOut facts md) (sym whole) goes;
-      }
+  -- a bracket that comes next has a candidate
+  pub stands_has : (number : ℕ) (stand : Stand) (lower : List ℕ) → StandsBefore facts number stand lower → HasCandidate facts stand lower
+  stands_has number stand lower s =
+      subst (λ (b : Stand). HasCandidate facts b lower) (sym s.is) (has_by stand.kind number s.md s.residents lower s.out)
 
-  pub ordinary_candidate : (stand : Stand) (lower : List ℕ) → StandsIn facts stand lower → HasCandidate facts stand lower
-  ordinary_candidate stand lower h =
-      subst (λ (s : Stand). HasCandidate facts s lower) (sym h.is) (first_has stand.number h.md h.residents lower h.out)
+  -- those left over by an ordinary one go out with the lower seats where they can be paired out with them
+  pub ordinary_out : (number : ℕ) (stand : Stand) (lower : List ℕ) (made : Choice) → StandsBefore facts number stand lower → stand.kind ≡ Ordinary
+      → choice facts stand lower ≡ Some made → completable facts (downfloaters facts stand made.lists ++ lower) ≡ true → GoesOut facts (downfloaters facts stand made.lists) lower
+  ordinary_out number stand lower made s kind is' e =
+      let own : stand ≡ bracket number Ordinary s.md s.residents = s.is ∙ ap (λ k. bracket number k s.md s.residents) kind in
+      let out = subst (λ k. HasWayOut facts k number s.md s.residents lower) kind s.out in
+      subst (λ (b : Stand). choice facts b lower ≡ Some made → completable facts (downfloaters facts b made.lists ++ lower) ≡ true → GoesOut facts (downfloaters facts b made.lists) lower)
+      (sym own) (first_out number s.md s.residents lower out.0 made) is' e
 
-  pub ordinary_out : (stand : Stand) (lower left : List ℕ) (chosen : Choice) → StandsIn facts stand lower → choice facts stand lower ≡ Some chosen
-      → left ≡ downfloaters facts stand chosen.lists → completable facts (left ++ lower) ≡ true → GoesOut facts left lower
-  ordinary_out stand lower left chosen h is' same e =
-      let own : left ≡ downfloaters facts (bracket stand.number Ordinary h.md h.residents) chosen.lists = same ∙ ap (λ (s : Stand). downfloaters facts s chosen.lists) h.is in
-      subst (λ xs. GoesOut facts xs lower) (sym own)
-      (first_out stand.number h.md h.residents lower h.out chosen (ap (λ (s : Stand). choice facts s lower) (sym h.is) ∙ is')
-      (ap (λ xs. completable facts (xs ++ lower)) (sym own) ∙ e))
-
-  pub penultimate_candidate : (stand r : Stand) (lower : List ℕ) → StandsIn facts stand lower → r ≡ paired_again stand → HasCandidate facts r lower
-  penultimate_candidate stand r lower h same =
-      subst (λ (s : Stand). HasCandidate facts s lower) (sym (same ∙ ap paired_again h.is)) (again_has (stand.number + 1) h.md h.residents lower h.out)
-
-  pub collapsed_candidate : (stand r collapsed : Stand) (lower left : List ℕ) (chosen : Choice) (number : ℕ) → StandsIn facts stand lower → r ≡ paired_again stand
-      → choice facts r lower ≡ Some chosen → left ≡ downfloaters facts r chosen.lists → collapsed ≡ bracket number Collapsed left lower → HasCandidate facts collapsed []
-  collapsed_candidate stand r collapsed lower left chosen number h same is' left_is made =
-      let own : r ≡ bracket (stand.number + 1) Penultimate h.md h.residents = same ∙ ap paired_again h.is in
-      let over : left ≡ downfloaters facts (bracket (stand.number + 1) Penultimate h.md h.residents) chosen.lists = left_is ∙ ap (λ (s : Stand). downfloaters facts s chosen.lists) own in
-      subst (λ (s : Stand). HasCandidate facts s []) (sym (made ∙ ap (λ xs. bracket number Collapsed xs lower) over))
-      (collapsed_has (stand.number + 1) h.md h.residents lower h.out chosen (ap (λ (s : Stand). choice facts s lower) (sym own) ∙ is') number)
+  -- those left over by the penultimate one and all lower players have a candidate
+  pub collapsed_out : (number : ℕ) (stand : Stand) (lower : List ℕ) (made : Choice) (place : ℕ) → StandsBefore facts number stand lower → stand.kind ≡ Penultimate
+      → choice facts stand lower ≡ Some made → HasCandidate facts (bracket place Collapsed (downfloaters facts stand made.lists) lower) []
+  collapsed_out number stand lower made place s kind is' =
+      let own : stand ≡ bracket number Penultimate s.md s.residents = s.is ∙ ap (λ k. bracket number k s.md s.residents) kind in
+      let out = subst (λ k. HasWayOut facts k number s.md s.residents lower) kind s.out in
+      subst (λ (b : Stand). choice facts b lower ≡ Some made → HasCandidate facts (bracket place Collapsed (downfloaters facts b made.lists) lower) [])
+      (sym own) (λ e. collapsed_has number s.md s.residents lower out.0 made e place) is'

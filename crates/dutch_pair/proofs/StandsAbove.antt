@@ -2,23 +2,23 @@
 use Rattle.std.proofs.Common.{◌≡◌, ℕ, zero, suc, ◌+◌, ◌<◌, ◌≤◌, ◌⊎◌, Bool, true, false, cond, List, [], ◌∷◌, ◌++◌, length, drop, Option, Some, None, inl, inr, refl, sym, ap, ◌∙◌, subst, append_assoc, arith}
 use Rattle.std.specs.List.{AllByRecursion, concat}
 use Rattle.std.proofs.lemmas.List.{append-nil}
+use Rattle.dutch_order.specs.declared.bracket.Shape.{Shape}
 use Rattle.dutch_order.specs.Keys.{IsIn}
 use Rattle.dutch_player.specs.Facts.{Facts}
 use Rattle.dutch_pair.specs.declared.reached.Kind.TheVariants.{Ordinary, Last, Collapsed}
 use Rattle.dutch_pair.specs.Seated.{score_at}
 use Rattle.dutch_pair.specs.Reached.{Stand, IsAbove}
 use Rattle.dutch_pair.specs.Walk.{AreAbove, Goes}
-use Rattle.dutch_pair.specs.Ends.{LeftGoOn}
 use Rattle.dutch_pair.specs.Lower.{lower_of}
-use Rattle.dutch_pair.specs.Outcomes.{visit_at, visit_of}
+use Rattle.dutch_pair.specs.Outcomes.{shown, visit_at, visit_of}
 use Rattle.dutch_pair.specs.Round.{Round, Visit, Choice, bracket, choice, completable, downfloaters, everybody, first_group, scoregroups, shape_of, no_pairing, passing, pairing_in, final_by, final_bracket, penultimate_by, penultimate_bracket, paired_again, ordinary_by, brackets, round}
 use Rattle.dutch_pair.proofs.BestLemmas.{chosen_is}
 use Rattle.dutch_pair.proofs.AllLemmas.{all_join}
 use Rattle.dutch_pair.proofs.GroupLemmas.{concat_scoregroups}
-use Rattle.dutch_pair.proofs.GroupWalk.{IsParted, parted_by, last_above, ordinary_above, ordinary_left, everybody_goes}
+use Rattle.dutch_pair.proofs.GroupWalk.{IsParted, parted_by, parted_above, parted_left, everybody_goes}
 use Rattle.dutch_pair.proofs.LowerLemmas.{EndsAt, lower_is, in_front, in_back, in_either, above_in}
 use Rattle.dutch_pair.proofs.WalkEnds.{above_again, collapsed_above}
-use Rattle.dutch_pair.proofs.WalkLemmas.{Descends, above_back}
+use Rattle.dutch_pair.proofs.WalkLemmas.{Descends, LeftGoOn, above_back}
 
 module _ (facts : Facts) where
   -- a bracket stands above the lower players, above whom it has its shape
@@ -35,16 +35,16 @@ module _ (facts : Facts) where
 
   -- ---- the bracket of a choice
 
-  stands : (stand : Stand) (lower : List ℕ) (made : Choice) → lower_of facts stand ≡ lower → IsAbove facts stand lower → choice facts stand lower ≡ Some made
-      → StandsAbove (record { bracket = stand; shape = made.shape })
-  stands stand lower made e above has =
+  stands : (stand : Stand) (lower : List ℕ) (made : Choice) (again : Bool) → lower_of facts stand ≡ lower → IsAbove facts stand lower → choice facts stand lower ≡ Some made
+      → StandsAbove (record { bracket = stand; shape = made.shape; lists = made.lists; again = again })
+  stands stand lower made again e above has =
       (subst (IsAbove facts stand) (sym e) above, ap (shape_of facts stand) e ∙ (chosen_is facts stand lower made has).0)
 
   -- ---- the bracket that ends a round
 
   final_at : (stand : Stand) (found : Option Choice) → choice facts stand [] ≡ found → lower_of facts stand ≡ [] → IsAbove facts stand [] → AllStand (final_by facts stand found).reached
   final_at stand None e none above = tt
-  final_at stand (Some made) e none above = (stands stand [] made none above e, tt)
+  final_at stand (Some made) e none above = (stands stand [] made false none above e, tt)
 
   final_stands : (stand : Stand) → lower_of facts stand ≡ [] → IsAbove facts stand [] → AllStand (final_bracket facts stand).reached
   final_stands stand none above = final_at stand (choice facts stand []) refl none above
@@ -87,7 +87,7 @@ module _ (facts : Facts) where
     penultimate_at stand tops lower None placed e = tt
     penultimate_at stand tops lower (Some made) placed e =
         let left : List ℕ = downfloaters facts (paired_again stand) made.lists in (
-          stands (paired_again stand) lower made (lower_is facts (paired_again stand) tops lower placed.ends) (above_again facts stand lower placed.above) e,
+          stands (paired_again stand) lower made false (lower_is facts (paired_again stand) tops lower placed.ends) (above_again facts stand lower placed.above) e,
           final_stands (bracket ((stand.number + 1) + 1) Collapsed left lower)
               (collapsed_none ((stand.number + 1) + 1) left tops lower placed.some placed.high placed.ends.all)
               (collapsed_above facts stand lower left made.lists ((stand.number + 1) + 1) descends placed.goes refl),
@@ -100,9 +100,9 @@ module _ (facts : Facts) where
         → AllStand (goes_on (downfloaters facts stand made.lists)).reached
         → AllStand (cond t (pairing_in facts stand made (goes_on (downfloaters facts stand made.lists))) (passing facts stand made (penultimate_bracket facts stand lower))).reached
     kept_at stand tops lower goes_on made true placed e later =
-        (stands stand lower made (lower_is facts stand tops lower placed.ends) placed.above e, later)
+        (stands stand lower made false (lower_is facts stand tops lower placed.ends) placed.above e, later)
     kept_at stand tops lower goes_on made false placed e later =
-        (stands stand lower made (lower_is facts stand tops lower placed.ends) placed.above e, penultimate_stands stand tops lower placed)
+        (stands stand lower made true (lower_is facts stand tops lower placed.ends) placed.above e, penultimate_stands stand tops lower placed)
 
     ordinary_at : (stand : Stand) (tops lower : List ℕ) (goes_on : List ℕ → Round) (found : Option Choice) → IsPlaced stand tops lower → choice facts stand lower ≡ found
         → ((left : List ℕ) → Goes facts left lower → AllStand (goes_on left).reached)
@@ -163,7 +163,7 @@ module _ (facts : Facts) where
     last_stands number md front rest group goes all above e =
         let stand : Stand = bracket number Last md group in
         final_stands stand (lower_is facts stand (front ++ group) [] (ends_at md front rest group [] goes all above e))
-        (last_above facts (parted_at md rest group [] goes e) number md stand refl refl refl)
+        (parted_above facts (parted_at md rest group [] goes e) number Last (λ h. let bad : Last ≡ Ordinary = h in absurd (cc)))
 
     brackets_stand : (number : ℕ) (md front rest : List ℕ) (groups : List (List ℕ)) → groups ≡ scoregroups facts rest → Goes facts md rest
         → everybody facts ≡ front ++ rest → AreAbove facts front rest → AllStand (brackets facts number md groups).reached
@@ -179,9 +179,9 @@ module _ (facts : Facts) where
         let tops : AreAbove facts (front ++ group) lower = tops_above md front rest group (next ∷ groups) goes above e in
         ordinary_at stand (front ++ group) lower (λ left. brackets facts (number + 1) left (next ∷ groups)) (choice facts stand lower)
         (record {
-          above = ordinary_above facts parts number md stand refl some refl;
+          above = parted_above facts parts number Ordinary (λ h. some);
           ends = ends;
-          goes = ordinary_left facts parts number md stand refl refl;
+          goes = parted_left facts parts number Ordinary;
           high = tops;
           some = some;
         }) refl
@@ -196,7 +196,15 @@ module _ (facts : Facts) where
     at_place zero (first ∷ visits) visit all e = let same : first ≡ visit = cc in subst StandsAbove same all.0
     at_place (suc place) (first ∷ visits) visit all e = at_place place visits visit all.1 e
 
-    pub bracket_stands : (number : ℕ) (visit : Visit) → visit_of number (round facts).reached ≡ Some visit → StandsAbove visit
-    bracket_stands zero visit e = let bad : None ≡ Some visit = e in absurd (cc)
-    bracket_stands (suc place) visit e =
-        at_place place (round facts).reached visit (round_at (completable facts (everybody facts))) e
+    shown_stands : (number : ℕ) (stand : Stand) (shape : Shape) (found : Option Visit) → found ≡ visit_of number (round facts).reached → shown found ≡ Some (stand, shape)
+        → IsAbove facts stand (lower_of facts stand) × (shape_of facts stand (lower_of facts stand) ≡ Some shape)
+    shown_stands number stand shape None e is' = let bad : None ≡ Some (stand, shape) = is' in absurd (cc)
+    shown_stands zero stand shape (Some visit) e is' = let bad : Some visit ≡ None = e in absurd (cc)
+    shown_stands (suc place) stand shape (Some visit) e is' =
+        let same : (visit.bracket, visit.shape) ≡ (stand, shape) = cc in
+        subst (λ (s : Stand × Shape). IsAbove facts s.0 (lower_of facts s.0) × (shape_of facts s.0 (lower_of facts s.0) ≡ Some s.1)) same
+        (at_place place (round facts).reached visit (round_at (completable facts (everybody facts))) (sym e))
+
+    pub bracket_stands : (number : ℕ) (stand : Stand) (shape : Shape) → shown (visit_of number (round facts).reached) ≡ Some (stand, shape)
+        → IsAbove facts stand (lower_of facts stand) × (shape_of facts stand (lower_of facts stand) ≡ Some shape)
+    bracket_stands number stand shape = shown_stands number stand shape (visit_of number (round facts).reached) refl

@@ -11,7 +11,7 @@ use Rattle.dutch_player.specs.Facts.{Facts}
 use Rattle.dutch_pair.specs.declared.reached.Kind.{Kind}
 use Rattle.dutch_pair.specs.declared.reached.Kind.TheVariants.{Ordinary}
 use Rattle.dutch_pair.specs.Seated.{score_at, seat_of, AreSeats}
-use Rattle.dutch_pair.specs.Reached.{IsAbove}
+use Rattle.dutch_pair.specs.Reached.{Stand, IsAbove}
 use Rattle.dutch_pair.specs.Round.{bracket, downfloaters}
 use Rattle.dutch_pair.specs.Walk.{AreRanked, AreAbove, Goes}
 use Rattle.dutch_pair.proofs.AllLemmas.{all_join}
@@ -21,6 +21,10 @@ use Rattle.dutch_order.specs.declared.numbers.TheConstants.{LIMIT}
 pub record Descends (facts : Facts) : Type 0 where
   pub falls : (a b : ℕ) → a < b → b < length facts.seats → score_at facts b ≤ score_at facts a
   pub few : length facts.seats ≤ LIMIT
+
+-- whoever is left over by a bracket goes on above the lower seats
+abbrev pub LeftGoOn : Facts → Stand → List ℕ → Type 0
+LeftGoOn facts stand lower = (lists : Arrangement) → Goes facts (downfloaters facts stand lists) lower
 
 all_front : (P : ℕ → Type 0) (xs ys : List ℕ) → AllByRecursion P (xs ++ ys) → AllByRecursion P xs
 all_front P [] ys h = tt

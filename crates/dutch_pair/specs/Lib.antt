@@ -20,7 +20,7 @@ pub mod Outcomes
 pub mod Eligible
 pub mod Walk
 pub mod Kept
-pub mod Ends
+pub mod Stages
 pub mod Everybody
 pub mod Beginnings
 pub mod ColourFloors

@@ -1,5 +1,6 @@
 -- What the calls on a round answer.
 use Rattle.std.specs.Prelude.{◌≡◌, ℕ, zero, suc, ◌+◌, ◌≤◌, true, List, [], ◌∷◌, length, Option, Some, None, option_map, is_some}
+use Rattle.dutch_order.specs.declared.bracket.Shape.{Shape}
 use Rattle.dutch_order.specs.Arrangements.{Fits, down}
 use Rattle.dutch_player.specs.Facts.{Facts}
 use Rattle.dutch_pair.specs.declared.choice.Choice.{Choice}
@@ -25,10 +26,9 @@ abbrev pub visit_of : ℕ → List Visit → Option Visit
 visit_of zero visits = None
 visit_of (suc place) visits = visit_at place visits
 
--- the number that is looked for, where some bracket may have it
-abbrev pub asked_for : ℕ → Option ℕ
-asked_for zero = None
-asked_for (suc place) = Some (suc place)
+-- a bracket that was reached, with its shape
+abbrev pub shown : Option Visit → Option (Stand × Shape)
+shown found = option_map (λ visit. (visit.bracket, visit.shape)) found
 
 -- a call was stopped at its limit, in one of the brackets reached or in the one behind them
 abbrev pub IsStoppedIn : Facts → ℕ → ℕ → ℕ → Type 0
@@ -56,7 +56,7 @@ TellsCompletion facts (Undecided bracket used) = Unit {0}
 -- the bracket of a number, which it bears, with its shape; or why there is none
 abbrev pub IsBracketAt : Facts → ℕ → ℕ → BracketAt → Type 0
 IsBracketAt facts limit number (Bracket reached shape) =
-    (reached.number ≡ number) × (visit_of number (round facts).reached ≡ Some (record { bracket = reached; shape = shape }))
+    (reached.number ≡ number) × (shown (visit_of number (round facts).reached) ≡ Some (reached, shape))
     × IsOf facts reached × Fits (frame_of facts reached) shape
 IsBracketAt facts limit number NotReached = (visit_of number (round facts).reached ≡ None) × (is_some (round facts).pairing ≡ true)
 IsBracketAt facts limit number NoPairingAt = (visit_of number (round facts).reached ≡ None) × ((round facts).pairing ≡ None)

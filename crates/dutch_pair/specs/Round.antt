@@ -22,10 +22,12 @@ pub record Choice : Type 0 where
   pub shape : Shape
   pub lists : Arrangement
 
--- a bracket that was reached, and its shape
+-- a bracket that was reached, its shape, the arrangement that is chosen in it, and whether it is paired again
 pub record Visit : Type 0 where
   pub bracket : Stand
   pub shape : Shape
+  pub lists : Arrangement
+  pub again : Bool
 
 -- the pairs of a round by seat, and the seat that has the bye, if one has
 pub record Pairing : Type 0 where
@@ -127,14 +129,14 @@ module _ (facts : Facts) where
   -- a bracket that is passed before the rest of a round, without its pairs; it stays among those reached (our own choice)
   abbrev pub passing : Stand → Choice → Round → Round
   passing stand choice rest = record {
-    reached = record { bracket = stand; shape = choice.shape } ∷ rest.reached;
+    reached = record { bracket = stand; shape = choice.shape; lists = choice.lists; again = true } ∷ rest.reached;
     pairing = rest.pairing;
   }
 
   -- a bracket before the rest of a round, with its pairs
   abbrev pub pairing_in : Stand → Choice → Round → Round
   pairing_in stand choice rest = record {
-    reached = record { bracket = stand; shape = choice.shape } ∷ rest.reached;
+    reached = record { bracket = stand; shape = choice.shape; lists = choice.lists; again = false } ∷ rest.reached;
     pairing = option_map (λ later. record { pairs = all_pairs stand.seats choice.lists ++ later.pairs; bye = later.bye }) rest.pairing;
   }
 

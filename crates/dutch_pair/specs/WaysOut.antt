@@ -1,14 +1,17 @@
 -- What the walk over the brackets keeps, so that it never comes to one without a candidate (C.04.3 A.9, C.5): a model that carries the
 -- round's proof.
-use Rattle.std.specs.Prelude.{◌≡◌, ℕ, true, List, ◌++◌}
+use Rattle.std.specs.Prelude.{◌≡◌, ℕ, ◌+◌, ◌<◌, ◌≤◌, true, List, [], ◌++◌, length}
 use Rattle.dutch_order.specs.Forms.{NoneTwice}
 use Rattle.dutch_order.specs.Keys.{IsIn}
 use Rattle.dutch_player.specs.Facts.{Facts}
-use Rattle.dutch_pair.specs.declared.reached.Kind.TheVariants.{Ordinary}
+use Rattle.dutch_pair.specs.declared.reached.Kind.{Kind}
+use Rattle.dutch_pair.specs.declared.reached.Kind.TheVariants.{Ordinary, Last, Penultimate, Collapsed}
 use Rattle.dutch_pair.specs.Completion.{Completable}
+use Rattle.dutch_pair.specs.Eligible.{HasCandidate}
 use Rattle.dutch_pair.specs.Reached.{Stand}
 use Rattle.dutch_pair.specs.Round.{bracket}
 use Rattle.dutch_pair.specs.Seats.{seats_meet, seats_may_be_left}
+use Rattle.dutch_pair.specs.Walk.{AreAbove, Goes}
 
 -- those moved down and those below them can be paired out, each is there once, and no two of those moved down may meet
 pub record GoesOut (facts : Facts) (md rest : List ℕ) : Type 0 where
@@ -16,9 +19,19 @@ pub record GoesOut (facts : Facts) (md rest : List ℕ) : Type 0 where
   pub strangers : (s t : ℕ) → IsIn s md → IsIn t md → seats_meet facts s t ≡ true → ⊥
   pub complete : Completable (seats_meet facts) (seats_may_be_left facts) (md ++ rest)
 
--- an ordinary bracket of those moved down and some residents goes out with the lower seats
-pub record StandsIn (facts : Facts) (stand : Stand) (lower : List ℕ) : Type 0 where
+-- the way out of a bracket, by its kind: its players and the lower ones go out, or it is known to have a candidate; and its number is small
+abbrev pub HasWayOut : Facts → Kind → ℕ → List ℕ → List ℕ → List ℕ → Type 0
+HasWayOut facts Ordinary number md residents lower = GoesOut facts md (residents ++ lower) × (0 < length lower) × (number + length lower ≤ length facts.seats)
+HasWayOut facts Last number md residents lower = GoesOut facts md (residents ++ lower) × (lower ≡ []) × (number ≤ length facts.seats)
+HasWayOut facts Penultimate number md residents lower = GoesOut facts md (residents ++ lower) × (number ≤ length facts.seats)
+HasWayOut facts Collapsed number md residents lower =
+    HasCandidate facts (bracket number Collapsed md residents) lower × (lower ≡ []) × (number ≤ length facts.seats + 1)
+
+-- the bracket of a number, of those moved down and some residents, which comes next in a walk, above the lower seats
+pub record StandsBefore (facts : Facts) (number : ℕ) (stand : Stand) (lower : List ℕ) : Type 0 where
   pub md : List ℕ
   pub residents : List ℕ
-  pub is : stand ≡ bracket stand.number Ordinary md residents
-  pub out : GoesOut facts md (residents ++ lower)
+  pub is : stand ≡ bracket number stand.kind md residents
+  pub goes : Goes facts md (residents ++ lower)
+  pub above : AreAbove facts residents lower
+  pub out : HasWayOut facts stand.kind number md residents lower

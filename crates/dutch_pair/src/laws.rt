@@ -18,7 +18,7 @@ ghost use Rattle.dutch_order.specs.declared.bracket.Shape.{Shape};
 ghost use Rattle.dutch_pair.specs.Eligible.{HasCandidate};
 ghost use Rattle.dutch_pair.specs.Lower.{lower_of};
 ghost use Rattle.dutch_pair.specs.NextBracket.{IsDraw, IsNext};
-ghost use Rattle.dutch_pair.specs.Outcomes.{visit_of};
+ghost use Rattle.dutch_pair.specs.Outcomes.{shown, visit_of};
 ghost use Rattle.dutch_pair.specs.Reached.{IsAbove, Stand, frame_of};
 ghost use Rattle.dutch_pair.specs.Round.{Pairing, candidates_of, eligible, first_group, round, scoregroups, shape_of};
 ghost use Rattle.dutch_pair.specs.Shapes.{IsGreater, fits, has_member};
@@ -104,7 +104,7 @@ pub fn boards_stand_in_order()
 /// A bracket of a round stands above the players below it, and above them it has its shape: whoever has asked for the bracket can ask
 /// for its choice.
 pub fn a_bracket_stands_above_the_lower(field: &Field, number: u16, reached: &Reached, shape: Shape)
-    requires { visit_of number (round field.now).reached ≡ Some (record { bracket = reached.now; shape = shape }) }
+    requires { shown (visit_of number (round field.now).reached) ≡ Some (reached.now, shape) }
     ensures above { IsAbove field.now reached.now (lower_of field.now reached.now) }
     ensures shape { shape_of field.now reached.now (lower_of field.now reached.now) ≡ Some shape }
     ensures candidate { HasCandidate field.now reached.now (lower_of field.now reached.now) }

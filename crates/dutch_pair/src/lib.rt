@@ -41,5 +41,6 @@ pub mod seats;
 pub mod shape;
 mod skipper;
 mod spending;
+pub mod stage;
 mod takers;
 mod walk;

@@ -88,6 +88,18 @@ impl Reached {
         &self.seats
     }
 
+    /// A copy.
+    pub(crate) fn copied(&self) -> Reached
+        ensures { result ≡ self.now }
+    {
+        Reached {
+            number: self.number,
+            kind: self.kind,
+            mdps: self.mdps,
+            seats: copied(&self.seats),
+        }
+    }
+
     /// Whether a number is one of the bracket's: 1 to the count of players.
     pub fn has(&self, number: u16) -> bool
         ensures { result ≡ is_number self.now number }
@@ -138,6 +150,16 @@ pub(crate) fn push_all(more: &[u16], seats: &mut Seats)
 {
     // there is room
     let _all = seats.try_extend_from_slice(more);
+}
+
+/// A copy of seats.
+pub(crate) fn copied(seats: &[u16]) -> Seats
+    requires { length seats.now ≤ LIMIT }
+    ensures { result.items ≡ seats.now }
+{
+    let mut copy = Seats::new();
+    push_all(seats, &mut copy);
+    copy
 }
 
 /// A bracket of some moved down and some residents.

@@ -1,12 +1,13 @@
 // The round, bracket by bracket (C.04.3 A.3, A.9), specified by a recursion over the scoregroups.
 ghost use Rattle.std.specs.Prelude.{◌≡◌, IfOk};
-ghost use Rattle.dutch_pair.specs.Outcomes.{IsOutcome, IsBracketAt, TellsCompletion, TellsCompletionAt, asked_for};
+ghost use Rattle.dutch_pair.specs.Outcomes.{IsOutcome, IsBracketAt, TellsCompletion, TellsCompletionAt};
 
 use crate::boards::{Pair, boards};
 use crate::fault::PairFault;
 use crate::reached::Reached;
-use crate::walk::{Ended, walk};
+use crate::walk::{Turn, Walk, everybody};
 use dutch_order::bracket::Shape;
+use dutch_order::steps::Step;
 use dutch_player::field::Field;
 use std::alloc::Global;
 
@@ -35,35 +36,30 @@ pub enum BracketAt {
 }
 
 /// Pairs the next round of a field. Each bracket may make so many steps.
-#[tactic(auto, using(crate::proofs::RoundEnds::boards_are, crate::proofs::RoundEnds::stopped_in, crate::proofs::RoundEnds::none_asked, crate::proofs::NoDeadEnd::none_complete, crate::proofs::NoDeadEnd::pairs_complete))]
+#[tactic(auto, using(crate::proofs::NoDeadEnd::all_complete, crate::proofs::NoDeadEnd::not_complete, crate::proofs::NoDeadEnd::not_paired))]
 pub fn pair_round(alloc: Global, field: &Field, limit: u64) -> Result<Outcome, PairFault>
     ensures outcome { IfOk result (IsOutcome field.now limit) }
     ensures completion { IfOk result (TellsCompletion field.now) }
 {
-    match walk(alloc, field, limit, None)? {
-        Ended::Paired { pairs, bye } => {
-            let all = boards(alloc, field, &pairs, &bye)?;
-            Ok(Outcome::Paired(all))
+    let all = everybody(field);
+    let mut walk = match Walk::start(field, &all, limit) {
+        Step::Found(walk) => walk,
+        Step::End => return Ok(Outcome::NoPairing),
+        Step::Undecided => return Ok(Outcome::Undecided { bracket: 1, used: limit }),
+    };
+    let mut pairs = Vec::new(alloc);
+    loop {
+        match walk.go_on(alloc)? {
+            Turn::Settled(stage) => stage.put_pairs(field, &mut pairs)?,
+            Turn::Ended(bye) => return Ok(Outcome::Paired(boards(alloc, field, &pairs, &bye)?)),
+            Turn::Undecided => return Ok(Outcome::Undecided { bracket: walk.number(), used: limit }),
         }
-        Ended::Undecided { bracket, used } => Ok(Outcome::Undecided { bracket, used }),
-        // No bracket was asked for.
-        Ended::NoPairing | Ended::Asked { .. } => Ok(Outcome::NoPairing),
-    }
-}
-
-/// The number that is looked for, where some bracket may have it: none has 0.
-fn asked_for(number: u16) -> Option<u16>
-    ensures { result ≡ asked_for number }
-{
-    match number {
-        0 => None,
-        _ => Some(number),
     }
 }
 
 /// The bracket of a number, counted from 1 as the round reaches them, and its shape. No bracket has the number 0. Each bracket may make
 /// so many steps.
-#[tactic(auto, using(crate::proofs::RoundEnds::is_paired, crate::proofs::RoundEnds::stopped_in, crate::proofs::RoundEnds::visit_asked, crate::proofs::RoundEnds::bears, crate::proofs::RoundEnds::missed, crate::proofs::NoDeadEnd::none_complete, crate::proofs::NoDeadEnd::pairs_complete, crate::proofs::NoDeadEnd::visit_complete))]
+#[tactic(auto, using(crate::proofs::NoDeadEnd::all_complete, crate::proofs::NoDeadEnd::not_complete, crate::proofs::NoDeadEnd::not_paired, crate::proofs::NoDeadEnd::nothing_reached))]
 pub fn bracket_at(
     alloc: Global,
     field: &Field,
@@ -73,13 +69,29 @@ pub fn bracket_at(
     ensures bracket { IfOk result (IsBracketAt field.now limit number) }
     ensures completion { IfOk result (TellsCompletionAt field.now) }
 {
-    match walk(alloc, field, limit, asked_for(number))? {
-        Ended::Asked { reached, shape } => Ok(BracketAt::Bracket { reached, shape }),
-        Ended::Paired {
-            pairs: _pairs,
-            bye: _bye,
-        } => Ok(BracketAt::NotReached),
-        Ended::NoPairing => Ok(BracketAt::NoPairing),
-        Ended::Undecided { bracket, used } => Ok(BracketAt::Undecided { bracket, used }),
+    let all = everybody(field);
+    let mut walk = match Walk::start(field, &all, limit) {
+        Step::Found(walk) => walk,
+        Step::End => return Ok(BracketAt::NoPairing),
+        Step::Undecided => return Ok(BracketAt::Undecided { bracket: 1, used: limit }),
+    };
+    loop {
+        if walk.number() == number {
+            match walk.bracket() {
+                Step::Found((reached, shape)) => return Ok(BracketAt::Bracket { reached, shape }),
+                Step::End => return Ok(BracketAt::NotReached),
+                Step::Undecided => {
+                    return Ok(BracketAt::Undecided {
+                        bracket: number,
+                        used: limit,
+                    });
+                }
+            }
+        }
+        match walk.go_on(alloc)? {
+            Turn::Settled(_stage) => {}
+            Turn::Ended(_bye) => return Ok(BracketAt::NotReached),
+            Turn::Undecided => return Ok(BracketAt::Undecided { bracket: walk.number(), used: limit }),
+        }
     }
 }

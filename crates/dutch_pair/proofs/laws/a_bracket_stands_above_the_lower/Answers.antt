@@ -9,7 +9,7 @@ pub returns : goal.returns
 returns c =
     let stands =
     bracket_stands c.args.field.now (record { falls = c.scores_do_not_ascend.ensures.scores; few = omega (arith, c.scores_do_not_ascend.ensures.few) }) c.args.number
-    (record { bracket = c.args.reached.now; shape = c.args.shape }) c.requires in
+    c.args.reached.now c.args.shape c.requires in
     let lower = lower_of c.args.field.now c.args.reached.now in
     record {
       above = stands.0;

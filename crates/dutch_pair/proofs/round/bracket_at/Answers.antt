@@ -1,12 +1,66 @@
--- A round that reaches a bracket is one whose players can be paired out.
-use Rattle.std.proofs.Common.{◌-◌, [], subst}
-use Rattle.dutch_pair.specs.Ends.{Ends}
-use Rattle.dutch_pair.specs.Round.{round}
-use Rattle.dutch_pair.proofs.NoDeadEnd.{visit_complete}
+-- The bracket that is asked for is the next one, or it stands behind that.
+use Rattle.std.proofs.Common.{◌≡◌, ◌+◌, ◌≤◌, ℕ, suc, length, ap, sym, ◌∙◌, subst, arith}
+use Rattle.dutch_pair.specs.Round.{Round, round}
+use Rattle.dutch_pair.specs.Stages.{GoesOn, Walk}
+use Rattle.dutch_pair.proofs.NoDeadEnd.{round_goes}
+use Rattle.dutch_pair.proofs.RoundEnds.{IsAhead, ahead_first, ahead_more, ahead_none, first_count}
 use Rattle.dutch_pair.proofs.round.bracket_at.Goals as goal
 
-pub returns-in-Asked-clause-completion : goal.returns-in-Asked-clause-completion
-returns-in-Asked-clause-completion c =
+pub loop-alloc-init : goal.loop-alloc-init
+loop-alloc-init c =
     let facts = c.args.field.now in
-    let h = subst (λ ended. Ends facts c.args.limit c.asked_for.result 1 [] (round facts) ended) c.in-Asked.is c.in_ok-reached.ensures in
-    visit_complete facts (c.in-Asked.reached.number - 1) (record { bracket = c.in-Asked.reached; shape = c.in-Asked.shape }) h.1
+    let walk = c.in-Found.walk in
+    let e = c.in-Found.ensures.1 in
+    let number : walk.number ≡ 1 = ap (λ (w : Walk). w.number) e in
+    let count = ap (λ (w : Walk). length w.rest.reached) e in
+    record {
+      facts = ap (λ (w : Walk). w.facts) e;
+      complete = c.in-Found.ensures.0;
+      low = omega (arith, number);
+      count = omega (arith, number, count);
+      ahead = subst (λ (w : Walk). IsAhead c.args.number w.number w.rest.reached (round facts).reached) (sym e) (ahead_first c.args.number (round facts).reached);
+    }
+
+pub loop-alloc-preserved : goal.loop-alloc-preserved
+loop-alloc-preserved c =
+    let old = c.loop-alloc.walk in
+    let new = c.go_on.new.self in
+    let inv = c.loop-alloc.invariant in
+    let stage = c.in-Settled._stage in
+    let behind = (subst (λ turn. GoesOn old new turn) c.in-Settled.is c.in_ok-_stage.ensures).0 in
+    let number : new.number ≡ old.number + 1 = behind.number in
+    record {
+      facts = behind.facts ∙ inv.facts;
+      complete = inv.complete;
+      low = omega (arith, number, inv.low);
+      count = omega (arith, inv.count, number, first_count old.facts stage new.rest old.rest behind.rest);
+      ahead = ahead_more old.facts stage new.rest old.rest c.args.number old.number new.number (round c.args.field.now).reached behind.rest number
+          (λ same. c.if-number.false (c.number.ensures ∙ same)) inv.ahead;
+    }
+
+pub loop-alloc-smaller : goal.loop-alloc-smaller
+loop-alloc-smaller c =
+    let old = c.loop-alloc.walk in
+    let new = c.go_on.new.self in
+    let behind = (subst (λ turn. GoesOn old new turn) c.in-Settled.is c.in_ok-_stage.ensures).0 in
+    let count : length old.rest.reached ≡ suc (length new.rest.reached) = first_count old.facts c.in-Settled._stage new.rest old.rest behind.rest in
+    omega (arith, count)
+
+pub returns-in-Ended-clause-bracket : goal.returns-in-Ended-clause-bracket
+returns-in-Ended-clause-bracket c =
+    let facts = c.args.field.now in
+    let old = c.loop-alloc.walk in
+    let h = subst (λ turn. GoesOn old c.go_on.new.self turn) c.in-Ended.is c.in_ok-_stage.ensures in
+    (
+      ahead_none c.args.number old.number old.rest.reached (round facts).reached (ap (λ (r : Round). r.reached) h.0) c.loop-alloc.invariant.ahead,
+      round_goes facts c.loop-alloc.invariant.complete,
+    )
+
+pub returns-in-End-bracket-clause-bracket : goal.returns-in-End-bracket-clause-bracket
+returns-in-End-bracket-clause-bracket c =
+    let facts = c.args.field.now in
+    let walk = c.loop-alloc.walk in
+    (
+      ahead_none c.args.number walk.number walk.rest.reached (round facts).reached c.in-End-bracket.ensures c.loop-alloc.invariant.ahead,
+      round_goes facts c.loop-alloc.invariant.complete,
+    )

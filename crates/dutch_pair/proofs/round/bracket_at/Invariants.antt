@@ -1,0 +1,17 @@
+-- The bracket that is asked for stands in the rest of the round.
+use Rattle.std.proofs.Common.{◌≡◌, ◌+◌, ◌≤◌, true, length}
+use Rattle.dutch_pair.specs.Round.{completable, everybody, round}
+use Rattle.dutch_pair.proofs.RoundEnds.{IsAhead}
+use Rattle.dutch_pair.proofs.round.bracket_at.Given as goal
+
+abbrev pub invariant-loop-alloc : goal.invariant-loop-alloc
+invariant-loop-alloc l = record {
+  facts : l.walk.facts ≡ l.field;
+  complete : completable l.field (everybody l.field) ≡ true;
+  low : 1 ≤ l.walk.number;
+  count : l.walk.number + length l.walk.rest.reached ≡ 1 + length (round l.field).reached;
+  ahead : IsAhead l.number l.walk.number l.walk.rest.reached (round l.field).reached;
+}
+
+abbrev pub decreases-loop-alloc : goal.decreases-loop-alloc
+decreases-loop-alloc l = length l.walk.rest.reached

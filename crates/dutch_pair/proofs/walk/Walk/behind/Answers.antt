@@ -1,0 +1,84 @@
+-- What comes next behind a stage that is settled.
+use Rattle.std.proofs.Common.{◌≡◌, ◌+◌, ◌≤◌, ℕ, List, [], length, ap, sym, ◌∙◌, subst, arith}
+use Rattle.dutch_pair.specs.declared.reached.Kind.TheVariants.{Collapsed}
+use Rattle.dutch_pair.specs.Reached.{Stand}
+use Rattle.dutch_pair.specs.Round.{bracket, downfloaters}
+use Rattle.dutch_pair.specs.Stages.{choice_of}
+use Rattle.dutch_pair.specs.Walk.{Goes}
+use Rattle.dutch_pair.specs.WaysOut.{GoesOut, StandsBefore}
+use Rattle.dutch_pair.proofs.NoDeadEnd.{ordinary_out}
+use Rattle.dutch_pair.proofs.WalkEnds.{down_seats, few_left, left_few, left_is, numbers_left}
+use Rattle.dutch_pair.proofs.WalkSteps.{is_kept, stands_above, stands_collapsed, stands_left}
+use Rattle.dutch_pair.proofs.walk.Walk.behind.Goals as goal
+
+pub seats_of-left-requires-clause-inside : goal.seats_of-left-requires-clause-inside
+seats_of-left-requires-clause-inside c =
+    let stage = c.args.stage.now in
+    numbers_left c.args.field.now stage.reached stage.candidate.lists c.seats.result.now c.down.result.now c.seats.ensures (c.down.ensures ∙ c.requires.settled.down)
+
+pub seats_of-left-requires-clause-few : goal.seats_of-left-requires-clause-few
+seats_of-left-requires-clause-few c =
+    let stage = c.args.stage.now in
+    let above = stands_above c.args.field.now stage.reached.number stage.reached c.args.lower.now c.requires.stands
+    (record { falls = c.scores_do_not_ascend.ensures.scores; few = c.scores_do_not_ascend.ensures.few }) in
+    let few : length stage.reached.seats + length c.args.lower.now ≤ 256 = above.few in
+    omega (arith, few, few_left c.args.field.now stage.reached stage.candidate.lists c.down.result.now (c.down.ensures ∙ c.requires.settled.down))
+
+pub before_group-requires-clause-goes : goal.before_group-requires-clause-goes
+before_group-requires-clause-goes c =
+    let facts = c.args.field.now in
+    let stage = c.args.stage.now in
+    let left = left_is facts stage.reached stage.candidate.lists c.seats.result.now c.down.result.now c.seats_of-left.result.items c.seats.ensures
+    (c.down.ensures ∙ c.requires.settled.down) c.seats_of-left.ensures in
+    subst (λ (xs : List ℕ). Goes facts xs c.args.lower.now) (sym left)
+    (stands_left facts stage.reached.number stage.reached c.args.lower.now c.requires.stands
+    (record { falls = c.scores_do_not_ascend.ensures.scores; few = c.scores_do_not_ascend.ensures.few }) (choice_of stage))
+
+pub before_group-requires-clause-out : goal.before_group-requires-clause-out
+before_group-requires-clause-out c =
+    let facts = c.args.field.now in
+    let stage = c.args.stage.now in
+    let left = left_is facts stage.reached stage.candidate.lists c.seats.result.now c.down.result.now c.seats_of-left.result.items c.seats.ensures
+    (c.down.ensures ∙ c.requires.settled.down) c.seats_of-left.ensures in
+    let kind = sym c.kind.ensures ∙ c.in-Ordinary.is in
+    subst (λ (xs : List ℕ). GoesOut facts xs c.args.lower.now) (sym left)
+    (ordinary_out facts stage.reached.number stage.reached c.args.lower.now (choice_of stage) c.requires.stands kind c.requires.settled.choice
+    (is_kept facts c.args.lower.now stage c.requires.settled c.if-stage.false kind))
+
+pub bracket-collapsed-requires : goal.bracket-collapsed-requires
+bracket-collapsed-requires c =
+    let facts = c.args.field.now in
+    let stage = c.args.stage.now in
+    let left = left_is facts stage.reached stage.candidate.lists c.seats.result.now c.down.result.now c.seats_of-left.result.items c.seats.ensures
+    (c.down.ensures ∙ c.requires.settled.down) c.seats_of-left.ensures in
+    let above = stands_above facts stage.reached.number stage.reached c.args.lower.now c.requires.stands
+    (record { falls = c.scores_do_not_ascend.ensures.scores; few = c.scores_do_not_ascend.ensures.few }) in
+    left_few facts stage.reached stage.candidate.lists c.args.lower.now c.deref.result.now (c.deref.ensures.0 ∙ left) above.few
+
+pub invariant_of-t-20 : goal.invariant_of-t-20
+invariant_of-t-20 c =
+    let facts = c.args.field.now in
+    let stage = c.args.stage.now in
+    let lower = c.args.lower.now in
+    let n = c.number-number.result in
+    let left = left_is facts stage.reached stage.candidate.lists c.seats.result.now c.down.result.now c.seats_of-left.result.items c.seats.ensures
+    (c.down.ensures ∙ c.requires.settled.down) c.seats_of-left.ensures in
+    let collapsed = stands_collapsed facts stage.reached.number stage.reached lower c.requires.stands
+    (record { falls = c.scores_do_not_ascend.ensures.scores; few = c.scores_do_not_ascend.ensures.few }) (choice_of stage)
+    (sym c.kind.ensures ∙ c.in-Penultimate.is) c.requires.settled.choice in
+    (
+      subst (λ (b : Stand). StandsBefore facts (n + 1) b []) (sym c.bracket-collapsed.ensures)
+      (subst (λ (xs : List ℕ). StandsBefore facts (n + 1) (bracket (n + 1) Collapsed xs lower) []) (sym (c.deref.ensures.0 ∙ left))
+      (subst (λ (m : ℕ). StandsBefore facts (m + 1) (bracket (m + 1) Collapsed (downfloaters facts stage.reached stage.candidate.lists) lower) []) (sym c.number-number.ensures) collapsed)),
+      omega arith,
+    )
+
+pub invariant_of-result-in-Last : goal.invariant_of-result-in-Last
+invariant_of-result-in-Last c =
+    let facts = c.args.field.now in
+    let stage = c.args.stage.now in
+    let left = left_is facts stage.reached stage.candidate.lists c.seats.result.now c.down.result.now c.seats_of-left.result.items c.seats.ensures
+    (c.down.ensures ∙ c.requires.settled.down) c.seats_of-left.ensures in
+    let above = stands_above facts stage.reached.number stage.reached c.args.lower.now c.requires.stands
+    (record { falls = c.scores_do_not_ascend.ensures.scores; few = c.scores_do_not_ascend.ensures.few }) in
+    (down_seats facts stage.reached stage.candidate.lists c.seats_of-left.result.items above.bracket left, omega arith)

@@ -1,0 +1,33 @@
+-- The bracket that comes next has a candidate, and the round begins with it.
+use Rattle.std.proofs.Common.{◌≡◌, ap, sym, ◌∙◌, subst}
+use Rattle.dutch_pair.specs.Reached.{Stand}
+use Rattle.dutch_pair.specs.Stages.{Shows, StandsAt, Walk, round_from}
+use Rattle.dutch_pair.proofs.NoDeadEnd.{stands_has}
+use Rattle.dutch_pair.proofs.WalkSteps.{stands_above, stands_number, stands_shown}
+use Rattle.dutch_pair.proofs.walk.Walk.bracket.Goals as goal
+
+pub shape_in-requires-clause-above : goal.shape_in-requires-clause-above
+shape_in-requires-clause-above c =
+    let w = c.self.inside in
+    let s = subst (λ next. StandsAt w.field.now w.number w.lower.now next) c.in-Bracket.is c.self.invariant.0 in
+    stands_above w.field.now w.number c.in-Bracket.reached w.lower.now s
+    (record { falls = c.scores_do_not_ascend.ensures.scores; few = c.scores_do_not_ascend.ensures.few })
+
+pub shape_in-requires-clause-candidate : goal.shape_in-requires-clause-candidate
+shape_in-requires-clause-candidate c =
+    let w = c.self.inside in
+    let s = subst (λ next. StandsAt w.field.now w.number w.lower.now next) c.in-Bracket.is c.self.invariant.0 in
+    stands_has w.field.now w.number c.in-Bracket.reached w.lower.now s
+
+pub returns-in-Found : goal.returns-in-Found
+returns-in-Found c =
+    let w = c.self.inside in
+    let reached = c.in-Bracket.reached in
+    let s = subst (λ next. StandsAt w.field.now w.number w.lower.now next) c.in-Bracket.is c.self.invariant.0 in
+    let above = stands_above w.field.now w.number reached w.lower.now s
+    (record { falls = c.scores_do_not_ascend.ensures.scores; few = c.scores_do_not_ascend.ensures.few }) in
+    let here = sym c.self.view_is
+    ∙ ap (λ next. let walk : Walk = record { facts = w.field.now; number = w.number; rest = round_from w.field.now w.lower.now next; limit = w.budget.limit } in walk) c.in-Bracket.is in
+    subst (λ (b : Stand). Shows c.args.self.now.facts c.args.self.now.rest b c.in-Found.shape × (b.number ≡ c.args.self.now.number)) (sym c.copied.ensures)
+    (subst (λ (now : Walk). Shows now.facts now.rest reached c.in-Found.shape × (reached.number ≡ now.number)) (sym here)
+    ((stands_shown w.field.now w.number reached w.lower.now c.in-Found.shape s c.in-Found.ensures.0, above.bracket, c.in-Found.ensures.1), stands_number w.field.now w.number reached w.lower.now s))

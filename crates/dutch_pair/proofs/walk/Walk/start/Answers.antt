@@ -1,0 +1,24 @@
+-- At first all seats are to come, and they can be paired out.
+use Rattle.std.proofs.Common.{◌≡◌, ◌+◌, ◌≤◌, List, ℕ, [], length, ap, sym, ◌∙◌, subst, arith}
+use Rattle.dutch_pair.specs.Round.{completable, everybody}
+use Rattle.dutch_pair.specs.Walk.{Goes}
+use Rattle.dutch_pair.specs.WaysOut.{GoesOut}
+use Rattle.dutch_pair.proofs.GroupWalk.{everybody_few, everybody_goes}
+use Rattle.dutch_pair.proofs.NoDeadEnd.{everybody_out}
+use Rattle.dutch_pair.proofs.walk.Walk.start.Goals as goal
+
+pub can_complete-requires-clause-few : goal.can_complete-requires-clause-few
+can_complete-requires-clause-few c =
+    let few : length c.args.field.now.seats ≤ 256 = c.scores_do_not_ascend.ensures.few in
+    omega (arith, few, everybody_few c.args.field.now c.args.all.now c.requires)
+
+pub before_group-requires-clause-goes : goal.before_group-requires-clause-goes
+before_group-requires-clause-goes c = everybody_goes c.args.field.now c.new.result.items c.args.all.now c.new.ensures c.requires
+
+pub before_group-requires-clause-out : goal.before_group-requires-clause-out
+before_group-requires-clause-out c =
+    subst (λ (xs : List ℕ). GoesOut c.args.field.now xs c.args.all.now) (sym c.new.ensures)
+    (everybody_out c.args.field.now c.args.all.now c.requires c.in-Yes.ensures.answer)
+
+pub before_group-requires-clause-small : goal.before_group-requires-clause-small
+before_group-requires-clause-small c = omega (arith, everybody_few c.args.field.now c.args.all.now c.requires)

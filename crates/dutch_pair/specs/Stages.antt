@@ -1,0 +1,106 @@
+-- A walk over the brackets of a round, as the round from where it stands on: a model that carries the round's proof.
+use Rattle.std.specs.Prelude.{◌≡◌, ℕ, ◌+◌, Bool, true, false, not, if◌then◌else◌, List, [], ◌∷◌, ◌++◌, map, Some}
+use Rattle.dutch_order.specs.declared.bracket.Shape.{Shape}
+use Rattle.dutch_order.specs.Arrangements.{Fits, down}
+use Rattle.dutch_player.specs.Facts.{Facts}
+use Rattle.dutch_pair.specs.declared.reached.Kind.{Kind}
+use Rattle.dutch_pair.specs.declared.reached.Kind.TheVariants.{Ordinary, Last, Penultimate, Collapsed}
+use Rattle.dutch_pair.specs.declared.stage.Stage.{Stage}
+use Rattle.dutch_pair.specs.declared.walk.Next.{Next}
+use Rattle.dutch_pair.specs.declared.walk.Next.TheVariants.{Bracket, Bye}
+use Rattle.dutch_pair.specs.declared.walk.Turn.{Turn}
+use Rattle.dutch_pair.specs.declared.walk.Turn.TheVariants.{Settled, Ended, Undecided}
+use Rattle.dutch_pair.specs.NextBracket.{IsDraw}
+use Rattle.dutch_pair.specs.Reached.{Stand, IsOf, frame_of}
+use Rattle.dutch_pair.specs.Round.{Round, Choice, Pairing, brackets, choice, completable, ending, final_bracket, ordinary_bracket, passing, pairing_in, penultimate_by, scoregroups}
+use Rattle.dutch_pair.specs.Outcomes.{shown, visit_at}
+use Rattle.dutch_pair.specs.Seated.{AreSeats, all_pairs, seat_of}
+use Rattle.dutch_pair.specs.WaysOut.{StandsBefore}
+
+-- where a walk stands in a field: the number of the bracket that comes next, the round from there on, and the limit of a bracket's steps
+pub record Walk : Type 0 where
+  pub facts : Facts
+  pub number : ℕ
+  pub rest : Round
+  pub limit : ℕ
+
+-- the kind of the bracket of a scoregroup above lower seats
+abbrev pub group_kind : List ℕ → Kind
+group_kind [] = Last
+group_kind (seat ∷ seats) = Ordinary
+
+-- what is chosen in a stage
+abbrev pub choice_of : Stage → Choice
+choice_of stage = record { shape = stage.shape; lists = stage.candidate.lists }
+
+-- C.4: whether a bracket is paired again, where those whom it leaves over can be paired out with all lower players or cannot
+abbrev pub is_again : Kind → Bool → Bool
+is_again Ordinary complete = not complete
+is_again Last complete = false
+is_again Penultimate complete = false
+is_again Collapsed complete = false
+
+module _ (facts : Facts) where
+  -- the round from a bracket above lower seats on, by its kind
+  abbrev pub round_by : Kind → Stand → List ℕ → Round
+  round_by Ordinary stand lower = ordinary_bracket facts stand lower (λ left. brackets facts (stand.number + 1) left (scoregroups facts lower))
+  round_by Last stand lower = final_bracket facts stand
+  round_by Penultimate stand lower = penultimate_by facts stand lower (choice facts stand lower)
+  round_by Collapsed stand lower = final_bracket facts stand
+
+  -- the round from what comes next on
+  abbrev pub round_from : List ℕ → Next → Round
+  round_from lower (Bracket reached) = round_by reached.kind reached lower
+  round_from lower (Bye bye) = ending facts bye.items
+
+  -- what comes next, under a number
+  abbrev pub StandsAt : ℕ → List ℕ → Next → Type 0
+  StandsAt number lower (Bracket reached) = StandsBefore facts number reached lower
+  StandsAt number lower (Bye bye) = AreSeats facts bye.items
+
+  -- a stage in front of the rest of a round, without its pairs if it is paired again
+  abbrev pub stage_first : Stage → Round → Round
+  stage_first stage rest =
+      if stage.again then passing facts stage.reached (choice_of stage) rest else pairing_in facts stage.reached (choice_of stage) rest
+
+  -- a stage is settled as its bracket above lower seats is
+  pub record IsSettled (lower : List ℕ) (stage : Stage) : Type 0 where
+    pub choice : choice facts stage.reached lower ≡ Some (choice_of stage)
+    pub down : stage.candidate.down ≡ down (frame_of facts stage.reached) stage.candidate.lists
+    pub again : stage.again ≡ is_again stage.reached.kind (completable facts (map (seat_of stage.reached.seats) stage.candidate.down ++ lower))
+
+  -- a stage is one of the field, and so is its candidate
+  pub record IsStage (stage : Stage) : Type 0 where
+    pub bracket : IsOf facts stage.reached
+    pub candidate : IsDraw facts stage.reached stage.candidate
+
+-- pairs in front of those of a pairing
+abbrev pub in_front : List (ℕ × ℕ) → Pairing → Pairing
+in_front pairs later = record { pairs = pairs ++ later.pairs; bye = later.bye }
+
+-- the pairs of a stage by seat: none if it is paired again
+abbrev pub own_pairs : Stage → List (ℕ × ℕ)
+own_pairs stage = if stage.again then [] else all_pairs stage.reached.seats stage.candidate.lists
+
+-- a walk has gone behind a stage
+pub record IsBehind (stage : Stage) (old new : Walk) : Type 0 where
+  pub facts : new.facts ≡ old.facts
+  pub number : new.number ≡ old.number + 1
+  pub rest : old.rest ≡ stage_first old.facts stage new.rest
+  pub limit : new.limit ≡ old.limit
+
+-- the same of a stage that is settled above lower seats
+abbrev pub IsBehindIn : Facts → List ℕ → ℕ → Stage → Walk → Type 0
+IsBehindIn facts lower limit stage =
+    IsBehind stage (record { facts = facts; number = stage.reached.number; rest = round_by facts stage.reached.kind stage.reached lower; limit = limit })
+
+-- a round begins with a bracket, which has a shape
+abbrev pub Shows : Facts → Round → Stand → Shape → Type 0
+Shows facts round reached shape =
+    (shown (visit_at 0 round.reached) ≡ Some (reached, shape)) × IsOf facts reached × Fits (frame_of facts reached) shape
+
+-- how a walk goes on
+abbrev pub GoesOn : Walk → Walk → Turn → Type 0
+GoesOn old new (Settled stage) = IsBehind stage old new × IsStage old.facts stage
+GoesOn old new (Ended bye) = (old.rest ≡ ending old.facts bye.items) × AreSeats old.facts bye.items
+GoesOn old new Undecided = new ≡ old

@@ -1,0 +1,103 @@
+// A bracket that a round reaches, as it is settled: its choice, and whether it is paired again (C.04.3 B.8, A.9).
+ghost use Rattle.std.specs.Prelude.{◌≡◌, ◌≤◌, ◌++◌, false, length, map, IfOk, IfSome, OnOk};
+ghost use Rattle.std.specs.List.{AllByRecursion};
+ghost use Rattle.std.specs.Option.{MatchOption};
+ghost use Rattle.dutch_order.specs.Steps.{Spends};
+ghost use Rattle.dutch_pair.specs.Boards.{IsPair};
+ghost use Rattle.dutch_pair.specs.Eligible.{HasCandidate};
+ghost use Rattle.dutch_pair.specs.Reached.{IsAbove};
+ghost use Rattle.dutch_pair.specs.Round.{completable};
+ghost use Rattle.dutch_pair.specs.Seated.{AllNumbers, seat_of};
+ghost use Rattle.dutch_pair.specs.Stages.{IsSettled, IsStage, is_again, own_pairs};
+
+use crate::boards::Pair;
+use crate::choice::{Choice, choose_in};
+use crate::completion::Answer;
+use crate::context::Context;
+use crate::eligible::leaves_completable;
+use crate::fault::PairFault;
+use crate::reached::{Kind, Reached};
+use crate::seated::by_seats;
+use dutch_order::bracket::Shape;
+use dutch_order::candidate::Candidate;
+use dutch_order::steps::Budget;
+use dutch_player::field::Field;
+use std::alloc::Global;
+
+/// A bracket that a round reaches, and what is chosen in it.
+#[derive(Debug, Drop)]
+pub struct Stage {
+    pub(crate) reached: Reached,
+    pub(crate) shape: Shape,
+    pub(crate) candidate: Candidate,
+    // it is paired again, so its pairs do not count
+    pub(crate) again: bool,
+}
+
+/// Whether a bracket is paired again (C.4): an ordinary one, if those whom it leaves over cannot be paired out with all lower players.
+/// None says that the budget's limit was reached first.
+fn is_again(context: &Context<'_>, candidate: &Candidate, budget: &mut Budget) -> Option<bool>
+    requires numbers { AllNumbers context.now.stand.seats candidate.now.down }
+    requires few { length candidate.now.down ≤ length context.now.stand.seats }
+    requires within { budget.old.used ≤ budget.old.limit }
+    ensures answer { IfSome result (λ again. again ≡ is_again context.now.stand.kind
+        (completable context.now.facts (map (seat_of context.now.stand.seats) candidate.now.down ++ context.now.lower))) }
+    ensures spends { Spends budget.old budget.new }
+{
+    let complete = match context.reached().kind() {
+        Kind::Ordinary => leaves_completable(context, candidate, budget),
+        Kind::Last | Kind::Penultimate | Kind::Collapsed => return Some(false),
+    };
+    match complete {
+        Answer::Yes => Some(false),
+        Answer::No => Some(true),
+        Answer::Undecided => None,
+    }
+}
+
+/// Settles a bracket that has a candidate. None says that the budget's limit was reached first.
+pub(crate) fn settle(
+    alloc: Global,
+    field: &Field,
+    reached: &Reached,
+    lower: &[u16],
+    budget: Budget,
+) -> Result<Option<Stage>, PairFault>
+    requires above { IsAbove field.now reached.now lower.now }
+    requires candidate { HasCandidate field.now reached.now lower.now }
+    requires within { budget.used ≤ budget.limit }
+    ensures { IfOk result (λ settled. IfSome settled (λ stage. (stage.reached ≡ reached.now) × IsSettled field.now lower.now stage)) }
+{
+    let mut budget = budget;
+    let context = Context::new(field, reached, lower);
+    let (shape, candidate) = match choose_in(alloc, &context, &mut budget)? {
+        Choice::Chosen { shape, candidate } => (shape, candidate),
+        Choice::Undecided => return Ok(None),
+    };
+    let Some(again) = is_again(&context, &candidate, &mut budget) else {
+        return Ok(None);
+    };
+    Ok(Some(Stage {
+        reached: reached.copied(),
+        shape,
+        candidate,
+        again,
+    }))
+}
+
+impl Stage {
+    /// Puts its pairs by seat behind others: none if it is paired again.
+    #[tactic(auto, using(crate::proofs::WalkEnds::candidate_is, crate::proofs::WalkEnds::pairs_join))]
+    pub(crate) fn put_pairs(&self, field: &Field, pairs: &mut Vec<Pair>) -> Result<(), PairFault>
+        requires stage { IsStage field.now self.now }
+        requires pairs { AllByRecursion (IsPair field.now) pairs.old.items }
+        ensures value { OnOk result (pairs.new.items ≡ pairs.old.items ++ own_pairs self.now) }
+        ensures pairs { OnOk result (AllByRecursion (IsPair field.now) pairs.new.items) }
+    {
+        if self.again {
+            return Ok(());
+        }
+        let seated = by_seats(field, self.reached.seats(), &self.candidate);
+        Ok(pairs.extend_from_slice(&seated.pairs)?)
+    }
+}
