@@ -5,6 +5,7 @@ use Rattle.std.proofs.lemmas.Bool.Decides.{nat_tests}
 use Rattle.std.proofs.lemmas.List.Sorted.{All-permutation}
 use Rattle.std.proofs.lemmas.Map.Keys.{IsDistinct-IsPermutation}
 use Rattle.trf16.specs.declared.cell.Colour.{Colour}
+use Rattle.trf16.specs.declared.limits.TheConstants.{MOST_ROUNDS}
 use Rattle.trf16.specs.Sheet.{Sheet, known}
 use Rattle.trf16.specs.Absence.{absent}
 use Rattle.trf16.specs.Round.{CanBePaired, named_by}
@@ -18,12 +19,12 @@ use Rattle.dutch_pair.specs.Everybody.{NameEverybodyOnce}
 use Rattle.dutch_pair.specs.Round.{Pairing, round}
 use Rattle.dutch_pair.proofs.NamedBoards.{everybody_named}
 
--- a total that is asked for, or that the report names, is at most 32
-total_few : (sheet : Sheet) (asked : Option ℕ) (total : ℕ) → IfSome asked (λ n. n ≤ 32) → IfSome sheet.total (λ n. n ≤ 32) → total_of sheet asked ≡ Some total → total ≤ 32
+-- a total that is asked for, or that the report names, is within the limit
+total_few : (sheet : Sheet) (asked : Option ℕ) (total : ℕ) → IfSome asked (λ n. n ≤ MOST_ROUNDS) → IfSome sheet.total (λ n. n ≤ MOST_ROUNDS) → total_of sheet asked ≡ Some total → total ≤ MOST_ROUNDS
 total_few sheet (Some n) total few own e = let same : n ≡ total = cc in omega (arith, few, same)
 total_few sheet None total few own e = at' sheet.total own e
   where
-    at' : (found : Option ℕ) → IfSome found (λ n. n ≤ 32) → found ≡ Some total → total ≤ 32
+    at' : (found : Option ℕ) → IfSome found (λ n. n ≤ MOST_ROUNDS) → found ≡ Some total → total ≤ MOST_ROUNDS
     at' None own e = let bad : None ≡ Some total = e in cc
     at' (Some n) own e = let same : n ≡ total = cc in omega (arith, own, same)
 
@@ -31,13 +32,13 @@ flips : (x y : ℕ) → nat_eq x y ≡ nat_eq y x
 flips x y = grind (arith, nat_tests)
 
 pub can_be_next : (bytes : List ℕ) (bye : ℕ) (sheet : Sheet) (asked : Option ℕ) (initial : Option Colour) (facts : Facts) (pairing : Pairing)
-    → verdict bytes bye ≡ Ok sheet → IfSome asked (λ total. total ≤ 32) → facts_of sheet asked initial ≡ Ok facts → (round facts).pairing ≡ Some pairing → CanBePaired (boards facts pairing) sheet
+    → verdict bytes bye ≡ Ok sheet → IfSome asked (λ total. total ≤ MOST_ROUNDS) → facts_of sheet asked initial ≡ Ok facts → (round facts).pairing ≡ Some pairing → CanBePaired (boards facts pairing) sheet
 can_be_next bytes bye sheet asked initial facts pairing read few made paired =
     let own = own_starts bytes bye sheet read in
     let field = field_of sheet asked initial facts own made in
     let order : NameEverybodyOnce facts (boards facts pairing) = everybody_named facts pairing field.from_one paired in
     let named : List ℕ = named_by (boards facts pairing) in
-    let total : facts.total ≤ 32 = total_few sheet asked facts.total few own.rounds field.total in
+    let total : facts.total ≤ MOST_ROUNDS = total_few sheet asked facts.total few own.rounds field.total in
     record {
       players = All-permutation (λ start. known sheet start ≡ true) (start_ranks facts) named order field.players;
       present = All-permutation (λ start. absent sheet start ≡ false) (start_ranks facts) named order field.present;

@@ -1,6 +1,7 @@
 // A bracket in its field above all lower seats, and what its shape, its choice and their floors ask of it, read once when the round
 // reaches it (C.04.3 A.3, A.6).
-ghost use Rattle.std.specs.Prelude.{◌≡◌, ◌+◌, ◌<◌, ◌≤◌, length};
+ghost use Rattle.std.specs.Prelude.{◌≡◌, ◌+◌, ◌*◌, ◌<◌, ◌≤◌, length};
+ghost use Rattle.trf16.specs.declared.limits.TheConstants.{MOST_ROUNDS};
 ghost use Rattle.dutch_pair.specs.declared.colours_missed.Miss.TheVariants.{Preference};
 ghost use Rattle.dutch_pair.specs.Quality.{one_if, misses, count_in};
 ghost use Rattle.arrayvec.specs.ArrayVec.{array_vec_len};
@@ -148,11 +149,11 @@ impl<'a> Context<'a> {
         self.reached.seats().len()
     }
 
-    /// The score of a number of the bracket, in half points: at most 64.
+    /// The score of a number of the bracket, in half points.
     pub(crate) fn score(&self, number: u16) -> u16
         requires { (0 < number) × (number ≤ length self.now.stand.seats) }
         ensures value { result ≡ score_at self.now.facts (seat_of self.now.stand.seats number) }
-        ensures few { result ≤ 64 }
+        ensures few { result ≤ 2 * MOST_ROUNDS }
     {
         self.field.score(self.reached.seat(number))
     }

@@ -1,6 +1,7 @@
 // Laws over the definitions: of qualities, completable players, shapes, scoregroups, boards and rounds; and laws that give what the
 // calls on a bracket ask for.
 ghost use Rattle.std.specs.Prelude.{◌≡◌, ◌≤◌, ◌⊎◌, ◌↔◌, ℕ, Bool, IfSome, List, Ok, Option, None, Some, false, length, true};
+ghost use Rattle.trf16.specs.declared.limits.TheConstants.{MOST_ROUNDS};
 ghost use Rattle.trf16.specs.Round.{CanBePaired};
 ghost use Rattle.trf16.specs.Sheet.{Sheet};
 ghost use Rattle.trf16.specs.Verdict.{verdict};
@@ -65,10 +66,10 @@ pub fn at_most_one_has_the_bye()
 {}
 
 /// The boards of a round can be the next round of the accepted report that it is paired from, where a total of rounds that is asked
-/// for is at most 32.
+/// for is within the limit.
 pub fn boards_can_be_the_next_round()
     ensures { (bytes : List ℕ) (bye : ℕ) (sheet : Sheet) (asked : Option ℕ) (initial : Option Colour) (facts : Facts) (pairing : Pairing)
-        → verdict bytes bye ≡ Ok sheet → IfSome asked (λ total. total ≤ 32) → facts_of sheet asked initial ≡ Ok facts → (round facts).pairing ≡ Some pairing
+        → verdict bytes bye ≡ Ok sheet → IfSome asked (λ total. total ≤ MOST_ROUNDS) → facts_of sheet asked initial ≡ Ok facts → (round facts).pairing ≡ Some pairing
         → CanBePaired (boards facts pairing) sheet }
 {}
 

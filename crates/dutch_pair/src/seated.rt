@@ -69,7 +69,7 @@ pub(crate) fn lowest(field: &Field, seats: &[u16]) -> u16
     }
 }
 
-/// The difference of a pair: at most 64.
+/// The difference of a pair.
 pub(crate) fn difference(field: &Field, pair: Pair) -> u16
     requires first { pair.0 < length field.now.seats }
     requires second { pair.1 < length field.now.seats }

@@ -4,6 +4,7 @@ use Rattle.dutch_pair.specs.Reached.{Stand}
 use Rattle.dutch_pair.specs.Round.{Round, bracket}
 use Rattle.dutch_pair.specs.Stages.{Walk, group_kind, round_by}
 use Rattle.dutch_pair.specs.WaysOut.{StandsBefore}
+use Rattle.dutch_order.specs.declared.numbers.TheConstants.{LIMIT}
 use Rattle.dutch_pair.proofs.GroupWalk.{group_round, moved_inside, parted_by, parted_few, rest_inside, some_by_test}
 use Rattle.dutch_pair.proofs.WalkSteps.{stands_group}
 use Rattle.dutch_pair.proofs.walk.Walk.before_group.Goals as goal
@@ -19,7 +20,7 @@ bracket-reached-requires c =
     let facts = c.args.field.now in
     let parts = parted_by facts (record { falls = c.scores_do_not_ascend.ensures.scores; few = c.scores_do_not_ascend.ensures.few })
     c.requires.goes (some_by_test c.args.rest.now c.if-is_empty.ensures) c.split_first_group.ensures.whole c.split_first_group.ensures.first in
-    subst (λ (m : List ℕ). length m + length c.split_first_group.result.0.now ≤ 256) (sym c.deref.ensures.0) (parted_few facts parts)
+    subst (λ (m : List ℕ). length m + length c.split_first_group.result.0.now ≤ LIMIT) (sym c.deref.ensures.0) (parted_few facts parts)
 
 pub invariant_of-result-2 : goal.invariant_of-result-2
 invariant_of-result-2 c =

@@ -7,6 +7,7 @@ use Rattle.dutch_pair.specs.Stages.{choice_of}
 use Rattle.dutch_pair.specs.Walk.{Goes}
 use Rattle.dutch_pair.specs.WaysOut.{GoesOut, StandsBefore}
 use Rattle.dutch_pair.proofs.NoDeadEnd.{ordinary_out}
+use Rattle.dutch_order.specs.declared.numbers.TheConstants.{LIMIT}
 use Rattle.dutch_pair.proofs.WalkEnds.{down_seats, few_left, left_few, left_is, numbers_left}
 use Rattle.dutch_pair.proofs.WalkSteps.{is_kept, stands_above, stands_collapsed, stands_left}
 use Rattle.dutch_pair.proofs.walk.Walk.behind.Goals as goal
@@ -21,7 +22,7 @@ seats_of-left-requires-clause-few c =
     let stage = c.args.stage.now in
     let above = stands_above c.args.field.now stage.reached.number stage.reached c.args.lower.now c.requires.stands
     (record { falls = c.scores_do_not_ascend.ensures.scores; few = c.scores_do_not_ascend.ensures.few }) in
-    let few : length stage.reached.seats + length c.args.lower.now ≤ 256 = above.few in
+    let few : length stage.reached.seats + length c.args.lower.now ≤ LIMIT = above.few in
     omega (arith, few, few_left c.args.field.now stage.reached stage.candidate.lists c.down.result.now (c.down.ensures ∙ c.requires.settled.down))
 
 pub before_group-requires-clause-goes : goal.before_group-requires-clause-goes

@@ -4,12 +4,13 @@ use Rattle.dutch_pair.specs.Round.{completable, everybody}
 use Rattle.dutch_pair.specs.Walk.{Goes}
 use Rattle.dutch_pair.specs.WaysOut.{GoesOut}
 use Rattle.dutch_pair.proofs.GroupWalk.{everybody_few, everybody_goes}
+use Rattle.dutch_order.specs.declared.numbers.TheConstants.{LIMIT}
 use Rattle.dutch_pair.proofs.NoDeadEnd.{everybody_out}
 use Rattle.dutch_pair.proofs.walk.Walk.start.Goals as goal
 
 pub can_complete-requires-clause-few : goal.can_complete-requires-clause-few
 can_complete-requires-clause-few c =
-    let few : length c.args.field.now.seats ≤ 256 = c.scores_do_not_ascend.ensures.few in
+    let few : length c.args.field.now.seats ≤ LIMIT = c.scores_do_not_ascend.ensures.few in
     omega (arith, few, everybody_few c.args.field.now c.args.all.now c.requires)
 
 pub before_group-requires-clause-goes : goal.before_group-requires-clause-goes
