@@ -8,9 +8,10 @@ ghost use Rattle.dutch_order.specs.Arrangements.{Fits, arrangements, candidates,
 ghost use Rattle.dutch_order.specs.Choices.{is_member};
 ghost use Rattle.dutch_order.specs.Keys.{IsIn};
 ghost use Rattle.dutch_order.specs.Levels.{may_leave};
-ghost use Rattle.dutch_order.specs.Listings.{listed, only_if};
+ghost use Rattle.dutch_order.specs.Listings.{listed};
 ghost use Rattle.dutch_order.specs.Steps.{MatchStep, Passes, Spends};
 
+use crate::arrangement::{Arrangement, Held};
 use crate::bound::Bound;
 use crate::bracket::{Bracket, Shape};
 use crate::candidate::Candidate;
@@ -22,11 +23,10 @@ use crate::numbers::Numbers;
 use crate::prefix::Prefix;
 use crate::rules::Rule;
 use crate::steps::{Budget, Step};
-use arrayvec::ArrayVec;
 use std::marker::Model;
 
 /// Whether a player is in one of the four lists.
-fn is_paired(lists: &Cursor, number: u16) -> bool
+fn is_paired(lists: &Arrangement, number: u16) -> bool
     ensures { result ≡ (is_member number lists.now.s1 || (is_member number lists.now.s2 || (is_member number lists.now.s1r || is_member number lists.now.s2r))) }
 {
     lists.s1.contains(&number)
@@ -36,7 +36,7 @@ fn is_paired(lists: &Cursor, number: u16) -> bool
 }
 
 /// Fills a list with those whom an arrangement leaves over, by rank.
-fn put_left_over(bracket: &Bracket, lists: &Cursor, left: &mut Numbers)
+fn put_left_over(bracket: &Bracket, lists: &Arrangement, left: &mut Numbers)
     ensures { left.new.items ≡ down bracket.now lists.now }
 {
     left.clear();
@@ -48,12 +48,18 @@ fn put_left_over(bracket: &Bracket, lists: &Cursor, left: &mut Numbers)
     }
 }
 
-/// What was found last: an arrangement, those whom it leaves over, and whether it is still to be asked if they may be left over.
+/// A bracket and the rule that says who may be left over in it.
 #[derive(Drop)]
-struct Drawn {
-    lists: Cursor,
-    down: Numbers,
-    is_ready: bool,
+struct Leave<'a, R> {
+    bracket: &'a Bracket,
+    rule: &'a R,
+}
+
+/// Where arrangements are drawn: from a level, but first the one that was drawn before and is still to be asked about.
+#[derive(Drop)]
+struct Drawing<L> {
+    kept: Held,
+    level: L,
 }
 
 /// Whether these may be left over (C.04.3 C.2): `Found` if they may, `End` if not. In a bracket that leaves at most one, the one
@@ -96,61 +102,59 @@ fn leaves_too_many(bracket: &Bracket, shape: Shape) -> bool
 
 /// Draws the next arrangement: the one that is kept, or else the level's next.
 fn draw_listed<L: Arranges, C: Cuts>(
-    drawn: &mut Drawn,
-    level: &mut L,
+    drawing: &mut Drawing<L>,
     cuts: &C,
     room: &mut C::Room,
+    lists: &mut Arrangement,
     budget: &mut Budget,
 ) -> Step<()>
     requires { budget.old.used ≤ budget.old.limit }
     ensures answer { MatchStep result
-        (λ _. Passes (C.Idle cuts.now) (listed (only_if drawn.old.is_ready drawn.old.lists) ++ L.coming level.old) (drawn.new.lists ∷ L.coming level.new))
-        (Passes (C.Idle cuts.now) (listed (only_if drawn.old.is_ready drawn.old.lists) ++ L.coming level.old) [])
-        (Passes (C.Idle cuts.now) (listed (only_if drawn.old.is_ready drawn.old.lists) ++ L.coming level.old) (L.coming level.new) × (budget.new.used ≡ budget.new.limit)) }
-    ensures taken { drawn.new.is_ready ≡ false }
+        (λ _. Passes (C.Idle cuts.now) (listed drawing.old.kept ++ L.coming drawing.old.level) (lists.new ∷ L.coming drawing.new.level))
+        (Passes (C.Idle cuts.now) (listed drawing.old.kept ++ L.coming drawing.old.level) [])
+        (Passes (C.Idle cuts.now) (listed drawing.old.kept ++ L.coming drawing.old.level) (L.coming drawing.new.level) × (budget.new.used ≡ budget.new.limit)) }
+    ensures taken { drawing.new.kept ≡ None }
     ensures spends { Spends budget.old budget.new }
 {
-    if drawn.is_ready {
-        drawn.is_ready = false;
+    if drawing.kept.take(lists) {
         return Step::Found(());
     }
-    level.next(cuts, room, &mut drawn.lists, budget)
+    drawing.level.next(cuts, room, lists, budget)
 }
 
 /// Draws the next arrangement that leaves over whom its bracket may leave, where those may be skipped of which `cuts` tells.
 fn draw_legal<R: Rule, L: Arranges, C: Cuts>(
-    bracket: &Bracket,
-    rule: &R,
-    drawn: &mut Drawn,
-    level: &mut L,
+    leave: &Leave<'_, R>,
+    drawing: &mut Drawing<L>,
     cuts: &C,
     room: &mut C::Room,
+    candidate: &mut Candidate,
     budget: &mut Budget,
 ) -> Step<()>
     requires { budget.old.used ≤ budget.old.limit }
     ensures answer { MatchStep result
         (λ _. Passes (C.Idle cuts.now)
-        (filter (may_leave (R.may_be_left rule.now) bracket.now) (listed (only_if drawn.old.is_ready drawn.old.lists) ++ L.coming level.old))
-        (drawn.new.lists ∷ filter (may_leave (R.may_be_left rule.now) bracket.now) (listed (only_if drawn.new.is_ready drawn.new.lists) ++ L.coming level.new))
-        × (drawn.new.down.items ≡ down bracket.now drawn.new.lists))
-        (Passes (C.Idle cuts.now) (filter (may_leave (R.may_be_left rule.now) bracket.now) (listed (only_if drawn.old.is_ready drawn.old.lists) ++ L.coming level.old)) [])
+        (filter (may_leave (R.may_be_left leave.now.rule.now) leave.now.bracket.now) (listed drawing.old.kept ++ L.coming drawing.old.level))
+        (candidate.new.lists ∷ filter (may_leave (R.may_be_left leave.now.rule.now) leave.now.bracket.now) (listed drawing.new.kept ++ L.coming drawing.new.level))
+        × (candidate.new.down ≡ down leave.now.bracket.now candidate.new.lists))
+        (Passes (C.Idle cuts.now) (filter (may_leave (R.may_be_left leave.now.rule.now) leave.now.bracket.now) (listed drawing.old.kept ++ L.coming drawing.old.level)) [])
         (Passes (C.Idle cuts.now)
-        (filter (may_leave (R.may_be_left rule.now) bracket.now) (listed (only_if drawn.old.is_ready drawn.old.lists) ++ L.coming level.old))
-        (filter (may_leave (R.may_be_left rule.now) bracket.now) (listed (only_if drawn.new.is_ready drawn.new.lists) ++ L.coming level.new))
+        (filter (may_leave (R.may_be_left leave.now.rule.now) leave.now.bracket.now) (listed drawing.old.kept ++ L.coming drawing.old.level))
+        (filter (may_leave (R.may_be_left leave.now.rule.now) leave.now.bracket.now) (listed drawing.new.kept ++ L.coming drawing.new.level))
         × (budget.new.used ≡ budget.new.limit)) }
     ensures spends { Spends budget.old budget.new }
 {
     loop {
-        match draw_listed(drawn, level, cuts, room, budget) {
+        match draw_listed(drawing, cuts, room, &mut candidate.lists, budget) {
             Step::Found(()) => {}
             Step::End => return Step::End,
             Step::Undecided => return Step::Undecided,
         }
-        put_left_over(bracket, &drawn.lists, &mut drawn.down);
-        match ask_leave(rule, bracket.is_last(), &drawn.down, budget) {
+        put_left_over(leave.bracket, &candidate.lists, &mut candidate.down);
+        match ask_leave(leave.rule, leave.bracket.is_last(), &candidate.down, budget) {
             Step::Found(()) => return Step::Found(()),
             Step::Undecided => {
-                drawn.is_ready = true;
+                drawing.kept.hold(&candidate.lists);
                 return Step::Undecided;
             }
             Step::End => {}
@@ -163,18 +167,15 @@ fn draw_legal<R: Rule, L: Arranges, C: Cuts>(
 /// for C.2. It takes no memory.
 #[derive(Drop)]
 pub struct Candidates<'a, R: Rule> {
-    bracket: &'a Bracket,
     shape: Shape,
-    rule: &'a R,
+    leave: Leave<'a, R>,
     // nothing can be legal, which is known without a step
     hopeless: bool,
     // `End` was answered
     ended: bool,
-    level: Level<ByS1<'a, R>>,
-    drawn: Drawn,
-    // whether there is a latest arrangement, and which it is
-    has_latest: bool,
-    latest: Cursor,
+    drawing: Drawing<Level<ByS1<'a, R>>>,
+    // what was handed out last, or else where the listing began
+    latest: Held,
 }
 
 impl<'a, R: Rule> Model for Candidates<'a, R> {
@@ -188,19 +189,19 @@ impl<'a, R: Rule> Model for Candidates<'a, R> {
     ghost Value = { Listing R };
 
     ghost view = { λ l. record {
-      frame = l.bracket.now;
+      frame = l.leave.bracket.now;
       shape = l.shape;
-      rule = l.rule.now;
-      coming = still_coming l.ended (filter (may_leave (R.may_be_left l.rule.now) l.bracket.now) (listed (only_if l.drawn.is_ready l.drawn.lists) ++ l.level));
-      latest = only_if l.has_latest l.latest;
+      rule = l.leave.rule.now;
+      coming = still_coming l.ended (filter (may_leave (R.may_be_left l.leave.rule.now) l.leave.bracket.now) (listed l.drawing.kept ++ l.drawing.level));
+      latest = l.latest;
       ended = l.ended;
     } };
 
     ghost invariant = { λ l.
-        (l.hopeless ≡ (l.bracket.now.last && nat_lt 1 (length l.bracket.now.scores - 2 * l.shape.pairs)))
-        × (l.hopeless ≡ true → filter (may_leave (R.may_be_left l.rule.now) l.bracket.now) (listed (only_if l.drawn.is_ready l.drawn.lists) ++ l.level) ≡ [])
-        × AllByRecursion (λ a. IsIn a (candidates (R.meets l.rule.now) (R.may_be_left l.rule.now) l.bracket.now l.shape))
-        (still_coming l.ended (filter (may_leave (R.may_be_left l.rule.now) l.bracket.now) (listed (only_if l.drawn.is_ready l.drawn.lists) ++ l.level))) };
+        (l.hopeless ≡ (l.leave.bracket.now.last && nat_lt 1 (length l.leave.bracket.now.scores - 2 * l.shape.pairs)))
+        × (l.hopeless ≡ true → filter (may_leave (R.may_be_left l.leave.rule.now) l.leave.bracket.now) (listed l.drawing.kept ++ l.drawing.level) ≡ [])
+        × AllByRecursion (λ a. IsIn a (candidates (R.meets l.leave.rule.now) (R.may_be_left l.leave.rule.now) l.leave.bracket.now l.shape))
+        (still_coming l.ended (filter (may_leave (R.may_be_left l.leave.rule.now) l.leave.bracket.now) (listed l.drawing.kept ++ l.drawing.level))) };
 }
 
 impl<'a, R: Rule> Candidates<'a, R> {
@@ -223,19 +224,15 @@ impl<'a, R: Rule> Candidates<'a, R> {
             rule,
         );
         Candidates {
-            bracket,
             shape,
-            rule,
+            leave: Leave { bracket, rule },
             hopeless: leaves_too_many(bracket, shape),
             ended: false,
-            level: Level::new(blocks),
-            drawn: Drawn {
-                lists: Cursor::none(),
-                down: ArrayVec::new(),
-                is_ready: false,
+            drawing: Drawing {
+                kept: Held::none(),
+                level: Level::new(blocks),
             },
-            has_latest: false,
-            latest: Cursor::none(),
+            latest: Held::none(),
         }
     }
 
@@ -256,7 +253,8 @@ impl<'a, R: Rule> Candidates<'a, R> {
         ensures latest { result.latest ≡ Some cursor }
     {
         let mdps = bracket.mdps();
-        let latest = cursor.copy();
+        let mut latest = Held::none();
+        latest.hold(&cursor.lists);
         let blocks = ByS1::from(
             shape.pairs - shape.mdps,
             &bracket.scores()[..mdps],
@@ -266,18 +264,14 @@ impl<'a, R: Rule> Candidates<'a, R> {
             rule,
         );
         Candidates {
-            bracket,
             shape,
-            rule,
+            leave: Leave { bracket, rule },
             hopeless: leaves_too_many(bracket, shape),
             ended: false,
-            level: Level::new(blocks),
-            drawn: Drawn {
-                lists: Cursor::none(),
-                down: ArrayVec::new(),
-                is_ready: false,
+            drawing: Drawing {
+                kept: Held::none(),
+                level: Level::new(blocks),
             },
-            has_latest: true,
             latest,
         }
     }
@@ -287,11 +281,13 @@ impl<'a, R: Rule> Candidates<'a, R> {
         &mut self,
         cuts: &C,
         room: &mut C::Room,
+        candidate: &mut Candidate,
         budget: &mut Budget,
-    ) -> Step<Candidate>
+    ) -> Step<()>
         requires { budget.old.used ≤ budget.old.limit }
         ensures answer { MatchStep result
-            (λ c. Passes (C.Idle cuts.now) self.old.coming (c.lists ∷ self.new.coming) × (c.down ≡ down self.old.frame c.lists) × (self.new.latest ≡ Some c.lists))
+            (λ _. Passes (C.Idle cuts.now) self.old.coming (candidate.new.lists ∷ self.new.coming)
+            × (candidate.new.down ≡ down self.old.frame candidate.new.lists) × (self.new.latest ≡ Some candidate.new.lists))
             (Passes (C.Idle cuts.now) self.old.coming [] × (self.new.coming ≡ []) × (self.new.latest ≡ self.old.latest))
             (Passes (C.Idle cuts.now) self.old.coming self.new.coming × (self.new.latest ≡ self.old.latest) × (budget.new.used ≡ budget.new.limit)) }
         ensures candidates { AllByRecursion (λ a. IsIn a (candidates (R.meets self.old.rule) (R.may_be_left self.old.rule) self.old.frame self.old.shape)) self.old.coming }
@@ -312,18 +308,16 @@ impl<'a, R: Rule> Candidates<'a, R> {
             return Step::End;
         }
         match draw_legal(
-            self.bracket,
-            self.rule,
-            &mut self.drawn,
-            &mut self.level,
+            &self.leave,
+            &mut self.drawing,
             cuts,
             room,
+            candidate,
             budget,
         ) {
             Step::Found(()) => {
-                self.has_latest = true;
-                self.latest.fill(&self.drawn.lists);
-                Step::Found(Candidate::new(&self.drawn.lists, &self.drawn.down))
+                self.latest.hold(&candidate.lists);
+                Step::Found(())
             }
             Step::End => {
                 self.ended = true;
@@ -352,15 +346,54 @@ impl<'a, R: Rule> Candidates<'a, R> {
         ensures rule { self.new.rule ≡ self.old.rule }
         ensures spends { Spends budget.old budget.new }
     {
-        self.go_on(&NoCuts, &mut (), budget)
+        let mut candidate = Candidate::empty();
+        match self.go_on(&NoCuts, &mut (), &mut candidate, budget) {
+            Step::Found(()) => Step::Found(candidate),
+            Step::End => Step::End,
+            Step::Undecided => Step::Undecided,
+        }
     }
 
-    /// The next candidate, where those may be left out of which the bound knows that they are without interest. It is asked about
+    /// Fills `candidate` with the next one, where those may be left out of which the bound knows that they are without interest. It is asked about
     /// beginnings of arrangements, which takes no step: about the empty one at each call, and about others while a list is filled.
-    /// `Found` gives a candidate before which all that were to come are without interest, and those behind it are still to come.
+    /// `Found` says that it has one before which all that were to come are without interest, and those behind it are still to come.
     /// `End` is answered where all that were to come are without interest, and then none is to come. After `Undecided`, where the
     /// budget is used up first, a part of what was to come is without interest and the rest is still to come. After `End` every
     /// further call answers `End` without a step.
+    pub fn put_next_within<B: Bound>(
+        &mut self,
+        bound: &B,
+        room: &mut B::Room,
+        candidate: &mut Candidate,
+        budget: &mut Budget,
+    ) -> Step<()>
+        requires frame { B.frame bound.now ≡ self.old.frame }
+        requires shape { B.shape bound.now ≡ self.old.shape }
+        requires meets { B.meets bound.now ≡ R.meets self.old.rule }
+        requires may_be_left { B.may_be_left bound.now ≡ R.may_be_left self.old.rule }
+        requires within { budget.old.used ≤ budget.old.limit }
+        ensures answer { MatchStep result
+            (λ _. Passes (λ a. B.is_dull bound.now a ≡ true) self.old.coming (candidate.new.lists ∷ self.new.coming)
+            × (candidate.new.down ≡ down self.old.frame candidate.new.lists) × (self.new.latest ≡ Some candidate.new.lists))
+            (Passes (λ a. B.is_dull bound.now a ≡ true) self.old.coming [] × (self.new.coming ≡ []) × (self.new.latest ≡ self.old.latest))
+            (Passes (λ a. B.is_dull bound.now a ≡ true) self.old.coming self.new.coming × (self.new.latest ≡ self.old.latest) × (budget.new.used ≡ budget.new.limit)) }
+        ensures hopeless { (self.old.frame.last && nat_lt 1 (length self.old.frame.scores - 2 * self.old.shape.pairs)) ≡ true
+            → MatchStep result (λ _. ⊥) (budget.new.used ≡ budget.old.used) ⊥ }
+        ensures ended { MatchStep result (λ _. self.new.ended ≡ self.old.ended) (self.new.ended ≡ true) (self.new.ended ≡ self.old.ended) }
+        ensures after_end { self.old.ended ≡ true → MatchStep result (λ _. ⊥) (budget.new.used ≡ budget.old.used) ⊥ }
+        ensures frame { self.new.frame ≡ self.old.frame }
+        ensures shape { self.new.shape ≡ self.old.shape }
+        ensures rule { self.new.rule ≡ self.old.rule }
+        ensures spends { Spends budget.old budget.new }
+    {
+        match self.go_on(&Within { bound }, room, candidate, budget) {
+            Step::Found(()) => Step::Found(()),
+            Step::End => Step::End,
+            Step::Undecided => Step::Undecided,
+        }
+    }
+
+    /// The next candidate, as `put_next_within` finds it.
     pub fn next_within<B: Bound>(
         &mut self,
         bound: &B,
@@ -385,17 +418,18 @@ impl<'a, R: Rule> Candidates<'a, R> {
         ensures rule { self.new.rule ≡ self.old.rule }
         ensures spends { Spends budget.old budget.new }
     {
-        self.go_on(&Within { bound }, room, budget)
+        let mut candidate = Candidate::empty();
+        match self.put_next_within(bound, room, &mut candidate, budget) {
+            Step::Found(()) => Step::Found(candidate),
+            Step::End => Step::End,
+            Step::Undecided => Step::Undecided,
+        }
     }
 
     /// The candidate handed out last, or the one behind which the listing began: a later listing can go on behind it.
     pub fn cursor(&self) -> Option<Cursor>
         ensures { result ≡ self.now.latest }
     {
-        if self.has_latest {
-            Some(self.latest.copy())
-        } else {
-            None
-        }
+        self.latest.cursor()
     }
 }

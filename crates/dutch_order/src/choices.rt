@@ -12,6 +12,7 @@ ghost use Rattle.dutch_order.specs.Steps.{MatchStep, Passes, Spends};
 ghost use Rattle.dutch_order.specs.Limbo.{IsNonAscending, limbo_exchanges};
 ghost use Rattle.dutch_order.specs.Transposition.{all_tuples, transpositions};
 
+use crate::arrangement::Arrangement;
 use crate::cursor::Cursor;
 use crate::cuts::{Cuts, CutsTuples, OfS2, OfS2r};
 use crate::exchange::Exchanges;
@@ -84,7 +85,7 @@ impl<'a, R: Rule> ByS2r<'a, R> {
         ensures { result ≡ behind_s2r (R.meets rule.now) s1.now s2.now remainder.now cursor s1r.items }
     {
         let pool = left_of(remainder, &s1r);
-        let lists = Transpositions::from(&s1r, &pool, rule, &cursor.s2r);
+        let lists = Transpositions::from(&s1r, &pool, rule, &cursor.lists.s2r);
         ByS2r {
             s1: copied(s1),
             s2: copied(s2),
@@ -119,7 +120,7 @@ fn put_next_other<R: Rule, C: CutsTuples>(
         Step::End => return Step::End,
         Step::Undecided => return Step::Undecided,
     }
-    let is_own = is_same(numbers, &cursor.s2r);
+    let is_own = is_same(numbers, &cursor.lists.s2r);
     *resume = None;
     if !is_own {
         return Step::Found(());
@@ -134,7 +135,7 @@ impl<'a, R: Rule> Arranges for ByS2r<'a, R> {
         &mut self,
         cuts: &C,
         room: &mut C::Room,
-        lists: &mut Cursor,
+        lists: &mut Arrangement,
         budget: &mut Budget,
     ) -> Step<()> {
         let tuples = OfS2r {
@@ -226,7 +227,7 @@ impl<'a, R: Rule> ByS1r<'a, R> {
             (from_on cursor.s1r (exchanges (left_of residents.now s2.items) k)) }
     {
         let remainder = left_of(residents, &s2);
-        let sets = Exchanges::from(&remainder, k, &cursor.s1r);
+        let sets = Exchanges::from(&remainder, k, &cursor.lists.s1r);
         ByS1r {
             s1: copied(s1),
             s2,
@@ -262,7 +263,7 @@ impl<'a, R: Rule> Blocks for ByS1r<'a, R> {
         match self.sets.next(budget) {
             Step::Found(s1r) => {
                 if let Some(cursor) = self.resume.take() {
-                    if is_same(&s1r, &cursor.s1r) {
+                    if is_same(&s1r, &cursor.lists.s1r) {
                         return Step::Found(ByS2r::from(
                             &self.s1,
                             &self.s2,
@@ -339,7 +340,7 @@ impl<'a, R: Rule> ByS2<'a, R> {
         ensures { result ≡ s2_blocks (R.meets rule.now) (Some cursor) k s1.items residents.now
             (filter (all_meet (R.meets rule.now) s1.items) (from_on cursor.s2 (all_tuples residents.now (length s1.items)))) }
     {
-        let lists = Transpositions::from(&s1, residents, rule, &cursor.s2);
+        let lists = Transpositions::from(&s1, residents, rule, &cursor.lists.s2);
         ByS2 {
             k,
             s1,
@@ -386,7 +387,7 @@ impl<'a, R: Rule> Blocks for ByS2<'a, R> {
                 return Step::Undecided;
             }
         };
-        if is_same(&s2, &cursor.s2) {
+        if is_same(&s2, &cursor.lists.s2) {
             return Step::Found(Level::new(ByS1r::from(
                 self.k,
                 &self.s1,
@@ -474,7 +475,7 @@ impl<'a, R: Rule> ByS1<'a, R> {
         ByS1 {
             k,
             residents,
-            sets: LimboExchanges::from(scores, mdps, &cursor.s1),
+            sets: LimboExchanges::from(scores, mdps, &cursor.lists.s1),
             rule,
             resume: Some(cursor),
         }
@@ -495,7 +496,7 @@ impl<'a, R: Rule> Blocks for ByS1<'a, R> {
         match self.sets.next(budget) {
             Step::Found(s1) => {
                 if let Some(cursor) = self.resume.take() {
-                    if is_same(&s1, &cursor.s1) {
+                    if is_same(&s1, &cursor.lists.s1) {
                         return Step::Found(Level::new(ByS2::from(
                             self.k,
                             &self.residents,

@@ -7,9 +7,10 @@ ghost use Rattle.dutch_order.specs.Cursors.{list_text, cursor_text, parts, is_nu
 ghost use Rattle.dutch_order.specs.CursorLists.{IsLong, is_short};
 ghost use Rattle.arrayvec.specs.ArrayString.{array_string_len};
 
+use crate::arrangement::Arrangement;
 use crate::bracket::{Bracket, Shape};
-use crate::numbers::{LIMIT, Numbers, copied, fill, left_of};
-use arrayvec::{ArrayString, ArrayVec};
+use crate::numbers::{LIMIT, Numbers, left_of};
+use arrayvec::ArrayString;
 use itoa::Buffer;
 use std::marker::Model;
 use thiserror::Error;
@@ -17,10 +18,7 @@ use thiserror::Error;
 /// A cursor: an arrangement of a bracket, legal or not (C.04.3 B.2), from which the candidates behind it can be asked for.
 #[derive(Debug, Drop)]
 pub struct Cursor {
-    pub(crate) s1: Numbers,
-    pub(crate) s2: Numbers,
-    pub(crate) s1r: Numbers,
-    pub(crate) s2r: Numbers,
+    pub(crate) lists: Arrangement,
 }
 
 impl Model for Cursor {
@@ -28,7 +26,7 @@ impl Model for Cursor {
 
     ghost Value = { Arrangement };
 
-    ghost view = { λ c. record { s1 = c.s1.items; s2 = c.s2.items; s1r = c.s1r.items; s2r = c.s2r.items } };
+    ghost view = { λ c. c.lists };
 }
 
 /// Why a text is no cursor of a bracket and shape.
@@ -217,7 +215,7 @@ fn list_in(text: &[u8]) -> Option<Numbers>
 }
 
 // The arrangement that four parts are, where they are one and there is room for it.
-fn arrangement_in(lists: &Lists<'_>) -> Option<Cursor>
+fn arrangement_in(lists: &Lists<'_>) -> Option<Arrangement>
     ensures { MatchOption result
         (IfSome (arrangement_of (lists.now.s1.now ∷ lists.now.s2.now ∷ lists.now.s1r.now ∷ lists.now.s2r.now ∷ [])) (λ a. is_short a ≡ false))
         (λ x. arrangement_of (lists.now.s1.now ∷ lists.now.s2.now ∷ lists.now.s1r.now ∷ lists.now.s2r.now ∷ []) ≡ Some x) }
@@ -226,7 +224,7 @@ fn arrangement_in(lists: &Lists<'_>) -> Option<Cursor>
     let s2 = list_in(lists.s2)?;
     let s1r = list_in(lists.s1r)?;
     let s2r = list_in(lists.s2r)?;
-    Some(Cursor { s1, s2, s1r, s2r })
+    Some(Arrangement { s1, s2, s1r, s2r })
 }
 
 fn are_of(pool: &[u16], numbers: &[u16]) -> bool
@@ -314,35 +312,12 @@ fn push_list(text: &mut CursorText, numbers: &[u16])
 }
 
 impl Cursor {
-    /// An arrangement of nobody.
-    pub(crate) fn none() -> Cursor {
-        Cursor {
-            s1: ArrayVec::new(),
-            s2: ArrayVec::new(),
-            s1r: ArrayVec::new(),
-            s2r: ArrayVec::new(),
-        }
-    }
-
-    /// Becomes another arrangement.
-    pub(crate) fn fill(&mut self, lists: &Cursor)
-        ensures { self.new ≡ lists.now }
-    {
-        fill(&mut self.s1, &lists.s1);
-        fill(&mut self.s2, &lists.s2);
-        fill(&mut self.s1r, &lists.s1r);
-        fill(&mut self.s2r, &lists.s2r);
-    }
-
-    /// The same arrangement once more.
+    /// The same cursor once more.
     pub fn copy(&self) -> Cursor
         ensures { result ≡ self.now }
     {
         Cursor {
-            s1: copied(&self.s1),
-            s2: copied(&self.s2),
-            s1r: copied(&self.s1r),
-            s2r: copied(&self.s2r),
+            lists: self.lists.copy(),
         }
     }
 
@@ -360,11 +335,15 @@ impl Cursor {
         ensures { result ≡ (is_set_of (left_of residents.now self.now.s2) pairs self.now.s1r
             && is_tuple_of (left_of (left_of residents.now self.now.s2) self.now.s1r) pairs self.now.s2r) }
     {
-        let remainder = left_of(residents, &self.s2);
-        if !is_set_of(&remainder, pairs, &self.s1r) {
+        let remainder = left_of(residents, &self.lists.s2);
+        if !is_set_of(&remainder, pairs, &self.lists.s1r) {
             return false;
         }
-        is_tuple_of(&left_of(&remainder, &self.s1r), pairs, &self.s2r)
+        is_tuple_of(
+            &left_of(&remainder, &self.lists.s1r),
+            pairs,
+            &self.lists.s2r,
+        )
     }
 
     // Whether it is an arrangement of the shape, of such players.
@@ -372,8 +351,8 @@ impl Cursor {
         requires few { length residents.now ≤ LIMIT }
         ensures { result ≡ is_among moved_down.now residents.now shape self.now }
     {
-        is_set_of(moved_down, shape.mdps, &self.s1)
-            && is_tuple_of(residents, shape.mdps, &self.s2)
+        is_set_of(moved_down, shape.mdps, &self.lists.s1)
+            && is_tuple_of(residents, shape.mdps, &self.lists.s2)
             && self.has_remainder(residents, shape.pairs.saturating_sub(shape.mdps))
     }
 
@@ -388,9 +367,10 @@ impl Cursor {
         };
         let moved_down = bracket.moved_down();
         let residents = bracket.residents();
-        let Some(cursor) = arrangement_in(&lists) else {
+        let Some(lists) = arrangement_in(&lists) else {
             return Err(CursorFault::NotOfBracket);
         };
+        let cursor = Cursor { lists };
         if !cursor.is_among(&moved_down, &residents, shape) {
             return Err(CursorFault::NotOfBracket);
         }
@@ -402,13 +382,13 @@ impl Cursor {
         ensures { result.bytes ≡ cursor_text self.now }
     {
         let mut text = ArrayString::new();
-        push_list(&mut text, &self.s1);
+        push_list(&mut text, &self.lists.s1);
         text.push_str("/");
-        push_list(&mut text, &self.s2);
+        push_list(&mut text, &self.lists.s2);
         text.push_str("/");
-        push_list(&mut text, &self.s1r);
+        push_list(&mut text, &self.lists.s1r);
         text.push_str("/");
-        push_list(&mut text, &self.s2r);
+        push_list(&mut text, &self.lists.s2r);
         text
     }
 }

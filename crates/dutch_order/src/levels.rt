@@ -9,7 +9,7 @@ ghost use Rattle.dutch_order.specs.Arrangements.{Arrangement};
 ghost use Rattle.dutch_order.specs.Levels.{joined, within};
 ghost use Rattle.dutch_order.specs.Steps.{MatchStep, Passes, Spends};
 
-use crate::cursor::Cursor;
+use crate::arrangement::Arrangement;
 use crate::cuts::Cuts;
 use crate::steps::{Budget, Step};
 use std::marker::Model;
@@ -25,7 +25,7 @@ pub trait Arranges {
         &mut self,
         cuts: &C,
         room: &mut C::Room,
-        lists: &mut Cursor,
+        lists: &mut Arrangement,
         budget: &mut Budget,
     ) -> Step<()>
         requires { budget.old.used ≤ budget.old.limit }
@@ -92,7 +92,7 @@ fn draw<T: Arranges, C: Cuts>(
     block: &mut Option<T>,
     cuts: &C,
     room: &mut C::Room,
-    lists: &mut Cursor,
+    lists: &mut Arrangement,
     budget: &mut Budget,
 ) -> Step<()>
     requires { budget.old.used ≤ budget.old.limit }
@@ -144,7 +144,7 @@ impl<B: Blocks> Arranges for Level<B> {
         &mut self,
         cuts: &C,
         room: &mut C::Room,
-        lists: &mut Cursor,
+        lists: &mut Arrangement,
         budget: &mut Budget,
     ) -> Step<()> {
         loop {

@@ -1,6 +1,7 @@
 // Arrangements of numbers in the order of the Handbook's article D, specified by lists that are sorted by a key.
 #![tactic(auto)]
 
+mod arrangement;
 pub mod arrangement_laws;
 pub mod bound;
 pub mod bracket;

@@ -1,10 +1,11 @@
-use Rattle.std.proofs.Common.{◌≡◌, ◌∙◌, ap, sym, subst, arith, length, take, ◌-◌, ◌+◌, ◌*◌, nat_lt}
+use Rattle.std.proofs.Common.{◌≡◌, ◌∙◌, ◌++◌, filter, ap, sym, subst, arith, length, take, ◌-◌, ◌+◌, ◌*◌, nat_lt}
 use Rattle.std.specs.List.{AllByRecursion}
 use Rattle.std.proofs.lemmas.Bool.{and_parts, ltb-true}
 use Rattle.dutch_order.specs.Choices.{subsets, numbers_from}
 use Rattle.dutch_order.specs.Keys.{IsIn}
 use Rattle.dutch_order.specs.Arrangements.{candidates, remainder_pairs, rest}
-use Rattle.dutch_order.specs.Levels.{HasS2}
+use Rattle.dutch_order.specs.Levels.{HasS2, may_leave}
+use Rattle.dutch_order.specs.Listings.{listed}
 use Rattle.dutch_order.proofs.Members.{length-numbers}
 use Rattle.dutch_order.proofs.Behind.{stands, has-s1, has-s2, levels-behind, none-behind, rest-in}
 use Rattle.dutch_order.proofs.Skipping.{all-members}
@@ -34,7 +35,8 @@ from-blocks-requires-clause-given g c =
 pub returns-clause-coming : goal.returns-clause-coming
 returns-clause-coming g c =
     let frame = c.args.bracket.now in
-    levels-behind frame c.args.shape (g.R.Rule.meets c.args.rule.now) c.args.cursor (stands frame c.args.shape c.args.cursor c.requires.given) (g.R.Rule.may_be_left c.args.rule.now)
+    ap (λ kept. filter (may_leave (g.R.Rule.may_be_left c.args.rule.now) frame) (listed kept ++ c.new.result)) c.none.ensures
+    ∙ levels-behind frame c.args.shape (g.R.Rule.meets c.args.rule.now) c.args.cursor (stands frame c.args.shape c.args.cursor c.requires.given) (g.R.Rule.may_be_left c.args.rule.now)
     c.mdps-mdps.result c.scores.result.now c.residents.result.items c.from-blocks.result c.new.result
     c.new.ensures c.from-blocks.ensures c.residents.ensures.items c.mdps-mdps.ensures c.scores.ensures.scores
 
@@ -45,16 +47,17 @@ invariant_of-result g c =
     let may_be_left = g.R.Rule.may_be_left c.args.rule.now in
     let own = rest meets may_be_left frame c.args.shape c.args.cursor in
     let all = candidates meets may_be_left frame c.args.shape in
-    let listed =
-    levels-behind frame c.args.shape meets c.args.cursor (stands frame c.args.shape c.args.cursor c.requires.given) may_be_left
+    let coming =
+    ap (λ kept. filter (may_leave may_be_left frame) (listed kept ++ c.new.result)) c.none.ensures
+    ∙ levels-behind frame c.args.shape meets c.args.cursor (stands frame c.args.shape c.args.cursor c.requires.given) may_be_left
     c.mdps-mdps.result c.scores.result.now c.residents.result.items c.from-blocks.result c.new.result
     c.new.ensures c.from-blocks.ensures c.residents.ensures.items c.mdps-mdps.ensures c.scores.ensures.scores in (
       c.leaves_too_many.ensures,
       λ hopeless.
           let many = and_parts frame.last (nat_lt 1 (length frame.scores - 2 * c.args.shape.pairs)) (sym c.leaves_too_many.ensures ∙ hopeless) in
-          listed
+          coming
           ∙ none-behind meets may_be_left frame c.args.shape c.args.cursor
           (none-legal frame c.args.shape meets may_be_left c.requires.fits many.0 (ltb-true 1 (length frame.scores - 2 * c.args.shape.pairs) many.1)),
-      subst (AllByRecursion (λ a. IsIn a all)) (sym listed)
+      subst (AllByRecursion (λ a. IsIn a all)) (sym coming)
           (all-members (λ a. IsIn a all) own (λ a m. rest-in meets may_be_left frame c.args.shape c.args.cursor a m)),
     )

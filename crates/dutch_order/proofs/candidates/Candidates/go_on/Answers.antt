@@ -4,7 +4,7 @@ use Rattle.std.proofs.lemmas.Bool.{true≢false}
 use Rattle.dutch_order.specs.Arrangements.{Arrangement, candidates}
 use Rattle.dutch_order.specs.Keys.{IsIn}
 use Rattle.dutch_order.specs.Levels.{may_leave}
-use Rattle.dutch_order.specs.Listings.{Listing, listed, only_if, still_coming}
+use Rattle.dutch_order.specs.Listings.{Listing, listed, still_coming}
 use Rattle.dutch_order.specs.Prefixes.{BeginsAt}
 use Rattle.dutch_order.proofs.Skipping.{passes-none, passes-all, all-of, passes-keeps}
 use Rattle.dutch_order.proofs.candidates.Candidates.go_on.Goals as goal
@@ -14,7 +14,7 @@ pub returns-then-self-2-clause-answer : goal.returns-then-self-2-clause-answer
 returns-then-self-2-clause-answer g c =
     let own = c.self.inside in
     let Idle = g.C.Cuts.Idle c.args.cuts.now in
-    let before = filter (may_leave (g.R.Rule.may_be_left own.rule.now) own.bracket.now) (listed (only_if own.drawn.is_ready own.drawn.lists) ++ own.level) in
+    let before = filter (may_leave (g.R.Rule.may_be_left own.leave.rule.now) own.leave.bracket.now) (listed own.drawing.kept ++ own.drawing.level) in
     let coming : before ≡ c.args.self.now.coming =
     sym (ap (λ told. still_coming told before) c.if-self.false) ∙ ap (λ (l : Listing g.row.R.Denot). l.coming) c.self.view_is in (
       elim c.then-self-2.branch [
@@ -35,20 +35,13 @@ returns-then-self-2-clause-candidates g c =
     c.self.view_is
     c.self.invariant.2
 
-pub returns-in-End-clause-candidates : goal.returns-in-End-clause-candidates
-returns-in-End-clause-candidates g c =
-    subst
-    (λ (l : Listing g.row.R.Denot). AllByRecursion (λ a. IsIn a (candidates (g.R.Rule.meets l.rule) (g.R.Rule.may_be_left l.rule) l.frame l.shape)) l.coming)
-    c.self.view_is
-    c.self.invariant.2
-
 pub invariant_of-self-in-Found : goal.invariant_of-self-in-Found
 invariant_of-self-in-Found g c =
     let own = c.self.inside in
-    let may = may_leave (g.R.Rule.may_be_left own.rule.now) own.bracket.now in
-    let IsOne = λ (a : Arrangement). IsIn a (candidates (g.R.Rule.meets own.rule.now) (g.R.Rule.may_be_left own.rule.now) own.bracket.now own.shape) in
-    let before = filter may (listed (only_if own.drawn.is_ready own.drawn.lists) ++ own.level) in
-    let after = filter may (listed (only_if c.draw_legal.new.drawn.is_ready c.draw_legal.new.drawn.lists) ++ c.draw_legal.new.level) in
+    let may = may_leave (g.R.Rule.may_be_left own.leave.rule.now) own.leave.bracket.now in
+    let IsOne = λ (a : Arrangement). IsIn a (candidates (g.R.Rule.meets own.leave.rule.now) (g.R.Rule.may_be_left own.leave.rule.now) own.leave.bracket.now own.shape) in
+    let before = filter may (listed own.drawing.kept ++ own.drawing.level) in
+    let after = filter may (listed c.draw_legal.new.drawing.kept ++ c.draw_legal.new.drawing.level) in
     let all = subst (λ told. AllByRecursion IsOne (still_coming told before)) c.if-self.false c.self.invariant.2 in (
       c.self.invariant.0,
       λ hopeless. absurd (true≢false (sym hopeless ∙ c.if-self-2.false)),
@@ -59,10 +52,10 @@ invariant_of-self-in-Found g c =
 pub invariant_of-self-in-Undecided : goal.invariant_of-self-in-Undecided
 invariant_of-self-in-Undecided g c =
     let own = c.self.inside in
-    let may = may_leave (g.R.Rule.may_be_left own.rule.now) own.bracket.now in
-    let IsOne = λ (a : Arrangement). IsIn a (candidates (g.R.Rule.meets own.rule.now) (g.R.Rule.may_be_left own.rule.now) own.bracket.now own.shape) in
-    let before = filter may (listed (only_if own.drawn.is_ready own.drawn.lists) ++ own.level) in
-    let after = filter may (listed (only_if c.draw_legal.new.drawn.is_ready c.draw_legal.new.drawn.lists) ++ c.draw_legal.new.level) in
+    let may = may_leave (g.R.Rule.may_be_left own.leave.rule.now) own.leave.bracket.now in
+    let IsOne = λ (a : Arrangement). IsIn a (candidates (g.R.Rule.meets own.leave.rule.now) (g.R.Rule.may_be_left own.leave.rule.now) own.leave.bracket.now own.shape) in
+    let before = filter may (listed own.drawing.kept ++ own.drawing.level) in
+    let after = filter may (listed c.draw_legal.new.drawing.kept ++ c.draw_legal.new.drawing.level) in
     let all = subst (λ told. AllByRecursion IsOne (still_coming told before)) c.if-self.false c.self.invariant.2 in (
       c.self.invariant.0,
       λ hopeless. absurd (true≢false (sym hopeless ∙ c.if-self-2.false)),

@@ -1,20 +1,15 @@
-use Rattle.std.proofs.Common.{◌≡◌, List, [], ◌∷◌, sym}
-use Rattle.dutch_order.specs.Arrangements.{Arrangement}
-use Rattle.dutch_order.specs.Draws.{Draw}
-use Rattle.dutch_order.specs.Steps.{MatchStep, Passes}
-use Rattle.dutch_order.specs.declared.steps.Step.{Step}
-use Rattle.dutch_order.specs.declared.steps.Step.TheVariants.{Found, End, Undecided}
+use Rattle.std.proofs.Common.{sym}
 use Rattle.dutch_order.proofs.Skipping.{none-passed}
 use Rattle.dutch_order.proofs.candidates.Candidates.next.Goals as goal
 
--- where nothing is idle, the first of those to come is handed out
-first-found : (answer : Step Draw) (before after : List Arrangement) (IsDown IsLatest : Draw → Type 0) (Same UsedUp : Type 0)
-    → MatchStep answer (λ c. Passes (λ _. ⊥) before (c.lists ∷ after) × IsDown c × IsLatest c) (Passes (λ _. ⊥) before [] × (after ≡ []) × Same) (Passes (λ _. ⊥) before after × Same × UsedUp)
-    → MatchStep answer (λ c. (before ≡ c.lists ∷ after) × IsDown c × IsLatest c) ((before ≡ []) × (after ≡ []) × Same) ((after ≡ before) × Same × UsedUp)
-first-found (Found c) before after IsDown IsLatest Same UsedUp told = (none-passed _ _ told.0, told.1, told.2)
-first-found End before after IsDown IsLatest Same UsedUp told = (none-passed _ _ told.0, told.1, told.2)
-first-found Undecided before after IsDown IsLatest Same UsedUp told = (sym (none-passed _ _ told.0), told.1, told.2)
+pub returns-in-Found-clause-answer : goal.returns-in-Found-clause-answer
+returns-in-Found-clause-answer g c =
+    (none-passed _ _ c.in-Found.ensures.answer.0, c.in-Found.ensures.answer.1, c.in-Found.ensures.answer.2)
 
-pub returns-clause-answer : goal.returns-clause-answer
-returns-clause-answer g c =
-    first-found c.go_on.result c.args.self.now.coming c.go_on.new.self.coming _ _ _ _ c.go_on.ensures.answer
+pub returns-in-End-clause-answer : goal.returns-in-End-clause-answer
+returns-in-End-clause-answer g c =
+    (none-passed _ _ c.in-End.ensures.answer.0, c.in-End.ensures.answer.1, c.in-End.ensures.answer.2)
+
+pub returns-in-Undecided-clause-answer : goal.returns-in-Undecided-clause-answer
+returns-in-Undecided-clause-answer g c =
+    (sym (none-passed _ _ c.in-Undecided.ensures.answer.0), c.in-Undecided.ensures.answer.1, c.in-Undecided.ensures.answer.2)

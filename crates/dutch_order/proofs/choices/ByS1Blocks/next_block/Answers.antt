@@ -4,6 +4,7 @@ use Rattle.dutch_order.specs.Choices.{is_same}
 use Rattle.dutch_order.specs.Levels.{joined, by_s2, s1_blocks, behind_s2}
 use Rattle.dutch_order.specs.Transposition.{transpositions}
 use Rattle.std.specs.List.{AllByRecursion}
+use Rattle.dutch_order.specs.contracts.cursor.Cursor.{the_view}
 use Rattle.dutch_order.proofs.Skipping.{passes-none}
 use Rattle.dutch_order.proofs.Blocks.{own-block, other-block, free-block}
 use Rattle.dutch_order.proofs.choices.ByS1Blocks.next_block.Goals as goal
@@ -14,8 +15,8 @@ returns-then-is_same-clause-answer g c =
     let own = c.self.inside in
     let meets = g.R.Rule.meets own.rule.now in
     let fresh : List ℕ → List Arrangement = λ s1. joined (by_s2 meets own.k s1 own.residents.items (transpositions meets s1 own.residents.items)) in
-    let at_s1 = ap (λ (a : Arrangement). a.s1) c.cursor.view_is in
-    let same : is_same c.in-Found.s1.items c.in-Some.cursor.s1 ≡ true = cc (at_s1, c.deref.ensures.0, c.deref-in-Some.ensures.0, c.is_same.ensures.same, c.if-is_same.true) in
+    let at_s1 = ap (λ i. (the_view i).s1) c.cursor-inside.view_is ∙ ap (λ (a : Arrangement). a.s1) c.cursor.view_is in
+    let same : is_same c.in-Found.s1.items c.in-Some.cursor.s1 ≡ true = ap (λ one. is_same one c.in-Some.cursor.s1) (sym c.deref.ensures.0) ∙ ap (is_same c.deref.result.now) (sym (c.deref-in-Some.ensures.0 ∙ at_s1)) ∙ sym c.is_same.ensures.same ∙ c.if-is_same.true in
     let made : c.new.result ≡ behind_s2 meets own.k own.residents.items c.in-Some.cursor c.in-Found.s1.items =
     c.new.ensures
     ∙ ap joined c.from.ensures
@@ -39,8 +40,8 @@ returns-after-take-clause-answer g c =
     let blocks : s1_blocks meets own.resume own.k own.residents.items own.sets.coming ≡ fresh c.in-Found.s1.items ∷ s1_blocks meets None own.k own.residents.items c.next.new.self.coming =
     elim c.match-take.branch [
       | in-Some+else-is_same w ↦
-          let at_s1 = ap (λ (a : Arrangement). a.s1) w.cursor.view_is in
-          let differs : is_same c.in-Found.s1.items w.in-Some.cursor.s1 ≡ false = cc (at_s1, w.deref.ensures.0, w.deref-in-Some.ensures.0, w.is_same.ensures.same, w.if-is_same.false) in
+          let at_s1 = ap (λ i. (the_view i).s1) w.cursor-inside.view_is ∙ ap (λ (a : Arrangement). a.s1) w.cursor.view_is in
+          let differs : is_same c.in-Found.s1.items w.in-Some.cursor.s1 ≡ false = ap (λ one. is_same one w.in-Some.cursor.s1) (sym w.deref.ensures.0) ∙ ap (is_same w.deref.result.now) (sym (w.deref-in-Some.ensures.0 ∙ at_s1)) ∙ sym w.is_same.ensures.same ∙ w.if-is_same.false in
           other-block (λ a. a.s1) (behind_s2 meets own.k own.residents.items) fresh
           own.resume w.in-Some.cursor c.in-Found.s1.items own.sets.coming c.next.new.self.coming (sym c.take.ensures.value ∙ w.in-Some.is) c.in-Found.ensures.answer differs
       | in_default w ↦

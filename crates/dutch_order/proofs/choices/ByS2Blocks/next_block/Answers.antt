@@ -5,6 +5,7 @@ use Rattle.dutch_order.specs.Choices.{is_same}
 use Rattle.dutch_order.specs.Exchange.{exchanges}
 use Rattle.dutch_order.specs.Levels.{HasS1r, Of, by_s1r, behind_s1r, joined, s2_blocks}
 use Rattle.dutch_order.proofs.Blocks.{passes-s2, other-block}
+use Rattle.dutch_order.specs.contracts.cursor.Cursor.{the_view}
 use Rattle.dutch_order.proofs.Skipping.{passes-none, passes-more, passes-keeps}
 use Rattle.dutch_order.proofs.choices.ByS2Blocks.next_block.Goals as goal
 
@@ -74,8 +75,8 @@ returns-clause-answer g c =
     let meets = g.R.Rule.meets own.rule.now in
     let s2 = c.in-Found-next.s2.items in
     let fresh : List ℕ → List Arrangement = λ s2. joined (by_s1r meets own.s1.items s2 (left_of own.residents.items s2) (exchanges (left_of own.residents.items s2) own.k)) in
-    let at_s2 = ap (λ (a : Arrangement). a.s2) c.cursor.view_is in
-    let differs : is_same s2 c.in-Some.cursor.s2 ≡ false = cc (at_s2, c.deref-2.ensures.0, c.deref-3.ensures.0, c.is_same.ensures.same, c.if-is_same.false) in
+    let at_s2 = ap (λ i. (the_view i).s2) c.cursor-inside.view_is ∙ ap (λ (a : Arrangement). a.s2) c.cursor.view_is in
+    let differs : is_same s2 c.in-Some.cursor.s2 ≡ false = ap (λ one. is_same one c.in-Some.cursor.s2) (sym c.deref-2.ensures.0) ∙ ap (is_same c.deref-2.result.now) (sym (c.deref-3.ensures.0 ∙ at_s2)) ∙ sym c.is_same.ensures.same ∙ c.if-is_same.false in
     let made : c.new-3.result ≡ fresh s2 =
     c.new-3.ensures
     ∙ ap joined c.new-2.ensures

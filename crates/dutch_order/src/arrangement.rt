@@ -1,0 +1,119 @@
+// An arrangement of a bracket, specified by its four lists of numbers.
+ghost use Rattle.std.specs.Prelude.{◌≡◌, ◌∷◌, [], Some, None, cond};
+ghost use Rattle.dutch_order.specs.Listings.{listed};
+
+use crate::cursor::Cursor;
+use crate::numbers::{Numbers, fill};
+use arrayvec::ArrayVec;
+use std::marker::Model;
+
+/// An arrangement, legal or not (C.04.3 B.2). Players are named by their numbers in the bracket.
+#[derive(Debug, Drop)]
+pub struct Arrangement {
+    pub s1: Numbers,
+    pub s2: Numbers,
+    pub s1r: Numbers,
+    pub s2r: Numbers,
+}
+
+impl Model for Arrangement {
+    ghost use Rattle.dutch_order.specs.Arrangements.{Arrangement};
+
+    ghost Value = { Arrangement };
+
+    ghost view = { λ a. record { s1 = a.s1.items; s2 = a.s2.items; s1r = a.s1r.items; s2r = a.s2r.items } };
+}
+
+impl Arrangement {
+    /// An arrangement of nobody.
+    pub fn empty() -> Arrangement {
+        Arrangement {
+            s1: ArrayVec::new(),
+            s2: ArrayVec::new(),
+            s1r: ArrayVec::new(),
+            s2r: ArrayVec::new(),
+        }
+    }
+
+    /// Becomes another arrangement.
+    pub fn fill(&mut self, other: &Arrangement)
+        ensures { self.new ≡ other.now }
+    {
+        fill(&mut self.s1, &other.s1);
+        fill(&mut self.s2, &other.s2);
+        fill(&mut self.s1r, &other.s1r);
+        fill(&mut self.s2r, &other.s2r);
+    }
+
+    /// The same arrangement once more.
+    pub fn copy(&self) -> Arrangement
+        ensures { result ≡ self.now }
+    {
+        let mut copy = Arrangement::empty();
+        copy.fill(self);
+        copy
+    }
+}
+
+/// A place that an arrangement may stand in.
+#[derive(Drop)]
+pub struct Held {
+    is_held: bool,
+    lists: Arrangement,
+}
+
+impl Model for Held {
+    ghost use Rattle.std.specs.Prelude.{Option};
+    ghost use Rattle.dutch_order.specs.Arrangements.{Arrangement};
+    ghost use Rattle.dutch_order.specs.Listings.{only_if};
+
+    ghost Value = { Option Arrangement };
+
+    ghost view = { λ h. only_if h.is_held h.lists };
+}
+
+impl Held {
+    /// An empty place.
+    pub fn none() -> Held
+        ensures { result ≡ None }
+    {
+        Held {
+            is_held: false,
+            lists: Arrangement::empty(),
+        }
+    }
+
+    /// Puts an arrangement there.
+    pub fn hold(&mut self, lists: &Arrangement)
+        ensures { self.new ≡ Some lists.now }
+    {
+        self.is_held = true;
+        self.lists.fill(lists);
+    }
+
+    /// Takes out what stands there, if anything does.
+    pub fn take(&mut self, lists: &mut Arrangement) -> bool
+        ensures taken { listed self.old ≡ cond result (lists.new ∷ []) [] }
+        ensures emptied { self.new ≡ None }
+    {
+        if !self.is_held {
+            return false;
+        }
+        lists.fill(&self.lists);
+        self.is_held = false;
+        true
+    }
+
+    /// What stands there, as a cursor.
+    pub fn cursor(&self) -> Option<Cursor>
+        ensures { result ≡ self.now }
+    {
+        if self.is_held {
+            Some(Cursor {
+                lists: self.lists.copy(),
+            })
+        } else {
+            None
+        }
+    }
+}
