@@ -1,10 +1,12 @@
 // The tables of arrangements, and the generators under limits that rise by one.
-ghost use Rattle.std.specs.Prelude.{◌≤◌};
+ghost use Rattle.std.specs.Prelude.{◌≤◌, length};
+ghost use Rattle.std.specs.List.Sorted.{IsStrictlyIncreasing};
+ghost use Rattle.dutch_order.specs.declared.numbers.TheConstants.{LIMIT};
 
 use crate::below::barred::{AMPLE, Barred, FREE, raised};
 use dutch_order::exchange::Exchanges;
 use dutch_order::limbo::LimboExchanges;
-use dutch_order::numbers::Numbers;
+use dutch_order::numbers::{LIMIT, Numbers, numbered_from};
 use dutch_order::steps::{Budget, Step};
 use dutch_order::transposition::Transpositions;
 use std::alloc::Global;
@@ -97,6 +99,44 @@ fn exchanges_of_a_pool_with_a_gap(rt: HostRuntime) -> Result<(), Fail> {
     let lists = [1, 2, 1, 3, 2, 3, 1, 5, 2, 5, 3, 5];
     assert!(rt; steps_of(rt.alloc(), one, again, &lists)?.is_some());
     Ok(())
+}
+
+// The numbers from 1 to a last one.
+fn numbers_to(last: usize) -> Numbers
+    requires { last ≤ LIMIT }
+    ensures ascends { IsStrictlyIncreasing result.items }
+    ensures few { length result.items ≤ LIMIT }
+{
+    numbered_from(1, last)
+}
+
+// Whether the next set of 512 numbers is 1 to 511 and this one.
+fn is_next(sets: &mut Exchanges, last: u16, budget: &mut Budget) -> bool
+    requires { budget.old.used ≤ budget.old.limit }
+    ensures { budget.new.used ≤ budget.new.limit }
+{
+    let Step::Found(set) = sets.next(budget) else {
+        return false;
+    };
+    set.len() == 512 && set.starts_with(&numbers_to(511)) && set.ends_with(&[last])
+}
+
+#[test]
+fn exchanges_of_the_largest_pool(rt: HostRuntime) {
+    let pool = numbers_to(LIMIT);
+    if pool.len() < 512 {
+        assert!(rt; false);
+        return;
+    }
+    let mut sets = Exchanges::new(&pool, 512);
+    let mut budget = Budget {
+        limit: 2_000,
+        used: 0,
+    };
+    assert!(rt; is_next(&mut sets, 512, &mut budget));
+    assert!(rt; is_next(&mut sets, 513, &mut budget));
+    assert!(rt; is_next(&mut sets, 514, &mut budget));
+    assert_eq!(rt; budget.used, 1_027);
 }
 
 #[test]
