@@ -1,4 +1,4 @@
--- A task that words make can be answered: the total of rounds that it names is at most 32, and the pairing-allocated bye gives at most 2.
+-- A task that words make can be answered: the total of rounds that it names is not above the most rounds, and the pairing-allocated bye gives at most 2.
 use Rattle.std.proofs.Common.{◌≡◌, ◌&&◌, ◌≤◌, ◌^◌, cond, refl, sym, ap, arith, subst, ℕ, Bool, true, false, nat_le, nat_lt, List, Option, Some, None, Result, Ok, Err}
 use Rattle.std.specs.Prelude.{IfSome, codes, option_and_then, option_map, unwrap_or}
 use Rattle.std.specs.Str.{bytes_eq}
@@ -17,6 +17,7 @@ use Rattle.arbiter.specs.declared.options.WordFault.{WordFault}
 use Rattle.arbiter.specs.declared.words.Task.{Task}
 use Rattle.arbiter.specs.declared.words.Request.{Request}
 use Rattle.arbiter.specs.declared.words.Request.TheVariants.{Check, Format, Pair, Candidates, Standings}
+use Rattle.trf16.specs.declared.limits.TheConstants.{MOST_ROUNDS}
 
 -- what a step gives that met no fault
 not_ok : {A : Type 0} (fault : WordFault) (x : A) → ◌≡◌ {A = Result A WordFault} (Err fault) (Ok x) → ⊥
@@ -46,8 +47,8 @@ number_few most (Some text) =
     let three = and_parts (nat_le 0 n) (nat_le n most) two.1 in
     leb-true n most three.1)
 
-rounds_few : (rows : List Row) → IfSome (rounds_in rows) (λ x. x ≤ 32)
-rounds_few rows = number_few 32 (one_of (codes "rounds") rows)
+rounds_few : (rows : List Row) → IfSome (rounds_in rows) (λ x. x ≤ MOST_ROUNDS)
+rounds_few rows = number_few MOST_ROUNDS (one_of (codes "rounds") rows)
 
 pair_few : (rows : List Row) (options : PairOptions) → pair_options rows ≡ Ok options → HasFewRounds options
 unfolding pair_options

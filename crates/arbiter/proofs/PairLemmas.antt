@@ -13,11 +13,12 @@ use Rattle.dutch_pair.specs.declared.round.Outcome.{Outcome}
 use Rattle.dutch_pair.specs.declared.round.Outcome.TheVariants.{Paired, NoPairing, Undecided}
 use Rattle.arbiter.specs.Known.{CanBeTold, HasFewRounds, IsAccepted}
 use Rattle.arbiter.specs.declared.options.PairOptions.{PairOptions}
+use Rattle.trf16.specs.declared.limits.TheConstants.{MOST_ROUNDS}
 
 -- what is known of the boards of a round
 abbrev pub BoardsFit : Type 0
 BoardsFit = (bytes : List ℕ) (bye : ℕ) (sheet : Sheet) (asked : Option ℕ) (initial : Option Colour) (facts : Facts) (pairing : Pairing)
-    → verdict bytes bye ≡ Ok sheet → IfSome asked (λ total. total ≤ 32) → facts_of sheet asked initial ≡ Ok facts → (round facts).pairing ≡ Some pairing
+    → verdict bytes bye ≡ Ok sheet → IfSome asked (λ total. total ≤ MOST_ROUNDS) → facts_of sheet asked initial ≡ Ok facts → (round facts).pairing ≡ Some pairing
     → CanBePaired (boards facts pairing) sheet
 
 pub accepted : (bytes : List ℕ) (bye : ℕ) (sheet : Sheet) → verdict bytes bye ≡ Ok sheet → IsAccepted sheet

@@ -15,18 +15,19 @@ use Rattle.arbiter.specs.Run.{IsAnswered, IsInput}
 use Rattle.arbiter.specs.declared.words.Request.{Request}
 use Rattle.arbiter.specs.declared.words.Request.TheVariants.{Check, Format, Pair, Candidates, Standings}
 use Rattle.arbiter.specs.declared.words.Task.{Task}
+use Rattle.trf16.specs.declared.limits.TheConstants.{MOST_BYTES}
 
 -- as many bytes as are read at most are too many for a report
 verdict-long : (bytes : List ℕ) (bye : ℕ) → most_read ≤ length bytes → verdict bytes bye ≡ Err (TooMany Bytes)
 unfolding verdict laid_out
 verdict-long bytes bye h =
-    let long : nat_lt 1048576 (length bytes) ≡ true = grind (arith, nat_tests) in
+    let long : nat_lt MOST_BYTES (length bytes) ≡ true = grind (arith, nat_tests) in
     rw long
 
 unsummed-long : (bytes : List ℕ) (bye : ℕ) → most_read ≤ length bytes → verdict_unsummed bytes bye ≡ Err (TooMany Bytes)
 unfolding verdict_unsummed laid_out
 unsummed-long bytes bye h =
-    let long : nat_lt 1048576 (length bytes) ≡ true = grind (arith, nat_tests) in
+    let long : nat_lt MOST_BYTES (length bytes) ≡ true = grind (arith, nat_tests) in
     rw long
 
 format-long : (points : Bool) (bytes : List ℕ) (bye : ℕ) → most_read ≤ length bytes → format_verdict points bytes bye ≡ Err (TooMany Bytes)

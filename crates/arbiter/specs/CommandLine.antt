@@ -4,6 +4,7 @@ use Rattle.clap.specs.Words.{App, Rule, Text, new_app, new_rule, with_rule}
 use Rattle.clap.specs.declared.builder.action.ArgAction.TheVariants.{SetTrue}
 use Rattle.clap.specs.declared.builder.value_parser.ValueParser.{ValueParser}
 use Rattle.clap.specs.declared.builder.value_parser.ValueParser.TheVariants.{Signed, Unsigned}
+use Rattle.trf16.specs.declared.limits.TheConstants.{MOST_ROUNDS}
 
 -- ---- options
 
@@ -27,9 +28,9 @@ from_rule = option_rule (codes "from")
 abbrev pub count_rule : Rule
 count_rule = number_rule (codes "count") (Unsigned 1 10000)
 
--- `--rounds N`: 1 to 32
+-- `--rounds N`: from 1 to the most rounds
 abbrev pub rounds_rule : Rule
-rounds_rule = number_rule (codes "rounds") (Signed (pos 1) (pos 32))
+rounds_rule = number_rule (codes "rounds") (Signed (pos 1) (pos MOST_ROUNDS))
 
 -- `--initial COLOUR`
 abbrev pub initial_rule : Rule

@@ -1,13 +1,14 @@
 -- The input of a run: the bytes that the source gives, read no further than tells that they are too many.
-use Rattle.std.specs.Prelude.{◌<◌, ◌≤◌, ℕ, List, Result, Ok, Err, length}
+use Rattle.std.specs.Prelude.{◌<◌, ◌≤◌, ◌+◌, ℕ, List, Result, Ok, Err, length}
 use Rattle.std.specs.Io.KnownBytes.{Consumes, IsAtEnd}
 use Rattle.trf16.specs.Output.{Use, HasNotFailed, HasFailed}
 use Rattle.arbiter.specs.declared.input.InputFault.{InputFault}
 use Rattle.arbiter.specs.declared.input.InputFault.TheVariants.{Read, Memory}
+use Rattle.trf16.specs.declared.limits.TheConstants.{MOST_BYTES}
 
 -- how many bytes are read at most: one more than a report may have
 abbrev pub most_read : ℕ
-most_read = 1048577
+most_read = MOST_BYTES + 1
 
 -- the source gave these bytes: all that it had, or as many as are read at most
 pub record IsRead (source : Use) (input : List ℕ) : Type 0 where

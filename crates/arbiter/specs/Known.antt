@@ -8,10 +8,11 @@ use Rattle.trf16.specs.Verdict.{verdict}
 use Rattle.arbiter.specs.declared.options.PairOptions.{PairOptions}
 use Rattle.arbiter.specs.declared.words.Request.{Request}
 use Rattle.arbiter.specs.declared.words.Request.TheVariants.{Check, Format, Pair, Candidates, Standings}
+use Rattle.trf16.specs.declared.limits.TheConstants.{MOST_ROUNDS}
 
--- a total of rounds that is asked for is at most 32
+-- a total of rounds that is asked for is not above the most rounds
 abbrev pub HasFewRounds : PairOptions → Type 0
-HasFewRounds options = IfSome options.rounds (λ rounds. rounds ≤ 32)
+HasFewRounds options = IfSome options.rounds (λ rounds. rounds ≤ MOST_ROUNDS)
 
 -- the same of a request, if it asks to pair
 abbrev pub CanBeAnswered : Request → Type 0

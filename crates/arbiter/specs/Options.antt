@@ -18,6 +18,7 @@ use Rattle.arbiter.specs.declared.options.PairOptions.{PairOptions}
 use Rattle.arbiter.specs.declared.options.Shown.{Shown}
 use Rattle.arbiter.specs.declared.options.Shown.TheVariants.{Boards, Names, Report}
 use Rattle.arbiter.specs.declared.options.StandingsOptions.{StandingsOptions}
+use Rattle.trf16.specs.declared.limits.TheConstants.{MOST_ROUNDS}
 
 -- what follows where there is no fault
 infixl 10 ◌>>=◌
@@ -56,9 +57,9 @@ colour_named text = if bytes_eq text (codes "white") then Some White else (if by
 abbrev pub initial_in : List Row → Result (Option Colour) WordFault
 initial_in rows = read_by colour_named BadColour (first_of (codes "initial") rows)
 
--- `--rounds`: the number of rounds of the tournament (clap lets no words pass with one above 32)
+-- `--rounds`: the number of rounds of the tournament (clap lets no words pass with more than there can be)
 abbrev pub rounds_in : List Row → Option ℕ
-rounds_in rows = number_in 32 (codes "rounds") rows
+rounds_in rows = number_in MOST_ROUNDS (codes "rounds") rows
 
 -- `--steps`: how many steps a bracket may take, 10000000 where it is left out
 abbrev pub steps_in : List Row → ℕ

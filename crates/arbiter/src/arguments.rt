@@ -6,6 +6,7 @@ ghost use Rattle.arbiter.specs.CommandLine.{option_rule, points_rule, report_rul
 
 use clap::{Arg, ArgAction, value_parser};
 use std::alloc::Global;
+use trf16::limits::MOST_ROUNDS;
 
 /// `--bracket K`.
 pub fn bracket<'a>(alloc: Global) -> Arg<'a>
@@ -44,8 +45,8 @@ pub fn rounds<'a>(alloc: Global) -> Arg<'a>
     ensures local { result.global ≡ false }
 {
     option(alloc, "rounds", "N")
-        .value_parser(value_parser!(u8).range(1..=32))
-        .help("Rounds of the whole tournament, 1 to 32 [default: those of the report's XXR line]")
+        .value_parser(value_parser!(u8).range(1..=MOST_ROUNDS as i64))
+        .help("Rounds of the whole tournament, 1 to 64 [default: those of the report's XXR line]")
 }
 
 /// `--initial COLOUR`.

@@ -5,10 +5,11 @@ ghost use Rattle.arbiter.specs.Input.{ReadsInput, most_read};
 
 use std::alloc::Global;
 use trf16::devices::Source;
+use trf16::limits::MOST_BYTES;
 
 /// How many bytes are read at most: one more than a report may have, so that one that is too long
 /// is known as such, and an endless source comes to an end.
-const MOST_READ: usize = 1_048_577;
+const MOST_READ: usize = MOST_BYTES + 1;
 
 /// How many bytes are asked for at once.
 const PIECE: usize = 16_384;
@@ -22,7 +23,7 @@ pub enum InputFault {
     Memory,
 }
 
-/// Reads all bytes of a source, or the first 1,048,577 of more. Each call but one that tells the
+/// Reads all bytes of a source, or the first `MOST_READ` of more. Each call but one that tells the
 /// end gives a byte, so there are at most as many calls.
 #[tactic(auto, using(crate::proofs::InputLemmas::given_to_end))]
 pub fn read_input<R: Source>(alloc: Global, reader: &mut R) -> Result<Vec<u8>, InputFault>

@@ -8,6 +8,7 @@ use crate::keys::{Keys, keys_in};
 use clap::ArgMatches;
 use std::marker::Model;
 use trf16::cell::Colour;
+use trf16::limits::MOST_ROUNDS;
 
 /// What is wrong with words that clap lets pass.
 #[derive(Debug, Clone, Copy, PartialEq, Eq)]
@@ -32,7 +33,7 @@ pub struct FormatOptions {
 /// What is asked of `pair`.
 #[derive(Debug, Clone, Copy, PartialEq, Eq)]
 pub struct PairOptions {
-    /// The number of rounds of the tournament, where the words name it: at most 32.
+    /// The number of rounds of the tournament, where the words name it: at most `MOST_ROUNDS`.
     pub rounds: Option<u8>,
     /// The colour of an odd start rank where nothing else decides (C.04.3 E.5), where the words name it.
     pub initial: Option<Colour>,
@@ -238,13 +239,13 @@ fn count_in(matches: &ArgMatches<'_>) -> usize
     matches.get_one::<usize>("count").unwrap_or(100)
 }
 
-// `--rounds`: the number of rounds of the tournament. No words with one above 32 come here.
+// `--rounds`: the number of rounds of the tournament. No words with a greater one come here.
 fn rounds_in(matches: &ArgMatches<'_>) -> Option<u8>
     ensures { result ≡ rounds_in (rows_in matches.now) }
 {
     matches
         .get_one::<u8>("rounds")
-        .filter(|rounds| *rounds <= 32)
+        .filter(|rounds| usize::from(*rounds) <= MOST_ROUNDS)
 }
 
 // `--steps`: how many steps a bracket may take.

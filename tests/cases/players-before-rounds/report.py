@@ -1,3 +1,3 @@
 """Writes the report of this case to standard output."""
-for start in range(1, 258):
-    print(f"001 {start:4d}".ljust(411) + "x")
+for start in range(1, 1026):
+    print(f"001 {start:4d}".ljust(731) + "x")

@@ -180,7 +180,7 @@ fn first_fault(rt: HostRuntime) {
         Some(Fault::Duplicate { line: 2 })
     );
     assert_eq!(rt;
-        fault(b"XXR 33\r001    1"),
+        fault(b"XXR 65\r001    1"),
         Some(Fault::TooMany(Excess::Rounds))
     );
 }

@@ -83,7 +83,7 @@ fn colours_are_in_lower_case(rt: HostRuntime) -> Result<(), AllocError> {
 fn numbers_out_of_range_are_mistakes(rt: HostRuntime) -> Result<(), AllocError> {
     let table = [
         ["--rounds", "0"],
-        ["--rounds", "33"],
+        ["--rounds", "65"],
         ["--steps", "1000000001"],
         ["--steps", "x"],
         ["--report", "--report"],
@@ -92,7 +92,7 @@ fn numbers_out_of_range_are_mistakes(rt: HostRuntime) -> Result<(), AllocError> 
     for words in table {
         assert!(rt; pair(rt.alloc(), words.as_slice())?.is_none());
     }
-    for words in [["--rounds", "32"], ["--steps", "1000000000"]] {
+    for words in [["--rounds", "64"], ["--steps", "1000000000"]] {
         assert!(rt; pair(rt.alloc(), words.as_slice())?.is_some());
     }
     Ok(())

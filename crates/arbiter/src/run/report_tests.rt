@@ -64,7 +64,7 @@ fn extension_lines(rt: HostRuntime) {
     let bad_first = "refused: line 1: bad extension\n";
     let bad_second = "refused: line 2: bad extension\n";
     assert!(rt; has_refused(&check(alloc, b"XXR 0"), bad_first));
-    assert!(rt; has_refused(&check(alloc, b"XXR 33"), "refused: too many rounds\n"));
+    assert!(rt; has_refused(&check(alloc, b"XXR 65"), "refused: too many rounds\n"));
     assert!(rt;
         has_refused(
             &check(alloc, b"XXR 5\nXXR 5"),

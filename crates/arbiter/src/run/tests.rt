@@ -176,17 +176,58 @@ fn start_rank_is_a_number_of_its_own(rt: HostRuntime) {
     assert!(rt; has_refused(&ended, "refused: line 2: duplicate\n"));
 }
 
-#[test]
-fn players_are_256_at_most(rt: HostRuntime) -> Result<(), AllocError> {
-    let mut text = String::new(rt.alloc());
-    for start in 1..257 {
-        text.push_str(format!(in rt.alloc(); "001 {start:>4}\n")?.as_str())?;
+// The lines of so many players, from start rank 1 on.
+fn players(alloc: Global, count: u16) -> Result<String, AllocError> {
+    let mut text = String::new(alloc);
+    for start in 0..count {
+        let player = start.saturating_add(1);
+        text.push_str(format!(in alloc; "001 {player:>4}\n")?.as_str())?;
     }
-    let ended = check(rt.alloc(), text.as_bytes());
-    assert!(rt; has_printed(&ended, "accepted players 256 rounds 0\n"));
-    text.push_str("001  257\n")?;
-    let ended = check(rt.alloc(), text.as_bytes());
+    Ok(text)
+}
+
+#[test]
+fn players_are_1024_at_most(rt: HostRuntime) -> Result<(), AllocError> {
+    let alloc = rt.alloc();
+    let table = [
+        (257, "accepted players 257 rounds 0\n"),
+        (1024, "accepted players 1024 rounds 0\n"),
+    ];
+    for (count, accepted) in table {
+        let ended = check(alloc, players(alloc, count)?.as_bytes());
+        assert!(rt; has_printed(&ended, accepted));
+    }
+    let ended = check(alloc, players(alloc, 1025)?.as_bytes());
     assert!(rt; has_refused(&ended, "refused: too many players\n"));
+    Ok(())
+}
+
+#[test]
+fn rounds_are_64_at_most(rt: HostRuntime) -> Result<(), AllocError> {
+    let alloc = rt.alloc();
+    let bye = "0000 - U";
+    let text = format!(in alloc; "001    1{:403}{bye}", "")?;
+    assert!(rt; has_printed(&check(alloc, text.as_bytes()), "accepted players 1 rounds 33\n"));
+    let text = format!(in alloc; "001    1{:713}{bye}  ", "")?;
+    assert!(rt; has_printed(&check(alloc, text.as_bytes()), "accepted players 1 rounds 64\n"));
+    let text = format!(in alloc; "001    1{:713}{bye}  x", "")?;
+    let ended = check(alloc, text.as_bytes());
+    assert!(rt; has_refused(&ended, "refused: too many rounds\n"));
+    let text = format!(in alloc; "001    1{:722}x", "")?;
+    let ended = check(alloc, text.as_bytes());
+    assert!(rt; has_refused(&ended, "refused: line 1: column 731 must be blank\n"));
+    Ok(())
+}
+
+#[test]
+fn total_of_rounds_is_64_at_most(rt: HostRuntime) -> Result<(), AllocError> {
+    let mut text = Vec::from_slice(rt.alloc(), FOUR_PLAYERS)?;
+    text.extend_from_slice(b"XXR 64\n")?;
+    assert!(rt; has_printed(&check(rt.alloc(), text.as_slice()), ACCEPTED));
+    let mut text = Vec::from_slice(rt.alloc(), FOUR_PLAYERS)?;
+    text.extend_from_slice(b"XXR 65\n")?;
+    let ended = check(rt.alloc(), text.as_slice());
+    assert!(rt; has_refused(&ended, "refused: too many rounds\n"));
     Ok(())
 }
 
