@@ -18,7 +18,6 @@ use Rattle.dutch_pair.specs.GhostValues.{first_limbo, first_ghosts}
 use Rattle.dutch_pair.proofs.GhostPairs.{append_low, append_high}
 use Rattle.dutch_pair.proofs.FlatBrackets.{seats_fall}
 use Rattle.dutch_pair.proofs.RepeatedLemmas.{length-repeated, repeated_at}
-use Rattle.dutch_order.specs.declared.numbers.TheConstants.{LIMIT}
 
 number_at : (first count i : ℕ) → i < count → get_or (numbers_from first count) i 0 ≡ first + i
 number_at first zero i h = absurd (omega (arith, h))

@@ -1,5 +1,5 @@
 -- A list of which one after the other is swapped to the front: those in front of him follow him in their order.
-use Rattle.std.proofs.Common.{◌≡◌, ℕ, zero, suc, ◌+◌, ◌-◌, ◌<◌, ◌≤◌, Bool, ◌&&◌, List, [], ◌∷◌, ◌++◌, length, take, drop, get_or, refl, sym, ◌∙◌, ap, arith, add-one}
+use Rattle.std.proofs.Common.{◌≡◌, ℕ, zero, suc, ◌+◌, ◌-◌, ◌<◌, Bool, ◌&&◌, List, [], ◌∷◌, ◌++◌, length, take, drop, get_or, refl, sym, ◌∙◌, ap, arith, add-one}
 use Rattle.std.specs.Prelude.{slice_index, swap}
 use Rattle.std.specs.List.{slice_set, slice_index_or}
 use Rattle.std.proofs.lemmas.List.{append-nil, drop_all, take_all, take_more}

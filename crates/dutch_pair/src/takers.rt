@@ -97,7 +97,13 @@ fn can_pair(context: &Context<'_>, players: &mut [u16], room: Room, budget: &mut
 /// Whether the first player can be paired with one of the later ones, so that the others can be paired out. Each comes to their front
 /// in turn, and where none serves they stand as before.
 #[cycle(search)]
-fn pair_first(context: &Context<'_>, first: u16, later: &mut [u16], room: Room, budget: &mut Budget) -> Answer
+fn pair_first(
+    context: &Context<'_>,
+    first: u16,
+    later: &mut [u16],
+    room: Room,
+    budget: &mut Budget,
+) -> Answer
     requires within { budget.old.used ≤ budget.old.limit }
     ensures answer { Tells result
         (some_partner (seats_meet context.now.facts first) (can_take_out context.now.facts context.now.stand.seats room.bye (length later.old - 1) room.takers) [] later.old)
@@ -119,7 +125,13 @@ fn pair_first(context: &Context<'_>, first: u16, later: &mut [u16], room: Room, 
 
 /// Whether the first player may meet the first of the later ones, so that the others can be paired out.
 #[cycle(search)]
-fn pair_with(context: &Context<'_>, first: u16, later: &mut [u16], room: Room, budget: &mut Budget) -> Answer
+fn pair_with(
+    context: &Context<'_>,
+    first: u16,
+    later: &mut [u16],
+    room: Room,
+    budget: &mut Budget,
+) -> Answer
     requires some { 0 < length later.old }
     requires within { budget.old.used ≤ budget.old.limit }
     ensures answer { Tells result (seats_meet context.now.facts first (slice_index later.old 0)
@@ -140,7 +152,13 @@ fn pair_with(context: &Context<'_>, first: u16, later: &mut [u16], room: Room, b
 
 /// Whether the first player can be paired with a downfloater, so that all later ones can be paired out.
 #[cycle(search)]
-fn take_first(context: &Context<'_>, first: u16, later: &mut [u16], room: Room, budget: &mut Budget) -> Answer
+fn take_first(
+    context: &Context<'_>,
+    first: u16,
+    later: &mut [u16],
+    room: Room,
+    budget: &mut Budget,
+) -> Answer
     requires within { budget.old.used ≤ budget.old.limit }
     ensures answer { Tells result
         (takes_one (meets_bracket context.now.facts context.now.stand.seats first) (λ k. can_take_out context.now.facts context.now.stand.seats room.bye (length later.old) k later.old) room.takers)
@@ -167,7 +185,13 @@ fn take_first(context: &Context<'_>, first: u16, later: &mut [u16], room: Room, 
 
 /// Whether the first player may be left out, where one may be, so that all later ones can be paired out.
 #[cycle(search)]
-fn leave_first(context: &Context<'_>, first: u16, later: &mut [u16], room: Room, budget: &mut Budget) -> Answer
+fn leave_first(
+    context: &Context<'_>,
+    first: u16,
+    later: &mut [u16],
+    room: Room,
+    budget: &mut Budget,
+) -> Answer
     requires within { budget.old.used ≤ budget.old.limit }
     ensures answer { Tells result (left_over room.bye (seats_may_be_left context.now.facts) first && can_take_out context.now.facts context.now.stand.seats false (length later.old) room.takers later.old)
         (budget.new.used ≡ budget.new.limit) }

@@ -19,7 +19,7 @@ can_pair-returns-in-No-clause-answer g t c =
     let may_be_left = g.R.Rule.may_be_left c.args.rule.now in
     let first = c.in-Some.first.now in
     let told : Tells c.leave_first.result (left_over c.args.bye may_be_left first && can_cover meets nobody (length c.in-Some.later.now) c.in-Some.later.now)
-        (IsStopped (if c.args.bye then 1 + most (length c.in-Some.later.now) false else 0) c.pair_first.new.budget c.leave_first.new.budget) =
+    (IsStopped (if c.args.bye then 1 + most (length c.in-Some.later.now) false else 0) c.pair_first.new.budget c.leave_first.new.budget) =
     subst
     (λ (l : List ℕ). Tells c.leave_first.result (left_over c.args.bye may_be_left first && can_cover meets nobody (length l) l)
     (IsStopped (if c.args.bye then 1 + most (length l) false else 0) c.pair_first.new.budget c.leave_first.new.budget))
@@ -106,7 +106,7 @@ pair_first-returns-in_default g t c =
     let spent : Spends (1 + m) c.loop-place.budget c.pair_with.new.budget =
     subst (λ (k : ℕ). Spends (1 + most (k - 1) c.args.bye) c.loop-place.budget c.pair_with.new.budget) len c.pair_with.ensures.steps in
     let told : Tells c.pair_with.result (meets c.args.first (slice_index all place) && cover (n - 1) (take place all ++ drop (place + 1) all))
-        (IsStopped (1 + m) c.loop-place.budget c.pair_with.new.budget) =
+    (IsStopped (1 + m) c.loop-place.budget c.pair_with.new.budget) =
     subst (λ (k : ℕ). Tells c.pair_with.result (meets c.args.first (slice_index all place) && cover (n - 1) (take place all ++ drop (place + 1) all))
     (IsStopped (1 + most (k - 1) c.args.bye) c.loop-place.budget c.pair_with.new.budget)) len
     (subst (λ (b : Bool). Tells c.pair_with.result b (IsStopped (1 + most (length c.swap.new.self - 1) c.args.bye) c.loop-place.budget c.pair_with.new.budget))

@@ -1,5 +1,5 @@
 -- Each partner that is tried stands in front of the others, who keep their order.
-use Rattle.std.proofs.Common.{◌≡◌, ◌∙◌, ◌-◌, ◌+◌, ◌++◌, ◌&&◌, ◌||◌, Bool, List, ℕ, length, take, drop, refl, sym, ap, arith}
+use Rattle.std.proofs.Common.{◌≡◌, ◌∙◌, ◌-◌, ◌+◌, ◌||◌, List, ℕ, length, take, drop, refl, sym, ap, arith}
 use Rattle.std.specs.Prelude.{swap}
 use Rattle.dutch_order.proofs.Spending.{spends-more}
 use Rattle.dutch_pair.specs.Completion.{some_partner}
