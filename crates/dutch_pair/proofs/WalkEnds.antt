@@ -59,9 +59,6 @@ pub visit_none : (place : ℕ) → visit_at place [] ≡ None
 visit_none zero = refl
 visit_none (suc place) = refl
 
-pub visit_here : (n : ℕ) (visit : Visit) (rest : List Visit) → visit_at (n - n) (visit ∷ rest) ≡ Some visit
-visit_here n visit rest = ap (λ k. visit_at k (visit ∷ rest)) (let e : n - n ≡ 0 = omega arith in e)
-
 pub visit_later : (a n : ℕ) (visit : Visit) (rest : List Visit) → n + 1 ≤ a → visit_at (a - n) (visit ∷ rest) ≡ visit_at (a - (n + 1)) rest
 visit_later a n visit rest h = ap (λ k. visit_at k (visit ∷ rest)) (let e : a - n ≡ suc (a - (n + 1)) = omega (arith, h) in e)
 

@@ -1,5 +1,6 @@
 -- One bracket more of a walk: what comes next has a way out again, and the round from there on is the rest of the round.
 use Rattle.std.proofs.Common.{◌≡◌, ℕ, ◌+◌, ◌<◌, ◌≤◌, Bool, true, false, cond, not, List, [], ◌∷◌, ◌++◌, length, map, Option, Some, None, refl, sym, ap, ◌∙◌, subst, arith, append-nil}
+use Rattle.std.proofs.lemmas.Bool.{not-false}
 use Rattle.dutch_order.specs.declared.bracket.Shape.{Shape}
 use Rattle.dutch_order.specs.Arrangements.{down}
 use Rattle.dutch_player.specs.Facts.{Facts}
@@ -8,11 +9,11 @@ use Rattle.dutch_pair.specs.declared.reached.Kind.TheVariants.{Ordinary, Last, P
 use Rattle.dutch_pair.specs.declared.choice.Choice.{Choice as Made}
 use Rattle.dutch_pair.specs.declared.stage.Stage.{Stage}
 use Rattle.dutch_pair.specs.Context.{Context}
-use Rattle.dutch_pair.specs.Outcomes.{IsChoice, shown, visit_at}
+use Rattle.dutch_pair.specs.Outcomes.{IsChoice, IsStage, shown, visit_at}
 use Rattle.dutch_pair.specs.Reached.{Stand, IsAbove, IsOf, frame_of}
 use Rattle.dutch_pair.specs.Round.{Round, Choice, bracket, brackets, choice, completable, downfloaters, ending, final_bracket, final_by, ordinary_by, paired_again, passing, pairing_in, penultimate_bracket, penultimate_by, scoregroups, shape_of}
 use Rattle.dutch_pair.specs.Seated.{seat_of}
-use Rattle.dutch_pair.specs.Stages.{Walk, IsSettled, IsStage, choice_of, group_kind, is_again, round_by, stage_first}
+use Rattle.dutch_pair.specs.Stages.{Walk, IsSettled, choice_of, group_kind, is_again, round_by, stage_first}
 use Rattle.dutch_pair.specs.Walk.{Goes}
 use Rattle.dutch_pair.specs.WaysOut.{GoesOut, HasWayOut, StandsBefore}
 use Rattle.dutch_pair.proofs.BestLemmas.{choice_of_shape}
@@ -21,64 +22,19 @@ use Rattle.dutch_pair.proofs.NoDeadEnd.{collapsed_out, ordinary_out}
 use Rattle.dutch_pair.proofs.WalkEnds.{above_none, drawn}
 use Rattle.dutch_pair.proofs.WalkLemmas.{Descends, is_above, left_go_on}
 
-there_by : (facts : Facts) (kind : Kind) (number : ℕ) (md residents lower : List ℕ) → HasWayOut facts kind number md residents lower → kind ≡ Ordinary → 0 < length lower
-there_by facts Ordinary number md residents lower out e = out.1
-there_by facts Last number md residents lower out e = let bad : Last ≡ Ordinary = e in absurd (cc)
-there_by facts Penultimate number md residents lower out e = let bad : Penultimate ≡ Ordinary = e in absurd (cc)
-there_by facts Collapsed number md residents lower out e = let bad : Collapsed ≡ Ordinary = e in absurd (cc)
-
--- the number of a bracket is small
-small_by : (facts : Facts) (kind : Kind) (number : ℕ) (md residents lower : List ℕ) → HasWayOut facts kind number md residents lower → number ≤ length facts.seats + 1
-small_by facts Ordinary number md residents lower out = omega (arith, out.2)
-small_by facts Last number md residents lower out = omega (arith, out.2)
-small_by facts Penultimate number md residents lower out = omega (arith, out.1)
-small_by facts Collapsed number md residents lower out = out.2
-
--- only an ordinary bracket is paired again, and then those left over cannot be paired out with the lower players
-again_ordinary : (kind : Kind) (t : Bool) → is_again kind t ≡ true → (kind ≡ Ordinary) × (t ≡ false)
-again_ordinary Ordinary true e = let bad : false ≡ true = e in absurd (cc)
-again_ordinary Ordinary false e = (refl, refl)
-again_ordinary Last t e = let bad : false ≡ true = e in absurd (cc)
-again_ordinary Penultimate t e = let bad : false ≡ true = e in absurd (cc)
-again_ordinary Collapsed t e = let bad : false ≡ true = e in absurd (cc)
-
-kept_ordinary : (kind : Kind) (t : Bool) → is_again kind t ≡ false → kind ≡ Ordinary → t ≡ true
-kept_ordinary Ordinary true e k = refl
-kept_ordinary Ordinary false e k = let bad : true ≡ false = e in absurd (cc)
-kept_ordinary Last t e k = let bad : Last ≡ Ordinary = k in absurd (cc)
-kept_ordinary Penultimate t e k = let bad : Penultimate ≡ Ordinary = k in absurd (cc)
-kept_ordinary Collapsed t e k = let bad : Collapsed ≡ Ordinary = k in absurd (cc)
-
 module _ (facts : Facts) (number : ℕ) (stand : Stand) (lower : List ℕ) (s : StandsBefore facts number stand lower) where
-  pub stands_small : number ≤ length facts.seats + 1
-  stands_small = small_by facts stand.kind number s.md s.residents lower s.out
-
   pub stands_number : stand.number ≡ number
   stands_number = ap (λ (b : Stand). b.number) s.is
 
   pub stands_above : Descends facts → IsAbove facts stand lower
   stands_above descends =
       subst (λ (b : Stand). IsAbove facts b lower) (sym s.is)
-      (is_above facts descends number stand.kind s.md s.residents lower s.goes s.above (there_by facts stand.kind number s.md s.residents lower s.out))
+      (is_above facts descends number stand.kind s.md s.residents lower s.goes s.above (λ kind. (subst (λ k. HasWayOut facts k number s.md s.residents lower) kind s.out).1))
 
   pub stands_left : Descends facts → (made : Choice) → Goes facts (downfloaters facts stand made.lists) lower
   stands_left descends made =
       subst (λ (b : Stand). Goes facts (downfloaters facts b made.lists) lower) (sym s.is)
       (left_go_on facts descends number stand.kind s.md s.residents lower made.lists s.goes s.above)
-
-  -- ---- what comes next
-
-  pub stands_again : stand.kind ≡ Ordinary → StandsBefore facts (number + 1) (paired_again stand) lower
-  stands_again kind =
-      let out = subst (λ k. HasWayOut facts k number s.md s.residents lower) kind s.out in
-      record {
-        md = s.md;
-        residents = s.residents;
-        is = ap paired_again s.is;
-        goes = s.goes;
-        above = s.above;
-        out = (out.0, omega (arith, out.1, out.2));
-      }
 
   pub stands_collapsed : Descends facts → (made : Choice) → stand.kind ≡ Penultimate → choice facts stand lower ≡ Some made
       → StandsBefore facts (number + 1) (bracket (number + 1) Collapsed (downfloaters facts stand made.lists) lower) []
@@ -115,69 +71,14 @@ stands_group facts number {md = md} {group = group} {lower = lower} parts whole 
   out = group_out facts number md group lower (subst (GoesOut facts md) (sym whole) out) (omega (arith, small, parts.count, parts.some));
 }
 
--- ---- the rest of the round
-
-module _ (facts : Facts) (lower : List ℕ) (stage : Stage) (settled : IsSettled facts lower stage) where
-  abbrev stand : Stand
-  stand = stage.reached
-
-  abbrev left : List ℕ
-  left = downfloaters facts stand stage.candidate.lists
-
-  pub left_over : map (seat_of stand.seats) stage.candidate.down ≡ left
-  left_over = ap (map (seat_of stand.seats)) settled.down
-
-  complete_is : (t : Bool) → completable facts (map (seat_of stand.seats) stage.candidate.down ++ lower) ≡ t → completable facts (left ++ lower) ≡ t
-  complete_is t e = ap (λ (xs : List ℕ). completable facts (xs ++ lower)) (sym left_over) ∙ e
-
-  -- it is paired again
-  pub is_ordinary_again : stage.again ≡ true → (stand.kind ≡ Ordinary) × (completable facts (left ++ lower) ≡ false)
-  is_ordinary_again e =
-      let both = again_ordinary stand.kind _ (sym settled.again ∙ e) in (both.0, complete_is false both.1)
-
-  pub is_kept : stage.again ≡ false → stand.kind ≡ Ordinary → completable facts (left ++ lower) ≡ true
-  is_kept e kind = complete_is true (kept_ordinary stand.kind _ (sym settled.again ∙ e) kind)
-
-  abbrev goes_on : List ℕ → Round
-  goes_on xs = brackets facts (stand.number + 1) xs (scoregroups facts lower)
-
-  pub rest_again : stage.again ≡ true → round_by facts stand.kind stand lower ≡ stage_first facts stage (round_by facts Penultimate (paired_again stand) lower)
-  rest_again e =
-      let both = is_ordinary_again e in
-      ap (λ (k : Kind). round_by facts k stand lower) both.0
-      ∙ ap (ordinary_by facts stand lower goes_on) settled.choice
-      ∙ ap (λ t. cond t (pairing_in facts stand (choice_of stage) (goes_on left)) (passing facts stand (choice_of stage) (penultimate_bracket facts stand lower))) both.1
-      ∙ sym (ap (λ t. cond t (passing facts stand (choice_of stage) (penultimate_bracket facts stand lower)) (pairing_in facts stand (choice_of stage) (penultimate_bracket facts stand lower))) e)
-
-  first_kept : (rest : Round) → stage.again ≡ false → pairing_in facts stand (choice_of stage) rest ≡ stage_first facts stage rest
-  first_kept rest e = sym (ap (λ t. cond t (passing facts stand (choice_of stage) rest) (pairing_in facts stand (choice_of stage) rest)) e)
-
-  pub rest_ordinary : stage.again ≡ false → stand.kind ≡ Ordinary → round_by facts stand.kind stand lower ≡ stage_first facts stage (goes_on left)
-  rest_ordinary e kind =
-      ap (λ (k : Kind). round_by facts k stand lower) kind
-      ∙ ap (ordinary_by facts stand lower goes_on) settled.choice
-      ∙ ap (λ t. cond t (pairing_in facts stand (choice_of stage) (goes_on left)) (passing facts stand (choice_of stage) (penultimate_bracket facts stand lower))) (is_kept e kind)
-      ∙ first_kept (goes_on left) e
-
-  pub rest_penultimate : stage.again ≡ false → stand.kind ≡ Penultimate
-      → round_by facts stand.kind stand lower ≡ stage_first facts stage (round_by facts Collapsed (bracket (stand.number + 1) Collapsed left lower) [])
-  rest_penultimate e kind =
-      ap (λ (k : Kind). round_by facts k stand lower) kind
-      ∙ ap (penultimate_by facts stand lower) settled.choice ∙ first_kept (final_bracket facts (bracket (stand.number + 1) Collapsed left lower)) e
-
-  final_is : lower ≡ [] → final_bracket facts stand ≡ pairing_in facts stand (choice_of stage) (ending facts left)
-  final_is none = ap (final_by facts stand) (ap (choice facts stand) (sym none) ∙ settled.choice)
-
-  pub rest_final : stage.again ≡ false → (number : ℕ) → StandsBefore facts number stand lower → (kind : Kind) → (kind ≡ Ordinary → ⊥) → (kind ≡ Penultimate → ⊥) → stand.kind ≡ kind
-      → round_by facts stand.kind stand lower ≡ stage_first facts stage (ending facts left)
-  rest_final e number s Ordinary other other' kind = absurd (other refl)
-  rest_final e number s Penultimate other other' kind = absurd (other' refl)
-  rest_final e number s Last other other' kind =
-      let out = subst (λ k. HasWayOut facts k number s.md s.residents lower) kind s.out in
-      ap (λ (k : Kind). round_by facts k stand lower) kind ∙ final_is out.1 ∙ first_kept (ending facts left) e
-  rest_final e number s Collapsed other other' kind =
-      let out = subst (λ k. HasWayOut facts k number s.md s.residents lower) kind s.out in
-      ap (λ (k : Kind). round_by facts k stand lower) kind ∙ final_is out.1 ∙ first_kept (ending facts left) e
+-- those whom an ordinary stage leaves over go out, where it is not paired again
+pub is_kept : (facts : Facts) (lower : List ℕ) (stage : Stage) → IsSettled facts lower stage → stage.again ≡ false → stage.reached.kind ≡ Ordinary
+    → completable facts (downfloaters facts stage.reached stage.candidate.lists ++ lower) ≡ true
+is_kept facts lower stage settled e kind =
+    let seats = stage.reached.seats in
+    let test = completable facts (map (seat_of seats) stage.candidate.down ++ lower) in
+    ap (λ (numbers : List ℕ). completable facts (map (seat_of seats) numbers ++ lower)) (sym settled.down)
+    ∙ not-false test (ap (λ k. is_again k test) (sym kind) ∙ sym settled.again ∙ e)
 
 -- ---- the bracket that comes next, for its shape alone
 

@@ -1,5 +1,6 @@
 -- What the calls on a round answer.
-use Rattle.std.specs.Prelude.{◌≡◌, ℕ, zero, suc, ◌+◌, ◌≤◌, true, List, [], ◌∷◌, length, Option, Some, None, option_map, is_some}
+use Rattle.std.specs.Prelude.{◌≡◌, ℕ, zero, suc, ◌+◌, ◌≤◌, true, List, [], ◌∷◌, map, length, Option, Some, None, option_map, is_some}
+use Rattle.std.specs.List.{AllByRecursion}
 use Rattle.dutch_order.specs.declared.bracket.Shape.{Shape}
 use Rattle.dutch_order.specs.Arrangements.{Fits, down}
 use Rattle.dutch_player.specs.Facts.{Facts}
@@ -9,6 +10,10 @@ use Rattle.dutch_pair.specs.declared.round.Outcome.{Outcome}
 use Rattle.dutch_pair.specs.declared.round.Outcome.TheVariants.{Paired, NoPairing, Undecided}
 use Rattle.dutch_pair.specs.declared.round.BracketAt.{BracketAt}
 use Rattle.dutch_pair.specs.declared.round.BracketAt.TheVariants.{Bracket, NotReached, NoPairing as NoPairingAt, Undecided as UndecidedAt}
+use Rattle.dutch_pair.specs.declared.round.AllStages.{AllStages}
+use Rattle.dutch_pair.specs.declared.round.AllStages.TheVariants.{Paired as StagesPaired, NoPairing as NoStages, Undecided as StagesUndecided}
+use Rattle.dutch_pair.specs.declared.stage.Stage.{Stage}
+use Rattle.dutch_pair.specs.NextBracket.{IsDraw}
 use Rattle.dutch_pair.specs.Reached.{Stand, IsOf, frame_of}
 use Rattle.dutch_pair.specs.Round.{Visit, round, choice, everybody}
 use Rattle.dutch_pair.specs.Completion.{Completable}
@@ -46,6 +51,23 @@ abbrev pub IsOutcome : Facts → ℕ → Outcome → Type 0
 IsOutcome facts limit (Paired all) = option_map (boards facts) (round facts).pairing ≡ Some all.items
 IsOutcome facts limit NoPairing = (round facts).pairing ≡ None
 IsOutcome facts limit (Undecided bracket used) = IsStoppedIn facts limit bracket used
+
+-- a stage as one of the brackets that were reached
+abbrev pub visit : Stage → Visit
+visit stage = record { bracket = stage.reached; shape = stage.shape; lists = stage.candidate.lists; again = stage.again }
+
+-- a stage is one of the field, and so is its candidate
+pub record IsStage (facts : Facts) (stage : Stage) : Type 0 where
+  pub bracket : IsOf facts stage.reached
+  pub candidate : IsDraw facts stage.reached stage.candidate
+
+-- the stages of a round are the brackets that it reaches, and who is left over has the bye
+abbrev pub AreStages : Facts → ℕ → AllStages → Type 0
+AreStages facts limit (StagesPaired stages bye) =
+    (map visit stages.items ≡ (round facts).reached) × AllByRecursion (IsStage facts) stages.items
+    × (option_map (λ pairing. pairing.bye) (round facts).pairing ≡ Some bye.items)
+AreStages facts limit NoStages = (round facts).pairing ≡ None
+AreStages facts limit (StagesUndecided bracket used) = IsStoppedIn facts limit bracket used
 
 -- A.9: all present players can be paired out where a round is paired, and cannot where it has no pairing
 abbrev pub TellsCompletion : Facts → Outcome → Type 0

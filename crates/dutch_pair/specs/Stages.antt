@@ -10,10 +10,9 @@ use Rattle.dutch_pair.specs.declared.walk.Next.{Next}
 use Rattle.dutch_pair.specs.declared.walk.Next.TheVariants.{Bracket, Bye}
 use Rattle.dutch_pair.specs.declared.walk.Turn.{Turn}
 use Rattle.dutch_pair.specs.declared.walk.Turn.TheVariants.{Settled, Ended, Undecided}
-use Rattle.dutch_pair.specs.NextBracket.{IsDraw}
 use Rattle.dutch_pair.specs.Reached.{Stand, IsOf, frame_of}
 use Rattle.dutch_pair.specs.Round.{Round, Choice, Pairing, brackets, choice, completable, ending, final_bracket, ordinary_bracket, passing, pairing_in, penultimate_by, scoregroups}
-use Rattle.dutch_pair.specs.Outcomes.{shown, visit_at}
+use Rattle.dutch_pair.specs.Outcomes.{IsStage, shown, visit_at}
 use Rattle.dutch_pair.specs.Seated.{AreSeats, all_pairs, seat_of}
 use Rattle.dutch_pair.specs.WaysOut.{StandsBefore}
 
@@ -68,11 +67,6 @@ module _ (facts : Facts) where
     pub choice : choice facts stage.reached lower ≡ Some (choice_of stage)
     pub down : stage.candidate.down ≡ down (frame_of facts stage.reached) stage.candidate.lists
     pub again : stage.again ≡ is_again stage.reached.kind (completable facts (map (seat_of stage.reached.seats) stage.candidate.down ++ lower))
-
-  -- a stage is one of the field, and so is its candidate
-  pub record IsStage (stage : Stage) : Type 0 where
-    pub bracket : IsOf facts stage.reached
-    pub candidate : IsDraw facts stage.reached stage.candidate
 
 -- pairs in front of those of a pairing
 abbrev pub in_front : List (ℕ × ℕ) → Pairing → Pairing

@@ -1,10 +1,11 @@
 // The round, bracket by bracket (C.04.3 A.3, A.9), specified by a recursion over the scoregroups.
 ghost use Rattle.std.specs.Prelude.{◌≡◌, IfOk};
-ghost use Rattle.dutch_pair.specs.Outcomes.{IsOutcome, IsBracketAt, TellsCompletion, TellsCompletionAt};
+ghost use Rattle.dutch_pair.specs.Outcomes.{AreStages, IsOutcome, IsBracketAt, TellsCompletion, TellsCompletionAt};
 
 use crate::boards::{Pair, boards};
 use crate::fault::PairFault;
-use crate::reached::Reached;
+use crate::reached::{Reached, Seats};
+use crate::stage::Stage;
 use crate::walk::{Turn, Walk, everybody};
 use dutch_order::bracket::Shape;
 use dutch_order::steps::Step;
@@ -35,6 +36,17 @@ pub enum BracketAt {
     Undecided { bracket: u16, used: u64 },
 }
 
+/// The stages of a round, or why there are none.
+#[derive(Debug, Drop)]
+pub enum AllStages {
+    /// The brackets that the round reaches, in order, as they are settled, and the seat that has the bye, if one has.
+    Paired { stages: Vec<Stage>, bye: Seats },
+    /// No pairing meets the absolute criteria.
+    NoPairing,
+    /// The steps of a bracket reached the limit, which is `used`, before it was decided.
+    Undecided { bracket: u16, used: u64 },
+}
+
 /// Pairs the next round of a field. Each bracket may make so many steps.
 #[tactic(auto, using(crate::proofs::NoDeadEnd::all_complete, crate::proofs::NoDeadEnd::not_complete, crate::proofs::NoDeadEnd::not_paired))]
 pub fn pair_round(alloc: Global, field: &Field, limit: u64) -> Result<Outcome, PairFault>
@@ -45,14 +57,20 @@ pub fn pair_round(alloc: Global, field: &Field, limit: u64) -> Result<Outcome, P
     let mut walk = match Walk::start(field, &all, limit) {
         Step::Found(walk) => walk,
         Step::End => return Ok(Outcome::NoPairing),
-        Step::Undecided => return Ok(Outcome::Undecided { bracket: 1, used: limit }),
+        Step::Undecided => return Ok(Outcome::Undecided {
+            bracket: 1,
+            used: limit,
+        }),
     };
     let mut pairs = Vec::new(alloc);
     loop {
         match walk.go_on(alloc)? {
             Turn::Settled(stage) => stage.put_pairs(field, &mut pairs)?,
             Turn::Ended(bye) => return Ok(Outcome::Paired(boards(alloc, field, &pairs, &bye)?)),
-            Turn::Undecided => return Ok(Outcome::Undecided { bracket: walk.number(), used: limit }),
+            Turn::Undecided => return Ok(Outcome::Undecided {
+                bracket: walk.number(),
+                used: limit,
+            }),
         }
     }
 }
@@ -73,7 +91,10 @@ pub fn bracket_at(
     let mut walk = match Walk::start(field, &all, limit) {
         Step::Found(walk) => walk,
         Step::End => return Ok(BracketAt::NoPairing),
-        Step::Undecided => return Ok(BracketAt::Undecided { bracket: 1, used: limit }),
+        Step::Undecided => return Ok(BracketAt::Undecided {
+            bracket: 1,
+            used: limit,
+        }),
     };
     loop {
         if walk.number() == number {
@@ -91,7 +112,37 @@ pub fn bracket_at(
         match walk.go_on(alloc)? {
             Turn::Settled(_stage) => {}
             Turn::Ended(_bye) => return Ok(BracketAt::NotReached),
-            Turn::Undecided => return Ok(BracketAt::Undecided { bracket: walk.number(), used: limit }),
+            Turn::Undecided => return Ok(BracketAt::Undecided {
+                bracket: walk.number(),
+                used: limit,
+            }),
+        }
+    }
+}
+
+/// The stages of the next round of a field, as `pair_round` pairs it, in the same steps.
+#[tactic(auto, using(crate::proofs::NoDeadEnd::not_paired))]
+pub fn stages(alloc: Global, field: &Field, limit: u64) -> Result<AllStages, PairFault>
+    ensures { IfOk result (AreStages field.now limit) }
+{
+    let all = everybody(field);
+    let mut walk = match Walk::start(field, &all, limit) {
+        Step::Found(walk) => walk,
+        Step::End => return Ok(AllStages::NoPairing),
+        Step::Undecided => return Ok(AllStages::Undecided {
+            bracket: 1,
+            used: limit,
+        }),
+    };
+    let mut stages = Vec::new(alloc);
+    loop {
+        match walk.go_on(alloc)? {
+            Turn::Settled(stage) => stages.push(stage)?,
+            Turn::Ended(bye) => return Ok(AllStages::Paired { stages, bye }),
+            Turn::Undecided => return Ok(AllStages::Undecided {
+                bracket: walk.number(),
+                used: limit,
+            }),
         }
     }
 }

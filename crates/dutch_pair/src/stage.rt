@@ -8,7 +8,8 @@ ghost use Rattle.dutch_pair.specs.Eligible.{HasCandidate};
 ghost use Rattle.dutch_pair.specs.Reached.{IsAbove};
 ghost use Rattle.dutch_pair.specs.Round.{completable};
 ghost use Rattle.dutch_pair.specs.Seated.{AllNumbers, seat_of};
-ghost use Rattle.dutch_pair.specs.Stages.{IsSettled, IsStage, is_again, own_pairs};
+ghost use Rattle.dutch_pair.specs.Outcomes.{IsStage};
+ghost use Rattle.dutch_pair.specs.Stages.{IsSettled, is_again, own_pairs};
 
 use crate::boards::Pair;
 use crate::choice::{Choice, choose_in};
@@ -86,6 +87,34 @@ pub(crate) fn settle(
 }
 
 impl Stage {
+    /// The bracket.
+    pub fn reached(&self) -> &Reached
+        ensures { result.now ≡ self.now.reached }
+    {
+        &self.reached
+    }
+
+    /// Its shape.
+    pub fn shape(&self) -> Shape
+        ensures { result ≡ self.now.shape }
+    {
+        self.shape
+    }
+
+    /// What is chosen in it.
+    pub fn candidate(&self) -> &Candidate
+        ensures { result.now ≡ self.now.candidate }
+    {
+        &self.candidate
+    }
+
+    /// Whether it is paired again, as the next one (C.4): then its pairs do not count.
+    pub fn is_again(&self) -> bool
+        ensures { result ≡ self.now.again }
+    {
+        self.again
+    }
+
     /// Puts its pairs by seat behind others: none if it is paired again.
     #[tactic(auto, using(crate::proofs::WalkEnds::candidate_is, crate::proofs::WalkEnds::pairs_join))]
     pub(crate) fn put_pairs(&self, field: &Field, pairs: &mut Vec<Pair>) -> Result<(), PairFault>

@@ -166,7 +166,13 @@ impl<'a> Walk<'a> {
         let budget = Budget { limit, used: 0 };
         if stage.again {
             let next = Next::Bracket(paired_again(reached));
-            return Walk { field, number, next, lower, budget };
+            return Walk {
+                field,
+                number,
+                next,
+                lower,
+                budget,
+            };
         }
         match reached.kind() {
             Kind::Ordinary => Walk::before_group(field, number, left, lower, budget),
@@ -180,7 +186,13 @@ impl<'a> Walk<'a> {
                     budget,
                 }
             }
-            Kind::Last | Kind::Collapsed => Walk { field, number, next: Next::Bye(left), lower, budget },
+            Kind::Last | Kind::Collapsed => Walk {
+                field,
+                number,
+                next: Next::Bye(left),
+                lower,
+                budget,
+            },
         }
     }
 

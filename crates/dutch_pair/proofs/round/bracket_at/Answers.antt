@@ -50,8 +50,7 @@ pub returns-in-Ended-clause-bracket : goal.returns-in-Ended-clause-bracket
 returns-in-Ended-clause-bracket c =
     let facts = c.args.field.now in
     let old = c.loop-alloc.walk in
-    let h = subst (λ turn. GoesOn old c.go_on.new.self turn) c.in-Ended.is c.in_ok-_stage.ensures in
-    (
+    let h = subst (λ turn. GoesOn old c.go_on.new.self turn) c.in-Ended.is c.in_ok-_stage.ensures in (
       ahead_none c.args.number old.number old.rest.reached (round facts).reached (ap (λ (r : Round). r.reached) h.0) c.loop-alloc.invariant.ahead,
       round_goes facts c.loop-alloc.invariant.complete,
     )
@@ -59,8 +58,7 @@ returns-in-Ended-clause-bracket c =
 pub returns-in-End-bracket-clause-bracket : goal.returns-in-End-bracket-clause-bracket
 returns-in-End-bracket-clause-bracket c =
     let facts = c.args.field.now in
-    let walk = c.loop-alloc.walk in
-    (
+    let walk = c.loop-alloc.walk in (
       ahead_none c.args.number walk.number walk.rest.reached (round facts).reached c.in-End-bracket.ensures c.loop-alloc.invariant.ahead,
       round_goes facts c.loop-alloc.invariant.complete,
     )

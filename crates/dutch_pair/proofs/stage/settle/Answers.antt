@@ -19,8 +19,7 @@ is_again-requires-clause-few c =
 pub returns : goal.returns
 returns c =
     let k = c.new-context.result in
-    let h = chosen_as k _ c.in-Chosen.is c.in_ok-shape.ensures.answer in
-    (
+    let h = chosen_as k _ c.in-Chosen.is c.in_ok-shape.ensures.answer in (
       c.copied.ensures,
       settled_in c.args.field.now c.args.reached.now c.args.lower.now k
           (record { reached = c.copied.result; shape = c.in-Chosen.shape; candidate = c.in-Chosen.candidate; again = c.in-Some.again })

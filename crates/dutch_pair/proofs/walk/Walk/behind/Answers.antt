@@ -66,11 +66,10 @@ invariant_of-t-20 c =
     (c.down.ensures ∙ c.requires.settled.down) c.seats_of-left.ensures in
     let collapsed = stands_collapsed facts stage.reached.number stage.reached lower c.requires.stands
     (record { falls = c.scores_do_not_ascend.ensures.scores; few = c.scores_do_not_ascend.ensures.few }) (choice_of stage)
-    (sym c.kind.ensures ∙ c.in-Penultimate.is) c.requires.settled.choice in
-    (
+    (sym c.kind.ensures ∙ c.in-Penultimate.is) c.requires.settled.choice in (
       subst (λ (b : Stand). StandsBefore facts (n + 1) b []) (sym c.bracket-collapsed.ensures)
-      (subst (λ (xs : List ℕ). StandsBefore facts (n + 1) (bracket (n + 1) Collapsed xs lower) []) (sym (c.deref.ensures.0 ∙ left))
-      (subst (λ (m : ℕ). StandsBefore facts (m + 1) (bracket (m + 1) Collapsed (downfloaters facts stage.reached stage.candidate.lists) lower) []) (sym c.number-number.ensures) collapsed)),
+          (subst (λ (xs : List ℕ). StandsBefore facts (n + 1) (bracket (n + 1) Collapsed xs lower) []) (sym (c.deref.ensures.0 ∙ left))
+          (subst (λ (m : ℕ). StandsBefore facts (m + 1) (bracket (m + 1) Collapsed (downfloaters facts stage.reached stage.candidate.lists) lower) []) (sym c.number-number.ensures) collapsed)),
       omega arith,
     )
 

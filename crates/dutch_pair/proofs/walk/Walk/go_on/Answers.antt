@@ -2,7 +2,8 @@
 use Rattle.std.proofs.Common.{◌≡◌, ap, sym, ◌∙◌, subst}
 use Rattle.std.specs.Prelude.{IfSome}
 use Rattle.dutch_player.specs.Facts.{Facts}
-use Rattle.dutch_pair.specs.Stages.{IsBehind, IsSettled, IsStage, StandsAt, Walk, round_from}
+use Rattle.dutch_pair.specs.Outcomes.{IsStage}
+use Rattle.dutch_pair.specs.Stages.{IsBehind, IsSettled, StandsAt, Walk, round_from}
 use Rattle.dutch_pair.proofs.NoDeadEnd.{stands_has}
 use Rattle.dutch_pair.proofs.WalkSteps.{stage_is, stands_above, walk_is}
 use Rattle.dutch_pair.proofs.walk.Walk.go_on.Goals as goal
@@ -28,11 +29,10 @@ returns c =
     let told = subst (λ found. IfSome found (λ stage. (stage.reached ≡ c.in-Bracket.reached) × IsSettled w.field.now w.lower.now stage)) c.in-Some.is c.in_ok-stage-in-Bracket.ensures in
     let here = sym c.self.view_is
     ∙ ap (λ next. let walk : Walk = record { facts = w.field.now; number = w.number; rest = round_from w.field.now w.lower.now next; limit = w.budget.limit } in walk) c.in-Bracket.is
-    ∙ walk_is w.field.now w.number c.in-Bracket.reached w.lower.now s w.budget.limit stage.reached told.0 in
-    (
+    ∙ walk_is w.field.now w.number c.in-Bracket.reached w.lower.now s w.budget.limit stage.reached told.0 in (
       subst (λ (new : Walk). IsBehind stage c.args.self.now new) (sym c.self-2.view_is)
-      (subst (λ (old : Walk). IsBehind stage old c.behind.result) (sym here) c.behind.ensures),
+          (subst (λ (old : Walk). IsBehind stage old c.behind.result) (sym here) c.behind.ensures),
       subst (λ (facts : Facts). IsStage facts stage) (ap (λ (walk : Walk). walk.facts) c.self.view_is)
-      (stage_is w.field.now w.number c.in-Bracket.reached w.lower.now s
-      (record { falls = c.scores_do_not_ascend.ensures.scores; few = c.scores_do_not_ascend.ensures.few }) stage told.0 told.1),
+          (stage_is w.field.now w.number c.in-Bracket.reached w.lower.now s
+          (record { falls = c.scores_do_not_ascend.ensures.scores; few = c.scores_do_not_ascend.ensures.few }) stage told.0 told.1),
     )

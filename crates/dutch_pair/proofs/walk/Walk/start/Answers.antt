@@ -1,7 +1,5 @@
 -- At first all seats are to come, and they can be paired out.
-use Rattle.std.proofs.Common.{◌≡◌, ◌+◌, ◌≤◌, List, ℕ, [], length, ap, sym, ◌∙◌, subst, arith}
-use Rattle.dutch_pair.specs.Round.{completable, everybody}
-use Rattle.dutch_pair.specs.Walk.{Goes}
+use Rattle.std.proofs.Common.{◌≤◌, List, ℕ, length, sym, subst, arith}
 use Rattle.dutch_pair.specs.WaysOut.{GoesOut}
 use Rattle.dutch_pair.proofs.GroupWalk.{everybody_few, everybody_goes}
 use Rattle.dutch_order.specs.declared.numbers.TheConstants.{LIMIT}
