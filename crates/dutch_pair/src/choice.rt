@@ -114,11 +114,7 @@ fn handed_out(kept: Option<Best>) -> Step<Candidate>
 
 /// Of the candidates that a pass seeks, and that can be chosen, the first that none is better than. `End` is answered where there is
 /// none.
-fn best_near<'a>(
-    pass: &'a Pass<'a>,
-    judge: &mut Judge<'_>,
-    budget: &mut Budget,
-) -> Step<Candidate>
+fn best_near<'a>(pass: &'a Pass<'a>, judge: &mut Judge<'_>, budget: &mut Budget) -> Step<Candidate>
     requires look { LooksBelow pass.now.context.now.facts pass.now.context.now.stand pass.now.context.now.lower judge.old.look }
     requires within { budget.old.used ≤ budget.old.limit }
     ensures answer { MatchStep result
