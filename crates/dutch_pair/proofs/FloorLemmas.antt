@@ -34,6 +34,11 @@ small_pairs facts stand shape fits of =
     let enough : shape.mdps + 2 * (shape.pairs - shape.mdps) ≤ length (map (score_at facts) stand.seats) - stand.mdps = fits.residents_enough in
     omega (arith, counted, few, enough)
 
+pub small_mdps : (facts : Facts) (stand : Stand) (shape : Shape) → Fits (frame_of facts stand) shape → IsOf facts stand → shape.mdps ≤ LIMIT
+small_mdps facts stand shape fits of =
+    let less : shape.mdps ≤ shape.pairs = fits.within_pairs in
+    omega (arith, less, small_pairs facts stand shape fits of)
+
 pub has_room : (facts : Facts) (stand : Stand) (shape : Shape) (count : ℕ) → Fits (frame_of facts stand) shape → IsOf facts stand → count ≤ shape.mdps
     → (count + stand.mdps) + (remainder_pairs shape + residents_down stand shape) ≤ LIMIT
 has_room facts stand shape count fits of le =

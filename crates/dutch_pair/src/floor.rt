@@ -92,10 +92,12 @@ fn has_s1(filling: Filling) -> bool
 
 impl<'a> Floors<'a> {
     /// The floors of a shape, for what the next bracket can be at best.
+    #[tactic(auto, using(crate::proofs::FloorLemmas::small_mdps))]
     pub(crate) fn new(pairs: PairFacts<'a>, shape: Shape, outlook: Outlook) -> Floors<'a>
         requires { Fits (frame_of pairs.facts pairs.stand) shape }
         ensures { result ≡ record { facts = pairs.entry.facts; stand = pairs.entry.stand; shape = shape; outlook = outlook } }
     {
+        let _reached = pairs.context().reached();
         let flat = is_flat(pairs.context());
         let uniform = is_uniform(pairs.context(), shape);
         Floors {
