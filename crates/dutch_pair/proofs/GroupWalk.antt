@@ -20,7 +20,6 @@ use Rattle.dutch_pair.proofs.WalkLemmas.{Descends, LeftGoOn, is_above, left_go_o
 use Rattle.dutch_pair.proofs.ArrangementParts.{numbers_above}
 use Rattle.dutch_order.specs.declared.numbers.TheConstants.{LIMIT}
 
-
 ne_of : (a b : ℕ) → (a == b) ≡ false → a ≤ b → a < b
 ne_of a b h le = grind (arith, nat_tests)
 

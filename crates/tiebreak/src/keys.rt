@@ -52,9 +52,7 @@ fn has_met_all(report: &Report<'_>, rounds: u8, start: u16, group: &[u16]) -> bo
     requires { rounds ≡ rounds_played report.now }
     ensures { result ≡ list_all (λ other. (start == other) || have_met report.now start other) group.now }
 {
-    group
-        .iter()
-        .all(|other| start == *other || have_met(report, rounds, start, *other))
+    group.iter().all(|other| start == *other || have_met(report, rounds, start, *other))
 }
 
 fn have_all_met(report: &Report<'_>, rounds: u8, group: &[u16]) -> bool

@@ -207,9 +207,19 @@ fn rounds_are_64_at_most(rt: HostRuntime) -> Result<(), AllocError> {
     let alloc = rt.alloc();
     let bye = "0000 - U";
     let text = format!(in alloc; "001    1{:403}{bye}", "")?;
-    assert!(rt; has_printed(&check(alloc, text.as_bytes()), "accepted players 1 rounds 33\n"));
+    assert!(rt;
+        has_printed(
+            &check(alloc, text.as_bytes()),
+            "accepted players 1 rounds 33\n"
+        )
+    );
     let text = format!(in alloc; "001    1{:713}{bye}  ", "")?;
-    assert!(rt; has_printed(&check(alloc, text.as_bytes()), "accepted players 1 rounds 64\n"));
+    assert!(rt;
+        has_printed(
+            &check(alloc, text.as_bytes()),
+            "accepted players 1 rounds 64\n"
+        )
+    );
     let text = format!(in alloc; "001    1{:713}{bye}  x", "")?;
     let ended = check(alloc, text.as_bytes());
     assert!(rt; has_refused(&ended, "refused: too many rounds\n"));
