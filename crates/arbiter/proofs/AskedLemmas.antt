@@ -9,14 +9,14 @@ use Rattle.clap.specs.Words.{Row, Text, one_of, subcommand_of}
 use Rattle.dutch_order.specs.Cursors.{has_syntax}
 use Rattle.trf16.specs.declared.cell.Colour.{Colour}
 use Rattle.arbiter.specs.Known.{CanBeAnswered, HasFewRounds}
-use Rattle.arbiter.specs.Options.{◌>>=◌, bye_in, candidates_options, flag_in, format_options, initial_in, number_in, number_of, pair_options, rounds_in, shown_by, standings_options, steps_in}
-use Rattle.arbiter.specs.Words.{AsksFor, arbiter_app, candidates_request, pair_request, request_of, standings_request, task_by, with_bye}
+use Rattle.arbiter.specs.Options.{◌>>=◌, bye_in, candidates_options, explain_options, flag_in, format_options, initial_in, number_in, number_of, pair_options, rounds_in, shown_by, standings_options, steps_in}
+use Rattle.arbiter.specs.Words.{AsksFor, arbiter_app, candidates_request, explain_request, pair_request, request_of, standings_request, task_by, with_bye}
 use Rattle.arbiter.specs.declared.options.PairOptions.{PairOptions}
 use Rattle.arbiter.specs.declared.options.Shown.{Shown}
 use Rattle.arbiter.specs.declared.options.WordFault.{WordFault}
 use Rattle.arbiter.specs.declared.words.Task.{Task}
 use Rattle.arbiter.specs.declared.words.Request.{Request}
-use Rattle.arbiter.specs.declared.words.Request.TheVariants.{Check, Format, Pair, Candidates, Standings}
+use Rattle.arbiter.specs.declared.words.Request.TheVariants.{Check, Format, Pair, Candidates, Explain, Standings}
 use Rattle.trf16.specs.declared.limits.TheConstants.{MOST_ROUNDS}
 
 -- what a step gives that met no fault
@@ -71,6 +71,12 @@ candidates_asked rows request e =
     let s = then_ok (candidates_options has_syntax rows) (λ options. Ok (Candidates options)) request e in
     subst CanBeAnswered (same_ok (Candidates s.0) request s.2) tt
 
+explain_asked : (rows : List Row) (request : Request) → explain_request rows ≡ Ok request → CanBeAnswered request
+unfolding explain_request
+explain_asked rows request e =
+    let s = then_ok (explain_options rows) (λ options. Ok (Explain options)) request e in
+    subst CanBeAnswered (same_ok (Explain s.0) request s.2) tt
+
 standings_asked : (rows : List Row) (request : Request) → standings_request rows ≡ Ok request → CanBeAnswered request
 unfolding standings_request
 standings_asked rows request e =
@@ -80,20 +86,21 @@ standings_asked rows request e =
 some_ok : (x y : Result Request WordFault) → Some x ≡ Some y → x ≡ y
 some_ok x y e = cc
 
-asked_at : (rows : List Row) (request : Request) (check format pair candidates standings : Bool)
+asked_at : (rows : List Row) (request : Request) (check format pair candidates explain standings : Bool)
     → cond check (Some (Ok Check)) (cond format (Some (Ok (Format (format_options rows)))) (cond pair (Some (pair_request rows))
-    (cond candidates (Some (candidates_request rows)) (cond standings (Some (standings_request rows)) None)))) ≡ Some (Ok request) → CanBeAnswered request
-asked_at rows request true format pair candidates standings e = subst CanBeAnswered (same_ok Check request (some_ok (Ok Check) (Ok request) e)) tt
-asked_at rows request false true pair candidates standings e = subst CanBeAnswered (same_ok (Format (format_options rows)) request (some_ok (Ok (Format (format_options rows))) (Ok request) e)) tt
-asked_at rows request false false true candidates standings e = pair_asked rows request (some_ok (pair_request rows) (Ok request) e)
-asked_at rows request false false false true standings e = candidates_asked rows request (some_ok (candidates_request rows) (Ok request) e)
-asked_at rows request false false false false true e = standings_asked rows request (some_ok (standings_request rows) (Ok request) e)
-asked_at rows request false false false false false e = let bad : None ≡ Some (let made : Result Request WordFault = Ok request in made) = e in cc
+    (cond candidates (Some (candidates_request rows)) (cond explain (Some (explain_request rows)) (cond standings (Some (standings_request rows)) None))))) ≡ Some (Ok request) → CanBeAnswered request
+asked_at rows request true format pair candidates explain standings e = subst CanBeAnswered (same_ok Check request (some_ok (Ok Check) (Ok request) e)) tt
+asked_at rows request false true pair candidates explain standings e = subst CanBeAnswered (same_ok (Format (format_options rows)) request (some_ok (Ok (Format (format_options rows))) (Ok request) e)) tt
+asked_at rows request false false true candidates explain standings e = pair_asked rows request (some_ok (pair_request rows) (Ok request) e)
+asked_at rows request false false false true explain standings e = candidates_asked rows request (some_ok (candidates_request rows) (Ok request) e)
+asked_at rows request false false false false true standings e = explain_asked rows request (some_ok (explain_request rows) (Ok request) e)
+asked_at rows request false false false false false true e = standings_asked rows request (some_ok (standings_request rows) (Ok request) e)
+asked_at rows request false false false false false false e = let bad : None ≡ Some (let made : Result Request WordFault = Ok request in made) = e in cc
 
 command_asked : (command : Text × List Row) (request : Request) → request_of command.0 command.1 ≡ Some (Ok request) → CanBeAnswered request
 command_asked command request e =
     let name : Text = command.0 in
-    asked_at command.1 request (bytes_eq name (codes "check")) (bytes_eq name (codes "format")) (bytes_eq name (codes "pair")) (bytes_eq name (codes "candidates")) (bytes_eq name (codes "standings")) e
+    asked_at command.1 request (bytes_eq name (codes "check")) (bytes_eq name (codes "format")) (bytes_eq name (codes "pair")) (bytes_eq name (codes "candidates")) (bytes_eq name (codes "explain")) (bytes_eq name (codes "standings")) e
 
 -- what a command comes to
 abbrev asks : Request → Option (Result Request WordFault)

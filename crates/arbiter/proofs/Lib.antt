@@ -11,3 +11,10 @@ pub mod TableLemmas
 pub mod AskedLemmas
 pub mod PairLemmas
 pub mod MemberLemmas
+pub mod StageLemmas
+pub mod JoinedTexts
+pub mod PlayerLemmas
+pub mod ObstacleLemmas
+pub mod ObstacleTruth
+pub mod InsteadLemmas
+pub mod DecidedLemmas

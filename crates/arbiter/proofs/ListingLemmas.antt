@@ -5,17 +5,17 @@ use Rattle.std.proofs.lemmas.Grind.{flat_map-append}
 use Rattle.std.proofs.lemmas.List.{drop_all}
 use Rattle.dutch_order.specs.Arrangements.{Arrangement, Frame, IsBracket, arrangements, down}
 use Rattle.dutch_order.specs.Cursors.{cursor_of}
-use Rattle.dutch_order.specs.Draws.{Draw}
+use Rattle.dutch_order.specs.Candidates.{Candidate}
 use Rattle.dutch_order.specs.Keys.{IsIn}
 use Rattle.dutch_order.specs.declared.bracket.Shape.{Shape}
 use Rattle.dutch_order.proofs.CursorReads.{read-is}
 use Rattle.dutch_pair.specs.Outcomes.{IsBracketAt}
-use Rattle.dutch_pair.specs.Reached.{Stand, frame_of}
+use Rattle.dutch_pair.specs.Reached.{Reached, frame_of}
 use Rattle.dutch_player.specs.Facts.{Facts}
 use Rattle.dutch_pair.specs.declared.round.BracketAt.{BracketAt}
 use Rattle.dutch_order.specs.declared.cursor.CursorFault.{CursorFault}
 use Rattle.arbiter.specs.CandidateAnswers.{IsListing, IsAnswerToField, Lists, AnswersFound, coming_of, ending_text, status_of}
-use Rattle.arbiter.specs.CandidateTexts.{bracket_text, draw_text, line_text, pairs_text}
+use Rattle.arbiter.specs.CandidateTexts.{bracket_text, candidate_text, line_text, pairs_text}
 use Rattle.arbiter.specs.Replies.{answer_of}
 use Rattle.arbiter.specs.Statuses.{not_of_bracket}
 use Rattle.arbiter.specs.declared.listing.Ending.{Ending}
@@ -80,16 +80,16 @@ pub cursor_is_in : (frame : Frame) (shape : Shape) (bytes : List ℕ) (a : Arran
     → cursor_of frame shape bytes ≡ Ok a → IsIn a (arrangements frame shape)
 cursor_is_in frame shape bytes a is e = (read-is frame shape bytes a is e).0
 
-no_seconds : (facts : Facts) (stand : Stand) (firsts : List ℕ) → pairs_text facts stand firsts [] ≡ []
-no_seconds facts stand [] = refl
-no_seconds facts stand (first ∷ firsts) = refl
+no_seconds : (facts : Facts) (reached : Reached) (firsts : List ℕ) → pairs_text facts reached firsts [] ≡ []
+no_seconds facts reached [] = refl
+no_seconds facts reached (first ∷ firsts) = refl
 
 -- where the second list is at its end there are no more pairs
-pub pairs_end : (facts : Facts) (stand : Stand) (firsts seconds : List ℕ) (i : ℕ) (old text : List ℕ)
-    → text ++ pairs_text facts stand (drop i firsts) (drop i seconds) ≡ old ++ pairs_text facts stand firsts seconds → length seconds ≤ i
-    → text ≡ old ++ pairs_text facts stand firsts seconds
-pairs_end facts stand firsts seconds i old text e end =
-    let none : pairs_text facts stand (drop i firsts) (drop i seconds) ≡ [] = ap (pairs_text facts stand (drop i firsts)) (drop_all i seconds end) ∙ no_seconds facts stand (drop i firsts) in
+pub pairs_end : (facts : Facts) (reached : Reached) (firsts seconds : List ℕ) (i : ℕ) (old text : List ℕ)
+    → text ++ pairs_text facts reached (drop i firsts) (drop i seconds) ≡ old ++ pairs_text facts reached firsts seconds → length seconds ≤ i
+    → text ≡ old ++ pairs_text facts reached firsts seconds
+pairs_end facts reached firsts seconds i old text e end =
+    let none : pairs_text facts reached (drop i firsts) (drop i seconds) ≡ [] = ap (pairs_text facts reached (drop i firsts)) (drop_all i seconds end) ∙ no_seconds facts reached (drop i firsts) in
     sym (append-nil text) ∙ (ap (λ t. text ++ t) (sym none) ∙ e)
 
 -- the listing is stopped
@@ -105,21 +105,21 @@ underway_count line all coming done count text steps h low high =
     (subst (λ n. n ≤ length all) same h.within, subst (λ n. text ≡ flat_map line (take n all)) same h.text_is)
 
 -- a listing is answered
-pub listed : (options : CandidatesOptions) (facts : Facts) (stand : Stand) (shape : Shape) (coming : List Arrangement) (status : Status)
-    (text lines : List ℕ) (ending : Ending) → coming_of facts stand shape options.from ≡ Ok coming
-    → IsListing (line_text facts stand) coming options.count options.steps ending lines → status ≡ status_of ending
-    → text ≡ bracket_text options.bracket stand.kind shape ++ (lines ++ ending_text options.bracket ending)
-    → Lists options facts stand shape (coming_of facts stand shape options.from) (record { status = status; text = text })
-listed options facts stand shape coming status text lines ending e listing s t =
-    subst (λ r. Lists options facts stand shape r (record { status = status; text = text })) (sym e)
+pub listed : (options : CandidatesOptions) (facts : Facts) (reached : Reached) (shape : Shape) (coming : List Arrangement) (status : Status)
+    (text lines : List ℕ) (ending : Ending) → coming_of facts reached shape options.from ≡ Ok coming
+    → IsListing (line_text facts reached) coming options.count options.steps ending lines → status ≡ status_of ending
+    → text ≡ bracket_text options.bracket reached.kind shape ++ (lines ++ ending_text options.bracket ending)
+    → Lists options facts reached shape (coming_of facts reached shape options.from) (record { status = status; text = text })
+listed options facts reached shape coming status text lines ending e listing s t =
+    subst (λ r. Lists options facts reached shape r (record { status = status; text = text })) (sym e)
     (record { ending = ending; lines = lines; listing = listing; status = s; text = t })
 
 -- a cursor of another bracket is told
-pub not_listed : (options : CandidatesOptions) (facts : Facts) (stand : Stand) (shape : Shape) (fault : CursorFault) {E : Type 0} (r : Result Reply E)
-    → coming_of facts stand shape options.from ≡ Err fault → IfOk r (λ reply. answer_of reply ≡ not_of_bracket options.bracket)
-    → IfOk r (λ reply. Lists options facts stand shape (coming_of facts stand shape options.from) (answer_of reply))
-not_listed options facts stand shape fault (Ok reply) e h = subst (λ x. Lists options facts stand shape x (answer_of reply)) (sym e) h
-not_listed options facts stand shape fault (Err error) e h = h
+pub not_listed : (options : CandidatesOptions) (facts : Facts) (reached : Reached) (shape : Shape) (fault : CursorFault) {E : Type 0} (r : Result Reply E)
+    → coming_of facts reached shape options.from ≡ Err fault → IfOk r (λ reply. answer_of reply ≡ not_of_bracket options.bracket)
+    → IfOk r (λ reply. Lists options facts reached shape (coming_of facts reached shape options.from) (answer_of reply))
+not_listed options facts reached shape fault (Ok reply) e h = subst (λ x. Lists options facts reached shape x (answer_of reply)) (sym e) h
+not_listed options facts reached shape fault (Err error) e h = h
 
 -- what is answered to a bracket that is found
 pub told : (options : CandidatesOptions) (facts : Facts) (found : BracketAt) {E : Type 0} (r : Result Reply E) → IsBracketAt facts options.steps options.bracket found
@@ -128,11 +128,11 @@ told options facts found (Ok reply) is h = record { found = found; is = is; tell
 told options facts found (Err error) is h = h
 
 -- behind the line of one more candidate
-pub underway_line : (facts : Facts) (stand : Stand) (all before coming : List Arrangement) (draw : Draw) (frame : Frame) (done : ℕ) (text new : List ℕ)
-    → IsUnderway (line_text facts stand) all before done text → before ≡ draw.lists ∷ coming → draw.down ≡ down frame draw.lists → frame ≡ frame_of facts stand
-    → new ≡ text ++ draw_text facts stand draw → IsUnderway (line_text facts stand) all coming (done + 1) new
-underway_line facts stand all before coming draw frame done text new h e left same put =
-    let line : draw_text facts stand draw ≡ line_text facts stand draw.lists =
-    ap (λ d. draw_text facts stand (record { lists = draw.lists; down = d })) (left ∙ ap (λ f. down f draw.lists) same) in
-    subst (IsUnderway (line_text facts stand) all coming (done + 1)) (sym (put ∙ ap (λ t. text ++ t) line))
-    (underway_more (line_text facts stand) all before coming draw.lists done text h e)
+pub underway_line : (facts : Facts) (reached : Reached) (all before coming : List Arrangement) (candidate : Candidate) (frame : Frame) (done : ℕ) (text new : List ℕ)
+    → IsUnderway (line_text facts reached) all before done text → before ≡ candidate.lists ∷ coming → candidate.down ≡ down frame candidate.lists → frame ≡ frame_of facts reached
+    → new ≡ text ++ candidate_text facts reached candidate → IsUnderway (line_text facts reached) all coming (done + 1) new
+underway_line facts reached all before coming candidate frame done text new h e left same put =
+    let line : candidate_text facts reached candidate ≡ line_text facts reached candidate.lists =
+    ap (λ d. candidate_text facts reached (record { lists = candidate.lists; down = d })) (left ∙ ap (λ f. down f candidate.lists) same) in
+    subst (IsUnderway (line_text facts reached) all coming (done + 1)) (sym (put ∙ ap (λ t. text ++ t) line))
+    (underway_more (line_text facts reached) all before coming candidate.lists done text h e)

@@ -13,7 +13,7 @@ use Rattle.arbiter.specs.Devices.{Reading}
 use Rattle.arbiter.specs.Input.{IsRead, most_read}
 use Rattle.arbiter.specs.Run.{IsAnswered, IsInput}
 use Rattle.arbiter.specs.declared.words.Request.{Request}
-use Rattle.arbiter.specs.declared.words.Request.TheVariants.{Check, Format, Pair, Candidates, Standings}
+use Rattle.arbiter.specs.declared.words.Request.TheVariants.{Check, Format, Pair, Candidates, Explain, Standings}
 use Rattle.arbiter.specs.declared.words.Task.{Task}
 use Rattle.trf16.specs.declared.limits.TheConstants.{MOST_BYTES}
 
@@ -39,6 +39,7 @@ verdict_for-long Check bytes bye h = verdict-long bytes bye h
 verdict_for-long (Format options) bytes bye h = format-long options.points bytes bye h
 verdict_for-long (Pair options) bytes bye h = verdict-long bytes bye h
 verdict_for-long (Candidates options) bytes bye h = verdict-long bytes bye h
+verdict_for-long (Explain options) bytes bye h = verdict-long bytes bye h
 verdict_for-long (Standings options) bytes bye h = verdict-long bytes bye h
 
 -- what is read of some bytes has their verdict

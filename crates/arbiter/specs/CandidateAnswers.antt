@@ -6,7 +6,7 @@ use Rattle.dutch_order.specs.Cursors.{cursor_of}
 use Rattle.dutch_order.specs.declared.bracket.Shape.{Shape}
 use Rattle.dutch_order.specs.declared.cursor.CursorFault.{CursorFault}
 use Rattle.dutch_pair.specs.Outcomes.{IsBracketAt}
-use Rattle.dutch_pair.specs.Reached.{Stand, frame_of, numbers_meet, number_may_be_left}
+use Rattle.dutch_pair.specs.Reached.{Reached, frame_of, numbers_meet, number_may_be_left}
 use Rattle.dutch_pair.specs.declared.round.BracketAt.{BracketAt}
 use Rattle.dutch_pair.specs.declared.round.BracketAt.TheVariants.{Bracket, NotReached, NoPairing as NoPairingAt, Undecided as UndecidedAt}
 use Rattle.dutch_player.specs.Facts.{Facts, facts_of}
@@ -43,31 +43,31 @@ ending_text number AtCount = codes "more\n"
 ending_text number (Stopped used) = undecided_text number used
 
 -- the candidates behind a cursor
-abbrev pub behind_cursor : Facts → Stand → Shape → Result Arrangement CursorFault → Result (List Arrangement) CursorFault
-behind_cursor facts stand shape (Ok lists) = Ok (rest (numbers_meet facts stand) (number_may_be_left facts stand) (frame_of facts stand) shape lists)
-behind_cursor facts stand shape (Err fault) = Err fault
+abbrev pub behind_cursor : Facts → Reached → Shape → Result Arrangement CursorFault → Result (List Arrangement) CursorFault
+behind_cursor facts reached shape (Ok lists) = Ok (rest (numbers_meet facts reached) (number_may_be_left facts reached) (frame_of facts reached) shape lists)
+behind_cursor facts reached shape (Err fault) = Err fault
 
 -- the candidates that a listing has to give: all of the bracket and shape, or those behind the cursor that a text is
-abbrev pub coming_of : Facts → Stand → Shape → Option (List ℕ) → Result (List Arrangement) CursorFault
-coming_of facts stand shape None = Ok (candidates (numbers_meet facts stand) (number_may_be_left facts stand) (frame_of facts stand) shape)
-coming_of facts stand shape (Some text) = behind_cursor facts stand shape (cursor_of (frame_of facts stand) shape text)
+abbrev pub coming_of : Facts → Reached → Shape → Option (List ℕ) → Result (List Arrangement) CursorFault
+coming_of facts reached shape None = Ok (candidates (numbers_meet facts reached) (number_may_be_left facts reached) (frame_of facts reached) shape)
+coming_of facts reached shape (Some text) = behind_cursor facts reached shape (cursor_of (frame_of facts reached) shape text)
 
 -- a bracket of this number and its candidates to come are listed
-pub record IsListOfBracket (options : CandidatesOptions) (facts : Facts) (stand : Stand) (shape : Shape) (coming : List Arrangement) (answer : Answer) : Type 0 where
+pub record IsListOfBracket (options : CandidatesOptions) (facts : Facts) (reached : Reached) (shape : Shape) (coming : List Arrangement) (answer : Answer) : Type 0 where
   pub ending : Ending
   pub lines : List ℕ
-  pub listing : IsListing (line_text facts stand) coming options.count options.steps ending lines
+  pub listing : IsListing (line_text facts reached) coming options.count options.steps ending lines
   pub status : answer.status ≡ status_of ending
-  pub text : answer.text ≡ bracket_text options.bracket stand.kind shape ++ (lines ++ ending_text options.bracket ending)
+  pub text : answer.text ≡ bracket_text options.bracket reached.kind shape ++ (lines ++ ending_text options.bracket ending)
 
 -- the same, where the cursor is one of the bracket; else that is told
-abbrev pub Lists : CandidatesOptions → Facts → Stand → Shape → Result (List Arrangement) CursorFault → Answer → Type 0
-Lists options facts stand shape (Ok coming) answer = IsListOfBracket options facts stand shape coming answer
-Lists options facts stand shape (Err fault) answer = answer ≡ not_of_bracket options.bracket
+abbrev pub Lists : CandidatesOptions → Facts → Reached → Shape → Result (List Arrangement) CursorFault → Answer → Type 0
+Lists options facts reached shape (Ok coming) answer = IsListOfBracket options facts reached shape coming answer
+Lists options facts reached shape (Err fault) answer = answer ≡ not_of_bracket options.bracket
 
 -- what is answered to the bracket that is found
 abbrev pub AnswersFound : CandidatesOptions → Facts → BracketAt → Answer → Type 0
-AnswersFound options facts (Bracket stand shape) answer = Lists options facts stand shape (coming_of facts stand shape options.from) answer
+AnswersFound options facts (Bracket reached shape) answer = Lists options facts reached shape (coming_of facts reached shape options.from) answer
 AnswersFound options facts NotReached answer = answer ≡ not_reached options.bracket
 AnswersFound options facts NoPairingAt answer = answer ≡ no_pairing
 AnswersFound options facts (UndecidedAt number used) answer = answer ≡ undecided number used

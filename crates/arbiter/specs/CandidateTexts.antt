@@ -4,30 +4,34 @@ use Rattle.std.specs.List.{flat_map}
 use Rattle.std.specs.Fmt.{decimal}
 use Rattle.dutch_order.specs.Arrangements.{Arrangement, down}
 use Rattle.dutch_order.specs.Cursors.{cursor_text}
-use Rattle.dutch_order.specs.Draws.{Draw}
+use Rattle.dutch_order.specs.Candidates.{Candidate}
 use Rattle.dutch_order.specs.declared.bracket.Shape.{Shape}
 use Rattle.dutch_player.specs.Facts.{Facts, seat_at}
-use Rattle.dutch_pair.specs.Reached.{Stand, frame_of, is_number}
+use Rattle.dutch_pair.specs.Reached.{Reached, frame_of, is_number}
 use Rattle.dutch_pair.specs.Seated.{seat_of}
-use Rattle.dutch_pair.specs.declared.reached.Kind.{Kind}
-use Rattle.dutch_pair.specs.declared.reached.Kind.TheVariants.{Ordinary, Last, Penultimate, Collapsed}
+use Rattle.dutch_pair.specs.declared.reached.BracketKind.{BracketKind}
+use Rattle.dutch_pair.specs.declared.reached.BracketKind.TheVariants.{Ordinary, Last, Penultimate, Collapsed}
 
 -- what a bracket is for the round
-abbrev pub kind_text : Kind → List ℕ
+abbrev pub kind_text : BracketKind → List ℕ
 kind_text Ordinary = codes "ordinary"
 kind_text Last = codes "last"
 kind_text Penultimate = codes "penultimate"
 kind_text Collapsed = codes "collapsed"
 
 -- the bracket of a number: its kind, how many pairs it makes, and how many moved-down players are in them
-abbrev pub bracket_text : ℕ → Kind → Shape → List ℕ
+abbrev pub bracket_text : ℕ → BracketKind → Shape → List ℕ
 bracket_text number kind shape =
     codes "bracket " ++ (decimal number ++ (codes " " ++ (kind_text kind ++ (codes " pairs " ++ (decimal shape.pairs ++ (codes " mdps " ++ (decimal shape.mdps ++ codes "\n")))))))
 
-module _ (facts : Facts) (stand : Stand) where
+-- the start rank of a seat
+abbrev pub rank_text : Facts → ℕ → List ℕ
+rank_text facts seat = decimal (seat_at facts seat).start
+
+module _ (facts : Facts) (reached : Reached) where
   -- the start rank of a number of a bracket; 0 for a number that is none of its
   abbrev pub start_of : ℕ → ℕ
-  start_of number = if is_number stand number then (seat_at facts (seat_of stand.seats number)).start else 0
+  start_of number = if is_number reached number then (seat_at facts (seat_of reached.seats number)).start else 0
 
   -- two who are paired
   abbrev pub pair_text : ℕ → ℕ → List ℕ
@@ -45,10 +49,10 @@ module _ (facts : Facts) (stand : Stand) where
   down_text (number ∷ numbers) = codes " down" ++ flat_map (λ n. codes " " ++ decimal (start_of n)) (number ∷ numbers)
 
   -- a candidate with those whom it leaves over
-  abbrev pub draw_text : Draw → List ℕ
-  draw_text draw =
-      cursor_text draw.lists ++ (pairs_text draw.lists.s1 draw.lists.s2 ++ (pairs_text draw.lists.s1r draw.lists.s2r ++ (down_text draw.down ++ codes "\n")))
+  abbrev pub candidate_text : Candidate → List ℕ
+  candidate_text candidate =
+      cursor_text candidate.lists ++ (pairs_text candidate.lists.s1 candidate.lists.s2 ++ (pairs_text candidate.lists.s1r candidate.lists.s2r ++ (down_text candidate.down ++ codes "\n")))
 
   -- a candidate: its cursor, its pairs, and its downfloaters by rank
   abbrev pub line_text : Arrangement → List ℕ
-  line_text lists = draw_text (record { lists = lists; down = down (frame_of facts stand) lists })
+  line_text lists = candidate_text (record { lists = lists; down = down (frame_of facts reached) lists })

@@ -28,6 +28,14 @@ from_rule = option_rule (codes "from")
 abbrev pub count_rule : Rule
 count_rule = number_rule (codes "count") (Unsigned 1 10000)
 
+-- `--player P`: 1 to 9999
+abbrev pub player_rule : Rule
+player_rule = number_rule (codes "player") (Signed (pos 1) (pos 9999))
+
+-- `--instead Q`: 0 to 9999
+abbrev pub instead_rule : Rule
+instead_rule = number_rule (codes "instead") (Signed (pos 0) (pos 9999))
+
 -- `--rounds N`: from 1 to the most rounds
 abbrev pub rounds_rule : Rule
 rounds_rule = number_rule (codes "rounds") (Signed (pos 1) (pos MOST_ROUNDS))
@@ -73,6 +81,10 @@ pair_app = with_rule (with_rule (with_rule (with_round_rules (new_app (codes "pa
 -- `candidates`
 abbrev pub candidates_app : App
 candidates_app = with_rule (with_round_rules (with_rule (with_rule (with_rule (new_app (codes "candidates")) bracket_rule) from_rule) count_rule)) bye_rule
+
+-- `explain`
+abbrev pub explain_app : App
+explain_app = with_rule (with_round_rules (with_rule (with_rule (new_app (codes "explain")) player_rule) instead_rule)) bye_rule
 
 -- `standings`
 abbrev pub standings_app : App

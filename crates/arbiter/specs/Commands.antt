@@ -6,6 +6,7 @@ use Rattle.trf16.specs.Verdict.{verdict}
 use Rattle.trf16.specs.Written.{written}
 use Rattle.trf16.specs.declared.fault.Fault.{Fault}
 use Rattle.arbiter.specs.CandidateAnswers.{AnswersCandidates}
+use Rattle.arbiter.specs.ExplainAnswers.{AnswersExplain}
 use Rattle.arbiter.specs.PairAnswers.{AnswersPair}
 use Rattle.arbiter.specs.StandingsAnswers.{standings_answer}
 use Rattle.arbiter.specs.Statuses.{Answer, done, refusal}
@@ -13,7 +14,7 @@ use Rattle.arbiter.specs.Texts.{accepted_text}
 use Rattle.arbiter.specs.declared.reply.Status.TheVariants.{Done}
 use Rattle.arbiter.specs.declared.words.Task.{Task}
 use Rattle.arbiter.specs.declared.words.Request.{Request}
-use Rattle.arbiter.specs.declared.words.Request.TheVariants.{Check, Format, Pair, Candidates, Standings}
+use Rattle.arbiter.specs.declared.words.Request.TheVariants.{Check, Format, Pair, Candidates, Explain, Standings}
 
 -- `check`: how many players and rounds the report has, or why it is refused
 abbrev pub check_answer : Result Sheet Fault → Answer
@@ -41,6 +42,7 @@ AnswersReport Check report answer = answer ≡ check_answer report
 AnswersReport (Format options) report answer = answer ≡ format_answer options.points report
 AnswersReport (Pair options) report answer = AnswersPair options report answer
 AnswersReport (Candidates options) report answer = AnswersCandidates options report answer
+AnswersReport (Explain options) report answer = AnswersExplain options report answer
 AnswersReport (Standings options) report answer = answer ≡ standings_answer options report
 
 -- the verdict that a request goes by, where the pairing-allocated bye gives so many half points

@@ -7,7 +7,7 @@ use Rattle.trf16.specs.Sheet.{Sheet}
 use Rattle.trf16.specs.Verdict.{verdict}
 use Rattle.arbiter.specs.declared.options.PairOptions.{PairOptions}
 use Rattle.arbiter.specs.declared.words.Request.{Request}
-use Rattle.arbiter.specs.declared.words.Request.TheVariants.{Check, Format, Pair, Candidates, Standings}
+use Rattle.arbiter.specs.declared.words.Request.TheVariants.{Check, Format, Pair, Candidates, Explain, Standings}
 use Rattle.trf16.specs.declared.limits.TheConstants.{MOST_ROUNDS}
 
 -- a total of rounds that is asked for is not above the most rounds
@@ -20,6 +20,7 @@ CanBeAnswered Check = Unit {0}
 CanBeAnswered (Format options) = Unit {0}
 CanBeAnswered (Pair options) = HasFewRounds options
 CanBeAnswered (Candidates options) = Unit {0}
+CanBeAnswered (Explain options) = Unit {0}
 CanBeAnswered (Standings options) = Unit {0}
 
 -- some text is this report, by what the pairing-allocated bye gives

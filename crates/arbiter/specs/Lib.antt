@@ -14,8 +14,16 @@ pub mod Statuses
 pub mod CandidateTexts
 pub mod CandidateAnswers
 pub mod PairAnswers
+pub mod ItemTexts
+pub mod ExplainTexts
+pub mod ExplainAnswers
 pub mod StandingsTexts
 pub mod Known
 pub mod Tables
 pub mod WallTexts
 pub mod StandingsAnswers
+pub mod PlayerTexts
+pub mod Obstacles
+pub mod InsteadLaws
+pub mod InsteadTexts
+pub mod InsteadAnswers

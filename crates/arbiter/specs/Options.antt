@@ -11,10 +11,12 @@ use Rattle.trf16.specs.declared.cell.Colour.TheVariants.{White, Black}
 use Rattle.arbiter.specs.Keys.{keys_in, usual_keys}
 use Rattle.tiebreak.specs.declared.key.Key.{Key}
 use Rattle.arbiter.specs.declared.options.WordFault.{WordFault}
-use Rattle.arbiter.specs.declared.options.WordFault.TheVariants.{BadColour, BadKeys, BadCursor, NamesAndReport}
+use Rattle.arbiter.specs.declared.options.WordFault.TheVariants.{BadColour, BadKeys, BadCursor, NamesAndReport, InsteadAlone}
 use Rattle.arbiter.specs.declared.options.CandidatesOptions.{CandidatesOptions}
+use Rattle.arbiter.specs.declared.options.ExplainOptions.{ExplainOptions}
 use Rattle.arbiter.specs.declared.options.FormatOptions.{FormatOptions}
 use Rattle.arbiter.specs.declared.options.PairOptions.{PairOptions}
+use Rattle.arbiter.specs.declared.options.Question.{Question}
 use Rattle.arbiter.specs.declared.options.Shown.{Shown}
 use Rattle.arbiter.specs.declared.options.Shown.TheVariants.{Boards, Names, Report}
 use Rattle.arbiter.specs.declared.options.StandingsOptions.{StandingsOptions}
@@ -73,6 +75,14 @@ count_in rows = unwrap_or (number_in 18446744073709551615 (codes "count") rows) 
 abbrev pub bracket_in : List Row → ℕ
 bracket_in rows = unwrap_or (number_in 65535 (codes "bracket") rows) 1
 
+-- `--player`: the player of whom it is asked (clap lets no words pass with 0 or with one above 9999)
+abbrev pub player_in : List Row → Option ℕ
+player_in rows = number_in 65535 (codes "player") rows
+
+-- `--instead`: whom he might have met, 0 for the bye (clap lets no words pass with one above 9999)
+abbrev pub instead_in : List Row → Option ℕ
+instead_in rows = number_in 65535 (codes "instead") rows
+
 -- `--bye`: what the pairing-allocated bye gives in half points, 2 where it is left out (clap lets no words pass with one above 2)
 abbrev pub bye_in : List Row → ℕ
 bye_in rows = unwrap_or (number_in 2 (codes "bye") rows) 2
@@ -85,6 +95,12 @@ from_in is_cursor rows = read_by (λ text. if is_cursor text then Some text else
 abbrev pub keys_by : Option Text → Result (List Key) WordFault
 keys_by None = Ok usual_keys
 keys_by (Some text) = option_map_or (λ keys. Ok keys) (keys_in text) (Err BadKeys)
+
+-- `--player` and `--instead`: what is asked of a player; it is the whole round's where no player is named, and then nobody stands instead
+abbrev pub question_by : Option ℕ → Option ℕ → Result (Option Question) WordFault
+question_by None None = Ok None
+question_by None (Some instead) = Err InsteadAlone
+question_by (Some player) instead = Ok (Some (record { player = player; instead = instead }))
 
 -- `--report` and `--names`: what is printed of a round; both at once ask for nothing that there is
 abbrev pub shown_by : Bool → Bool → Result Shown WordFault
@@ -105,6 +121,13 @@ pair_options rows = do
   initial ← initial_in rows
   shown ← shown_by (flag_in (codes "report") rows) (flag_in (codes "names") rows)
   Ok (record { rounds = rounds_in rows; initial = initial; steps = steps_in rows; shown = shown })
+
+-- `explain`
+unfoldable pub explain_options : List Row → Result ExplainOptions WordFault
+explain_options rows = do
+  initial ← initial_in rows
+  question ← question_by (player_in rows) (instead_in rows)
+  Ok (record { question = question; rounds = rounds_in rows; initial = initial; steps = steps_in rows })
 
 -- `standings`
 unfoldable pub standings_options : List Row → Result StandingsOptions WordFault

@@ -1,12 +1,13 @@
 -- A status with the text that goes with it, and those that do not depend on the command.
-use Rattle.std.specs.Prelude.{ℕ, Bool, true, false, List, codes}
+use Rattle.std.specs.Prelude.{ℕ, Bool, true, false, List, ◌++◌, codes}
 use Rattle.dutch_player.specs.declared.fault.FieldFault.{FieldFault}
 use Rattle.dutch_player.specs.declared.fault.FieldFault.TheVariants.{OutOfMemory as FieldMemory}
 use Rattle.tiebreak.specs.declared.fault.TieFault.{TieFault}
 use Rattle.tiebreak.specs.declared.fault.TieFault.TheVariants.{OutOfMemory as TieMemory}
 use Rattle.trf16.specs.declared.fault.Fault.{Fault}
 use Rattle.trf16.specs.declared.fault.Fault.TheVariants.{OutOfMemory}
-use Rattle.arbiter.specs.Texts.{fault_text, field_text, memory_text, not_of_bracket_text, not_reached_text, read_text, tie_text, undecided_text}
+use Rattle.arbiter.specs.Texts.{fault_text, field_text, memory_text, not_of_bracket_text, not_reached_text, question_text, read_text, tie_text, undecided_text}
+use Rattle.arbiter.specs.declared.question.QuestionFault.{QuestionFault}
 use Rattle.arbiter.specs.declared.reply.Status.{Status}
 use Rattle.arbiter.specs.declared.reply.Status.TheVariants.{Done, Refused, BadWords, NoPairing, Undecided, Trouble}
 
@@ -37,6 +38,10 @@ is_output Trouble = false
 abbrev pub done : List ℕ → Answer
 done text = record { status = Done; text = text }
 
+-- an answer behind a text
+abbrev pub behind : List ℕ → Answer → Answer
+behind text answer = record { status = answer.status; text = text ++ answer.text }
+
 -- memory was refused
 abbrev pub out_of_memory : Answer
 out_of_memory = record { status = Trouble; text = memory_text }
@@ -54,6 +59,10 @@ refusal fault = record { status = Refused; text = fault_text fault }
 abbrev pub field_refusal : FieldFault → Answer
 field_refusal FieldMemory = out_of_memory
 field_refusal fault = record { status = Refused; text = field_text fault }
+
+-- the players whom a question names are refused
+abbrev pub question_refusal : QuestionFault → Answer
+question_refusal fault = record { status = BadWords; text = question_text fault }
 
 -- no pairing meets the absolute criteria
 abbrev pub no_pairing : Answer

@@ -2,7 +2,9 @@
 use Rattle.std.specs.Prelude.{ℕ, ◌/◌, ◌%◌, ◌==◌, if◌then◌else◌, List, ◌++◌, codes}
 use Rattle.std.specs.Fmt.{decimal}
 use Rattle.arbiter.specs.declared.options.WordFault.{WordFault}
-use Rattle.arbiter.specs.declared.options.WordFault.TheVariants.{BadColour, BadKeys, BadCursor, NamesAndReport}
+use Rattle.arbiter.specs.declared.options.WordFault.TheVariants.{BadColour, BadKeys, BadCursor, NamesAndReport, InsteadAlone}
+use Rattle.arbiter.specs.declared.question.QuestionFault.{QuestionFault}
+use Rattle.arbiter.specs.declared.question.QuestionFault.TheVariants.{NotKnown, NamedTwice}
 use Rattle.dutch_player.specs.declared.fault.FieldFault.{FieldFault}
 use Rattle.dutch_player.specs.declared.fault.FieldFault.TheVariants.{Unfinished, Unsupported, RoundsUnknown, RoundsOver, OutOfMemory as FieldMemory}
 use Rattle.tiebreak.specs.declared.fault.TieFault.{TieFault}
@@ -36,10 +38,16 @@ word_text BadColour = codes "words: bad colour\n"
 word_text BadKeys = codes "words: bad keys\n"
 word_text BadCursor = codes "words: bad cursor\n"
 word_text NamesAndReport = codes "words: names or report, not both\n"
+word_text InsteadAlone = codes "words: instead wants a player\n"
 
 -- what does not fit in a round of a player
 abbrev pub round_text : ℕ → ℕ → List ℕ → List ℕ
 round_text player round what = codes "refused: player " ++ (decimal player ++ (codes " round " ++ (decimal round ++ what)))
+
+-- what is wrong with the players whom a question names
+abbrev pub question_text : QuestionFault → List ℕ
+question_text (NotKnown player) = codes "words: player " ++ (decimal player ++ codes " is not known\n")
+question_text (NamedTwice player) = codes "words: player " ++ (decimal player ++ codes " is named twice\n")
 
 -- why a report is refused
 abbrev pub fault_text : Fault → List ℕ

@@ -9,9 +9,9 @@ use Rattle.clap.specs.declared.error.kind.ErrorKind.TheVariants.{DisplayHelp, Di
 use Rattle.dutch_order.specs.Cursors.{has_syntax}
 use Rattle.arbiter.specs.declared.words.Task.{Task}
 use Rattle.arbiter.specs.declared.words.Request.{Request}
-use Rattle.arbiter.specs.declared.words.Request.TheVariants.{Check, Format, Pair, Candidates, Standings}
-use Rattle.arbiter.specs.CommandLine.{bye_rule, candidates_app, pair_app, points_rule, standings_app}
-use Rattle.arbiter.specs.Options.{◌>>=◌, bye_in, candidates_options, format_options, pair_options, standings_options}
+use Rattle.arbiter.specs.declared.words.Request.TheVariants.{Check, Format, Pair, Candidates, Explain, Standings}
+use Rattle.arbiter.specs.CommandLine.{bye_rule, candidates_app, explain_app, pair_app, points_rule, standings_app}
+use Rattle.arbiter.specs.Options.{◌>>=◌, bye_in, candidates_options, explain_options, format_options, pair_options, standings_options}
 use Rattle.arbiter.specs.declared.words.Asked.{Asked}
 use Rattle.arbiter.specs.declared.words.Asked.TheVariants.{Command, Help, Mistake, Refused}
 use Rattle.arbiter.specs.declared.options.WordFault.{WordFault}
@@ -37,9 +37,13 @@ settled = on_top (λ top. record top {
   subcommand_required = true;
 })
 
--- a command with `pair`, `candidates` and `standings`
+-- a command with those on the next round: `pair`, `candidates` and `explain`
+abbrev pub with_next_round : App → App
+with_next_round app = with_subcommand (with_subcommand (with_subcommand app pair_app.top) candidates_app.top) explain_app.top
+
+-- the same, and with `standings`
 abbrev pub with_engine : App → App
-with_engine app = with_subcommand (with_subcommand (with_subcommand app pair_app.top) candidates_app.top) standings_app.top
+with_engine app = with_subcommand (with_next_round app) standings_app.top
 
 -- the program's command line
 abbrev pub arbiter_app : App
@@ -57,6 +61,12 @@ candidates_request rows = do
   options ← candidates_options has_syntax rows
   Ok (Candidates options)
 
+-- the request of `explain`
+unfoldable pub explain_request : List Row → Result Request WordFault
+explain_request rows = do
+  options ← explain_options rows
+  Ok (Explain options)
+
 -- the request of `standings`
 unfoldable pub standings_request : List Row → Result Request WordFault
 standings_request rows = do
@@ -70,7 +80,8 @@ request_of name rows =
     else (if bytes_eq name (codes "format") then Some (Ok (Format (format_options rows)))
     else (if bytes_eq name (codes "pair") then Some (pair_request rows)
     else (if bytes_eq name (codes "candidates") then Some (candidates_request rows)
-    else (if bytes_eq name (codes "standings") then Some (standings_request rows) else None))))
+    else (if bytes_eq name (codes "explain") then Some (explain_request rows)
+    else (if bytes_eq name (codes "standings") then Some (standings_request rows) else None)))))
 
 -- a request over a report in which the pairing-allocated bye gives so many half points, or what is wrong with its options
 abbrev pub with_bye : ℕ → Result Request WordFault → Result Task WordFault

@@ -1,12 +1,12 @@
 // The options of the commands, as clap is told of them.
 ghost use Rattle.std.specs.Prelude.{◌≡◌, false};
 ghost use Rattle.clap.specs.Words.{rule_of};
-ghost use Rattle.arbiter.specs.CommandLine.{bracket_rule, by_rule, bye_rule, count_rule, from_rule, initial_rule, names_rule};
-ghost use Rattle.arbiter.specs.CommandLine.{option_rule, points_rule, report_rule, rounds_rule, steps_rule};
+ghost use Rattle.arbiter.specs.CommandLine.{bracket_rule, by_rule, bye_rule, count_rule, from_rule, initial_rule, instead_rule, names_rule};
+ghost use Rattle.arbiter.specs.CommandLine.{option_rule, player_rule, points_rule, report_rule, rounds_rule, steps_rule};
 
 use clap::{Arg, ArgAction, value_parser};
 use std::alloc::Global;
-use trf16::limits::MOST_ROUNDS;
+use trf16::MOST_ROUNDS;
 
 /// `--bracket K`.
 pub fn bracket<'a>(alloc: Global) -> Arg<'a>
@@ -37,6 +37,26 @@ pub fn count<'a>(alloc: Global) -> Arg<'a>
     option(alloc, "count", "N")
         .value_parser(value_parser!(usize).range(1..=10_000))
         .help("How many candidates to print at most, 1 to 10000 [default: 100]")
+}
+
+/// `--player P`.
+pub fn player<'a>(alloc: Global) -> Arg<'a>
+    ensures rule { rule_of result ≡ player_rule }
+    ensures local { result.global ≡ false }
+{
+    option(alloc, "player", "P")
+        .value_parser(value_parser!(u16).range(1..=9999))
+        .help("Tells of this player alone, by start rank, 1 to 9999 [default: of all]")
+}
+
+/// `--instead Q`.
+pub fn instead<'a>(alloc: Global) -> Arg<'a>
+    ensures rule { rule_of result ≡ instead_rule }
+    ensures local { result.global ≡ false }
+{
+    option(alloc, "instead", "Q")
+        .value_parser(value_parser!(u16).range(0..=9999))
+        .help("Tells why he does not meet this one, 1 to 9999, or 0: why he has not the bye")
 }
 
 /// `--rounds N`.

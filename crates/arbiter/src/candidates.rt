@@ -13,18 +13,11 @@ use crate::options::CandidatesOptions;
 use crate::refusal::{cannot_be_paired, no_pairing, refused, undecided};
 use crate::reply::{Reply, Status, Text};
 use crate::texts;
-use dutch_order::bracket::Shape;
-use dutch_order::candidates::Candidates;
-use dutch_order::cursor::Cursor;
-use dutch_order::rules::Rule;
-use dutch_pair::fault::PairFault;
-use dutch_pair::reached::Reached;
-use dutch_pair::round::{BracketAt, bracket_at};
-use dutch_player::fault::FieldFault;
-use dutch_player::field::Field;
+use dutch_order::{Candidates, Cursor, Rule, Shape};
+use dutch_pair::{BracketAt, PairFault, Reached, bracket_at};
+use dutch_player::{Field, FieldFault};
 use std::alloc::{AllocError, Global};
-use trf16::fault::Fault;
-use trf16::report::Report;
+use trf16::{Fault, Report};
 
 /// What `candidates` says of the bytes of a report in which the pairing-allocated bye gives `bye` half points.
 pub fn candidates(
@@ -122,7 +115,7 @@ fn list(
         }
         Some(from) => match Cursor::read(from.as_str(), &frame, shape) {
             Ok(cursor) => {
-                let coming = Candidates::from(&frame, shape, &rule, cursor);
+                let coming = Candidates::from(&frame, shape, &rule, &cursor);
                 list_coming(alloc, options, field, reached, shape, coming)
             }
             Err(_) => not_of_bracket(alloc, options.bracket),

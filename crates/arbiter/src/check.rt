@@ -8,8 +8,7 @@ use crate::refusal::refused;
 use crate::reply::{Reply, Status, Text};
 use crate::texts;
 use std::alloc::{AllocError, Global};
-use trf16::fault::Fault;
-use trf16::report::Report;
+use trf16::{Fault, Report};
 
 /// What `check` says of the bytes of a report in which the pairing-allocated bye gives `bye` half points.
 pub fn check(alloc: Global, bytes: &[u8], bye: u16) -> Result<Reply, AllocError>

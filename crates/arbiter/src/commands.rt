@@ -2,8 +2,8 @@
 ghost use Rattle.std.specs.Prelude.{◌≡◌, IfOk, codes, false};
 ghost use Rattle.clap.specs.declared.Command.{out-Command as fields_of};
 ghost use Rattle.clap.specs.Words.{app_of, new_app, with_rule};
-ghost use Rattle.arbiter.specs.CommandLine.{candidates_app, pair_app, standings_app, with_round_rules};
-ghost use Rattle.arbiter.specs.CommandLine.{bracket_rule, bye_rule, count_rule, from_rule};
+ghost use Rattle.arbiter.specs.CommandLine.{candidates_app, explain_app, pair_app, standings_app, with_round_rules};
+ghost use Rattle.arbiter.specs.CommandLine.{bracket_rule, bye_rule, count_rule, from_rule, instead_rule, player_rule};
 
 use crate::arguments;
 use clap::Command;
@@ -42,6 +42,20 @@ pub fn candidates_command<'a>(alloc: Global) -> Result<Command<'a>, AllocError>
     with_worth(alloc, command)
 }
 
+/// The command `explain`.
+pub fn explain_command<'a>(alloc: Global) -> Result<Command<'a>, AllocError>
+    ensures app { IfOk result (λ command. app_of command ≡ explain_app) }
+    ensures local { IfOk result (λ command. (fields_of command).has_globals ≡ false) }
+{
+    let command = Command::new(alloc, "explain")
+        .about("Tells why the next round is paired as it is, bracket by bracket, or for one player")
+        .after_help(
+            "The report is read from standard input. Printed are the round, and for each bracket its players with their scores, what is chosen in it, the criteria that count against that (C.6 to C.19; lists of score differences, the highest first), and each board with the rule of article E that decided its colours. With --player it is told of him and of his brackets, and with --instead the first rule that keeps him from this one.\n\nExamples:\n  arbiter explain < report.trf\n  arbiter explain --player 5 --instead 4 < report.trf\n  arbiter explain --player 5 --instead 0 < report.trf",
+        );
+    let command = with_round(alloc, with_question(alloc, command)?)?;
+    with_worth(alloc, command)
+}
+
 /// The command `standings`.
 pub fn standings_command<'a>(alloc: Global) -> Result<Command<'a>, AllocError>
     ensures app { IfOk result (λ command. app_of command ≡ standings_app) }
@@ -74,6 +88,16 @@ fn with_bracket<'a>(alloc: Global, command: Command<'a>) -> Result<Command<'a>, 
         .arg(arguments::bracket(alloc))?
         .arg(arguments::from(alloc))?
         .arg(arguments::count(alloc))
+}
+
+// A command with the options that say of whom it is asked.
+fn with_question<'a>(alloc: Global, command: Command<'a>) -> Result<Command<'a>, AllocError>
+    ensures app { IfOk result (λ more. app_of more ≡ with_rule (with_rule (app_of command.entry) player_rule) instead_rule) }
+    ensures local { IfOk result (λ more. (fields_of more).has_globals ≡ (fields_of command.entry).has_globals) }
+{
+    command
+        .arg(arguments::player(alloc))?
+        .arg(arguments::instead(alloc))
 }
 
 // A command with the options of a round.

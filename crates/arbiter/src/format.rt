@@ -11,9 +11,7 @@ use crate::options::FormatOptions;
 use crate::refusal::refused;
 use crate::reply::{Reply, Status, Text};
 use std::alloc::{AllocError, Global};
-use trf16::devices::{Counted, Failed};
-use trf16::fault::Fault;
-use trf16::report::Report;
+use trf16::{Counted, Failed, Fault, Report};
 
 /// What `format` says of the bytes of a report in which the pairing-allocated bye gives `bye` half points.
 pub fn format(

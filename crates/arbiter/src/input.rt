@@ -4,8 +4,7 @@ ghost use Rattle.trf16.specs.Output.{use_of};
 ghost use Rattle.arbiter.specs.Input.{ReadsInput, most_read};
 
 use std::alloc::Global;
-use trf16::devices::Source;
-use trf16::limits::MOST_BYTES;
+use trf16::{MOST_BYTES, Source};
 
 /// How many bytes are read at most: one more than a report may have, so that one that is too long
 /// is known as such, and an endless source comes to an end.

@@ -5,7 +5,7 @@ ghost use Rattle.arbiter.specs.KeySteps.{names_left, with_key, with_name};
 ghost use Rattle.arbiter.specs.Keys.{is_same, key_named, keys_in, names, usual_keys};
 
 use std::marker::Model;
-use tiebreak::key::Key;
+use tiebreak::Key;
 
 // How many keys there are.
 const MOST: usize = 3;

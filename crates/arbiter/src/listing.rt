@@ -5,15 +5,12 @@ ghost use Rattle.std.specs.Fmt.{decimal};
 ghost use Rattle.std.specs.Prelude.{codes};
 ghost use Rattle.dutch_pair.specs.Reached.{IsOf, frame_of};
 ghost use Rattle.arbiter.specs.CandidateAnswers.{IsListing, ending_text, status_of};
-ghost use Rattle.arbiter.specs.CandidateTexts.{down_text, draw_text, line_text, pair_text, pairs_text, start_of};
+ghost use Rattle.arbiter.specs.CandidateTexts.{down_text, candidate_text, line_text, pair_text, pairs_text, start_of};
 
 use crate::reply::Status;
-use dutch_order::candidate::Candidate;
-use dutch_order::candidates::Candidates;
-use dutch_order::rules::Rule;
-use dutch_order::steps::{Budget, Step};
-use dutch_pair::reached::Reached;
-use dutch_player::field::Field;
+use dutch_order::{Budget, Candidate, Candidates, Rule, Step};
+use dutch_pair::Reached;
+use dutch_player::Field;
 use std::alloc::{AllocError, Global};
 
 /// How a listing ended.
@@ -85,8 +82,8 @@ pub fn lines<R: Rule>(
     Ok(Listed { text, ending })
 }
 
-// Puts the line of a candidate: its cursor, its pairs, and its downfloaters.
-fn put_line(
+/// Puts the line of a candidate: its cursor, its pairs, and its downfloaters.
+pub fn put_line(
     alloc: Global,
     text: &mut String,
     field: &Field,
@@ -94,7 +91,7 @@ fn put_line(
     candidate: &Candidate,
 ) -> Result<(), AllocError>
     requires { IsOf field.now reached.now }
-    ensures { OnOk result (string_bytes text.new ≡ string_bytes text.old ++ draw_text field.now reached.now candidate.now) }
+    ensures { OnOk result (string_bytes text.new ≡ string_bytes text.old ++ candidate_text field.now reached.now candidate.now) }
 {
     text.push_str(candidate.cursor().print().as_str())?;
     put_pairs(alloc, text, field, reached, candidate.s1(), candidate.s2())?;

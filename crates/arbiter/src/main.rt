@@ -7,21 +7,30 @@ ghost use Rattle.std.specs.IoError.{error_kind};
 mod arguments;
 #[cfg(test)]
 mod below;
+mod bracket_lines;
 mod candidates;
 mod check;
 mod commands;
+mod explain;
 mod format;
 mod input;
+mod instead;
+mod instead_laws;
+mod item_lines;
 mod keys;
 mod listing;
+mod obstacle;
 mod options;
 mod pair;
+mod player_line;
+mod question;
 mod refusal;
 mod reply;
 mod run;
 mod standings;
 mod table;
 mod texts;
+mod value_texts;
 mod wall;
 mod words;
 
@@ -29,7 +38,7 @@ use reply::Status;
 use std::io::ErrorKind;
 use std::process::ExitCode;
 use std::{env, io};
-use trf16::devices::Counted;
+use trf16::Counted;
 
 fn main(rt: HostRuntime) -> ExitCode {
     let status = match run_on(&rt) {

@@ -1,14 +1,13 @@
 // The options of the commands, from what clap makes of the words.
 ghost use Rattle.std.specs.Prelude.{◌≡◌, ℕ, List, Bool, option_map, codes, if◌then◌else◌};
 ghost use Rattle.clap.specs.Words.{first_of};
-ghost use Rattle.arbiter.specs.Options.{bracket_in, bye_in, candidates_options, count_in, flag_in, format_options, from_in, initial_in};
-ghost use Rattle.arbiter.specs.Options.{keys_by, pair_options, rounds_in, rows_in, shown_by, standings_options, steps_in};
+ghost use Rattle.arbiter.specs.Options.{bracket_in, bye_in, candidates_options, count_in, explain_options, flag_in, format_options, from_in, initial_in};
+ghost use Rattle.arbiter.specs.Options.{instead_in, keys_by, pair_options, player_in, question_by, rounds_in, rows_in, shown_by, standings_options, steps_in};
 
 use crate::keys::{Keys, keys_in};
 use clap::ArgMatches;
 use std::marker::Model;
-use trf16::cell::Colour;
-use trf16::limits::MOST_ROUNDS;
+use trf16::{Colour, MOST_ROUNDS};
 
 /// What is wrong with words that clap lets pass.
 #[derive(Debug, Clone, Copy, PartialEq, Eq)]
@@ -21,6 +20,8 @@ pub enum WordFault {
     BadCursor,
     /// `--names` and `--report` are both there.
     NamesAndReport,
+    /// `--instead` is there without `--player`.
+    InsteadAlone,
 }
 
 /// What is asked of `format`.
@@ -52,6 +53,28 @@ pub enum Shown {
     Names,
     /// The report with the round in it.
     Report,
+}
+
+/// What is asked of `explain`.
+#[derive(Debug, Clone, Copy, PartialEq, Eq)]
+pub struct ExplainOptions {
+    /// What is asked of one player; else the whole round is explained.
+    pub question: Option<Question>,
+    /// The number of rounds of the tournament, where the words name it: at most `MOST_ROUNDS`.
+    pub rounds: Option<u8>,
+    /// The colour of an odd start rank where nothing else decides (C.04.3 E.5), where the words name it.
+    pub initial: Option<Colour>,
+    /// How many steps a bracket may take, and how many the search for another opponent may.
+    pub steps: u64,
+}
+
+/// What is asked of one player.
+#[derive(Debug, Clone, Copy, PartialEq, Eq)]
+pub struct Question {
+    /// His start rank.
+    pub player: u16,
+    /// The start rank of the one whom he might have met instead, or 0 for the bye.
+    pub instead: Option<u16>,
 }
 
 /// What is asked of `standings`.
@@ -136,6 +159,21 @@ pub fn pair_options(matches: &ArgMatches<'_>) -> Result<PairOptions, WordFault>
     })
 }
 
+/// The options of `explain`, or the first thing that is wrong with them.
+#[tactic(auto, unfolding(crate::specs::Options::explain_options))]
+pub fn explain_options(matches: &ArgMatches<'_>) -> Result<ExplainOptions, WordFault>
+    ensures { result ≡ explain_options (rows_in matches.now) }
+{
+    let initial = initial_in(matches)?;
+    let question = question_by(player_in(matches), instead_in(matches))?;
+    Ok(ExplainOptions {
+        question,
+        rounds: rounds_in(matches),
+        initial,
+        steps: steps_in(matches),
+    })
+}
+
 /// The options of `standings`, or what is wrong with them.
 #[tactic(auto, unfolding(crate::specs::Options::standings_options))]
 pub fn standings_options(matches: &ArgMatches<'_>) -> Result<StandingsOptions, WordFault>
@@ -187,6 +225,17 @@ fn initial_in(matches: &ArgMatches<'_>) -> Result<Option<Colour>, WordFault>
     }
 }
 
+// `--player` and `--instead`: what is asked of a player.
+fn question_by(player: Option<u16>, instead: Option<u16>) -> Result<Option<Question>, WordFault>
+    ensures { result ≡ question_by player instead }
+{
+    match (player, instead) {
+        (None, None) => Ok(None),
+        (None, Some(_)) => Err(WordFault::InsteadAlone),
+        (Some(player), instead) => Ok(Some(Question { player, instead })),
+    }
+}
+
 // `--report` and `--names`: what is printed of a round.
 fn shown_by(report: bool, names: bool) -> Result<Shown, WordFault>
     ensures { result ≡ shown_by report names }
@@ -223,6 +272,20 @@ fn from_in<'a, S: CursorSyntax>(
         Some(text) if S::is_cursor(text) => Ok(Some(GivenCursor { text })),
         Some(_) => Err(WordFault::BadCursor),
     }
+}
+
+// `--player`: the player of whom it is asked.
+fn player_in(matches: &ArgMatches<'_>) -> Option<u16>
+    ensures { result ≡ player_in (rows_in matches.now) }
+{
+    matches.get_one::<u16>("player")
+}
+
+// `--instead`: whom he might have met, 0 for the bye.
+fn instead_in(matches: &ArgMatches<'_>) -> Option<u16>
+    ensures { result ≡ instead_in (rows_in matches.now) }
+{
+    matches.get_one::<u16>("instead")
 }
 
 // `--bracket`: the number of the bracket. No words that leave it out come here.

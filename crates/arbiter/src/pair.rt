@@ -16,15 +16,12 @@ use crate::options::{PairOptions, Shown};
 use crate::refusal::{cannot_be_paired, no_pairing, refused, undecided};
 use crate::reply::{Reply, Status, Text};
 use crate::wall;
-use dutch_pair::boards::Pair;
-use dutch_pair::fault::PairFault;
+use dutch_pair::boards::Board;
 use dutch_pair::laws::boards_can_be_the_next_round;
-use dutch_pair::round::{Outcome, pair_round};
-use dutch_player::fault::FieldFault;
-use dutch_player::field::Field;
+use dutch_pair::{Outcome, PairFault, pair_round};
+use dutch_player::{Field, FieldFault};
 use std::alloc::{AllocError, Global};
-use trf16::fault::Fault;
-use trf16::report::Report;
+use trf16::{Fault, Report};
 
 /// What `pair` says of the bytes of a report in which the pairing-allocated bye gives `bye` half points.
 #[tactic(auto, using(crate::proofs::PairLemmas::accepted))]
@@ -101,7 +98,7 @@ fn tell_boards(
     alloc: Global,
     shown: Shown,
     report: &Report<'_>,
-    boards: &[Pair],
+    boards: &[Board],
 ) -> Result<Reply, AllocError>
     requires { CanBePaired boards.now report.now }
     ensures { IfOk result (λ reply. TellsBoards shown report.now boards.now (answer_of reply)) }
@@ -114,7 +111,7 @@ fn tell_boards(
 }
 
 // The boards in start ranks.
-fn tell_ranks(alloc: Global, boards: &[Pair]) -> Result<Reply, AllocError>
+fn tell_ranks(alloc: Global, boards: &[Board]) -> Result<Reply, AllocError>
     ensures { IfOk result (λ reply. answer_of reply ≡ done (boards_text boards.now)) }
 {
     let text = board_lines(alloc, boards)?;
@@ -125,7 +122,7 @@ fn tell_ranks(alloc: Global, boards: &[Pair]) -> Result<Reply, AllocError>
 }
 
 // The report whose next round the boards are.
-fn tell_report(alloc: Global, report: &Report<'_>, boards: &[Pair]) -> Result<Reply, AllocError>
+fn tell_report(alloc: Global, report: &Report<'_>, boards: &[Board]) -> Result<Reply, AllocError>
     requires { CanBePaired boards.now report.now }
     ensures { IfOk result (λ reply. TellsReport report.now boards.now (answer_of reply)) }
 {
@@ -134,7 +131,7 @@ fn tell_report(alloc: Global, report: &Report<'_>, boards: &[Pair]) -> Result<Re
 }
 
 // How many boards there are, and a line for each.
-fn board_lines(alloc: Global, boards: &[Pair]) -> Result<String, AllocError>
+fn board_lines(alloc: Global, boards: &[Board]) -> Result<String, AllocError>
     ensures { IfOk result (λ text. string_bytes text ≡ boards_text boards.now) }
 {
     let count = boards.len();

@@ -1,14 +1,15 @@
 // The answers that several commands have: to a report that is refused, and where there is no pairing or none in time.
 ghost use Rattle.std.specs.Prelude.{◌≡◌, ◌≢◌, IfOk};
-ghost use Rattle.arbiter.specs.Statuses.{field_refusal, no_pairing, refusal, tie_refusal, undecided};
+ghost use Rattle.arbiter.specs.Statuses.{field_refusal, no_pairing, question_refusal, refusal, tie_refusal, undecided};
 ghost use Rattle.arbiter.specs.Replies.{answer_of};
 
+use crate::question::QuestionFault;
 use crate::reply::{Reply, Status, Text};
 use crate::texts;
-use dutch_player::fault::FieldFault;
+use dutch_player::FieldFault;
 use std::alloc::{AllocError, Global};
-use tiebreak::fault::TieFault;
-use trf16::fault::Fault;
+use tiebreak::TieFault;
+use trf16::Fault;
 
 /// Why a report is refused.
 pub fn refused(alloc: Global, fault: Fault) -> Result<Reply, AllocError>
@@ -42,6 +43,17 @@ pub fn has_no_standings(alloc: Global, fault: TieFault) -> Result<Reply, AllocEr
     let text = texts::has_no_standings(alloc, fault)?;
     Ok(Reply {
         status: Status::Refused,
+        text: Text::Made(text),
+    })
+}
+
+/// What is wrong with the players whom a question names.
+pub fn cannot_be_asked(alloc: Global, fault: QuestionFault) -> Result<Reply, AllocError>
+    ensures { IfOk result (λ reply. answer_of reply ≡ question_refusal fault) }
+{
+    let text = texts::bad_question(alloc, fault)?;
+    Ok(Reply {
+        status: Status::BadWords,
         text: Text::Made(text),
     })
 }

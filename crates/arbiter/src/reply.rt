@@ -1,13 +1,12 @@
 // The reply of a run: a status and a text, which is written to standard output or to standard error.
-ghost use Rattle.std.specs.Prelude.{◌≡◌, IsTrue, ◌↔◌, true, string_bytes};
+ghost use Rattle.std.specs.Prelude.{◌≡◌, IsTrue, ◌↔◌, IfOk, true, string_bytes};
 ghost use Rattle.trf16.specs.Output.{use_of, Puts};
-ghost use Rattle.arbiter.specs.Statuses.{code_of, is_output};
+ghost use Rattle.arbiter.specs.Statuses.{behind, code_of, is_output};
 ghost use Rattle.arbiter.specs.Replies.{answer_of, text_of};
 ghost use Rattle.arbiter.specs.Run.{IsWritten};
 
-use std::alloc::Global;
-use trf16::devices::Sink;
-use trf16::output::put_all;
+use std::alloc::{AllocError, Global};
+use trf16::{Sink, put_all};
 
 /// How a run ended.
 #[derive(Debug, Clone, Copy, PartialEq, Eq)]
@@ -77,6 +76,21 @@ pub struct Reply {
 }
 
 impl Reply {
+    /// The same behind a text.
+    ///
+    /// # Errors
+    /// Memory was refused.
+    pub fn behind(&self, text: String) -> Result<Reply, AllocError>
+        ensures { IfOk result (λ reply. answer_of reply ≡ behind (string_bytes text) (answer_of self.now)) }
+    {
+        let mut bytes = text.into_bytes();
+        bytes.extend_from_slice(self.text.as_bytes())?;
+        Ok(Reply {
+            status: self.status,
+            text: Text::Bytes(bytes),
+        })
+    }
+
     /// Writes the text where the status says, and answers with which status the run ends: if
     /// standard output fails, that is told on standard error. A failure of standard error changes
     /// nothing.

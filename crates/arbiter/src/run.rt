@@ -11,6 +11,7 @@ ghost use Rattle.arbiter.specs.Run.{IsAnswer, IsOutOfMemory, IsReplyTo, IsRun};
 
 use crate::candidates::candidates;
 use crate::check::check;
+use crate::explain::explain;
 use crate::format::format;
 use crate::input::{InputFault, read_input};
 use crate::pair::pair;
@@ -19,7 +20,7 @@ use crate::standings::standings;
 use crate::texts;
 use crate::words::{Asked, Request, Task, read_words};
 use std::alloc::{AllocError, Global};
-use trf16::devices::{Sink, Source};
+use trf16::{Sink, Source};
 
 /// Carries out what the words after the program's name ask for, over the report that the source
 /// gives, and answers with the status of the program's end.
@@ -94,6 +95,7 @@ fn answer(alloc: Global, task: Task<'_>, input: &[u8]) -> Result<Reply, AllocErr
         Request::Check => check(alloc, input, bye),
         Request::Format(options) => format(alloc, options, input, bye),
         Request::Candidates(options) => candidates(alloc, &options, input, bye),
+        Request::Explain(options) => explain(alloc, options, input, bye),
         Request::Standings(options) => standings(alloc, &options, input, bye),
         Request::Pair(options) => pair(alloc, options, input, bye),
     }
@@ -123,6 +125,8 @@ fn out_of_memory() -> Reply
 mod bye_tests;
 #[cfg(test)]
 mod candidates_tests;
+#[cfg(test)]
+mod explain_tests;
 #[cfg(test)]
 mod hostile_tests;
 #[cfg(test)]

@@ -11,11 +11,8 @@ use crate::reply::{Reply, Status, Text};
 use crate::texts::halves;
 use crate::wall;
 use std::alloc::{AllocError, Global};
-use tiebreak::fault::TieFault;
-use tiebreak::key::Key;
-use tiebreak::row::Row;
-use trf16::fault::Fault;
-use trf16::report::Report;
+use tiebreak::{Key, Row, TieFault};
+use trf16::{Fault, Report};
 
 /// What `standings` says of the bytes of a report in which the pairing-allocated bye gives `bye` half points.
 pub fn standings(

@@ -2,16 +2,17 @@
 ghost use Rattle.std.specs.Prelude.{◌≡◌, IfOk, string_bytes};
 ghost use Rattle.arbiter.specs.CandidateAnswers.{ending_text};
 ghost use Rattle.arbiter.specs.CandidateTexts.{bracket_text, kind_text};
-ghost use Rattle.arbiter.specs.Texts.{accepted_text, excess_text, fault_text, field_text, halves_text, not_of_bracket_text, not_reached_text, tie_text, undecided_text, word_text};
+ghost use Rattle.arbiter.specs.Texts.{accepted_text, excess_text, fault_text, field_text, halves_text, not_of_bracket_text, not_reached_text, question_text, tie_text, undecided_text, word_text};
 
 use crate::listing::Ending;
 use crate::options::WordFault;
-use dutch_order::bracket::Shape;
-use dutch_pair::reached::Kind;
-use dutch_player::fault::FieldFault;
+use crate::question::QuestionFault;
+use dutch_order::Shape;
+use dutch_pair::BracketKind;
+use dutch_player::FieldFault;
 use std::alloc::{AllocError, Global};
-use tiebreak::fault::TieFault;
-use trf16::fault::{Excess, Fault};
+use tiebreak::TieFault;
+use trf16::{Excess, Fault};
 
 /// A report is accepted: how many players it has, and how many rounds were paired.
 pub fn accepted(alloc: Global, players: usize, rounds: u8) -> Result<String, AllocError>
@@ -29,6 +30,21 @@ pub fn bad_words(fault: WordFault) -> &'static str
         WordFault::BadKeys => "words: bad keys\n",
         WordFault::BadCursor => "words: bad cursor\n",
         WordFault::NamesAndReport => "words: names or report, not both\n",
+        WordFault::InsteadAlone => "words: instead wants a player\n",
+    }
+}
+
+/// What is wrong with the players whom a question names.
+pub fn bad_question(alloc: Global, fault: QuestionFault) -> Result<String, AllocError>
+    ensures { IfOk result (λ text. string_bytes text ≡ question_text fault) }
+{
+    match fault {
+        QuestionFault::NotKnown { player } => {
+            format!(in alloc; "words: player {player} is not known\n")
+        }
+        QuestionFault::NamedTwice { player } => {
+            format!(in alloc; "words: player {player} is named twice\n")
+        }
     }
 }
 
@@ -118,14 +134,14 @@ pub fn not_of_bracket(alloc: Global, number: u16) -> Result<String, AllocError>
 }
 
 /// What a bracket is for the round.
-fn kind(kind: Kind) -> &'static str
+fn kind(kind: BracketKind) -> &'static str
     ensures { result.now ≡ kind_text kind }
 {
     match kind {
-        Kind::Ordinary => "ordinary",
-        Kind::Last => "last",
-        Kind::Penultimate => "penultimate",
-        Kind::Collapsed => "collapsed",
+        BracketKind::Ordinary => "ordinary",
+        BracketKind::Last => "last",
+        BracketKind::Penultimate => "penultimate",
+        BracketKind::Collapsed => "collapsed",
     }
 }
 
@@ -133,7 +149,7 @@ fn kind(kind: Kind) -> &'static str
 pub fn bracket(
     alloc: Global,
     number: u16,
-    of_kind: Kind,
+    of_kind: BracketKind,
     shape: Shape,
 ) -> Result<String, AllocError>
     ensures { IfOk result (λ text. string_bytes text ≡ bracket_text number of_kind shape) }

@@ -9,14 +9,13 @@ use crate::reply::{Reply, Status, Text};
 use crate::standings::value_of;
 use crate::table::{Label, Line, table};
 use crate::texts::halves;
-use dutch_pair::boards::Pair;
+use dutch_pair::boards::Board;
 use std::alloc::{AllocError, Global};
-use tiebreak::key::Key;
-use tiebreak::row::Row;
-use trf16::report::Report;
+use tiebreak::{Key, Row};
+use trf16::Report;
 
 /// The boards with names and scores: for each its number, white and black, and the bye last.
-pub fn boards(alloc: Global, report: &Report<'_>, boards: &[Pair]) -> Result<Reply, AllocError>
+pub fn boards(alloc: Global, report: &Report<'_>, boards: &[Board]) -> Result<Reply, AllocError>
     ensures { IfOk result (λ reply. answer_of reply ≡ done (named_boards_text report.now boards.now)) }
 {
     let mut lines = Vec::new(alloc);
@@ -54,7 +53,7 @@ fn board_line(
     alloc: Global,
     report: &Report<'_>,
     number: usize,
-    board: Pair,
+    board: Board,
 ) -> Result<Line, AllocError>
     ensures { IfOk result (λ line. line ≡ board_labels report.now number board) }
 {

@@ -4,18 +4,21 @@ ghost use Rattle.clap.specs.declared.Command.{out-Command as fields_of};
 ghost use Rattle.clap.specs.Words.{app_of, kind_of, new_app, subcommand_rows_of};
 ghost use Rattle.dutch_order.specs.Cursors.{has_syntax};
 ghost use Rattle.arbiter.specs.Options.{rows_in};
-ghost use Rattle.arbiter.specs.Words.{ComesTo, FitsKind, asked_by, candidates_request, pair_request, request_of, standings_request, task_by, task_of, with_bye, with_engine};
+ghost use Rattle.arbiter.specs.Words.{ComesTo, FitsKind, asked_by, candidates_request, explain_request, pair_request, request_of, standings_request, task_by, task_of, with_bye, with_engine, with_next_round};
 ghost use Rattle.arbiter.specs.Words.{arbiter_app, check_app, format_app, settled, versioned};
 
 use crate::arguments;
-use crate::commands::{candidates_command, pair_command, standings_command, with_worth};
+use crate::commands::{
+    candidates_command, explain_command, pair_command, standings_command, with_worth,
+};
 use crate::options::{
-    CandidatesOptions, CursorSyntax, FormatOptions, PairOptions, StandingsOptions, WordFault,
-    bye_in, candidates_options, format_options, pair_options, standings_options,
+    CandidatesOptions, CursorSyntax, ExplainOptions, FormatOptions, PairOptions, StandingsOptions,
+    WordFault, bye_in, candidates_options, explain_options, format_options, pair_options,
+    standings_options,
 };
 use clap::error::ErrorKind;
 use clap::{ArgMatches, Command, Error};
-use dutch_order::cursor::Cursor;
+use dutch_order::Cursor;
 use std::alloc::{AllocError, Global};
 
 /// A command of the program, with its options.
@@ -29,6 +32,8 @@ pub enum Request<'a> {
     Pair(PairOptions),
     /// Lists candidates of a bracket.
     Candidates(CandidatesOptions<'a>),
+    /// Tells why the next round is paired as it is.
+    Explain(ExplainOptions),
     /// Ranks the players.
     Standings(StandingsOptions),
 }
@@ -109,6 +114,7 @@ fn request_of<'a>(name: &str, options: &ArgMatches<'a>) -> Option<Result<Request
         "format" => Some(Ok(Request::Format(format_options(options)))),
         "pair" => Some(pair_request(options)),
         "candidates" => Some(candidates_request(options)),
+        "explain" => Some(explain_request(options)),
         "standings" => Some(standings_request(options)),
         _ => None,
     }
@@ -128,6 +134,14 @@ fn candidates_request<'a>(options: &ArgMatches<'a>) -> Result<Request<'a>, WordF
     ensures { result ≡ candidates_request (rows_in options.now) }
 {
     Ok(Request::Candidates(candidates_options::<Cursor>(options)?))
+}
+
+// The request of `explain`.
+#[tactic(auto, unfolding(crate::specs::Words::explain_request))]
+fn explain_request<'a>(options: &ArgMatches<'a>) -> Result<Request<'a>, WordFault>
+    ensures { result ≡ explain_request (rows_in options.now) }
+{
+    Ok(Request::Explain(explain_options(options)?))
 }
 
 // The request of `standings`.
@@ -186,10 +200,19 @@ fn with_engine<'a>(alloc: Global, command: Command<'a>) -> Result<Command<'a>, A
     ensures app { IfOk result (λ more. app_of more ≡ with_engine (app_of command.entry)) }
     ensures local { IfOk result (λ more. (fields_of more).has_globals ≡ false) }
 {
+    with_next_round(alloc, command)?.subcommand(standings_command(alloc)?)
+}
+
+// A program with the commands on the next round.
+fn with_next_round<'a>(alloc: Global, command: Command<'a>) -> Result<Command<'a>, AllocError>
+    requires { (fields_of command).has_globals ≡ false }
+    ensures app { IfOk result (λ more. app_of more ≡ with_next_round (app_of command.entry)) }
+    ensures local { IfOk result (λ more. (fields_of more).has_globals ≡ false) }
+{
     command
         .subcommand(pair_command(alloc)?)?
         .subcommand(candidates_command(alloc)?)?
-        .subcommand(standings_command(alloc)?)
+        .subcommand(explain_command(alloc)?)
 }
 
 // The name and the texts of the program.
@@ -199,7 +222,7 @@ fn named<'a>(alloc: Global) -> Result<Command<'a>, AllocError>
 {
     Command::new(alloc, "arbiter")
         .about(
-            "Pairs, checks, rewrites and ranks a chess tournament whose report, in TRF16 columns, is read from standard input",
+            "Pairs, explains, checks, rewrites and ranks a chess tournament whose report, in TRF16 columns, is read from standard input",
         )
         .after_help(
             "The exit status is 0 where all is done, 1 where the report is refused, 2 where the words are, 3 where there is no pairing, 4 where the steps ended first, and 5 where a device failed or memory was refused.\n\nExample: arbiter pair < report.trf",

@@ -1,21 +1,23 @@
 -- What stands behind a cursor: each level that begins at the cursor's list goes on with what stands behind it.
-use Rattle.std.proofs.Common.{◌≡◌, ℕ, Bool, true, false, ◌&&◌, cond, if◌then◌else◌, List, [], ◌∷◌, ◌++◌, map, length, take, Some, refl, sym, ◌∙◌, ap, subst, inl, inr}
-use Rattle.std.specs.List.{filter, flat_map}
+use Rattle.std.proofs.Common.{◌≡◌, ℕ, Bool, true, false, ◌&&◌, cond, if◌then◌else◌, List, [], ◌∷◌, ◌++◌, map, length, Option, Some, None, refl, sym, ◌∙◌, ap, subst, inl, inr}
+use Rattle.std.specs.List.{AllByRecursion, filter, flat_map}
 use Rattle.std.proofs.lemmas.List.Elements.{filter-append}
 use Rattle.std.proofs.lemmas.Bool.{cases_Bool, true≢false, and_from, and_left}
 use Rattle.dutch_order.specs.declared.bracket.Shape.{Shape}
 use Rattle.dutch_order.specs.Choices.{tuples, subsets, all_meet, is_same, from_on, numbers_from}
 use Rattle.dutch_order.specs.Keys.{IsIn, sorted}
-use Rattle.dutch_order.specs.Transposition.{tuple_key, transpositions}
+use Rattle.dutch_order.specs.Transposition.{tuple_key}
 use Rattle.dutch_order.specs.Exchange.{exchanges, exchange_key}
 use Rattle.dutch_order.specs.Limbo.{limbo_exchanges, limbo_key}
 use Rattle.dutch_order.specs.Arrangements.{Frame, Arrangement, residents_of, moved_down_scores, left_of, remainder_pairs, with_s2r, with_s1r, with_s2, arrangements, is_same_arrangement, behind, rest, is_legal, candidates}
-use Rattle.dutch_order.specs.Levels.{joined, arranged, without_own, blocks_from, by_s2r, by_s1r, by_s2, behind_s2r, s1r_blocks, behind_s1r, s2_blocks, behind_s2, s1_blocks, pairs_meet, may_leave, HasS2}
+use Rattle.dutch_order.specs.Listings.{candidates_from}
+use Rattle.dutch_order.specs.Levels.{joined, arranged, without_own, blocks_from, in_s1r, s1r_blocks, in_s2, s2_blocks, in_s1, s1_blocks, in_bracket, pairs_meet, may_leave, HasS2, Of}
+use Rattle.dutch_order.proofs.Skipping.{all-members}
 use Rattle.dutch_order.proofs.FromOn.{is_same-refl, is_same-true, elsewhere}
 use Rattle.dutch_order.proofs.Lists.{filter-flat_map, flat_map-filter, flat_map-same, filter-same}
 use Rattle.dutch_order.proofs.Sets.{sorted-in}
 use Rattle.dutch_order.proofs.Orders.{IsIn-flat_map, IsIn-map}
-use Rattle.dutch_order.proofs.Listed.{joined-map, flat_map-members, filter-mapped, s2r-listed, s1r-either, s1r-barred, s2-listed, exchange-length, limbo-length, legal-parts}
+use Rattle.dutch_order.proofs.Listed.{joined-map, flat_map-members, filter-mapped, s2r-listed, s1r-either, s1r-barred, s2-listed, exchange-length, limbo-length, legal-parts, candidates-listed}
 
 same-refl : (a : Arrangement) → is_same_arrangement a a ≡ true
 same-refl a =
@@ -137,24 +139,24 @@ own-dropped q own xs =
           ap (λ t. without_own (Some own) (cond t (own.s2r ∷ filter q xs) (filter q xs))) barred ∙ own-absent q own xs barred
     ]
 
-module _ (own : Arrangement) (part : Arrangement → List ℕ) (resumed : Arrangement → List ℕ → List Arrangement) (fresh : List ℕ → List Arrangement) where
+module _ (own : Arrangement) (part : Arrangement → List ℕ) (block : Option Arrangement → List ℕ → List Arrangement) where
   -- blocks that begin with the cursor's
-  blocks-own : (xs : List (List ℕ)) → joined (blocks_from (Some own) part resumed fresh (part own ∷ xs)) ≡ resumed own (part own) ++ joined (map fresh xs)
-  blocks-own xs = ap (λ t. (if t then resumed own (part own) else fresh (part own)) ++ joined (map fresh xs)) (is_same-refl (part own))
+  blocks-own : (xs : List (List ℕ)) → joined (blocks_from part block (Some own) (part own ∷ xs)) ≡ block (Some own) (part own) ++ joined (map (block None) xs)
+  blocks-own xs = ap (λ t. block (if t then Some own else None) (part own) ++ joined (map (block None) xs)) (is_same-refl (part own))
 
   -- and those where it is barred
-  blocks-absent : (q : List ℕ → Bool) (xs : List (List ℕ)) → q (part own) ≡ false → joined (blocks_from (Some own) part resumed fresh (filter q xs)) ≡ joined (map fresh (filter q xs))
+  blocks-absent : (q : List ℕ → Bool) (xs : List (List ℕ)) → q (part own) ≡ false → joined (blocks_from part block (Some own) (filter q xs)) ≡ joined (map (block None) (filter q xs))
   blocks-absent q [] fails = refl
   blocks-absent q (x ∷ xs) fails =
       elim (cases_Bool (q x)) [
         | inl passes ↦
-            ap (λ t. joined (blocks_from (Some own) part resumed fresh (cond t (x ∷ filter q xs) (filter q xs)))) passes
-            ∙ ap (λ t. (if t then resumed own x else fresh x) ++ joined (map fresh (filter q xs))) (first-other q (part own) x passes fails)
-            ∙ sym (ap (λ t. joined (map fresh (cond t (x ∷ filter q xs) (filter q xs)))) passes)
+            ap (λ t. joined (blocks_from part block (Some own) (cond t (x ∷ filter q xs) (filter q xs)))) passes
+            ∙ ap (λ t. block (if t then Some own else None) x ++ joined (map (block None) (filter q xs))) (first-other q (part own) x passes fails)
+            ∙ sym (ap (λ t. joined (map (block None) (cond t (x ∷ filter q xs) (filter q xs)))) passes)
         | inr barred ↦
-            ap (λ t. joined (blocks_from (Some own) part resumed fresh (cond t (x ∷ filter q xs) (filter q xs)))) barred
+            ap (λ t. joined (blocks_from part block (Some own) (cond t (x ∷ filter q xs) (filter q xs)))) barred
             ∙ blocks-absent q xs fails
-            ∙ sym (ap (λ t. joined (map fresh (cond t (x ∷ filter q xs) (filter q xs)))) barred)
+            ∙ sym (ap (λ t. joined (map (block None) (cond t (x ∷ filter q xs) (filter q xs)))) barred)
       ]
 
 third-differs : (p q r t : Bool) → r ≡ false → (p && (q && (r && t))) ≡ false
@@ -224,7 +226,7 @@ module _ (frame : Frame) (shape : Shape) where
         ∙ ap (λ b. b && (is_same a.s1r a.s1r && is_same x a.s2r)) (is_same-refl a.s2)
         ∙ ap (λ b. b && is_same x a.s2r) (is_same-refl a.s1r)
 
-    s2r-behind : all_meet meets a.s1 a.s2 ≡ true → behind_s2r meets a.s1 a.s2 (left_of (residents_of frame) a.s2) a a.s1r ≡ filter (pairs_meet meets) (behind a (with_s2r frame shape a.s1 a.s2 a.s1r))
+    s2r-behind : all_meet meets a.s1 a.s2 ≡ true → in_s1r meets a.s1 a.s2 (left_of (residents_of frame) a.s2) (Some a) a.s1r ≡ filter (pairs_meet meets) (behind a (with_s2r frame shape a.s1 a.s2 a.s1r))
     s2r-behind met =
         let pool = left_of (left_of (residents_of frame) a.s2) a.s1r in
         let arr : List ℕ → Arrangement = arranged a.s1 a.s2 a.s1r in
@@ -245,18 +247,18 @@ module _ (frame : Frame) (shape : Shape) where
         third-differs (is_same b.s1 a.s1) (is_same b.s2 a.s2) (is_same b.s1r a.s1r) (is_same b.s2r a.s2r)
         (ap (λ s. is_same s a.s1r) (chosen-s1r a.s1 a.s2 x b m) ∙ other)
 
-    s1r-behind : all_meet meets a.s1 a.s2 ≡ true → behind_s1r meets (remainder_pairs shape) a.s1 (residents_of frame) a a.s2 ≡ filter (pairs_meet meets) (behind a (with_s1r frame shape a.s1 a.s2))
+    s1r-behind : all_meet meets a.s1 a.s2 ≡ true → in_s2 meets (remainder_pairs shape) a.s1 (residents_of frame) (Some a) a.s2 ≡ filter (pairs_meet meets) (behind a (with_s1r frame shape a.s1 a.s2))
     s1r-behind met =
         let rem = left_of (residents_of frame) a.s2 in
         let sets = exchanges rem (remainder_pairs shape) in
         let block = with_s2r frame shape a.s1 a.s2 in
         let split = behind-flat_map block a a.s1r sets s1r-apart standing.under_s1r standing.has_s1r in
-        ap (λ from. joined (s1r_blocks meets (Some a) a.s1 a.s2 rem from)) split.1
-        ∙ blocks-own a (λ own. own.s1r) (behind_s2r meets a.s1 a.s2 rem) (by_s2r meets a.s1 a.s2 rem) split.0
-        ∙ ap (λ front. front ++ joined (map (by_s2r meets a.s1 a.s2 rem) split.0)) (s2r-behind met)
+        ap (λ from. joined (s1r_blocks meets a.s1 a.s2 rem (Some a) from)) split.1
+        ∙ blocks-own a (λ own. own.s1r) (in_s1r meets a.s1 a.s2 rem) split.0
+        ∙ ap (λ front. front ++ joined (map (in_s1r meets a.s1 a.s2 rem None) split.0)) (s2r-behind met)
         ∙ ap (λ rest. filter (pairs_meet meets) (behind a (block a.s1r)) ++ rest)
-        (joined-map (by_s2r meets a.s1 a.s2 rem) split.0
-        ∙ flat_map-members (by_s2r meets a.s1 a.s2 rem) (λ s1r. filter (pairs_meet meets) (block s1r)) split.0
+        (joined-map (in_s1r meets a.s1 a.s2 rem None) split.0
+        ∙ flat_map-members (in_s1r meets a.s1 a.s2 rem None) (λ s1r. filter (pairs_meet meets) (block s1r)) split.0
         (λ s1r m. s2r-listed meets frame shape a.s1 a.s2 s1r met (exchange-length meets frame shape a.s2 s1r (split.2 s1r m)))
         ∙ sym (filter-flat_map (pairs_meet meets) block split.0))
         ∙ sym (filter-append (pairs_meet meets) (behind a (block a.s1r)) (flat_map block split.0))
@@ -268,41 +270,40 @@ module _ (frame : Frame) (shape : Shape) where
         second-differs (is_same b.s1 a.s1) (is_same b.s2 a.s2) (is_same b.s1r a.s1r && is_same b.s2r a.s2r)
         (ap (λ s. is_same s a.s2) (chosen-s2 a.s1 x b m) ∙ other)
 
-    abbrev s2-fresh : List ℕ → List Arrangement
-    s2-fresh s2 = joined (by_s1r meets a.s1 s2 (left_of (residents_of frame) s2) (exchanges (left_of (residents_of frame) s2) (remainder_pairs shape)))
+    abbrev s2-whole : List ℕ → List Arrangement
+    s2-whole = in_s2 meets (remainder_pairs shape) a.s1 (residents_of frame) None
 
-    s2-rest : (lists : List (List ℕ)) → joined (map s2-fresh (filter (all_meet meets a.s1) lists)) ≡ filter (pairs_meet meets) (flat_map (with_s1r frame shape a.s1) lists)
+    s2-rest : (lists : List (List ℕ)) → joined (map s2-whole (filter (all_meet meets a.s1) lists)) ≡ filter (pairs_meet meets) (flat_map (with_s1r frame shape a.s1) lists)
     s2-rest lists =
-        joined-map s2-fresh (filter (all_meet meets a.s1) lists)
-        ∙ flat_map-filter s2-fresh (all_meet meets a.s1) lists
-        ∙ flat_map-same (λ s2. cond (all_meet meets a.s1 s2) (s2-fresh s2) []) (λ s2. filter (pairs_meet meets) (with_s1r frame shape a.s1 s2)) lists (λ s2. s1r-either meets frame shape a.s1 s2)
+        joined-map s2-whole (filter (all_meet meets a.s1) lists)
+        ∙ flat_map-filter s2-whole (all_meet meets a.s1) lists
+        ∙ flat_map-same (λ s2. cond (all_meet meets a.s1 s2) (s2-whole s2) []) (λ s2. filter (pairs_meet meets) (with_s1r frame shape a.s1 s2)) lists (λ s2. s1r-either meets frame shape a.s1 s2)
         ∙ sym (filter-flat_map (pairs_meet meets) (with_s1r frame shape a.s1) lists)
 
-    s2-front : (later : List (List ℕ)) → joined (s2_blocks meets (Some a) (remainder_pairs shape) a.s1 (residents_of frame) (filter (all_meet meets a.s1) (a.s2 ∷ later))) ≡ filter (pairs_meet meets) (behind a (with_s1r frame shape a.s1 a.s2)) ++ joined (map s2-fresh (filter (all_meet meets a.s1) later))
+    s2-front : (later : List (List ℕ)) → joined (s2_blocks meets (remainder_pairs shape) a.s1 (residents_of frame) (Some a) (filter (all_meet meets a.s1) (a.s2 ∷ later))) ≡ filter (pairs_meet meets) (behind a (with_s1r frame shape a.s1 a.s2)) ++ joined (map s2-whole (filter (all_meet meets a.s1) later))
     s2-front later =
-        let resumed = behind_s1r meets (remainder_pairs shape) a.s1 (residents_of frame) in
-        let blocks : List (List ℕ) → List Arrangement = λ lists. joined (s2_blocks meets (Some a) (remainder_pairs shape) a.s1 (residents_of frame) lists) in
+        let blocks : List (List ℕ) → List Arrangement = λ lists. joined (s2_blocks meets (remainder_pairs shape) a.s1 (residents_of frame) (Some a) lists) in
         let met-later = filter (all_meet meets a.s1) later in
         elim (cases_Bool (all_meet meets a.s1 a.s2)) [
           | inl met ↦
               ap (λ t. blocks (cond t (a.s2 ∷ met-later) met-later)) met
-              ∙ blocks-own a (λ own. own.s2) resumed s2-fresh met-later
-              ∙ ap (λ front. front ++ joined (map s2-fresh met-later)) (s1r-behind met)
+              ∙ blocks-own a (λ own. own.s2) (in_s2 meets (remainder_pairs shape) a.s1 (residents_of frame)) met-later
+              ∙ ap (λ front. front ++ joined (map s2-whole met-later)) (s1r-behind met)
           | inr barred ↦
               ap (λ t. blocks (cond t (a.s2 ∷ met-later) met-later)) barred
-              ∙ blocks-absent a (λ own. own.s2) resumed s2-fresh (all_meet meets a.s1) later barred
-              ∙ ap (λ front. front ++ joined (map s2-fresh met-later))
+              ∙ blocks-absent a (λ own. own.s2) (in_s2 meets (remainder_pairs shape) a.s1 (residents_of frame)) (all_meet meets a.s1) later barred
+              ∙ ap (λ front. front ++ joined (map s2-whole met-later))
               (sym (behind-none (pairs_meet meets) a (with_s1r frame shape a.s1 a.s2) (s1r-barred meets frame shape a.s1 a.s2 barred)))
         ]
 
-    s2-behind : behind_s2 meets (remainder_pairs shape) (residents_of frame) a a.s1 ≡ filter (pairs_meet meets) (behind a (with_s2 frame shape a.s1))
+    s2-behind : in_s1 meets (remainder_pairs shape) (residents_of frame) (Some a) a.s1 ≡ filter (pairs_meet meets) (behind a (with_s2 frame shape a.s1))
     s2-behind =
         let lists : List (List ℕ) = sorted tuple_key (tuples (residents_of frame) shape.mdps) in
         let block = with_s1r frame shape a.s1 in
         let split = behind-flat_map block a a.s2 lists s2-apart standing.under_s2 standing.has_s2 in
-        ap (λ m. joined (s2_blocks meets (Some a) (remainder_pairs shape) a.s1 (residents_of frame) (filter (all_meet meets a.s1) (from_on a.s2 (sorted tuple_key (tuples (residents_of frame) m))))))
+        ap (λ m. joined (s2_blocks meets (remainder_pairs shape) a.s1 (residents_of frame) (Some a) (filter (all_meet meets a.s1) (from_on a.s2 (sorted tuple_key (tuples (residents_of frame) m))))))
         (limbo-length meets frame shape a.s1 standing.has_s1)
-        ∙ ap (λ from. joined (s2_blocks meets (Some a) (remainder_pairs shape) a.s1 (residents_of frame) (filter (all_meet meets a.s1) from))) split.1
+        ∙ ap (λ from. joined (s2_blocks meets (remainder_pairs shape) a.s1 (residents_of frame) (Some a) (filter (all_meet meets a.s1) from))) split.1
         ∙ s2-front split.0
         ∙ ap (λ rest. filter (pairs_meet meets) (behind a (block a.s2)) ++ rest) (s2-rest split.0)
         ∙ sym (filter-append (pairs_meet meets) (behind a (block a.s2)) (flat_map block split.0))
@@ -314,35 +315,26 @@ module _ (frame : Frame) (shape : Shape) where
         and_left (is_same b.s1 a.s1) (is_same b.s2 a.s2 && (is_same b.s1r a.s1r && is_same b.s2r a.s2r))
         (ap (λ s. is_same s a.s1) (chosen-s1 x b m) ∙ other)
 
-    pub s1-behind : joined (s1_blocks meets (Some a) (remainder_pairs shape) (residents_of frame) (from_on a.s1 (limbo_exchanges (moved_down_scores frame) shape.mdps))) ≡ filter (pairs_meet meets) (behind a (arrangements frame shape))
+    s1-behind : in_bracket meets frame shape (Some a) ≡ filter (pairs_meet meets) (behind a (arrangements frame shape))
     s1-behind =
         let sets = limbo_exchanges (moved_down_scores frame) shape.mdps in
         let block = with_s2 frame shape in
-        let fresh : List ℕ → List Arrangement = λ s1. joined (by_s2 meets (remainder_pairs shape) s1 (residents_of frame) (transpositions meets s1 (residents_of frame))) in
+        let whole = in_s1 meets (remainder_pairs shape) (residents_of frame) None in
         let split = behind-flat_map block a a.s1 sets s1-apart standing.under_s1 standing.has_s1 in
-        ap (λ from. joined (s1_blocks meets (Some a) (remainder_pairs shape) (residents_of frame) from)) split.1
-        ∙ blocks-own a (λ own. own.s1) (behind_s2 meets (remainder_pairs shape) (residents_of frame)) fresh split.0
-        ∙ ap (λ front. front ++ joined (map fresh split.0)) s2-behind
+        ap (λ from. joined (s1_blocks meets (remainder_pairs shape) (residents_of frame) (Some a) from)) split.1
+        ∙ blocks-own a (λ own. own.s1) (in_s1 meets (remainder_pairs shape) (residents_of frame)) split.0
+        ∙ ap (λ front. front ++ joined (map whole split.0)) s2-behind
         ∙ ap (λ rest. filter (pairs_meet meets) (behind a (block a.s1)) ++ rest)
-        (joined-map fresh split.0
-        ∙ flat_map-members fresh (λ s1. filter (pairs_meet meets) (block s1)) split.0
+        (joined-map whole split.0
+        ∙ flat_map-members whole (λ s1. filter (pairs_meet meets) (block s1)) split.0
         (λ s1 m. s2-listed meets frame shape s1 (limbo-length meets frame shape s1 (split.2 s1 m)))
         ∙ sym (filter-flat_map (pairs_meet meets) block split.0))
         ∙ sym (filter-append (pairs_meet meets) (behind a (block a.s1)) (flat_map block split.0))
         ∙ ap (filter (pairs_meet meets)) (sym split.3)
 
-    pub levels-behind : (may_be_left : ℕ → Bool) (mdps : ℕ) (scores residents : List ℕ) (blocks : List (List Arrangement)) (level : List Arrangement) → level ≡ joined blocks → blocks ≡ s1_blocks meets (Some a) (remainder_pairs shape) residents (from_on a.s1 (limbo_exchanges (take mdps scores) shape.mdps)) → residents ≡ residents_of frame → mdps ≡ frame.mdps → scores ≡ frame.scores → filter (may_leave may_be_left frame) level ≡ rest meets may_be_left frame shape a
-    levels-behind may_be_left mdps scores residents blocks level of_blocks of_parts whose how_many of_whom =
-        let k = remainder_pairs shape in
-        ap (filter (may_leave may_be_left frame))
-        (of_blocks
-        ∙ ap joined
-        (of_parts
-        ∙ ap (λ numbers. s1_blocks meets (Some a) k numbers (from_on a.s1 (limbo_exchanges (take mdps scores) shape.mdps))) whose
-        ∙ ap (λ count. s1_blocks meets (Some a) k (residents_of frame) (from_on a.s1 (limbo_exchanges (take count scores) shape.mdps))) how_many
-        ∙ ap (λ all. s1_blocks meets (Some a) k (residents_of frame) (from_on a.s1 (limbo_exchanges (take frame.mdps all) shape.mdps))) of_whom)
-        ∙ s1-behind)
-        ∙ legal-parts meets frame shape may_be_left (behind a (arrangements frame shape))
+    pub bracket-behind : (may_be_left : ℕ → Bool) → filter (may_leave may_be_left frame) (in_bracket meets frame shape (Some a)) ≡ rest meets may_be_left frame shape a
+    bracket-behind may_be_left =
+        ap (filter (may_leave may_be_left frame)) s1-behind ∙ legal-parts meets frame shape may_be_left (behind a (arrangements frame shape))
 
     -- the cursor's lists are choices of the levels
     pub has-s1 : IsIn a.s1 (subsets (numbers_from 1 (length (moved_down_scores frame))) shape.mdps)
@@ -388,3 +380,28 @@ behind-kept p a b (x ∷ xs) m =
 pub rest-in : (meets : ℕ → ℕ → Bool) (may_be_left : ℕ → Bool) (frame : Frame) (shape : Shape) (a b : Arrangement) → IsIn b (rest meets may_be_left frame shape a) → IsIn b (candidates meets may_be_left frame shape)
 rest-in meets may_be_left frame shape a b m =
     behind-kept (is_legal meets may_be_left frame) a b (arrangements frame shape) m
+
+-- the levels begin with the candidates behind a cursor, or with all
+pub levels-begun : (frame : Frame) (shape : Shape) (meets : ℕ → ℕ → Bool) (may_be_left : ℕ → Bool) (own : Option Arrangement) → Of (λ a. IsIn a (arrangements frame shape)) own → filter (may_leave may_be_left frame) (in_bracket meets frame shape own) ≡ candidates_from meets may_be_left frame shape own
+levels-begun frame shape meets may_be_left None given = candidates-listed meets frame shape may_be_left
+levels-begun frame shape meets may_be_left (Some a) given = bracket-behind frame shape meets a (stands frame shape a given) may_be_left
+
+-- where nothing is legal, there are none
+pub none-from : (frame : Frame) (shape : Shape) (meets : ℕ → ℕ → Bool) (may_be_left : ℕ → Bool) (own : Option Arrangement) → candidates meets may_be_left frame shape ≡ [] → candidates_from meets may_be_left frame shape own ≡ []
+none-from frame shape meets may_be_left None none = none
+none-from frame shape meets may_be_left (Some a) none = none-behind meets may_be_left frame shape a none
+
+-- they are candidates
+pub candidates-all : (frame : Frame) (shape : Shape) (meets : ℕ → ℕ → Bool) (may_be_left : ℕ → Bool) (own : Option Arrangement) → AllByRecursion (λ a. IsIn a (candidates meets may_be_left frame shape)) (candidates_from meets may_be_left frame shape own)
+candidates-all frame shape meets may_be_left None =
+    all-members (λ a. IsIn a (candidates meets may_be_left frame shape)) (candidates meets may_be_left frame shape) (λ a m. m)
+candidates-all frame shape meets may_be_left (Some own) =
+    all-members (λ a. IsIn a (candidates meets may_be_left frame shape)) (rest meets may_be_left frame shape own) (λ a m. rest-in meets may_be_left frame shape own a m)
+
+-- a cursor's lists are choices of the levels
+pub cursor-s1 : (frame : Frame) (shape : Shape) (meets : ℕ → ℕ → Bool) (a : Arrangement) → IsIn a (arrangements frame shape) → IsIn a.s1 (subsets (numbers_from 1 (length (moved_down_scores frame))) shape.mdps)
+cursor-s1 frame shape meets a m = has-s1 frame shape meets a (stands frame shape a m)
+
+pub cursor-s2 : (frame : Frame) (shape : Shape) (meets : ℕ → ℕ → Bool) (own : Option Arrangement) → Of (λ a. IsIn a (arrangements frame shape)) own → Of (HasS2 (remainder_pairs shape) (residents_of frame)) own
+cursor-s2 frame shape meets None given = tt {0}
+cursor-s2 frame shape meets (Some a) given = has-s2 frame shape meets a (stands frame shape a given)

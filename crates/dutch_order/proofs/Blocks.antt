@@ -1,50 +1,54 @@
 -- One turn of a level that goes through its blocks: the choice that comes is the cursor's own, or any other.
-use Rattle.std.proofs.Common.{◌≡◌, ℕ, Bool, true, false, if◌then◌else◌, List, [], ◌∷◌, refl, map, sym, subst, append-nil, Option, Some, None, ap, ◌∙◌}
+use Rattle.std.proofs.Common.{◌≡◌, ℕ, Bool, false, if◌then◌else◌, List, [], ◌∷◌, refl, map, sym, subst, inl, inr, append-nil, is_some, option_copied, Bor, Option, Some, None, ap, ◌∙◌}
 use Rattle.std.specs.List.{AllByRecursion}
 use Rattle.dutch_order.specs.Arrangements.{Arrangement, left_of}
 use Rattle.dutch_order.specs.Choices.{is_same}
-use Rattle.dutch_order.specs.Levels.{arranged, blocks_from, by_s1r, by_s2r, joined, s1r_blocks, s2_blocks}
+use Rattle.dutch_order.specs.Levels.{Of, arranged, blocks_from, if_own, in_s1r, in_s2, s1r_blocks, s2_blocks}
 use Rattle.dutch_order.specs.Exchange.{exchanges}
 use Rattle.dutch_order.specs.Prefixes.{GoesOn}
 use Rattle.dutch_order.specs.Steps.{Passes}
+use Rattle.std.proofs.lemmas.Bool.{cases_Bool, true≢false}
+use Rattle.dutch_order.proofs.FromOn.{is_same-true}
 use Rattle.dutch_order.proofs.Skipping.{all-joined, passes-map}
 
-module _ (part : Arrangement → List ℕ) (resumed : Arrangement → List ℕ → List Arrangement) (fresh : List ℕ → List Arrangement) where
-  -- the cursor's own choice
-  pub own-block : (resume : Option Arrangement) (own : Arrangement) (choice : List ℕ) (coming later : List (List ℕ)) → resume ≡ Some own → coming ≡ choice ∷ later → is_same choice (part own) ≡ true → blocks_from resume part resumed fresh coming ≡ resumed own choice ∷ map fresh later
-  own-block resume own choice coming later is comes same =
-      ap (λ r. blocks_from r part resumed fresh coming) is
-      ∙ ap (blocks_from (Some own) part resumed fresh) comes
-      ∙ ap (λ b. (if b then resumed own choice else fresh choice) ∷ map fresh later) same
+-- the next choice is taken: its block stands before whole ones
+pub block-comes : (part : Arrangement → List ℕ) (block : Option Arrangement → List ℕ → List Arrangement) (own : Option Arrangement) (choice : List ℕ) (coming later : List (List ℕ)) → coming ≡ choice ∷ later → blocks_from part block own coming ≡ block (if_own part own choice) choice ∷ map (block None) later
+block-comes part block None choice coming later comes = ap (map (block None)) comes
+block-comes part block (Some own) choice coming later comes = ap (blocks_from part block (Some own)) comes
 
-  -- another choice, where there is a cursor
-  pub other-block : (resume : Option Arrangement) (own : Arrangement) (choice : List ℕ) (coming later : List (List ℕ)) → resume ≡ Some own → coming ≡ choice ∷ later → is_same choice (part own) ≡ false → blocks_from resume part resumed fresh coming ≡ fresh choice ∷ map fresh later
-  other-block resume own choice coming later is comes differs =
-      ap (λ r. blocks_from r part resumed fresh coming) is
-      ∙ ap (blocks_from (Some own) part resumed fresh) comes
-      ∙ ap (λ b. (if b then resumed own choice else fresh choice) ∷ map fresh later) differs
+-- what holds of a cursor holds of it where a choice is its own, and it has that choice
+own-holds : (part : Arrangement → List ℕ) (P : Arrangement → Type 0) (own : Option Arrangement) (choice : List ℕ) → Of P own → Of (λ a. P a × (part a ≡ choice)) (if_own part own choice)
+own-holds part P None choice holds = tt {0}
+own-holds part P (Some own) choice holds =
+    elim (cases_Bool (is_same choice (part own))) [
+      | inl same ↦ subst (λ b. Of (λ a. P a × (part a ≡ choice)) (if b then Some own else None)) (sym same) (holds, sym (is_same-true choice (part own) same))
+      | inr other ↦ subst (λ b. Of (λ a. P a × (part a ≡ choice)) (if b then Some own else None)) (sym other) (tt {0})
+    ]
 
-  -- any choice, where there is none
-  pub free-block : (resume : Option Arrangement) (choice : List ℕ) (coming later : List (List ℕ)) → resume ≡ None → coming ≡ choice ∷ later → blocks_from resume part resumed fresh coming ≡ fresh choice ∷ map fresh later
-  free-block resume choice coming later is comes =
-      ap (λ r. blocks_from r part resumed fresh coming) is ∙ ap (map fresh) comes
+pub of-both : (P Q : Arrangement → Type 0) (own : Option Arrangement) → ((a : Arrangement) → P a → Q a) → Of P own → Of Q own
+of-both P Q None from holds = tt {0}
+of-both P Q (Some own) from holds = from own holds
+
+-- what follows of a cursor that is taken where a choice is its own
+pub taken : (part : Arrangement → List ℕ) (P Q : Arrangement → Type 0) (own result : Option Arrangement) (choice : List ℕ) → result ≡ if_own part own choice → Of P own → ((a : Arrangement) → P a → part a ≡ choice → Q a) → Of Q result
+taken part P Q own result choice is holds from =
+    subst (Of Q) (sym is) (of-both (λ a. P a × (part a ≡ choice)) Q (if_own part own choice) (λ a both. from a both.0 both.1) (own-holds part P own choice holds))
+
+-- where there is none, none is lent
+pub none-lent : {T : Type 0} (own : Option (Bor T)) → is_some own ≡ false → option_copied own ≡ None
+none-lent None is = refl
+none-lent (Some own) is = absurd (true≢false is)
 
 -- what holds of each that a map makes
 all-made : {S T : Type 0} (P : T → Type 0) (f : S → T) (xs : List S) → ((x : S) → P (f x)) → AllByRecursion P (map f xs)
 all-made P f [] each = tt {0}
 all-made P f (x ∷ xs) each = (each x, all-made P f xs each)
 
--- what holds of each block, the cursor's own and any other
-all-blocks : (P : List Arrangement → Type 0) (part : Arrangement → List ℕ) (resumed : Arrangement → List ℕ → List Arrangement) (fresh : List ℕ → List Arrangement) → ((own : Arrangement) (choice : List ℕ) → P (resumed own choice)) → ((choice : List ℕ) → P (fresh choice)) → (resume : Option Arrangement) (choices : List (List ℕ)) → AllByRecursion P (blocks_from resume part resumed fresh choices)
-all-blocks P part resumed fresh own_ones others None choices = all-made P fresh choices others
-all-blocks P part resumed fresh own_ones others (Some own) [] = tt {0}
-all-blocks P part resumed fresh own_ones others (Some own) (choice ∷ choices) = (
-  elim (is_same choice (part own)) as (λ b. P (if b then resumed own choice else fresh choice)) [
-    | true ↦ own_ones own choice
-    | false ↦ others choice
-  ],
-  all-made P fresh choices others,
-)
+-- what holds of each block
+all-blocks : (P : List Arrangement → Type 0) (part : Arrangement → List ℕ) (block : Option Arrangement → List ℕ → List Arrangement) → ((own : Option Arrangement) (choice : List ℕ) → P (block own choice)) → (own : Option Arrangement) (choices : List (List ℕ)) → AllByRecursion P (blocks_from part block own choices)
+all-blocks P part block each None choices = all-made P (block None) choices (each None)
+all-blocks P part block each (Some own) [] = tt {0}
+all-blocks P part block each (Some own) (choice ∷ choices) = (each (if_own part (Some own) choice) choice, all-made P (block None) choices (each None))
 
 -- where each arrangement with an S1 and an S2 is idle
 module _ (Idle : Arrangement → Type 0) (s1 s2 : List ℕ) (each : (a : Arrangement) → s1 ≡ a.s1 → s2 ≡ a.s2 → Idle a) where
@@ -52,15 +56,14 @@ module _ (Idle : Arrangement → Type 0) (s1 s2 : List ℕ) (each : (a : Arrange
   idle-arranged s1r lists = all-made Idle (arranged s1 s2 s1r) lists (λ s2r. each (arranged s1 s2 s1r s2r) refl refl)
 
   -- the blocks for S1R are idle
-  pub idle-s1r-blocks : (meets : ℕ → ℕ → Bool) (resume : Option Arrangement) (remainder : List ℕ) (sets : List (List ℕ)) → AllByRecursion (AllByRecursion Idle) (s1r_blocks meets resume s1 s2 remainder sets)
-  idle-s1r-blocks meets resume remainder sets =
-      all-blocks (AllByRecursion Idle) (λ a. a.s1r) _ _ (λ own s1r. idle-arranged s1r _) (λ s1r. idle-arranged s1r _) resume sets
+  pub idle-s1r-blocks : (meets : ℕ → ℕ → Bool) (remainder : List ℕ) (own : Option Arrangement) (sets : List (List ℕ)) → AllByRecursion (AllByRecursion Idle) (s1r_blocks meets s1 s2 remainder own sets)
+  idle-s1r-blocks meets remainder own sets =
+      all-blocks (AllByRecursion Idle) (λ a. a.s1r) (in_s1r meets s1 s2 remainder) (λ own s1r. idle-arranged s1r _) own sets
 
   -- and so is all that is in them
-  pub idle-s2-block : (meets : ℕ → ℕ → Bool) (remainder : List ℕ) (sets : List (List ℕ)) → AllByRecursion Idle (joined (by_s1r meets s1 s2 remainder sets))
-  idle-s2-block meets remainder sets =
-      all-joined Idle (by_s1r meets s1 s2 remainder sets)
-      (all-made (AllByRecursion Idle) (by_s2r meets s1 s2 remainder) sets (λ s1r. idle-arranged s1r _))
+  pub idle-in-s2 : (meets : ℕ → ℕ → Bool) (k : ℕ) (residents : List ℕ) → AllByRecursion Idle (in_s2 meets k s1 residents None s2)
+  idle-in-s2 meets k residents =
+      all-joined Idle _ (idle-s1r-blocks meets (left_of residents s2) None (exchanges (left_of residents s2) k))
 
 -- a list begins with itself
 pub goes-whole : (front list : List ℕ) → front ≡ list → GoesOn front list
@@ -87,9 +90,9 @@ same-lists a b s1 s2 s1r s2r =
     ∙ ap (λ list. arranged b.s1 b.s2 b.s1r list) s2r
 
 -- where S1 is chosen and no cursor is left, blocks are skipped as their S2 are
-pub passes-s2 : (Idle : Arrangement → Type 0) (meets : ℕ → ℕ → Bool) (k : ℕ) (s1 chosen residents : List ℕ) (resume : Option Arrangement) → chosen ≡ s1 → resume ≡ None → (xs ys : List (List ℕ)) → Passes (λ s2. (a : Arrangement) → chosen ≡ a.s1 → s2 ≡ a.s2 → Idle a) xs ys → Passes (AllByRecursion Idle) (s2_blocks meets resume k s1 residents xs) (s2_blocks meets None k s1 residents ys)
-passes-s2 Idle meets k s1 chosen residents resume at_s1 none xs ys passes =
-    subst (λ own. Passes (AllByRecursion Idle) (s2_blocks meets own k s1 residents xs) (s2_blocks meets None k s1 residents ys)) (sym none)
-    (passes-map (λ s2. (a : Arrangement) → chosen ≡ a.s1 → s2 ≡ a.s2 → Idle a) (AllByRecursion Idle) (λ s2. joined (by_s1r meets s1 s2 (left_of residents s2) (exchanges (left_of residents s2) k))) xs ys
-    (λ s2 each. idle-s2-block Idle s1 s2 (λ a first second. each a (at_s1 ∙ first) second) meets (left_of residents s2) (exchanges (left_of residents s2) k))
+pub passes-s2 : (Idle : Arrangement → Type 0) (meets : ℕ → ℕ → Bool) (k : ℕ) (s1 chosen residents : List ℕ) (own : Option Arrangement) → chosen ≡ s1 → own ≡ None → (xs ys : List (List ℕ)) → Passes (λ s2. (a : Arrangement) → chosen ≡ a.s1 → s2 ≡ a.s2 → Idle a) xs ys → Passes (AllByRecursion Idle) (s2_blocks meets k s1 residents own xs) (s2_blocks meets k s1 residents None ys)
+passes-s2 Idle meets k s1 chosen residents own at_s1 none xs ys passes =
+    subst (λ own. Passes (AllByRecursion Idle) (s2_blocks meets k s1 residents own xs) (s2_blocks meets k s1 residents None ys)) (sym none)
+    (passes-map (λ s2. (a : Arrangement) → chosen ≡ a.s1 → s2 ≡ a.s2 → Idle a) (AllByRecursion Idle) (in_s2 meets k s1 residents None) xs ys
+    (λ s2 each. idle-in-s2 Idle s1 s2 (λ a first second. each a (at_s1 ∙ first) second) meets k residents)
     passes)

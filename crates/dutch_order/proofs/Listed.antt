@@ -1,15 +1,15 @@
 -- The levels of a listing together are the arrangements whose pairs may meet.
-use Rattle.std.proofs.Common.{◌≡◌, ℕ, Bool, true, false, ◌&&◌, cond, List, [], ◌∷◌, ◌++◌, map, length, take, refl, sym, ◌∙◌, ap, inl, inr}
+use Rattle.std.proofs.Common.{◌≡◌, ℕ, Bool, true, false, ◌&&◌, cond, List, [], ◌∷◌, ◌++◌, map, length, None, refl, sym, ◌∙◌, ap, inl, inr}
 use Rattle.std.specs.List.{filter, flat_map}
 use Rattle.std.proofs.lemmas.Bool.{cases_Bool}
 use Rattle.dutch_order.specs.declared.bracket.Shape.{Shape}
 use Rattle.dutch_order.specs.Choices.{subsets, tuples, all_meet, numbers_from}
 use Rattle.dutch_order.specs.Keys.{IsIn, sorted}
-use Rattle.dutch_order.specs.Transposition.{tuple_key, transpositions}
+use Rattle.dutch_order.specs.Transposition.{tuple_key}
 use Rattle.dutch_order.specs.Exchange.{exchanges, exchange_key}
 use Rattle.dutch_order.specs.Limbo.{limbo_exchanges, limbo_key}
 use Rattle.dutch_order.specs.Arrangements.{Frame, Arrangement, residents_of, moved_down_scores, left_of, remainder_pairs, with_s2r, with_s1r, with_s2, arrangements, is_legal, candidates}
-use Rattle.dutch_order.specs.Levels.{joined, arranged, by_s2r, by_s1r, by_s2, by_s1, pairs_meet, may_leave}
+use Rattle.dutch_order.specs.Levels.{joined, arranged, in_s1r, in_s2, in_s1, in_bracket, pairs_meet, may_leave}
 use Rattle.dutch_order.proofs.Lists.{filter-flat_map, flat_map-filter, flat_map-same, filter-same, filter-filter}
 use Rattle.dutch_order.proofs.Sets.{sorted-in}
 use Rattle.dutch_order.proofs.Counts.{subsets-length}
@@ -47,7 +47,7 @@ and-assoc false b c = refl
 
 module _ (meets : ℕ → ℕ → Bool) (frame : Frame) (shape : Shape) where
   -- with S1, S2 and S1R chosen
-  pub s2r-listed : (s1 s2 s1r : List ℕ) → all_meet meets s1 s2 ≡ true → length s1r ≡ remainder_pairs shape → by_s2r meets s1 s2 (left_of (residents_of frame) s2) s1r ≡ filter (pairs_meet meets) (with_s2r frame shape s1 s2 s1r)
+  pub s2r-listed : (s1 s2 s1r : List ℕ) → all_meet meets s1 s2 ≡ true → length s1r ≡ remainder_pairs shape → in_s1r meets s1 s2 (left_of (residents_of frame) s2) None s1r ≡ filter (pairs_meet meets) (with_s2r frame shape s1 s2 s1r)
   s2r-listed s1 s2 s1r met same =
       let pool = left_of (left_of (residents_of frame) s2) s1r in
       ap (λ k. map (arranged s1 s2 s1r) (filter (all_meet meets s1r) (sorted tuple_key (tuples pool k)))) same
@@ -70,12 +70,12 @@ module _ (meets : ℕ → ℕ → Bool) (frame : Frame) (shape : Shape) where
       subsets-length pool (remainder_pairs shape) s1r (sorted-in (exchange_key pool (remainder_pairs shape)) s1r (subsets pool (remainder_pairs shape)) m)
 
   -- with S1 and S2 chosen
-  pub s1r-listed : (s1 s2 : List ℕ) → all_meet meets s1 s2 ≡ true → joined (by_s1r meets s1 s2 (left_of (residents_of frame) s2) (exchanges (left_of (residents_of frame) s2) (remainder_pairs shape))) ≡ filter (pairs_meet meets) (with_s1r frame shape s1 s2)
+  pub s1r-listed : (s1 s2 : List ℕ) → all_meet meets s1 s2 ≡ true → in_s2 meets (remainder_pairs shape) s1 (residents_of frame) None s2 ≡ filter (pairs_meet meets) (with_s1r frame shape s1 s2)
   s1r-listed s1 s2 met =
       let pool = left_of (residents_of frame) s2 in
       let sets = exchanges pool (remainder_pairs shape) in
-      joined-map (by_s2r meets s1 s2 pool) sets
-      ∙ flat_map-members (by_s2r meets s1 s2 pool) (λ s1r. filter (pairs_meet meets) (with_s2r frame shape s1 s2 s1r)) sets
+      joined-map (in_s1r meets s1 s2 pool None) sets
+      ∙ flat_map-members (in_s1r meets s1 s2 pool None) (λ s1r. filter (pairs_meet meets) (with_s2r frame shape s1 s2 s1r)) sets
       (λ s1r m. s2r-listed s1 s2 s1r met (exchange-length s2 s1r m))
       ∙ sym (filter-flat_map (pairs_meet meets) (with_s2r frame shape s1 s2) sets)
 
@@ -85,18 +85,18 @@ module _ (meets : ℕ → ℕ → Bool) (frame : Frame) (shape : Shape) where
       filter-flat_map (pairs_meet meets) (with_s2r frame shape s1 s2) sets
       ∙ flat_map-none (λ s1r. filter (pairs_meet meets) (with_s2r frame shape s1 s2 s1r)) sets (λ s1r. s2r-barred s1 s2 s1r barred)
 
-  pub s1r-either : (s1 s2 : List ℕ) → cond (all_meet meets s1 s2) (joined (by_s1r meets s1 s2 (left_of (residents_of frame) s2) (exchanges (left_of (residents_of frame) s2) (remainder_pairs shape)))) [] ≡ filter (pairs_meet meets) (with_s1r frame shape s1 s2)
+  pub s1r-either : (s1 s2 : List ℕ) → cond (all_meet meets s1 s2) (in_s2 meets (remainder_pairs shape) s1 (residents_of frame) None s2) [] ≡ filter (pairs_meet meets) (with_s1r frame shape s1 s2)
   s1r-either s1 s2 =
-      let block = joined (by_s1r meets s1 s2 (left_of (residents_of frame) s2) (exchanges (left_of (residents_of frame) s2) (remainder_pairs shape))) in
+      let block = in_s2 meets (remainder_pairs shape) s1 (residents_of frame) None s2 in
       elim (cases_Bool (all_meet meets s1 s2)) [
         | inl met ↦ ap (λ b. cond b block []) met ∙ s1r-listed s1 s2 met
         | inr barred ↦ ap (λ b. cond b block []) barred ∙ sym (s1r-barred s1 s2 barred)
       ]
 
   -- with S1 chosen
-  pub s2-listed : (s1 : List ℕ) → length s1 ≡ shape.mdps → joined (by_s2 meets (remainder_pairs shape) s1 (residents_of frame) (transpositions meets s1 (residents_of frame))) ≡ filter (pairs_meet meets) (with_s2 frame shape s1)
+  pub s2-listed : (s1 : List ℕ) → length s1 ≡ shape.mdps → in_s1 meets (remainder_pairs shape) (residents_of frame) None s1 ≡ filter (pairs_meet meets) (with_s2 frame shape s1)
   s2-listed s1 same =
-      let block : List ℕ → List Arrangement = λ s2. joined (by_s1r meets s1 s2 (left_of (residents_of frame) s2) (exchanges (left_of (residents_of frame) s2) (remainder_pairs shape))) in
+      let block : List ℕ → List Arrangement = in_s2 meets (remainder_pairs shape) s1 (residents_of frame) None in
       let lists : List (List ℕ) = sorted tuple_key (tuples (residents_of frame) shape.mdps) in
       ap (λ n. joined (map block (filter (all_meet meets s1) (sorted tuple_key (tuples (residents_of frame) n))))) same
       ∙ joined-map block (filter (all_meet meets s1) lists)
@@ -110,9 +110,9 @@ module _ (meets : ℕ → ℕ → Bool) (frame : Frame) (shape : Shape) where
       subsets-length numbers shape.mdps s1 (sorted-in (limbo_key (moved_down_scores frame)) s1 (subsets numbers shape.mdps) m)
 
   -- all of them
-  pub s1-listed : joined (by_s1 meets (remainder_pairs shape) (residents_of frame) (limbo_exchanges (moved_down_scores frame) shape.mdps)) ≡ filter (pairs_meet meets) (arrangements frame shape)
+  pub s1-listed : in_bracket meets frame shape None ≡ filter (pairs_meet meets) (arrangements frame shape)
   s1-listed =
-      let block : List ℕ → List Arrangement = λ s1. joined (by_s2 meets (remainder_pairs shape) s1 (residents_of frame) (transpositions meets s1 (residents_of frame))) in
+      let block : List ℕ → List Arrangement = in_s1 meets (remainder_pairs shape) (residents_of frame) None in
       let sets = limbo_exchanges (moved_down_scores frame) shape.mdps in
       joined-map block sets
       ∙ flat_map-members block (λ s1. filter (pairs_meet meets) (with_s2 frame shape s1)) sets (λ s1 m. s2-listed s1 (limbo-length s1 m))
@@ -125,19 +125,6 @@ module _ (meets : ℕ → ℕ → Bool) (frame : Frame) (shape : Shape) where
       ∙ filter-same (λ a. pairs_meet meets a && may_leave may_be_left frame a) (is_legal meets may_be_left frame) xs
       (λ a. and-assoc (all_meet meets a.s1 a.s2) (all_meet meets a.s1r a.s2r) (may_leave may_be_left frame a))
 
-  pub candidates-listed : (may_be_left : ℕ → Bool) → filter (may_leave may_be_left frame) (joined (by_s1 meets (remainder_pairs shape) (residents_of frame) (limbo_exchanges (moved_down_scores frame) shape.mdps))) ≡ candidates meets may_be_left frame shape
+  pub candidates-listed : (may_be_left : ℕ → Bool) → filter (may_leave may_be_left frame) (in_bracket meets frame shape None) ≡ candidates meets may_be_left frame shape
   candidates-listed may_be_left =
       ap (filter (may_leave may_be_left frame)) s1-listed ∙ legal-parts may_be_left (arrangements frame shape)
-
-  -- the levels, from their parts
-  pub levels-listed : (may_be_left : ℕ → Bool) (mdps : ℕ) (scores residents : List ℕ) (blocks : List (List Arrangement)) (level : List Arrangement) → level ≡ joined blocks → blocks ≡ by_s1 meets (remainder_pairs shape) residents (limbo_exchanges (take mdps scores) shape.mdps) → residents ≡ residents_of frame → mdps ≡ frame.mdps → scores ≡ frame.scores → filter (may_leave may_be_left frame) level ≡ candidates meets may_be_left frame shape
-  levels-listed may_be_left mdps scores residents blocks level of_blocks of_parts whose how_many of_whom =
-      let k = remainder_pairs shape in
-      ap (filter (may_leave may_be_left frame))
-      (of_blocks
-      ∙ ap joined
-      (of_parts
-      ∙ ap (λ numbers. by_s1 meets k numbers (limbo_exchanges (take mdps scores) shape.mdps)) whose
-      ∙ ap (λ count. by_s1 meets k (residents_of frame) (limbo_exchanges (take count scores) shape.mdps)) how_many
-      ∙ ap (λ all. by_s1 meets k (residents_of frame) (limbo_exchanges (take frame.mdps all) shape.mdps)) of_whom))
-      ∙ candidates-listed may_be_left

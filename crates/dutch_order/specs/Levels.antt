@@ -1,15 +1,17 @@
 -- What the levels of a listing have still to give: a model that carries the listing, and which a reader of its promise may pass by.
-use Rattle.std.specs.Prelude.{ℕ, Bool, not, ◌&&◌, ◌||◌, List, [], ◌∷◌, ◌++◌, map, filter, length, if◌then◌else◌, Option, Some, None}
+use Rattle.std.specs.Prelude.{ℕ, Bool, true, false, not, ◌&&◌, ◌||◌, List, [], ◌∷◌, ◌++◌, map, filter, length, if◌then◌else◌, Option, Some, None}
 use Rattle.dutch_order.specs.Choices.{all_meet, is_same, from_on, subsets, tuples}
 use Rattle.dutch_order.specs.Keys.{IsIn}
-use Rattle.dutch_order.specs.Arrangements.{Frame, Arrangement, left_of, down, leaves_one}
-use Rattle.dutch_order.specs.Transposition.{all_tuples, transpositions}
+use Rattle.dutch_order.specs.Arrangements.{Frame, Arrangement, left_of, residents_of, moved_down_scores, remainder_pairs, down, leaves_one}
+use Rattle.dutch_order.specs.Transposition.{all_tuples}
 use Rattle.dutch_order.specs.Exchange.{exchanges}
+use Rattle.dutch_order.specs.Limbo.{limbo_exchanges}
+use Rattle.dutch_order.specs.declared.bracket.Shape.{Shape}
 
--- what is left in a block, where there is one
-abbrev pub within : {X Y : Type 0} → (X → List Y) → Option X → List Y
-within coming None = []
-within coming (Some block) = coming block
+-- what is left in a block, where a level stands in it
+abbrev pub within : {X : Type 0} → Bool → List X → List X
+within true coming = coming
+within false coming = []
 
 -- blocks, one after another
 abbrev pub joined : {X : Type 0} → List (List X) → List X
@@ -26,63 +28,55 @@ without_own None lists = lists
 without_own (Some own) [] = []
 without_own (Some own) (list ∷ lists) = if is_same list own.s2r then lists else list ∷ lists
 
--- blocks for choices: the first of them is the cursor's own, or any, where the cursor's own is barred
-abbrev pub blocks_from : Option Arrangement → (Arrangement → List ℕ) → (Arrangement → List ℕ → List Arrangement) → (List ℕ → List Arrangement) → List (List ℕ) → List (List Arrangement)
-blocks_from None part resumed fresh choices = map fresh choices
-blocks_from (Some own) part resumed fresh [] = []
-blocks_from (Some own) part resumed fresh (choice ∷ choices) =
-    (if is_same choice (part own) then resumed own choice else fresh choice) ∷ map fresh choices
+-- choices from a cursor's own one on, or all where there is no cursor
+abbrev pub choices_from : (Arrangement → List ℕ) → Option Arrangement → List (List ℕ) → List (List ℕ)
+choices_from part None choices = choices
+choices_from part (Some own) choices = from_on (part own) choices
+
+-- a cursor, where a choice is its own
+abbrev pub if_own : (Arrangement → List ℕ) → Option Arrangement → List ℕ → Option Arrangement
+if_own part None choice = None
+if_own part (Some own) choice = if is_same choice (part own) then Some own else None
+
+-- blocks for choices: the first of them is what stands behind a cursor, if the choice is the cursor's own, and each other is whole
+abbrev pub blocks_from : (Arrangement → List ℕ) → (Option Arrangement → List ℕ → List Arrangement) → Option Arrangement → List (List ℕ) → List (List Arrangement)
+blocks_from part block None choices = map (block None) choices
+blocks_from part block (Some own) [] = []
+blocks_from part block (Some own) (choice ∷ choices) = block (if_own part (Some own) choice) choice ∷ map (block None) choices
 
 module _ (meets : ℕ → ℕ → Bool) where
-  -- where S1, S2 and S1R are chosen: an arrangement for each S2R whose players those of S1R may meet
-  abbrev pub by_s2r : List ℕ → List ℕ → List ℕ → List ℕ → List Arrangement
-  by_s2r s1 s2 remainder s1r =
-      map (arranged s1 s2 s1r) (transpositions meets s1r (left_of remainder s1r))
+  -- where S1, S2 and S1R are chosen: an arrangement for each S2R whose players those of S1R may meet, all or those behind a cursor
+  abbrev pub in_s1r : List ℕ → List ℕ → List ℕ → Option Arrangement → List ℕ → List Arrangement
+  in_s1r s1 s2 remainder own s1r =
+      map (arranged s1 s2 s1r)
+      (without_own own (filter (all_meet meets s1r) (choices_from (λ a. a.s2r) own (all_tuples (left_of remainder s1r) (length s1r)))))
 
-  -- where S1 and S2 are chosen: a block for each S1R
-  abbrev pub by_s1r : List ℕ → List ℕ → List ℕ → List (List ℕ) → List (List Arrangement)
-  by_s1r s1 s2 remainder sets = map (by_s2r s1 s2 remainder) sets
+  -- a block for each S1R
+  abbrev pub s1r_blocks : List ℕ → List ℕ → List ℕ → Option Arrangement → List (List ℕ) → List (List Arrangement)
+  s1r_blocks s1 s2 remainder = blocks_from (λ a. a.s1r) (in_s1r s1 s2 remainder)
 
-  -- where S1 is chosen: a block for each S2
-  abbrev pub by_s2 : ℕ → List ℕ → List ℕ → List (List ℕ) → List (List Arrangement)
-  by_s2 k s1 residents lists =
-      map (λ s2. joined (by_s1r s1 s2 (left_of residents s2) (exchanges (left_of residents s2) k))) lists
+  -- where S1 and S2 are chosen: the arrangements, all or those behind a cursor
+  abbrev pub in_s2 : ℕ → List ℕ → List ℕ → Option Arrangement → List ℕ → List Arrangement
+  in_s2 k s1 residents own s2 =
+      joined (s1r_blocks s1 s2 (left_of residents s2) own (choices_from (λ a. a.s1r) own (exchanges (left_of residents s2) k)))
+
+  -- a block for each S2
+  abbrev pub s2_blocks : ℕ → List ℕ → List ℕ → Option Arrangement → List (List ℕ) → List (List Arrangement)
+  s2_blocks k s1 residents = blocks_from (λ a. a.s2) (in_s2 k s1 residents)
+
+  -- where S1 is chosen: the arrangements, all or those behind a cursor
+  abbrev pub in_s1 : ℕ → List ℕ → Option Arrangement → List ℕ → List Arrangement
+  in_s1 k residents own s1 =
+      joined (s2_blocks k s1 residents own (filter (all_meet meets s1) (choices_from (λ a. a.s2) own (all_tuples residents (length s1)))))
 
   -- a block for each S1
-  abbrev pub by_s1 : ℕ → List ℕ → List (List ℕ) → List (List Arrangement)
-  by_s1 k residents sets = map (λ s1. joined (by_s2 k s1 residents (transpositions meets s1 residents))) sets
+  abbrev pub s1_blocks : ℕ → List ℕ → Option Arrangement → List (List ℕ) → List (List Arrangement)
+  s1_blocks k residents = blocks_from (λ a. a.s1) (in_s1 k residents)
 
-  -- where S1, S2 and S1R are the cursor's own: the arrangements behind it
-  abbrev pub behind_s2r : List ℕ → List ℕ → List ℕ → Arrangement → List ℕ → List Arrangement
-  behind_s2r s1 s2 remainder own s1r =
-      map (arranged s1 s2 s1r)
-      (without_own (Some own) (filter (all_meet meets s1r) (from_on own.s2r (all_tuples (left_of remainder s1r) (length s1r)))))
-
-  -- a block for each S1R; the first of them, if it is the cursor's own, is what stands behind the cursor's S2R
-  abbrev pub s1r_blocks : Option Arrangement → List ℕ → List ℕ → List ℕ → List (List ℕ) → List (List Arrangement)
-  s1r_blocks own s1 s2 remainder sets =
-      blocks_from own (λ a. a.s1r) (behind_s2r s1 s2 remainder) (by_s2r s1 s2 remainder) sets
-
-  -- where S1 and S2 are the cursor's own: the arrangements behind it
-  abbrev pub behind_s1r : ℕ → List ℕ → List ℕ → Arrangement → List ℕ → List Arrangement
-  behind_s1r k s1 residents own s2 =
-      joined (s1r_blocks (Some own) s1 s2 (left_of residents s2) (from_on own.s1r (exchanges (left_of residents s2) k)))
-
-  -- a block for each S2; the first of them, if it is the cursor's own, is what stands behind the cursor's S1R
-  abbrev pub s2_blocks : Option Arrangement → ℕ → List ℕ → List ℕ → List (List ℕ) → List (List Arrangement)
-  s2_blocks own k s1 residents lists =
-      blocks_from own (λ a. a.s2) (behind_s1r k s1 residents)
-      (λ s2. joined (by_s1r s1 s2 (left_of residents s2) (exchanges (left_of residents s2) k))) lists
-
-  -- where S1 is the cursor's own: the arrangements behind it
-  abbrev pub behind_s2 : ℕ → List ℕ → Arrangement → List ℕ → List Arrangement
-  behind_s2 k residents own s1 =
-      joined (s2_blocks (Some own) k s1 residents (filter (all_meet meets s1) (from_on own.s2 (all_tuples residents (length s1)))))
-
-  -- a block for each S1; the first of them, if it is the cursor's own, is what stands behind the cursor's S2
-  abbrev pub s1_blocks : Option Arrangement → ℕ → List ℕ → List (List ℕ) → List (List Arrangement)
-  s1_blocks own k residents sets =
-      blocks_from own (λ a. a.s1) (behind_s2 k residents) (λ s1. joined (by_s2 k s1 residents (transpositions meets s1 residents))) sets
+  -- the arrangements of a bracket and a shape whose pairs may meet, all or those behind a cursor
+  abbrev pub in_bracket : Frame → Shape → Option Arrangement → List Arrangement
+  in_bracket frame shape own =
+      joined (s1_blocks (remainder_pairs shape) (residents_of frame) own (choices_from (λ a. a.s1) own (limbo_exchanges (moved_down_scores frame) shape.mdps)))
 
 -- a cursor's S2R is a choice
 abbrev pub HasS2r : List ℕ → Arrangement → Type 0

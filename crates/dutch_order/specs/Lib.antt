@@ -14,7 +14,7 @@ pub mod Sides
 pub mod TranspositionSearch
 pub mod LimboSearch
 pub mod Arrangements
-pub mod Draws
+pub mod Candidates
 pub mod Levels
 pub mod Listings
 pub mod Cursors

@@ -1,7 +1,7 @@
 -- What a listing of candidates has still to give.
-use Rattle.std.specs.Prelude.{Bool, true, false, List, [], ◌∷◌, Option, Some, None}
+use Rattle.std.specs.Prelude.{ℕ, Bool, true, false, List, [], ◌∷◌, Option, Some, None}
 use Rattle.dutch_order.specs.declared.bracket.Shape.{Shape}
-use Rattle.dutch_order.specs.Arrangements.{Frame, Arrangement}
+use Rattle.dutch_order.specs.Arrangements.{Frame, Arrangement, candidates, rest}
 
 -- the bracket, the shape and the rule whose candidates are listed, those still to come, the arrangement behind which they stand, if
 -- there is one: the candidate handed out last, or else the one from which the listing began; and whether the end was told
@@ -27,3 +27,8 @@ only_if false x = None
 abbrev pub still_coming : {T : Type 0} → Bool → List T → List T
 still_coming true xs = []
 still_coming false xs = xs
+
+-- the candidates behind a cursor, or all where there is none
+abbrev pub candidates_from : (ℕ → ℕ → Bool) → (ℕ → Bool) → Frame → Shape → Option Arrangement → List Arrangement
+candidates_from meets may_be_left frame shape None = candidates meets may_be_left frame shape
+candidates_from meets may_be_left frame shape (Some own) = rest meets may_be_left frame shape own

@@ -1,5 +1,5 @@
 // An arrangement of a bracket, specified by its four lists of numbers.
-ghost use Rattle.std.specs.Prelude.{◌≡◌, ◌∷◌, [], Some, None, cond};
+ghost use Rattle.std.specs.Prelude.{◌≡◌, ◌∷◌, [], Some, None, cond, option_copied};
 ghost use Rattle.dutch_order.specs.Listings.{listed};
 
 use crate::cursor::Cursor;
@@ -80,6 +80,23 @@ impl Held {
         Held {
             is_held: false,
             lists: Arrangement::empty(),
+        }
+    }
+
+    /// Empties it.
+    pub fn clear(&mut self)
+        ensures { self.new ≡ None }
+    {
+        self.is_held = false;
+    }
+
+    /// Puts the arrangement of a cursor there, or empties it where there is none.
+    pub fn put(&mut self, cursor: Option<&Cursor>)
+        ensures { self.new ≡ option_copied cursor.entry }
+    {
+        match cursor {
+            Some(cursor) => self.hold(&cursor.lists),
+            None => self.clear(),
         }
     }
 

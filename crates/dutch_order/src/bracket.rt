@@ -5,7 +5,7 @@ ghost use Rattle.dutch_order.specs.Arrangements.{IsBracket, players_of, resident
 ghost use Rattle.dutch_order.specs.Cursors.{moved_down_of};
 ghost use Rattle.dutch_order.specs.declared.numbers.TheConstants.{LIMIT};
 
-use crate::numbers::{Numbers, numbered_from};
+use crate::numbers::{Numbers, numbered_from, put_numbered};
 use arrayvec::ArrayVec;
 use std::marker::Model;
 
@@ -101,12 +101,23 @@ impl Bracket {
         numbered_from(1, self.mdps)
     }
 
+    /// Fills a list with the numbers of the residents.
+    pub(crate) fn put_residents(&self, residents: &mut Numbers)
+        ensures items { residents.new.items ≡ residents_of self.now }
+        ensures ascends { IsStrictlyIncreasing residents.new.items }
+        ensures few { length self.now.scores ≤ LIMIT }
+    {
+        put_numbered(self.mdps + 1, self.scores.len() - self.mdps, residents);
+    }
+
     /// The numbers of the residents.
     pub fn residents(&self) -> Numbers
         ensures items { result.items ≡ residents_of self.now }
         ensures ascends { IsStrictlyIncreasing result.items }
         ensures few { length self.now.scores ≤ LIMIT }
     {
-        numbered_from(self.mdps + 1, self.scores.len() - self.mdps)
+        let mut residents = ArrayVec::new();
+        self.put_residents(&mut residents);
+        residents
     }
 }

@@ -15,9 +15,9 @@ pub struct Candidate {
 }
 
 impl Model for Candidate {
-    ghost use Rattle.dutch_order.specs.Draws.{Draw};
+    ghost use Rattle.dutch_order.specs.Candidates.{Candidate};
 
-    ghost Value = { Draw };
+    ghost Value = { Candidate };
 
     ghost view = { λ c. record { lists = c.lists; down = c.down.items } };
 }
@@ -37,6 +37,15 @@ impl Candidate {
     {
         self.lists.fill(&other.lists);
         fill(&mut self.down, &other.down);
+    }
+
+    /// The same candidate once more.
+    pub fn copied(&self) -> Candidate
+        ensures { result ≡ self.now }
+    {
+        let mut copy = Candidate::empty();
+        copy.fill(self);
+        copy
     }
 
     /// S1: the moved-down players who are paired, ascending.

@@ -2,23 +2,23 @@
 //
 // Four levels list the arrangements whose pairs may meet. What is left here is the last question, whether those may be left over
 // whom an arrangement leaves: an arrangement that has been found is kept until that question is answered.
-ghost use Rattle.std.specs.Prelude.{◌≡◌, ◌≤◌, ◌++◌, ◌∷◌, [], Some, None, filter, length, not, ◌||◌, ◌&&◌, ◌-◌, ◌*◌, nat_lt, true, false};
+ghost use Rattle.std.specs.Prelude.{◌≡◌, ◌≤◌, ◌++◌, ◌∷◌, [], Some, None, filter, length, not, ◌||◌, ◌&&◌, ◌-◌, ◌*◌, nat_lt, option_copied, true, false};
 ghost use Rattle.std.specs.List.{AllByRecursion};
 ghost use Rattle.dutch_order.specs.Arrangements.{Fits, arrangements, candidates, down, leaves_one, rest};
 ghost use Rattle.dutch_order.specs.Choices.{is_member};
 ghost use Rattle.dutch_order.specs.Keys.{IsIn};
-ghost use Rattle.dutch_order.specs.Levels.{may_leave};
-ghost use Rattle.dutch_order.specs.Listings.{listed};
+ghost use Rattle.dutch_order.specs.Levels.{Of, in_bracket, may_leave};
+ghost use Rattle.dutch_order.specs.Listings.{candidates_from, listed};
 ghost use Rattle.dutch_order.specs.Steps.{MatchStep, Passes, Spends};
 
 use crate::arrangement::{Arrangement, Held};
 use crate::bound::Bound;
 use crate::bracket::{Bracket, Shape};
 use crate::candidate::Candidate;
-use crate::choices::ByS1;
+use crate::choices::{Levels, no_levels};
 use crate::cursor::Cursor;
 use crate::cuts::{Cuts, NoCuts, Within};
-use crate::levels::{Arranges, Level};
+use crate::levels::Arranges;
 use crate::numbers::Numbers;
 use crate::prefix::Prefix;
 use crate::rules::Rule;
@@ -82,7 +82,7 @@ fn ask_leave<R: Rule>(rule: &R, last: bool, down: &[u16], budget: &mut Budget) -
                 return Step::Undecided;
             }
             budget.used += 1;
-            if rule.last_ok(*player) {
+            if rule.may_be_left(*player) {
                 Step::Found(())
             } else {
                 Step::End
@@ -162,6 +162,26 @@ fn draw_legal<R: Rule, L: Arranges, C: Cuts>(
     }
 }
 
+/// Begins anew, in place, with a shape: all its arrangements whose pairs may meet, or those that stand behind a cursor.
+fn start_drawing<'a, R: Rule>(
+    leave: &Leave<'a, R>,
+    drawing: &mut Drawing<Levels<'a, R>>,
+    shape: Shape,
+    own: Option<&'a Cursor>,
+)
+    requires fits { Fits leave.now.bracket.now shape }
+    requires given { Of (λ cursor. IsIn cursor (arrangements leave.now.bracket.now shape)) (option_copied own) }
+    ensures kept { drawing.new.kept ≡ None }
+    ensures level { drawing.new.level ≡ in_bracket (R.meets leave.now.rule.now) leave.now.bracket.now shape (option_copied own.entry) }
+{
+    drawing.kept.clear();
+    drawing.level.in_block = false;
+    drawing
+        .level
+        .blocks
+        .start(leave.bracket, shape, own, leave.rule);
+}
+
 /// The candidates of a bracket and a shape, one by one (C.04.3 B.6, B.7): the arrangements that are legal, in the order of article
 /// D. A step is one number tried at one place of one of the four lists, or the one downfloater of a last or collapsed bracket tried
 /// for C.2. It takes no memory.
@@ -173,7 +193,7 @@ pub struct Candidates<'a, R: Rule> {
     hopeless: bool,
     // `End` was answered
     ended: bool,
-    drawing: Drawing<Level<ByS1<'a, R>>>,
+    drawing: Drawing<Levels<'a, R>>,
     // what was handed out last, or else where the listing began
     latest: Held,
 }
@@ -205,6 +225,46 @@ impl<'a, R: Rule> Model for Candidates<'a, R> {
 }
 
 impl<'a, R: Rule> Candidates<'a, R> {
+    /// A listing that has ended, with its places for lists. They are made once: a listing begins anew in them (`restart`).
+    pub fn ended(bracket: &'a Bracket, rule: &'a R) -> Candidates<'a, R>
+        ensures coming { result.coming ≡ [] }
+        ensures frame { result.frame ≡ bracket.now }
+        ensures rule { result.rule ≡ rule.now }
+        ensures ended { result.ended ≡ true }
+        ensures latest { result.latest ≡ None }
+    {
+        let shape = Shape { pairs: 0, mdps: 0 };
+        Candidates {
+            shape,
+            leave: Leave { bracket, rule },
+            hopeless: leaves_too_many(bracket, shape),
+            ended: true,
+            drawing: Drawing {
+                kept: Held::none(),
+                level: no_levels(rule),
+            },
+            latest: Held::none(),
+        }
+    }
+
+    // Begins anew with a shape: all its candidates, or those that stand behind a cursor.
+    fn begin(&mut self, shape: Shape, own: Option<&'a Cursor>)
+        requires fits { Fits self.old.frame shape }
+        requires given { Of (λ cursor. IsIn cursor (arrangements self.old.frame shape)) (option_copied own) }
+        ensures coming { self.new.coming ≡ candidates_from (R.meets self.old.rule) (R.may_be_left self.old.rule) self.old.frame shape (option_copied own.entry) }
+        ensures frame { self.new.frame ≡ self.old.frame }
+        ensures shape { self.new.shape ≡ shape }
+        ensures rule { self.new.rule ≡ self.old.rule }
+        ensures ended { self.new.ended ≡ false }
+        ensures latest { self.new.latest ≡ option_copied own.entry }
+    {
+        self.shape = shape;
+        self.hopeless = leaves_too_many(self.leave.bracket, shape);
+        self.ended = false;
+        self.latest.put(own);
+        start_drawing(&self.leave, &mut self.drawing, shape, own);
+    }
+
     /// All candidates. The bracket has players enough for the shape.
     pub fn new(bracket: &'a Bracket, shape: Shape, rule: &'a R) -> Candidates<'a, R>
         requires { Fits bracket.now shape }
@@ -215,25 +275,9 @@ impl<'a, R: Rule> Candidates<'a, R> {
         ensures ended { result.ended ≡ false }
         ensures latest { result.latest ≡ None }
     {
-        let mdps = bracket.mdps();
-        let blocks = ByS1::new(
-            shape.pairs - shape.mdps,
-            &bracket.scores()[..mdps],
-            shape.mdps,
-            bracket.residents(),
-            rule,
-        );
-        Candidates {
-            shape,
-            leave: Leave { bracket, rule },
-            hopeless: leaves_too_many(bracket, shape),
-            ended: false,
-            drawing: Drawing {
-                kept: Held::none(),
-                level: Level::new(blocks),
-            },
-            latest: Held::none(),
-        }
+        let mut candidates = Candidates::ended(bracket, rule);
+        candidates.begin(shape, None);
+        candidates
     }
 
     /// Those that stand behind an arrangement of the bracket and the shape, legal or not.
@@ -241,39 +285,33 @@ impl<'a, R: Rule> Candidates<'a, R> {
         bracket: &'a Bracket,
         shape: Shape,
         rule: &'a R,
-        cursor: Cursor,
+        cursor: &'a Cursor,
     ) -> Candidates<'a, R>
         requires fits { Fits bracket.now shape }
-        requires given { IsIn cursor (arrangements bracket.now shape) }
-        ensures coming { result.coming ≡ rest (R.meets rule.now) (R.may_be_left rule.now) bracket.now shape cursor }
+        requires given { IsIn cursor.now (arrangements bracket.now shape) }
+        ensures coming { result.coming ≡ rest (R.meets rule.now) (R.may_be_left rule.now) bracket.now shape cursor.now }
         ensures frame { result.frame ≡ bracket.now }
         ensures shape { result.shape ≡ shape }
         ensures rule { result.rule ≡ rule.now }
         ensures ended { result.ended ≡ false }
-        ensures latest { result.latest ≡ Some cursor }
+        ensures latest { result.latest ≡ Some cursor.now }
     {
-        let mdps = bracket.mdps();
-        let mut latest = Held::none();
-        latest.hold(&cursor.lists);
-        let blocks = ByS1::from(
-            shape.pairs - shape.mdps,
-            &bracket.scores()[..mdps],
-            shape.mdps,
-            bracket.residents(),
-            cursor,
-            rule,
-        );
-        Candidates {
-            shape,
-            leave: Leave { bracket, rule },
-            hopeless: leaves_too_many(bracket, shape),
-            ended: false,
-            drawing: Drawing {
-                kept: Held::none(),
-                level: Level::new(blocks),
-            },
-            latest,
-        }
+        let mut candidates = Candidates::ended(bracket, rule);
+        candidates.begin(shape, Some(cursor));
+        candidates
+    }
+
+    /// Begins anew in place, with all candidates of a shape for which the bracket has players enough, as `new` does.
+    pub fn restart(&mut self, shape: Shape)
+        requires { Fits self.old.frame shape }
+        ensures coming { self.new.coming ≡ candidates (R.meets self.old.rule) (R.may_be_left self.old.rule) self.old.frame shape }
+        ensures frame { self.new.frame ≡ self.old.frame }
+        ensures shape { self.new.shape ≡ shape }
+        ensures rule { self.new.rule ≡ self.old.rule }
+        ensures ended { self.new.ended ≡ false }
+        ensures latest { self.new.latest ≡ None }
+    {
+        self.begin(shape, None);
     }
 
     // The next candidate, where those may be skipped of which `cuts` tells.
@@ -327,6 +365,29 @@ impl<'a, R: Rule> Candidates<'a, R> {
         }
     }
 
+    /// Fills `candidate` with the next one, as `next` gives it.
+    pub fn put_next(&mut self, candidate: &mut Candidate, budget: &mut Budget) -> Step<()>
+        requires { budget.old.used ≤ budget.old.limit }
+        ensures answer { MatchStep result
+            (λ _. (self.old.coming ≡ candidate.new.lists ∷ self.new.coming) × (candidate.new.down ≡ down self.old.frame candidate.new.lists) × (self.new.latest ≡ Some candidate.new.lists))
+            ((self.old.coming ≡ []) × (self.new.coming ≡ []) × (self.new.latest ≡ self.old.latest))
+            ((self.new.coming ≡ self.old.coming) × (self.new.latest ≡ self.old.latest) × (budget.new.used ≡ budget.new.limit)) }
+        ensures hopeless { (self.old.frame.last && nat_lt 1 (length self.old.frame.scores - 2 * self.old.shape.pairs)) ≡ true
+            → MatchStep result (λ _. ⊥) (budget.new.used ≡ budget.old.used) ⊥ }
+        ensures ended { MatchStep result (λ _. self.new.ended ≡ self.old.ended) (self.new.ended ≡ true) (self.new.ended ≡ self.old.ended) }
+        ensures after_end { self.old.ended ≡ true → MatchStep result (λ _. ⊥) (budget.new.used ≡ budget.old.used) ⊥ }
+        ensures frame { self.new.frame ≡ self.old.frame }
+        ensures shape { self.new.shape ≡ self.old.shape }
+        ensures rule { self.new.rule ≡ self.old.rule }
+        ensures spends { Spends budget.old budget.new }
+    {
+        match self.go_on(&NoCuts, &mut (), candidate, budget) {
+            Step::Found(()) => Step::Found(()),
+            Step::End => Step::End,
+            Step::Undecided => Step::Undecided,
+        }
+    }
+
     /// The next candidate. `Found` gives the first of those to come, `End` is answered where none is left, and `Undecided` where the
     /// budget is used up before the next one is found: what is to come is then as it was. Where the bracket may leave over at most
     /// one player and the shape leaves more, `End` is answered without a step. After `End` every further call answers `End` without
@@ -347,7 +408,7 @@ impl<'a, R: Rule> Candidates<'a, R> {
         ensures spends { Spends budget.old budget.new }
     {
         let mut candidate = Candidate::empty();
-        match self.go_on(&NoCuts, &mut (), &mut candidate, budget) {
+        match self.put_next(&mut candidate, budget) {
             Step::Found(()) => Step::Found(candidate),
             Step::End => Step::End,
             Step::Undecided => Step::Undecided,

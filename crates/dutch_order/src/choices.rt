@@ -1,29 +1,29 @@
 // The levels of a bracket's arrangements, innermost first: the choice of S2R, of S1R, of S2, and of S1 (C.04.3 B.6, B.7).
-ghost use Rattle.std.specs.Prelude.{◌≡◌, ◌+◌, ◌≤◌, ℕ, List, [], ◌∷◌, Some, filter, length};
+//
+// Each level begins anew in place, for the choice that the level above it has made: it copies that choice into lists of its own, so
+// that no block makes a list. Behind a cursor only the first choice of each level can be the cursor's own: in it the level below
+// begins behind the cursor too, and in all later ones it begins at its first choice.
+ghost use Rattle.std.specs.Prelude.{◌≡◌, ◌+◌, ◌≤◌, ℕ, List, None, [], ◌∷◌, length, option_copied};
 ghost use Rattle.std.specs.List.{AllByRecursion};
 ghost use Rattle.std.specs.List.Sorted.{IsStrictlyIncreasing};
 ghost use Rattle.dutch_order.specs.declared.numbers.TheConstants.{LIMIT};
-ghost use Rattle.dutch_order.specs.Arrangements.{Arrangement, left_of};
-ghost use Rattle.dutch_order.specs.Exchange.{exchanges};
-ghost use Rattle.dutch_order.specs.Choices.{all_meet, from_on, subsets, tuples, numbers_from};
+ghost use Rattle.dutch_order.specs.Arrangements.{Arrangement, Fits, arrangements, left_of};
 ghost use Rattle.dutch_order.specs.Keys.{IsIn};
-ghost use Rattle.dutch_order.specs.Levels.{HasS1r, HasS2, HasS2r, behind_s2r, by_s1, by_s1r, by_s2, by_s2r, s1_blocks, s1r_blocks, s2_blocks, without_own};
+ghost use Rattle.dutch_order.specs.Levels.{HasS1r, HasS2, HasS2r, Of, if_own, in_bracket, in_s1, in_s1r, in_s2, joined, without_own};
 ghost use Rattle.dutch_order.specs.Steps.{MatchStep, Passes, Spends};
-ghost use Rattle.dutch_order.specs.Limbo.{IsNonAscending, limbo_exchanges};
-ghost use Rattle.dutch_order.specs.Transposition.{all_tuples, transpositions};
 
 use crate::arrangement::Arrangement;
+use crate::bracket::{Bracket, Shape};
 use crate::cursor::Cursor;
 use crate::cuts::{Cuts, CutsTuples, OfS2, OfS2r};
 use crate::exchange::Exchanges;
 use crate::levels::{Arranges, Blocks, Level};
 use crate::limbo::LimboExchanges;
-use crate::numbers::{Numbers, copied, fill, is_same, left_of};
+use crate::numbers::{Numbers, fill, is_same, put_left_of};
 use crate::prefix::{Filling, Prefix};
 use crate::rules::Rule;
 use crate::steps::{Budget, Step};
 use crate::transposition::Transpositions;
-use arrayvec::ArrayVec;
 use std::marker::Model;
 
 /// Arrangements with the same S1, S2 and S1R: one for each S2R, by article D.1.
@@ -32,66 +32,67 @@ pub struct ByS2r<'a, R: Rule> {
     s1: Numbers,
     s2: Numbers,
     s1r: Numbers,
+    // who is left for S2R
+    pool: Numbers,
     lists: Transpositions<'a, R>,
     // the cursor behind which the lists begin, until the first one has come
-    resume: Option<Cursor>,
+    resume: Option<&'a Cursor>,
 }
 
 impl<'a, R: Rule> Model for ByS2r<'a, R> {
-    ghost use Rattle.std.specs.Prelude.{List, map};
+    ghost use Rattle.std.specs.Prelude.{List, map, option_copied};
     ghost use Rattle.dutch_order.specs.Arrangements.{Arrangement};
     ghost use Rattle.dutch_order.specs.Levels.{arranged, without_own};
 
     ghost Value = { List Arrangement };
 
-    ghost view = { λ l. map (arranged l.s1.items l.s2.items l.s1r.items) (without_own l.resume l.lists.coming) };
+    ghost view = { λ l. map (arranged l.s1.items l.s2.items l.s1r.items) (without_own (option_copied l.resume) l.lists.coming) };
 }
 
 impl<'a, R: Rule> ByS2r<'a, R> {
-    /// All arrangements with an S1, an S2 and an S1R out of the remainder.
-    fn new(s1: &[u16], s2: &[u16], remainder: &[u16], s1r: Numbers, rule: &'a R) -> ByS2r<'a, R>
-        requires few_s1 { length s1.now ≤ LIMIT }
-        requires few_s2 { length s2.now ≤ LIMIT }
-        requires few { length remainder.now ≤ LIMIT }
-        requires ascends { IsStrictlyIncreasing remainder.now }
-        ensures { result ≡ by_s2r (R.meets rule.now) s1.now s2.now remainder.now s1r.items }
+    /// A place for such arrangements, in which there are none.
+    fn ended(rule: &'a R) -> ByS2r<'a, R>
+        ensures { result ≡ [] }
     {
-        let pool = left_of(remainder, &s1r);
-        let lists = Transpositions::new(&s1r, &pool, rule);
         ByS2r {
-            s1: copied(s1),
-            s2: copied(s2),
-            s1r,
-            lists,
+            s1: Numbers::new(),
+            s2: Numbers::new(),
+            s1r: Numbers::new(),
+            pool: Numbers::new(),
+            lists: Transpositions::ended(rule),
             resume: None,
         }
     }
 
-    /// Those that stand behind a cursor.
-    fn from(
+    /// Begins anew with an S1, an S2 and an S1R out of the remainder.
+    fn start(
+        &mut self,
         s1: &[u16],
         s2: &[u16],
         remainder: &[u16],
-        s1r: Numbers,
-        cursor: Cursor,
+        s1r: &[u16],
+        own: Option<&'a Cursor>,
         rule: &'a R,
-    ) -> ByS2r<'a, R>
+    )
         requires few_s1 { length s1.now ≤ LIMIT }
         requires few_s2 { length s2.now ≤ LIMIT }
+        requires few_s1r { length s1r.now ≤ LIMIT }
         requires few { length remainder.now ≤ LIMIT }
         requires ascends { IsStrictlyIncreasing remainder.now }
-        requires same { s1r.items ≡ cursor.s1r }
-        requires given { HasS2r remainder.now cursor }
-        ensures { result ≡ behind_s2r (R.meets rule.now) s1.now s2.now remainder.now cursor s1r.items }
+        requires same { Of (λ cursor. cursor.s1r ≡ s1r.now) (option_copied own) }
+        requires given { Of (HasS2r remainder.now) (option_copied own) }
+        ensures { self.new ≡ in_s1r (R.meets rule.now) s1.now s2.now remainder.now (option_copied own.entry) s1r.now }
     {
-        let pool = left_of(remainder, &s1r);
-        let lists = Transpositions::from(&s1r, &pool, rule, &cursor.lists.s2r);
-        ByS2r {
-            s1: copied(s1),
-            s2: copied(s2),
-            s1r,
-            lists,
-            resume: Some(cursor),
+        fill(&mut self.s1, s1);
+        fill(&mut self.s2, s2);
+        fill(&mut self.s1r, s1r);
+        put_left_of(remainder, s1r, &mut self.pool);
+        self.resume = own;
+        match own {
+            Some(cursor) => self
+                .lists
+                .start_from(s1r, &self.pool, rule, &cursor.lists.s2r),
+            None => self.lists.start(s1r, &self.pool, rule),
         }
     }
 }
@@ -99,7 +100,7 @@ impl<'a, R: Rule> ByS2r<'a, R> {
 /// Fills a list with the next one but for a cursor's own, which may come first. None is skipped before the first one has come.
 fn put_next_other<R: Rule, C: CutsTuples>(
     lists: &mut Transpositions<'_, R>,
-    resume: &mut Option<Cursor>,
+    resume: &mut Option<&Cursor>,
     cuts: &C,
     room: &mut C::Room,
     numbers: &mut Numbers,
@@ -107,12 +108,12 @@ fn put_next_other<R: Rule, C: CutsTuples>(
 ) -> Step<()>
     requires { budget.old.used ≤ budget.old.limit }
     ensures answer { MatchStep result
-        (λ _. Passes (C.Idle cuts.now) (without_own resume.old lists.old.coming) (numbers.new.items ∷ without_own resume.new lists.new.coming))
-        (Passes (C.Idle cuts.now) (without_own resume.old lists.old.coming) [])
-        (Passes (C.Idle cuts.now) (without_own resume.old lists.old.coming) (without_own resume.new lists.new.coming) × (budget.new.used ≡ budget.new.limit)) }
+        (λ _. Passes (C.Idle cuts.now) (without_own (option_copied resume.old) lists.old.coming) (numbers.new.items ∷ without_own (option_copied resume.new) lists.new.coming))
+        (Passes (C.Idle cuts.now) (without_own (option_copied resume.old) lists.old.coming) [])
+        (Passes (C.Idle cuts.now) (without_own (option_copied resume.old) lists.old.coming) (without_own (option_copied resume.new) lists.new.coming) × (budget.new.used ≡ budget.new.limit)) }
     ensures spends { Spends budget.old budget.new }
 {
-    let Some(cursor) = resume else {
+    let Some(cursor) = *resume else {
         return lists.put_next_past(cuts, room, numbers, budget);
     };
     match lists.put_next(numbers, budget) {
@@ -169,73 +170,83 @@ pub struct ByS1r<'a, R: Rule> {
     s1: Numbers,
     s2: Numbers,
     remainder: Numbers,
+    // the S1R of the block
+    s1r: Numbers,
     sets: Exchanges,
     rule: &'a R,
     // the cursor behind which the blocks begin, until the first one has come
-    resume: Option<Cursor>,
+    resume: Option<&'a Cursor>,
 }
 
 impl<'a, R: Rule> Model for ByS1r<'a, R> {
-    ghost use Rattle.std.specs.Prelude.{List};
+    ghost use Rattle.std.specs.Prelude.{List, option_copied};
     ghost use Rattle.std.specs.List.Sorted.{IsStrictlyIncreasing};
     ghost use Rattle.dutch_order.specs.Arrangements.{Arrangement};
     ghost use Rattle.dutch_order.specs.Levels.{HasS2r, Of, s1r_blocks};
 
     ghost Value = { List (List Arrangement) };
 
-    ghost view = { λ l. s1r_blocks (R.meets l.rule.now) l.resume l.s1.items l.s2.items l.remainder.items l.sets.coming };
+    ghost view = { λ l. s1r_blocks (R.meets l.rule.now) l.s1.items l.s2.items l.remainder.items (option_copied l.resume) l.sets.coming };
 
-    ghost invariant = { λ l. IsStrictlyIncreasing l.remainder.items × Of (HasS2r l.remainder.items) l.resume };
+    ghost invariant = { λ l. IsStrictlyIncreasing l.remainder.items × Of (HasS2r l.remainder.items) (option_copied l.resume) };
 }
 
 impl<'a, R: Rule> ByS1r<'a, R> {
-    /// All blocks with an S1 and an S2 out of the residents, where the remainder makes `k` pairs.
-    fn new(k: usize, s1: &[u16], residents: &[u16], s2: Numbers, rule: &'a R) -> ByS1r<'a, R>
-        requires few_s1 { length s1.now ≤ LIMIT }
-        requires few { length residents.now ≤ LIMIT }
-        requires ascends { IsStrictlyIncreasing residents.now }
-        requires enough { k ≤ length (left_of residents.now s2.items) }
-        ensures { result ≡ by_s1r (R.meets rule.now) s1.now s2.items (left_of residents.now s2.items) (exchanges (left_of residents.now s2.items) k) }
+    /// A place for such blocks, in which there are none.
+    fn ended(rule: &'a R) -> ByS1r<'a, R>
+        ensures { result ≡ [] }
     {
-        let remainder = left_of(residents, &s2);
-        let sets = Exchanges::new(&remainder, k);
         ByS1r {
-            s1: copied(s1),
-            s2,
-            remainder,
-            sets,
+            s1: Numbers::new(),
+            s2: Numbers::new(),
+            remainder: Numbers::new(),
+            s1r: Numbers::new(),
+            sets: Exchanges::ended(),
             rule,
             resume: None,
         }
     }
 
-    /// Those that stand behind a cursor.
-    fn from(
+    /// Begins anew with an S1 and an S2 out of the residents, where the remainder makes `k` pairs.
+    fn start(
+        &mut self,
         k: usize,
         s1: &[u16],
         residents: &[u16],
-        s2: Numbers,
-        cursor: Cursor,
+        s2: &[u16],
+        own: Option<&'a Cursor>,
         rule: &'a R,
-    ) -> ByS1r<'a, R>
+    )
         requires few_s1 { length s1.now ≤ LIMIT }
+        requires few_s2 { length s2.now ≤ LIMIT }
         requires few { length residents.now ≤ LIMIT }
         requires ascends { IsStrictlyIncreasing residents.now }
-        requires enough { k ≤ length (left_of residents.now s2.items) }
-        requires given { HasS1r k (left_of residents.now s2.items) cursor }
-        ensures { result ≡ s1r_blocks (R.meets rule.now) (Some cursor) s1.now s2.items (left_of residents.now s2.items)
-            (from_on cursor.s1r (exchanges (left_of residents.now s2.items) k)) }
+        requires enough { k ≤ length (left_of residents.now s2.now) }
+        requires given { Of (HasS1r k (left_of residents.now s2.now)) (option_copied own) }
+        ensures { joined self.new ≡ in_s2 (R.meets rule.now) k s1.now residents.now (option_copied own.entry) s2.now }
     {
-        let remainder = left_of(residents, &s2);
-        let sets = Exchanges::from(&remainder, k, &cursor.lists.s1r);
-        ByS1r {
-            s1: copied(s1),
-            s2,
-            remainder,
-            sets,
-            rule,
-            resume: Some(cursor),
+        fill(&mut self.s1, s1);
+        fill(&mut self.s2, s2);
+        put_left_of(residents, s2, &mut self.remainder);
+        self.rule = rule;
+        self.resume = own;
+        match own {
+            Some(cursor) => self.sets.start_from(&self.remainder, k, &cursor.lists.s1r),
+            None => self.sets.start(&self.remainder, k),
         }
+    }
+}
+
+/// The cursor, if an S1R is its own.
+fn take_by_s1r<'a>(resume: &mut Option<&'a Cursor>, s1r: &[u16]) -> Option<&'a Cursor>
+    ensures own { option_copied result ≡ if_own (λ a. a.s1r) (option_copied resume.old) s1r.now }
+    ensures taken { resume.new ≡ None }
+{
+    let cursor = resume.take()?;
+    if is_same(s1r, &cursor.lists.s1r) {
+        Some(cursor)
+    } else {
+        None
     }
 }
 
@@ -248,8 +259,9 @@ impl<'a, R: Rule> Blocks for ByS1r<'a, R> {
         &mut self,
         cuts: &C,
         room: &mut C::Room,
+        block: &mut ByS2r<'a, R>,
         budget: &mut Budget,
-    ) -> Step<ByS2r<'a, R>> {
+    ) -> Step<()> {
         let prefix = Prefix {
             filling: Filling::S2,
             s1: &self.s1,
@@ -260,25 +272,21 @@ impl<'a, R: Rule> Blocks for ByS1r<'a, R> {
         if cuts.cuts(&prefix, room) {
             return Step::End;
         }
-        match self.sets.next(budget) {
-            Step::Found(s1r) => {
-                if let Some(cursor) = self.resume.take() {
-                    if is_same(&s1r, &cursor.lists.s1r) {
-                        return Step::Found(ByS2r::from(
-                            &self.s1,
-                            &self.s2,
-                            &self.remainder,
-                            s1r,
-                            cursor,
-                            self.rule,
-                        ));
-                    }
-                }
-                Step::Found(ByS2r::new(&self.s1, &self.s2, &self.remainder, s1r, self.rule))
-            }
-            Step::End => Step::End,
-            Step::Undecided => Step::Undecided,
+        match self.sets.put_next(&mut self.s1r, budget) {
+            Step::Found(()) => {}
+            Step::End => return Step::End,
+            Step::Undecided => return Step::Undecided,
         }
+        let own = take_by_s1r(&mut self.resume, &self.s1r);
+        block.start(
+            &self.s1,
+            &self.s2,
+            &self.remainder,
+            &self.s1r,
+            own,
+            self.rule,
+        );
+        Step::Found(())
     }
 }
 
@@ -288,14 +296,16 @@ pub struct ByS2<'a, R: Rule> {
     k: usize,
     s1: Numbers,
     residents: Numbers,
+    // the S2 of the block
+    s2: Numbers,
     lists: Transpositions<'a, R>,
     rule: &'a R,
     // the cursor behind which the blocks begin, until the first one has come
-    resume: Option<Cursor>,
+    resume: Option<&'a Cursor>,
 }
 
 impl<'a, R: Rule> Model for ByS2<'a, R> {
-    ghost use Rattle.std.specs.Prelude.{◌≤◌, List, length};
+    ghost use Rattle.std.specs.Prelude.{◌≤◌, List, length, option_copied};
     ghost use Rattle.std.specs.List.{AllByRecursion};
     ghost use Rattle.std.specs.List.Sorted.{IsStrictlyIncreasing};
     ghost use Rattle.dutch_order.specs.Arrangements.{Arrangement, left_of};
@@ -303,52 +313,69 @@ impl<'a, R: Rule> Model for ByS2<'a, R> {
 
     ghost Value = { List (List Arrangement) };
 
-    ghost view = { λ l. s2_blocks (R.meets l.rule.now) l.resume l.k l.s1.items l.residents.items l.lists.coming };
+    ghost view = { λ l. s2_blocks (R.meets l.rule.now) l.k l.s1.items l.residents.items (option_copied l.resume) l.lists.coming };
 
     ghost invariant = { λ l.
         IsStrictlyIncreasing l.residents.items
         × AllByRecursion (λ s2. l.k ≤ length (left_of l.residents.items s2)) l.lists.coming
-        × Of (λ own. HasS1r l.k (left_of l.residents.items own.s2) own) l.resume };
+        × Of (λ own. HasS1r l.k (left_of l.residents.items own.s2) own) (option_copied l.resume) };
 }
 
 impl<'a, R: Rule> ByS2<'a, R> {
-    /// All blocks with an S1, where the remainder makes `k` pairs.
-    fn new(k: usize, residents: &[u16], s1: Numbers, rule: &'a R) -> ByS2<'a, R>
-        requires few { length residents.now ≤ LIMIT }
-        requires ascends { IsStrictlyIncreasing residents.now }
-        requires enough { length s1.items + k ≤ length residents.now }
-        ensures { result ≡ by_s2 (R.meets rule.now) k s1.items residents.now (transpositions (R.meets rule.now) s1.items residents.now) }
+    /// A place for such blocks, in which there are none.
+    fn ended(rule: &'a R) -> ByS2<'a, R>
+        ensures { result ≡ [] }
     {
-        let lists = Transpositions::new(&s1, residents, rule);
         ByS2 {
-            k,
-            s1,
-            residents: copied(residents),
-            lists,
+            k: 0,
+            s1: Numbers::new(),
+            residents: Numbers::new(),
+            s2: Numbers::new(),
+            lists: Transpositions::ended(rule),
             rule,
             resume: None,
         }
     }
 
-    /// Those that stand behind a cursor.
-    fn from(k: usize, residents: &[u16], s1: Numbers, cursor: Cursor, rule: &'a R) -> ByS2<'a, R>
+    /// Begins anew with an S1, where the remainder makes `k` pairs.
+    fn start(
+        &mut self,
+        k: usize,
+        residents: &[u16],
+        s1: &[u16],
+        own: Option<&'a Cursor>,
+        rule: &'a R,
+    )
+        requires few_s1 { length s1.now ≤ LIMIT }
         requires few { length residents.now ≤ LIMIT }
         requires ascends { IsStrictlyIncreasing residents.now }
-        requires enough { length s1.items + k ≤ length residents.now }
-        requires same { s1.items ≡ cursor.s1 }
-        requires given { HasS2 k residents.now cursor }
-        ensures { result ≡ s2_blocks (R.meets rule.now) (Some cursor) k s1.items residents.now
-            (filter (all_meet (R.meets rule.now) s1.items) (from_on cursor.s2 (all_tuples residents.now (length s1.items)))) }
+        requires enough { length s1.now + k ≤ length residents.now }
+        requires same { Of (λ cursor. cursor.s1 ≡ s1.now) (option_copied own) }
+        requires given { Of (HasS2 k residents.now) (option_copied own) }
+        ensures { joined self.new ≡ in_s1 (R.meets rule.now) k residents.now (option_copied own.entry) s1.now }
     {
-        let lists = Transpositions::from(&s1, residents, rule, &cursor.lists.s2);
-        ByS2 {
-            k,
-            s1,
-            residents: copied(residents),
-            lists,
-            rule,
-            resume: Some(cursor),
+        self.k = k;
+        fill(&mut self.s1, s1);
+        fill(&mut self.residents, residents);
+        self.rule = rule;
+        self.resume = own;
+        match own {
+            Some(cursor) => self.lists.start_from(s1, residents, rule, &cursor.lists.s2),
+            None => self.lists.start(s1, residents, rule),
         }
+    }
+}
+
+/// The cursor, if an S2 is its own.
+fn take_by_s2<'a>(resume: &mut Option<&'a Cursor>, s2: &[u16]) -> Option<&'a Cursor>
+    ensures own { option_copied result ≡ if_own (λ a. a.s2) (option_copied resume.old) s2.now }
+    ensures taken { resume.new ≡ None }
+{
+    let cursor = resume.take()?;
+    if is_same(s2, &cursor.lists.s2) {
+        Some(cursor)
+    } else {
+        None
     }
 }
 
@@ -361,43 +388,32 @@ impl<'a, R: Rule> Blocks for ByS2<'a, R> {
         &mut self,
         cuts: &C,
         room: &mut C::Room,
+        block: &mut Level<ByS1r<'a, R>>,
         budget: &mut Budget,
-    ) -> Step<Level<ByS1r<'a, R>>> {
-        let Some(cursor) = self.resume.take() else {
+    ) -> Step<()> {
+        if self.resume.is_none() {
             let tuples = OfS2 { cuts, s1: &self.s1 };
-            let mut s2 = ArrayVec::new();
-            match self.lists.put_next_past(&tuples, room, &mut s2, budget) {
+            match self
+                .lists
+                .put_next_past(&tuples, room, &mut self.s2, budget)
+            {
                 Step::Found(()) => {}
                 Step::End => return Step::End,
                 Step::Undecided => return Step::Undecided,
             }
-            return Step::Found(Level::new(ByS1r::new(
-                self.k,
-                &self.s1,
-                &self.residents,
-                s2,
-                self.rule,
-            )));
-        };
-        let s2 = match self.lists.next(budget) {
-            Step::Found(s2) => s2,
-            Step::End => return Step::End,
-            Step::Undecided => {
-                self.resume = Some(cursor);
-                return Step::Undecided;
-            }
-        };
-        if is_same(&s2, &cursor.lists.s2) {
-            return Step::Found(Level::new(ByS1r::from(
-                self.k,
-                &self.s1,
-                &self.residents,
-                s2,
-                cursor,
-                self.rule,
-            )));
+            block.in_block = false;
+            block.blocks.start(self.k, &self.s1, &self.residents, &self.s2, None, self.rule);
+            return Step::Found(());
         }
-        Step::Found(Level::new(ByS1r::new(self.k, &self.s1, &self.residents, s2, self.rule)))
+        match self.lists.put_next(&mut self.s2, budget) {
+            Step::Found(()) => {}
+            Step::End => return Step::End,
+            Step::Undecided => return Step::Undecided,
+        }
+        let own = take_by_s2(&mut self.resume, &self.s2);
+        block.in_block = false;
+        block.blocks.start(self.k, &self.s1, &self.residents, &self.s2, own, self.rule);
+        Step::Found(())
     }
 }
 
@@ -406,14 +422,16 @@ impl<'a, R: Rule> Blocks for ByS2<'a, R> {
 pub struct ByS1<'a, R: Rule> {
     k: usize,
     residents: Numbers,
+    // the S1 of the block
+    s1: Numbers,
     sets: LimboExchanges,
     rule: &'a R,
     // the cursor behind which the blocks begin, until the first one has come
-    resume: Option<Cursor>,
+    resume: Option<&'a Cursor>,
 }
 
 impl<'a, R: Rule> Model for ByS1<'a, R> {
-    ghost use Rattle.std.specs.Prelude.{◌+◌, ◌≤◌, List, length};
+    ghost use Rattle.std.specs.Prelude.{◌+◌, ◌≤◌, List, length, option_copied};
     ghost use Rattle.std.specs.List.{AllByRecursion};
     ghost use Rattle.std.specs.List.Sorted.{IsStrictlyIncreasing};
     ghost use Rattle.dutch_order.specs.Arrangements.{Arrangement};
@@ -421,64 +439,57 @@ impl<'a, R: Rule> Model for ByS1<'a, R> {
 
     ghost Value = { List (List Arrangement) };
 
-    ghost view = { λ l. s1_blocks (R.meets l.rule.now) l.resume l.k l.residents.items l.sets.coming };
+    ghost view = { λ l. s1_blocks (R.meets l.rule.now) l.k l.residents.items (option_copied l.resume) l.sets.coming };
 
     ghost invariant = { λ l.
         IsStrictlyIncreasing l.residents.items
         × AllByRecursion (λ s1. length s1 + l.k ≤ length l.residents.items) l.sets.coming
-        × Of (HasS2 l.k l.residents.items) l.resume };
+        × Of (HasS2 l.k l.residents.items) (option_copied l.resume) };
 }
 
 impl<'a, R: Rule> ByS1<'a, R> {
-    /// All blocks, where `mdps` of the moved-down players with these scores are paired and the remainder makes `k` pairs.
-    pub fn new(
-        k: usize,
-        scores: &[u16],
-        mdps: usize,
-        residents: Numbers,
-        rule: &'a R,
-    ) -> ByS1<'a, R>
-        requires descends { IsNonAscending scores.now }
-        requires few { length scores.now ≤ LIMIT }
-        requires enough_scores { mdps ≤ length scores.now }
-        requires ascends { IsStrictlyIncreasing residents.items }
-        requires enough { mdps + k ≤ length residents.items }
-        ensures { result ≡ by_s1 (R.meets rule.now) k residents.items (limbo_exchanges scores.now mdps) }
+    /// A place for such blocks, in which there are none.
+    fn ended(rule: &'a R) -> ByS1<'a, R>
+        ensures { result ≡ [] }
     {
         ByS1 {
-            k,
-            residents,
-            sets: LimboExchanges::new(scores, mdps),
+            k: 0,
+            residents: Numbers::new(),
+            s1: Numbers::new(),
+            sets: LimboExchanges::ended(),
             rule,
             resume: None,
         }
     }
 
-    /// Those that stand behind a cursor.
-    pub fn from(
-        k: usize,
-        scores: &[u16],
-        mdps: usize,
-        residents: Numbers,
-        cursor: Cursor,
-        rule: &'a R,
-    ) -> ByS1<'a, R>
-        requires descends { IsNonAscending scores.now }
-        requires few { length scores.now ≤ LIMIT }
-        requires enough_scores { mdps ≤ length scores.now }
-        requires ascends { IsStrictlyIncreasing residents.items }
-        requires enough { mdps + k ≤ length residents.items }
-        requires given_s1 { IsIn cursor.s1 (subsets (numbers_from 1 (length scores.now)) mdps) }
-        requires given { HasS2 k residents.items cursor }
-        ensures { result ≡ s1_blocks (R.meets rule.now) (Some cursor) k residents.items (from_on cursor.s1 (limbo_exchanges scores.now mdps)) }
+    /// Begins anew with a bracket and a shape for which it has room: all arrangements, or those that stand behind a cursor.
+    pub fn start(&mut self, bracket: &Bracket, shape: Shape, own: Option<&'a Cursor>, rule: &'a R)
+        requires fits { Fits bracket.now shape }
+        requires given { Of (λ cursor. IsIn cursor (arrangements bracket.now shape)) (option_copied own) }
+        ensures { joined self.new ≡ in_bracket (R.meets rule.now) bracket.now shape (option_copied own.entry) }
     {
-        ByS1 {
-            k,
-            residents,
-            sets: LimboExchanges::from(scores, mdps, &cursor.lists.s1),
-            rule,
-            resume: Some(cursor),
+        let scores = &bracket.scores()[..bracket.mdps()];
+        self.k = shape.pairs - shape.mdps;
+        bracket.put_residents(&mut self.residents);
+        self.rule = rule;
+        self.resume = own;
+        match own {
+            Some(cursor) => self.sets.start_from(scores, shape.mdps, &cursor.lists.s1),
+            None => self.sets.start(scores, shape.mdps),
         }
+    }
+}
+
+/// The cursor, if an S1 is its own.
+fn take_by_s1<'a>(resume: &mut Option<&'a Cursor>, s1: &[u16]) -> Option<&'a Cursor>
+    ensures own { option_copied result ≡ if_own (λ a. a.s1) (option_copied resume.old) s1.now }
+    ensures taken { resume.new ≡ None }
+{
+    let cursor = resume.take()?;
+    if is_same(s1, &cursor.lists.s1) {
+        Some(cursor)
+    } else {
+        None
     }
 }
 
@@ -491,25 +502,31 @@ impl<'a, R: Rule> Blocks for ByS1<'a, R> {
         &mut self,
         _cuts: &C,
         _room: &mut C::Room,
+        block: &mut Level<ByS2<'a, R>>,
         budget: &mut Budget,
-    ) -> Step<Level<ByS2<'a, R>>> {
-        match self.sets.next(budget) {
-            Step::Found(s1) => {
-                if let Some(cursor) = self.resume.take() {
-                    if is_same(&s1, &cursor.lists.s1) {
-                        return Step::Found(Level::new(ByS2::from(
-                            self.k,
-                            &self.residents,
-                            s1,
-                            cursor,
-                            self.rule,
-                        )));
-                    }
-                }
-                Step::Found(Level::new(ByS2::new(self.k, &self.residents, s1, self.rule)))
-            }
-            Step::End => Step::End,
-            Step::Undecided => Step::Undecided,
+    ) -> Step<()> {
+        match self.sets.put_next(&mut self.s1, budget) {
+            Step::Found(()) => {}
+            Step::End => return Step::End,
+            Step::Undecided => return Step::Undecided,
         }
+        let own = take_by_s1(&mut self.resume, &self.s1);
+        block.in_block = false;
+        block
+            .blocks
+            .start(self.k, &self.residents, &self.s1, own, self.rule);
+        Step::Found(())
     }
+}
+
+/// The levels of a bracket's arrangements, one in another.
+pub type Levels<'a, R> = Level<ByS1<'a, R>>;
+
+/// Levels in which there are no arrangements.
+pub fn no_levels<'a, R: Rule>(rule: &'a R) -> Levels<'a, R>
+    ensures { result ≡ [] }
+{
+    let of_s2 = Level::new(ByS1r::ended(rule), ByS2r::ended(rule));
+    let of_s1 = Level::new(ByS2::ended(rule), of_s2);
+    Level::new(ByS1::ended(rule), of_s1)
 }

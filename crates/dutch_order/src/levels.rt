@@ -3,7 +3,7 @@
 //
 // A level stands in a block, or between two of them. Each turn of its loop draws from the block, and where that has ended asks for the
 // next one: where either is stopped, what is left stands as it stood.
-ghost use Rattle.std.specs.Prelude.{◌≡◌, ◌≤◌, ℕ, List, None, [], ◌∷◌};
+ghost use Rattle.std.specs.Prelude.{◌≡◌, ◌≤◌, ℕ, List, [], ◌∷◌};
 ghost use Rattle.std.specs.List.{AllByRecursion};
 ghost use Rattle.dutch_order.specs.Arrangements.{Arrangement};
 ghost use Rattle.dutch_order.specs.Levels.{joined, within};
@@ -43,26 +43,29 @@ pub trait Blocks {
     /// The blocks to come, each with the arrangements in it.
     ghost blocks: { Self → List (List Arrangement) };
 
-    /// The next block, where those may be skipped in which all are idle.
+    /// Begins the next block in place, where those may be skipped in which all are idle.
     fn next_block<C: Cuts>(
         &mut self,
         cuts: &C,
         room: &mut C::Room,
+        block: &mut Self::Block,
         budget: &mut Budget,
-    ) -> Step<Self::Block>
+    ) -> Step<()>
         requires { budget.old.used ≤ budget.old.limit }
         ensures answer { MatchStep result
-            (λ block. Passes (AllByRecursion (C.Idle cuts.now)) (blocks self.old) (Self.Block.coming block ∷ blocks self.new))
+            (λ _. Passes (AllByRecursion (C.Idle cuts.now)) (blocks self.old) (Self.Block.coming block.new ∷ blocks self.new))
             (Passes (AllByRecursion (C.Idle cuts.now)) (blocks self.old) [])
             (Passes (AllByRecursion (C.Idle cuts.now)) (blocks self.old) (blocks self.new) × (budget.new.used ≡ budget.new.limit)) }
         ensures spends { Spends budget.old budget.new };
 }
 
-/// The arrangements of blocks, one block after another.
+/// The arrangements of blocks, one block after another. There is one place for a block, in which each begins anew.
 #[derive(Drop)]
 pub struct Level<B: Blocks> {
-    blocks: B,
-    block: Option<B::Block>,
+    pub(crate) blocks: B,
+    // whether it stands in the block
+    pub(crate) in_block: bool,
+    block: B::Block,
 }
 
 impl<B: Blocks> Model for Level<B> {
@@ -72,24 +75,26 @@ impl<B: Blocks> Model for Level<B> {
 
     ghost Value = { List Arrangement };
 
-    ghost view = { λ l. within (B.Block.coming) l.block ++ joined (B.blocks l.blocks) };
+    ghost view = { λ l. within l.in_block (B.Block.coming l.block) ++ joined (B.blocks l.blocks) };
 }
 
 impl<B: Blocks> Level<B> {
-    /// A level that stands before the first block.
-    pub fn new(blocks: B) -> Level<B>
+    /// A level that stands before the first block, with a place for one.
+    pub fn new(blocks: B, block: B::Block) -> Level<B>
         ensures { result ≡ joined (B.blocks blocks) }
     {
         Level {
             blocks,
-            block: None,
+            in_block: false,
+            block,
         }
     }
 }
 
-/// Fills `lists` with the next arrangement of a block; where there is no block, it has ended.
+/// Fills `lists` with the next arrangement of the block in which a level stands; where it stands in none, that has ended.
 fn draw<T: Arranges, C: Cuts>(
-    block: &mut Option<T>,
+    in_block: bool,
+    block: &mut T,
     cuts: &C,
     room: &mut C::Room,
     lists: &mut Arrangement,
@@ -97,43 +102,15 @@ fn draw<T: Arranges, C: Cuts>(
 ) -> Step<()>
     requires { budget.old.used ≤ budget.old.limit }
     ensures answer { MatchStep result
-        (λ _. Passes (C.Idle cuts.now) (within T.coming block.old) (lists.new ∷ within T.coming block.new))
-        (Passes (C.Idle cuts.now) (within T.coming block.old) [])
-        (Passes (C.Idle cuts.now) (within T.coming block.old) (within T.coming block.new) × (budget.new.used ≡ budget.new.limit)) }
+        (λ _. Passes (C.Idle cuts.now) (within in_block (T.coming block.old)) (lists.new ∷ within in_block (T.coming block.new)))
+        (Passes (C.Idle cuts.now) (within in_block (T.coming block.old)) [])
+        (Passes (C.Idle cuts.now) (within in_block (T.coming block.old)) (within in_block (T.coming block.new)) × (budget.new.used ≡ budget.new.limit)) }
     ensures spends { Spends budget.old budget.new }
 {
-    match block {
-        Some(block) => block.next(cuts, room, lists, budget),
-        None => Step::End,
-    }
-}
-
-/// Goes on to the next block. (Apart from the loop that calls it: a function pays at its entry for the size of its locals.)
-#[inline(never)]
-fn enter<B: Blocks, C: Cuts>(
-    blocks: &mut B,
-    block: &mut Option<B::Block>,
-    cuts: &C,
-    room: &mut C::Room,
-    budget: &mut Budget,
-) -> Step<()>
-    requires { budget.old.used ≤ budget.old.limit }
-    ensures answer { MatchStep result
-        (λ _. Passes (AllByRecursion (C.Idle cuts.now)) (B.blocks blocks.old) (within B.Block.coming block.new ∷ B.blocks blocks.new))
-        (Passes (AllByRecursion (C.Idle cuts.now)) (B.blocks blocks.old) [])
-        (Passes (AllByRecursion (C.Idle cuts.now)) (B.blocks blocks.old) (B.blocks blocks.new) × (block.new ≡ None) × (budget.new.used ≡ budget.new.limit)) }
-    ensures spends { Spends budget.old budget.new }
-{
-    match blocks.next_block(cuts, room, budget) {
-        Step::Found(next) => {
-            *block = Some(next);
-            Step::Found(())
-        }
-        Step::End => Step::End,
-        Step::Undecided => {
-            *block = None;
-            Step::Undecided
-        }
+    if in_block {
+        block.next(cuts, room, lists, budget)
+    } else {
+        Step::End
     }
 }
 
@@ -148,13 +125,13 @@ impl<B: Blocks> Arranges for Level<B> {
         budget: &mut Budget,
     ) -> Step<()> {
         loop {
-            match draw(&mut self.block, cuts, room, lists, budget) {
+            match draw(self.in_block, &mut self.block, cuts, room, lists, budget) {
                 Step::Found(()) => return Step::Found(()),
                 Step::Undecided => return Step::Undecided,
-                Step::End => {}
+                Step::End => self.in_block = false,
             }
-            match enter(&mut self.blocks, &mut self.block, cuts, room, budget) {
-                Step::Found(()) => {}
+            match self.blocks.next_block(cuts, room, &mut self.block, budget) {
+                Step::Found(()) => self.in_block = true,
                 Step::Undecided => return Step::Undecided,
                 Step::End => return Step::End,
             }

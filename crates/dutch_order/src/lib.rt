@@ -1,25 +1,50 @@
-// Arrangements of numbers in the order of the Handbook's article D, specified by lists that are sorted by a key.
+//! Arrangements of numbers in the order of the Handbook's article D, specified by lists that are sorted by a key.
+//!
+//! `Candidates` lists the legal arrangements of a bracket and a shape, each once, in the order of article D; `Transpositions`,
+//! `Exchanges` and `LimboExchanges` list the choices of D.1, D.2 and D.3. A call answers the first of what is still to come, the end
+//! where nothing is, or that its limit was reached, and then what is to come is as it was. A `Cursor` says where a listing stands.
+//!
+//! Nothing here knows chess: a `Rule` of the caller says, by numbers, who may meet and who may be left over. A `Budget` counts steps,
+//! each a number tried at a place, and no call goes beyond its limit. How many steps lie between two candidates is bounded by no proof.
+//!
+//! Nothing takes memory: every list is an array with room for `LIMIT` numbers, 1,024. So generators and candidates are large values, of
+//! some KiB, and are cleared where they are made: keep one, and lend one candidate to be filled (`put_next_within`).
+//!
+//! To mind: numbers of a bracket count from 1, and the rule answers for all numbers, in either order alike.
 #![tactic(auto)]
 
 mod arrangement;
 pub mod arrangement_laws;
-pub mod bound;
-pub mod bracket;
-pub mod candidate;
-pub mod candidates;
+mod bound;
+mod bracket;
+mod candidate;
+mod candidates;
 mod choices;
-pub mod cursor;
+mod cursor;
 pub mod cursor_laws;
 mod cuts;
-pub mod exchange;
+mod exchange;
 mod halves;
 pub mod laws;
 mod levels;
-pub mod limbo;
-pub mod numbers;
-pub mod prefix;
-pub mod rules;
+mod limbo;
+mod numbers;
+mod prefix;
+mod rules;
 mod search;
-pub mod steps;
+mod steps;
 mod sums;
-pub mod transposition;
+mod transposition;
+
+pub use bound::Bound;
+pub use bracket::{Bracket, Shape};
+pub use candidate::Candidate;
+pub use candidates::Candidates;
+pub use cursor::{Cursor, CursorFault, CursorText, TEXT_LIMIT};
+pub use exchange::Exchanges;
+pub use limbo::LimboExchanges;
+pub use numbers::{LIMIT, Numbers, numbered_from};
+pub use prefix::{Filling, Prefix};
+pub use rules::Rule;
+pub use steps::{Budget, Step};
+pub use transposition::Transpositions;

@@ -13,16 +13,6 @@ pub const LIMIT: usize = 1024;
 /// Numbers of players, as a generator hands them out.
 pub type Numbers = ArrayVec<u16, LIMIT>;
 
-/// A copy of numbers.
-pub(crate) fn copied(numbers: &[u16]) -> Numbers
-    requires few { length numbers.now ≤ LIMIT }
-    ensures { result.items ≡ numbers.now }
-{
-    let mut copy = ArrayVec::new();
-    fill(&mut copy, numbers);
-    copy
-}
-
 /// Fills a list anew with numbers.
 pub(crate) fn fill(list: &mut Numbers, numbers: &[u16])
     requires few { length numbers.now ≤ LIMIT }
@@ -33,6 +23,19 @@ pub(crate) fn fill(list: &mut Numbers, numbers: &[u16])
     let _all = list.try_extend_from_slice(numbers);
 }
 
+/// Fills a list with so many numbers from a first one on.
+pub(crate) fn put_numbered(first: usize, count: usize, numbers: &mut Numbers)
+    requires few { count ≤ LIMIT }
+    requires small { first ≤ LIMIT + 1 }
+    ensures items { numbers.new.items ≡ numbers_from first count }
+    ensures ascends { IsStrictlyIncreasing numbers.new.items }
+{
+    numbers.clear();
+    for place in 0..count {
+        numbers.push((first + place) as u16);
+    }
+}
+
 /// So many numbers from a first one on.
 pub fn numbered_from(first: usize, count: usize) -> Numbers
     requires few { count ≤ LIMIT }
@@ -41,10 +44,22 @@ pub fn numbered_from(first: usize, count: usize) -> Numbers
     ensures ascends { IsStrictlyIncreasing result.items }
 {
     let mut numbers = ArrayVec::new();
-    for place in 0..count {
-        numbers.push((first + place) as u16);
-    }
+    put_numbered(first, count, &mut numbers);
     numbers
+}
+
+/// Fills a list with the numbers of another that are not in a third.
+pub(crate) fn put_left_of(numbers: &[u16], taken: &[u16], left: &mut Numbers)
+    requires few { length numbers.now ≤ LIMIT }
+    ensures items { left.new.items ≡ left_of numbers.now taken.now }
+    ensures ascends { IsStrictlyIncreasing numbers.now → IsStrictlyIncreasing left.new.items }
+{
+    left.clear();
+    for number in numbers {
+        if !taken.contains(number) {
+            left.push(*number);
+        }
+    }
 }
 
 /// The numbers of a list that are not in another.
@@ -54,11 +69,7 @@ pub(crate) fn left_of(numbers: &[u16], taken: &[u16]) -> Numbers
     ensures ascends { IsStrictlyIncreasing numbers.now → IsStrictlyIncreasing result.items }
 {
     let mut left = ArrayVec::new();
-    for number in numbers {
-        if !taken.contains(number) {
-            left.push(*number);
-        }
-    }
+    put_left_of(numbers, taken, &mut left);
     left
 }
 

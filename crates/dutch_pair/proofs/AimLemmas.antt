@@ -2,23 +2,28 @@
 -- interest changes nothing.
 use Rattle.std.proofs.Common.{◌≡◌, ℕ, Bool, true, false, not, ◌&&◌, ◌||◌, cond, List, [], ◌∷◌, ◌++◌, filter, Option, Some, None, refl, sym, ap, ◌∙◌}
 use Rattle.std.specs.List.{list_any, AllByRecursion}
-use Rattle.std.proofs.lemmas.Bool.{true≢false, not-true, not-false, or_left, or_right, and_right}
-use Rattle.dutch_order.specs.Steps.{Passes}
+use Rattle.std.proofs.lemmas.Bool.{true≢false, not-true, not-false, or_left, or_right, and_left, and_right}
+use Rattle.dutch_order.specs.Steps.{MatchStep, Passes}
+use Rattle.dutch_order.specs.declared.steps.Step.{Step}
+use Rattle.dutch_order.specs.declared.steps.Step.TheVariants.{Found, End, Undecided}
+use Rattle.dutch_order.proofs.Lists.{filter-all}
 use Rattle.dutch_order.specs.declared.bracket.Shape.{Shape}
 use Rattle.dutch_order.specs.Arrangements.{Arrangement}
 use Rattle.dutch_player.specs.Facts.{Facts}
 use Rattle.dutch_pair.specs.declared.choice.Best.{Best}
-use Rattle.dutch_pair.specs.Reached.{Stand}
+use Rattle.dutch_pair.specs.declared.wish.Wish.{Wish}
+use Rattle.dutch_pair.specs.Reached.{Reached}
 use Rattle.dutch_pair.specs.Quality.{Quality, is_better}
 use Rattle.dutch_pair.specs.QualityIn.{quality_in}
-use Rattle.dutch_pair.specs.Round.{quality_of, is_better_in, best_of_shape, candidates_of}
+use Rattle.dutch_pair.specs.Round.{quality_of, is_better_in, best_of_shape, candidates_of, eligible, shape_of, choice}
 use Rattle.dutch_pair.specs.Choice.{first_unbeaten, best}
 use Rattle.dutch_pair.specs.Eligible.{can_be_chosen}
 use Rattle.dutch_pair.specs.Kept.{kept_lists, wins, IsKept}
-use Rattle.dutch_pair.specs.Aims.{beats, is_idle, is_near, is_sought, best_yet, best_near}
+use Rattle.dutch_pair.specs.Wishes.{is_wished}
+use Rattle.dutch_pair.specs.Aims.{beats, is_idle, is_near, is_dull, is_open, is_sought, best_yet, best_near, best_wished}
 use Rattle.dutch_pair.proofs.ChoiceLemmas.{IsOrder, order_of, unfit_passed, worse_passed}
 use Rattle.dutch_pair.proofs.QualityOrder.{irreflexive, transitive, total}
-use Rattle.dutch_pair.proofs.BestLemmas.{order_in}
+use Rattle.dutch_pair.proofs.BestLemmas.{order_in, choice_is, shape_has_best}
 use Rattle.dutch_pair.proofs.EligibleLemmas.{eligible_is}
 
 -- where each near one is better than each far one, the first unbeaten near one is the first unbeaten of all
@@ -103,67 +108,116 @@ filter_always p (x ∷ xs) =
 quality_order : IsOrder is_better
 quality_order = order_of (λ (q : Quality). q) is_better irreflexive transitive total
 
-module _ (facts : Facts) (stand : Stand) (lower : List ℕ) where
-  near_before_far : (aim : Option Quality) (x y : Arrangement) → is_near facts stand lower aim x ≡ true → is_near facts stand lower aim y ≡ false
-      → is_better_in facts stand lower x y ≡ true
+module _ (facts : Facts) (reached : Reached) (lower : List ℕ) where
+  near_before_far : (aim : Option Quality) (x y : Arrangement) → is_near facts reached lower aim x ≡ true → is_near facts reached lower aim y ≡ false
+      → is_better_in facts reached lower x y ≡ true
   near_before_far None x y near far = absurd (true≢false far)
   near_before_far (Some aim) x y near far =
-      quality_order.between aim (quality_of facts stand lower x) (quality_of facts stand lower y) (not-false _ far) (not-true _ near)
+      quality_order.between aim (quality_of facts reached lower x) (quality_of facts reached lower y) (not-false _ far) (not-true _ near)
 
   -- what is chosen of those that an aim is not better than is chosen of all
   an_aim_serves : (aim : Option Quality) (fits : Arrangement → Bool) (xs : List Arrangement) (c : Arrangement)
-      → best (is_better_in facts stand lower) (filter (λ x. fits x && is_near facts stand lower aim x) xs) ≡ Some c
-      → best (is_better_in facts stand lower) (filter fits xs) ≡ Some c
+      → best (is_better_in facts reached lower) (filter (λ x. fits x && is_near facts reached lower aim x) xs) ≡ Some c
+      → best (is_better_in facts reached lower) (filter fits xs) ≡ Some c
   an_aim_serves aim fits xs c found =
-      best_of_near (is_better_in facts stand lower) (order_in facts stand lower) (is_near facts stand lower aim) (near_before_far aim) (filter fits xs) c
-      (ap (best (is_better_in facts stand lower)) (sym (filter_both fits (is_near facts stand lower aim) xs)) ∙ found)
+      best_of_near (is_better_in facts reached lower) (order_in facts reached lower) (is_near facts reached lower aim) (near_before_far aim) (filter fits xs) c
+      (ap (best (is_better_in facts reached lower)) (sym (filter_both fits (is_near facts reached lower aim) xs)) ∙ found)
 
-  -- where a pass with an aim ends with a candidate, it is the choice
-  pub a_pass_serves : (aim : Option Quality) (shape : Shape) (c : Arrangement) → best_near facts stand lower aim shape ≡ Some c → best_of_shape facts stand lower shape ≡ Some c
-  a_pass_serves aim shape c found =
-      ap (best (is_better_in facts stand lower)) (eligible_is facts stand lower shape)
-      ∙ an_aim_serves aim (can_be_chosen facts stand lower) (candidates_of facts stand shape) c found
+  -- where nothing is wished, the best is that of all that can be chosen
+  pub nothing_wished : (shape : Shape) → best_wished facts reached lower None shape ≡ best_of_shape facts reached lower shape
+  nothing_wished shape = ap (best (is_better_in facts reached lower)) (filter-all (eligible facts reached lower shape))
 
-  -- without an aim a pass makes the choice
-  pub without_aim : (shape : Shape) → best_near facts stand lower None shape ≡ best_of_shape facts stand lower shape
-  without_aim shape =
-      ap (best (is_better_in facts stand lower)) (filter_always (can_be_chosen facts stand lower) (candidates_of facts stand shape) ∙ sym (eligible_is facts stand lower shape))
+  -- then a shape that is found has a best one
+  pub shape_has_one : (shape : Shape) → shape_of facts reached lower ≡ Some shape → best_wished facts reached lower None shape ≡ None → ⊥
+  shape_has_one shape found none = shape_has_best facts reached lower shape found (sym (nothing_wished shape) ∙ none)
 
-  beaten_passed : (aim : Option Quality) (kept : Option Best) (d : Arrangement) (rest : List Arrangement) → IsKept facts stand lower kept
-      → not (wins (quality_of facts stand lower d) kept) ≡ true → best_yet facts stand lower aim kept (d ∷ rest) ≡ best_yet facts stand lower aim kept rest
-  beaten_passed aim None d rest h lost = absurd (true≢false (sym lost))
-  beaten_passed aim (Some best) d rest h lost =
-      worse_passed (is_better_in facts stand lower) (order_in facts stand lower) (is_sought facts stand lower aim) best.candidate.lists d rest
-      (ap (is_better (quality_of facts stand lower d)) (sym h.1) ∙ not-true _ lost)
+  -- which is the choice
+  pub choice_is_best : (shape : Shape) (lists : Arrangement) → shape_of facts reached lower ≡ Some shape → best_wished facts reached lower None shape ≡ Some lists
+      → choice facts reached lower ≡ Some (record { shape = shape; lists = lists })
+  choice_is_best shape lists found h = choice_is facts reached lower shape lists found (sym (nothing_wished shape) ∙ h)
 
-  idle_at : (aim : Option Quality) (kept : Option Best) (d : Arrangement) (rest : List Arrangement) (t : Bool) → beats aim (quality_of facts stand lower d) ≡ t
-      → IsKept facts stand lower kept → (t || not (wins (quality_of facts stand lower d) kept)) ≡ true
-      → best_yet facts stand lower aim kept (d ∷ rest) ≡ best_yet facts stand lower aim kept rest
-  idle_at aim kept d rest true far h idle =
-      unfit_passed (is_better_in facts stand lower) (order_in facts stand lower) (is_sought facts stand lower aim) (kept_lists kept) d rest
-      (ap (λ t. can_be_chosen facts stand lower d && not t) far ∙ and_right (can_be_chosen facts stand lower d) false refl)
-  idle_at aim kept d rest false near h idle = beaten_passed aim kept d rest h idle
+  module _ (wish : Option Wish) where
+    -- those that can be chosen and grant the wish
+    open_ones : (shape : Shape) → filter (is_open facts reached lower wish) (candidates_of facts reached shape) ≡ filter (is_wished wish) (eligible facts reached lower shape)
+    open_ones shape =
+        filter_both (can_be_chosen facts reached lower) (is_wished wish) (candidates_of facts reached shape)
+        ∙ ap (filter (is_wished wish)) (sym (eligible_is facts reached lower shape))
 
-  -- a candidate whose quality is of no interest is passed
-  pub idle_passed : (aim : Option Quality) (kept : Option Best) (quality : Quality) (d : Arrangement) (rest : List Arrangement) → IsKept facts stand lower kept
-      → quality ≡ quality_of facts stand lower d → is_idle aim kept quality ≡ true
-      → best_yet facts stand lower aim kept rest ≡ best_yet facts stand lower aim kept (d ∷ rest)
-  idle_passed aim kept quality d rest h e idle =
-      sym (idle_at aim kept d rest (beats aim (quality_of facts stand lower d)) refl h (ap (is_idle aim kept) (sym e) ∙ idle))
+    -- where a pass with an aim ends with a candidate, it is the best of all
+    pub a_pass_serves : (aim : Option Quality) (shape : Shape) (c : Arrangement) → best_near facts reached lower wish aim shape ≡ Some c
+        → best_wished facts reached lower wish shape ≡ Some c
+    a_pass_serves aim shape c found =
+        ap (best (is_better_in facts reached lower)) (sym (open_ones shape))
+        ∙ an_aim_serves aim (is_open facts reached lower wish) (candidates_of facts reached shape) c found
 
-  idle_front_passed : (aim : Option Quality) (kept : Option Best) (skipped rest : List Arrangement) → IsKept facts stand lower kept
-      → AllByRecursion (λ a. is_idle aim kept (quality_of facts stand lower a) ≡ true) skipped
-      → best_yet facts stand lower aim kept (skipped ++ rest) ≡ best_yet facts stand lower aim kept rest
-  idle_front_passed aim kept [] rest h idle = refl
-  idle_front_passed aim kept (d ∷ skipped) rest h idle =
-      sym (idle_passed aim kept (quality_of facts stand lower d) d (skipped ++ rest) h refl idle.0) ∙ idle_front_passed aim kept skipped rest h idle.1
+    pub pass_ends : (aim : Option Quality) (shape : Shape) (step : Step Best) (stopped : Type 0)
+        → MatchStep step (λ b. (best_near facts reached lower wish aim shape ≡ Some b.candidate.lists) × IsKept facts reached lower (Some b)) (best_near facts reached lower wish aim shape ≡ None) stopped
+        → MatchStep step (λ b. (best_wished facts reached lower wish shape ≡ Some b.candidate.lists) × IsKept facts reached lower (Some b)) (Unit {0}) stopped
+    pass_ends aim shape (Found b) stopped h = (a_pass_serves aim shape b.candidate.lists h.0, h.1)
+    pass_ends aim shape End stopped h = tt
+    pass_ends aim shape Undecided stopped h = h
 
-  -- what a listing skips changes nothing
-  pub skipped_same : (aim : Option Quality) (kept : Option Best) (before after : List Arrangement) → IsKept facts stand lower kept
-      → Passes (λ a. is_idle aim kept (quality_of facts stand lower a) ≡ true) before after
-      → best_yet facts stand lower aim kept before ≡ best_yet facts stand lower aim kept after
-  skipped_same aim kept before after h (skipped, same, idle) =
-      ap (λ coming. best_yet facts stand lower aim kept coming) same ∙ idle_front_passed aim kept skipped after h idle
+    -- without an aim a pass finds the best
+    pub without_aim : (shape : Shape) → best_near facts reached lower wish None shape ≡ best_wished facts reached lower wish shape
+    without_aim shape =
+        ap (best (is_better_in facts reached lower)) (filter_always (is_open facts reached lower wish) (candidates_of facts reached shape) ∙ open_ones shape)
+
+    beaten_passed : (aim : Option Quality) (kept : Option Best) (d : Arrangement) (rest : List Arrangement) → IsKept facts reached lower kept
+        → not (wins (quality_of facts reached lower d) kept) ≡ true
+        → best_yet facts reached lower wish aim kept (d ∷ rest) ≡ best_yet facts reached lower wish aim kept rest
+    beaten_passed aim None d rest h lost = absurd (true≢false (sym lost))
+    beaten_passed aim (Some best) d rest h lost =
+        worse_passed (is_better_in facts reached lower) (order_in facts reached lower) (is_sought facts reached lower wish aim) best.candidate.lists d rest
+        (ap (is_better (quality_of facts reached lower d)) (sym h.1) ∙ not-true _ lost)
+
+    idle_at : (aim : Option Quality) (kept : Option Best) (d : Arrangement) (rest : List Arrangement) (t : Bool) → beats aim (quality_of facts reached lower d) ≡ t
+        → IsKept facts reached lower kept → (t || not (wins (quality_of facts reached lower d) kept)) ≡ true
+        → best_yet facts reached lower wish aim kept (d ∷ rest) ≡ best_yet facts reached lower wish aim kept rest
+    idle_at aim kept d rest true far h idle =
+        unfit_passed (is_better_in facts reached lower) (order_in facts reached lower) (is_sought facts reached lower wish aim) (kept_lists kept) d rest
+        (ap (λ t. is_open facts reached lower wish d && not t) far ∙ and_right (is_open facts reached lower wish d) false refl)
+    idle_at aim kept d rest false near h idle = beaten_passed aim kept d rest h idle
+
+    -- a candidate whose quality is of no interest is passed
+    pub idle_passed : (aim : Option Quality) (kept : Option Best) (quality : Quality) (d : Arrangement) (rest : List Arrangement) → IsKept facts reached lower kept
+        → quality ≡ quality_of facts reached lower d → is_idle aim kept quality ≡ true
+        → best_yet facts reached lower wish aim kept rest ≡ best_yet facts reached lower wish aim kept (d ∷ rest)
+    idle_passed aim kept quality d rest h e idle =
+        sym (idle_at aim kept d rest (beats aim (quality_of facts reached lower d)) refl h (ap (is_idle aim kept) (sym e) ∙ idle))
+
+    -- and one that does not grant the wish
+    pub unwished_passed : (aim : Option Quality) (kept : Option Best) (d : Arrangement) (rest : List Arrangement) → is_wished wish d ≡ false
+        → best_yet facts reached lower wish aim kept rest ≡ best_yet facts reached lower wish aim kept (d ∷ rest)
+    unwished_passed aim kept d rest unwished =
+        sym (unfit_passed (is_better_in facts reached lower) (order_in facts reached lower) (is_sought facts reached lower wish aim) (kept_lists kept) d rest
+        (and_left _ (is_near facts reached lower aim d) (and_right (can_be_chosen facts reached lower d) (is_wished wish d) unwished)))
+
+    dull_passed : (aim : Option Quality) (kept : Option Best) (d : Arrangement) (rest : List Arrangement) (t : Bool) → is_wished wish d ≡ t
+        → IsKept facts reached lower kept → (not t || is_idle aim kept (quality_of facts reached lower d)) ≡ true
+        → best_yet facts reached lower wish aim kept (d ∷ rest) ≡ best_yet facts reached lower wish aim kept rest
+    dull_passed aim kept d rest true wished h dull = sym (idle_passed aim kept (quality_of facts reached lower d) d rest h refl dull)
+    dull_passed aim kept d rest false unwished h dull = sym (unwished_passed aim kept d rest unwished)
+
+    dull_front_passed : (aim : Option Quality) (kept : Option Best) (skipped rest : List Arrangement) → IsKept facts reached lower kept
+        → AllByRecursion (λ a. is_dull facts reached lower wish aim kept a ≡ true) skipped
+        → best_yet facts reached lower wish aim kept (skipped ++ rest) ≡ best_yet facts reached lower wish aim kept rest
+    dull_front_passed aim kept [] rest h dull = refl
+    dull_front_passed aim kept (d ∷ skipped) rest h dull =
+        dull_passed aim kept d (skipped ++ rest) (is_wished wish d) refl h dull.0 ∙ dull_front_passed aim kept skipped rest h dull.1
+
+    -- what a listing skips changes nothing
+    pub skipped_same : (aim : Option Quality) (kept : Option Best) (before after : List Arrangement) → IsKept facts reached lower kept
+        → Passes (λ a. is_dull facts reached lower wish aim kept a ≡ true) before after
+        → best_yet facts reached lower wish aim kept before ≡ best_yet facts reached lower wish aim kept after
+    skipped_same aim kept before after h (skipped, same, dull) =
+        ap (λ coming. best_yet facts reached lower wish aim kept coming) same ∙ dull_front_passed aim kept skipped after h dull
+
+-- who does not grant the wish is of no interest, and whose quality is of none
+pub unwished_is_dull : (wished idle : Bool) → wished ≡ false → (not wished || idle) ≡ true
+unwished_is_dull wished idle h = ap (λ t. not t || idle) h
+
+pub idle_is_dull : (wished idle : Bool) → idle ≡ true → (not wished || idle) ≡ true
+idle_is_dull wished idle h = or_right (not wished) idle h
 
 beyond_aim : (aim : Option Quality) (floor q : Quality) → is_better q floor ≡ false → beats aim floor ≡ true → beats aim q ≡ true
 beyond_aim None floor q low won = won

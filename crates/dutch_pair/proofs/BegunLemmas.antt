@@ -3,7 +3,7 @@ use Rattle.std.proofs.Common.{◌≡◌, ℕ, zero, suc, List, [], ◌∷◌, le
 use Rattle.dutch_order.specs.Arrangements.{Arrangement}
 use Rattle.dutch_player.specs.Facts.{Facts}
 use Rattle.dutch_pair.specs.Boards.{IsPair}
-use Rattle.dutch_pair.specs.Reached.{Stand}
+use Rattle.dutch_pair.specs.Reached.{Reached}
 use Rattle.dutch_pair.specs.Seated.{seat_of, pairs_of, all_pairs, AreSeats, AllNumbers, AllPairs}
 use Rattle.dutch_pair.proofs.AllLemmas.{all_join}
 use Rattle.dutch_pair.proofs.CandidateSeats.{pairs_within}
@@ -19,10 +19,10 @@ front_numbers seats numbers zero h = tt
 front_numbers seats [] (suc count) h = tt
 front_numbers seats (x ∷ numbers) (suc count) h = (h.0, front_numbers seats numbers count h.1)
 
-pub fixed_within : (facts : Facts) (stand : Stand) (lists : Arrangement) (pairs : List (ℕ × ℕ)) → AreSeats facts stand.seats
-    → AllNumbers stand.seats lists.s1 → AllNumbers stand.seats lists.s2 → AllNumbers stand.seats lists.s1r → AllNumbers stand.seats lists.s2r
-    → pairs ≡ all_pairs stand.seats lists → AllPairs facts pairs
-fixed_within facts stand lists pairs inside s1 s2 s1r s2r e =
+pub fixed_within : (facts : Facts) (reached : Reached) (lists : Arrangement) (pairs : List (ℕ × ℕ)) → AreSeats facts reached.seats
+    → AllNumbers reached.seats lists.s1 → AllNumbers reached.seats lists.s2 → AllNumbers reached.seats lists.s1r → AllNumbers reached.seats lists.s2r
+    → pairs ≡ all_pairs reached.seats lists → AllPairs facts pairs
+fixed_within facts reached lists pairs inside s1 s2 s1r s2r e =
     let P : List (ℕ × ℕ) → Type 0 = AllPairs facts in
-    subst P (sym e) (all_join (IsPair facts) (pairs_of stand.seats lists.s1 lists.s2) (pairs_of stand.seats lists.s1r lists.s2r)
-    (pairs_within facts stand.seats lists.s1 lists.s2 inside s1 s2) (pairs_within facts stand.seats lists.s1r lists.s2r inside s1r s2r))
+    subst P (sym e) (all_join (IsPair facts) (pairs_of reached.seats lists.s1 lists.s2) (pairs_of reached.seats lists.s1r lists.s2r)
+    (pairs_within facts reached.seats lists.s1 lists.s2 inside s1 s2) (pairs_within facts reached.seats lists.s1r lists.s2r inside s1r s2r))

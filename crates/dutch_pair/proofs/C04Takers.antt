@@ -8,7 +8,7 @@ use Rattle.std.proofs.Common.{◌≡◌, ℕ, zero, suc, ◌+◌, ◌-◌, ◌*�
 use Rattle.std.specs.Prelude.{◌==◌, None}
 use Rattle.std.proofs.lemmas.List.{length-map}
 use Rattle.std.proofs.lemmas.List.Folds.{list_any_at}
-use Rattle.std.proofs.lemmas.Bool.{ne_eqb, cases_eq, eq-eqb}
+use Rattle.std.proofs.lemmas.Bool.{ne_eqb, cases_eq, eq-eqb, or_cases, and_parts, and_from, or_left, or_right, cases_Bool}
 use Rattle.dutch_order.specs.declared.bracket.Shape.{Shape}
 use Rattle.dutch_order.specs.Keys.{IsIn}
 use Rattle.dutch_order.specs.Arrangements.{Frame, Arrangement, arrangements, is_legal, down}
@@ -16,12 +16,12 @@ use Rattle.dutch_player.specs.Facts.{Facts}
 use Rattle.dutch_pair.specs.Completion.{some_partner, nobody, left_over, can_cover}
 use Rattle.dutch_pair.specs.Seated.{seat_of, score_at, AllNumbers}
 use Rattle.dutch_pair.specs.Seats.{seats_meet, seats_may_be_left}
-use Rattle.dutch_pair.specs.Reached.{Stand, frame_of, numbers_meet, number_may_be_left}
+use Rattle.dutch_pair.specs.Reached.{Reached, frame_of, numbers_meet, number_may_be_left}
 use Rattle.dutch_pair.specs.Shapes.{down_from, fits, shapes_with, has_member, first_with}
 use Rattle.dutch_pair.specs.Round.{is_penultimate, completable, downfloaters, candidates_of, eligible}
 use Rattle.dutch_pair.specs.Takers.{takes_one, can_cover_but, meets_bracket, can_go_out}
-use Rattle.dutch_pair.proofs.GhostPairs.{either, down_count}
-use Rattle.dutch_pair.proofs.Covering.{or_either, and_both, both_and, or_first, or_second, IsPartner, partner_of, partner_serves}
+use Rattle.dutch_pair.proofs.GhostPairs.{down_count}
+use Rattle.dutch_pair.proofs.Covering.{IsPartner, partner_of, partner_serves}
 use Rattle.dutch_pair.proofs.DownLemmas.{down_numbers}
 use Rattle.dutch_pair.proofs.LeastPsd.{in_filter}
 use Rattle.dutch_pair.proofs.Mates.{in-middle}
@@ -61,15 +61,15 @@ module _ (meets : ℕ → ℕ → Bool) where
   even_uncovered may_be_left (suc (suc n)) even [] e = e
   even_uncovered may_be_left (suc (suc n)) even (a ∷ later) e =
       let less : n % 2 ≡ 0 = omega (arith, even) in
-      elim (or_either (some_partner (meets a) (can_cover meets may_be_left n) [] later) (may_be_left a && can_cover meets nobody (suc n) later) e) [
+      elim (or_cases (some_partner (meets a) (can_cover meets may_be_left n) [] later) (may_be_left a && can_cover meets nobody (suc n) later) e) [
         | inl pair ↦
             let p = partner_of (meets a) (can_cover meets may_be_left n) [] later pair in
-            or_first (some_partner (meets a) (can_cover meets nobody n) [] later) (false && can_cover meets nobody (suc n) later)
+            or_left (some_partner (meets a) (can_cover meets nobody n) [] later) (false && can_cover meets nobody (suc n) later)
             (ap (λ xs. some_partner (meets a) (can_cover meets nobody n) [] xs) p.players_are
             ∙ partner_serves (meets a) (can_cover meets nobody n) [] p.front p.partner p.behind p.may_meet
             (even_uncovered may_be_left n less (p.front ++ p.behind) p.others_hold))
         | inr left ↦
-            let yes : can_cover meets nobody (suc n) later ≡ true = (and_both (may_be_left a) (can_cover meets nobody (suc n) later) left).1 in
+            let yes : can_cover meets nobody (suc n) later ≡ true = (and_parts (may_be_left a) (can_cover meets nobody (suc n) later) left).1 in
             let no : can_cover meets nobody (suc n) later ≡ false = odd_uncovered meets (suc n) (omega (arith, less)) later in
             let bad : true ≡ false = sym yes ∙ no in absurd (cc)
       ]
@@ -92,21 +92,21 @@ module _ (meets : ℕ → ℕ → Bool) where
 
     by_pair : (left : ℕ → Bool) (n k a b : ℕ) (front behind : List ℕ) → meets a b ≡ true → But left n k (front ++ behind) → But left (suc (suc n)) k (a ∷ (front ++ b ∷ behind))
     by_pair left n k a b front behind may rest =
-        or_first (some_partner (meets a) (can_cover_but meets may_go left n k) [] (front ++ b ∷ behind)) _
+        or_left (some_partner (meets a) (can_cover_but meets may_go left n k) [] (front ++ b ∷ behind)) _
         (partner_serves (meets a) (can_cover_but meets may_go left n k) [] front b behind may rest)
 
     by_taker : (left : ℕ → Bool) (n k a : ℕ) (later : List ℕ) → may_go a ≡ true → But left n k later → But left (suc n) (suc k) (a ∷ later)
-    by_taker left zero k a later may rest = or_first (may_go a && true) (left a) (both_and (may_go a) true may refl)
+    by_taker left zero k a later may rest = or_left (may_go a && true) (left a) (and_from (may_go a) true may refl)
     by_taker left (suc n) k a later may rest =
-        or_second (some_partner (meets a) (can_cover_but meets may_go left n (suc k)) [] later) _
-        (or_first (may_go a && can_cover_but meets may_go left (suc n) k later) _ (both_and (may_go a) (can_cover_but meets may_go left (suc n) k later) may rest))
+        or_right (some_partner (meets a) (can_cover_but meets may_go left n (suc k)) [] later) _
+        (or_left (may_go a && can_cover_but meets may_go left (suc n) k later) _ (and_from (may_go a) (can_cover_but meets may_go left (suc n) k later) may rest))
 
     by_bye : (left : ℕ → Bool) (n k a : ℕ) (later : List ℕ) → left a ≡ true → But nobody n k later → But left (suc n) k (a ∷ later)
-    by_bye left zero k a later may rest = or_second (takes_one (may_go a) (λ j. true) k) (left a) may
+    by_bye left zero k a later may rest = or_right (takes_one (may_go a) (λ j. true) k) (left a) may
     by_bye left (suc n) k a later may rest =
-        or_second (some_partner (meets a) (can_cover_but meets may_go left n k) [] later) _
-        (or_second (takes_one (may_go a) (λ j. can_cover_but meets may_go left (suc n) j later) k) (left a && can_cover_but meets may_go nobody (suc n) k later)
-        (both_and (left a) (can_cover_but meets may_go nobody (suc n) k later) may rest))
+        or_right (some_partner (meets a) (can_cover_but meets may_go left n k) [] later) _
+        (or_right (takes_one (may_go a) (λ j. can_cover_but meets may_go left (suc n) j later) k) (left a && can_cover_but meets may_go nobody (suc n) k later)
+        (and_from (left a) (can_cover_but meets may_go nobody (suc n) k later) may rest))
 
     record Pairs (left : ℕ → Bool) (n k a : ℕ) (later : List ℕ) : Type 0 where
       fewer : ℕ
@@ -126,22 +126,22 @@ module _ (meets : ℕ → ℕ → Bool) where
     taken_by : (left : ℕ → Bool) (n k a : ℕ) (later : List ℕ) → takes_one (may_go a) (λ j. can_cover_but meets may_go left n j later) k ≡ true → Takes left n k a later
     taken_by left n zero a later e = let bad : false ≡ true = e in absurd (cc)
     taken_by left n (suc k) a later e =
-        let both = and_both (may_go a) (can_cover_but meets may_go left n k later) e in record { takers = k; is = refl; may = both.0; rest = both.1 }
+        let both = and_parts (may_go a) (can_cover_but meets may_go left n k later) e in record { takers = k; is = refl; may = both.0; rest = both.1 }
 
     ways : (left : ℕ → Bool) (n k a : ℕ) (later : List ℕ) → But left (suc n) k (a ∷ later) → Pairs left n k a later ⊎ (Takes left n k a later ⊎ Leaves left n k a later)
     ways left zero k a later e =
-        elim (or_either (takes_one (may_go a) (λ j. true) k) (left a) e) [
+        elim (or_cases (takes_one (may_go a) (λ j. true) k) (left a) e) [
           | inl taken ↦ inr (inl (taken_by left zero k a later taken))
           | inr may ↦ inr (inr (record { may = may; rest = refl }))
         ]
     ways left (suc n) k a later e =
         let taken = takes_one (may_go a) (λ j. can_cover_but meets may_go left (suc n) j later) k in
         let leaves = left a && can_cover_but meets may_go nobody (suc n) k later in
-        elim (or_either (some_partner (meets a) (can_cover_but meets may_go left n k) [] later) (taken || leaves) e) [
+        elim (or_cases (some_partner (meets a) (can_cover_but meets may_go left n k) [] later) (taken || leaves) e) [
           | inl pair ↦ inl (record { fewer = n; is = refl; partner = partner_of (meets a) (can_cover_but meets may_go left n k) [] later pair })
-          | inr other ↦ elim (or_either taken leaves other) [
+          | inr other ↦ elim (or_cases taken leaves other) [
             | inl one ↦ inr (inl (taken_by left (suc n) k a later one))
-            | inr one ↦ (let both = and_both (left a) (can_cover_but meets may_go nobody (suc n) k later) one in inr (inr (record { may = both.0; rest = both.1 })))
+            | inr one ↦ (let both = and_parts (left a) (can_cover_but meets may_go nobody (suc n) k later) one in inr (inr (record { may = both.0; rest = both.1 })))
           ]
         ]
 
@@ -178,13 +178,13 @@ module _ (meets : ℕ → ℕ → Bool) where
     with_none bound (suc zero) left few (a ∷ later) e = e
     with_none zero (suc (suc n)) left few (a ∷ later) e = absurd (omega (arith, few))
     with_none (suc bound) (suc (suc n)) left few (a ∷ later) e =
-        elim (or_either (some_partner (meets a) (can_cover meets left n) [] later) (left a && can_cover meets nobody (suc n) later) e) [
+        elim (or_cases (some_partner (meets a) (can_cover meets left n) [] later) (left a && can_cover meets nobody (suc n) later) e) [
           | inl pair ↦
               (let p = partner_of (meets a) (can_cover meets left n) [] later pair in
               subst (λ xs. But left (suc (suc n)) 0 (a ∷ xs)) (sym p.players_are)
               (by_pair left n 0 a p.partner p.front p.behind p.may_meet (with_none bound n left (omega (arith, few)) (p.front ++ p.behind) p.others_hold)))
           | inr other ↦
-              (let both = and_both (left a) (can_cover meets nobody (suc n) later) other in
+              (let both = and_parts (left a) (can_cover meets nobody (suc n) later) other in
               by_bye left (suc n) 0 a later both.0 (with_none bound (suc n) nobody (omega (arith, few)) later both.1))
         ]
 
@@ -251,7 +251,7 @@ module _ (meets : ℕ → ℕ → Bool) where
     taken_away (suc bound) left (d ∷ downs) (l ∷ lower) few meet (suc (suc n)) count e =
         let below : List ℕ = l ∷ lower in
         let fewer : length (downs ++ below) ≡ suc n = omega (arith, count) in
-        elim (or_either (some_partner (meets d) (can_cover meets left n) [] (downs ++ below)) (left d && can_cover meets nobody (suc n) (downs ++ below)) e) [
+        elim (or_cases (some_partner (meets d) (can_cover meets left n) [] (downs ++ below)) (left d && can_cover meets nobody (suc n) (downs ++ below)) e) [
           | inl pair ↦
               (let p = partner_of (meets d) (can_cover meets left n) [] (downs ++ below) pair in
               elim (cut downs below p.front p.behind p.partner p.players_are) [
@@ -275,7 +275,7 @@ module _ (meets : ℕ → ℕ → Bool) where
                     (taken_away bound left downs (two.mid ++ p.behind) (omega (arith, few)) (λ c m. meet c (inr m)) n long held)))
               ])
           | inr other ↦
-              (let both = and_both (left d) (can_cover meets nobody (suc n) (downs ++ below)) other in
+              (let both = and_parts (left d) (can_cover meets nobody (suc n) (downs ++ below)) other in
               more (length below) (length downs) (suc (length downs)) nobody left (omega arith) (λ a h. let bad : false ≡ true = h in absurd (cc)) below
               (taken_away bound nobody downs below (omega (arith, few)) (λ c m. meet c (inr m)) (suc n) fewer both.1))
         ]
@@ -294,7 +294,7 @@ module _ (meets : ℕ → ℕ → Bool) where
 none_passes : (p : Arrangement → Bool) (xs : List Arrangement) → ((a : Arrangement) → IsIn a xs → p a ≡ true → ⊥) → has_member (filter p xs) ≡ false
 none_passes p [] none = refl
 none_passes p (a ∷ xs) none =
-    elim (either (p a)) [
+    elim (cases_Bool (p a)) [
       | inl on ↦ absurd (none a (inl refl) on)
       | inr off ↦ ap (λ t. has_member (cond t (a ∷ filter p xs) (filter p xs))) off ∙ none_passes p xs (λ b m. none b (inr m))
     ]
@@ -307,43 +307,43 @@ numbers_meet_lower facts seats (x ∷ numbers) all d (inl same) b may =
     list_any_at (λ a. seats_meet facts a b) seats (x - 1) 0 (omega (arith, all.0.0, all.0.1)) (ap (λ a. seats_meet facts a b) (sym same) ∙ may)
 numbers_meet_lower facts seats (x ∷ numbers) all d (inr m) b may = numbers_meet_lower facts seats numbers all.1 d m b may
 
-module _ (facts : Facts) (stand : Stand) (lower : List ℕ) (penultimate : is_penultimate stand.kind ≡ true) (within : stand.mdps ≤ length stand.seats) where
+module _ (facts : Facts) (reached : Reached) (lower : List ℕ) (penultimate : is_penultimate reached.kind ≡ true) (within : reached.mdps ≤ length reached.seats) where
   abbrev frame : Frame
-  frame = frame_of facts stand
+  frame = frame_of facts reached
 
   abbrev CannotGoOut : ℕ → Type 0
-  CannotGoOut pairs = can_go_out facts stand.seats (length stand.seats - 2 * pairs) lower ≡ false
+  CannotGoOut pairs = can_go_out facts reached.seats (length reached.seats - 2 * pairs) lower ≡ false
 
-  none_of : (shape : Shape) → fits frame shape ≡ true → CannotGoOut shape.pairs → has_member (eligible facts stand lower shape) ≡ false
+  none_of : (shape : Shape) → fits frame shape ≡ true → CannotGoOut shape.pairs → has_member (eligible facts reached lower shape) ≡ false
   none_of shape room cannot =
-      let count : length frame.scores ≡ length stand.seats = length-map stand.seats (score_at facts) in
-      let leaves : Arrangement → Bool = λ lists. completable facts (downfloaters facts stand lists ++ lower) in
-      let legal : Arrangement → Bool = is_legal (numbers_meet facts stand) (number_may_be_left facts stand) frame in
-      ap (λ t. has_member (filter (λ lists. not t || leaves lists) (candidates_of facts stand shape))) penultimate
-      ∙ none_passes leaves (candidates_of facts stand shape) (λ a m yes.
+      let count : length frame.scores ≡ length reached.seats = length-map reached.seats (score_at facts) in
+      let leaves : Arrangement → Bool = λ lists. completable facts (downfloaters facts reached lists ++ lower) in
+      let legal : Arrangement → Bool = is_legal (numbers_meet facts reached) (number_may_be_left facts reached) frame in
+      ap (λ t. has_member (filter (λ lists. not t || leaves lists) (candidates_of facts reached shape))) penultimate
+      ∙ none_passes leaves (candidates_of facts reached shape) (λ a m yes.
       let left = down_count frame shape a (omega (arith, within, count)) (fits_by_test frame shape room).within_pairs (in_filter legal a (arrangements frame shape) m) in
-      let many : length (downfloaters facts stand a) ≡ length stand.seats - 2 * shape.pairs =
-      length-map (down frame a) (seat_of stand.seats) ∙ (let e : length (down frame a) ≡ length stand.seats - 2 * shape.pairs = omega (arith, left, count) in e) in
-      let can : can_go_out facts stand.seats (length (downfloaters facts stand a)) lower ≡ true =
-      downfloaters_taken_away (seats_meet facts) (meets_bracket facts stand.seats) (seats_may_be_left facts) (downfloaters facts stand a) lower
-      (numbers_meet_lower facts stand.seats (down frame a) (down_numbers facts stand a)) yes in
-      let bad : true ≡ false = sym can ∙ ap (λ k. can_go_out facts stand.seats k lower) many ∙ cannot in cc)
+      let many : length (downfloaters facts reached a) ≡ length reached.seats - 2 * shape.pairs =
+      length-map (down frame a) (seat_of reached.seats) ∙ (let e : length (down frame a) ≡ length reached.seats - 2 * shape.pairs = omega (arith, left, count) in e) in
+      let can : can_go_out facts reached.seats (length (downfloaters facts reached a)) lower ≡ true =
+      downfloaters_taken_away (seats_meet facts) (meets_bracket facts reached.seats) (seats_may_be_left facts) (downfloaters facts reached a) lower
+      (numbers_meet_lower facts reached.seats (down frame a) (down_numbers facts reached a)) yes in
+      let bad : true ≡ false = sym can ∙ ap (λ k. can_go_out facts reached.seats k lower) many ∙ cannot in cc)
 
   -- a shape there is no room for, or with no candidate
-  none_at : (pairs n : ℕ) → CannotGoOut pairs → (fits frame (shape_with pairs n) && has_member (eligible facts stand lower (shape_with pairs n))) ≡ false
+  none_at : (pairs n : ℕ) → CannotGoOut pairs → (fits frame (shape_with pairs n) && has_member (eligible facts reached lower (shape_with pairs n))) ≡ false
   none_at pairs n cannot =
-      elim (either (fits frame (shape_with pairs n))) [
-        | inl on ↦ ap (λ t. t && has_member (eligible facts stand lower (shape_with pairs n))) on ∙ none_of (shape_with pairs n) on cannot
-        | inr off ↦ ap (λ t. t && has_member (eligible facts stand lower (shape_with pairs n))) off
+      elim (cases_Bool (fits frame (shape_with pairs n))) [
+        | inl on ↦ ap (λ t. t && has_member (eligible facts reached lower (shape_with pairs n))) on ∙ none_of (shape_with pairs n) on cannot
+        | inr off ↦ ap (λ t. t && has_member (eligible facts reached lower (shape_with pairs n))) off
       ]
 
-  none_from : (pairs n : ℕ) → CannotGoOut pairs → first_with (eligible facts stand lower) (filter (fits frame) (map (shape_with pairs) (down_from n))) ≡ None
-  none_from pairs zero cannot = mdps_ended (eligible facts stand lower) (fits frame) pairs zero refl (none_at pairs zero cannot)
+  none_from : (pairs n : ℕ) → CannotGoOut pairs → first_with (eligible facts reached lower) (filter (fits frame) (map (shape_with pairs) (down_from n))) ≡ None
+  none_from pairs zero cannot = mdps_ended (eligible facts reached lower) (fits frame) pairs zero refl (none_at pairs zero cannot)
   none_from pairs (suc n) cannot =
-      mdps_passed (eligible facts stand lower) (fits frame) pairs (suc n) (omega arith) (none_at pairs (suc n) cannot)
-      ∙ ap (λ k. first_with (eligible facts stand lower) (filter (fits frame) (map (shape_with pairs) (down_from k)))) (let e : suc n - 1 ≡ n = omega arith in e)
+      mdps_passed (eligible facts reached lower) (fits frame) pairs (suc n) (omega arith) (none_at pairs (suc n) cannot)
+      ∙ ap (λ k. first_with (eligible facts reached lower) (filter (fits frame) (map (shape_with pairs) (down_from k)))) (let e : suc n - 1 ≡ n = omega arith in e)
       ∙ none_from pairs n cannot
 
   -- so there is no shape with so many pairs
-  pub no_shape_with : (pairs : ℕ) → CannotGoOut pairs → first_with (eligible facts stand lower) (filter (fits frame) (shapes_with pairs)) ≡ None
+  pub no_shape_with : (pairs : ℕ) → CannotGoOut pairs → first_with (eligible facts reached lower) (filter (fits frame) (shapes_with pairs)) ≡ None
   no_shape_with pairs cannot = none_from pairs pairs cannot

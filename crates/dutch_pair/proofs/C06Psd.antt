@@ -17,30 +17,46 @@ use Rattle.dutch_order.specs.Arrangements.{Arrangement, arrangements, down, left
 use Rattle.dutch_order.proofs.HalfWalks.{Climbs, Climbs-room}
 use Rattle.dutch_order.proofs.Members.{climbs-filter, filter-climbs, filter-length, length-numbers}
 use Rattle.dutch_player.specs.Facts.{Facts}
-use Rattle.dutch_pair.specs.Beginnings.{HasPairsOf}
+use Rattle.dutch_pair.specs.Beginnings.{HasPairsOf, seated_so}
 use Rattle.dutch_pair.specs.ColourFloors.{residents_down}
 use Rattle.dutch_pair.specs.NextBracket.{is_lower, IsFlat}
 use Rattle.dutch_pair.specs.PsdFloors.{repeated, psd_with, IsUniform}
-use Rattle.dutch_pair.specs.Quality.{highest_first}
-use Rattle.dutch_pair.specs.Reached.{Stand, frame_of, IsOf}
-use Rattle.dutch_pair.specs.Round.{quality_of}
+use Rattle.dutch_pair.specs.Quality.{highest_first, psd}
+use Rattle.dutch_pair.specs.Reached.{Reached, frame_of, IsOf}
+use Rattle.dutch_pair.specs.Round.{downfloaters, quality_of}
 use Rattle.dutch_pair.specs.Seated.{seat_of, score_at, all_pairs, difference, difference_down, lowest}
 use Rattle.dutch_pair.proofs.ArrangementParts.{parts_of}
 use Rattle.dutch_pair.proofs.C08ToC19Fixed.{more_copies}
 use Rattle.dutch_pair.proofs.Copies.{copies, copies_append}
 use Rattle.dutch_pair.proofs.FlatBrackets.{one_score_of, seats_fall}
+use Rattle.dutch_pair.proofs.FixedPairs.{Beside, beside}
 use Rattle.dutch_pair.proofs.PairsWithBeginning.{no_less}
 use Rattle.dutch_pair.proofs.PsdParts.{psd_copies}
 
-pub psd_of_beginning : (facts : Facts) (stand : Stand) (lower : List ℕ) (b a : Arrangement) → HasPairsOf b a
-    → is_lower (quality_of facts stand lower a).psd (highest_first (map (difference facts) (all_pairs stand.seats b))) ≡ false
-psd_of_beginning facts stand lower b a begins =
+-- the PSD is not lower than what is known of it
+pub psd_of_known : (facts : Facts) (reached : Reached) (lower : List ℕ) (known : List (ℕ × ℕ)) (gone : List ℕ) (a : Arrangement) → Beside known (all_pairs reached.seats a)
+    → Beside gone (downfloaters facts reached a) → is_lower (quality_of facts reached lower a).psd (psd facts (seated_so facts reached known gone)) ≡ false
+psd_of_known facts reached lower known gone a others left =
     let by : List (ℕ × ℕ) → List ℕ = map (difference facts) in
-    let floats : List ℕ = map (difference_down facts (lowest facts stand.seats)) (map (seat_of stand.seats) (down (frame_of facts stand) a)) in
-    more_copies (by (all_pairs stand.seats b)) (by (all_pairs stand.seats a) ++ floats) (λ d.
-    let more : copies d (by (all_pairs stand.seats b)) ≤ copies d (by (all_pairs stand.seats a)) =
-    no_less (λ pairs. copies d (by pairs)) stand.seats b a (λ xs ys. ap (copies d) (map-append (difference facts) xs ys) ∙ copies_append d (by xs) (by ys)) begins in
-    omega (arith, more, copies_append d (by (all_pairs stand.seats a)) floats))
+    let floats : List ℕ → List ℕ = map (difference_down facts (lowest facts reached.seats)) in
+    more_copies (by known ++ floats gone) (by (all_pairs reached.seats a) ++ floats (downfloaters facts reached a)) (λ d.
+    let more : copies d (by known) ≤ copies d (by (all_pairs reached.seats a)) =
+    no_less (λ pairs. copies d (by pairs)) known (all_pairs reached.seats a) (λ xs ys. ap (copies d) (map-append (difference facts) xs ys) ∙ copies_append d (by xs) (by ys)) others in
+    let further : copies d (floats gone) ≤ copies d (floats (downfloaters facts reached a)) =
+    no_less (λ seats. copies d (floats seats)) gone (downfloaters facts reached a)
+    (λ xs ys. ap (copies d) (map-append (difference_down facts (lowest facts reached.seats)) xs ys) ∙ copies_append d (floats xs) (floats ys)) left in
+    omega (arith, more, further, copies_append d (by known) (floats gone), copies_append d (by (all_pairs reached.seats a)) (floats (downfloaters facts reached a))))
+
+pub psd_of_beginning : (facts : Facts) (reached : Reached) (lower : List ℕ) (b a : Arrangement) → HasPairsOf b a
+    → is_lower (quality_of facts reached lower a).psd (highest_first (map (difference facts) (all_pairs reached.seats b))) ≡ false
+psd_of_beginning facts reached lower b a begins =
+    let by : List (ℕ × ℕ) → List ℕ = map (difference facts) in
+    let floats : List ℕ = map (difference_down facts (lowest facts reached.seats)) (map (seat_of reached.seats) (down (frame_of facts reached) a)) in
+    more_copies (by (all_pairs reached.seats b)) (by (all_pairs reached.seats a) ++ floats) (λ d.
+    let more : copies d (by (all_pairs reached.seats b)) ≤ copies d (by (all_pairs reached.seats a)) =
+    no_less (λ pairs. copies d (by pairs)) (all_pairs reached.seats b) (all_pairs reached.seats a)
+    (λ xs ys. ap (copies d) (map-append (difference facts) xs ys) ∙ copies_append d (by xs) (by ys)) (beside reached.seats b a begins) in
+    omega (arith, more, copies_append d (by (all_pairs reached.seats a)) floats))
 
 -- two lists of which neither is lower are the same
 neither_lower : (xs ys : List ℕ) (o : Ordering) → slice_cmp nat_cmp xs ys ≡ o → is_lower xs ys ≡ false → is_lower ys xs ≡ false → xs ≡ ys
@@ -55,25 +71,25 @@ same_copies xs ys same =
     (more_copies ys xs (λ d. omega (arith, same d))) (more_copies xs ys (λ d. omega (arith, same d)))
 
 -- where all residents have one score, the PSD is known by S1
-pub psd_by_first : (facts : Facts) (stand : Stand) (lower : List ℕ) (shape : Shape) (a : Arrangement) → IsOf facts stand → IsFlat facts stand
-    → IsIn a (arrangements (frame_of facts stand) shape)
-    → (quality_of facts stand lower a).psd ≡ psd_with facts stand shape (score_at facts (seat_of stand.seats (stand.mdps + 1))) a.s1
-psd_by_first facts stand lower shape a of' flat member =
-    let s : ℕ = score_at facts (seat_of stand.seats (stand.mdps + 1)) in
+pub psd_by_first : (facts : Facts) (reached : Reached) (lower : List ℕ) (shape : Shape) (a : Arrangement) → IsOf facts reached → IsFlat facts reached
+    → IsIn a (arrangements (frame_of facts reached) shape)
+    → (quality_of facts reached lower a).psd ≡ psd_with facts reached shape (score_at facts (seat_of reached.seats (reached.mdps + 1))) a.s1
+psd_by_first facts reached lower shape a of' flat member =
+    let s : ℕ = score_at facts (seat_of reached.seats (reached.mdps + 1)) in
     let j = remainder_pairs shape in
-    let left = residents_down stand shape in
-    let counted : length (frame_of facts stand).scores ≡ length stand.seats = length-map stand.seats (score_at facts) in
-    let parts = parts_of (frame_of facts stand) shape a of'.sound.within member in
-    let fits : left + (shape.mdps + (j + j)) ≡ length stand.seats - stand.mdps = (let e = parts.left in omega (arith, e, counted)) in
-    let paired : List ℕ = map (λ i. score_at facts (seat_of stand.seats i) - s) a.s1 in
-    let limbo : List ℕ = map (λ i. (score_at facts (seat_of stand.seats i) - s) + 2) (left_of (numbers_from 1 stand.mdps) a.s1) in
+    let left = residents_down reached shape in
+    let counted : length (frame_of facts reached).scores ≡ length reached.seats = length-map reached.seats (score_at facts) in
+    let parts = parts_of (frame_of facts reached) shape a of'.sound.within member in
+    let fits : left + (shape.mdps + (j + j)) ≡ length reached.seats - reached.mdps = (let e = parts.left in omega (arith, e, counted)) in
+    let paired : List ℕ = map (λ i. score_at facts (seat_of reached.seats i) - s) a.s1 in
+    let limbo : List ℕ = map (λ i. (score_at facts (seat_of reached.seats i) - s) + 2) (left_of (numbers_from 1 reached.mdps) a.s1) in
     same_copies
-    (map (difference facts) (all_pairs stand.seats a) ++ map (difference_down facts (lowest facts stand.seats)) (map (seat_of stand.seats) (down (frame_of facts stand) a)))
+    (map (difference facts) (all_pairs reached.seats a) ++ map (difference_down facts (lowest facts reached.seats)) (map (seat_of reached.seats) (down (frame_of facts reached) a)))
     (paired ++ (limbo ++ (repeated 0 j ++ repeated 2 left)))
     (λ d.
     omega (
       arith,
-      psd_copies facts stand s shape.mdps j a d (one_score_of facts stand of' flat) parts counted left fits,
+      psd_copies facts reached s shape.mdps j a d (one_score_of facts reached of' flat) parts counted left fits,
       copies_append d paired (limbo ++ (repeated 0 j ++ repeated 2 left)),
       copies_append d limbo (repeated 0 j ++ repeated 2 left),
       copies_append d (repeated 0 j) (repeated 2 left),
@@ -107,23 +123,23 @@ limbo_length q xs climbs =
     let shared = filter-length (λ x. is_member x xs) (numbers_from 1 q) in
     omega (arith, shared, ap length (climbs-filter 1 q xs climbs), length-numbers 1 q)
 
-module _ (facts : Facts) (stand : Stand) (shape : Shape) (s : ℕ) where
+module _ (facts : Facts) (reached : Reached) (shape : Shape) (s : ℕ) where
   abbrev by_one : ℕ → ℕ
-  by_one i = score_at facts (seat_of stand.seats i) - s
+  by_one i = score_at facts (seat_of reached.seats i) - s
 
   abbrev by_limbo : ℕ → ℕ
-  by_limbo i = (score_at facts (seat_of stand.seats i) - s) + 2
+  by_limbo i = (score_at facts (seat_of reached.seats i) - s) + 2
 
   abbrev others : List ℕ
-  others = repeated 0 (remainder_pairs shape) ++ repeated 2 (residents_down stand shape)
+  others = repeated 0 (remainder_pairs shape) ++ repeated 2 (residents_down reached shape)
 
   -- where all moved-down players have one score, it matters only how many S1 has
-  psd_of_count : ((i : ℕ) → 0 < i → i ≤ stand.mdps → score_at facts (seat_of stand.seats i) ≡ score_at facts (seat_of stand.seats 1))
-      → (s1 : List ℕ) → Climbs 1 (1 + stand.mdps) s1
-      → psd_with facts stand shape s s1
-      ≡ highest_first (repeated (by_one 1) (length s1) ++ (repeated (by_limbo 1) (stand.mdps - length s1) ++ others))
+  psd_of_count : ((i : ℕ) → 0 < i → i ≤ reached.mdps → score_at facts (seat_of reached.seats i) ≡ score_at facts (seat_of reached.seats 1))
+      → (s1 : List ℕ) → Climbs 1 (1 + reached.mdps) s1
+      → psd_with facts reached shape s s1
+      ≡ highest_first (repeated (by_one 1) (length s1) ++ (repeated (by_limbo 1) (reached.mdps - length s1) ++ others))
   psd_of_count same s1 climbs =
-      let q = stand.mdps in
+      let q = reached.mdps in
       let limbo : List ℕ = left_of (numbers_from 1 q) s1 in
       let first : map by_one s1 ≡ repeated (by_one 1) (length s1) = one_value by_one (by_one 1) q 1 s1 (omega arith) (λ i p h. omega (arith, same i p h)) climbs in
       let second : map by_limbo limbo ≡ repeated (by_limbo 1) (length limbo) =
@@ -132,14 +148,14 @@ module _ (facts : Facts) (stand : Stand) (shape : Shape) (s : ℕ) where
       ∙ ap (λ xs. highest_first (repeated (by_one 1) (length s1) ++ (xs ++ others))) (second ∙ ap (repeated (by_limbo 1)) (limbo_length q s1 climbs))
 
   -- in a uniform bracket the PSD is that of the first S1
-  psd_of_any : (s1 : List ℕ) → IsUniform facts stand shape → Climbs 1 (1 + stand.mdps) s1 → length s1 ≡ shape.mdps
-      → psd_with facts stand shape s s1 ≡ psd_with facts stand shape s (numbers_from 1 shape.mdps)
+  psd_of_any : (s1 : List ℕ) → IsUniform facts reached shape → Climbs 1 (1 + reached.mdps) s1 → length s1 ≡ shape.mdps
+      → psd_with facts reached shape s s1 ≡ psd_with facts reached shape s (numbers_from 1 shape.mdps)
   psd_of_any s1 (inl none) climbs counted =
-      ap (psd_with facts stand shape s) (nil_from_length s1 (counted ∙ none) ∙ sym (ap (numbers_from 1) none))
+      ap (psd_with facts reached shape s) (nil_from_length s1 (counted ∙ none) ∙ sym (ap (numbers_from 1) none))
   psd_of_any s1 (inr (inl all)) climbs counted =
-      ap (psd_with facts stand shape s) (all_that_fit 1 (1 + stand.mdps) s1 climbs (omega (arith, counted, all)) ∙ ap (numbers_from 1) counted)
+      ap (psd_with facts reached shape s) (all_that_fit 1 (1 + reached.mdps) s1 climbs (omega (arith, counted, all)) ∙ ap (numbers_from 1) counted)
   psd_of_any s1 (inr (inr same)) climbs counted =
-      let q = stand.mdps in
+      let q = reached.mdps in
       let shared = filter-length (λ x. is_member x s1) (numbers_from 1 q) in
       let room : shape.mdps ≤ q = omega (arith, counted, shared, ap length (climbs-filter 1 q s1 climbs), length-numbers 1 q) in
       let firsts = psd_of_count same (numbers_from 1 shape.mdps) (numbers_climb 1 (1 + q) shape.mdps (omega arith)) in
@@ -147,32 +163,32 @@ module _ (facts : Facts) (stand : Stand) (shape : Shape) (s : ℕ) where
       ∙ ap (λ n. highest_first (repeated (by_one 1) n ++ (repeated (by_limbo 1) (q - n) ++ others))) (counted ∙ sym (length-numbers 1 shape.mdps))
       ∙ sym firsts
 
-pub psd_of_all : (facts : Facts) (stand : Stand) (lower : List ℕ) (shape : Shape) (a : Arrangement) → IsOf facts stand → IsFlat facts stand → IsUniform facts stand shape
-    → IsIn a (arrangements (frame_of facts stand) shape)
-    → (quality_of facts stand lower a).psd ≡ psd_with facts stand shape (score_at facts (seat_of stand.seats (stand.mdps + 1))) (numbers_from 1 shape.mdps)
-psd_of_all facts stand lower shape a of' flat uniform member =
-    let s : ℕ = score_at facts (seat_of stand.seats (stand.mdps + 1)) in
-    let parts = parts_of (frame_of facts stand) shape a of'.sound.within member in
-    psd_by_first facts stand lower shape a of' flat member ∙ psd_of_any facts stand shape s a.s1 uniform parts.s1 parts.s1_count
+pub psd_of_all : (facts : Facts) (reached : Reached) (lower : List ℕ) (shape : Shape) (a : Arrangement) → IsOf facts reached → IsFlat facts reached → IsUniform facts reached shape
+    → IsIn a (arrangements (frame_of facts reached) shape)
+    → (quality_of facts reached lower a).psd ≡ psd_with facts reached shape (score_at facts (seat_of reached.seats (reached.mdps + 1))) (numbers_from 1 shape.mdps)
+psd_of_all facts reached lower shape a of' flat uniform member =
+    let s : ℕ = score_at facts (seat_of reached.seats (reached.mdps + 1)) in
+    let parts = parts_of (frame_of facts reached) shape a of'.sound.within member in
+    psd_by_first facts reached lower shape a of' flat member ∙ psd_of_any facts reached shape s a.s1 uniform parts.s1 parts.s1_count
 
 -- scores do not ascend, so where the first resident and the last have one score all residents have it
-pub flat_by_ends : (facts : Facts) (stand : Stand) → IsOf facts stand → stand.mdps < length stand.seats
-    → score_at facts (seat_of stand.seats (stand.mdps + 1)) ≡ score_at facts (seat_of stand.seats (length stand.seats)) → IsFlat facts stand
-flat_by_ends facts stand of' resident ends = record {
+pub flat_by_ends : (facts : Facts) (reached : Reached) → IsOf facts reached → reached.mdps < length reached.seats
+    → score_at facts (seat_of reached.seats (reached.mdps + 1)) ≡ score_at facts (seat_of reached.seats (length reached.seats)) → IsFlat facts reached
+flat_by_ends facts reached of' resident ends = record {
   resident = resident;
   same = λ i p h.
-      let high = seats_fall facts stand of' (stand.mdps + 1) i (omega arith) (omega arith) h in
-      let low = seats_fall facts stand of' i (length stand.seats) (omega arith) h (omega arith) in
+      let high = seats_fall facts reached of' (reached.mdps + 1) i (omega arith) (omega arith) h in
+      let low = seats_fall facts reached of' i (length reached.seats) (omega arith) h (omega arith) in
       omega (arith, high, low, ends);
 }
 
 -- and so for moved-down players
-pub uniform_by_ends : (facts : Facts) (stand : Stand) (shape : Shape) → IsOf facts stand
-    → score_at facts (seat_of stand.seats 1) ≡ score_at facts (seat_of stand.seats stand.mdps) → IsUniform facts stand shape
-uniform_by_ends facts stand shape of' ends =
-    let within : stand.mdps ≤ length (frame_of facts stand).scores = of'.sound.within in
-    let counted : length (frame_of facts stand).scores ≡ length stand.seats = length-map stand.seats (score_at facts) in
+pub uniform_by_ends : (facts : Facts) (reached : Reached) (shape : Shape) → IsOf facts reached
+    → score_at facts (seat_of reached.seats 1) ≡ score_at facts (seat_of reached.seats reached.mdps) → IsUniform facts reached shape
+uniform_by_ends facts reached shape of' ends =
+    let within : reached.mdps ≤ length (frame_of facts reached).scores = of'.sound.within in
+    let counted : length (frame_of facts reached).scores ≡ length reached.seats = length-map reached.seats (score_at facts) in
     inr (inr (λ i p h.
-    let high = seats_fall facts stand of' 1 i (omega arith) (omega arith) (omega (arith, within, counted)) in
-    let low = seats_fall facts stand of' i stand.mdps p h (omega (arith, within, counted)) in
+    let high = seats_fall facts reached of' 1 i (omega arith) (omega arith) (omega (arith, within, counted)) in
+    let low = seats_fall facts reached of' i reached.mdps p h (omega (arith, within, counted)) in
     omega (arith, high, low, ends)))

@@ -1,6 +1,7 @@
 -- No arrangement that leaves the Limbo of the first S1 has a better value of the next bracket than ghosts find (C.04.3 C.7); and in a
 -- bracket where all S1 leave the same scores, all arrangements do.
 use Rattle.std.proofs.Common.{◌≡◌, ℕ, ◌+◌, ◌-◌, ◌<◌, ◌≤◌, not, nat_lt, cond, List, [], map, filter, length, inl, inr, Option, Some, None, refl, sym, ap, ◌∙◌, arith, subst}
+use Rattle.std.proofs.lemmas.Bool.{cases_Bool}
 use Rattle.std.specs.Prelude.{slice_index}
 use Rattle.std.specs.List.{AllByRecursion}
 use Rattle.std.proofs.lemmas.List.{length-map, nil_from_length}
@@ -11,9 +12,9 @@ use Rattle.dutch_order.specs.Arrangements.{Frame, Arrangement, left_of, arrangem
 use Rattle.dutch_order.proofs.Lists.{filter-all}
 use Rattle.dutch_order.proofs.Members.{climbs-filter, filter-length, length-numbers}
 use Rattle.dutch_player.specs.Facts.{Facts}
-use Rattle.dutch_pair.specs.declared.reached.Kind.TheVariants.{Ordinary}
+use Rattle.dutch_pair.specs.declared.reached.BracketKind.TheVariants.{Ordinary}
 use Rattle.dutch_pair.specs.Seated.{seat_of, score_at}
-use Rattle.dutch_pair.specs.Reached.{Stand, IsOf, frame_of}
+use Rattle.dutch_pair.specs.Reached.{Reached, IsOf, frame_of}
 use Rattle.dutch_pair.specs.Quality.{NextValue}
 use Rattle.dutch_pair.specs.NextBracket.{value_in, IsFlat, IsNext}
 use Rattle.dutch_pair.specs.PsdFloors.{repeated, IsUniform}
@@ -22,7 +23,6 @@ use Rattle.dutch_pair.specs.Ghosts.{IsNotBetter, ghosts_meet, ghost_may_be_left,
 use Rattle.dutch_pair.specs.GhostValues.{first_limbo, first_ghosts, shape_by_ghosts, floor_length, floor_held, value_with_floor, ghost_value}
 use Rattle.dutch_pair.proofs.AllLemmas.{all_filter}
 use Rattle.dutch_pair.proofs.ArrangementParts.{parts_of, numbers_within}
-use Rattle.dutch_pair.proofs.GhostPairs.{either}
 use Rattle.dutch_pair.proofs.C07WeakerRules.{always_a_shape}
 use Rattle.dutch_pair.proofs.C07Ghosts.{all_same, none_lower_than_none, ghosts_tell_of_the_next_bracket}
 use Rattle.dutch_order.specs.declared.numbers.TheConstants.{LIMIT}
@@ -34,40 +34,40 @@ without_psd value pairs psd (inr same) = inr (same.0, none_lower_than_none value
 
 held : (value : NextValue) (ghosts : List ℕ) (s residents pairs : ℕ) → IsNotBetter value pairs (ghost_floor ghosts s residents pairs) → IsNotBetter value pairs (floor_held ghosts s residents pairs)
 held value ghosts s residents pairs h =
-    elim (either (nat_lt LIMIT (floor_length (length ghosts) residents pairs))) [
+    elim (cases_Bool (nat_lt LIMIT (floor_length (length ghosts) residents pairs))) [
       | inl on ↦
           subst (λ t. IsNotBetter value pairs (cond t [] (ghost_floor ghosts s residents pairs))) (sym on) (without_psd value pairs (ghost_floor ghosts s residents pairs) h)
       | inr off ↦ subst (λ t. IsNotBetter value pairs (cond t [] (ghost_floor ghosts s residents pairs))) (sym off) h
     ]
 
-module _ (facts : Facts) (stand : Stand) (of' : IsOf facts stand) (flat : IsFlat facts stand) (shape : Shape) (a : Arrangement) (m : IsIn a (arrangements (frame_of facts stand) shape)) where
+module _ (facts : Facts) (reached : Reached) (of' : IsOf facts reached) (flat : IsFlat facts reached) (shape : Shape) (a : Arrangement) (m : IsIn a (arrangements (frame_of facts reached) shape)) where
   -- no value of the next bracket is better than what ghosts find
-  pub no_value_is_better_than_by_ghosts : stand.kind ≡ Ordinary → (next : List ℕ) → IsNext facts stand next
-      → map (λ i. score_at facts (seat_of stand.seats i)) (left_of (numbers_from 1 stand.mdps) a.s1) ≡ first_limbo facts stand shape
-      → IsNotBetter (value_in Ordinary facts (downfloaters facts stand a) next) (ghost_value facts stand shape next).pairs (ghost_value facts stand shape next).psd
+  pub no_value_is_better_than_by_ghosts : reached.kind ≡ Ordinary → (next : List ℕ) → IsNext facts reached next
+      → map (λ i. score_at facts (seat_of reached.seats i)) (left_of (numbers_from 1 reached.mdps) a.s1) ≡ first_limbo facts reached shape
+      → IsNotBetter (value_in Ordinary facts (downfloaters facts reached a) next) (ghost_value facts reached shape next).pairs (ghost_value facts reached shape next).psd
   no_value_is_better_than_by_ghosts ordinary next below same =
-      by_shape (shape_by_ghosts facts stand.seats next (first_ghosts facts stand shape)) refl
+      by_shape (shape_by_ghosts facts reached.seats next (first_ghosts facts reached shape)) refl
     where
-      by_shape : (o : Option Shape) → shape_by_ghosts facts stand.seats next (first_ghosts facts stand shape) ≡ o
-          → IsNotBetter (value_in Ordinary facts (downfloaters facts stand a) next)
-          (value_with_floor facts next (first_ghosts facts stand shape) (shape_by_ghosts facts stand.seats next (first_ghosts facts stand shape))).pairs
-          (value_with_floor facts next (first_ghosts facts stand shape) (shape_by_ghosts facts stand.seats next (first_ghosts facts stand shape))).psd
+      by_shape : (o : Option Shape) → shape_by_ghosts facts reached.seats next (first_ghosts facts reached shape) ≡ o
+          → IsNotBetter (value_in Ordinary facts (downfloaters facts reached a) next)
+          (value_with_floor facts next (first_ghosts facts reached shape) (shape_by_ghosts facts reached.seats next (first_ghosts facts reached shape))).pairs
+          (value_with_floor facts next (first_ghosts facts reached shape) (shape_by_ghosts facts reached.seats next (first_ghosts facts reached shape))).psd
       by_shape None e =
-          let g : List ℕ = first_ghosts facts stand shape in
-          absurd (always_a_shape (ghosts_meet facts stand.seats (length g) next) (ghost_may_be_left facts stand.seats (length g) next) (ghost_frame facts g next) refl e)
+          let g : List ℕ = first_ghosts facts reached shape in
+          absurd (always_a_shape (ghosts_meet facts reached.seats (length g) next) (ghost_may_be_left facts reached.seats (length g) next) (ghost_frame facts g next) refl e)
       by_shape (Some most) e =
-          let g : List ℕ = first_ghosts facts stand shape in
-          subst (λ (o : Option Shape). IsNotBetter (value_in Ordinary facts (downfloaters facts stand a) next) (value_with_floor facts next g o).pairs (value_with_floor facts next g o).psd) (sym e)
-          (held (value_in Ordinary facts (downfloaters facts stand a) next) g (score_at facts (slice_index next 0)) (length next) most.pairs
-          (ghosts_tell_of_the_next_bracket facts stand of' flat next below shape a m ordinary (first_limbo facts stand shape) same most e))
+          let g : List ℕ = first_ghosts facts reached shape in
+          subst (λ (o : Option Shape). IsNotBetter (value_in Ordinary facts (downfloaters facts reached a) next) (value_with_floor facts next g o).pairs (value_with_floor facts next g o).psd) (sym e)
+          (held (value_in Ordinary facts (downfloaters facts reached a) next) g (score_at facts (slice_index next 0)) (length next) most.pairs
+          (ghosts_tell_of_the_next_bracket facts reached of' flat next below shape a m ordinary (first_limbo facts reached shape) same most e))
 
   -- where all S1 leave the same scores
-  pub first_limbo_of_all : IsUniform facts stand shape → map (λ i. score_at facts (seat_of stand.seats i)) (left_of (numbers_from 1 stand.mdps) a.s1) ≡ first_limbo facts stand shape
+  pub first_limbo_of_all : IsUniform facts reached shape → map (λ i. score_at facts (seat_of reached.seats i)) (left_of (numbers_from 1 reached.mdps) a.s1) ≡ first_limbo facts reached shape
   first_limbo_of_all uniform =
-      let q = stand.mdps in
-      let f : ℕ → ℕ = λ i. score_at facts (seat_of stand.seats i) in
-      let frame : Frame = frame_of facts stand in
-      let count : length frame.scores ≡ length stand.seats = length-map stand.seats (score_at facts) in
+      let q = reached.mdps in
+      let f : ℕ → ℕ = λ i. score_at facts (seat_of reached.seats i) in
+      let frame : Frame = frame_of facts reached in
+      let count : length frame.scores ≡ length reached.seats = length-map reached.seats (score_at facts) in
       let parts = parts_of frame shape a (let h = flat.resident in omega (arith, h, count)) m in
       let low : List ℕ = numbers_from 1 q in
       let limbo : List ℕ = left_of low a.s1 in

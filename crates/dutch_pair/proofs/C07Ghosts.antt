@@ -4,6 +4,7 @@
 -- bracket: ghosts with the scores of the downfloaters make the same bracket by scores, and whoever meets a downfloater meets the ghost in
 -- his place.
 use Rattle.std.proofs.Common.{◌≡◌, ℕ, ◌+◌, ◌-◌, ◌*◌, ◌/◌, ◌<◌, ◌≤◌, Bool, true, false, not, ◌&&◌, nat_le, cond, List, [], ◌∷◌, ◌++◌, map, length, get_or, ◌⊎◌, inl, inr, Option, Some, None, refl, sym, ap, ◌∙◌, arith, subst, length-append}
+use Rattle.std.proofs.lemmas.Bool.{and_parts, and_from}
 use Rattle.std.specs.Prelude.{◌==◌, slice_index, if◌then◌else◌}
 use Rattle.std.specs.List.{AllByRecursion, list_any}
 use Rattle.std.proofs.lemmas.Bool.Decides.{nat_tests}
@@ -12,25 +13,25 @@ use Rattle.std.proofs.lemmas.Simd.{map-map}
 use Rattle.dutch_order.specs.declared.bracket.Shape.{Shape}
 use Rattle.dutch_order.specs.Choices.{numbers_from, is_member}
 use Rattle.dutch_order.specs.Keys.{IsIn}
-use Rattle.dutch_order.specs.Draws.{Draw}
+use Rattle.dutch_order.specs.Candidates.{Candidate}
 use Rattle.dutch_order.specs.Arrangements.{Frame, Arrangement, left_of, remainder_pairs, arrangements, candidates, is_legal, down}
 use Rattle.dutch_player.specs.Facts.{Facts}
 use Rattle.dutch_player.specs.Meetings.{may_meet}
-use Rattle.dutch_pair.specs.declared.reached.Kind.TheVariants.{Ordinary}
+use Rattle.dutch_pair.specs.declared.reached.BracketKind.TheVariants.{Ordinary}
 use Rattle.dutch_pair.specs.Seated.{seat_of, score_at}
-use Rattle.dutch_pair.specs.Reached.{Stand, IsOf, frame_of, is_number, numbers_meet, number_may_be_left}
+use Rattle.dutch_pair.specs.Reached.{Reached, IsOf, frame_of, is_number, numbers_meet, number_may_be_left}
 use Rattle.dutch_pair.specs.Quality.{NextValue, highest_first}
 use Rattle.dutch_pair.specs.Shapes.{has_member, greatest_shape}
-use Rattle.dutch_pair.specs.NextBracket.{is_lower, lowest_list_upto, lowest_list, next_stand, legal_in, psd_in, no_value, value_of_shape, value_of, value_in, IsFlat, IsDraw, IsNext}
+use Rattle.dutch_pair.specs.NextBracket.{is_lower, lowest_list_upto, lowest_list, next_bracket, legal_in, psd_in, no_value, value_of_shape, value_of, value_in, IsFlat, IsOfBracket, IsNext}
 use Rattle.dutch_pair.specs.Round.{downfloaters}
 use Rattle.dutch_pair.specs.ColourFloors.{residents_down}
 use Rattle.dutch_pair.specs.PsdFloors.{repeated, floor_psd}
 use Rattle.dutch_pair.specs.Ghosts.{IsNotBetter, is_upto, ghost_pair, may_bye, ghosts_meet, ghost_may_be_left, ghost_scores, ghost_frame, ghost_floor}
-use Rattle.dutch_pair.proofs.GhostPairs.{both_true, and_true, IsOneOf, append_low, append_high, numbers_are_seats, pair_of, left_of_ghost}
+use Rattle.dutch_pair.proofs.GhostPairs.{IsOneOf, append_low, append_high, numbers_are_seats, pair_of, left_of_ghost}
 use Rattle.dutch_pair.proofs.AllLemmas.{all_filter}
 use Rattle.dutch_pair.proofs.ArrangementParts.{parts_of, numbers_within}
 use Rattle.dutch_pair.proofs.DownLemmas.{down_numbers}
-use Rattle.dutch_pair.proofs.NextBrackets.{left_by_draw, next_of, next_flat}
+use Rattle.dutch_pair.proofs.NextBrackets.{left_by_candidate, next_of, next_flat}
 use Rattle.dutch_pair.proofs.LeastPsd.{in_filter}
 use Rattle.dutch_pair.proofs.PsdParts.{down_parts}
 use Rattle.dutch_order.proofs.Lists.{map-numbers_from}
@@ -66,62 +67,62 @@ two_ways : (a b : ℕ) → a ≤ b → (a < b) ⊎ (a ≡ b)
 two_ways a b h = grind arith
 
 -- the score of a bracket's residents, where they have one
-abbrev resident_score : Facts → Stand → ℕ
-resident_score facts stand = score_at facts (seat_of stand.seats (stand.mdps + 1))
+abbrev resident_score : Facts → Reached → ℕ
+resident_score facts reached = score_at facts (seat_of reached.seats (reached.mdps + 1))
 
 -- a shape that is found makes a value, which is not better
-value_found : (facts : Facts) (stand : Stand) → IsOf facts stand → IsFlat facts stand → (most : Shape) (s : Shape)
-    → greatest_shape (legal_in facts stand) (frame_of facts stand) ≡ Some s → s.pairs ≤ most.pairs
-    → IsNotBetter (value_of_shape facts stand (Some s)) most.pairs (floor_psd facts stand (resident_score facts stand) most.pairs)
-value_found facts stand of' flat most s e few =
-    let frame = frame_of facts stand in
+value_found : (facts : Facts) (reached : Reached) → IsOf facts reached → IsFlat facts reached → (most : Shape) (s : Shape)
+    → greatest_shape (legal_in facts reached) (frame_of facts reached) ≡ Some s → s.pairs ≤ most.pairs
+    → IsNotBetter (value_of_shape facts reached (Some s)) most.pairs (floor_psd facts reached (resident_score facts reached) most.pairs)
+value_found facts reached of' flat most s e few =
+    let frame = frame_of facts reached in
     elim (two_ways s.pairs most.pairs few) [
       | inl less ↦ inl less
       | inr same ↦ inr (
         same,
-        ap (λ k. is_lower (value_of_shape facts stand (Some s)).psd (floor_psd facts stand (resident_score facts stand) k)) (sym same)
-            ∙ lowest_of (psd_in facts stand) (floor_psd facts stand (resident_score facts stand) s.pairs) (legal_in facts stand s)
-            (first_has (legal_in facts stand) (λ shape. true) (shapes frame) s e)
-            (λ a m. no_psd_is_below_the_floor facts stand of' flat s a (fits_by_test frame s (found_fits (legal_in facts stand) frame s e)).within_pairs
-            (in_filter (is_legal (numbers_meet facts stand) (number_may_be_left facts stand) frame) a (arrangements frame s) m)),
+        ap (λ k. is_lower (value_of_shape facts reached (Some s)).psd (floor_psd facts reached (resident_score facts reached) k)) (sym same)
+            ∙ lowest_of (psd_in facts reached) (floor_psd facts reached (resident_score facts reached) s.pairs) (legal_in facts reached s)
+            (first_has (legal_in facts reached) (λ shape. true) (shapes frame) s e)
+            (λ a m. no_psd_is_below_the_floor facts reached of' flat s a (fits_by_test frame s (found_fits (legal_in facts reached) frame s e)).within_pairs
+            (in_filter (is_legal (numbers_meet facts reached) (number_may_be_left facts reached) frame) a (arrangements frame s) m)),
       )
     ]
 
 -- what a bracket that is not a last one can be is not better than what a weaker rule finds, with the floor of its PSD
-pub no_value_is_better_than_by_a_weaker_rule : (facts : Facts) (stand : Stand) → IsOf facts stand → IsFlat facts stand → (frame_of facts stand).last ≡ false
-    → (meets : ℕ → ℕ → Bool) (left : ℕ → Bool) → ((i j : ℕ) → numbers_meet facts stand i j ≡ true → meets i j ≡ true)
-    → ((i : ℕ) → number_may_be_left facts stand i ≡ true → left i ≡ true)
-    → (most : Shape) → greatest_shape (candidates meets left (frame_of facts stand)) (frame_of facts stand) ≡ Some most
-    → IsNotBetter (value_of facts stand) most.pairs (floor_psd facts stand (score_at facts (seat_of stand.seats (stand.mdps + 1))) most.pairs)
-no_value_is_better_than_by_a_weaker_rule facts stand of' flat open' meets left more may most found =
-    by_shape (greatest_shape (legal_in facts stand) (frame_of facts stand)) refl
+pub no_value_is_better_than_by_a_weaker_rule : (facts : Facts) (reached : Reached) → IsOf facts reached → IsFlat facts reached → (frame_of facts reached).last ≡ false
+    → (meets : ℕ → ℕ → Bool) (left : ℕ → Bool) → ((i j : ℕ) → numbers_meet facts reached i j ≡ true → meets i j ≡ true)
+    → ((i : ℕ) → number_may_be_left facts reached i ≡ true → left i ≡ true)
+    → (most : Shape) → greatest_shape (candidates meets left (frame_of facts reached)) (frame_of facts reached) ≡ Some most
+    → IsNotBetter (value_of facts reached) most.pairs (floor_psd facts reached (score_at facts (seat_of reached.seats (reached.mdps + 1))) most.pairs)
+no_value_is_better_than_by_a_weaker_rule facts reached of' flat open' meets left more may most found =
+    by_shape (greatest_shape (legal_in facts reached) (frame_of facts reached)) refl
   where
-    by_shape : (o : Option Shape) → greatest_shape (legal_in facts stand) (frame_of facts stand) ≡ o
-        → IsNotBetter (value_of_shape facts stand (greatest_shape (legal_in facts stand) (frame_of facts stand))) most.pairs (floor_psd facts stand (resident_score facts stand) most.pairs)
-    by_shape None e = absurd (always_a_shape (numbers_meet facts stand) (number_may_be_left facts stand) (frame_of facts stand) open' e)
+    by_shape : (o : Option Shape) → greatest_shape (legal_in facts reached) (frame_of facts reached) ≡ o
+        → IsNotBetter (value_of_shape facts reached (greatest_shape (legal_in facts reached) (frame_of facts reached))) most.pairs (floor_psd facts reached (resident_score facts reached) most.pairs)
+    by_shape None e = absurd (always_a_shape (numbers_meet facts reached) (number_may_be_left facts reached) (frame_of facts reached) open' e)
     by_shape (Some s) e =
-        let weaker = a_weaker_rule_has_no_fewer_pairs (numbers_meet facts stand) meets (number_may_be_left facts stand) left more may (frame_of facts stand) s e in
+        let weaker = a_weaker_rule_has_no_fewer_pairs (numbers_meet facts reached) meets (number_may_be_left facts reached) left more may (frame_of facts reached) s e in
         let same : Some weaker.0 ≡ Some most = sym weaker.1 ∙ found in
         let as_most : weaker.0 ≡ most = cc in
-        subst (λ (o : Option Shape). IsNotBetter (value_of_shape facts stand o) most.pairs (floor_psd facts stand (resident_score facts stand) most.pairs)) (sym e)
-        (value_found facts stand of' flat most s e (omega (arith, weaker.2, ap (λ (t : Shape). t.pairs) as_most)))
+        subst (λ (o : Option Shape). IsNotBetter (value_of_shape facts reached o) most.pairs (floor_psd facts reached (resident_score facts reached) most.pairs)) (sym e)
+        (value_found facts reached of' flat most s e (omega (arith, weaker.2, ap (λ (t : Shape). t.pairs) as_most)))
 
 -- without ghosts: half the players in pairs, and no PSD at all
-pub no_value_has_more_than_half_the_players_in_pairs : (facts : Facts) (stand : Stand) → IsNotBetter (value_of facts stand) (length stand.seats / 2) []
-no_value_has_more_than_half_the_players_in_pairs facts stand = by_shape (greatest_shape (legal_in facts stand) (frame_of facts stand)) refl
+pub no_value_has_more_than_half_the_players_in_pairs : (facts : Facts) (reached : Reached) → IsNotBetter (value_of facts reached) (length reached.seats / 2) []
+no_value_has_more_than_half_the_players_in_pairs facts reached = by_shape (greatest_shape (legal_in facts reached) (frame_of facts reached)) refl
   where
-    not_more : (value : NextValue) → value.pairs ≤ length stand.seats / 2 → IsNotBetter value (length stand.seats / 2) []
-    not_more value few = elim (two_ways value.pairs (length stand.seats / 2) few) [ inl less ↦ inl less | inr same ↦ inr (same, none_lower_than_none value.psd) ]
+    not_more : (value : NextValue) → value.pairs ≤ length reached.seats / 2 → IsNotBetter value (length reached.seats / 2) []
+    not_more value few = elim (two_ways value.pairs (length reached.seats / 2) few) [ inl less ↦ inl less | inr same ↦ inr (same, none_lower_than_none value.psd) ]
 
-    by_shape : (o : Option Shape) → greatest_shape (legal_in facts stand) (frame_of facts stand) ≡ o
-        → IsNotBetter (value_of_shape facts stand (greatest_shape (legal_in facts stand) (frame_of facts stand))) (length stand.seats / 2) []
+    by_shape : (o : Option Shape) → greatest_shape (legal_in facts reached) (frame_of facts reached) ≡ o
+        → IsNotBetter (value_of_shape facts reached (greatest_shape (legal_in facts reached) (frame_of facts reached))) (length reached.seats / 2) []
     by_shape None e =
-        subst (λ (o : Option Shape). IsNotBetter (value_of_shape facts stand o) (length stand.seats / 2) []) (sym e) (not_more no_value (omega arith))
+        subst (λ (o : Option Shape). IsNotBetter (value_of_shape facts reached o) (length reached.seats / 2) []) (sym e) (not_more no_value (omega arith))
     by_shape (Some s) e =
-        let count : length (frame_of facts stand).scores ≡ length stand.seats = length-map stand.seats (score_at facts) in
-        let few : s.pairs ≤ length (frame_of facts stand).scores / 2 = found_few (legal_in facts stand) (frame_of facts stand) s e in
-        subst (λ (o : Option Shape). IsNotBetter (value_of_shape facts stand o) (length stand.seats / 2) []) (sym e)
-        (not_more (value_of_shape facts stand (Some s)) (subst (λ k. s.pairs ≤ k / 2) count few))
+        let count : length (frame_of facts reached).scores ≡ length reached.seats = length-map reached.seats (score_at facts) in
+        let few : s.pairs ≤ length (frame_of facts reached).scores / 2 = found_few (legal_in facts reached) (frame_of facts reached) s e in
+        subst (λ (o : Option Shape). IsNotBetter (value_of_shape facts reached o) (length reached.seats / 2) []) (sym e)
+        (not_more (value_of_shape facts reached (Some s)) (subst (λ k. s.pairs ≤ k / 2) count few))
 
 pub all_same : (P : ℕ → Type 0) (f : ℕ → ℕ) (s : ℕ) → ((i : ℕ) → P i → f i ≡ s) → (xs : List ℕ) → AllByRecursion P xs → map f xs ≡ repeated s (length xs)
 all_same P f s each [] all = refl
@@ -132,17 +133,17 @@ abbrev most_of : Facts → List ℕ → List ℕ → ℕ → List ℕ → Option
 most_of facts seats next k scores =
     greatest_shape (candidates (ghosts_meet facts seats k next) (ghost_may_be_left facts seats k next) (record { scores = scores; mdps = k; last = false })) (record { scores = scores; mdps = k; last = false })
 
-module _ (facts : Facts) (stand : Stand) (of' : IsOf facts stand) (flat : IsFlat facts stand) (next : List ℕ) (below : IsNext facts stand next) (shape : Shape) (a : Arrangement)
-    (m : IsIn a (arrangements (frame_of facts stand) shape)) where
+module _ (facts : Facts) (reached : Reached) (of' : IsOf facts reached) (flat : IsFlat facts reached) (next : List ℕ) (below : IsNext facts reached next) (shape : Shape) (a : Arrangement)
+    (m : IsIn a (arrangements (frame_of facts reached) shape)) where
   -- the scores of the downfloaters: those of the Limbo, and that of the residents for each of them who goes down
-  scores_are : map (score_at facts) (downfloaters facts stand a)
-      ≡ ghost_scores facts stand shape (map (λ i. score_at facts (seat_of stand.seats i)) (left_of (numbers_from 1 stand.mdps) a.s1))
+  scores_are : map (score_at facts) (downfloaters facts reached a)
+      ≡ ghost_scores facts reached shape (map (λ i. score_at facts (seat_of reached.seats i)) (left_of (numbers_from 1 reached.mdps) a.s1))
   scores_are =
-      let f : ℕ → ℕ = λ i. score_at facts (seat_of stand.seats i) in
-      let frame : Frame = frame_of facts stand in
-      let q = stand.mdps in
+      let f : ℕ → ℕ = λ i. score_at facts (seat_of reached.seats i) in
+      let frame : Frame = frame_of facts reached in
+      let q = reached.mdps in
       let n = length frame.scores in
-      let count : n ≡ length stand.seats = length-map stand.seats (score_at facts) in
+      let count : n ≡ length reached.seats = length-map reached.seats (score_at facts) in
       let inside : q ≤ n = (let h = flat.resident in omega (arith, h, count)) in
       let parts = parts_of frame shape a inside m in
       let P : ℕ → Type 0 = λ i. (q < i) × (i ≤ n) in
@@ -154,63 +155,63 @@ module _ (facts : Facts) (stand : Stand) (of' : IsOf facts stand) (flat : IsFlat
       (all_filter P (λ x. not (is_member x a.s1r)) (left_of pool a.s2)
       (all_filter P (λ x. not (is_member x a.s2)) pool (numbers_within q (q + 1) (n - q) n (omega arith) (omega (arith, inside))))) in
       let left : length rest + (shape.mdps + (remainder_pairs shape + remainder_pairs shape)) ≡ n - q = parts.left in
-      let many : length rest ≡ residents_down stand shape = omega (arith, left, count) in
-      map-map (score_at facts) (seat_of stand.seats) (down frame a)
+      let many : length rest ≡ residents_down reached shape = omega (arith, left, count) in
+      map-map (score_at facts) (seat_of reached.seats) (down frame a)
       ∙ ap (map f) (down_parts frame shape.mdps (remainder_pairs shape) a inside parts)
       ∙ map-append f low rest
-      ∙ ap (λ xs. map f low ++ xs) (all_same P f (resident_score facts stand) (λ i p. flat.same i p.0 (omega (arith, p.1, count))) rest all ∙ ap (repeated (resident_score facts stand)) many)
+      ∙ ap (λ xs. map f low ++ xs) (all_same P f (resident_score facts reached) (λ i p. flat.same i p.0 (omega (arith, p.1, count))) rest all ∙ ap (repeated (resident_score facts reached)) many)
 
-  abbrev draw : Draw
-  draw = record { lists = a; down = down (frame_of facts stand) a }
+  abbrev candidate : Candidate
+  candidate = record { lists = a; down = down (frame_of facts reached) a }
 
-  one_of : (i : ℕ) → 1 ≤ i → i ≤ length (downfloaters facts stand a) → IsOneOf stand.seats (seat_of (downfloaters facts stand a ++ next) i)
+  one_of : (i : ℕ) → 1 ≤ i → i ≤ length (downfloaters facts reached a) → IsOneOf reached.seats (seat_of (downfloaters facts reached a ++ next) i)
   one_of i from upto =
-      let floats : List ℕ = downfloaters facts stand a in
+      let floats : List ℕ = downfloaters facts reached a in
       let short : i - 1 < length floats = omega (arith, from, upto) in
-      subst (IsOneOf stand.seats) (sym (append_low floats next (i - 1) short))
-      (numbers_are_seats stand.seats (down (frame_of facts stand) a) (down_numbers facts stand a) (i - 1)
-      (omega (arith, short, length-map (down (frame_of facts stand) a) (seat_of stand.seats))))
+      subst (IsOneOf reached.seats) (sym (append_low floats next (i - 1) short))
+      (numbers_are_seats reached.seats (down (frame_of facts reached) a) (down_numbers facts reached a) (i - 1)
+      (omega (arith, short, length-map (down (frame_of facts reached) a) (seat_of reached.seats))))
 
-  below_of : (i : ℕ) → length (downfloaters facts stand a) < i → seat_of (downfloaters facts stand a ++ next) i ≡ seat_of next (i - length (downfloaters facts stand a))
+  below_of : (i : ℕ) → length (downfloaters facts reached a) < i → seat_of (downfloaters facts reached a ++ next) i ≡ seat_of next (i - length (downfloaters facts reached a))
   below_of i high =
-      let floats : List ℕ = downfloaters facts stand a in
+      let floats : List ℕ = downfloaters facts reached a in
       append_high floats next (i - 1) (omega (arith, high)) ∙ ap (λ k. get_or next k 0) (let e : (i - 1) - length floats ≡ (i - length floats) - 1 = omega (arith, high) in e)
 
-  meet_for : (i j : ℕ) → numbers_meet facts (next_stand (downfloaters facts stand a) next) i j ≡ true
-      → ghosts_meet facts stand.seats (length (downfloaters facts stand a)) next i j ≡ true
+  meet_for : (i j : ℕ) → numbers_meet facts (next_bracket (downfloaters facts reached a) next) i j ≡ true
+      → ghosts_meet facts reached.seats (length (downfloaters facts reached a)) next i j ≡ true
   meet_for i j e =
-      let floats : List ℕ = downfloaters facts stand a in
+      let floats : List ℕ = downfloaters facts reached a in
       let k = length floats in
       let all : List ℕ = floats ++ next in
-      let stand' : Stand = next_stand floats next in
+      let reached' : Reached = next_bracket floats next in
       let count : length all ≡ k + length next = length-append floats next in
-      let both = both_true (is_number stand' i && is_number stand' j) (not (i == j) && may_meet facts (seat_of all i) (seat_of all j)) e in
-      let inside = both_true (is_number stand' i) (is_number stand' j) both.0 in
-      let more = both_true (not (i == j)) (may_meet facts (seat_of all i) (seat_of all j)) both.1 in
-      let first : 1 ≤ i = (let t = (both_true (nat_le 1 i) (nat_le i (length all)) inside.0).0 in grind (arith, nat_tests)) in
-      let second : 1 ≤ j = (let t = (both_true (nat_le 1 j) (nat_le j (length all)) inside.1).0 in grind (arith, nat_tests)) in
-      and_true (is_upto (k + length next) i && is_upto (k + length next) j) (not (i == j) && ghost_pair facts stand.seats k next i j)
+      let both = and_parts (is_number reached' i && is_number reached' j) (not (i == j) && may_meet facts (seat_of all i) (seat_of all j)) e in
+      let inside = and_parts (is_number reached' i) (is_number reached' j) both.0 in
+      let more = and_parts (not (i == j)) (may_meet facts (seat_of all i) (seat_of all j)) both.1 in
+      let first : 1 ≤ i = (let t = (and_parts (nat_le 1 i) (nat_le i (length all)) inside.0).0 in grind (arith, nat_tests)) in
+      let second : 1 ≤ j = (let t = (and_parts (nat_le 1 j) (nat_le j (length all)) inside.1).0 in grind (arith, nat_tests)) in
+      and_from (is_upto (k + length next) i && is_upto (k + length next) j) (not (i == j) && ghost_pair facts reached.seats k next i j)
       (ap (λ n. is_upto n i && is_upto n j) (sym count) ∙ both.0)
-      (and_true (not (i == j)) (ghost_pair facts stand.seats k next i j) more.0
-      (pair_of facts stand.seats next k (seat_of all i) (seat_of all j) i j (one_of i first) (below_of i) (one_of j second) (below_of j) more.1))
+      (and_from (not (i == j)) (ghost_pair facts reached.seats k next i j) more.0
+      (pair_of facts reached.seats next k (seat_of all i) (seat_of all j) i j (one_of i first) (below_of i) (one_of j second) (below_of j) more.1))
 
-  left_for : (i : ℕ) → number_may_be_left facts (next_stand (downfloaters facts stand a) next) i ≡ true
-      → ghost_may_be_left facts stand.seats (length (downfloaters facts stand a)) next i ≡ true
+  left_for : (i : ℕ) → number_may_be_left facts (next_bracket (downfloaters facts reached a) next) i ≡ true
+      → ghost_may_be_left facts reached.seats (length (downfloaters facts reached a)) next i ≡ true
   left_for i e =
-      let floats : List ℕ = downfloaters facts stand a in
+      let floats : List ℕ = downfloaters facts reached a in
       let k = length floats in
       let all : List ℕ = floats ++ next in
       let count : length all ≡ k + length next = length-append floats next in
-      let both = both_true (is_number (next_stand floats next) i) (may_bye facts (seat_of all i)) e in
-      let first : 1 ≤ i = (let t = (both_true (nat_le 1 i) (nat_le i (length all)) both.0).0 in grind (arith, nat_tests)) in
-      and_true (is_upto (k + length next) i) (if nat_le i k then list_any (may_bye facts) stand.seats else may_bye facts (seat_of next (i - k)))
+      let both = and_parts (is_number (next_bracket floats next) i) (may_bye facts (seat_of all i)) e in
+      let first : 1 ≤ i = (let t = (and_parts (nat_le 1 i) (nat_le i (length all)) both.0).0 in grind (arith, nat_tests)) in
+      and_from (is_upto (k + length next) i) (if nat_le i k then list_any (may_bye facts) reached.seats else may_bye facts (seat_of next (i - k)))
       (ap (λ n. is_upto n i) (sym count) ∙ both.0)
-      (left_of_ghost facts stand.seats next k (seat_of all i) i (one_of i first) (below_of i) both.1)
+      (left_of_ghost facts reached.seats next k (seat_of all i) i (one_of i first) (below_of i) both.1)
 
   -- the floor of the next bracket's PSD is that of its scores
-  floors_are : (s pairs : ℕ) → floor_psd facts (next_stand (downfloaters facts stand a) next) s pairs ≡ ghost_floor (map (score_at facts) (downfloaters facts stand a)) s (length next) pairs
+  floors_are : (s pairs : ℕ) → floor_psd facts (next_bracket (downfloaters facts reached a) next) s pairs ≡ ghost_floor (map (score_at facts) (downfloaters facts reached a)) s (length next) pairs
   floors_are s pairs =
-      let floats : List ℕ = downfloaters facts stand a in
+      let floats : List ℕ = downfloaters facts reached a in
       let g : List ℕ = map (score_at facts) floats in
       let by : ℕ → ℕ = λ x. x - s in
       let made : List ℕ = map by g in
@@ -229,30 +230,30 @@ module _ (facts : Facts) (stand : Stand) (of' : IsOf facts stand) (flat : IsFlat
       ∙ ap (λ k. highest_first (made ++ (repeated 0 (pairs - length g) ++ repeated 2 (k - 2 * pairs)))) (length-append floats next ∙ ap (λ k. k + length next) (sym count))
 
   -- what the arrangement leaves for the next bracket is not better than what ghosts find
-  pub ghosts_tell_of_the_next_bracket : stand.kind ≡ Ordinary → (limbo : List ℕ) → map (λ i. score_at facts (seat_of stand.seats i)) (left_of (numbers_from 1 stand.mdps) a.s1) ≡ limbo
+  pub ghosts_tell_of_the_next_bracket : reached.kind ≡ Ordinary → (limbo : List ℕ) → map (λ i. score_at facts (seat_of reached.seats i)) (left_of (numbers_from 1 reached.mdps) a.s1) ≡ limbo
       → (most : Shape)
-      → greatest_shape (candidates (ghosts_meet facts stand.seats (length (ghost_scores facts stand shape limbo)) next)
-      (ghost_may_be_left facts stand.seats (length (ghost_scores facts stand shape limbo)) next)
-      (ghost_frame facts (ghost_scores facts stand shape limbo) next)) (ghost_frame facts (ghost_scores facts stand shape limbo) next) ≡ Some most
-      → IsNotBetter (value_in Ordinary facts (downfloaters facts stand a) next) most.pairs
-      (ghost_floor (ghost_scores facts stand shape limbo) (score_at facts (slice_index next 0)) (length next) most.pairs)
+      → greatest_shape (candidates (ghosts_meet facts reached.seats (length (ghost_scores facts reached shape limbo)) next)
+      (ghost_may_be_left facts reached.seats (length (ghost_scores facts reached shape limbo)) next)
+      (ghost_frame facts (ghost_scores facts reached shape limbo) next)) (ghost_frame facts (ghost_scores facts reached shape limbo) next) ≡ Some most
+      → IsNotBetter (value_in Ordinary facts (downfloaters facts reached a) next) most.pairs
+      (ghost_floor (ghost_scores facts reached shape limbo) (score_at facts (slice_index next 0)) (length next) most.pairs)
   ghosts_tell_of_the_next_bracket ordinary limbo given most found =
-      let floats : List ℕ = downfloaters facts stand a in
+      let floats : List ℕ = downfloaters facts reached a in
       let g : List ℕ = map (score_at facts) floats in
-      let stand' : Stand = next_stand floats next in
-      let drawn : IsDraw facts stand draw = record { lists = (shape, m); down = refl } in
-      let same : g ≡ ghost_scores facts stand shape limbo = scores_are ∙ ap (ghost_scores facts stand shape) given in
-      let most_here : most_of facts stand.seats next (length floats) (map (score_at facts) (floats ++ next)) ≡ Some most =
-      ap (most_of facts stand.seats next (length floats)) (map-append (score_at facts) floats next)
-      ∙ ap (λ k. most_of facts stand.seats next k (g ++ map (score_at facts) next)) (sym (length-map floats (score_at facts)))
-      ∙ ap (λ scores. most_of facts stand.seats next (length scores) (scores ++ map (score_at facts) next)) same
+      let reached' : Reached = next_bracket floats next in
+      let of_bracket : IsOfBracket facts reached candidate = record { lists = (shape, m); down = refl } in
+      let same : g ≡ ghost_scores facts reached shape limbo = scores_are ∙ ap (ghost_scores facts reached shape) given in
+      let most_here : most_of facts reached.seats next (length floats) (map (score_at facts) (floats ++ next)) ≡ Some most =
+      ap (most_of facts reached.seats next (length floats)) (map-append (score_at facts) floats next)
+      ∙ ap (λ k. most_of facts reached.seats next k (g ++ map (score_at facts) next)) (sym (length-map floats (score_at facts)))
+      ∙ ap (λ scores. most_of facts reached.seats next (length scores) (scores ++ map (score_at facts) next)) same
       ∙ found in
       let at_next : score_at facts (seat_of (floats ++ next) (length floats + 1)) ≡ score_at facts (slice_index next 0) =
       ap (score_at facts) (append_high floats next ((length floats + 1) - 1) (omega arith) ∙ ap (λ k. get_or next k 0) (let e : ((length floats + 1) - 1) - length floats ≡ 0 = omega arith in e)) in
-      let value = no_value_is_better_than_by_a_weaker_rule facts stand' (next_of facts stand draw.down next of' (left_by_draw facts stand draw drawn) below) (next_flat facts stand draw.down next of' (left_by_draw facts stand draw drawn) below ordinary) refl
-      (ghosts_meet facts stand.seats (length floats) next) (ghost_may_be_left facts stand.seats (length floats) next) meet_for left_for most most_here in
-      subst (λ (floor : List ℕ). IsNotBetter (value_of facts stand') most.pairs floor)
-      (ap (λ s. floor_psd facts stand' s most.pairs) at_next
+      let value = no_value_is_better_than_by_a_weaker_rule facts reached' (next_of facts reached candidate.down next of' (left_by_candidate facts reached candidate of_bracket) below) (next_flat facts reached candidate.down next of' (left_by_candidate facts reached candidate of_bracket) below ordinary) refl
+      (ghosts_meet facts reached.seats (length floats) next) (ghost_may_be_left facts reached.seats (length floats) next) meet_for left_for most most_here in
+      subst (λ (floor : List ℕ). IsNotBetter (value_of facts reached') most.pairs floor)
+      (ap (λ s. floor_psd facts reached' s most.pairs) at_next
       ∙ floors_are (score_at facts (slice_index next 0)) most.pairs
       ∙ ap (λ scores. ghost_floor scores (score_at facts (slice_index next 0)) (length next) most.pairs) same)
       value

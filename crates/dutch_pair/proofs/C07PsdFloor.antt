@@ -16,7 +16,7 @@ use Rattle.dutch_order.specs.Arrangements.{Frame, Arrangement, left_of, remainde
 use Rattle.dutch_order.proofs.Members.{climbs-filter, filter-length, length-numbers}
 use Rattle.dutch_player.specs.Facts.{Facts}
 use Rattle.dutch_pair.specs.Seated.{seat_of, score_at, all_pairs, lowest, difference, difference_down}
-use Rattle.dutch_pair.specs.Reached.{Stand, IsOf, frame_of}
+use Rattle.dutch_pair.specs.Reached.{Reached, IsOf, frame_of}
 use Rattle.dutch_pair.specs.Quality.{one_if, highest_first}
 use Rattle.dutch_pair.specs.NextBracket.{IsFlat, is_lower, psd_in}
 use Rattle.dutch_pair.specs.PsdFloors.{repeated, floor_psd}
@@ -97,21 +97,21 @@ none_even score s q higher (x ∷ xs) all =
     let off : one_if (eqb (score x - s) 0) ≡ 0 = ap one_if (ne_eqb (score x - s) 0 (λ e. omega (arith, e, up))) in
     omega (arith, off, none_even score s q higher xs all.1)
 
-module _ (facts : Facts) (stand : Stand) (of' : IsOf facts stand) (flat : IsFlat facts stand) where
+module _ (facts : Facts) (reached : Reached) (of' : IsOf facts reached) (flat : IsFlat facts reached) where
   -- no arrangement with so many pairs has a lower PSD than the floor
-  pub no_psd_is_below_the_floor : (shape : Shape) (a : Arrangement) → shape.mdps ≤ shape.pairs → IsIn a (arrangements (frame_of facts stand) shape)
-      → is_lower (psd_in facts stand a) (floor_psd facts stand (score_at facts (seat_of stand.seats (stand.mdps + 1))) shape.pairs) ≡ false
+  pub no_psd_is_below_the_floor : (shape : Shape) (a : Arrangement) → shape.mdps ≤ shape.pairs → IsIn a (arrangements (frame_of facts reached) shape)
+      → is_lower (psd_in facts reached a) (floor_psd facts reached (score_at facts (seat_of reached.seats (reached.mdps + 1))) shape.pairs) ≡ false
   no_psd_is_below_the_floor shape a within m =
-      let s : ℕ = score_at facts (seat_of stand.seats (stand.mdps + 1)) in
-      let q = stand.mdps in
-      let n = length stand.seats in
-      let frame : Frame = frame_of facts stand in
+      let s : ℕ = score_at facts (seat_of reached.seats (reached.mdps + 1)) in
+      let q = reached.mdps in
+      let n = length reached.seats in
+      let frame : Frame = frame_of facts reached in
       let j = remainder_pairs shape in
-      let one : OneScore facts stand s = one_score_of facts stand of' flat in
-      let counted : length frame.scores ≡ n = length-map stand.seats (score_at facts) in
+      let one : OneScore facts reached s = one_score_of facts reached of' flat in
+      let counted : length frame.scores ≡ n = length-map reached.seats (score_at facts) in
       let resident : q < n = flat.resident in
       let parts = parts_of frame shape a (omega (arith, resident, counted)) m in
-      let score : ℕ → ℕ = λ i. score_at facts (seat_of stand.seats i) in
+      let score : ℕ → ℕ = λ i. score_at facts (seat_of reached.seats i) in
       let plain : ℕ → ℕ = λ i. score i - s in
       let by : ℕ → ℕ = λ i. (score i - s) + 2 in
       let low : List ℕ = numbers_from 1 q in
@@ -142,12 +142,12 @@ module _ (facts : Facts) (stand : Stand) (of' : IsOf facts stand) (flat : IsFlat
       let lower = lower_than c h l t u j r evens twos (sum (map plain limbo) + 1)
       whole (λ d. two_more d plain limbo) (none_even score s q one.higher limbo numbers)
       (λ d far. none_over d (map plain limbo) (omega (arith, far))) nobody (omega (arith, split, within)) (omega (arith, split, within, fits, resident)) in
-      let all : List ℕ = map (difference facts) (all_pairs stand.seats a) ++ map (difference_down facts (lowest facts stand.seats)) (map (seat_of stand.seats) (down frame a)) in
+      let all : List ℕ = map (difference facts) (all_pairs reached.seats a) ++ map (difference_down facts (lowest facts reached.seats)) (map (seat_of reached.seats) (down frame a)) in
       let made : List ℕ = map plain low ++ (repeated 0 evens ++ repeated 2 twos) in
       not_lower (highest_first made) (highest_first all) (highest_first_falls made) (highest_first_falls all)
       (lower_by (λ d. copies d (highest_first made)) (λ d. copies d (highest_first all))
       (λ d. t d + (copies d (repeated 0 evens) + copies d (repeated 2 twos))) (λ d. c d + (l d + (copies d (repeated 0 j) + copies d (repeated 2 r))))
       (λ d. highest_first_copies d made ∙ copies_append d (map plain low) (repeated 0 evens ++ repeated 2 twos)
       ∙ ap (λ k. t d + k) (copies_append d (repeated 0 evens) (repeated 2 twos)))
-      (λ d. highest_first_copies d all ∙ psd_copies facts stand s shape.mdps j a d one parts counted r fits)
+      (λ d. highest_first_copies d all ∙ psd_copies facts reached s shape.mdps j a d one parts counted r fits)
       lower)

@@ -3,6 +3,7 @@
 -- Both rules choose from one list of shapes, in which the numbers of pairs do not rise, and each shape that has an arrangement by the
 -- stronger rule has one by the weaker. So the first shape that has one by the weaker rule stands no later in that list.
 use Rattle.std.proofs.Common.{◌≡◌, ℕ, zero, suc, ◌-◌, ◌/◌, ◌≤◌, Bool, true, false, not, ◌&&◌, ◌||◌, nat_lt, cond, inl, inr, List, [], ◌∷◌, ◌++◌, map, filter, length, Some, None, refl, sym, ap, ◌∙◌, arith, subst}
+use Rattle.std.proofs.lemmas.Bool.{cases_Bool}
 use Rattle.std.specs.List.{AllByRecursion}
 use Rattle.std.specs.Prelude.{flat_map}
 use Rattle.std.proofs.lemmas.Bool.Decides.{nat_tests}
@@ -12,7 +13,6 @@ use Rattle.dutch_order.specs.Keys.{IsIn}
 use Rattle.dutch_order.specs.Arrangements.{Frame, Arrangement, arrangements, candidates, is_legal, leaves_one, down}
 use Rattle.dutch_pair.specs.Shapes.{down_from, fits, shapes_with, shapes, has_member, first_with, greatest_shape}
 use Rattle.dutch_pair.proofs.AllLemmas.{all_join, all_filter}
-use Rattle.dutch_pair.proofs.GhostPairs.{either}
 use Rattle.dutch_pair.proofs.ShapeSearch.{shape_with}
 
 and_weaker : (s t s' t' : Bool) → (s ≡ true → s' ≡ true) → (t ≡ true → t' ≡ true) → (s && t) ≡ true → (s' && t') ≡ true
@@ -48,10 +48,10 @@ module _ (meets meets' : ℕ → ℕ → Bool) (left left' : ℕ → Bool) (more
   filter_weaker : (p q : Arrangement → Bool) → ((a : Arrangement) → p a ≡ true → q a ≡ true) → (xs : List Arrangement) → has_member (filter p xs) ≡ true → has_member (filter q xs) ≡ true
   filter_weaker p q each [] e = e
   filter_weaker p q each (a ∷ xs) e =
-      elim (either (q a)) [
+      elim (cases_Bool (q a)) [
         | inl on ↦ ap (λ t. has_member (cond t (a ∷ filter q xs) (filter q xs))) on
         | inr off ↦
-            let none : p a ≡ false = elim (either (p a)) [ inl on ↦ (let bad : true ≡ false = sym (each a on) ∙ off in absurd (cc)) | inr is ↦ is ] in
+            let none : p a ≡ false = elim (cases_Bool (p a)) [ inl on ↦ (let bad : true ≡ false = sym (each a on) ∙ off in absurd (cc)) | inr is ↦ is ] in
             ap (λ t. has_member (cond t (a ∷ filter q xs) (filter q xs))) off
             ∙ filter_weaker p q each xs (ap (λ t. has_member (cond t (a ∷ filter p xs) (filter p xs))) (sym none) ∙ e)
       ]
@@ -95,7 +95,7 @@ sinks_all (suc n) = sinks_join (suc n) (suc n) (flat_map shapes_with (down_from 
 pub found_in : (e : Shape → List Arrangement) (xs : List Shape) (s : Shape) → first_with e xs ≡ Some s → IsIn s xs
 found_in e [] s h = let bad : None ≡ Some s = h in absurd (cc)
 found_in e (x ∷ xs) s h =
-    elim (either (has_member (e x))) [
+    elim (cases_Bool (has_member (e x))) [
       | inl on ↦ (let same : Some x ≡ Some s = sym (ap (λ t. cond t (Some x) (first_with e xs)) on) ∙ h in inl (cc))
       | inr off ↦ inr (found_in e xs s (sym (ap (λ t. cond t (Some x) (first_with e xs)) off) ∙ h))
     ]
@@ -104,7 +104,7 @@ found_in e (x ∷ xs) s h =
 pub not_none : (e : Shape → List Arrangement) (xs : List Shape) (s : Shape) → IsIn s xs → has_member (e s) ≡ true → first_with e xs ≡ None → ⊥
 not_none e [] s m has h = m
 not_none e (x ∷ xs) s m has h =
-    elim (either (has_member (e x))) [
+    elim (cases_Bool (has_member (e x))) [
       | inl on ↦ (let bad : Some x ≡ None = sym (ap (λ t. cond t (Some x) (first_with e xs)) on) ∙ h in cc)
       | inr off ↦ elim m [
         | inl same ↦ (let bad : true ≡ false = sym has ∙ ap (λ t. has_member (e t)) same ∙ off in absurd (cc))
@@ -115,7 +115,7 @@ not_none e (x ∷ xs) s m has h =
 pub member_fits : (p : Shape → Bool) (s : Shape) (xs : List Shape) → IsIn s (filter p xs) → IsIn s xs × (p s ≡ true)
 member_fits p s [] m = absurd m
 member_fits p s (x ∷ xs) m =
-    elim (either (p x)) [
+    elim (cases_Bool (p x)) [
       | inl on ↦
           let kept : IsIn s (x ∷ filter p xs) = subst (IsIn s) (ap (λ t. cond t (x ∷ filter p xs) (filter p xs)) on) m in
           elim kept [
@@ -130,7 +130,7 @@ member_fits p s (x ∷ xs) m =
 pub fits_member : (p : Shape → Bool) (s : Shape) (xs : List Shape) → IsIn s xs → p s ≡ true → IsIn s (filter p xs)
 fits_member p s [] m e = m
 fits_member p s (x ∷ xs) m e =
-    elim (either (p x)) [
+    elim (cases_Bool (p x)) [
       | inl on ↦
           subst (IsIn s) (sym (ap (λ t. cond t (x ∷ filter p xs) (filter p xs)) on))
           (elim m as (λ _. IsIn s (x ∷ filter p xs)) [ inl same ↦ inl same | inr later ↦ inr (fits_member p s xs later e) ])
@@ -151,7 +151,7 @@ no_fewer : (e e' : Shape → List Arrangement) → ((shape : Shape) → has_memb
     → (xs : List Shape) → Sinks xs → (s : Shape) → first_with e xs ≡ Some s → (s' : Shape) × (first_with e' xs ≡ Some s') × (s.pairs ≤ s'.pairs)
 no_fewer e e' each [] sinks s h = let bad : None ≡ Some s = h in absurd (cc)
 no_fewer e e' each (x ∷ xs) sinks s h =
-    elim (either (has_member (e' x))) [
+    elim (cases_Bool (has_member (e' x))) [
       | inl on ↦ (
         x,
         ap (λ t. cond t (Some x) (first_with e' xs)) on,
@@ -161,7 +161,7 @@ no_fewer e e' each (x ∷ xs) sinks s h =
         ],
       )
       | inr off ↦
-          let none : has_member (e x) ≡ false = elim (either (has_member (e x))) [ inl on ↦ (let bad : true ≡ false = sym (each x on) ∙ off in absurd (cc)) | inr is ↦ is ] in
+          let none : has_member (e x) ≡ false = elim (cases_Bool (has_member (e x))) [ inl on ↦ (let bad : true ≡ false = sym (each x on) ∙ off in absurd (cc)) | inr is ↦ is ] in
           let rest = no_fewer e e' each xs sinks.1 s (sym (ap (λ t. cond t (Some x) (first_with e xs)) none) ∙ h) in
           (rest.0, ap (λ t. cond t (Some x) (first_with e' xs)) off ∙ rest.1, rest.2)
     ]

@@ -7,22 +7,23 @@ use Rattle.std.proofs.lemmas.List.{map-append}
 use Rattle.std.proofs.lemmas.List.Elements.{filter-append}
 use Rattle.std.proofs.lemmas.List.Sums.{sum_by-append}
 use Rattle.dutch_order.specs.Arrangements.{Arrangement, down}
-use Rattle.dutch_order.specs.Draws.{Draw}
+use Rattle.dutch_order.specs.Candidates.{Candidate}
 use Rattle.dutch_player.specs.declared.float.Float.{Float}
 use Rattle.dutch_player.specs.declared.float.Float.TheVariants.{Up, Down}
 use Rattle.dutch_player.specs.Facts.{SeatFacts, Facts}
 use Rattle.trf16.specs.declared.cell.Colour.{Colour}
-use Rattle.dutch_pair.specs.declared.seated.Mover.{Mover}
+use Rattle.dutch_pair.specs.declared.seated.Floater.{Floater}
 use Rattle.dutch_pair.specs.declared.colours_missed.Miss.TheVariants.{Wide, Third}
-use Rattle.dutch_pair.specs.Beginnings.{HasPairsOf, fixed}
+use Rattle.dutch_pair.specs.Beginnings.{HasPairsOf, fixed, seated_so}
 use Rattle.dutch_pair.specs.Floors.{NotBelow}
 use Rattle.dutch_pair.specs.NextBracket.{is_lower}
 use Rattle.dutch_pair.specs.Quality.{again, count_in, count_with_topscorers, differences, has_topscorer, highest_first, misses}
-use Rattle.dutch_pair.specs.Reached.{Stand, frame_of}
-use Rattle.dutch_pair.specs.Round.{quality_of}
-use Rattle.dutch_pair.specs.Seated.{Seated, by_seats, floats_down, goes_down, goes_up, going_down, going_up, is_uneven}
+use Rattle.dutch_pair.specs.Reached.{Reached, frame_of}
+use Rattle.dutch_pair.specs.Round.{downfloaters, quality_of}
+use Rattle.dutch_pair.specs.Seated.{Seated, all_pairs, by_seats, floats_down, goes_down, goes_up, going_down, going_up, is_uneven, seat_of}
 use Rattle.dutch_pair.proofs.Copies.{copies, copies_append, highest_first_copies, highest_first_falls, not_lower}
-use Rattle.dutch_pair.proofs.PairsWithBeginning.{AddsUp, no_less}
+use Rattle.dutch_pair.proofs.FixedPairs.{AddsUp, Beside, beside, none_known}
+use Rattle.dutch_pair.proofs.PairsWithBeginning.{no_less}
 
 -- a list in which each number stands no less often is not lower
 pub more_copies : (xs ys : List ℕ) → ((d : ℕ) → copies d xs ≤ copies d ys) → is_lower (highest_first ys) (highest_first xs) ≡ false
@@ -46,78 +47,88 @@ mapped_add_up f made adds xs ys = ap f (map-append made xs ys) ∙ adds (map mad
 none_of_none : {X : Type 0} (f : List X → ℕ) → AddsUp f → f [] ≡ 0
 none_of_none f adds = let twice : f [] ≡ f [] + f [] = adds [] [] in omega (arith, twice)
 
-module _ (facts : Facts) (stand : Stand) (b : Arrangement) (draw : Draw) (begins : HasPairsOf b draw.lists) where
+module _ (facts : Facts) (reached : Reached) (known : List (ℕ × ℕ)) (gone : List ℕ) (candidate : Candidate) (others : Beside known (all_pairs reached.seats candidate.lists))
+    (left : Beside gone (map (seat_of reached.seats) candidate.down)) where
   abbrev fewer : Seated
-  fewer = fixed facts stand b
+  fewer = seated_so facts reached known gone
 
   abbrev all : Seated
-  all = by_seats facts stand.seats draw
+  all = by_seats facts reached.seats candidate
 
   -- of who goes down
-  down_no_less : (f : List Mover → ℕ) → AddsUp f → f (going_down facts fewer) ≤ f (going_down facts all)
+  down_no_less : (f : List Floater → ℕ) → AddsUp f → f (going_down facts fewer) ≤ f (going_down facts all)
   down_no_less f adds =
       let of_pairs : List (ℕ × ℕ) → ℕ = λ pairs. f (map (goes_down facts) (filter (is_uneven facts) pairs)) in
+      let of_gone : List ℕ → ℕ = λ seats. f (map (floats_down facts all.lowest) seats) in
       let more : of_pairs fewer.pairs ≤ of_pairs all.pairs =
-      no_less of_pairs stand.seats b draw.lists (filtered_add_up (λ pairs. f (map (goes_down facts) pairs)) (is_uneven facts) (mapped_add_up f (goes_down facts) adds)) begins in
+      no_less of_pairs known all.pairs (filtered_add_up (λ pairs. f (map (goes_down facts) pairs)) (is_uneven facts) (mapped_add_up f (goes_down facts) adds)) others in
+      let further : of_gone gone ≤ of_gone all.down = no_less of_gone gone all.down (mapped_add_up f (floats_down facts all.lowest) adds) left in
       omega (
         arith,
         more,
-        none_of_none f adds,
-        adds (map (goes_down facts) (filter (is_uneven facts) fewer.pairs)) [],
+        further,
+        adds (map (goes_down facts) (filter (is_uneven facts) fewer.pairs)) (map (floats_down facts all.lowest) gone),
         adds (map (goes_down facts) (filter (is_uneven facts) all.pairs)) (map (floats_down facts all.lowest) all.down),
       )
 
   -- and of who goes up
-  up_no_less : (f : List Mover → ℕ) → AddsUp f → f (going_up facts fewer) ≤ f (going_up facts all)
+  up_no_less : (f : List Floater → ℕ) → AddsUp f → f (going_up facts fewer) ≤ f (going_up facts all)
   up_no_less f adds =
-      no_less (λ pairs. f (map (goes_up facts) (filter (is_uneven facts) pairs))) stand.seats b draw.lists
-      (filtered_add_up (λ pairs. f (map (goes_up facts) pairs)) (is_uneven facts) (mapped_add_up f (goes_up facts) adds)) begins
+      no_less (λ pairs. f (map (goes_up facts) (filter (is_uneven facts) pairs))) known all.pairs
+      (filtered_add_up (λ pairs. f (map (goes_up facts) pairs)) (is_uneven facts) (mapped_add_up f (goes_up facts) adds)) others
 
 module _ (facts : Facts) (float : Float) (back : ℕ) where
   -- how many had a float in the round so far back
-  counts_add_up : AddsUp (λ movers. length (again facts float back movers))
+  counts_add_up : AddsUp (λ floaters. length (again facts float back floaters))
   counts_add_up xs ys = ap length (filter-append _ xs ys) ∙ length-append (again facts float back xs) (again facts float back ys)
 
   -- how often a difference stands among theirs
-  copies_add_up : (d : ℕ) → AddsUp (λ movers. copies d (map (λ (mover : Mover). mover.by) (again facts float back movers)))
+  copies_add_up : (d : ℕ) → AddsUp (λ floaters. copies d (map (λ (floater : Floater). floater.by) (again facts float back floaters)))
   copies_add_up d xs ys =
-      ap (λ movers. copies d (map (λ (mover : Mover). mover.by) movers)) (filter-append _ xs ys)
-      ∙ ap (copies d) (map-append (λ (mover : Mover). mover.by) (again facts float back xs) (again facts float back ys))
-      ∙ copies_append d (map (λ (mover : Mover). mover.by) (again facts float back xs)) (map (λ (mover : Mover). mover.by) (again facts float back ys))
+      ap (λ floaters. copies d (map (λ (floater : Floater). floater.by) floaters)) (filter-append _ xs ys)
+      ∙ ap (copies d) (map-append (λ (floater : Floater). floater.by) (again facts float back xs) (again facts float back ys))
+      ∙ copies_append d (map (λ (floater : Floater). floater.by) (again facts float back xs)) (map (λ (floater : Floater). floater.by) (again facts float back ys))
 
-module _ (facts : Facts) (stand : Stand) (b : Arrangement) (draw : Draw) (begins : HasPairsOf b draw.lists) where
-  down_count : (back : ℕ) → length (again facts Down back (going_down facts (fixed facts stand b))) ≤ length (again facts Down back (going_down facts (by_seats facts stand.seats draw)))
-  down_count back = down_no_less facts stand b draw begins (λ movers. length (again facts Down back movers)) (counts_add_up facts Down back)
+module _ (facts : Facts) (reached : Reached) (known : List (ℕ × ℕ)) (gone : List ℕ) (candidate : Candidate) (others : Beside known (all_pairs reached.seats candidate.lists))
+    (left : Beside gone (map (seat_of reached.seats) candidate.down)) where
+  down_count : (back : ℕ) → length (again facts Down back (going_down facts (seated_so facts reached known gone))) ≤ length (again facts Down back (going_down facts (by_seats facts reached.seats candidate)))
+  down_count back = down_no_less facts reached known gone candidate others left (λ floaters. length (again facts Down back floaters)) (counts_add_up facts Down back)
 
-  up_count : (back : ℕ) → length (again facts Up back (going_up facts (fixed facts stand b))) ≤ length (again facts Up back (going_up facts (by_seats facts stand.seats draw)))
-  up_count back = up_no_less facts stand b draw begins (λ movers. length (again facts Up back movers)) (counts_add_up facts Up back)
+  up_count : (back : ℕ) → length (again facts Up back (going_up facts (seated_so facts reached known gone))) ≤ length (again facts Up back (going_up facts (by_seats facts reached.seats candidate)))
+  up_count back = up_no_less facts reached known gone candidate others left (λ floaters. length (again facts Up back floaters)) (counts_add_up facts Up back)
 
   down_list : (back : ℕ)
-      → is_lower (differences (again facts Down back (going_down facts (by_seats facts stand.seats draw)))) (differences (again facts Down back (going_down facts (fixed facts stand b)))) ≡ false
+      → is_lower (differences (again facts Down back (going_down facts (by_seats facts reached.seats candidate)))) (differences (again facts Down back (going_down facts (seated_so facts reached known gone)))) ≡ false
   down_list back =
-      let by : List Mover → List ℕ = λ movers. map (λ (mover : Mover). mover.by) (again facts Down back movers) in
-      more_copies (by (going_down facts (fixed facts stand b))) (by (going_down facts (by_seats facts stand.seats draw)))
-      (λ d. down_no_less facts stand b draw begins (λ movers. copies d (by movers)) (copies_add_up facts Down back d))
+      let by : List Floater → List ℕ = λ floaters. map (λ (floater : Floater). floater.by) (again facts Down back floaters) in
+      more_copies (by (going_down facts (seated_so facts reached known gone))) (by (going_down facts (by_seats facts reached.seats candidate)))
+      (λ d. down_no_less facts reached known gone candidate others left (λ floaters. copies d (by floaters)) (copies_add_up facts Down back d))
 
   up_list : (back : ℕ)
-      → is_lower (differences (again facts Up back (going_up facts (by_seats facts stand.seats draw)))) (differences (again facts Up back (going_up facts (fixed facts stand b)))) ≡ false
+      → is_lower (differences (again facts Up back (going_up facts (by_seats facts reached.seats candidate)))) (differences (again facts Up back (going_up facts (seated_so facts reached known gone)))) ≡ false
   up_list back =
-      let by : List Mover → List ℕ = λ movers. map (λ (mover : Mover). mover.by) (again facts Up back movers) in
-      more_copies (by (going_up facts (fixed facts stand b))) (by (going_up facts (by_seats facts stand.seats draw)))
-      (λ d. up_no_less facts stand b draw begins (λ movers. copies d (by movers)) (copies_add_up facts Up back d))
+      let by : List Floater → List ℕ = λ floaters. map (λ (floater : Floater). floater.by) (again facts Up back floaters) in
+      more_copies (by (going_up facts (seated_so facts reached known gone))) (by (going_up facts (by_seats facts reached.seats candidate)))
+      (λ d. up_no_less facts reached known gone candidate others left (λ floaters. copies d (by floaters)) (copies_add_up facts Up back d))
 
-pub least_of_beginning : (facts : Facts) (stand : Stand) (lower : List ℕ) (b a : Arrangement) → HasPairsOf b a → NotBelow facts (fixed facts stand b) (quality_of facts stand lower a)
-least_of_beginning facts stand lower b a begins =
-    let draw : Draw = record { lists = a; down = down (frame_of facts stand) a } in
+pub least_of_known : (facts : Facts) (reached : Reached) (lower : List ℕ) (known : List (ℕ × ℕ)) (gone : List ℕ) (a : Arrangement) → Beside known (all_pairs reached.seats a)
+    → Beside gone (downfloaters facts reached a) → NotBelow facts (seated_so facts reached known gone) (quality_of facts reached lower a)
+least_of_known facts reached lower known gone a others left =
+    let candidate : Candidate = record { lists = a; down = down (frame_of facts reached) a } in
+    let all : List (ℕ × ℕ) = all_pairs reached.seats a in
     record {
-      wide = no_less (count_with_topscorers facts (misses Wide)) stand.seats b a (with_topscorers_add_up facts (misses Wide)) begins;
-      third = no_less (count_with_topscorers facts (misses Third)) stand.seats b a (with_topscorers_add_up facts (misses Third)) begins;
-      down_again = down_count facts stand b draw begins 1;
-      up_again = up_count facts stand b draw begins 1;
-      down_again_before = down_count facts stand b draw begins 2;
-      up_again_before = up_count facts stand b draw begins 2;
-      down_again_by = down_list facts stand b draw begins 1;
-      up_again_by = up_list facts stand b draw begins 1;
-      down_again_before_by = down_list facts stand b draw begins 2;
-      up_again_before_by = up_list facts stand b draw begins 2;
+      wide = no_less (count_with_topscorers facts (misses Wide)) known all (with_topscorers_add_up facts (misses Wide)) others;
+      third = no_less (count_with_topscorers facts (misses Third)) known all (with_topscorers_add_up facts (misses Third)) others;
+      down_again = down_count facts reached known gone candidate others left 1;
+      up_again = up_count facts reached known gone candidate others left 1;
+      down_again_before = down_count facts reached known gone candidate others left 2;
+      up_again_before = up_count facts reached known gone candidate others left 2;
+      down_again_by = down_list facts reached known gone candidate others left 1;
+      up_again_by = up_list facts reached known gone candidate others left 1;
+      down_again_before_by = down_list facts reached known gone candidate others left 2;
+      up_again_before_by = up_list facts reached known gone candidate others left 2;
     }
+
+pub least_of_beginning : (facts : Facts) (reached : Reached) (lower : List ℕ) (b a : Arrangement) → HasPairsOf b a → NotBelow facts (fixed facts reached b) (quality_of facts reached lower a)
+least_of_beginning facts reached lower b a begins =
+    least_of_known facts reached lower (all_pairs reached.seats b) [] a (beside reached.seats b a begins) (none_known (downfloaters facts reached a))

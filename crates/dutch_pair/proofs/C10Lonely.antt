@@ -1,12 +1,12 @@
 -- C.04.3 C.10: lonely players, where all but an end of S2R is chosen. Each player of S1R who still waits meets one of the pool. If he
 -- suits nobody there, his pair misses a preference, since the two may meet. Likewise whoever of the pool suits nobody who waits, but
 -- for residents who go down: so many of the pool meet nobody.
-use Rattle.std.proofs.Common.{◌≡◌, ℕ, zero, suc, ◌+◌, ◌-◌, ◌≤◌, Bool, true, false, not, ◌&&◌, ◌||◌, ◌==◌, cond, List, [], ◌∷◌, ◌++◌, length, max, inl, inr, refl, sym, ap, ◌∙◌, subst, sum_by, map, arith, append-nil, length-append}
+use Rattle.std.proofs.Common.{◌≡◌, ℕ, zero, suc, ◌+◌, ◌-◌, ◌≤◌, Bool, true, false, not, ◌&&◌, ◌||◌, ◌==◌, cond, List, [], ◌∷◌, ◌++◌, length, max, inl, inr, refl, sym, ap, ◌∙◌, subst, sum_by, map, arith, length-append}
 use Rattle.std.specs.Prelude.{filter}
 use Rattle.std.specs.List.{AllByRecursion, list_any}
 use Rattle.std.proofs.lemmas.Bool.{and_parts}
 use Rattle.std.proofs.lemmas.List.{length-map}
-use Rattle.std.proofs.lemmas.List.Sums.{sum_by-cons}
+use Rattle.std.proofs.lemmas.List.Sums.{sum_by-append, sum_by-cons}
 use Rattle.dutch_order.specs.declared.bracket.Shape.{Shape}
 use Rattle.dutch_order.specs.Choices.{all_meet, is_member, without, tuples}
 use Rattle.dutch_order.specs.Keys.{IsIn}
@@ -16,14 +16,14 @@ use Rattle.dutch_order.proofs.Orders.{all_members, IsIn-flat_map, IsIn-map, Rise
 use Rattle.dutch_player.specs.Facts.{Facts}
 use Rattle.dutch_pair.specs.declared.colours_missed.Miss.TheVariants.{Preference}
 use Rattle.dutch_pair.specs.Seated.{seat_of, score_at, pairs_of, all_pairs}
-use Rattle.dutch_pair.specs.Reached.{Stand, frame_of, numbers_meet}
+use Rattle.dutch_pair.specs.Reached.{Reached, frame_of, numbers_meet}
 use Rattle.dutch_pair.specs.Round.{candidates_of, quality_of}
 use Rattle.dutch_pair.specs.Quality.{one_if, misses, count_in, count_in_pairs}
 use Rattle.dutch_pair.specs.Beginnings.{LacksEndOfS2r}
 use Rattle.dutch_pair.specs.ColourFloors.{beyond, suits, lonely, lonely_first, lonely_second, residents_down, more_missed}
 use Rattle.dutch_pair.proofs.ArrangementParts.{left_none, numbers_rise, lists_of, parts_of, left_cons, tuple_members, tuple_whole}
 use Rattle.dutch_pair.proofs.C10Preferences.{beginning_misses}
-use Rattle.dutch_pair.proofs.FixedPairs.{Beside, has_pairs, pairs_on, sum_beside}
+use Rattle.dutch_pair.proofs.FixedPairs.{has_pairs, pairs_on}
 use Rattle.dutch_pair.proofs.FreePlayers.{total_few}
 use Rattle.dutch_pair.proofs.GrantedColours.{at_most_one}
 use Rattle.dutch_pair.proofs.LegalPairs.{legal_of}
@@ -83,13 +83,13 @@ meet_beyond meets (x ∷ firsts) (y ∷ front) rest meet = meet_beyond meets fir
 
 -- ---- pairs
 
-module _ (facts : Facts) (stand : Stand) where
+module _ (facts : Facts) (reached : Reached) where
   -- how many of a pair miss a preference
   abbrev missed_in : ℕ × ℕ → ℕ
   missed_in = count_in facts (misses Preference)
 
   abbrev missed_by : ℕ → ℕ → ℕ
-  missed_by x y = missed_in (seat_of stand.seats x, seat_of stand.seats y)
+  missed_by x y = missed_in (seat_of reached.seats x, seat_of reached.seats y)
 
   -- two who may meet and do not suit each other miss a preference
   unsuited_at : (meet : Bool) (n : ℕ) → meet ≡ true → one_if (not (meet && (n == 0))) ≤ n
@@ -97,43 +97,43 @@ module _ (facts : Facts) (stand : Stand) where
   unsuited_at true (suc n) e = omega (arith, at_most_one (not (suc n == 0)))
   unsuited_at false n e = absurd (cc)
 
-  unsuited : (x y : ℕ) → numbers_meet facts stand x y ≡ true → one_if (not (suits facts stand x y)) ≤ missed_by x y
-  unsuited x y meet = unsuited_at (numbers_meet facts stand x y) (missed_by x y) meet
+  unsuited : (x y : ℕ) → numbers_meet facts reached x y ≡ true → one_if (not (suits facts reached x y)) ≤ missed_by x y
+  unsuited x y meet = unsuited_at (numbers_meet facts reached x y) (missed_by x y) meet
 
   -- 1 for a player who suits nobody of a list, as the first of a pair or as the second
   abbrev lonely_among : List ℕ → ℕ → ℕ
-  lonely_among ys x = one_if (not (list_any (suits facts stand x) ys))
+  lonely_among ys x = one_if (not (list_any (suits facts reached x) ys))
 
   abbrev lonely_to : List ℕ → ℕ → ℕ
-  lonely_to xs y = one_if (not (list_any (λ x. suits facts stand x y) xs))
+  lonely_to xs y = one_if (not (list_any (λ x. suits facts reached x y) xs))
 
-  firsts_miss : (all xs ys : List ℕ) → all_meet (numbers_meet facts stand) xs ys ≡ true → length xs ≤ length ys → AllByRecursion (λ y. IsIn y all) ys
-      → total (lonely_among all) xs ≤ sum_by missed_in (pairs_of stand.seats xs ys)
+  firsts_miss : (all xs ys : List ℕ) → all_meet (numbers_meet facts reached) xs ys ≡ true → length xs ≤ length ys → AllByRecursion (λ y. IsIn y all) ys
+      → total (lonely_among all) xs ≤ sum_by missed_in (pairs_of reached.seats xs ys)
   firsts_miss all [] ys meet few inside = omega arith
   firsts_miss all (x ∷ xs) [] meet few inside = absurd (omega arith)
   firsts_miss all (x ∷ xs) (y ∷ ys) meet few inside =
-      let both = and_parts (numbers_meet facts stand x y) (all_meet (numbers_meet facts stand) xs ys) meet in
+      let both = and_parts (numbers_meet facts reached x y) (all_meet (numbers_meet facts reached) xs ys) meet in
       omega (
         arith,
-        none_in (suits facts stand x) y all inside.0,
+        none_in (suits facts reached x) y all inside.0,
         unsuited x y both.0,
         firsts_miss all xs ys both.1 (omega arith) inside.1,
-        sum_by-cons missed_in (seat_of stand.seats x, seat_of stand.seats y) (pairs_of stand.seats xs ys),
+        sum_by-cons missed_in (seat_of reached.seats x, seat_of reached.seats y) (pairs_of reached.seats xs ys),
       )
 
-  seconds_miss : (all xs ys : List ℕ) → all_meet (numbers_meet facts stand) xs ys ≡ true → length ys ≤ length xs → AllByRecursion (λ x. IsIn x all) xs
-      → total (lonely_to all) ys ≤ sum_by missed_in (pairs_of stand.seats xs ys)
+  seconds_miss : (all xs ys : List ℕ) → all_meet (numbers_meet facts reached) xs ys ≡ true → length ys ≤ length xs → AllByRecursion (λ x. IsIn x all) xs
+      → total (lonely_to all) ys ≤ sum_by missed_in (pairs_of reached.seats xs ys)
   seconds_miss all [] [] meet few inside = omega arith
   seconds_miss all [] (y ∷ ys) meet few inside = absurd (omega arith)
   seconds_miss all (x ∷ xs) [] meet few inside = omega arith
   seconds_miss all (x ∷ xs) (y ∷ ys) meet few inside =
-      let both = and_parts (numbers_meet facts stand x y) (all_meet (numbers_meet facts stand) xs ys) meet in
+      let both = and_parts (numbers_meet facts reached x y) (all_meet (numbers_meet facts reached) xs ys) meet in
       omega (
         arith,
-        none_in (λ z. suits facts stand z y) x all inside.0,
+        none_in (λ z. suits facts reached z y) x all inside.0,
         unsuited x y both.0,
         seconds_miss all xs ys both.1 (omega arith) inside.1,
-        sum_by-cons missed_in (seat_of stand.seats x, seat_of stand.seats y) (pairs_of stand.seats xs ys),
+        sum_by-cons missed_in (seat_of reached.seats x, seat_of reached.seats y) (pairs_of reached.seats xs ys),
       )
 
 -- ---- a beginning that lacks the end of S2R
@@ -142,73 +142,82 @@ module _ (facts : Facts) (stand : Stand) where
 abbrev with_end : Arrangement → List ℕ → Arrangement
 with_end a front = record { s1 = a.s1; s2 = a.s2; s1r = a.s1r; s2r = front }
 
-module _ (facts : Facts) (stand : Stand) (shape : Shape) (a : Arrangement) (within : stand.mdps ≤ length stand.seats) (m : IsIn a (candidates_of facts stand shape)) (front rest : List ℕ) (is : a.s2r ≡ front ++ rest) where
+module _ (facts : Facts) (reached : Reached) (shape : Shape) (a : Arrangement) (within : reached.mdps ≤ length reached.seats) (m : IsIn a (candidates_of facts reached shape)) (front rest : List ℕ) (is : a.s2r ≡ front ++ rest) where
   abbrev waits : List ℕ
   waits = beyond front a.s1r
 
   abbrev open_pool : List ℕ
-  open_pool = left_of (left_of (residents_of (frame_of facts stand)) a.s2) a.s1r
+  open_pool = left_of (left_of (residents_of (frame_of facts reached)) a.s2) a.s1r
 
-  abbrev others : Beside stand.seats (with_end a front) a
-  others = record {
-    moved_down = [];
-    residents = pairs_of stand.seats waits rest;
-    first = sym (append-nil (pairs_of stand.seats a.s1 a.s2));
-    second = ap (pairs_of stand.seats a.s1r) is ∙ pairs_on stand.seats a.s1r front rest;
-  }
+  -- the pairs of S1R behind the front are all others
+  with_others : sum_by (missed_in facts reached) (all_pairs reached.seats a)
+      ≡ sum_by (missed_in facts reached) (all_pairs reached.seats (with_end a front)) + sum_by (missed_in facts reached) (pairs_of reached.seats waits rest)
+  with_others =
+      let f : ℕ × ℕ → ℕ = missed_in facts reached in
+      let first : List (ℕ × ℕ) = pairs_of reached.seats a.s1 a.s2 in
+      let known : List (ℕ × ℕ) = pairs_of reached.seats a.s1r front in
+      let more : List (ℕ × ℕ) = pairs_of reached.seats waits rest in
+      let second : pairs_of reached.seats a.s1r a.s2r ≡ known ++ more = ap (pairs_of reached.seats a.s1r) is ∙ pairs_on reached.seats a.s1r front rest in
+      omega (
+        arith,
+        sum_by-append f first (pairs_of reached.seats a.s1r a.s2r),
+        ap (sum_by f) second,
+        sum_by-append f known more,
+        sum_by-append f first known,
+      )
 
-  waits_meet : all_meet (numbers_meet facts stand) waits rest ≡ true
+  waits_meet : all_meet (numbers_meet facts reached) waits rest ≡ true
   waits_meet =
-      meet_beyond (numbers_meet facts stand) a.s1r front rest
-      (subst (λ xs. all_meet (numbers_meet facts stand) a.s1r xs ≡ true) is (legal_of facts stand shape a m).residents)
+      meet_beyond (numbers_meet facts reached) a.s1r front rest
+      (subst (λ xs. all_meet (numbers_meet facts reached) a.s1r xs ≡ true) is (legal_of facts reached shape a m).residents)
 
-  inside : stand.mdps ≤ length (frame_of facts stand).scores
-  inside = omega (arith, within, length-map stand.seats (score_at facts))
+  inside : reached.mdps ≤ length (frame_of facts reached).scores
+  inside = omega (arith, within, length-map reached.seats (score_at facts))
 
   as_many : length waits ≡ length rest
   as_many =
-      let parts = parts_of (frame_of facts stand) shape a inside (legal_of facts stand shape a m).arranged in
+      let parts = parts_of (frame_of facts reached) shape a inside (legal_of facts reached shape a m).arranged in
       beyond_length front a.s1r (length rest) (omega (arith, parts.s1r_count, parts.s2r_count, ap length is, length-append front rest))
 
   rest_chosen : (k : ℕ) × IsIn rest (tuples (left_of open_pool front) k)
   rest_chosen =
-      let lists = lists_of (frame_of facts stand) shape a inside (legal_of facts stand shape a m).arranged in
+      let lists = lists_of (frame_of facts reached) shape a inside (legal_of facts reached shape a m).arranged in
       tuple_end open_pool (remainder_pairs shape) front rest (subst (λ t. IsIn t (tuples open_pool (remainder_pairs shape))) is lists.s2r)
 
-  first_lonely : lonely_first facts stand (with_end a front) ≤ sum_by (missed_in facts stand) (pairs_of stand.seats waits rest)
+  first_lonely : lonely_first facts reached (with_end a front) ≤ sum_by (missed_in facts reached) (pairs_of reached.seats waits rest)
   first_lonely =
       let all : List ℕ = left_of open_pool front in
       omega (
         arith,
-        counted (λ x. not (list_any (suits facts stand x) all)) waits,
-        firsts_miss facts stand all waits rest waits_meet (omega (arith, as_many))
+        counted (λ x. not (list_any (suits facts reached x) all)) waits,
+        firsts_miss facts reached all waits rest waits_meet (omega (arith, as_many))
             (tuple_members (λ y. IsIn y all) all rest_chosen.0 rest (all_members (λ y. IsIn y all) all (λ y h. h)) rest_chosen.1),
       )
 
-  second_lonely : lonely_second facts stand (with_end a front) ≤ sum_by (missed_in facts stand) (pairs_of stand.seats waits rest) + residents_down stand shape
+  second_lonely : lonely_second facts reached (with_end a front) ≤ sum_by (missed_in facts reached) (pairs_of reached.seats waits rest) + residents_down reached shape
   second_lonely =
       let all : List ℕ = left_of open_pool front in
-      let residents : List ℕ = residents_of (frame_of facts stand) in
-      let w : ℕ → ℕ = lonely_to facts stand waits in
+      let residents : List ℕ = residents_of (frame_of facts reached) in
+      let w : ℕ → ℕ = lonely_to facts reached waits in
       let rises : Rises all =
       Rises-filter (λ x. not (is_member x front)) open_pool
       (Rises-filter (λ x. not (is_member x a.s1r)) (left_of residents a.s2)
-      (Rises-filter (λ x. not (is_member x a.s2)) residents (numbers_rise (stand.mdps + 1) (length (frame_of facts stand).scores - stand.mdps)))) in
-      let parts = parts_of (frame_of facts stand) shape a inside (legal_of facts stand shape a m).arranged in
+      (Rises-filter (λ x. not (is_member x a.s2)) residents (numbers_rise (reached.mdps + 1) (length (frame_of facts reached).scores - reached.mdps)))) in
+      let parts = parts_of (frame_of facts reached) shape a inside (legal_of facts reached shape a m).arranged in
       omega (
         arith,
-        counted (λ y. not (list_any (λ x. suits facts stand x y) waits)) all,
+        counted (λ y. not (list_any (λ x. suits facts reached x y) waits)) all,
         tuple_whole w all rest_chosen.0 rest rises rest_chosen.1,
-        total_few w (λ y. at_most_one (not (list_any (λ x. suits facts stand x y) waits))) (left_of all rest),
+        total_few w (λ y. at_most_one (not (list_any (λ x. suits facts reached x y) waits))) (left_of all rest),
         ap length (left-append open_pool front rest ∙ ap (left_of open_pool) (sym is)),
         parts.left,
-        length-map stand.seats (score_at facts),
-        seconds_miss facts stand waits waits rest waits_meet (omega (arith, as_many)) (all_members (λ x. IsIn x waits) waits (λ x h. h)),
+        length-map reached.seats (score_at facts),
+        seconds_miss facts reached waits waits rest waits_meet (omega (arith, as_many)) (all_members (λ x. IsIn x waits) waits (λ x h. h)),
       )
 
-  lonely_miss_at : count_in_pairs facts (misses Preference) (all_pairs stand.seats (with_end a front)) + lonely facts stand shape (with_end a front)
-      ≤ count_in_pairs facts (misses Preference) (all_pairs stand.seats a)
-  lonely_miss_at = omega (arith, first_lonely, second_lonely, sum_beside (missed_in facts stand) stand.seats (with_end a front) a others)
+  lonely_miss_at : count_in_pairs facts (misses Preference) (all_pairs reached.seats (with_end a front)) + lonely facts reached shape (with_end a front)
+      ≤ count_in_pairs facts (misses Preference) (all_pairs reached.seats a)
+  lonely_miss_at = omega (arith, first_lonely, second_lonely, with_others)
 
 -- the beginning is the arrangement but for its S2R
 same_but_end : (b a : Arrangement) → LacksEndOfS2r b a → with_end a b.s2r ≡ b
@@ -217,22 +226,22 @@ same_but_end b a lacks =
     ∙ ap (λ (xs : List ℕ). let made : Arrangement = record { s1 = a.s1; s2 = xs; s1r = b.s1r; s2r = b.s2r } in made) lacks.s2
     ∙ ap (λ (xs : List ℕ). let made : Arrangement = record { s1 = a.s1; s2 = a.s2; s1r = xs; s2r = b.s2r } in made) lacks.s1r)
 
-pub lonely_miss : (facts : Facts) (stand : Stand) (lower : List ℕ) (shape : Shape) (b a : Arrangement) → stand.mdps ≤ length stand.seats
-    → IsIn a (candidates_of facts stand shape) → LacksEndOfS2r b a
-    → count_in_pairs facts (misses Preference) (all_pairs stand.seats b) + lonely facts stand shape b ≤ (quality_of facts stand lower a).missed_preferences
-lonely_miss facts stand lower shape b a within m lacks =
-    let P : Arrangement → Type 0 = λ c. count_in_pairs facts (misses Preference) (all_pairs stand.seats c) + lonely facts stand shape c
-    ≤ count_in_pairs facts (misses Preference) (all_pairs stand.seats a) in
-    subst P (same_but_end b a lacks) (lonely_miss_at facts stand shape a within m b.s2r lacks.s2r.rest lacks.s2r.is)
+pub lonely_miss : (facts : Facts) (reached : Reached) (lower : List ℕ) (shape : Shape) (b a : Arrangement) → reached.mdps ≤ length reached.seats
+    → IsIn a (candidates_of facts reached shape) → LacksEndOfS2r b a
+    → count_in_pairs facts (misses Preference) (all_pairs reached.seats b) + lonely facts reached shape b ≤ (quality_of facts reached lower a).missed_preferences
+lonely_miss facts reached lower shape b a within m lacks =
+    let P : Arrangement → Type 0 = λ c. count_in_pairs facts (misses Preference) (all_pairs reached.seats c) + lonely facts reached shape c
+    ≤ count_in_pairs facts (misses Preference) (all_pairs reached.seats a) in
+    subst P (same_but_end b a lacks) (lonely_miss_at facts reached shape a within m b.s2r lacks.s2r.rest lacks.s2r.is)
 
 -- with both bounds
-pub most_miss : (facts : Facts) (stand : Stand) (lower : List ℕ) (shape : Shape) (b a : Arrangement) → stand.mdps ≤ length stand.seats
-    → IsIn a (candidates_of facts stand shape) → LacksEndOfS2r b a
-    → count_in_pairs facts (misses Preference) (all_pairs stand.seats b) + max (more_missed facts stand shape b) (lonely facts stand shape b)
-    ≤ (quality_of facts stand lower a).missed_preferences
-most_miss facts stand lower shape b a within m lacks =
+pub most_miss : (facts : Facts) (reached : Reached) (lower : List ℕ) (shape : Shape) (b a : Arrangement) → reached.mdps ≤ length reached.seats
+    → IsIn a (candidates_of facts reached shape) → LacksEndOfS2r b a
+    → count_in_pairs facts (misses Preference) (all_pairs reached.seats b) + max (more_missed facts reached shape b) (lonely facts reached shape b)
+    ≤ (quality_of facts reached lower a).missed_preferences
+most_miss facts reached lower shape b a within m lacks =
     omega (
       arith,
-      lonely_miss facts stand lower shape b a within m lacks,
-      beginning_misses facts stand lower shape b a within (legal_of facts stand shape a m).arranged (has_pairs b a lacks),
+      lonely_miss facts reached lower shape b a within m lacks,
+      beginning_misses facts reached lower shape b a within (legal_of facts reached shape a m).arranged (has_pairs b a lacks),
     )

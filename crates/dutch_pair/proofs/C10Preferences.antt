@@ -15,12 +15,13 @@ use Rattle.dutch_player.specs.Colours.{with_colour, colour_of_higher}
 use Rattle.dutch_player.specs.Facts.{Facts, seat_at}
 use Rattle.dutch_pair.specs.declared.colours_missed.Miss.TheVariants.{Preference}
 use Rattle.dutch_pair.specs.Seated.{all_pairs}
-use Rattle.dutch_pair.specs.Reached.{Stand, frame_of}
-use Rattle.dutch_pair.specs.Round.{quality_of}
+use Rattle.dutch_pair.specs.Reached.{Reached, frame_of}
+use Rattle.dutch_pair.specs.Round.{downfloaters, quality_of}
 use Rattle.dutch_pair.specs.Quality.{one_if, misses, count_of_both, count_in, count_in_pairs}
-use Rattle.dutch_pair.specs.Beginnings.{HasPairsOf, in_both, free, room}
+use Rattle.dutch_pair.specs.Beginnings.{HasPairsOf, in_both, seated_so}
+use Rattle.dutch_pair.specs.FloorOf.{more_in, surplus_in}
 use Rattle.dutch_pair.specs.ColourFloors.{wants, more_missed}
-use Rattle.dutch_pair.proofs.FixedPairs.{Beside, beside, others_of, sum_beside}
+use Rattle.dutch_pair.proofs.FixedPairs.{Beside, beside, none_known, sum_beside}
 use Rattle.dutch_pair.proofs.FreePlayers.{free_served}
 use Rattle.dutch_pair.proofs.GrantedColours.{at_most_one}
 
@@ -70,21 +71,23 @@ each_misses : (facts : Facts) (c : Colour) (pairs : List (ℕ × ℕ)) → AllBy
 each_misses facts c [] = tt
 each_misses facts c (pair ∷ pairs) = (pair_misses facts c pair, each_misses facts c pairs)
 
-module _ (facts : Facts) (stand : Stand) (shape : Shape) (b a : Arrangement) (within : stand.mdps ≤ length stand.seats) (m : IsIn a (arrangements (frame_of facts stand) shape)) where
-  served : (c : Colour) (others : Beside stand.seats b a)
-      → free (wants facts c) stand b ≤ room stand shape b + sum_by (count_in facts (misses Preference)) (others_of stand.seats b a others)
-  served c others =
-      free_served facts stand shape b a within m (wants facts c) (count_in facts (misses Preference))
-      (λ seat. at_most_one (option_map_or (λ wish. is_same wish.colour c) (preference (seat_at facts seat).played) false)) others
-      (each_misses facts c (others_of stand.seats b a others))
+module _ (facts : Facts) (reached : Reached) (shape : Shape) (known : List (ℕ × ℕ)) (gone : List ℕ) (a : Arrangement) (within : reached.mdps ≤ length reached.seats) (m : IsIn a (arrangements (frame_of facts reached) shape))
+    (others : Beside known (all_pairs reached.seats a)) (left : Beside gone (downfloaters facts reached a)) where
+  served : (c : Colour) → surplus_in (wants facts c) reached shape (seated_so facts reached known gone) ≤ sum_by (count_in facts (misses Preference)) others.others
+  served c =
+      let least = free_served facts reached shape known a within m (wants facts c) (count_in facts (misses Preference))
+      (λ seat. at_most_one (option_map_or (λ wish. is_same wish.colour c) (preference (seat_at facts seat).played) false)) gone others left
+      (each_misses facts c others.others) in
+      omega (arith, least)
 
   -- the pairs to come miss at least as many as there are free players too many
-  pub more_miss : HasPairsOf b a → count_in_pairs facts (misses Preference) (all_pairs stand.seats b) + more_missed facts stand shape b ≤ count_in_pairs facts (misses Preference) (all_pairs stand.seats a)
-  more_miss begins =
-      let others = beside stand.seats b a begins in
-      omega (arith, served White others, served Black others, sum_beside (count_in facts (misses Preference)) stand.seats b a others)
+  pub more_miss : count_in_pairs facts (misses Preference) known + more_in false facts reached shape (seated_so facts reached known gone) ≤ count_in_pairs facts (misses Preference) (all_pairs reached.seats a)
+  more_miss =
+      omega (arith, served White, served Black, sum_beside (count_in facts (misses Preference)) known (all_pairs reached.seats a) others)
 
-pub beginning_misses : (facts : Facts) (stand : Stand) (lower : List ℕ) (shape : Shape) (b a : Arrangement) → stand.mdps ≤ length stand.seats
-    → IsIn a (arrangements (frame_of facts stand) shape) → HasPairsOf b a
-    → count_in_pairs facts (misses Preference) (all_pairs stand.seats b) + more_missed facts stand shape b ≤ (quality_of facts stand lower a).missed_preferences
-beginning_misses facts stand lower shape b a within m begins = more_miss facts stand shape b a within m begins
+pub beginning_misses : (facts : Facts) (reached : Reached) (lower : List ℕ) (shape : Shape) (b a : Arrangement) → reached.mdps ≤ length reached.seats
+    → IsIn a (arrangements (frame_of facts reached) shape) → HasPairsOf b a
+    → count_in_pairs facts (misses Preference) (all_pairs reached.seats b) + more_missed facts reached shape b ≤ (quality_of facts reached lower a).missed_preferences
+beginning_misses facts reached lower shape b a within m begins =
+    let least = more_miss facts reached shape (all_pairs reached.seats b) [] a within m (beside reached.seats b a begins) (none_known (downfloaters facts reached a)) in
+    omega (arith, least)

@@ -18,12 +18,13 @@ use Rattle.dutch_player.specs.Colours.{with_colour, colour_of_higher}
 use Rattle.dutch_player.specs.Facts.{SeatFacts, Facts, seat_at}
 use Rattle.dutch_pair.specs.declared.colours_missed.Miss.TheVariants.{Wide, Third, StrongPreference}
 use Rattle.dutch_pair.specs.Seated.{all_pairs}
-use Rattle.dutch_pair.specs.Reached.{Stand}
-use Rattle.dutch_pair.specs.Round.{candidates_of, quality_of}
+use Rattle.dutch_pair.specs.Reached.{Reached}
+use Rattle.dutch_pair.specs.Round.{candidates_of, downfloaters, quality_of}
 use Rattle.dutch_pair.specs.Quality.{misses, count_of_both, count_in, has_topscorer, count_in_pairs, count_with_topscorers}
-use Rattle.dutch_pair.specs.Beginnings.{HasPairsOf, in_both, free, room}
+use Rattle.dutch_pair.specs.Beginnings.{HasPairsOf, in_both, seated_so}
+use Rattle.dutch_pair.specs.FloorOf.{more_in, surplus_in}
 use Rattle.dutch_pair.specs.ColourFloors.{is_firm, wants_firmly, adds_top, more_missed_strong}
-use Rattle.dutch_pair.proofs.FixedPairs.{Beside, beside, others_of, sum_beside}
+use Rattle.dutch_pair.proofs.FixedPairs.{Beside, beside, none_known, sum_beside}
 use Rattle.dutch_pair.proofs.FreePlayers.{free_served}
 use Rattle.dutch_pair.proofs.GrantedColours.{at_most_one, adds, firm_served}
 use Rattle.dutch_pair.proofs.LegalPairs.{legal_of, others_meet}
@@ -135,43 +136,43 @@ prices facts (pair ∷ pairs) =
       prices facts pairs,
     )
 
-module _ (facts : Facts) (stand : Stand) (shape : Shape) (b a : Arrangement) (within : stand.mdps ≤ length stand.seats) (m : IsIn a (candidates_of facts stand shape)) where
-  served : (c : Colour) (others : Beside stand.seats b a)
-      → free (wants_firmly facts c) stand b ≤ room stand shape b + sum_by (price facts) (others_of stand.seats b a others)
-  served c others =
-      let legal = legal_of facts stand shape a m in
-      free_served facts stand shape b a within legal.arranged (wants_firmly facts c) (price facts)
-      (λ seat. at_most_one (option_map_or (λ wish. is_firm wish.kind && is_same wish.colour c) (preference (seat_at facts seat).played) false)) others
-      (each_misses facts c (others_of stand.seats b a others) (others_meet facts stand shape b a legal others))
+module _ (facts : Facts) (reached : Reached) (shape : Shape) (known : List (ℕ × ℕ)) (gone : List ℕ) (a : Arrangement) (within : reached.mdps ≤ length reached.seats) (m : IsIn a (candidates_of facts reached shape))
+    (others : Beside known (all_pairs reached.seats a)) (left : Beside gone (downfloaters facts reached a)) where
+  served : (c : Colour) → surplus_in (wants_firmly facts c) reached shape (seated_so facts reached known gone) ≤ sum_by (price facts) others.others
+  served c =
+      let legal = legal_of facts reached shape a m in
+      let least = free_served facts reached shape known a within legal.arranged (wants_firmly facts c) (price facts)
+      (λ seat. at_most_one (option_map_or (λ wish. is_firm wish.strength && is_same wish.colour c) (preference (seat_at facts seat).played) false)) gone others left
+      (each_misses facts c others.others (others_meet facts reached shape known a legal others)) in
+      omega (arith, least)
 
   -- where the pairs to come add nothing to C.8 and C.9, they miss at least as many as there are free players too many
-  pub more_miss_strongly : HasPairsOf b a
-      → count_with_topscorers facts (misses Wide) (all_pairs stand.seats a) ≡ count_with_topscorers facts (misses Wide) (all_pairs stand.seats b)
-      → count_with_topscorers facts (misses Third) (all_pairs stand.seats a) ≡ count_with_topscorers facts (misses Third) (all_pairs stand.seats b)
-      → count_in_pairs facts (misses StrongPreference) (all_pairs stand.seats b) + more_missed_strong facts stand shape b
-      ≤ count_in_pairs facts (misses StrongPreference) (all_pairs stand.seats a)
-  more_miss_strongly begins no_wider no_third =
-      let others = beside stand.seats b a begins in
+  pub more_miss_strongly : count_with_topscorers facts (misses Wide) (all_pairs reached.seats a) ≡ count_with_topscorers facts (misses Wide) known
+      → count_with_topscorers facts (misses Third) (all_pairs reached.seats a) ≡ count_with_topscorers facts (misses Third) known
+      → count_in_pairs facts (misses StrongPreference) known + more_in true facts reached shape (seated_so facts reached known gone) ≤ count_in_pairs facts (misses StrongPreference) (all_pairs reached.seats a)
+  more_miss_strongly no_wider no_third =
+      let all : List (ℕ × ℕ) = all_pairs reached.seats a in
       omega (
         arith,
-        served White others,
-        served Black others,
+        served White,
+        served Black,
         no_wider,
         no_third,
-        prices facts (others_of stand.seats b a others),
-        one_by_one facts (misses Wide) (all_pairs stand.seats a),
-        one_by_one facts (misses Wide) (all_pairs stand.seats b),
-        one_by_one facts (misses Third) (all_pairs stand.seats a),
-        one_by_one facts (misses Third) (all_pairs stand.seats b),
-        sum_beside (alone facts (misses Wide)) stand.seats b a others,
-        sum_beside (alone facts (misses Third)) stand.seats b a others,
-        sum_beside (count_in facts (misses StrongPreference)) stand.seats b a others,
+        prices facts others.others,
+        one_by_one facts (misses Wide) all,
+        one_by_one facts (misses Wide) known,
+        one_by_one facts (misses Third) all,
+        one_by_one facts (misses Third) known,
+        sum_beside (alone facts (misses Wide)) known all others,
+        sum_beside (alone facts (misses Third)) known all others,
+        sum_beside (count_in facts (misses StrongPreference)) known all others,
       )
 
-pub beginning_misses_strongly : (facts : Facts) (stand : Stand) (lower : List ℕ) (shape : Shape) (b a : Arrangement) → stand.mdps ≤ length stand.seats
-    → IsIn a (candidates_of facts stand shape) → HasPairsOf b a
-    → (quality_of facts stand lower a).wide_differences ≡ count_with_topscorers facts (misses Wide) (all_pairs stand.seats b)
-    → (quality_of facts stand lower a).third_colours ≡ count_with_topscorers facts (misses Third) (all_pairs stand.seats b)
-    → count_in_pairs facts (misses StrongPreference) (all_pairs stand.seats b) + more_missed_strong facts stand shape b ≤ (quality_of facts stand lower a).missed_strong
-beginning_misses_strongly facts stand lower shape b a within m begins no_wider no_third =
-    more_miss_strongly facts stand shape b a within m begins no_wider no_third
+pub beginning_misses_strongly : (facts : Facts) (reached : Reached) (lower : List ℕ) (shape : Shape) (b a : Arrangement) → reached.mdps ≤ length reached.seats
+    → IsIn a (candidates_of facts reached shape) → HasPairsOf b a
+    → (quality_of facts reached lower a).wide_differences ≡ count_with_topscorers facts (misses Wide) (all_pairs reached.seats b)
+    → (quality_of facts reached lower a).third_colours ≡ count_with_topscorers facts (misses Third) (all_pairs reached.seats b)
+    → count_in_pairs facts (misses StrongPreference) (all_pairs reached.seats b) + more_missed_strong facts reached shape b ≤ (quality_of facts reached lower a).missed_strong
+beginning_misses_strongly facts reached lower shape b a within m begins no_wider no_third =
+    let least = more_miss_strongly facts reached shape (all_pairs reached.seats b) [] a within m (beside reached.seats b a begins) (none_known (downfloaters facts reached a)) no_wider no_third in
+    omega (arith, least)

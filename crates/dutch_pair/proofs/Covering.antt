@@ -1,27 +1,10 @@
 -- The test of completable players tells of a list of pairs that leaves out at most one.
 use Rattle.std.proofs.Common.{◌≡◌, ℕ, zero, suc, Bool, true, false, ◌&&◌, ◌||◌, ◌⊎◌, ◌↔◌, inl, inr, List, [], ◌∷◌, ◌++◌, length, refl, sym, ◌∙◌, ap, subst, arith, append_assoc}
+use Rattle.std.proofs.lemmas.Bool.{or_cases, and_parts, and_from, or_left, or_right}
 use Rattle.std.proofs.lemmas.List.{length-append}
 use Rattle.dutch_pair.specs.declared.completion.Answer.{Answer}
 use Rattle.dutch_pair.specs.declared.completion.Answer.TheVariants.{Yes, No, Undecided}
 use Rattle.dutch_pair.specs.Completion.{Covers, MayBeLeftOut, Completable, some_partner, nobody, can_cover, can_complete, MatchAnswer, Tells}
-
-pub or_either : (s t : Bool) → (s || t) ≡ true → (s ≡ true) ⊎ (t ≡ true)
-or_either true t e = inl refl
-or_either false t e = inr e
-
-pub and_both : (s t : Bool) → (s && t) ≡ true → (s ≡ true) × (t ≡ true)
-and_both true t e = (refl, e)
-and_both false t e = absurd (cc)
-
-pub both_and : (s t : Bool) → s ≡ true → t ≡ true → (s && t) ≡ true
-both_and s t e f = ap (λ b. b && t) e ∙ f
-
-pub or_first : (s t : Bool) → s ≡ true → (s || t) ≡ true
-or_first s t e = ap (λ b. b || t) e
-
-pub or_second : (s t : Bool) → t ≡ true → (s || t) ≡ true
-or_second true t e = refl
-or_second false t e = e
 
 -- what a partner that serves is found by
 pub record IsPartner (meets : ℕ → Bool) (holds : List ℕ → Bool) (players : List ℕ) : Type 0 where
@@ -35,9 +18,9 @@ pub record IsPartner (meets : ℕ → Bool) (holds : List ℕ → Bool) (players
 pub partner_of : (meets : ℕ → Bool) (holds : List ℕ → Bool) (between later : List ℕ) → some_partner meets holds between later ≡ true → IsPartner meets holds (between ++ later)
 partner_of meets holds between [] e = absurd (cc)
 partner_of meets holds between (b ∷ behind) e =
-    elim (or_either (meets b && holds (between ++ behind)) (some_partner meets holds (between ++ b ∷ []) behind) e) [
+    elim (or_cases (meets b && holds (between ++ behind)) (some_partner meets holds (between ++ b ∷ []) behind) e) [
       | inl here ↦
-          (let both = and_both (meets b) (holds (between ++ behind)) here in
+          (let both = and_parts (meets b) (holds (between ++ behind)) here in
           record { partner = b; front = between; behind = behind; players_are = refl; may_meet = both.0; others_hold = both.1 })
       | inr further ↦
           subst (IsPartner meets holds) (append_assoc between (b ∷ []) behind) (partner_of meets holds (between ++ b ∷ []) behind further)
@@ -46,9 +29,9 @@ partner_of meets holds between (b ∷ behind) e =
 pub partner_serves : (meets : ℕ → Bool) (holds : List ℕ → Bool) (between front : List ℕ) (b : ℕ) (behind : List ℕ) → meets b ≡ true → holds (between ++ (front ++ behind)) ≡ true
     → some_partner meets holds between (front ++ b ∷ behind) ≡ true
 partner_serves meets holds between [] b behind may hold =
-    or_first (meets b && holds (between ++ behind)) (some_partner meets holds (between ++ b ∷ []) behind) (both_and (meets b) (holds (between ++ behind)) may hold)
+    or_left (meets b && holds (between ++ behind)) (some_partner meets holds (between ++ b ∷ []) behind) (and_from (meets b) (holds (between ++ behind)) may hold)
 partner_serves meets holds between (x ∷ front) b behind may hold =
-    or_second (meets x && holds (between ++ (front ++ b ∷ behind))) (some_partner meets holds (between ++ x ∷ []) (front ++ b ∷ behind))
+    or_right (meets x && holds (between ++ (front ++ b ∷ behind))) (some_partner meets holds (between ++ x ∷ []) (front ++ b ∷ behind))
     (partner_serves meets holds (between ++ x ∷ []) front b behind may (ap holds (append_assoc between (x ∷ []) (front ++ behind)) ∙ hold))
 
 none_left : (out : List ℕ) → MayBeLeftOut nobody out → out ≡ []
@@ -113,7 +96,7 @@ module _ (meets : ℕ → ℕ → Bool) where
   list_of_test (suc zero) may_be_left (a ∷ b ∷ later) e t = absurd (omega (arith, e))
   list_of_test (suc (suc n)) may_be_left [] e t = absurd (cc)
   list_of_test (suc (suc n)) may_be_left (a ∷ later) e t =
-      elim (or_either (some_partner (meets a) (can_cover meets may_be_left n) [] later) (may_be_left a && can_cover meets nobody (suc n) later) t) [
+      elim (or_cases (some_partner (meets a) (can_cover meets may_be_left n) [] later) (may_be_left a && can_cover meets nobody (suc n) later) t) [
         | inl paired ↦
             (let found = partner_of (meets a) (can_cover meets may_be_left n) [] later paired in
             let fewer : length (found.front ++ found.behind) ≡ n =
@@ -121,7 +104,7 @@ module _ (meets : ℕ → ℕ → Bool) where
             with_pair may_be_left a later found.partner found.front found.behind found.players_are found.may_meet
             (list_of_test n may_be_left (found.front ++ found.behind) fewer found.others_hold))
         | inr left ↦
-            (let both = and_both (may_be_left a) (can_cover meets nobody (suc n) later) left in
+            (let both = and_parts (may_be_left a) (can_cover meets nobody (suc n) later) left in
             let fewer : length later ≡ suc n = omega (arith, e) in
             with_left may_be_left a later both.0 (list_of_test (suc n) nobody later fewer both.1))
       ]
@@ -143,7 +126,7 @@ module _ (meets : ℕ → ℕ → Bool) where
       omega (arith, length-append between behind, length-append between (pair.1 ∷ behind), ap length there, e) in
       let holds : can_cover meets may_be_left n (between ++ behind) ≡ true = two (between ++ behind) fewer pairs rest cover (subst (MayBeLeftOut may_be_left) outs left) in
       let met : meets a pair.1 ≡ true = ap (λ x. meets x pair.1) here ∙ may in
-      or_first (some_partner (meets a) (can_cover meets may_be_left n) [] later) (may_be_left a && can_cover meets nobody (suc n) later)
+      or_left (some_partner (meets a) (can_cover meets may_be_left n) [] later) (may_be_left a && can_cover meets nobody (suc n) later)
       (ap (λ xs. some_partner (meets a) (can_cover meets may_be_left n) [] xs) there
       ∙ partner_serves (meets a) (can_cover meets may_be_left n) [] between pair.1 behind met holds)
   passes_first n may_be_left two one a later e pair pairs out (s ∷ skipped) between behind rest are may outs cover left =
@@ -155,8 +138,8 @@ module _ (meets : ℕ → ℕ → Bool) where
       let holds : can_cover meets nobody (suc n) later ≡ true =
       one later fewer (pair ∷ pairs) (skipped ++ rest)
       (record { skipped = skipped; between = between; behind = behind; later = rest; players_are = there; may_meet = may; out_are = refl; covered = cover }) nothing in
-      or_second (some_partner (meets a) (can_cover meets may_be_left n) [] later) (may_be_left a && can_cover meets nobody (suc n) later)
-      (both_and (may_be_left a) (can_cover meets nobody (suc n) later) (ap may_be_left here ∙ lone.0) holds)
+      or_right (some_partner (meets a) (can_cover meets may_be_left n) [] later) (may_be_left a && can_cover meets nobody (suc n) later)
+      (and_from (may_be_left a) (can_cover meets nobody (suc n) later) (ap may_be_left here ∙ lone.0) holds)
 
   test_of_list : (n : ℕ) (may_be_left : ℕ → Bool) → Passes n may_be_left
   test_of_list zero may_be_left players e pairs out cover left = refl

@@ -4,7 +4,7 @@ use Rattle.std.proofs.lemmas.List.{length-map}
 use Rattle.dutch_order.specs.Choices.{numbers_from}
 use Rattle.dutch_order.specs.Arrangements.{Arrangement, down}
 use Rattle.dutch_player.specs.Facts.{Facts}
-use Rattle.dutch_pair.specs.Reached.{Stand, frame_of}
+use Rattle.dutch_pair.specs.Reached.{Reached, frame_of}
 use Rattle.dutch_pair.specs.Seated.{AllNumbers, score_at}
 
 module _ (p : ℕ → Bool) where
@@ -26,18 +26,18 @@ module _ (p : ℕ → Bool) where
   kept_few first zero = omega arith
   kept_few first (suc count) = fewer_at first (filter p (numbers_from (suc first) count)) count (p first) (kept_few (suc first) count)
 
-pub players : (facts : Facts) (stand : Stand) → length (frame_of facts stand).scores ≡ length stand.seats
-players facts stand = length-map stand.seats (score_at facts)
+pub players : (facts : Facts) (reached : Reached) → length (frame_of facts reached).scores ≡ length reached.seats
+players facts reached = length-map reached.seats (score_at facts)
 
-pub down_numbers : (facts : Facts) (stand : Stand) (lists : Arrangement) → AllNumbers stand.seats (down (frame_of facts stand) lists)
-down_numbers facts stand lists =
-    let count = length (frame_of facts stand).scores in
-    let same : count ≡ length stand.seats = players facts stand in
-    kept_numbers _ stand.seats 1 count (omega arith) (omega (arith, same))
+pub down_numbers : (facts : Facts) (reached : Reached) (lists : Arrangement) → AllNumbers reached.seats (down (frame_of facts reached) lists)
+down_numbers facts reached lists =
+    let count = length (frame_of facts reached).scores in
+    let same : count ≡ length reached.seats = players facts reached in
+    kept_numbers _ reached.seats 1 count (omega arith) (omega (arith, same))
 
-pub down_few : (facts : Facts) (stand : Stand) (lists : Arrangement) → length (down (frame_of facts stand) lists) ≤ length stand.seats
-down_few facts stand lists =
-    let count = length (frame_of facts stand).scores in
-    let same : count ≡ length stand.seats = players facts stand in
-    let few : length (down (frame_of facts stand) lists) ≤ count = kept_few _ 1 count in
+pub down_few : (facts : Facts) (reached : Reached) (lists : Arrangement) → length (down (frame_of facts reached) lists) ≤ length reached.seats
+down_few facts reached lists =
+    let count = length (frame_of facts reached).scores in
+    let same : count ≡ length reached.seats = players facts reached in
+    let few : length (down (frame_of facts reached) lists) ≤ count = kept_few _ 1 count in
     omega (arith, same, few)

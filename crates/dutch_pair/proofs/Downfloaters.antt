@@ -15,8 +15,8 @@ use Rattle.dutch_order.proofs.Orders.{IsIn-map, Rises-filter}
 use Rattle.dutch_order.proofs.Lists.{filter-all}
 use Rattle.dutch_player.specs.Facts.{Facts}
 use Rattle.dutch_player.specs.Meetings.{may_meet}
-use Rattle.dutch_pair.specs.declared.reached.Kind.{Kind}
-use Rattle.dutch_pair.specs.Reached.{Stand, ends_round, frame_of, is_number, numbers_meet, number_may_be_left}
+use Rattle.dutch_pair.specs.declared.reached.BracketKind.{BracketKind}
+use Rattle.dutch_pair.specs.Reached.{Reached, ends_round, frame_of, is_number, numbers_meet, number_may_be_left}
 use Rattle.dutch_pair.specs.Round.{Choice, bracket, candidates_of, choice, completable, downfloaters, eligible, is_penultimate}
 use Rattle.dutch_pair.specs.Seated.{seat_of, score_at}
 use Rattle.dutch_pair.specs.Seats.{is_seat, seats_meet}
@@ -50,18 +50,18 @@ of_kept p a (b ∷ all) (inr m) e =
 
 -- ---- what is chosen
 
-module _ (facts : Facts) (stand : Stand) (lower : List ℕ) where
+module _ (facts : Facts) (reached : Reached) (lower : List ℕ) where
   -- elsewhere than in the penultimate bracket all candidates can be chosen
-  pub eligible_all : (shape : Shape) → is_penultimate stand.kind ≡ false → eligible facts stand lower shape ≡ candidates_of facts stand shape
+  pub eligible_all : (shape : Shape) → is_penultimate reached.kind ≡ false → eligible facts reached lower shape ≡ candidates_of facts reached shape
   eligible_all shape e =
-      ap (λ t. filter (λ lists. not t || completable facts (downfloaters facts stand lists ++ lower)) (candidates_of facts stand shape)) e
-      ∙ filter-all (candidates_of facts stand shape)
+      ap (λ t. filter (λ lists. not t || completable facts (downfloaters facts reached lists ++ lower)) (candidates_of facts reached shape)) e
+      ∙ filter-all (candidates_of facts reached shape)
 
   -- in it those that leave players who can be paired out with the lower ones
-  pub eligible_some : (shape : Shape) → is_penultimate stand.kind ≡ true
-      → eligible facts stand lower shape ≡ filter (λ lists. completable facts (downfloaters facts stand lists ++ lower)) (candidates_of facts stand shape)
+  pub eligible_some : (shape : Shape) → is_penultimate reached.kind ≡ true
+      → eligible facts reached lower shape ≡ filter (λ lists. completable facts (downfloaters facts reached lists ++ lower)) (candidates_of facts reached shape)
   eligible_some shape e =
-      ap (λ t. filter (λ lists. not t || completable facts (downfloaters facts stand lists ++ lower)) (candidates_of facts stand shape)) e
+      ap (λ t. filter (λ lists. not t || completable facts (downfloaters facts reached lists ++ lower)) (candidates_of facts reached shape)) e
 
 -- a seat does not meet itself
 pub meets_other : (facts : Facts) (s t : ℕ) → seats_meet facts s t ≡ true → s ≡ t → ⊥
@@ -72,15 +72,15 @@ meets_other facts s t h same =
 
 -- ---- the downfloaters of a bracket
 
-module _ (facts : Facts) (number : ℕ) (kind : Kind) (md residents : List ℕ) (twice : NoneTwice (md ++ residents)) where
-  abbrev stand : Stand
-  stand = bracket number kind md residents
+module _ (facts : Facts) (number : ℕ) (kind : BracketKind) (md residents : List ℕ) (twice : NoneTwice (md ++ residents)) where
+  abbrev reached : Reached
+  reached = bracket number kind md residents
 
   abbrev seats : List ℕ
   seats = md ++ residents
 
   abbrev frame : Frame
-  frame = frame_of facts stand
+  frame = frame_of facts reached
 
   pub count : length frame.scores ≡ length seats
   count = length-map seats (score_at facts)
@@ -107,70 +107,70 @@ module _ (facts : Facts) (number : ℕ) (kind : Kind) (md residents : List ℕ) 
       let h = numbers-within 1 (length frame.scores) x (in-left x (players_of frame) (paired a) m).0 in (omega (arith, h.0), omega (arith, h.1))
 
   -- each of them once
-  pub down_twice : (a : Arrangement) → NoneTwice (downfloaters facts stand a)
+  pub down_twice : (a : Arrangement) → NoneTwice (downfloaters facts reached a)
   down_twice a =
       twice_map (seat_of seats) (down frame a) (rises-twice (down frame a) (Rises-filter (λ x. not (is_member x (paired a))) (players_of frame) (numbers_rise 1 (length frame.scores))))
       (λ x y m n e. same_number x y (down_number a x m) (down_number a y n) e)
 
   -- they are the bracket's
-  pub down_seats : (a : Arrangement) (s : ℕ) → IsIn s (downfloaters facts stand a) → IsIn s seats
+  pub down_seats : (a : Arrangement) (s : ℕ) → IsIn s (downfloaters facts reached a) → IsIn s seats
   down_seats a s m =
       let from = IsIn-map (seat_of seats) s (down frame a) m in subst (λ t. IsIn t seats) (sym from.1) (seat_in from.0 (down_number a from.0 from.2))
 
-  is_number_true : (x : ℕ) → IsNumber frame x → is_number stand x ≡ true
+  is_number_true : (x : ℕ) → IsNumber frame x → is_number reached x ≡ true
   is_number_true x h =
       and_from (nat_le 1 x) (nat_le x (length seats)) (le-leb 1 x (omega (arith, h.0))) (le-leb x (length seats) (omega (arith, h.1, count)))
 
-  meet_numbers : (x y : ℕ) → IsNumber frame x → IsNumber frame y → seats_meet facts (seat_of seats x) (seat_of seats y) ≡ true → numbers_meet facts stand x y ≡ true
+  meet_numbers : (x y : ℕ) → IsNumber frame x → IsNumber frame y → seats_meet facts (seat_of seats x) (seat_of seats y) ≡ true → numbers_meet facts reached x y ≡ true
   meet_numbers x y h g may =
       let s = seat_of seats x in
       let t = seat_of seats y in
       let last = and_parts (is_seat facts s && is_seat facts t && not (s == t)) (may_meet facts s t) may in
-      and_from (is_number stand x && is_number stand y) _ (and_from (is_number stand x) (is_number stand y) (is_number_true x h) (is_number_true y g))
+      and_from (is_number reached x && is_number reached y) _ (and_from (is_number reached x) (is_number reached y) (is_number_true x h) (is_number_true y g))
       (and_from (not (x == y)) (may_meet facts s t) (not_from_false (x == y) (ne_eqb x y (λ e. meets_other facts s t may (ap (seat_of seats) e)))) last.1)
 
   -- no two of those moved down may meet
   abbrev pub Strangers : List ℕ → Type 0
   Strangers players = (s t : ℕ) → IsIn s players → IsIn t players → seats_meet facts s t ≡ true → ⊥
 
-  module _ (lower : List ℕ) (chosen : Choice) (is : choice facts stand lower ≡ Some chosen) (not_last : ends_round kind ≡ false) (strangers : Strangers md) where
+  module _ (lower : List ℕ) (chosen : Choice) (is : choice facts reached lower ≡ Some chosen) (not_last : ends_round kind ≡ false) (strangers : Strangers md) where
     -- a candidate with one pair more, by two downfloaters
     abbrev pub More : ℕ → ℕ → Type 0
-    More x y = Larger (numbers_meet facts stand) (number_may_be_left facts stand) frame not_last chosen.shape chosen.lists x y
+    More x y = Larger (numbers_meet facts reached) (number_may_be_left facts reached) frame not_last chosen.shape chosen.lists x y
 
     -- it cannot be chosen
-    pub no_more : (x y : ℕ) (more : More x y) → has_member (eligible facts stand lower more.larger) ≡ true → ⊥
-    no_more x y more has = none_is_greater facts stand lower chosen.shape more.larger (chosen_is facts stand lower chosen is).0 more.fits has more.greater
+    pub no_more : (x y : ℕ) (more : More x y) → has_member (eligible facts reached lower more.larger) ≡ true → ⊥
+    no_more x y more has = none_is_greater facts reached lower chosen.shape more.larger (chosen_is facts reached lower chosen is).0 more.fits has more.greater
 
-    of_candidates_at : (t : Bool) → is_penultimate kind ≡ t → IsIn chosen.lists (candidates_of facts stand chosen.shape)
+    of_candidates_at : (t : Bool) → is_penultimate kind ≡ t → IsIn chosen.lists (candidates_of facts reached chosen.shape)
     of_candidates_at true e =
-        (kept_of (λ lists. completable facts (downfloaters facts stand lists ++ lower)) chosen.lists (candidates_of facts stand chosen.shape)
-        (subst (IsIn chosen.lists) (eligible_some facts stand lower chosen.shape e) (chosen_is facts stand lower chosen is).1)).0
-    of_candidates_at false e = subst (IsIn chosen.lists) (eligible_all facts stand lower chosen.shape e) (chosen_is facts stand lower chosen is).1
+        (kept_of (λ lists. completable facts (downfloaters facts reached lists ++ lower)) chosen.lists (candidates_of facts reached chosen.shape)
+        (subst (IsIn chosen.lists) (eligible_some facts reached lower chosen.shape e) (chosen_is facts reached lower chosen is).1)).0
+    of_candidates_at false e = subst (IsIn chosen.lists) (eligible_all facts reached lower chosen.shape e) (chosen_is facts reached lower chosen is).1
 
-    of_candidates : IsIn chosen.lists (candidates_of facts stand chosen.shape)
+    of_candidates : IsIn chosen.lists (candidates_of facts reached chosen.shape)
     of_candidates = of_candidates_at (is_penultimate kind) refl
 
     pub more_of : (x y : ℕ) → IsIn x (down frame chosen.lists) → IsIn y (down frame chosen.lists) → x < y → seats_meet facts (seat_of seats x) (seat_of seats y) ≡ true → More x y
     more_of x y m n rises may =
-        let legal = kept_of (is_legal (numbers_meet facts stand) (number_may_be_left facts stand) frame) chosen.lists (arrangements frame chosen.shape) of_candidates in
+        let legal = kept_of (is_legal (numbers_meet facts reached) (number_may_be_left facts reached) frame) chosen.lists (arrangements frame chosen.shape) of_candidates in
         let h = down_number chosen.lists x m in
         let g = down_number chosen.lists y n in
         let resident : length md < y = elim (cases_lt (length md) y) [
           | inl above ↦ above
           | inr low ↦ absurd (strangers (seat_of seats x) (seat_of seats y) (low_seat x h (omega (arith, low, rises))) (low_seat y g low) may)
         ] in
-        one_larger (numbers_meet facts stand) (number_may_be_left facts stand) frame not_last within chosen.shape chosen.lists x y
-        (has_room facts stand lower chosen.shape (chosen_is facts stand lower chosen is).0).within_pairs legal.0 legal.1 m n rises resident
+        one_larger (numbers_meet facts reached) (number_may_be_left facts reached) frame not_last within chosen.shape chosen.lists x y
+        (has_room facts reached lower chosen.shape (chosen_is facts reached lower chosen is).0).within_pairs legal.0 legal.1 m n rises resident
         (meet_numbers x y h g may)
 
     -- it is a candidate
-    pub more_candidate : (x y : ℕ) (more : More x y) → IsIn more.lists (candidates_of facts stand more.larger)
-    more_candidate x y more = of_kept (is_legal (numbers_meet facts stand) (number_may_be_left facts stand) frame) more.lists (arrangements frame more.larger) more.arranged more.legal
+    pub more_candidate : (x y : ℕ) (more : More x y) → IsIn more.lists (candidates_of facts reached more.larger)
+    more_candidate x y more = of_kept (is_legal (numbers_meet facts reached) (number_may_be_left facts reached) frame) more.lists (arrangements frame more.larger) more.arranged more.legal
 
     -- where no two downfloaters in the order of their numbers may meet, no two may at all
     ordered_strangers : ((x y : ℕ) → IsIn x (down frame chosen.lists) → IsIn y (down frame chosen.lists) → x < y → seats_meet facts (seat_of seats x) (seat_of seats y) ≡ true → ⊥)
-        → Strangers (downfloaters facts stand chosen.lists)
+        → Strangers (downfloaters facts reached chosen.lists)
     ordered_strangers none s t m n may =
         let one = IsIn-map (seat_of seats) s (down frame chosen.lists) m in
         let two = IsIn-map (seat_of seats) t (down frame chosen.lists) n in
@@ -184,9 +184,9 @@ module _ (facts : Facts) (number : ℕ) (kind : Kind) (md residents : List ℕ) 
         ]
 
     -- C.5: no two downfloaters of a bracket that is not paired again may meet
-    pub down_strangers : is_penultimate kind ≡ false → Strangers (downfloaters facts stand chosen.lists)
+    pub down_strangers : is_penultimate kind ≡ false → Strangers (downfloaters facts reached chosen.lists)
     down_strangers first =
         ordered_strangers (λ x y m n rises may.
         let more = more_of x y m n rises may in
-        no_more x y more (ap has_member (eligible_all facts stand lower more.larger first)
-        ∙ has_kept (is_legal (numbers_meet facts stand) (number_may_be_left facts stand) frame) more.lists (arrangements frame more.larger) more.arranged more.legal))
+        no_more x y more (ap has_member (eligible_all facts reached lower more.larger first)
+        ∙ has_kept (is_legal (numbers_meet facts reached) (number_may_be_left facts reached) frame) more.lists (arrangements frame more.larger) more.arranged more.legal))

@@ -3,15 +3,15 @@ use Rattle.std.proofs.Common.{◌≡◌, ℕ, Bool, true, false, cond, List, [],
 use Rattle.dutch_order.specs.Arrangements.{Arrangement}
 use Rattle.dutch_order.specs.declared.bracket.Shape.{Shape}
 use Rattle.dutch_player.specs.Facts.{Facts}
-use Rattle.dutch_pair.specs.Reached.{Stand}
+use Rattle.dutch_pair.specs.Reached.{Reached}
 use Rattle.dutch_pair.specs.Shapes.{has_member}
 use Rattle.dutch_pair.specs.Round.{candidates_of, eligible}
 use Rattle.dutch_pair.specs.Eligible.{can_be_chosen}
 
 -- those that can be chosen, by the test of each
-pub eligible_is : (facts : Facts) (stand : Stand) (lower : List ℕ) (shape : Shape)
-    → eligible facts stand lower shape ≡ filter (can_be_chosen facts stand lower) (candidates_of facts stand shape)
-eligible_is facts stand lower shape = refl
+pub eligible_is : (facts : Facts) (reached : Reached) (lower : List ℕ) (shape : Shape)
+    → eligible facts reached lower shape ≡ filter (can_be_chosen facts reached lower) (candidates_of facts reached shape)
+eligible_is facts reached lower shape = refl
 
 module _ (p : Arrangement → Bool) where
   pub passes_unfit : (c : Arrangement) (old new : List Arrangement) → old ≡ c ∷ new → p c ≡ false → filter p old ≡ filter p new

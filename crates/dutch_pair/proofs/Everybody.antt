@@ -5,18 +5,18 @@ use Rattle.std.proofs.lemmas.List.{length-map}
 use Rattle.dutch_order.specs.declared.bracket.Shape.{Shape}
 use Rattle.dutch_order.specs.Choices.{numbers_from}
 use Rattle.dutch_order.specs.Keys.{IsIn}
-use Rattle.dutch_order.specs.Draws.{Draw}
+use Rattle.dutch_order.specs.Candidates.{Candidate}
 use Rattle.dutch_order.specs.Arrangements.{Frame, Arrangement, down, left_of, residents_of, remainder_pairs, arrangements}
 use Rattle.dutch_order.proofs.Lists.{map-numbers_from}
 use Rattle.dutch_order.proofs.Members.{numbers-append}
 use Rattle.dutch_player.specs.Facts.{Facts}
 use Rattle.dutch_pair.specs.Seated.{seat_of, score_at, pairs_of, all_pairs}
-use Rattle.dutch_pair.specs.Reached.{Stand, frame_of}
+use Rattle.dutch_pair.specs.Reached.{Reached, frame_of}
 use Rattle.dutch_pair.specs.Round.{Choice, choice, downfloaters}
 use Rattle.dutch_pair.proofs.ArrangementParts.{subset_whole, numbers_rise, lists_of, residents_whole, parts_of}
 use Rattle.dutch_pair.proofs.PsdParts.{down_parts}
 use Rattle.dutch_pair.proofs.Totals.{total, total_append, total_map}
-use Rattle.dutch_pair.proofs.WalkEnds.{drawn}
+use Rattle.dutch_pair.proofs.WalkEnds.{of_bracket}
 
 module _ (w : ℕ → ℕ) where
   -- the four lists of an arrangement
@@ -68,13 +68,13 @@ module _ (w : ℕ → ℕ) (seats : List ℕ) where
       map-numbers_from (seat_of seats) seats 1 (λ j lt. ap (λ k. get_or seats k 0) (let e : (1 + j) - 1 ≡ j = omega arith in e)) in
       ap (total w) (sym whole) ∙ total_map w (seat_of seats) (numbers_from 1 (length seats))
 
-module _ (w : ℕ → ℕ) (facts : Facts) (stand : Stand) where
+module _ (w : ℕ → ℕ) (facts : Facts) (reached : Reached) where
   -- the pairs of an arrangement of a bracket, and those whom it leaves over
-  pub bracket_whole : (shape : Shape) (a : Arrangement) → stand.mdps ≤ length stand.seats → IsIn a (arrangements (frame_of facts stand) shape)
-      → pairs_total w (all_pairs stand.seats a) + total w (downfloaters facts stand a) ≡ total w stand.seats
+  pub bracket_whole : (shape : Shape) (a : Arrangement) → reached.mdps ≤ length reached.seats → IsIn a (arrangements (frame_of facts reached) shape)
+      → pairs_total w (all_pairs reached.seats a) + total w (downfloaters facts reached a) ≡ total w reached.seats
   bracket_whole shape a within m =
-      let frame : Frame = frame_of facts stand in
-      let seats : List ℕ = stand.seats in
+      let frame : Frame = frame_of facts reached in
+      let seats : List ℕ = reached.seats in
       let counted : length frame.scores ≡ length seats = length-map seats (score_at facts) in
       let inside : frame.mdps ≤ length frame.scores = omega (arith, within, counted) in
       let parts = parts_of frame shape a inside m in
@@ -87,9 +87,9 @@ module _ (w : ℕ → ℕ) (facts : Facts) (stand : Stand) where
       omega (arith, numbers, firsts, others, both, floats, count, numbers_seated w seats)
 
   -- the same of what is chosen in it
-  pub choice_whole : (lower : List ℕ) (chosen : Choice) → stand.mdps ≤ length stand.seats → choice facts stand lower ≡ Some chosen
-      → pairs_total w (all_pairs stand.seats chosen.lists) + total w (downfloaters facts stand chosen.lists) ≡ total w stand.seats
+  pub choice_whole : (lower : List ℕ) (chosen : Choice) → reached.mdps ≤ length reached.seats → choice facts reached lower ≡ Some chosen
+      → pairs_total w (all_pairs reached.seats chosen.lists) + total w (downfloaters facts reached chosen.lists) ≡ total w reached.seats
   choice_whole lower chosen within e =
-      let draw : Draw = record { lists = chosen.lists; down = down (frame_of facts stand) chosen.lists } in
-      let drawn' = drawn facts stand lower chosen.shape draw e refl in
-      bracket_whole drawn'.lists.0 chosen.lists within drawn'.lists.1
+      let candidate : Candidate = record { lists = chosen.lists; down = down (frame_of facts reached) chosen.lists } in
+      let of_bracket' = of_bracket facts reached lower chosen.shape candidate e refl in
+      bracket_whole of_bracket'.lists.0 chosen.lists within of_bracket'.lists.1

@@ -8,8 +8,8 @@ use Rattle.dutch_order.specs.Forms.{NoneTwice, IsMovedDown}
 use Rattle.dutch_order.specs.Keys.{IsIn}
 use Rattle.dutch_player.specs.Facts.{Facts, seat_at}
 use Rattle.dutch_player.specs.Meetings.{may_meet}
-use Rattle.dutch_pair.specs.declared.reached.Kind.{Kind}
-use Rattle.dutch_pair.specs.Reached.{Stand, frame_of, is_number, numbers_meet, number_may_be_left}
+use Rattle.dutch_pair.specs.declared.reached.BracketKind.{BracketKind}
+use Rattle.dutch_pair.specs.Reached.{Reached, frame_of, is_number, numbers_meet, number_may_be_left}
 use Rattle.dutch_pair.specs.Round.{Choice, bracket, candidates_of, choice, eligible, shape_of}
 use Rattle.dutch_pair.specs.Seated.{seat_of, score_at}
 use Rattle.dutch_pair.specs.Seats.{is_seat, seats_meet, seats_may_be_left}
@@ -61,16 +61,16 @@ get_front (x ∷ xs) ys (suc i) lt = inr (get_front xs ys i (omega (arith, lt)))
 
 -- ---- the mates of a bracket
 
-module _ (facts : Facts) (number : ℕ) (kind : Kind) (md residents : List ℕ) (twice : NoneTwice (md ++ residents)) (mate : ℕ → ℕ)
+module _ (facts : Facts) (number : ℕ) (kind : BracketKind) (md residents : List ℕ) (twice : NoneTwice (md ++ residents)) (mate : ℕ → ℕ)
     (are : AreMates (seats_meet facts) (seats_may_be_left facts) (md ++ residents) mate) (apart : (s : ℕ) → IsIn s md → IsIn (mate s) md → mate s ≡ s) where
-  abbrev stand : Stand
-  stand = bracket number kind md residents
+  abbrev reached : Reached
+  reached = bracket number kind md residents
 
   abbrev seats : List ℕ
   seats = md ++ residents
 
   abbrev frame : Frame
-  frame = frame_of facts stand
+  frame = frame_of facts reached
 
   -- the number of a player's mate
   abbrev number_mate : ℕ → ℕ
@@ -127,25 +127,25 @@ module _ (facts : Facts) (number : ℕ) (kind : Kind) (md residents : List ℕ) 
         alone_number x number (apart (seat_of seats x) (low_seat x h) (subst (λ s. IsIn s md) (mate_seat x number) there));
   }
 
-  is_number_true : (x : ℕ) → IsNumber frame x → is_number stand x ≡ true
+  is_number_true : (x : ℕ) → IsNumber frame x → is_number reached x ≡ true
   is_number_true x h =
       and_from (nat_le 1 x) (nat_le x (length seats)) (le-leb 1 x (omega (arith, h.0))) (le-leb x (length seats) (omega (arith, h.1, count)))
 
-  met : (x : ℕ) → IsNumber frame x → (number_mate x ≡ x → ⊥) → numbers_meet facts stand x (number_mate x) ≡ true
+  met : (x : ℕ) → IsNumber frame x → (number_mate x ≡ x → ⊥) → numbers_meet facts reached x (number_mate x) ≡ true
   met x h ne =
       let s = seat_of seats x in
       let may : seats_meet facts s (mate s) ≡ true = are.met s (seat_in x h) (λ e. ne (alone_number x h e)) in
       let last = and_parts (is_seat facts s && is_seat facts (mate s) && not (s == mate s)) (may_meet facts s (mate s)) may in
-      and_from (is_number stand x && is_number stand (number_mate x)) _
-      (and_from (is_number stand x) (is_number stand (number_mate x)) (is_number_true x h) (is_number_true (number_mate x) (inside x h)))
+      and_from (is_number reached x && is_number reached (number_mate x)) _
+      (and_from (is_number reached x) (is_number reached (number_mate x)) (is_number_true x h) (is_number_true (number_mate x) (inside x h)))
       (and_from (not (x == number_mate x)) _ (not_from_false (x == number_mate x) (ne_eqb x (number_mate x) (λ e. ne (sym e))))
       (ap (may_meet facts s) (mate_seat x h) ∙ last.1))
 
-  may : (x : ℕ) → IsNumber frame x → number_mate x ≡ x → number_may_be_left facts stand x ≡ true
+  may : (x : ℕ) → IsNumber frame x → number_mate x ≡ x → number_may_be_left facts reached x ≡ true
   may x h e =
       let s = seat_of seats x in
       let left : seats_may_be_left facts s ≡ true = are.left s (seat_in x h) (alone_seat x h e) in
-      and_from (is_number stand x) ((seat_at facts s).may_bye) (is_number_true x h) (and_parts (is_seat facts s) ((seat_at facts s).may_bye) left).1
+      and_from (is_number reached x) ((seat_at facts s).may_bye) (is_number_true x h) (and_parts (is_seat facts s) ((seat_at facts s).may_bye) left).1
 
   one : (x y : ℕ) → IsNumber frame x → IsNumber frame y → number_mate x ≡ x → number_mate y ≡ y → x ≡ y
   one x y h g e f =
@@ -158,23 +158,23 @@ module _ (facts : Facts) (number : ℕ) (kind : Kind) (md residents : List ℕ) 
   pub final_fits : Fits frame final_shape
   final_fits = mates_fit frame number_mate within number_mates
 
-  pub final_candidate : has_member (candidates_of facts stand final_shape) ≡ true
+  pub final_candidate : has_member (candidates_of facts reached final_shape) ≡ true
   final_candidate =
-      mates_candidate frame number_mate within number_mates (numbers_meet facts stand) (number_may_be_left facts stand) met one may
+      mates_candidate frame number_mate within number_mates (numbers_meet facts reached) (number_may_be_left facts reached) met one may
 
 -- ---- a shape with a candidate makes a choice
 
-module _ (facts : Facts) (stand : Stand) (lower : List ℕ) where
+module _ (facts : Facts) (reached : Reached) (lower : List ℕ) where
   pub record Chooses : Type 0 where
     pub chosen : Choice
-    pub is : choice facts stand lower ≡ Some chosen
+    pub is : choice facts reached lower ≡ Some chosen
 
-  chooses_at : (t : Shape) (o : Option Shape) → shape_of facts stand lower ≡ o → Fits (frame_of facts stand) t → has_member (eligible facts stand lower t) ≡ true → Chooses
-  chooses_at t None e fit has = absurd (none_has_one facts stand lower t e fit has)
+  chooses_at : (t : Shape) (o : Option Shape) → shape_of facts reached lower ≡ o → Fits (frame_of facts reached) t → has_member (eligible facts reached lower t) ≡ true → Chooses
+  chooses_at t None e fit has = absurd (none_has_one facts reached lower t e fit has)
   chooses_at t (Some shape) e fit has =
-      let one = choice_of_shape facts stand lower shape e in
+      let one = choice_of_shape facts reached lower shape e in
       record { chosen = record { shape = shape; lists = one.0 }; is = one.1 }
 
   -- B.8: where a shape with room has a candidate that can be chosen, there is a choice
-  pub chooses : (t : Shape) → Fits (frame_of facts stand) t → has_member (eligible facts stand lower t) ≡ true → Chooses
-  chooses t = chooses_at t (shape_of facts stand lower) refl
+  pub chooses : (t : Shape) → Fits (frame_of facts reached) t → has_member (eligible facts reached lower t) ≡ true → Chooses
+  chooses t = chooses_at t (shape_of facts reached lower) refl

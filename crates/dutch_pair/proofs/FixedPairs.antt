@@ -1,8 +1,10 @@
 -- The pairs of an arrangement are those of a beginning that it has, and others: place by place, and so in every sum.
-use Rattle.std.proofs.Common.{◌≡◌, ℕ, ◌+◌, ◌⊎◌, List, [], ◌∷◌, ◌++◌, length, sum_by, inl, inr, refl, sym, ap, ◌∙◌, arith, append-nil, length-append}
+use Rattle.std.proofs.Common.{◌≡◌, ℕ, ◌+◌, ◌⊎◌, List, [], ◌∷◌, ◌++◌, length, sum_by, inl, inr, refl, sym, ap, subst, ◌∙◌, arith, append-nil, length-append}
 use Rattle.std.proofs.lemmas.List.Sums.{sum_by-append}
 use Rattle.dutch_order.specs.Arrangements.{Arrangement}
+use Rattle.dutch_order.specs.Keys.{IsIn}
 use Rattle.dutch_order.specs.Prefixes.{GoesOn}
+use Rattle.dutch_order.proofs.Orders.{IsIn-append, IsIn-back, IsIn-front}
 use Rattle.dutch_pair.specs.Seated.{seat_of, pairs_of, all_pairs}
 use Rattle.dutch_pair.specs.Beginnings.{HasPairsOf, LacksEndOfS2r}
 use Rattle.dutch_pair.specs.ColourFloors.{beyond}
@@ -32,62 +34,64 @@ goes_on seats firsts seconds firsts' seconds' (inr same) on =
     ∙ pairs_on seats firsts' seconds on.rest
     ∙ ap (λ (firsts'' : List ℕ). pairs_of seats firsts'' seconds ++ pairs_of seats (beyond seconds firsts') on.rest) (sym same)
 
--- the pairs of an arrangement beside those of a beginning: of moved-down players, and of residents
-pub record Beside (seats : List ℕ) (b a : Arrangement) : Type 0 where
-  pub moved_down : List (ℕ × ℕ)
-  pub residents : List (ℕ × ℕ)
-  pub first : pairs_of seats a.s1 a.s2 ≡ pairs_of seats b.s1 b.s2 ++ moved_down
-  pub second : pairs_of seats a.s1r a.s2r ≡ pairs_of seats b.s1r b.s2r ++ residents
+-- a number that a list has which is the sum of those of its parts
+abbrev pub AddsUp : {X : Type 0} → (List X → ℕ) → Type 0
+AddsUp {X} f = (xs ys : List X) → f (xs ++ ys) ≡ f xs + f ys
 
-pub beside : (seats : List ℕ) (b a : Arrangement) → HasPairsOf b a → Beside seats b a
-beside seats b a begins = record {
-  moved_down = pairs_of seats (beyond b.s2 a.s1) begins.s2.rest;
-  residents = pairs_of seats (beyond b.s2r a.s1r) begins.s2r.rest;
-  first = goes_on seats b.s1 b.s2 a.s1 a.s2 begins.s1 begins.s2;
-  second = goes_on seats b.s1r b.s2r a.s1r a.s2r begins.s1r begins.s2r;
+-- members of which some are known: what adds up over all is the sum of what it is for these and for others, who are the rest of all
+pub record Beside {X : Type 0} (known all : List X) : Type 0 where
+  pub others : List X
+  pub adds : (f : List X → ℕ) → AddsUp f → f all ≡ f known + f others
+  pub inside : (x : X) → IsIn x others → IsIn x all
+  pub either : (x : X) → IsIn x all → IsIn x known ⊎ IsIn x others
+
+-- the pairs of an arrangement beside those of a beginning: of moved-down players, and of residents
+pub beside_by : (seats : List ℕ) (b a : Arrangement) (moved_down residents : List (ℕ × ℕ)) → pairs_of seats a.s1 a.s2 ≡ pairs_of seats b.s1 b.s2 ++ moved_down
+    → pairs_of seats a.s1r a.s2r ≡ pairs_of seats b.s1r b.s2r ++ residents → Beside (all_pairs seats b) (all_pairs seats a)
+beside_by seats b a moved_down residents first second =
+    let k1 : List (ℕ × ℕ) = pairs_of seats b.s1 b.s2 in
+    let k2 : List (ℕ × ℕ) = pairs_of seats b.s1r b.s2r in
+    let a1 : List (ℕ × ℕ) = pairs_of seats a.s1 a.s2 in
+    let a2 : List (ℕ × ℕ) = pairs_of seats a.s1r a.s2r in
+    record {
+      others = moved_down ++ residents;
+      adds = λ f sums. omega (arith, sums a1 a2, ap f first, ap f second, sums k1 moved_down, sums k2 residents, sums k1 k2, sums moved_down residents);
+      inside = λ x m. elim (IsIn-append x moved_down residents m) [
+        | inl one ↦ IsIn-front x a1 a2 (subst (IsIn x) (sym first) (IsIn-back x k1 moved_down one))
+        | inr two ↦ IsIn-back x a1 a2 (subst (IsIn x) (sym second) (IsIn-back x k2 residents two))
+      ];
+      either = λ x m. elim (IsIn-append x a1 a2 m) [
+        | inl one ↦ elim (IsIn-append x k1 moved_down (subst (IsIn x) first one)) [
+          | inl known ↦ inl (IsIn-front x k1 k2 known)
+          | inr more ↦ inr (IsIn-front x moved_down residents more)
+        ]
+        | inr two ↦ elim (IsIn-append x k2 residents (subst (IsIn x) second two)) [
+          | inl known ↦ inl (IsIn-back x k1 k2 known)
+          | inr more ↦ inr (IsIn-back x moved_down residents more)
+        ]
+      ];
+    }
+
+pub beside : (seats : List ℕ) (b a : Arrangement) → HasPairsOf b a → Beside (all_pairs seats b) (all_pairs seats a)
+beside seats b a begins =
+    beside_by seats b a (pairs_of seats (beyond b.s2 a.s1) begins.s2.rest) (pairs_of seats (beyond b.s2r a.s1r) begins.s2r.rest)
+    (goes_on seats b.s1 b.s2 a.s1 a.s2 begins.s1 begins.s2) (goes_on seats b.s1r b.s2r a.s1r a.s2r begins.s1r begins.s2r)
+
+-- nothing is known
+pub none_known : {X : Type 0} (all : List X) → Beside [] all
+none_known all = record {
+  others = all;
+  adds = λ f sums. let twice : f [] ≡ f [] + f [] = sums [] [] in omega (arith, twice);
+  inside = λ x m. m;
+  either = λ x m. inr m;
 }
 
--- all pairs: those of moved-down players and the others, each as the beginning's and more
-pub pairs_beside : (seats : List ℕ) (b a : Arrangement) → (others : Beside seats b a)
-    → all_pairs seats a ≡ (pairs_of seats b.s1 b.s2 ++ others.moved_down) ++ (pairs_of seats b.s1r b.s2r ++ others.residents)
-pairs_beside seats b a others =
-    ap (λ (pairs : List (ℕ × ℕ)). pairs ++ pairs_of seats a.s1r a.s2r) others.first
-    ∙ ap (λ (pairs : List (ℕ × ℕ)). (pairs_of seats b.s1 b.s2 ++ others.moved_down) ++ pairs) others.second
+-- every sum over all is that over those that are known and that over the others
+pub sum_beside : {X : Type 0} (f : X → ℕ) (known all : List X) → (others : Beside known all) → sum_by f all ≡ sum_by f known + sum_by f others.others
+sum_beside f known all others = others.adds (sum_by f) (sum_by-append f)
 
--- the pairs to come
-abbrev pub others_of : (seats : List ℕ) (b a : Arrangement) → Beside seats b a → List (ℕ × ℕ)
-others_of seats b a others = others.moved_down ++ others.residents
-
--- every sum over the pairs is that over the beginning's and that over the others
-pub sum_beside : (f : ℕ × ℕ → ℕ) (seats : List ℕ) (b a : Arrangement) → (others : Beside seats b a)
-    → sum_by f (all_pairs seats a) ≡ sum_by f (all_pairs seats b) + sum_by f (others_of seats b a others)
-sum_beside f seats b a others =
-    let k1 : List (ℕ × ℕ) = pairs_of seats b.s1 b.s2 in
-    let k2 : List (ℕ × ℕ) = pairs_of seats b.s1r b.s2r in
-    omega (
-      arith,
-      ap (sum_by f) (pairs_beside seats b a others),
-      sum_by-append f (k1 ++ others.moved_down) (k2 ++ others.residents),
-      sum_by-append f k1 others.moved_down,
-      sum_by-append f k2 others.residents,
-      sum_by-append f k1 k2,
-      sum_by-append f others.moved_down others.residents,
-    )
-
-pub length_beside : (seats : List ℕ) (b a : Arrangement) → (others : Beside seats b a)
-    → length (all_pairs seats a) ≡ length (all_pairs seats b) + length (others_of seats b a others)
-length_beside seats b a others =
-    let k1 : List (ℕ × ℕ) = pairs_of seats b.s1 b.s2 in
-    let k2 : List (ℕ × ℕ) = pairs_of seats b.s1r b.s2r in
-    omega (
-      arith,
-      ap length (pairs_beside seats b a others),
-      length-append (k1 ++ others.moved_down) (k2 ++ others.residents),
-      length-append k1 others.moved_down,
-      length-append k2 others.residents,
-      length-append k1 k2,
-      length-append others.moved_down others.residents,
-    )
+pub length_beside : {X : Type 0} (known all : List X) → (others : Beside known all) → length all ≡ length known + length others.others
+length_beside known all others = others.adds length length-append
 
 -- who lacks at most the end of S2R has the pairs of the beginning
 pub has_pairs : (b a : Arrangement) → LacksEndOfS2r b a → HasPairsOf b a

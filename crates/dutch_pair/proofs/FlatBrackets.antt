@@ -7,13 +7,13 @@ use Rattle.dutch_order.specs.declared.bracket.Shape.{Shape}
 use Rattle.dutch_order.specs.Choices.{numbers_from, is_member}
 use Rattle.dutch_order.specs.Keys.{IsIn}
 use Rattle.dutch_order.specs.Limbo.{IsNonAscending}
-use Rattle.dutch_order.specs.Draws.{Draw}
+use Rattle.dutch_order.specs.Candidates.{Candidate}
 use Rattle.dutch_order.specs.Arrangements.{Frame, Arrangement, candidates, left_of, remainder_pairs, arrangements, is_legal, down}
 use Rattle.dutch_order.proofs.HalfWalks.{Climbs}
 use Rattle.dutch_order.proofs.Members.{climbs-filter, filter-length, length-numbers}
 use Rattle.dutch_player.specs.Facts.{Facts}
 use Rattle.dutch_pair.specs.Seated.{seat_of, score_at, lowest, lowest_upto, by_seats, AllNumbers, IsCandidate}
-use Rattle.dutch_pair.specs.Reached.{Stand, frame_of, numbers_meet, number_may_be_left, IsOf}
+use Rattle.dutch_pair.specs.Reached.{Reached, frame_of, numbers_meet, number_may_be_left, IsOf}
 use Rattle.dutch_pair.specs.Quality.{NextValue, psd}
 use Rattle.dutch_pair.specs.Shapes.{IsFirst, greatest_shape}
 use Rattle.dutch_pair.specs.NextBracket.{legal_in, psd_in, value_of_shape, IsFlat}
@@ -23,8 +23,8 @@ use Rattle.dutch_pair.proofs.DownLemmas.{players, down_numbers}
 use Rattle.dutch_pair.proofs.LeastPsd.{Descends, first_is_least, in_filter}
 use Rattle.dutch_order.specs.declared.numbers.TheConstants.{LIMIT}
 
-seat_score : (facts : Facts) (stand : Stand) (i : ℕ) → i < length stand.seats → slice_index (frame_of facts stand).scores i ≡ score_at facts (get_or stand.seats i 0)
-seat_score facts stand i h = get_or-map (score_at facts) stand.seats i 0 0 h
+seat_score : (facts : Facts) (reached : Reached) (i : ℕ) → i < length reached.seats → slice_index (frame_of facts reached).scores i ≡ score_at facts (get_or reached.seats i 0)
+seat_score facts reached i h = get_or-map (score_at facts) reached.seats i 0 0 h
 
 climbing_numbers : (seats : List ℕ) (q low : ℕ) (xs : List ℕ) → 0 < low → q ≤ length seats → Climbs low (1 + q) xs → AllNumbers seats xs
 climbing_numbers seats q low [] p h climbs = tt
@@ -38,32 +38,32 @@ resident_numbers seats q n [] h residents = tt
 resident_numbers seats q n (x ∷ xs) h residents = ((omega (arith, residents.0.0), omega (arith, residents.0.1)), resident_numbers seats q n xs h residents.1)
 
 -- an arrangement of a bracket and those whom it leaves over
-pub candidate_of : (facts : Facts) (stand : Stand) (shape : Shape) (draw : Draw) → IsOf facts stand → IsIn draw.lists (arrangements (frame_of facts stand) shape)
-    → draw.down ≡ down (frame_of facts stand) draw.lists → IsCandidate stand.seats draw
-candidate_of facts stand shape draw of' m e =
-    let frame = frame_of facts stand in
-    let q = stand.mdps in
+pub candidate_of : (facts : Facts) (reached : Reached) (shape : Shape) (candidate : Candidate) → IsOf facts reached → IsIn candidate.lists (arrangements (frame_of facts reached) shape)
+    → candidate.down ≡ down (frame_of facts reached) candidate.lists → IsCandidate reached.seats candidate
+candidate_of facts reached shape candidate of' m e =
+    let frame = frame_of facts reached in
+    let q = reached.mdps in
     let n = length frame.scores in
-    let same : n ≡ length stand.seats = players facts stand in
+    let same : n ≡ length reached.seats = players facts reached in
     let inside : q ≤ n = of'.sound.within in
-    let parts = parts_of frame shape draw.lists inside m in
-    let a : Arrangement = draw.lists in
+    let parts = parts_of frame shape candidate.lists inside m in
+    let a : Arrangement = candidate.lists in
     let rest : List ℕ = left_of (left_of (left_of (numbers_from (q + 1) (n - q)) a.s2) a.s1r) a.s2r in
     let low : List ℕ = left_of (numbers_from 1 q) a.s1 in
     let found : length (filter (λ x. is_member x a.s1) (numbers_from 1 q)) ≡ length a.s1 = ap length (climbs-filter 1 q a.s1 parts.s1) in
     let shared = filter-length (λ x. is_member x a.s1) (numbers_from 1 q) in
     let counted : length (numbers_from 1 q) ≡ q = length-numbers 1 q in
-    let halves : length draw.down ≡ length low + length rest = ap length (e ∙ down_parts frame shape.mdps (remainder_pairs shape) a inside parts) ∙ length-append low rest in
+    let halves : length candidate.down ≡ length low + length rest = ap length (e ∙ down_parts frame shape.mdps (remainder_pairs shape) a inside parts) ∙ length-append low rest in
     let left : length rest + (shape.mdps + (remainder_pairs shape + remainder_pairs shape)) ≡ n - q = parts.left in
     let few : n ≤ LIMIT = of'.sound.few in
     record {
       moved_down = parts.s1_count ∙ sym parts.s2_count;
       residents = parts.s1r_count ∙ sym parts.s2r_count;
-      s1 = climbing_numbers stand.seats q 1 a.s1 (omega arith) (omega arith) parts.s1;
-      s2 = resident_numbers stand.seats q n a.s2 (omega arith) parts.s2;
-      s1r = resident_numbers stand.seats q n a.s1r (omega arith) parts.s1r;
-      s2r = resident_numbers stand.seats q n a.s2r (omega arith) parts.s2r;
-      down = subst (AllNumbers stand.seats) (sym e) (down_numbers facts stand a);
+      s1 = climbing_numbers reached.seats q 1 a.s1 (omega arith) (omega arith) parts.s1;
+      s2 = resident_numbers reached.seats q n a.s2 (omega arith) parts.s2;
+      s1r = resident_numbers reached.seats q n a.s1r (omega arith) parts.s1r;
+      s2r = resident_numbers reached.seats q n a.s2r (omega arith) parts.s2r;
+      down = subst (AllNumbers reached.seats) (sym e) (down_numbers facts reached a);
       few = omega (arith, found, shared, counted, halves, left, few, parts.s1_count, parts.s1r_count);
     }
 
@@ -77,27 +77,27 @@ falls_far scores falls i (suc n) h =
     omega (arith, one, more, e)
 
 -- the seats of a bracket have scores that do not ascend
-pub seats_fall : (facts : Facts) (stand : Stand) → IsOf facts stand
-    → (i j : ℕ) → 0 < i → i ≤ j → j ≤ length stand.seats → score_at facts (seat_of stand.seats j) ≤ score_at facts (seat_of stand.seats i)
-seats_fall facts stand of' i j p h g =
-    let same : length (frame_of facts stand).scores ≡ length stand.seats = players facts stand in
-    let far : slice_index (frame_of facts stand).scores ((i - 1) + (j - i)) ≤ slice_index (frame_of facts stand).scores (i - 1) =
-    falls_far (frame_of facts stand).scores of'.sound.descends (i - 1) (j - i) (omega arith) in
-    let e : slice_index (frame_of facts stand).scores ((i - 1) + (j - i)) ≡ slice_index (frame_of facts stand).scores (j - 1) =
-    ap (slice_index (frame_of facts stand).scores) (let e : (i - 1) + (j - i) ≡ j - 1 = omega arith in e) in
-    let a = seat_score facts stand (i - 1) (omega arith) in
-    let b = seat_score facts stand (j - 1) (omega arith) in
+pub seats_fall : (facts : Facts) (reached : Reached) → IsOf facts reached
+    → (i j : ℕ) → 0 < i → i ≤ j → j ≤ length reached.seats → score_at facts (seat_of reached.seats j) ≤ score_at facts (seat_of reached.seats i)
+seats_fall facts reached of' i j p h g =
+    let same : length (frame_of facts reached).scores ≡ length reached.seats = players facts reached in
+    let far : slice_index (frame_of facts reached).scores ((i - 1) + (j - i)) ≤ slice_index (frame_of facts reached).scores (i - 1) =
+    falls_far (frame_of facts reached).scores of'.sound.descends (i - 1) (j - i) (omega arith) in
+    let e : slice_index (frame_of facts reached).scores ((i - 1) + (j - i)) ≡ slice_index (frame_of facts reached).scores (j - 1) =
+    ap (slice_index (frame_of facts reached).scores) (let e : (i - 1) + (j - i) ≡ j - 1 = omega arith in e) in
+    let a = seat_score facts reached (i - 1) (omega arith) in
+    let b = seat_score facts reached (j - 1) (omega arith) in
     omega (arith, far, e, a, b)
 
-pub descends_of : (facts : Facts) (stand : Stand) → IsOf facts stand → ((i : ℕ) → slice_index (frame_of facts stand).scores i ≤ 65535) → Descends facts stand
-descends_of facts stand of' small =
-    let same : length (frame_of facts stand).scores ≡ length stand.seats = players facts stand in
-    let inside : stand.mdps ≤ length (frame_of facts stand).scores = of'.sound.within in
+pub descends_of : (facts : Facts) (reached : Reached) → IsOf facts reached → ((i : ℕ) → slice_index (frame_of facts reached).scores i ≤ 65535) → Descends facts reached
+descends_of facts reached of' small =
+    let same : length (frame_of facts reached).scores ≡ length reached.seats = players facts reached in
+    let inside : reached.mdps ≤ length (frame_of facts reached).scores = of'.sound.within in
     record {
-      falling = λ i j p h g. seats_fall facts stand of' i j p h (omega arith);
+      falling = λ i j p h g. seats_fall facts reached of' i j p h (omega arith);
       small = λ i p h.
-          let a = seat_score facts stand (i - 1) (omega arith) in
-          let b : slice_index (frame_of facts stand).scores (i - 1) ≤ 65535 = small (i - 1) in
+          let a = seat_score facts reached (i - 1) (omega arith) in
+          let b : slice_index (frame_of facts reached).scores (i - 1) ≤ 65535 = small (i - 1) in
           omega (arith, a, b);
     }
 
@@ -122,23 +122,23 @@ lowest_of facts s [] k h each e = absurd (omega arith)
 lowest_of facts s (seat ∷ seats) zero h each e = lowest_is facts s (score_at facts seat) seats (each 0 (omega arith)) (λ i lt. each (suc i) (omega arith)) (inl e)
 lowest_of facts s (seat ∷ seats) (suc k) h each e = lowest_is facts s (score_at facts seat) seats (each 0 (omega arith)) (λ i lt. each (suc i) (omega arith)) (inr (k, omega arith, e))
 
-pub one_score_of : (facts : Facts) (stand : Stand) → IsOf facts stand → IsFlat facts stand → OneScore facts stand (score_at facts (seat_of stand.seats (stand.mdps + 1)))
-one_score_of facts stand of' flat =
-    let s : ℕ = score_at facts (seat_of stand.seats (stand.mdps + 1)) in
-    let q = stand.mdps in
-    let same : length (frame_of facts stand).scores ≡ length stand.seats = players facts stand in
-    let resident : q < length stand.seats = flat.resident in
-    let at_q : score_at facts (get_or stand.seats q 0) ≡ s = ap (λ k. score_at facts (get_or stand.seats k 0)) (let e : q ≡ (q + 1) - 1 = omega arith in e) in
-    let higher : (i : ℕ) → 0 < i → i ≤ q → s < score_at facts (seat_of stand.seats i) = λ i p h.
-    let apart : slice_index (frame_of facts stand).scores q < slice_index (frame_of facts stand).scores (i - 1) = of'.sound.above (i - 1) q (omega arith) (omega arith) (omega arith) in
-    omega (arith, apart, at_q, seat_score facts stand q resident, seat_score facts stand (i - 1) (omega arith)) in
+pub one_score_of : (facts : Facts) (reached : Reached) → IsOf facts reached → IsFlat facts reached → OneScore facts reached (score_at facts (seat_of reached.seats (reached.mdps + 1)))
+one_score_of facts reached of' flat =
+    let s : ℕ = score_at facts (seat_of reached.seats (reached.mdps + 1)) in
+    let q = reached.mdps in
+    let same : length (frame_of facts reached).scores ≡ length reached.seats = players facts reached in
+    let resident : q < length reached.seats = flat.resident in
+    let at_q : score_at facts (get_or reached.seats q 0) ≡ s = ap (λ k. score_at facts (get_or reached.seats k 0)) (let e : q ≡ (q + 1) - 1 = omega arith in e) in
+    let higher : (i : ℕ) → 0 < i → i ≤ q → s < score_at facts (seat_of reached.seats i) = λ i p h.
+    let apart : slice_index (frame_of facts reached).scores q < slice_index (frame_of facts reached).scores (i - 1) = of'.sound.above (i - 1) q (omega arith) (omega arith) (omega arith) in
+    omega (arith, apart, at_q, seat_score facts reached q resident, seat_score facts reached (i - 1) (omega arith)) in
     record {
       within = resident;
       higher = higher;
       same = flat.same;
-      least = lowest_of facts s stand.seats q resident
+      least = lowest_of facts s reached.seats q resident
           (λ i lt.
-          let back : score_at facts (seat_of stand.seats (i + 1)) ≡ score_at facts (get_or stand.seats i 0) = ap (λ k. score_at facts (get_or stand.seats k 0)) (let e : (i + 1) - 1 ≡ i = omega arith in e) in
+          let back : score_at facts (seat_of reached.seats (i + 1)) ≡ score_at facts (get_or reached.seats i 0) = ap (λ k. score_at facts (get_or reached.seats k 0)) (let e : (i + 1) - 1 ≡ i = omega arith in e) in
           elim (cases_lt i q) [
             | inl h ↦ let up = higher (i + 1) (omega arith) (omega arith) in omega (arith, up, back)
             | inr h ↦ let level = flat.same (i + 1) (omega arith) (omega arith) in omega (arith, level, back)
@@ -147,42 +147,42 @@ one_score_of facts stand of' flat =
     }
 
 -- the value of a shape is known by its first candidate
-pub value_found : (facts : Facts) (stand : Stand) (shape : Shape) (draw : Draw) (rest : List Arrangement) (list : List ℕ) → IsOf facts stand → IsFlat facts stand
-    → ((i : ℕ) → slice_index (frame_of facts stand).scores i ≤ 65535)
-    → legal_in facts stand shape ≡ draw.lists ∷ rest → draw.down ≡ down (frame_of facts stand) draw.lists → list ≡ psd facts (by_seats facts stand.seats draw)
-    → (let value : NextValue = record { pairs = shape.pairs; psd = list } in value ≡ value_of_shape facts stand (Some shape))
-value_found facts stand shape draw rest list of' flat small e left by =
-    let s : ℕ = score_at facts (seat_of stand.seats (stand.mdps + 1)) in
-    let least = first_is_least facts stand s (one_score_of facts stand of' flat) (descends_of facts stand of' small) shape draw.lists rest e in
-    let as_psd : list ≡ psd_in facts stand draw.lists =
-    by ∙ ap (λ (left : List ℕ). psd facts (by_seats facts stand.seats (record { lists = draw.lists; down = left }))) left in
+pub value_found : (facts : Facts) (reached : Reached) (shape : Shape) (candidate : Candidate) (rest : List Arrangement) (list : List ℕ) → IsOf facts reached → IsFlat facts reached
+    → ((i : ℕ) → slice_index (frame_of facts reached).scores i ≤ 65535)
+    → legal_in facts reached shape ≡ candidate.lists ∷ rest → candidate.down ≡ down (frame_of facts reached) candidate.lists → list ≡ psd facts (by_seats facts reached.seats candidate)
+    → (let value : NextValue = record { pairs = shape.pairs; psd = list } in value ≡ value_of_shape facts reached (Some shape))
+value_found facts reached shape candidate rest list of' flat small e left by =
+    let s : ℕ = score_at facts (seat_of reached.seats (reached.mdps + 1)) in
+    let least = first_is_least facts reached s (one_score_of facts reached of' flat) (descends_of facts reached of' small) shape candidate.lists rest e in
+    let as_psd : list ≡ psd_in facts reached candidate.lists =
+    by ∙ ap (λ (left : List ℕ). psd facts (by_seats facts reached.seats (record { lists = candidate.lists; down = left }))) left in
     ap (λ (list : List ℕ). let value : NextValue = record { pairs = shape.pairs; psd = list } in value) (as_psd ∙ sym least)
 
-pub in_legal : (facts : Facts) (stand : Stand) (shape : Shape) (lists : Arrangement) (rest : List Arrangement) → legal_in facts stand shape ≡ lists ∷ rest
-    → IsIn lists (arrangements (frame_of facts stand) shape)
-in_legal facts stand shape lists rest e =
-    in_filter (is_legal (numbers_meet facts stand) (number_may_be_left facts stand) (frame_of facts stand)) lists (arrangements (frame_of facts stand) shape)
+pub in_legal : (facts : Facts) (reached : Reached) (shape : Shape) (lists : Arrangement) (rest : List Arrangement) → legal_in facts reached shape ≡ lists ∷ rest
+    → IsIn lists (arrangements (frame_of facts reached) shape)
+in_legal facts reached shape lists rest e =
+    in_filter (is_legal (numbers_meet facts reached) (number_may_be_left facts reached) (frame_of facts reached)) lists (arrangements (frame_of facts reached) shape)
     (subst (IsIn lists) (sym e) (inl refl))
 
 -- a listing that has begun, in the words of the bracket
-pub listed_as : (facts facts' : Facts) (stand stand' : Stand) (frame : Frame) (shape : Shape) (coming rest : List Arrangement)
-    → coming ≡ candidates (numbers_meet facts' stand') (number_may_be_left facts' stand') frame shape
-    → facts' ≡ facts → stand' ≡ stand → frame ≡ frame_of facts stand → coming ≡ rest → legal_in facts stand shape ≡ rest
-listed_as facts facts' stand stand' frame shape coming rest given f s b e =
+pub listed_as : (facts facts' : Facts) (reached reached' : Reached) (frame : Frame) (shape : Shape) (coming rest : List Arrangement)
+    → coming ≡ candidates (numbers_meet facts' reached') (number_may_be_left facts' reached') frame shape
+    → facts' ≡ facts → reached' ≡ reached → frame ≡ frame_of facts reached → coming ≡ rest → legal_in facts reached shape ≡ rest
+listed_as facts facts' reached reached' frame shape coming rest given f s b e =
     sym (given
-    ∙ ap (λ (g : Facts). candidates (numbers_meet g stand') (number_may_be_left g stand') frame shape) f
-    ∙ ap (λ (t : Stand). candidates (numbers_meet facts t) (number_may_be_left facts t) frame shape) s
-    ∙ ap (λ (frame : Frame). candidates (numbers_meet facts stand) (number_may_be_left facts stand) frame shape) b)
+    ∙ ap (λ (g : Facts). candidates (numbers_meet g reached') (number_may_be_left g reached') frame shape) f
+    ∙ ap (λ (t : Reached). candidates (numbers_meet facts t) (number_may_be_left facts t) frame shape) s
+    ∙ ap (λ (frame : Frame). candidates (numbers_meet facts reached) (number_may_be_left facts reached) frame shape) b)
     ∙ e
 
 -- the greatest shape of a bracket by a rule, and its first arrangement
-abbrev pub IsGreatest : Facts → Stand → Frame → Shape → Draw → Type 0
-IsGreatest facts stand frame shape draw =
-    (greatest_shape (candidates (numbers_meet facts stand) (number_may_be_left facts stand) frame) frame ≡ Some shape)
-    × IsFirst (candidates (numbers_meet facts stand) (number_may_be_left facts stand) frame shape) frame draw
+abbrev pub IsGreatest : Facts → Reached → Frame → Shape → Candidate → Type 0
+IsGreatest facts reached frame shape candidate =
+    (greatest_shape (candidates (numbers_meet facts reached) (number_may_be_left facts reached) frame) frame ≡ Some shape)
+    × IsFirst (candidates (numbers_meet facts reached) (number_may_be_left facts reached) frame shape) frame candidate
 
-pub greatest_as : (facts facts' : Facts) (stand stand' : Stand) (frame : Frame) (shape : Shape) (draw : Draw)
-    → facts' ≡ facts → stand' ≡ stand → frame ≡ frame_of facts stand → IsGreatest facts' stand' frame shape draw → IsGreatest facts stand (frame_of facts stand) shape draw
-greatest_as facts facts' stand stand' frame shape draw f s b found =
-    subst (λ (frame : Frame). IsGreatest facts stand frame shape draw) b
-    (subst (λ (t : Stand). IsGreatest facts t frame shape draw) s (subst (λ (g : Facts). IsGreatest g stand' frame shape draw) f found))
+pub greatest_as : (facts facts' : Facts) (reached reached' : Reached) (frame : Frame) (shape : Shape) (candidate : Candidate)
+    → facts' ≡ facts → reached' ≡ reached → frame ≡ frame_of facts reached → IsGreatest facts' reached' frame shape candidate → IsGreatest facts reached (frame_of facts reached) shape candidate
+greatest_as facts facts' reached reached' frame shape candidate f s b found =
+    subst (λ (frame : Frame). IsGreatest facts reached frame shape candidate) b
+    (subst (λ (t : Reached). IsGreatest facts t frame shape candidate) s (subst (λ (g : Facts). IsGreatest g reached' frame shape candidate) f found))

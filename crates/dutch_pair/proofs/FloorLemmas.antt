@@ -6,11 +6,12 @@ use Rattle.std.proofs.lemmas.List.{length-map}
 use Rattle.dutch_order.specs.declared.bracket.Shape.{Shape}
 use Rattle.dutch_order.specs.Arrangements.{Arrangement, Fits, remainder_pairs}
 use Rattle.dutch_order.specs.Choices.{numbers_from}
+use Rattle.dutch_order.specs.Prefixes.{Beginning}
 use Rattle.dutch_player.specs.Facts.{Facts}
-use Rattle.dutch_pair.specs.Reached.{Stand, IsOf, is_number, frame_of}
+use Rattle.dutch_pair.specs.Reached.{Reached, IsOf, is_number, frame_of}
 use Rattle.dutch_pair.specs.Seated.{score_at, AllNumbers}
 use Rattle.dutch_pair.specs.ColourFloors.{residents_down}
-use Rattle.dutch_pair.specs.FloorOf.{HasNumbers, are_numbers, is_of_shape}
+use Rattle.dutch_pair.specs.FloorOf.{Basis, HasNumbers, are_numbers, fixed_lists, is_known, is_of_shape}
 use Rattle.dutch_order.proofs.Members.{length-numbers}
 use Rattle.dutch_pair.proofs.ArrangementParts.{numbers_within}
 use Rattle.dutch_order.specs.declared.numbers.TheConstants.{LIMIT}
@@ -19,52 +20,52 @@ both : (s t : Bool) → (s && t) ≡ true → (s ≡ true) × (t ≡ true)
 both true t e = (refl, e)
 both false t e = absurd (cc)
 
-all_numbers : (stand : Stand) (numbers : List ℕ) → are_numbers stand numbers ≡ true → AllNumbers stand.seats numbers
-all_numbers stand [] e = tt
-all_numbers stand (x ∷ numbers) e =
-    let here = both (is_number stand x) (list_all (is_number stand) numbers) e in
-    let ends = both (nat_le 1 x) (nat_le x (length stand.seats)) here.0 in
+all_numbers : (reached : Reached) (numbers : List ℕ) → are_numbers reached numbers ≡ true → AllNumbers reached.seats numbers
+all_numbers reached [] e = tt
+all_numbers reached (x ∷ numbers) e =
+    let here = both (is_number reached x) (list_all (is_number reached) numbers) e in
+    let ends = both (nat_le 1 x) (nat_le x (length reached.seats)) here.0 in
     let first = leb-true 1 x ends.0 in
-    ((omega (arith, first), leb-true x (length stand.seats) ends.1), all_numbers stand numbers here.1)
+    ((omega (arith, first), leb-true x (length reached.seats) ends.1), all_numbers reached numbers here.1)
 
-pub small_pairs : (facts : Facts) (stand : Stand) (shape : Shape) → Fits (frame_of facts stand) shape → IsOf facts stand → shape.pairs ≤ LIMIT
-small_pairs facts stand shape fits of =
-    let counted = length-map stand.seats (score_at facts) in
-    let few : length (map (score_at facts) stand.seats) ≤ LIMIT = of.sound.few in
-    let enough : shape.mdps + 2 * (shape.pairs - shape.mdps) ≤ length (map (score_at facts) stand.seats) - stand.mdps = fits.residents_enough in
+pub small_pairs : (facts : Facts) (reached : Reached) (shape : Shape) → Fits (frame_of facts reached) shape → IsOf facts reached → shape.pairs ≤ LIMIT
+small_pairs facts reached shape fits of =
+    let counted = length-map reached.seats (score_at facts) in
+    let few : length (map (score_at facts) reached.seats) ≤ LIMIT = of.sound.few in
+    let enough : shape.mdps + 2 * (shape.pairs - shape.mdps) ≤ length (map (score_at facts) reached.seats) - reached.mdps = fits.residents_enough in
     omega (arith, counted, few, enough)
 
-pub small_mdps : (facts : Facts) (stand : Stand) (shape : Shape) → Fits (frame_of facts stand) shape → IsOf facts stand → shape.mdps ≤ LIMIT
-small_mdps facts stand shape fits of =
+pub small_mdps : (facts : Facts) (reached : Reached) (shape : Shape) → Fits (frame_of facts reached) shape → IsOf facts reached → shape.mdps ≤ LIMIT
+small_mdps facts reached shape fits of =
     let less : shape.mdps ≤ shape.pairs = fits.within_pairs in
-    omega (arith, less, small_pairs facts stand shape fits of)
+    omega (arith, less, small_pairs facts reached shape fits of)
 
-pub has_room : (facts : Facts) (stand : Stand) (shape : Shape) (count : ℕ) → Fits (frame_of facts stand) shape → IsOf facts stand → count ≤ shape.mdps
-    → (count + stand.mdps) + (remainder_pairs shape + residents_down stand shape) ≤ LIMIT
-has_room facts stand shape count fits of le =
-    let counted = length-map stand.seats (score_at facts) in
-    let few : length (map (score_at facts) stand.seats) ≤ LIMIT = of.sound.few in
-    let within : stand.mdps ≤ length (map (score_at facts) stand.seats) = of.sound.within in
-    let enough : shape.mdps + 2 * (shape.pairs - shape.mdps) ≤ length (map (score_at facts) stand.seats) - stand.mdps = fits.residents_enough in
+pub has_room : (facts : Facts) (reached : Reached) (shape : Shape) (count : ℕ) → Fits (frame_of facts reached) shape → IsOf facts reached → count ≤ shape.mdps
+    → (count + reached.mdps) + (remainder_pairs shape + residents_down reached shape) ≤ LIMIT
+has_room facts reached shape count fits of le =
+    let counted = length-map reached.seats (score_at facts) in
+    let few : length (map (score_at facts) reached.seats) ≤ LIMIT = of.sound.few in
+    let within : reached.mdps ≤ length (map (score_at facts) reached.seats) = of.sound.within in
+    let enough : shape.mdps + 2 * (shape.pairs - shape.mdps) ≤ length (map (score_at facts) reached.seats) - reached.mdps = fits.residents_enough in
     omega (arith, counted, few, within, enough, le)
 
-pub first_numbers : (facts : Facts) (stand : Stand) (shape : Shape) → Fits (frame_of facts stand) shape → IsOf facts stand → AllNumbers stand.seats (numbers_from 1 shape.mdps)
-first_numbers facts stand shape fits of =
-    let counted = length-map stand.seats (score_at facts) in
-    let within : stand.mdps ≤ length (map (score_at facts) stand.seats) = of.sound.within in
-    let less : shape.mdps ≤ stand.mdps = fits.within_moved_down in
-    numbers_within 0 1 shape.mdps (length stand.seats) (omega arith) (omega (arith, counted, within, less))
+pub first_numbers : (facts : Facts) (reached : Reached) (shape : Shape) → Fits (frame_of facts reached) shape → IsOf facts reached → AllNumbers reached.seats (numbers_from 1 shape.mdps)
+first_numbers facts reached shape fits of =
+    let counted = length-map reached.seats (score_at facts) in
+    let within : reached.mdps ≤ length (map (score_at facts) reached.seats) = of.sound.within in
+    let less : shape.mdps ≤ reached.mdps = fits.within_moved_down in
+    numbers_within 0 1 shape.mdps (length reached.seats) (omega arith) (omega (arith, counted, within, less))
 
-pub first_few : (stand : Stand) (shape : Shape) (lists : Arrangement) → is_of_shape stand shape lists ≡ true → length lists.s1 ≤ shape.mdps
-first_few stand shape lists e =
+pub first_few : (reached : Reached) (shape : Shape) (lists : Arrangement) → is_of_shape reached shape lists ≡ true → length lists.s1 ≤ shape.mdps
+first_few reached shape lists e =
     let parts = both _ _ e in
     let counts = both _ _ parts.1 in
     let first = both _ _ counts.0 in
     leb-true (length lists.s1) shape.mdps first.0
 
-pub numbers_fit : (facts : Facts) (stand : Stand) (shape : Shape) (lists : Arrangement) → Fits (frame_of facts stand) shape → IsOf facts stand
-    → is_of_shape stand shape lists ≡ true → HasNumbers stand lists
-numbers_fit facts stand shape lists fits of e =
+pub numbers_fit : (facts : Facts) (reached : Reached) (shape : Shape) (lists : Arrangement) → Fits (frame_of facts reached) shape → IsOf facts reached
+    → is_of_shape reached shape lists ≡ true → HasNumbers reached lists
+numbers_fit facts reached shape lists fits of e =
     let parts = both _ _ e in
     let s1 = both _ _ parts.0 in
     let s2 = both _ _ s1.1 in
@@ -76,13 +77,13 @@ numbers_fit facts stand shape lists fits of e =
     let s2_few = leb-true (length lists.s2) (length lists.s1) first.1 in
     let s1r_few = leb-true (length lists.s1r) (remainder_pairs shape) second.0 in
     let s2r_few = leb-true (length lists.s2r) (length lists.s1r) second.1 in
-    let small = small_pairs facts stand shape fits of in
+    let small = small_pairs facts reached shape fits of in
     let less : shape.mdps ≤ shape.pairs = fits.within_pairs in
     record {
-      s1 = all_numbers stand lists.s1 s1.0;
-      s2 = all_numbers stand lists.s2 s2.0;
-      s1r = all_numbers stand lists.s1r rest.0;
-      s2r = all_numbers stand lists.s2r rest.1;
+      s1 = all_numbers reached lists.s1 s1.0;
+      s2 = all_numbers reached lists.s2 s2.0;
+      s1r = all_numbers reached lists.s1r rest.0;
+      s2r = all_numbers reached lists.s2r rest.1;
       moved_down = s2_few;
       residents = s2r_few;
       few = omega (arith, s1_few, s2_few, s1r_few, s2r_few, small, less);
@@ -92,3 +93,14 @@ numbers_fit facts stand shape lists fits of e =
 -- the first S1 has as many as are to be paired
 pub first_length : (shape : Shape) (xs : List ℕ) → xs ≡ numbers_from 1 shape.mdps → length xs ≤ shape.mdps
 first_length shape xs e = omega (arith, ap length e, length-numbers 1 shape.mdps)
+
+-- where a floor is known, its lists are of the bracket and the shape
+of_shape : (basis : Basis) (b : Beginning) → is_known basis b ≡ true → is_of_shape basis.reached basis.shape (fixed_lists b) ≡ true
+of_shape basis b h = (both (is_of_shape basis.reached basis.shape (fixed_lists b)) _ h).0
+
+pub known_numbers : (basis : Basis) (b : Beginning) → Fits (frame_of basis.facts basis.reached) basis.shape → IsOf basis.facts basis.reached → is_known basis b ≡ true
+    → HasNumbers basis.reached (fixed_lists b)
+known_numbers basis b fits of' h = numbers_fit basis.facts basis.reached basis.shape (fixed_lists b) fits of' (of_shape basis b h)
+
+pub known_few : (basis : Basis) (b : Beginning) → is_known basis b ≡ true → length (fixed_lists b).s1 ≤ basis.shape.mdps
+known_few basis b h = first_few basis.reached basis.shape (fixed_lists b) (of_shape basis b h)

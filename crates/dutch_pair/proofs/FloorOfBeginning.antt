@@ -12,23 +12,23 @@ use Rattle.dutch_order.specs.Prefixes.{Begins, BeginsAt, Beginning, GoesOn}
 use Rattle.dutch_player.specs.Facts.{Facts}
 use Rattle.dutch_pair.specs.declared.colours_missed.Miss.TheVariants.{Preference}
 use Rattle.dutch_pair.specs.Beginnings.{HasPairsOf, LacksEndOfS2r, fixed}
-use Rattle.dutch_pair.specs.ColourFloors.{more_missed_strong, residents_down}
-use Rattle.dutch_pair.specs.FloorOf.{Basis, IsBasis, fixed_lists, floor_of, has_s1, is_flat, is_known, is_of_shape, is_uniform, lists_by, more_by, psd_by, residents_score, s1_by}
+use Rattle.dutch_pair.specs.ColourFloors.{residents_down}
+use Rattle.dutch_pair.specs.FloorOf.{Basis, IsBasis, fixed_lists, floor_of, has_s1, is_flat, is_known, is_of_shape, is_uniform, lists_by, more_by, more_in, psd_by, residents_score, s1_by}
 use Rattle.dutch_pair.specs.Outlooks.{IsOutlook, awaited}
 use Rattle.dutch_pair.specs.NextBracket.{IsFlat, is_lower}
 use Rattle.dutch_pair.specs.PsdFloors.{psd_with, repeated}
 use Rattle.dutch_pair.specs.Quality.{Quality, count_in_pairs, highest_first, is_better, misses, psd}
-use Rattle.dutch_pair.specs.Reached.{IsOf, Stand, frame_of}
-use Rattle.dutch_pair.specs.Round.{candidates_of, quality_of}
+use Rattle.dutch_pair.specs.Reached.{IsOf, Reached, frame_of}
+use Rattle.dutch_pair.specs.Round.{candidates_of, downfloaters, quality_of}
 use Rattle.dutch_pair.specs.Seated.{all_pairs, difference, score_at, seat_of}
 use Rattle.dutch_pair.proofs.C06Psd.{psd_by_first, psd_of_all, psd_of_beginning}
 use Rattle.dutch_pair.proofs.C07Outlook.{awaited_holds, flat_residents, uniform_of}
 use Rattle.std.proofs.lemmas.List.{length-map}
 use Rattle.dutch_pair.proofs.C08ToC19Fixed.{more_copies}
-use Rattle.dutch_pair.proofs.C10Lonely.{most_miss}
-use Rattle.dutch_pair.proofs.C10Preferences.{beginning_misses}
-use Rattle.dutch_pair.proofs.C11StrongPreferences.{beginning_misses_strongly}
-use Rattle.dutch_pair.proofs.FixedPairs.{has_pairs}
+use Rattle.dutch_pair.proofs.C10Lonely.{lonely_miss}
+use Rattle.dutch_pair.proofs.C10Preferences.{more_miss}
+use Rattle.dutch_pair.proofs.C11StrongPreferences.{more_miss_strongly}
+use Rattle.dutch_pair.proofs.FixedPairs.{beside, has_pairs, none_known}
 use Rattle.dutch_pair.proofs.FloorOrder.{floor_holds}
 use Rattle.dutch_pair.proofs.LegalPairs.{legal_of}
 
@@ -49,95 +49,109 @@ begun_pairs S2r lists a h = has_pairs (lists_by S2r lists) a (lacking lists a h)
 same_not_lower : (xs : List ℕ) → is_lower (highest_first xs) (highest_first xs) ≡ false
 same_not_lower xs = more_copies xs xs (λ d. omega arith)
 
-known_not_lower : (facts : Facts) (stand : Stand) (shape : Shape) (s : ℕ) (s1 : List ℕ)
-    → is_lower (psd_with facts stand shape s s1) (psd_with facts stand shape s s1) ≡ false
-known_not_lower facts stand shape s s1 =
-    same_not_lower (map (λ i. score_at facts (seat_of stand.seats i) - s) s1
-    ++ (map (λ i. (score_at facts (seat_of stand.seats i) - s) + 2) (left_of (numbers_from 1 stand.mdps) s1)
-    ++ (repeated 0 (remainder_pairs shape) ++ repeated 2 (residents_down stand shape))))
+known_not_lower : (facts : Facts) (reached : Reached) (shape : Shape) (s : ℕ) (s1 : List ℕ)
+    → is_lower (psd_with facts reached shape s s1) (psd_with facts reached shape s s1) ≡ false
+known_not_lower facts reached shape s s1 =
+    same_not_lower (map (λ i. score_at facts (seat_of reached.seats i) - s) s1
+    ++ (map (λ i. (score_at facts (seat_of reached.seats i) - s) + 2) (left_of (numbers_from 1 reached.mdps) s1)
+    ++ (repeated 0 (remainder_pairs shape) ++ repeated 2 (residents_down reached shape))))
 
 -- C.6, where all residents have one score
-psd_at : (basis : Basis) (lower : List ℕ) (filling : Filling) (lists a : Arrangement) → IsOf basis.facts basis.stand → IsFlat basis.facts basis.stand
-    → IsIn a (arrangements (frame_of basis.facts basis.stand) basis.shape) → BeginsAt filling lists a
-    → (has_s1 filling || is_uniform basis.facts basis.stand basis.shape) ≡ true
-    → (quality_of basis.facts basis.stand lower a).psd
-    ≡ psd_with basis.facts basis.stand basis.shape (residents_score basis.facts basis.stand) (s1_by filling basis.shape (lists_by filling lists).s1)
+psd_at : (basis : Basis) (lower : List ℕ) (filling : Filling) (lists a : Arrangement) → IsOf basis.facts basis.reached → IsFlat basis.facts basis.reached
+    → IsIn a (arrangements (frame_of basis.facts basis.reached) basis.shape) → BeginsAt filling lists a
+    → (has_s1 filling || is_uniform basis.facts basis.reached basis.shape) ≡ true
+    → (quality_of basis.facts basis.reached lower a).psd
+    ≡ psd_with basis.facts basis.reached basis.shape (residents_score basis.facts basis.reached) (s1_by filling basis.shape (lists_by filling lists).s1)
 psd_at basis lower S1 lists a of' flat m h known =
-    psd_of_all basis.facts basis.stand lower basis.shape a of' flat (uniform_of basis.facts basis.stand basis.shape of' known) m
+    psd_of_all basis.facts basis.reached lower basis.shape a of' flat (uniform_of basis.facts basis.reached basis.shape of' known) m
 psd_at basis lower S2 lists a of' flat m h known =
-    psd_by_first basis.facts basis.stand lower basis.shape a of' flat m
-    ∙ ap (psd_with basis.facts basis.stand basis.shape (residents_score basis.facts basis.stand)) (sym h.0)
+    psd_by_first basis.facts basis.reached lower basis.shape a of' flat m
+    ∙ ap (psd_with basis.facts basis.reached basis.shape (residents_score basis.facts basis.reached)) (sym h.0)
 psd_at basis lower S2r lists a of' flat m h known =
-    psd_by_first basis.facts basis.stand lower basis.shape a of' flat m
-    ∙ ap (psd_with basis.facts basis.stand basis.shape (residents_score basis.facts basis.stand)) (sym h.0)
+    psd_by_first basis.facts basis.reached lower basis.shape a of' flat m
+    ∙ ap (psd_with basis.facts basis.reached basis.shape (residents_score basis.facts basis.reached)) (sym h.0)
 
 -- C.6: the PSD is not lower
-psd_holds : (basis : Basis) (lower : List ℕ) (filling : Filling) (lists a : Arrangement) → IsOf basis.facts basis.stand
-    → IsIn a (arrangements (frame_of basis.facts basis.stand) basis.shape) → BeginsAt filling lists a
-    → (has_s1 filling || is_uniform basis.facts basis.stand basis.shape) ≡ true
-    → (t : Bool) → is_flat basis.facts basis.stand ≡ t
-    → is_lower (quality_of basis.facts basis.stand lower a).psd (cond t
-    (psd_with basis.facts basis.stand basis.shape (residents_score basis.facts basis.stand) (s1_by filling basis.shape (lists_by filling lists).s1))
-    (psd basis.facts (fixed basis.facts basis.stand (lists_by filling lists)))) ≡ false
+pub psd_holds : (basis : Basis) (lower : List ℕ) (filling : Filling) (lists a : Arrangement) → IsOf basis.facts basis.reached
+    → IsIn a (arrangements (frame_of basis.facts basis.reached) basis.shape) → BeginsAt filling lists a
+    → (has_s1 filling || is_uniform basis.facts basis.reached basis.shape) ≡ true
+    → (t : Bool) → is_flat basis.facts basis.reached ≡ t
+    → is_lower (quality_of basis.facts basis.reached lower a).psd (cond t
+    (psd_with basis.facts basis.reached basis.shape (residents_score basis.facts basis.reached) (s1_by filling basis.shape (lists_by filling lists).s1))
+    (psd basis.facts (fixed basis.facts basis.reached (lists_by filling lists)))) ≡ false
 psd_holds basis lower filling lists a of' m h known true flat =
-    let same = psd_at basis lower filling lists a of' (flat_residents basis.facts basis.stand of' flat) m h known in
-    ap (λ xs. is_lower xs (psd_with basis.facts basis.stand basis.shape (residents_score basis.facts basis.stand) (s1_by filling basis.shape (lists_by filling lists).s1))) same
-    ∙ known_not_lower basis.facts basis.stand basis.shape (residents_score basis.facts basis.stand) (s1_by filling basis.shape (lists_by filling lists).s1)
+    let same = psd_at basis lower filling lists a of' (flat_residents basis.facts basis.reached of' flat) m h known in
+    ap (λ xs. is_lower xs (psd_with basis.facts basis.reached basis.shape (residents_score basis.facts basis.reached) (s1_by filling basis.shape (lists_by filling lists).s1))) same
+    ∙ known_not_lower basis.facts basis.reached basis.shape (residents_score basis.facts basis.reached) (s1_by filling basis.shape (lists_by filling lists).s1)
 psd_holds basis lower filling lists a of' m h known false uneven =
-    let by : List ℕ = map (difference basis.facts) (all_pairs basis.stand.seats (lists_by filling lists)) in
-    ap (λ xs. is_lower (quality_of basis.facts basis.stand lower a).psd (highest_first xs)) (append-nil by)
-    ∙ psd_of_beginning basis.facts basis.stand lower (lists_by filling lists) a (begun_pairs filling lists a h)
+    let by : List ℕ = map (difference basis.facts) (all_pairs basis.reached.seats (lists_by filling lists)) in
+    ap (λ xs. is_lower (quality_of basis.facts basis.reached lower a).psd (highest_first xs)) (append-nil by)
+    ∙ psd_of_beginning basis.facts basis.reached lower (lists_by filling lists) a (begun_pairs filling lists a h)
+
+-- C.10: so many more miss, by counts alone
+missed_more : (basis : Basis) (lower : List ℕ) (b a : Arrangement) → basis.reached.mdps ≤ length basis.reached.seats
+    → IsIn a (arrangements (frame_of basis.facts basis.reached) basis.shape) → HasPairsOf b a
+    → count_in_pairs basis.facts (misses Preference) (all_pairs basis.reached.seats b) + more_in false basis.facts basis.reached basis.shape (fixed basis.facts basis.reached b)
+    ≤ (quality_of basis.facts basis.reached lower a).missed_preferences
+missed_more basis lower b a within m begins =
+    more_miss basis.facts basis.reached basis.shape (all_pairs basis.reached.seats b) [] a within m (beside basis.reached.seats b a begins)
+    (none_known (downfloaters basis.facts basis.reached a))
 
 -- C.10: so many more miss
-more_holds : (basis : Basis) (lower : List ℕ) (filling : Filling) (lists a : Arrangement) → basis.stand.mdps ≤ length basis.stand.seats
-    → IsIn a (candidates_of basis.facts basis.stand basis.shape) → BeginsAt filling lists a
-    → count_in_pairs basis.facts (misses Preference) (all_pairs basis.stand.seats (lists_by filling lists)) + more_by filling basis (lists_by filling lists)
-    ≤ (quality_of basis.facts basis.stand lower a).missed_preferences
+more_holds : (basis : Basis) (lower : List ℕ) (filling : Filling) (lists a : Arrangement) → basis.reached.mdps ≤ length basis.reached.seats
+    → IsIn a (candidates_of basis.facts basis.reached basis.shape) → BeginsAt filling lists a
+    → count_in_pairs basis.facts (misses Preference) (all_pairs basis.reached.seats (lists_by filling lists)) + more_by filling basis (lists_by filling lists)
+    ≤ (quality_of basis.facts basis.reached lower a).missed_preferences
 more_holds basis lower S1 lists a within m h =
-    beginning_misses basis.facts basis.stand lower basis.shape (lists_by S1 lists) a within (legal_of basis.facts basis.stand basis.shape a m).arranged (begun_pairs S1 lists a h)
+    missed_more basis lower (lists_by S1 lists) a within (legal_of basis.facts basis.reached basis.shape a m).arranged (begun_pairs S1 lists a h)
 more_holds basis lower S2 lists a within m h =
-    beginning_misses basis.facts basis.stand lower basis.shape (lists_by S2 lists) a within (legal_of basis.facts basis.stand basis.shape a m).arranged (begun_pairs S2 lists a h)
+    missed_more basis lower (lists_by S2 lists) a within (legal_of basis.facts basis.reached basis.shape a m).arranged (begun_pairs S2 lists a h)
 more_holds basis lower S2r lists a within m h =
-    most_miss basis.facts basis.stand lower basis.shape (lists_by S2r lists) a within m (lacking lists a h)
+    omega (
+      arith,
+      lonely_miss basis.facts basis.reached lower basis.shape (lists_by S2r lists) a within m (lacking lists a h),
+      missed_more basis lower (lists_by S2r lists) a within (legal_of basis.facts basis.reached basis.shape a m).arranged (begun_pairs S2r lists a h),
+    )
 
 -- C.6 to C.19: no candidate with a beginning is better than its floor
-pub floor_stands : (basis : Basis) (lower : List ℕ) (b : Beginning) (a : Arrangement) → IsOf basis.facts basis.stand
-    → IsIn a (candidates_of basis.facts basis.stand basis.shape) → Begins b a
-    → (has_s1 b.filling || is_uniform basis.facts basis.stand basis.shape) ≡ true
-    → IsOutlook basis.facts basis.stand lower basis.shape basis.outlook
-    → is_better (quality_of basis.facts basis.stand lower a) (floor_of basis b) ≡ false
+pub floor_stands : (basis : Basis) (lower : List ℕ) (b : Beginning) (a : Arrangement) → IsOf basis.facts basis.reached
+    → IsIn a (candidates_of basis.facts basis.reached basis.shape) → Begins b a
+    → (has_s1 b.filling || is_uniform basis.facts basis.reached basis.shape) ≡ true
+    → IsOutlook basis.facts basis.reached lower basis.shape basis.outlook
+    → is_better (quality_of basis.facts basis.reached lower a) (floor_of basis b) ≡ false
 floor_stands basis lower b a of' m h known outlook =
-    let legal = legal_of basis.facts basis.stand basis.shape a m in
-    let within : basis.stand.mdps ≤ length basis.stand.seats = subst (λ n. basis.stand.mdps ≤ n) (length-map basis.stand.seats (score_at basis.facts)) of'.sound.within in
-    let later = awaited_holds basis.facts basis.stand lower basis.shape basis.outlook of' outlook b.filling b.lists a legal.arranged h known in
-    floor_holds basis.facts basis.stand lower (psd_by b.filling basis (fixed_lists b))
-    (awaited basis.facts basis.stand basis.shape basis.outlook b.filling (fixed_lists b).s1) (more_by b.filling basis (fixed_lists b))
-    (more_missed_strong basis.facts basis.stand basis.shape (fixed_lists b)) (fixed_lists b) a
+    let legal = legal_of basis.facts basis.reached basis.shape a m in
+    let within : basis.reached.mdps ≤ length basis.reached.seats = subst (λ n. basis.reached.mdps ≤ n) (length-map basis.reached.seats (score_at basis.facts)) of'.sound.within in
+    let later = awaited_holds basis.facts basis.reached lower basis.shape basis.outlook of' outlook b.filling b.lists a legal.arranged h known in
+    floor_holds basis.facts basis.reached lower (psd_by b.filling basis (fixed_lists b))
+    (awaited basis.facts basis.reached basis.shape basis.outlook b.filling (fixed_lists b).s1) (more_by b.filling basis (fixed_lists b))
+    (more_in true basis.facts basis.reached basis.shape (fixed basis.facts basis.reached (fixed_lists b))) (fixed_lists b) a
     (begun_pairs b.filling b.lists a h)
-    (psd_holds basis lower b.filling b.lists a of' legal.arranged h known (is_flat basis.facts basis.stand) refl)
+    (psd_holds basis lower b.filling b.lists a of' legal.arranged h known (is_flat basis.facts basis.reached) refl)
     later.0 later.1
     (more_holds basis lower b.filling b.lists a within m h)
-    (beginning_misses_strongly basis.facts basis.stand lower basis.shape (fixed_lists b) a within m (begun_pairs b.filling b.lists a h))
+    (more_miss_strongly basis.facts basis.reached basis.shape (all_pairs basis.reached.seats (fixed_lists b)) [] a within m
+    (beside basis.reached.seats (fixed_lists b) a (begun_pairs b.filling b.lists a h)) (none_known (downfloaters basis.facts basis.reached a)))
 
-known_s1 : (basis : Basis) (b : Beginning) → is_known basis b ≡ true → (has_s1 b.filling || is_uniform basis.facts basis.stand basis.shape) ≡ true
-known_s1 basis b h = (and_parts (is_of_shape basis.stand basis.shape (fixed_lists b)) _ h).1
+pub known_s1 : (basis : Basis) (b : Beginning) → is_known basis b ≡ true → (has_s1 b.filling || is_uniform basis.facts basis.reached basis.shape) ≡ true
+known_s1 basis b h = (and_parts (is_of_shape basis.reached basis.shape (fixed_lists b)) _ h).1
 
 -- the same of a pass over the candidates of a bracket
-pub no_better : (facts : Facts) (stand : Stand) (lower : List ℕ) (shape : Shape) (basis : Basis) (b : Beginning) (floor : Quality) → IsBasis facts stand lower shape basis
-    → IsOf facts stand → is_known basis b ≡ true → floor ≡ floor_of basis b
-    → (a : Arrangement) → IsIn a (candidates_of facts stand shape) → Begins b a → is_better (quality_of facts stand lower a) floor ≡ false
-no_better facts stand lower shape basis b floor is of' known e a m h =
+pub no_better : (facts : Facts) (reached : Reached) (lower : List ℕ) (shape : Shape) (basis : Basis) (b : Beginning) (floor : Quality) → IsBasis facts reached lower shape basis
+    → IsOf facts reached → is_known basis b ≡ true → floor ≡ floor_of basis b
+    → (a : Arrangement) → IsIn a (candidates_of facts reached shape) → Begins b a → is_better (quality_of facts reached lower a) floor ≡ false
+no_better facts reached lower shape basis b floor is of' known e a m h =
     let f = is.facts_are in
     let s = is.stand_is in
     let p = is.shape_is in
-    let of'' : IsOf basis.facts basis.stand = subst (λ fs. IsOf fs basis.stand) (sym f) (subst (λ st. IsOf facts st) (sym s) of') in
-    let m' : IsIn a (candidates_of basis.facts basis.stand basis.shape) =
-    subst (λ fs. IsIn a (candidates_of fs basis.stand basis.shape)) (sym f)
-    (subst (λ st. IsIn a (candidates_of facts st basis.shape)) (sym s) (subst (λ sh. IsIn a (candidates_of facts stand sh)) (sym p) m)) in
-    let outlook : IsOutlook basis.facts basis.stand lower basis.shape basis.outlook =
-    subst (λ fs. IsOutlook fs basis.stand lower basis.shape basis.outlook) (sym f)
-    (subst (λ st. IsOutlook facts st lower basis.shape basis.outlook) (sym s) (subst (λ sh. IsOutlook facts stand lower sh basis.outlook) (sym p) is.outlook)) in
-    ap (λ fs. is_better (quality_of fs stand lower a) floor) (sym f)
+    let of'' : IsOf basis.facts basis.reached = subst (λ fs. IsOf fs basis.reached) (sym f) (subst (λ st. IsOf facts st) (sym s) of') in
+    let m' : IsIn a (candidates_of basis.facts basis.reached basis.shape) =
+    subst (λ fs. IsIn a (candidates_of fs basis.reached basis.shape)) (sym f)
+    (subst (λ st. IsIn a (candidates_of facts st basis.shape)) (sym s) (subst (λ sh. IsIn a (candidates_of facts reached sh)) (sym p) m)) in
+    let outlook : IsOutlook basis.facts basis.reached lower basis.shape basis.outlook =
+    subst (λ fs. IsOutlook fs basis.reached lower basis.shape basis.outlook) (sym f)
+    (subst (λ st. IsOutlook facts st lower basis.shape basis.outlook) (sym s) (subst (λ sh. IsOutlook facts reached lower sh basis.outlook) (sym p) is.outlook)) in
+    ap (λ fs. is_better (quality_of fs reached lower a) floor) (sym f)
     ∙ (ap (λ st. is_better (quality_of basis.facts st lower a) floor) (sym s)
-    ∙ (ap (λ q. is_better (quality_of basis.facts basis.stand lower a) q) e
+    ∙ (ap (λ q. is_better (quality_of basis.facts basis.reached lower a) q) e
     ∙ floor_stands basis lower b a of'' m' h (known_s1 basis b known) outlook))

@@ -1,7 +1,7 @@
 -- A floor is not beaten: a quality that is nowhere in front of another is not better than it (C.04.3 C.6 to C.19). Two qualities are
 -- compared item by item, and the first item that differs decides. There the quality stands behind its floor, since it is in front of
 -- it nowhere; at C.11 it may be in front where C.8 or C.9 differs, and then C.8 or C.9 has decided before.
-use Rattle.std.proofs.Common.{◌≡◌, ℕ, ◌+◌, ◌<◌, ◌≤◌, false, List, refl, sym, ap, arith}
+use Rattle.std.proofs.Common.{◌≡◌, ℕ, ◌+◌, ◌<◌, ◌≤◌, false, List, [], refl, sym, ap, arith}
 use Rattle.std.specs.declared.cmp.Ordering.{Ordering}
 use Rattle.std.specs.declared.cmp.Ordering.TheVariants.{Less, Equal, Greater}
 use Rattle.std.specs.Ordering.{nat_cmp, is_lt, ordering_then}
@@ -10,14 +10,15 @@ use Rattle.std.proofs.lemmas.Cmp.{ranked, by_ranked}
 use Rattle.dutch_order.specs.Arrangements.{Arrangement}
 use Rattle.dutch_player.specs.Facts.{Facts}
 use Rattle.dutch_pair.specs.declared.colours_missed.Miss.TheVariants.{Wide, Third, Preference, StrongPreference}
-use Rattle.dutch_pair.specs.Beginnings.{HasPairsOf}
-use Rattle.dutch_pair.specs.Floors.{IsFloor, floor_with}
+use Rattle.dutch_pair.specs.Beginnings.{HasPairsOf, seated_so}
+use Rattle.dutch_pair.specs.Floors.{IsFloor, floor_over, floor_with}
 use Rattle.dutch_pair.specs.NextBracket.{is_lower}
 use Rattle.dutch_pair.specs.Quality.{Quality, NextValue, misses, count_in_pairs, count_with_topscorers, compared_by_colours, compared_by_floats, compared_by_differences, is_better}
-use Rattle.dutch_pair.specs.Reached.{Stand}
-use Rattle.dutch_pair.specs.Round.{quality_of}
+use Rattle.dutch_pair.specs.Reached.{Reached}
+use Rattle.dutch_pair.specs.Round.{downfloaters, quality_of}
 use Rattle.dutch_pair.specs.Seated.{all_pairs}
-use Rattle.dutch_pair.proofs.C08ToC19Fixed.{least_of_beginning}
+use Rattle.dutch_pair.proofs.C08ToC19Fixed.{least_of_known}
+use Rattle.dutch_pair.proofs.FixedPairs.{Beside, beside, none_known}
 
 then_not : (o others : Ordering) → is_lt o ≡ false → is_lt others ≡ false → is_lt (ordering_then o others) ≡ false
 then_not Less others first later = first
@@ -63,20 +64,21 @@ module _ (f q : Quality) (floor : IsFloor f q) where
       (number_not f.next_pairs q.next_pairs _ floor.next_pairs (λ pairs.
       list_not q.next_psd f.next_psd _ (floor.next_psd (sym pairs)) colours_not))
 
--- so no arrangement with a beginning is better than the floor made from it, if the floor's PSD and value of the next bracket and its
+-- so no arrangement is better than the floor made from what is known of it, if the floor's PSD and value of the next bracket and its
 -- counts at C.10 and C.11 are such
-pub floor_holds : (facts : Facts) (stand : Stand) (lower psd : List ℕ) (next : NextValue) (more_missed more_missed_strong : ℕ) (b a : Arrangement) → HasPairsOf b a
-    → is_lower (quality_of facts stand lower a).psd psd ≡ false
-    → (quality_of facts stand lower a).next_pairs ≤ next.pairs
-    → ((quality_of facts stand lower a).next_pairs ≡ next.pairs → is_lower (quality_of facts stand lower a).next_psd next.psd ≡ false)
-    → count_in_pairs facts (misses Preference) (all_pairs stand.seats b) + more_missed ≤ (quality_of facts stand lower a).missed_preferences
-    → ((quality_of facts stand lower a).wide_differences ≡ count_with_topscorers facts (misses Wide) (all_pairs stand.seats b)
-    → (quality_of facts stand lower a).third_colours ≡ count_with_topscorers facts (misses Third) (all_pairs stand.seats b)
-    → count_in_pairs facts (misses StrongPreference) (all_pairs stand.seats b) + more_missed_strong ≤ (quality_of facts stand lower a).missed_strong)
-    → is_better (quality_of facts stand lower a) (floor_with facts stand psd next more_missed more_missed_strong b) ≡ false
-floor_holds facts stand lower psd next more_missed more_missed_strong b a begins by_psd by_pairs by_next_psd by_missed by_strong =
-    let least = least_of_beginning facts stand lower b a begins in
-    not_better (floor_with facts stand psd next more_missed more_missed_strong b) (quality_of facts stand lower a) (record {
+pub floor_stays : (facts : Facts) (reached : Reached) (lower psd : List ℕ) (next : NextValue) (more_missed more_missed_strong : ℕ) (known : List (ℕ × ℕ)) (gone : List ℕ)
+    (a : Arrangement) → Beside known (all_pairs reached.seats a) → Beside gone (downfloaters facts reached a)
+    → is_lower (quality_of facts reached lower a).psd psd ≡ false
+    → (quality_of facts reached lower a).next_pairs ≤ next.pairs
+    → ((quality_of facts reached lower a).next_pairs ≡ next.pairs → is_lower (quality_of facts reached lower a).next_psd next.psd ≡ false)
+    → count_in_pairs facts (misses Preference) known + more_missed ≤ (quality_of facts reached lower a).missed_preferences
+    → ((quality_of facts reached lower a).wide_differences ≡ count_with_topscorers facts (misses Wide) known
+    → (quality_of facts reached lower a).third_colours ≡ count_with_topscorers facts (misses Third) known
+    → count_in_pairs facts (misses StrongPreference) known + more_missed_strong ≤ (quality_of facts reached lower a).missed_strong)
+    → is_better (quality_of facts reached lower a) (floor_over facts psd next more_missed more_missed_strong (seated_so facts reached known gone)) ≡ false
+floor_stays facts reached lower psd next more_missed more_missed_strong known gone a others left by_psd by_pairs by_next_psd by_missed by_strong =
+    let least = least_of_known facts reached lower known gone a others left in
+    not_better (floor_over facts psd next more_missed more_missed_strong (seated_so facts reached known gone)) (quality_of facts reached lower a) (record {
       psd = by_psd;
       next_pairs = by_pairs;
       next_psd = by_next_psd;
@@ -93,3 +95,17 @@ floor_holds facts stand lower psd next more_missed more_missed_strong b a begins
       down_again_before_by = least.down_again_before_by;
       up_again_before_by = least.up_again_before_by;
     })
+
+-- the same where a beginning is known
+pub floor_holds : (facts : Facts) (reached : Reached) (lower psd : List ℕ) (next : NextValue) (more_missed more_missed_strong : ℕ) (b a : Arrangement) → HasPairsOf b a
+    → is_lower (quality_of facts reached lower a).psd psd ≡ false
+    → (quality_of facts reached lower a).next_pairs ≤ next.pairs
+    → ((quality_of facts reached lower a).next_pairs ≡ next.pairs → is_lower (quality_of facts reached lower a).next_psd next.psd ≡ false)
+    → count_in_pairs facts (misses Preference) (all_pairs reached.seats b) + more_missed ≤ (quality_of facts reached lower a).missed_preferences
+    → ((quality_of facts reached lower a).wide_differences ≡ count_with_topscorers facts (misses Wide) (all_pairs reached.seats b)
+    → (quality_of facts reached lower a).third_colours ≡ count_with_topscorers facts (misses Third) (all_pairs reached.seats b)
+    → count_in_pairs facts (misses StrongPreference) (all_pairs reached.seats b) + more_missed_strong ≤ (quality_of facts reached lower a).missed_strong)
+    → is_better (quality_of facts reached lower a) (floor_with facts reached psd next more_missed more_missed_strong b) ≡ false
+floor_holds facts reached lower psd next more_missed more_missed_strong b a begins =
+    floor_stays facts reached lower psd next more_missed more_missed_strong (all_pairs reached.seats b) [] a (beside reached.seats b a begins)
+    (none_known (downfloaters facts reached a))

@@ -9,12 +9,12 @@ use Rattle.dutch_order.specs.Keys.{IsIn}
 use Rattle.dutch_order.specs.Arrangements.{Arrangement, arrangements}
 use Rattle.dutch_player.specs.Facts.{Facts}
 use Rattle.dutch_pair.specs.Seated.{pairs_of, score_at, all_pairs}
-use Rattle.dutch_pair.specs.Reached.{Stand, frame_of}
+use Rattle.dutch_pair.specs.Reached.{Reached, frame_of}
 use Rattle.dutch_pair.specs.Round.{downfloaters}
-use Rattle.dutch_pair.specs.Beginnings.{in_both, free, room}
+use Rattle.dutch_pair.specs.Beginnings.{in_both}
 use Rattle.dutch_pair.proofs.ArrangementParts.{parts_of}
 use Rattle.dutch_pair.proofs.Everybody.{pairs_total, bracket_whole}
-use Rattle.dutch_pair.proofs.FixedPairs.{Beside, others_of, sum_beside, length_beside}
+use Rattle.dutch_pair.proofs.FixedPairs.{Beside, sum_beside, length_beside}
 use Rattle.dutch_pair.proofs.Totals.{total, total_length}
 
 total_sum : (w : ℕ → ℕ) (xs : List ℕ) → total w xs ≡ sum_by w xs
@@ -45,12 +45,12 @@ pairs_counted seats [] seconds equal = refl
 pairs_counted seats (a ∷ firsts) [] equal = absurd (omega arith)
 pairs_counted seats (a ∷ firsts) (b ∷ seconds) equal = omega (arith, pairs_counted seats firsts seconds (omega arith))
 
-module _ (facts : Facts) (stand : Stand) (shape : Shape) (b a : Arrangement) (within : stand.mdps ≤ length stand.seats) (m : IsIn a (arrangements (frame_of facts stand) shape)) where
-  pairs_made : length (all_pairs stand.seats a) ≡ shape.mdps + (shape.pairs - shape.mdps)
+module _ (facts : Facts) (reached : Reached) (shape : Shape) (known : List (ℕ × ℕ)) (a : Arrangement) (within : reached.mdps ≤ length reached.seats) (m : IsIn a (arrangements (frame_of facts reached) shape)) where
+  pairs_made : length (all_pairs reached.seats a) ≡ shape.mdps + (shape.pairs - shape.mdps)
   pairs_made =
-      let seats : List ℕ = stand.seats in
-      let counted : length (frame_of facts stand).scores ≡ length seats = length-map seats (score_at facts) in
-      let parts = parts_of (frame_of facts stand) shape a (omega (arith, within, counted)) m in
+      let seats : List ℕ = reached.seats in
+      let counted : length (frame_of facts reached).scores ≡ length seats = length-map seats (score_at facts) in
+      let parts = parts_of (frame_of facts reached) shape a (omega (arith, within, counted)) m in
       omega (
         arith,
         length-append (pairs_of seats a.s1 a.s2) (pairs_of seats a.s1r a.s2r),
@@ -60,24 +60,29 @@ module _ (facts : Facts) (stand : Stand) (shape : Shape) (b a : Arrangement) (wi
         parts.s1r_count,
       )
 
-  pub free_served : (w : ℕ → ℕ) (g : ℕ × ℕ → ℕ) → ((x : ℕ) → w x ≤ 1) → (others : Beside stand.seats b a)
-      → AllByRecursion (λ pair. in_both w pair ≤ 1 + g pair) (others_of stand.seats b a others)
-      → free w stand b ≤ room stand shape b + sum_by g (others_of stand.seats b a others)
-  free_served w g one others each =
-      let seats : List ℕ = stand.seats in
-      let down : List ℕ = downfloaters facts stand a in
+  pub free_served : (w : ℕ → ℕ) (g : ℕ × ℕ → ℕ) → ((x : ℕ) → w x ≤ 1) → (gone : List ℕ) → (others : Beside known (all_pairs reached.seats a))
+      → (left : Beside gone (downfloaters facts reached a)) → AllByRecursion (λ pair. in_both w pair ≤ 1 + g pair) others.others
+      → (sum_by w reached.seats - sum_by (in_both w) known) - sum_by w gone
+      ≤ ((shape.pairs - length known) + ((length reached.seats - 2 * shape.pairs) - length gone)) + sum_by g others.others
+  free_served w g one gone others left each =
+      let seats : List ℕ = reached.seats in
+      let down : List ℕ = downfloaters facts reached a in
       omega (
         arith,
-        bracket_whole w facts stand shape a within m,
-        bracket_whole (λ x. 1) facts stand shape a within m,
+        bracket_whole w facts reached shape a within m,
+        bracket_whole (λ x. 1) facts reached shape a within m,
         total_sum w seats,
         pairs_sum w (all_pairs seats a),
-        total_few w one down,
+        total_sum w down,
+        sum_beside w gone down left,
+        length_beside gone down left,
+        total_sum w left.others,
+        total_few w one left.others,
         two_each (all_pairs seats a),
         total_length down,
         total_length seats,
         pairs_made,
-        sum_beside (in_both w) seats b a others,
-        length_beside seats b a others,
-        pairs_serve (in_both w) g (others_of seats b a others) each,
+        sum_beside (in_both w) known (all_pairs seats a) others,
+        length_beside known (all_pairs seats a) others,
+        pairs_serve (in_both w) g others.others each,
       )

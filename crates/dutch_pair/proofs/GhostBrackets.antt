@@ -9,7 +9,7 @@ use Rattle.dutch_order.specs.Arrangements.{IsBracket}
 use Rattle.dutch_order.proofs.Members.{length-numbers}
 use Rattle.dutch_player.specs.Facts.{Facts}
 use Rattle.dutch_pair.specs.Seated.{seat_of, score_at}
-use Rattle.dutch_pair.specs.Reached.{Stand, IsOf}
+use Rattle.dutch_pair.specs.Reached.{Reached, IsOf}
 use Rattle.dutch_pair.specs.NextBracket.{IsFlat, IsNext}
 use Rattle.dutch_pair.specs.ColourFloors.{residents_down}
 use Rattle.dutch_pair.specs.PsdFloors.{repeated}
@@ -27,81 +27,81 @@ number_at first (suc count) (suc i) h = let e = number_at (suc first) count i (o
 sides : (i k : ℕ) → (i < k) ⊎ (k ≤ i)
 sides i k = grind arith
 
-module _ (facts : Facts) (stand : Stand) (of' : IsOf facts stand) (flat : IsFlat facts stand) (next : List ℕ) (below : IsNext facts stand next) (shape : Shape) where
-  within : stand.mdps ≤ length stand.seats
+module _ (facts : Facts) (reached : Reached) (of' : IsOf facts reached) (flat : IsFlat facts reached) (next : List ℕ) (below : IsNext facts reached next) (shape : Shape) where
+  within : reached.mdps ≤ length reached.seats
   within = let h = flat.resident in omega (arith, h)
 
-  limbo_length : length (first_limbo facts stand shape) ≡ stand.mdps - shape.mdps
-  limbo_length = length-map (numbers_from (shape.mdps + 1) (stand.mdps - shape.mdps)) (λ i. score_at facts (seat_of stand.seats i)) ∙ length-numbers (shape.mdps + 1) (stand.mdps - shape.mdps)
+  limbo_length : length (first_limbo facts reached shape) ≡ reached.mdps - shape.mdps
+  limbo_length = length-map (numbers_from (shape.mdps + 1) (reached.mdps - shape.mdps)) (λ i. score_at facts (seat_of reached.seats i)) ∙ length-numbers (shape.mdps + 1) (reached.mdps - shape.mdps)
 
-  pub ghost_count : length (first_ghosts facts stand shape) ≡ (stand.mdps - shape.mdps) + residents_down stand shape
+  pub ghost_count : length (first_ghosts facts reached shape) ≡ (reached.mdps - shape.mdps) + residents_down reached shape
   ghost_count =
-      let s : ℕ = score_at facts (seat_of stand.seats (stand.mdps + 1)) in
-      let all = length-append (first_limbo facts stand shape) (repeated s (residents_down stand shape)) in
-      omega (arith, all, limbo_length, length-repeated s (residents_down stand shape))
+      let s : ℕ = score_at facts (seat_of reached.seats (reached.mdps + 1)) in
+      let all = length-append (first_limbo facts reached shape) (repeated s (residents_down reached shape)) in
+      omega (arith, all, limbo_length, length-repeated s (residents_down reached shape))
 
   -- a ghost has the score of a player of the bracket, the players in their order
-  ghost_at : (i : ℕ) → i < length (first_ghosts facts stand shape) → get_or (first_ghosts facts stand shape) i 0 ≡ score_at facts (seat_of stand.seats (min shape.mdps stand.mdps + 1 + i))
+  ghost_at : (i : ℕ) → i < length (first_ghosts facts reached shape) → get_or (first_ghosts facts reached shape) i 0 ≡ score_at facts (seat_of reached.seats (min shape.mdps reached.mdps + 1 + i))
   ghost_at i h =
-      let f : ℕ → ℕ = λ i. score_at facts (seat_of stand.seats i) in
-      let s : ℕ = f (stand.mdps + 1) in
-      let u : ℕ = stand.mdps - shape.mdps in
-      let d : ℕ = residents_down stand shape in
+      let f : ℕ → ℕ = λ i. score_at facts (seat_of reached.seats i) in
+      let s : ℕ = f (reached.mdps + 1) in
+      let u : ℕ = reached.mdps - shape.mdps in
+      let d : ℕ = residents_down reached shape in
       let count = ghost_count in
-      let few : d ≤ length stand.seats - stand.mdps = omega arith in
+      let few : d ≤ length reached.seats - reached.mdps = omega arith in
       elim (sides i u) [
         | inl low ↦
-            append_low (first_limbo facts stand shape) (repeated s d) i (omega (arith, low, limbo_length))
+            append_low (first_limbo facts reached shape) (repeated s d) i (omega (arith, low, limbo_length))
             ∙ get_or-map f (numbers_from (shape.mdps + 1) u) i 0 0 (let e = length-numbers (shape.mdps + 1) u in omega (arith, low, e))
-            ∙ ap f (number_at (shape.mdps + 1) u i low ∙ (let e : shape.mdps + 1 + i ≡ min shape.mdps stand.mdps + 1 + i = omega (arith, low) in e))
+            ∙ ap f (number_at (shape.mdps + 1) u i low ∙ (let e : shape.mdps + 1 + i ≡ min shape.mdps reached.mdps + 1 + i = omega (arith, low) in e))
         | inr high ↦
             let past : i - u < d = omega (arith, h, count, high) in
-            let place : stand.mdps + 1 + (i - u) ≡ min shape.mdps stand.mdps + 1 + i = omega (arith, high, past) in
-            append_high (first_limbo facts stand shape) (repeated s d) i (omega (arith, high, limbo_length))
+            let place : reached.mdps + 1 + (i - u) ≡ min shape.mdps reached.mdps + 1 + i = omega (arith, high, past) in
+            append_high (first_limbo facts reached shape) (repeated s d) i (omega (arith, high, limbo_length))
             ∙ ap (λ k. get_or (repeated s d) (i - k) 0) limbo_length
             ∙ repeated_at s d (i - u) past
-            ∙ sym (ap f (sym place) ∙ flat.same (stand.mdps + 1 + (i - u)) (omega arith) (omega (arith, past, few, flat.resident)))
+            ∙ sym (ap f (sym place) ∙ flat.same (reached.mdps + 1 + (i - u)) (omega arith) (omega (arith, past, few, flat.resident)))
       ]
 
-  place_within : (i : ℕ) → i < length (first_ghosts facts stand shape) → min shape.mdps stand.mdps + 1 + i ≤ length stand.seats
+  place_within : (i : ℕ) → i < length (first_ghosts facts reached shape) → min shape.mdps reached.mdps + 1 + i ≤ length reached.seats
   place_within i h = let count = ghost_count in omega (arith, h, count, within)
 
-  all_length : length (first_ghosts facts stand shape ++ map (score_at facts) next) ≡ length (first_ghosts facts stand shape) + length next
-  all_length = length-append (first_ghosts facts stand shape) (map (score_at facts) next) ∙ ap (λ k. length (first_ghosts facts stand shape) + k) (length-map next (score_at facts))
+  all_length : length (first_ghosts facts reached shape ++ map (score_at facts) next) ≡ length (first_ghosts facts reached shape) + length next
+  all_length = length-append (first_ghosts facts reached shape) (map (score_at facts) next) ∙ ap (λ k. length (first_ghosts facts reached shape) + k) (length-map next (score_at facts))
 
-  front_at : (i : ℕ) → i < length (first_ghosts facts stand shape) → slice_index (first_ghosts facts stand shape ++ map (score_at facts) next) i ≡ score_at facts (seat_of stand.seats (min shape.mdps stand.mdps + 1 + i))
-  front_at i h = append_low (first_ghosts facts stand shape) (map (score_at facts) next) i h ∙ ghost_at i h
+  front_at : (i : ℕ) → i < length (first_ghosts facts reached shape) → slice_index (first_ghosts facts reached shape ++ map (score_at facts) next) i ≡ score_at facts (seat_of reached.seats (min shape.mdps reached.mdps + 1 + i))
+  front_at i h = append_low (first_ghosts facts reached shape) (map (score_at facts) next) i h ∙ ghost_at i h
 
-  back_at : (i : ℕ) → length (first_ghosts facts stand shape) ≤ i → i < length (first_ghosts facts stand shape) + length next → slice_index (first_ghosts facts stand shape ++ map (score_at facts) next) i ≡ score_at facts (get_or next (i - length (first_ghosts facts stand shape)) 0)
-  back_at i h g = append_high (first_ghosts facts stand shape) (map (score_at facts) next) i h ∙ get_or-map (score_at facts) next (i - length (first_ghosts facts stand shape)) 0 0 (omega (arith, h, g))
+  back_at : (i : ℕ) → length (first_ghosts facts reached shape) ≤ i → i < length (first_ghosts facts reached shape) + length next → slice_index (first_ghosts facts reached shape ++ map (score_at facts) next) i ≡ score_at facts (get_or next (i - length (first_ghosts facts reached shape)) 0)
+  back_at i h g = append_high (first_ghosts facts reached shape) (map (score_at facts) next) i h ∙ get_or-map (score_at facts) next (i - length (first_ghosts facts reached shape)) 0 0 (omega (arith, h, g))
 
-  apart : (i j : ℕ) → i < length (first_ghosts facts stand shape) → length (first_ghosts facts stand shape) ≤ j → j < length (first_ghosts facts stand shape) + length next
-      → slice_index (first_ghosts facts stand shape ++ map (score_at facts) next) j < slice_index (first_ghosts facts stand shape ++ map (score_at facts) next) i
+  apart : (i j : ℕ) → i < length (first_ghosts facts reached shape) → length (first_ghosts facts reached shape) ≤ j → j < length (first_ghosts facts reached shape) + length next
+      → slice_index (first_ghosts facts reached shape ++ map (score_at facts) next) j < slice_index (first_ghosts facts reached shape ++ map (score_at facts) next) i
   apart i j h g k =
-      let place : ℕ = min shape.mdps stand.mdps + 1 + i in
-      let lower : score_at facts (get_or next (j - length (first_ghosts facts stand shape)) 0) < score_at facts (seat_of stand.seats place) =
-      below.below (place - 1) (j - length (first_ghosts facts stand shape)) (let e = place_within i h in omega (arith, e)) (omega (arith, g, k)) in
+      let place : ℕ = min shape.mdps reached.mdps + 1 + i in
+      let lower : score_at facts (get_or next (j - length (first_ghosts facts reached shape)) 0) < score_at facts (seat_of reached.seats place) =
+      below.below (place - 1) (j - length (first_ghosts facts reached shape)) (let e = place_within i h in omega (arith, e)) (omega (arith, g, k)) in
       omega (arith, lower, front_at i h, back_at j g k)
 
-  falls : (i : ℕ) → i + 1 < length (first_ghosts facts stand shape) + length next
-      → slice_index (first_ghosts facts stand shape ++ map (score_at facts) next) (i + 1) ≤ slice_index (first_ghosts facts stand shape ++ map (score_at facts) next) i
+  falls : (i : ℕ) → i + 1 < length (first_ghosts facts reached shape) + length next
+      → slice_index (first_ghosts facts reached shape ++ map (score_at facts) next) (i + 1) ≤ slice_index (first_ghosts facts reached shape ++ map (score_at facts) next) i
   falls i h =
-      elim (sides (i + 1) (length (first_ghosts facts stand shape))) [
+      elim (sides (i + 1) (length (first_ghosts facts reached shape))) [
         | inl low ↦
-            let before : i < length (first_ghosts facts stand shape) = omega (arith, low) in
-            let level : score_at facts (seat_of stand.seats (min shape.mdps stand.mdps + 1 + (i + 1))) ≤ score_at facts (seat_of stand.seats (min shape.mdps stand.mdps + 1 + i)) =
-            seats_fall facts stand of' (min shape.mdps stand.mdps + 1 + i) (min shape.mdps stand.mdps + 1 + (i + 1)) (omega arith) (omega arith) (place_within (i + 1) low) in
+            let before : i < length (first_ghosts facts reached shape) = omega (arith, low) in
+            let level : score_at facts (seat_of reached.seats (min shape.mdps reached.mdps + 1 + (i + 1))) ≤ score_at facts (seat_of reached.seats (min shape.mdps reached.mdps + 1 + i)) =
+            seats_fall facts reached of' (min shape.mdps reached.mdps + 1 + i) (min shape.mdps reached.mdps + 1 + (i + 1)) (omega arith) (omega arith) (place_within (i + 1) low) in
             omega (arith, level, front_at (i + 1) low, front_at i before)
-        | inr high ↦ elim (sides i (length (first_ghosts facts stand shape))) [
+        | inr high ↦ elim (sides i (length (first_ghosts facts reached shape))) [
           | inl last ↦ let lower = apart i (i + 1) last high h in omega (arith, lower)
           | inr past ↦
-              let level : score_at facts (slice_index next ((i + 1) - length (first_ghosts facts stand shape))) ≡ score_at facts (slice_index next (i - length (first_ghosts facts stand shape))) =
-              below.same ((i + 1) - length (first_ghosts facts stand shape)) (i - length (first_ghosts facts stand shape)) (omega (arith, high, h)) (omega (arith, past, h)) in
+              let level : score_at facts (slice_index next ((i + 1) - length (first_ghosts facts reached shape))) ≡ score_at facts (slice_index next (i - length (first_ghosts facts reached shape))) =
+              below.same ((i + 1) - length (first_ghosts facts reached shape)) (i - length (first_ghosts facts reached shape)) (omega (arith, high, h)) (omega (arith, past, h)) in
               omega (arith, level, back_at (i + 1) high h, back_at i past (omega (arith, h)))
         ]
       ]
 
-  pub ghosts_are_a_bracket : IsBracket (ghost_frame facts (first_ghosts facts stand shape) next).scores (length (first_ghosts facts stand shape))
+  pub ghosts_are_a_bracket : IsBracket (ghost_frame facts (first_ghosts facts reached shape) next).scores (length (first_ghosts facts reached shape))
   ghosts_are_a_bracket = record {
     few = let count = ghost_count in let room = below.few in omega (arith, count, room, all_length, within);
     within = omega (arith, all_length);

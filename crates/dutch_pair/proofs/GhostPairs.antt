@@ -18,17 +18,6 @@ use Rattle.dutch_pair.specs.Ghosts.{ghost_pair, may_bye}
 use Rattle.dutch_pair.proofs.ArrangementParts.{parts_of}
 use Rattle.dutch_pair.proofs.PsdParts.{down_parts}
 
-pub both_true : (s t : Bool) → (s && t) ≡ true → (s ≡ true) × (t ≡ true)
-both_true true t e = (refl, e)
-both_true false t e = let bad : false ≡ true = e in absurd (cc)
-
-pub and_true : (s t : Bool) → s ≡ true → t ≡ true → (s && t) ≡ true
-and_true s t e f = ap (λ b. b && t) e ∙ f
-
-pub either : (t : Bool) → (t ≡ true) ⊎ (t ≡ false)
-either true = inl refl
-either false = inr refl
-
 -- how many an arrangement leaves over
 pub down_count : (frame : Frame) (shape : Shape) (a : Arrangement) → frame.mdps ≤ length frame.scores → shape.mdps ≤ shape.pairs
     → IsIn a (arrangements frame shape) → length (down frame a) + 2 * shape.pairs ≡ length frame.scores

@@ -7,8 +7,8 @@ use Rattle.std.proofs.lemmas.List.Sums.{sum_by-cons}
 use Rattle.std.proofs.lemmas.Bool.Decides.{nat_tests}
 use Rattle.trf16.specs.declared.cell.Colour.{Colour}
 use Rattle.trf16.specs.declared.cell.Colour.TheVariants.{White, Black}
-use Rattle.dutch_player.specs.declared.preference.Kind.{Kind}
-use Rattle.dutch_player.specs.declared.preference.Kind.TheVariants.{Absolute, Strong, Mild}
+use Rattle.dutch_player.specs.declared.preference.Strength.{Strength}
+use Rattle.dutch_player.specs.declared.preference.Strength.TheVariants.{Absolute, Strong, Mild}
 use Rattle.dutch_player.specs.declared.preference.Pref.{Pref}
 use Rattle.dutch_player.specs.Preferences.{other, is_same, is_white, is_black, whites, blacks, last_two, for, mild, strong_or_mild, after_last_two, preference}
 use Rattle.dutch_player.specs.Meetings.{clash}
@@ -50,26 +50,26 @@ black_is_wide played h =
     ap one_if on
 
 -- what kind a preference has, and which colour
-abbrev kind_of : Option Pref → Kind
-kind_of None = Mild
-kind_of (Some wish) = wish.kind
+abbrev strength_of : Option Pref → Strength
+strength_of None = Mild
+strength_of (Some wish) = wish.strength
 
 abbrev colour_of : Option Pref → Colour
 colour_of None = White
 colour_of (Some wish) = wish.colour
 
 mild_is_not : (played : List Colour) (c : Colour) → mild played ≡ Some (for Absolute c) → ⊥
-mild_is_not [] c e = let k : Mild ≡ Absolute = ap kind_of e in absurd (cc)
-mild_is_not (last ∷ rest) c e = let k : Mild ≡ Absolute = ap kind_of e in absurd (cc)
+mild_is_not [] c e = let k : Mild ≡ Absolute = ap strength_of e in absurd (cc)
+mild_is_not (last ∷ rest) c e = let k : Mild ≡ Absolute = ap strength_of e in absurd (cc)
 
 milder_is_not : (played : List Colour) (c : Colour) (t : Bool) → (if t then Some (for Strong White) else mild played) ≡ Some (for Absolute c) → ⊥
-milder_is_not played c true e = let k : Strong ≡ Absolute = ap kind_of e in absurd (cc)
+milder_is_not played c true e = let k : Strong ≡ Absolute = ap strength_of e in absurd (cc)
 milder_is_not played c false e = mild_is_not played c e
 
 never_absolute_at : (played : List Colour) (c : Colour) (t : Bool)
     → (if t then Some (for Strong Black) else (if nat_lt (whites played) (blacks played) then Some (for Strong White) else mild played)) ≡ Some (for Absolute c)
     → ⊥
-never_absolute_at played c true e = let k : Strong ≡ Absolute = ap kind_of e in absurd (cc)
+never_absolute_at played c true e = let k : Strong ≡ Absolute = ap strength_of e in absurd (cc)
 never_absolute_at played c false e = milder_is_not played c (nat_lt (whites played) (blacks played)) e
 
 never_absolute : (played : List Colour) (c : Colour) → strong_or_mild played ≡ Some (for Absolute c) → ⊥
@@ -109,11 +109,11 @@ one_overdue high low Black Black e f = omega (arith, overdue low Black f)
 
 -- 1 where a preference is firm and for a colour
 abbrev pub firm : Colour → Option Pref → ℕ
-firm c p = one_if (option_map_or (λ wish. is_firm wish.kind && is_same wish.colour c) p false)
+firm c p = one_if (option_map_or (λ wish. is_firm wish.strength && is_same wish.colour c) p false)
 
 -- 1 where a colour is not that of a strong preference
 abbrev pub strong_missed : Option Pref → Colour → ℕ
-strong_missed p c = one_if (option_map_or (λ wish. is_strong wish.kind && not (is_same wish.colour c)) p false)
+strong_missed p c = one_if (option_map_or (λ wish. is_strong wish.strength && not (is_same wish.colour c)) p false)
 
 -- what a pair adds to C.11, and to C.8 and C.9, where the first gets a colour
 abbrev pub adds : (high low : SeatFacts) (p q : Option Pref) (top : Bool) (given : Colour) → ℕ
@@ -127,7 +127,7 @@ one_strong_missed Black White = omega arith
 one_strong_missed Black Black = omega arith
 
 -- two firm preferences for one colour
-two_firm : (initial : Colour) (high low : SeatFacts) (k l : Kind) (c : Colour) (top : Bool) → is_firm k ≡ true → is_firm l ≡ true
+two_firm : (initial : Colour) (high low : SeatFacts) (k l : Strength) (c : Colour) (top : Bool) → is_firm k ≡ true → is_firm l ≡ true
     → preference high.played ≡ Some (for k c) → preference low.played ≡ Some (for l c)
     → (top || not (clash (Some (for k c)) (Some (for l c)))) ≡ true
     → 1 ≤ adds high low (Some (for k c)) (Some (for l c)) top (granted initial high low (Some (for k c)) (Some (for l c)))
@@ -146,7 +146,7 @@ two_firm initial high low Absolute Absolute c true e f p q allowed =
     omega (arith, one_overdue high low c (granted initial high low (Some (for Absolute c)) (Some (for Absolute c))) p q)
 
 -- a preference counts for a colour only where it is firm and for it
-counts_only : (k : Kind) (d c : Colour) → (one_if (is_firm k && is_same d c) ≡ 0) ⊎ ((d ≡ c) × (is_firm k ≡ true))
+counts_only : (k : Strength) (d c : Colour) → (one_if (is_firm k && is_same d c) ≡ 0) ⊎ ((d ≡ c) × (is_firm k ≡ true))
 counts_only Mild d c = inl refl
 counts_only Strong White White = inr (refl, refl)
 counts_only Strong White Black = inl refl
@@ -157,7 +157,7 @@ counts_only Absolute White Black = inl refl
 counts_only Absolute Black White = inl refl
 counts_only Absolute Black Black = inr (refl, refl)
 
-both_served : (initial c : Colour) (high low : SeatFacts) (k l : Kind) (d e : Colour) (top : Bool)
+both_served : (initial c : Colour) (high low : SeatFacts) (k l : Strength) (d e : Colour) (top : Bool)
     → preference high.played ≡ Some (for k d) → preference low.played ≡ Some (for l e)
     → (top || not (clash (Some (for k d)) (Some (for l e)))) ≡ true
     → firm c (Some (for k d)) + firm c (Some (for l e)) ≤ 1 + adds high low (Some (for k d)) (Some (for l e)) top (granted initial high low (Some (for k d)) (Some (for l e)))
@@ -179,6 +179,6 @@ pub firm_served : (initial c : Colour) (high low : SeatFacts) (p q : Option Pref
     → preference high.played ≡ p → preference low.played ≡ q → (top || not (clash p q)) ≡ true
     → firm c p + firm c q ≤ 1 + adds high low p q top (granted initial high low p q)
 firm_served initial c high low None None top e f allowed = omega arith
-firm_served initial c high low None (Some y) top e f allowed = omega (arith, at_most_one (is_firm y.kind && is_same y.colour c))
-firm_served initial c high low (Some x) None top e f allowed = omega (arith, at_most_one (is_firm x.kind && is_same x.colour c))
-firm_served initial c high low (Some x) (Some y) top e f allowed = both_served initial c high low x.kind y.kind x.colour y.colour top e f allowed
+firm_served initial c high low None (Some y) top e f allowed = omega (arith, at_most_one (is_firm y.strength && is_same y.colour c))
+firm_served initial c high low (Some x) None top e f allowed = omega (arith, at_most_one (is_firm x.strength && is_same x.colour c))
+firm_served initial c high low (Some x) (Some y) top e f allowed = both_served initial c high low x.strength y.strength x.colour y.colour top e f allowed

@@ -1,5 +1,5 @@
 -- The scoregroups of the seats that a walk has not used yet: the first one is above all others, and the brackets go on behind it.
-use Rattle.std.proofs.Common.{◌≡◌, ℕ, zero, suc, ◌+◌, ◌<◌, ◌≤◌, Bool, true, false, cond, ◌==◌, List, [], ◌∷◌, ◌++◌, Option, length, length-append, take, drop, refl, sym, ap, ◌∙◌, subst, arith}
+use Rattle.std.proofs.Common.{◌≡◌, ℕ, zero, suc, ◌+◌, ◌<◌, ◌≤◌, Bool, true, false, cond, ◌==◌, List, [], ◌∷◌, ◌++◌, length, length-append, take, drop, refl, sym, ap, ◌∙◌, subst, arith}
 use Rattle.std.specs.List.{AllByRecursion, concat}
 use Rattle.std.proofs.lemmas.Bool.Decides.{nat_tests}
 use Rattle.std.proofs.lemmas.List.{append_cancel_left, take-append-drop, nil_from_length}
@@ -7,13 +7,13 @@ use Rattle.std.proofs.lemmas.Bool.{eqb-true}
 use Rattle.dutch_order.specs.Choices.{numbers_from}
 use Rattle.dutch_order.proofs.Members.{length-numbers}
 use Rattle.dutch_player.specs.Facts.{Facts}
-use Rattle.dutch_pair.specs.declared.reached.Kind.{Kind}
-use Rattle.dutch_pair.specs.declared.reached.Kind.TheVariants.{Ordinary, Last}
+use Rattle.dutch_pair.specs.declared.reached.BracketKind.{BracketKind}
+use Rattle.dutch_pair.specs.declared.reached.BracketKind.TheVariants.{Ordinary, Last}
 use Rattle.dutch_pair.specs.Seated.{score_at, AreSeats}
-use Rattle.dutch_pair.specs.Reached.{Stand, IsAbove}
+use Rattle.dutch_pair.specs.Reached.{IsAbove}
 use Rattle.dutch_pair.specs.Groups.{front_with}
 use Rattle.dutch_pair.specs.Walk.{AreRanked, AreAbove, Goes}
-use Rattle.dutch_pair.specs.Round.{Round, bracket, completable, no_pairing, round, first_group, scoregroups, everybody, final_bracket, ordinary_bracket, brackets}
+use Rattle.dutch_pair.specs.Round.{bracket, first_group, scoregroups, everybody, ordinary_bracket, brackets}
 use Rattle.dutch_pair.specs.Stages.{group_kind, round_by}
 use Rattle.dutch_pair.proofs.GroupLemmas.{first_group_is, first_group_taken, concat_scoregroups}
 use Rattle.dutch_pair.proofs.WalkLemmas.{Descends, LeftGoOn, is_above, left_go_on, ranked_seats, ranked_front, ranked_back}
@@ -158,10 +158,10 @@ module _ (facts : Facts) where
   moved_inside md rest goes = ranked_seats facts md (ranked_front facts md rest goes.ranked)
 
   module _ {md rest group lower : List ℕ} (parts : IsParted md rest group lower) where
-    pub parted_above : (number : ℕ) (kind : Kind) → (kind ≡ Ordinary → 0 < length lower) → IsAbove facts (bracket number kind md group) lower
+    pub parted_above : (number : ℕ) (kind : BracketKind) → (kind ≡ Ordinary → 0 < length lower) → IsAbove facts (bracket number kind md group) lower
     parted_above number kind there = is_above facts parts.descends number kind md group lower parts.goes parts.above there
 
-    pub parted_left : (number : ℕ) (kind : Kind) → LeftGoOn facts (bracket number kind md group) lower
+    pub parted_left : (number : ℕ) (kind : BracketKind) → LeftGoOn facts (bracket number kind md group) lower
     parted_left number kind lists = left_go_on facts parts.descends number kind md group lower lists parts.goes parts.above
 
     pub parted_few : length md + length group ≤ LIMIT
@@ -189,7 +189,7 @@ module _ (facts : Facts) where
   pub everybody_goes : (md all : List ℕ) → md ≡ [] → all ≡ everybody facts → Goes facts md all
   everybody_goes md all none e =
       subst (λ (m : List ℕ). Goes facts m all) (sym none)
-      (subst (λ (seats : List ℕ). Goes facts [] seats) (sym e) (record { ranked = numbers_ranked 0 (length facts.seats) (omega arith); above = tt }))
+      (subst (λ (seats : List ℕ). Goes facts [] seats) (sym e) (record { ranked = numbers_ranked 0 (length facts.seats) (omega arith); above = tt; front = []; all = refl; high = tt }))
 
   pub everybody_few : (all : List ℕ) → all ≡ everybody facts → length all ≡ length facts.seats
   everybody_few all e = ap length e ∙ length-numbers 0 (length facts.seats)

@@ -10,7 +10,7 @@ use Rattle.lru.proofs.CallerLemmas.{Contains-lookup_entry, Contains-lookup, Cont
 use Rattle.dutch_order.specs.Choices.{is_same}
 use Rattle.dutch_order.proofs.FromOn.{is_same-true}
 use Rattle.dutch_player.specs.Facts.{Facts}
-use Rattle.dutch_pair.specs.Reached.{Stand}
+use Rattle.dutch_pair.specs.Reached.{Reached}
 use Rattle.dutch_pair.specs.Quality.{NextValue}
 use Rattle.dutch_pair.specs.declared.remembered.Look.{Look}
 use Rattle.dutch_pair.specs.declared.remembered.Look.TheVariants.{Value, Undecided}
@@ -118,16 +118,16 @@ module _ (d : ArrayVec ℕ) where
       ap (λ l. lists_kept l) (put_at c v (lookup_entry (is_key d) c.entries) refl (entry_kept c.entries ∙ none))
       ∙ ap (λ n. d.items ∷ lists_kept (take (n - 1) c.entries)) most ∙ ap (λ l. d.items ∷ l) (sym (take-map (λ e. e.0.items) 63 c.entries)) ∙ sym (used_new (lists_kept c.entries) none)
 
-  module _ (facts : Facts) (stand : Stand) (next : List ℕ) (c : LruCache (ArrayVec ℕ) NextValue) (are : AreValues facts stand next c) where
+  module _ (facts : Facts) (reached : Reached) (next : List ℕ) (c : LruCache (ArrayVec ℕ) NextValue) (are : AreValues facts reached next c) where
     -- a value that is found is that of the list
-    pub found_value : (v : NextValue) → lookup (is_key d) c.entries ≡ Some v → v ≡ value_below facts stand next d.items
+    pub found_value : (v : NextValue) → lookup (is_key d) c.entries ≡ Some v → v ≡ value_below facts reached next d.items
     found_value v h =
         let on = Contains-lookup (is_key d) c.entries v h in
         let same : d.items ≡ on.0.items = is_same-true d.items on.0.items (sym (key_same d.items on.0.items) ∙ on.2) in
-        are.each (on.0, v) on.1 ∙ ap (λ l. value_below facts stand next l) (sym same)
+        are.each (on.0, v) on.1 ∙ ap (λ l. value_below facts reached next l) (sym same)
 
     -- values that were used again
-    pub promoted_values : AreValues facts stand next (lru_cache (promoted (is_key d) c.entries) c.cap)
+    pub promoted_values : AreValues facts reached next (lru_cache (promoted (is_key d) c.entries) c.cap)
     promoted_values = record {
       bracket = are.bracket;
       ordinary = are.ordinary;
@@ -136,20 +136,20 @@ module _ (d : ArrayVec ℕ) where
       each = λ e on. are.each e (Contains-promoted (is_key d) c.entries e on);
     }
 
-    put_each : (v : NextValue) → v ≡ value_below facts stand next d.items → (e : Kept) → Contains (put_entries is_key c d v) e → e.1 ≡ value_below facts stand next e.0.items
+    put_each : (v : NextValue) → v ≡ value_below facts reached next d.items → (e : Kept) → Contains (put_entries is_key c d v) e → e.1 ≡ value_below facts reached next e.0.items
     put_each v right e on =
         elim (Contains-put_entries is_key c d v e on) [
           | inl was ↦ are.each e was
           | inr is ↦ elim is.1 [
-            | inl key ↦ is.0 ∙ right ∙ ap (λ k. value_below facts stand next k.items) (sym key)
+            | inl key ↦ is.0 ∙ right ∙ ap (λ k. value_below facts reached next k.items) (sym key)
             | inr old ↦
                 let same : d.items ≡ e.0.items = is_same-true d.items e.0.items (sym (key_same d.items e.0.items) ∙ old.2) in
-                is.0 ∙ right ∙ ap (λ l. value_below facts stand next l) same
+                is.0 ∙ right ∙ ap (λ l. value_below facts reached next l) same
           ]
         ]
 
     -- values with a new one
-    pub put_values : (v : NextValue) → v ≡ value_below facts stand next d.items → AreValues facts stand next (lru_cache (put_entries is_key c d v) c.cap)
+    pub put_values : (v : NextValue) → v ≡ value_below facts reached next d.items → AreValues facts reached next (lru_cache (put_entries is_key c d v) c.cap)
     put_values v right = record {
       bracket = are.bracket;
       ordinary = are.ordinary;

@@ -21,7 +21,7 @@ use Rattle.dutch_order.proofs.LimboSets.{limbo_key-apart}
 pub use Rattle.dutch_order.proofs.Once.{kept-is_in as in_filter}
 use Rattle.dutch_player.specs.Facts.{Facts}
 use Rattle.dutch_pair.specs.Seated.{seat_of, score_at, all_pairs, lowest, difference, difference_down}
-use Rattle.dutch_pair.specs.Reached.{Stand, frame_of, numbers_meet, number_may_be_left}
+use Rattle.dutch_pair.specs.Reached.{Reached, frame_of, numbers_meet, number_may_be_left}
 use Rattle.dutch_pair.specs.Quality.{one_if}
 use Rattle.dutch_pair.specs.NextBracket.{is_lower, lowest_list_upto, lowest_list, legal_in, psd_in}
 use Rattle.dutch_pair.proofs.Copies.{copies, Falls, Lower, highest_first_falls, highest_first_copies, not_lower, lower_copies, more_first, same_first}
@@ -154,38 +154,38 @@ all_climb P q low (x ∷ xs) p each climbs =
     (each x (omega arith) (omega arith), all_climb P q (suc x) xs (omega arith) each climbs.2)
 
 -- the scores of a bracket's moved-down players do not ascend, and are such as a score can be
-pub record Descends (facts : Facts) (stand : Stand) : Type 0 where
-  pub falling : (i j : ℕ) → 0 < i → i ≤ j → j ≤ stand.mdps → score_at facts (seat_of stand.seats j) ≤ score_at facts (seat_of stand.seats i)
-  pub small : (i : ℕ) → 0 < i → i ≤ stand.mdps → score_at facts (seat_of stand.seats i) ≤ 65535
+pub record Descends (facts : Facts) (reached : Reached) : Type 0 where
+  pub falling : (i j : ℕ) → 0 < i → i ≤ j → j ≤ reached.mdps → score_at facts (seat_of reached.seats j) ≤ score_at facts (seat_of reached.seats i)
+  pub small : (i : ℕ) → 0 < i → i ≤ reached.mdps → score_at facts (seat_of reached.seats i) ≤ 65535
 
-module _ (facts : Facts) (stand : Stand) (s : ℕ) (one : OneScore facts stand s) (down' : Descends facts stand) where
-  counted : length (frame_of facts stand).scores ≡ length stand.seats
-  counted = length-map stand.seats (score_at facts)
+module _ (facts : Facts) (reached : Reached) (s : ℕ) (one : OneScore facts reached s) (down' : Descends facts reached) where
+  counted : length (frame_of facts reached).scores ≡ length reached.seats
+  counted = length-map reached.seats (score_at facts)
 
-  as_scores : (i : ℕ) → 0 < i → i ≤ stand.mdps → score_of (moved_down_scores (frame_of facts stand)) i ≡ score_at facts (seat_of stand.seats i)
+  as_scores : (i : ℕ) → 0 < i → i ≤ reached.mdps → score_of (moved_down_scores (frame_of facts reached)) i ≡ score_at facts (seat_of reached.seats i)
   as_scores i p h =
-      get_or-take stand.mdps (map (score_at facts) stand.seats) (i - 1) 0 (omega arith)
-      ∙ get_or-map (score_at facts) stand.seats (i - 1) 0 0 (omega (arith, one.within))
+      get_or-take reached.mdps (map (score_at facts) reached.seats) (i - 1) 0 (omega arith)
+      ∙ get_or-map (score_at facts) reached.seats (i - 1) 0 0 (omega (arith, one.within))
 
-  shared : (m j : ℕ) (a : Arrangement) (d : ℕ) → Parts stand.mdps (length (frame_of facts stand).scores) m j a
-      → copies d (map (λ i. (score_at facts (seat_of stand.seats i) - s) + 2) (left_of (numbers_from 1 stand.mdps) a.s1))
-      + copies d (map (λ i. (score_at facts (seat_of stand.seats i) - s) + 2) a.s1)
-      ≡ copies d (map (λ i. (score_at facts (seat_of stand.seats i) - s) + 2) (numbers_from 1 stand.mdps))
+  shared : (m j : ℕ) (a : Arrangement) (d : ℕ) → Parts reached.mdps (length (frame_of facts reached).scores) m j a
+      → copies d (map (λ i. (score_at facts (seat_of reached.seats i) - s) + 2) (left_of (numbers_from 1 reached.mdps) a.s1))
+      + copies d (map (λ i. (score_at facts (seat_of reached.seats i) - s) + 2) a.s1)
+      ≡ copies d (map (λ i. (score_at facts (seat_of reached.seats i) - s) + 2) (numbers_from 1 reached.mdps))
   shared m j a d parts =
-      let by : ℕ → ℕ = λ i. (score_at facts (seat_of stand.seats i) - s) + 2 in
-      let both = copies_shared d by (λ x. is_member x a.s1) (numbers_from 1 stand.mdps) in
-      let found : filter (λ x. is_member x a.s1) (numbers_from 1 stand.mdps) ≡ a.s1 = climbs-filter 1 stand.mdps a.s1 parts.s1 in
+      let by : ℕ → ℕ = λ i. (score_at facts (seat_of reached.seats i) - s) + 2 in
+      let both = copies_shared d by (λ x. is_member x a.s1) (numbers_from 1 reached.mdps) in
+      let found : filter (λ x. is_member x a.s1) (numbers_from 1 reached.mdps) ≡ a.s1 = climbs-filter 1 reached.mdps a.s1 parts.s1 in
       omega (arith, both, ap (λ xs. copies d (map by xs)) found)
 
   -- of two arrangements the one with the earlier S1 has the lower differences
-  differences_lower : (m j : ℕ) (a b : Arrangement) → Parts stand.mdps (length (frame_of facts stand).scores) m j a → Parts stand.mdps (length (frame_of facts stand).scores) m j b
-      → (b.s1 ≡ a.s1) ⊎ (is_before (limbo_key (moved_down_scores (frame_of facts stand)) a.s1) (limbo_key (moved_down_scores (frame_of facts stand)) b.s1) ≡ true)
-      → Lower (λ d. copies d (map (λ i. (score_at facts (seat_of stand.seats i) - s) + 2) b.s1)) (λ d. copies d (map (λ i. (score_at facts (seat_of stand.seats i) - s) + 2) a.s1))
-  differences_lower m j a b pa pb (inl same) = λ d above. omega (arith, ap (λ xs. copies d (map (λ i. (score_at facts (seat_of stand.seats i) - s) + 2) xs)) same)
+  differences_lower : (m j : ℕ) (a b : Arrangement) → Parts reached.mdps (length (frame_of facts reached).scores) m j a → Parts reached.mdps (length (frame_of facts reached).scores) m j b
+      → (b.s1 ≡ a.s1) ⊎ (is_before (limbo_key (moved_down_scores (frame_of facts reached)) a.s1) (limbo_key (moved_down_scores (frame_of facts reached)) b.s1) ≡ true)
+      → Lower (λ d. copies d (map (λ i. (score_at facts (seat_of reached.seats i) - s) + 2) b.s1)) (λ d. copies d (map (λ i. (score_at facts (seat_of reached.seats i) - s) + 2) a.s1))
+  differences_lower m j a b pa pb (inl same) = λ d above. omega (arith, ap (λ xs. copies d (map (λ i. (score_at facts (seat_of reached.seats i) - s) + 2) xs)) same)
   differences_lower m j a b pa pb (inr before) =
-      let q = stand.mdps in
-      let score : ℕ → ℕ = λ i. score_at facts (seat_of stand.seats i) in
-      let sc : ℕ → ℕ = score_of (moved_down_scores (frame_of facts stand)) in
+      let q = reached.mdps in
+      let score : ℕ → ℕ = λ i. score_at facts (seat_of reached.seats i) in
+      let sc : ℕ → ℕ = score_of (moved_down_scores (frame_of facts reached)) in
       let P : ℕ → Type 0 = λ i. (sc i ≡ score i) × (s < score i) × (score i ≤ 65535) in
       let each : (i : ℕ) → 0 < i → i ≤ q → P i = λ i p h. (as_scores i p h, one.higher i p h, down'.small i p h) in
       lower_copies (map (λ i. (score i - s) + 2) b.s1) (map (λ i. (score i - s) + 2) a.s1)
@@ -193,17 +193,17 @@ module _ (facts : Facts) (stand : Stand) (s : ℕ) (one : OneScore facts stand s
       (key_lower score s q down'.falling sc a.s1 b.s1 a.s1 b.s1 (all_climb P q 1 a.s1 (omega arith) each pa.s1) (all_climb P q 1 b.s1 (omega arith) each pb.s1)
       (pa.s1_count ∙ sym pb.s1_count) before)
 
-  psd_lower : (m j : ℕ) (a b : Arrangement) → Parts stand.mdps (length (frame_of facts stand).scores) m j a → Parts stand.mdps (length (frame_of facts stand).scores) m j b
-      → (b.s1 ≡ a.s1) ⊎ (is_before (limbo_key (moved_down_scores (frame_of facts stand)) a.s1) (limbo_key (moved_down_scores (frame_of facts stand)) b.s1) ≡ true)
-      → is_lower (psd_in facts stand b) (psd_in facts stand a) ≡ false
+  psd_lower : (m j : ℕ) (a b : Arrangement) → Parts reached.mdps (length (frame_of facts reached).scores) m j a → Parts reached.mdps (length (frame_of facts reached).scores) m j b
+      → (b.s1 ≡ a.s1) ⊎ (is_before (limbo_key (moved_down_scores (frame_of facts reached)) a.s1) (limbo_key (moved_down_scores (frame_of facts reached)) b.s1) ≡ true)
+      → is_lower (psd_in facts reached b) (psd_in facts reached a) ≡ false
   psd_lower m j a b pa pb order =
-      let q = stand.mdps in
-      let score : ℕ → ℕ = λ i. score_at facts (seat_of stand.seats i) in
+      let q = reached.mdps in
+      let score : ℕ → ℕ = λ i. score_at facts (seat_of reached.seats i) in
       let by : ℕ → ℕ = λ i. (score i - s) + 2 in
       let plain : ℕ → ℕ = λ i. score i - s in
-      let left : ℕ = (length stand.seats - q) - (m + (j + j)) in
-      let fits : left + (m + (j + j)) ≡ length stand.seats - q = (let e = pa.left in omega (arith, e, counted)) in
-      let all : Arrangement → List ℕ = λ c. map (difference facts) (all_pairs stand.seats c) ++ map (difference_down facts (lowest facts stand.seats)) (map (seat_of stand.seats) (down (frame_of facts stand) c)) in
+      let left : ℕ = (length reached.seats - q) - (m + (j + j)) in
+      let fits : left + (m + (j + j)) ≡ length reached.seats - q = (let e = pa.left in omega (arith, e, counted)) in
+      let all : Arrangement → List ℕ = λ c. map (difference facts) (all_pairs reached.seats c) ++ map (difference_down facts (lowest facts reached.seats)) (map (seat_of reached.seats) (down (frame_of facts reached) c)) in
       let h : Arrangement → ℕ → ℕ = λ c d. copies d (map by c.s1) in
       let c1 : Arrangement → ℕ → ℕ = λ c d. copies d (map plain c.s1) in
       let l : Arrangement → ℕ → ℕ = λ c d. copies d (map by (left_of (numbers_from 1 q) c.s1)) in
@@ -214,28 +214,28 @@ module _ (facts : Facts) (stand : Stand) (s : ℕ) (one : OneScore facts stand s
       let lower : Lower (sum a) (sum b) =
       combined (h a) (h b) (c1 a) (c1 b) (l a) (l b) (λ d. copies d (map by (numbers_from 1 q))) k bound
       (λ e. two_more e plain a.s1) (λ e. two_more e plain b.s1) (λ e. shared m j a e pa) (λ e. shared m j b e pb) tail (differences_lower m j a b pa pb order) in
-      let as_sum : (c : Arrangement) → Parts q (length (frame_of facts stand).scores) m j c → (d : ℕ) → copies d (psd_in facts stand c) ≡ sum c d =
-      λ c pc d. highest_first_copies d (all c) ∙ psd_copies facts stand s m j c d one pc counted left fits in
-      not_lower (psd_in facts stand a) (psd_in facts stand b) (highest_first_falls (all a)) (highest_first_falls (all b))
-      (lower_by (λ d. copies d (psd_in facts stand a)) (λ d. copies d (psd_in facts stand b)) (sum a) (sum b) (as_sum a pa) (as_sum b pb) lower)
+      let as_sum : (c : Arrangement) → Parts q (length (frame_of facts reached).scores) m j c → (d : ℕ) → copies d (psd_in facts reached c) ≡ sum c d =
+      λ c pc d. highest_first_copies d (all c) ∙ psd_copies facts reached s m j c d one pc counted left fits in
+      not_lower (psd_in facts reached a) (psd_in facts reached b) (highest_first_falls (all a)) (highest_first_falls (all b))
+      (lower_by (λ d. copies d (psd_in facts reached a)) (λ d. copies d (psd_in facts reached b)) (sum a) (sum b) (as_sum a pa) (as_sum b pb) lower)
 
-  none_lower : (first : Arrangement) (rest : List Arrangement) → ((b : Arrangement) → IsIn b rest → is_lower (psd_in facts stand b) (psd_in facts stand first) ≡ false)
-      → lowest_list_upto (psd_in facts stand first) (map (psd_in facts stand) rest) ≡ psd_in facts stand first
+  none_lower : (first : Arrangement) (rest : List Arrangement) → ((b : Arrangement) → IsIn b rest → is_lower (psd_in facts reached b) (psd_in facts reached first) ≡ false)
+      → lowest_list_upto (psd_in facts reached first) (map (psd_in facts reached) rest) ≡ psd_in facts reached first
   none_lower first [] each = refl
   none_lower first (b ∷ rest) each =
-      ap (λ t. lowest_list_upto (cond t (psd_in facts stand b) (psd_in facts stand first)) (map (psd_in facts stand) rest)) (each b (inl refl))
+      ap (λ t. lowest_list_upto (cond t (psd_in facts reached b) (psd_in facts reached first)) (map (psd_in facts reached) rest)) (each b (inl refl))
       ∙ none_lower first rest (λ c m. each c (inr m))
 
   -- so the first arrangement has the least PSD
-  pub first_is_least : (shape : Shape) (first : Arrangement) (rest : List Arrangement) → legal_in facts stand shape ≡ first ∷ rest
-      → lowest_list (map (psd_in facts stand) (legal_in facts stand shape)) ≡ psd_in facts stand first
+  pub first_is_least : (shape : Shape) (first : Arrangement) (rest : List Arrangement) → legal_in facts reached shape ≡ first ∷ rest
+      → lowest_list (map (psd_in facts reached) (legal_in facts reached shape)) ≡ psd_in facts reached first
   first_is_least shape first rest e =
-      let frame = frame_of facts stand in
-      let legal : Arrangement → Bool = is_legal (numbers_meet facts stand) (number_may_be_left facts stand) frame in
-      let inside : stand.mdps ≤ length frame.scores = omega (arith, one.within, counted) in
-      let parts : (c : Arrangement) → IsIn c (first ∷ rest) → Parts stand.mdps (length frame.scores) shape.mdps (remainder_pairs shape) c =
+      let frame = frame_of facts reached in
+      let legal : Arrangement → Bool = is_legal (numbers_meet facts reached) (number_may_be_left facts reached) frame in
+      let inside : reached.mdps ≤ length frame.scores = omega (arith, one.within, counted) in
+      let parts : (c : Arrangement) → IsIn c (first ∷ rest) → Parts reached.mdps (length frame.scores) shape.mdps (remainder_pairs shape) c =
       λ c m. parts_of frame shape c inside (in_filter legal c (arrangements frame shape) (subst (IsIn c) (sym e) m)) in
       let order = first_of_all legal (with_s2 frame shape) (limbo_key (moved_down_scores frame)) (s1_of frame shape)
       (limbo_exchanges (moved_down_scores frame) shape.mdps) (limbo_ascends (moved_down_scores frame) shape.mdps) first rest e in
-      ap (λ all. lowest_list (map (psd_in facts stand) all)) e
+      ap (λ all. lowest_list (map (psd_in facts reached) all)) e
       ∙ none_lower first rest (λ b m. psd_lower shape.mdps (remainder_pairs shape) first b (parts first (inl refl)) (parts b (inr m)) (order b m))

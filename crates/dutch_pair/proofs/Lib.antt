@@ -1,4 +1,11 @@
 pub mod AimLemmas
+pub mod WishLemmas
+pub mod InsteadLemmas
+pub mod BestGranting
+pub mod FloorOfKnown
+pub mod KnownByWish
+pub mod AllPaired
+pub mod RuledOutLemmas
 pub mod AllLemmas
 pub mod C04Takers
 pub mod C07WeakerRules
@@ -41,6 +48,8 @@ pub mod Turned
 pub mod Places
 pub mod PsdParts
 pub mod QualityOrder
+pub mod ItemOrder
+pub mod ItemSeats
 pub mod CandidateSeats
 pub mod ShapeSearch
 pub mod SkippedLemmas

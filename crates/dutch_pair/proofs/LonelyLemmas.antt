@@ -6,7 +6,7 @@ use Rattle.std.specs.List.{AllByRecursion}
 use Rattle.dutch_order.specs.Choices.{is_member, numbers_from}
 use Rattle.dutch_order.specs.Arrangements.{left_of, Arrangement}
 use Rattle.dutch_player.specs.Facts.{Facts}
-use Rattle.dutch_pair.specs.Reached.{Stand}
+use Rattle.dutch_pair.specs.Reached.{Reached}
 use Rattle.dutch_pair.specs.Seated.{score_at, AllNumbers}
 use Rattle.dutch_pair.specs.BitTables.{has_bit}
 use Rattle.dutch_pair.specs.ColourFloors.{beyond, pool}
@@ -63,25 +63,25 @@ left_is table s2 s1r s2r (x ∷ xs) h =
     ∙ three (λ y. not (is_member y s2)) (λ y. not (is_member y s1r)) (λ y. not (is_member y s2r)) x xs (filter (λ y. not (has_bit table y)) xs)
     (is_member x s2) (is_member x s1r) (is_member x s2r) refl refl refl (left_is table s2 s1r s2r xs h)
 
-pub pool_is : (facts : Facts) (stand : Stand) (b : Arrangement) (table xs : List ℕ) (count : ℕ) → count ≡ length stand.seats - stand.mdps
+pub pool_is : (facts : Facts) (reached : Reached) (b : Arrangement) (table xs : List ℕ) (count : ℕ) → count ≡ length reached.seats - reached.mdps
     → ((i : ℕ) → has_bit table i ≡ ((is_member i b.s2 || is_member i b.s1r) || is_member i b.s2r))
-    → xs ≡ filter (λ x. not (has_bit table x)) (numbers_from (stand.mdps + 1) count) → xs ≡ pool facts stand b
-pool_is facts stand b table xs count e h is =
-    let counted : count ≡ length (map (score_at facts) stand.seats) - stand.mdps =
-    let l = length-map stand.seats (score_at facts) in omega (arith, l, e) in
-    is ∙ (left_is table b.s2 b.s1r b.s2r (numbers_from (stand.mdps + 1) count) h
-    ∙ ap (λ k. left_of (left_of (left_of (numbers_from (stand.mdps + 1) k) b.s2) b.s1r) b.s2r) counted)
+    → xs ≡ filter (λ x. not (has_bit table x)) (numbers_from (reached.mdps + 1) count) → xs ≡ pool facts reached b
+pool_is facts reached b table xs count e h is =
+    let counted : count ≡ length (map (score_at facts) reached.seats) - reached.mdps =
+    let l = length-map reached.seats (score_at facts) in omega (arith, l, e) in
+    is ∙ (left_is table b.s2 b.s1r b.s2r (numbers_from (reached.mdps + 1) count) h
+    ∙ ap (λ k. left_of (left_of (left_of (numbers_from (reached.mdps + 1) k) b.s2) b.s1r) b.s2r) counted)
 
 pub numbers_few : (first count n : ℕ) → first + count ≤ n + 1 → AllByRecursion (λ i. i ≤ n) (numbers_from first count)
 numbers_few first zero n h = tt
 numbers_few first (suc count) n h = (omega arith, numbers_few (suc first) count n (omega arith))
 
-pub pool_numbers : (stand : Stand) (table xs : List ℕ) (count : ℕ) → stand.mdps ≤ length stand.seats → count ≡ length stand.seats - stand.mdps
-    → xs ≡ filter (λ x. not (has_bit table x)) (numbers_from (stand.mdps + 1) count) → AllNumbers stand.seats xs
-pool_numbers stand table xs count within e is =
-    subst (AllNumbers stand.seats) (sym is)
-    (all_filter (λ i. (0 < i) × (i ≤ length stand.seats)) (λ x. not (has_bit table x)) (numbers_from (stand.mdps + 1) count)
-    (numbers_within 0 (stand.mdps + 1) count (length stand.seats) (omega arith) (omega (arith, within, e))))
+pub pool_numbers : (reached : Reached) (table xs : List ℕ) (count : ℕ) → reached.mdps ≤ length reached.seats → count ≡ length reached.seats - reached.mdps
+    → xs ≡ filter (λ x. not (has_bit table x)) (numbers_from (reached.mdps + 1) count) → AllNumbers reached.seats xs
+pool_numbers reached table xs count within e is =
+    subst (AllNumbers reached.seats) (sym is)
+    (all_filter (λ i. (0 < i) × (i ≤ length reached.seats)) (λ x. not (has_bit table x)) (numbers_from (reached.mdps + 1) count)
+    (numbers_within 0 (reached.mdps + 1) count (length reached.seats) (omega arith) (omega (arith, within, e))))
 
 pub beyond_is : (part xs : List ℕ) → drop (length part) xs ≡ beyond part xs
 beyond_is [] xs = refl

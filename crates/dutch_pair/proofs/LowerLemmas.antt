@@ -8,11 +8,12 @@ use Rattle.std.proofs.lemmas.Bool.{and_right}
 use Rattle.dutch_order.specs.Keys.{IsIn}
 use Rattle.dutch_player.specs.Facts.{Facts}
 use Rattle.dutch_pair.specs.Seated.{score_at, AreSeats}
-use Rattle.dutch_pair.specs.Reached.{Stand}
-use Rattle.dutch_pair.specs.Walk.{AreAbove}
+use Rattle.dutch_pair.specs.Reached.{Reached}
+use Rattle.dutch_pair.specs.Walk.{AreAbove, Goes}
 use Rattle.dutch_pair.specs.Round.{everybody}
 use Rattle.dutch_pair.specs.Lower.{is_below, lower_of}
 use Rattle.dutch_pair.proofs.GroupWalk.{everybody_goes, rest_inside}
+use Rattle.dutch_pair.proofs.WalkLemmas.{Descends, above_back}
 
 module _ (facts : Facts) where
   -- ---- one seat more
@@ -134,9 +135,36 @@ module _ (facts : Facts) where
     pub reached : (y : ℕ) → IsIn y tops → (a : ℕ) × IsIn a seats × (score_at facts a ≤ score_at facts y)
     pub below : (a b : ℕ) → IsIn a seats → IsIn b lower → score_at facts b < score_at facts a
 
-  pub lower_is : (stand : Stand) (tops lower : List ℕ) → EndsAt stand.seats tops lower → lower_of facts stand ≡ lower
-  lower_is stand tops lower h =
-      let p : ℕ → Bool = is_below facts stand.seats in
-      let none : filter p tops ≡ [] = none_kept p tops (λ y m. let a = h.reached y m in below_some_not stand.seats y a.0 a.1 a.2) in
-      let all : filter p lower ≡ lower = all_kept p lower (λ y m. below_all stand.seats y (λ a n. h.below a y n m)) in
+  pub lower_is : (reached : Reached) (tops lower : List ℕ) → EndsAt reached.seats tops lower → lower_of facts reached ≡ lower
+  lower_is reached tops lower h =
+      let p : ℕ → Bool = is_below facts reached.seats in
+      let none : filter p tops ≡ [] = none_kept p tops (λ y m. let a = h.reached y m in below_some_not reached.seats y a.0 a.1 a.2) in
+      let all : filter p lower ≡ lower = all_kept p lower (λ y m. below_all reached.seats y (λ a n. h.below a y n m)) in
       ap (filter p) h.all ∙ filter-append p tops lower ∙ ap (λ (xs : List ℕ). xs ++ filter p lower) none ∙ all
+
+  -- ---- a walk before a bracket
+
+  pub some_in : (xs : List ℕ) → 0 < length xs → (x : ℕ) × IsIn x xs
+  some_in [] h = absurd (omega (arith, h))
+  some_in (x ∷ xs) h = (x, inl refl)
+
+  module _ (descends : Descends facts) (md residents lower : List ℕ) (goes : Goes facts md (residents ++ lower)) (above : AreAbove facts residents lower) where
+    -- each player in front is above a resident, and each resident reaches himself
+    front_reached : (y : ℕ) → 0 < length residents → IsIn y goes.front ⊎ IsIn y residents → (a : ℕ) × IsIn a (md ++ residents) × (score_at facts a ≤ score_at facts y)
+    front_reached y some (inl m) =
+        let one = some_in residents some in
+        let lt : score_at facts one.0 < score_at facts y = above_in goes.front (residents ++ lower) y one.0 goes.high m (in_front one.0 residents lower one.1) in
+        (one.0, in_back one.0 md residents one.1, omega (arith, lt))
+    front_reached y some (inr m) = (y, in_back y md residents m, omega arith)
+
+    lower_below : (a b : ℕ) → IsIn a md ⊎ IsIn a residents → IsIn b lower → score_at facts b < score_at facts a
+    lower_below a b (inl m) n = above_in md lower a b (above_back facts descends md residents lower goes.above) m n
+    lower_below a b (inr m) n = above_in residents lower a b above m n
+
+    -- below a bracket that comes next in a walk stand the seats that are not used yet, but for its residents
+    pub goes_ends : 0 < length residents → EndsAt (md ++ residents) (goes.front ++ residents) lower
+    goes_ends some = record {
+      all = goes.all ∙ sym (append_assoc goes.front residents lower);
+      reached = λ y m. front_reached y some (in_either y goes.front residents m);
+      below = λ a b m n. lower_below a b (in_either a md residents m) n;
+    }

@@ -8,17 +8,17 @@ use Rattle.std.proofs.lemmas.List.Kept.{IsStrictlyIncreasing-filter}
 use Rattle.std.proofs.lemmas.Simd.{map-map}
 use Rattle.std.proofs.lemmas.Bool.{cases_lt}
 use Rattle.dutch_order.specs.Choices.{numbers_from, is_member}
-use Rattle.dutch_order.specs.Draws.{Draw}
+use Rattle.dutch_order.specs.Candidates.{Candidate}
 use Rattle.dutch_order.specs.Limbo.{IsNonAscending}
 use Rattle.dutch_order.specs.Arrangements.{paired}
 use Rattle.dutch_order.proofs.Counts.{numbers-rise}
 use Rattle.dutch_order.proofs.Orders.{Rises, Rises-from}
 use Rattle.dutch_order.proofs.Turns.{at_index}
 use Rattle.dutch_player.specs.Facts.{Facts}
-use Rattle.dutch_pair.specs.declared.reached.Kind.TheVariants.{Ordinary}
+use Rattle.dutch_pair.specs.declared.reached.BracketKind.TheVariants.{Ordinary}
 use Rattle.dutch_pair.specs.Seated.{seat_of, score_at, AreSeats, AllNumbers}
-use Rattle.dutch_pair.specs.Reached.{Stand, frame_of, IsOf}
-use Rattle.dutch_pair.specs.NextBracket.{next_stand, IsFlat, IsDraw, AreLeft, IsNext}
+use Rattle.dutch_pair.specs.Reached.{Reached, frame_of, IsOf}
+use Rattle.dutch_pair.specs.NextBracket.{next_bracket, IsFlat, IsOfBracket, AreLeft, IsNext}
 use Rattle.dutch_pair.proofs.AllLemmas.{all_join}
 use Rattle.dutch_pair.proofs.CandidateSeats.{all_within}
 use Rattle.dutch_pair.proofs.DownLemmas.{down_numbers}
@@ -76,96 +76,96 @@ numbers_few n (x ∷ xs) rises all =
     omega (arith, first, few)
 
 -- those whom an arrangement leaves over, by number, ascend
-pub left_by_draw : (facts : Facts) (stand : Stand) (draw : Draw) → IsDraw facts stand draw → AreLeft stand draw.down
-left_by_draw facts stand draw drawn = record {
-  numbers = subst (AllNumbers stand.seats) (sym drawn.down) (down_numbers facts stand draw.lists);
-  ascend = subst IsStrictlyIncreasing (sym drawn.down)
-      (IsStrictlyIncreasing-filter (λ x. not (is_member x (paired draw.lists))) (numbers_from 1 (length (frame_of facts stand).scores)) (numbers-rise 1 (length (frame_of facts stand).scores)));
+pub left_by_candidate : (facts : Facts) (reached : Reached) (candidate : Candidate) → IsOfBracket facts reached candidate → AreLeft reached candidate.down
+left_by_candidate facts reached candidate of_bracket = record {
+  numbers = subst (AllNumbers reached.seats) (sym of_bracket.down) (down_numbers facts reached candidate.lists);
+  ascend = subst IsStrictlyIncreasing (sym of_bracket.down)
+      (IsStrictlyIncreasing-filter (λ x. not (is_member x (paired candidate.lists))) (numbers_from 1 (length (frame_of facts reached).scores)) (numbers-rise 1 (length (frame_of facts reached).scores)));
 }
 
-module _ (facts : Facts) (stand : Stand) (left next : List ℕ) (of' : IsOf facts stand) (are : AreLeft stand left) (below : IsNext facts stand next) where
-  pub numbers : AllNumbers stand.seats left
+module _ (facts : Facts) (reached : Reached) (left next : List ℕ) (of' : IsOf facts reached) (are : AreLeft reached left) (below : IsNext facts reached next) where
+  pub numbers : AllNumbers reached.seats left
   numbers = are.numbers
 
   rises : Rises left
   rises = Rises-from left are.ascend
 
-  pub down_short : length left ≤ length stand.seats
-  down_short = numbers_few (length stand.seats) left rises numbers
+  pub down_short : length left ≤ length reached.seats
+  down_short = numbers_few (length reached.seats) left rises numbers
 
-  count : length (map (seat_of stand.seats) left) ≡ length left
-  count = length-map left (seat_of stand.seats)
+  count : length (map (seat_of reached.seats) left) ≡ length left
+  count = length-map left (seat_of reached.seats)
 
-  moved_at : (i : ℕ) → i < length left → get_or (map (seat_of stand.seats) left) i 0 ≡ seat_of stand.seats (get_or left i 0)
-  moved_at i h = get_or-map (seat_of stand.seats) left i 0 0 h
+  moved_at : (i : ℕ) → i < length left → get_or (map (seat_of reached.seats) left) i 0 ≡ seat_of reached.seats (get_or left i 0)
+  moved_at i h = get_or-map (seat_of reached.seats) left i 0 0 h
 
   -- the scores of those who move down are above those of the next scoregroup
-  apart : (i j : ℕ) → i < length left → j < length next → score_at facts (get_or next j 0) < score_at facts (get_or (map (seat_of stand.seats) left) i 0)
+  apart : (i j : ℕ) → i < length left → j < length next → score_at facts (get_or next j 0) < score_at facts (get_or (map (seat_of reached.seats) left) i 0)
   apart i j h g =
-      let number = at_index (λ n. (0 < n) × (n ≤ length stand.seats)) left i numbers h in
-      let lower : score_at facts (get_or next j 0) < score_at facts (seat_of stand.seats (get_or left i 0)) = below.below (get_or left i 0 - 1) j (omega (arith, number.0, number.1)) g in
+      let number = at_index (λ n. (0 < n) × (n ≤ length reached.seats)) left i numbers h in
+      let lower : score_at facts (get_or next j 0) < score_at facts (seat_of reached.seats (get_or left i 0)) = below.below (get_or left i 0 - 1) j (omega (arith, number.0, number.1)) g in
       omega (arith, lower, ap (score_at facts) (moved_at i h))
 
-  moved_falls : Falls (map (score_at facts) (map (seat_of stand.seats) left))
-  moved_falls = subst Falls (sym (map-map (score_at facts) (seat_of stand.seats) left)) (rising_falls (λ i. score_at facts (seat_of stand.seats i)) (length stand.seats) left (seats_fall facts stand of') rises numbers)
+  moved_falls : Falls (map (score_at facts) (map (seat_of reached.seats) left))
+  moved_falls = subst Falls (sym (map-map (score_at facts) (seat_of reached.seats) left)) (rising_falls (λ i. score_at facts (seat_of reached.seats i)) (length reached.seats) left (seats_fall facts reached of') rises numbers)
 
-  all_fall : Falls (map (score_at facts) (map (seat_of stand.seats) left ++ next))
+  all_fall : Falls (map (score_at facts) (map (seat_of reached.seats) left ++ next))
   all_fall =
-      subst Falls (sym (map-append (score_at facts) (map (seat_of stand.seats) left) next))
-      (falls_append (map (score_at facts) (map (seat_of stand.seats) left)) (map (score_at facts) next) moved_falls (flat_falls (score_at facts) next below.same)
+      subst Falls (sym (map-append (score_at facts) (map (seat_of reached.seats) left) next))
+      (falls_append (map (score_at facts) (map (seat_of reached.seats) left)) (map (score_at facts) next) moved_falls (flat_falls (score_at facts) next below.same)
       (λ i j h g.
-      let lh : i < length left = (let e = length-map (map (seat_of stand.seats) left) (score_at facts) in omega (arith, h, e, count)) in
+      let lh : i < length left = (let e = length-map (map (seat_of reached.seats) left) (score_at facts) in omega (arith, h, e, count)) in
       let lg : j < length next = (let e = length-map next (score_at facts) in omega (arith, g, e)) in
-      let lm : i < length (map (seat_of stand.seats) left) = omega (arith, lh, count) in
-      omega (arith, apart i j lh lg, get_or-map (score_at facts) (map (seat_of stand.seats) left) i 0 0 lm, get_or-map (score_at facts) next j 0 0 lg)))
+      let lm : i < length (map (seat_of reached.seats) left) = omega (arith, lh, count) in
+      omega (arith, apart i j lh lg, get_or-map (score_at facts) (map (seat_of reached.seats) left) i 0 0 lm, get_or-map (score_at facts) next j 0 0 lg)))
 
-  long : length (map (seat_of stand.seats) left ++ next) ≡ length left + length next
-  long = length-append (map (seat_of stand.seats) left) next ∙ ap (λ k. k + length next) count
+  long : length (map (seat_of reached.seats) left ++ next) ≡ length left + length next
+  long = length-append (map (seat_of reached.seats) left) next ∙ ap (λ k. k + length next) count
 
-  inside : AreSeats facts (map (seat_of stand.seats) left ++ next)
+  inside : AreSeats facts (map (seat_of reached.seats) left ++ next)
   inside i h =
       elim (cases_lt i (length left)) [
         | inl low ↦
-            let lt : i < length (map (seat_of stand.seats) left) = omega (arith, low, count) in
-            let seat : slice_index (map (seat_of stand.seats) left) i < length facts.seats = all_within facts stand.seats left of'.inside numbers i lt in
-            omega (arith, seat, get_or_append_left (map (seat_of stand.seats) left) next 0 i lt)
+            let lt : i < length (map (seat_of reached.seats) left) = omega (arith, low, count) in
+            let seat : slice_index (map (seat_of reached.seats) left) i < length facts.seats = all_within facts reached.seats left of'.inside numbers i lt in
+            omega (arith, seat, get_or_append_left (map (seat_of reached.seats) left) next 0 i lt)
         | inr high ↦
-            let seat : slice_index next (i - length (map (seat_of stand.seats) left)) < length facts.seats = below.inside (i - length (map (seat_of stand.seats) left)) (omega (arith, h, high, count, long)) in
-            omega (arith, seat, get_or-append_right (map (seat_of stand.seats) left) next (length (map (seat_of stand.seats) left)) i 0 refl (omega (arith, high, count)))
+            let seat : slice_index next (i - length (map (seat_of reached.seats) left)) < length facts.seats = below.inside (i - length (map (seat_of reached.seats) left)) (omega (arith, h, high, count, long)) in
+            omega (arith, seat, get_or-append_right (map (seat_of reached.seats) left) next (length (map (seat_of reached.seats) left)) i 0 refl (omega (arith, high, count)))
       ]
 
-  score_in : (i : ℕ) → i < length left + length next → slice_index (map (score_at facts) (map (seat_of stand.seats) left ++ next)) i ≡ score_at facts (get_or (map (seat_of stand.seats) left ++ next) i 0)
-  score_in i h = get_or-map (score_at facts) (map (seat_of stand.seats) left ++ next) i 0 0 (omega (arith, h, long))
+  score_in : (i : ℕ) → i < length left + length next → slice_index (map (score_at facts) (map (seat_of reached.seats) left ++ next)) i ≡ score_at facts (get_or (map (seat_of reached.seats) left ++ next) i 0)
+  score_in i h = get_or-map (score_at facts) (map (seat_of reached.seats) left ++ next) i 0 0 (omega (arith, h, long))
 
-  pub next_of : IsOf facts (next_stand (map (seat_of stand.seats) left) next)
+  pub next_of : IsOf facts (next_bracket (map (seat_of reached.seats) left) next)
   next_of = record {
     inside = inside;
     sound =
-        let scored : length (map (score_at facts) (map (seat_of stand.seats) left ++ next)) ≡ length left + length next =
-        length-map (map (seat_of stand.seats) left ++ next) (score_at facts) ∙ long in
+        let scored : length (map (score_at facts) (map (seat_of reached.seats) left ++ next)) ≡ length left + length next =
+        length-map (map (seat_of reached.seats) left ++ next) (score_at facts) ∙ long in
         record {
           few = omega (arith, scored, down_short, below.few);
           within = omega (arith, scored, count);
-          descends = falls_index (map (score_at facts) (map (seat_of stand.seats) left ++ next)) all_fall;
+          descends = falls_index (map (score_at facts) (map (seat_of reached.seats) left ++ next)) all_fall;
           above = λ i j h g k.
               let low : i < length left = omega (arith, h, count) in
-              let one : score_at facts (get_or next (j - length (map (seat_of stand.seats) left)) 0) < score_at facts (get_or (map (seat_of stand.seats) left) i 0) =
-              apart i (j - length (map (seat_of stand.seats) left)) low (omega (arith, g, k, scored, count)) in
+              let one : score_at facts (get_or next (j - length (map (seat_of reached.seats) left)) 0) < score_at facts (get_or (map (seat_of reached.seats) left) i 0) =
+              apart i (j - length (map (seat_of reached.seats) left)) low (omega (arith, g, k, scored, count)) in
               omega (
                 arith,
                 one,
                 score_in i (omega (arith, low)),
                 score_in j (omega (arith, k, scored)),
-                ap (score_at facts) (get_or_append_left (map (seat_of stand.seats) left) next 0 i h),
-                ap (score_at facts) (get_or-append_right (map (seat_of stand.seats) left) next (length (map (seat_of stand.seats) left)) j 0 refl g),
+                ap (score_at facts) (get_or_append_left (map (seat_of reached.seats) left) next 0 i h),
+                ap (score_at facts) (get_or-append_right (map (seat_of reached.seats) left) next (length (map (seat_of reached.seats) left)) j 0 refl g),
               );
         };
   }
 
-  pub next_flat : stand.kind ≡ Ordinary → IsFlat facts (next_stand (map (seat_of stand.seats) left) next)
+  pub next_flat : reached.kind ≡ Ordinary → IsFlat facts (next_bracket (map (seat_of reached.seats) left) next)
   next_flat ordinary =
       let some : 0 < length next = below.there ordinary in
-      let md : List ℕ = map (seat_of stand.seats) left in
+      let md : List ℕ = map (seat_of reached.seats) left in
       record {
         resident = omega (arith, some, long, count);
         same = λ i h g.

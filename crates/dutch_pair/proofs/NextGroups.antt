@@ -3,10 +3,10 @@ use Rattle.std.proofs.Common.{◌≡◌, ℕ, zero, suc, ◌+◌, ◌<◌, ◌�
 use Rattle.std.proofs.lemmas.List.{length-take}
 use Rattle.std.proofs.lemmas.Bool.{eqb-true}
 use Rattle.dutch_order.specs.Arrangements.{down}
-use Rattle.dutch_order.specs.Draws.{Draw}
+use Rattle.dutch_order.specs.Candidates.{Candidate}
 use Rattle.dutch_player.specs.Facts.{Facts}
 use Rattle.dutch_pair.specs.Seated.{score_at}
-use Rattle.dutch_pair.specs.Reached.{Stand, IsAbove, frame_of}
+use Rattle.dutch_pair.specs.Reached.{Reached, IsAbove, frame_of}
 use Rattle.dutch_pair.specs.Quality.{Quality}
 use Rattle.dutch_pair.specs.Groups.{front_with}
 use Rattle.dutch_pair.specs.Round.{first_group, scoregroups, quality_of}
@@ -44,8 +44,8 @@ module _ (facts : Facts) where
       let lt : i < length xs = later.1 in
       (later.0, omega (arith, lt), later.2)
 
-  group_is_next : (stand : Stand) (x : ℕ) (xs : List ℕ) → IsAbove facts stand (x ∷ xs) → IsNext facts stand (group_of x xs)
-  group_is_next stand x xs above = record {
+  group_is_next : (reached : Reached) (x : ℕ) (xs : List ℕ) → IsAbove facts reached (x ∷ xs) → IsNext facts reached (group_of x xs)
+  group_is_next reached x xs above = record {
     inside = λ i h.
         let p = group_at x xs i h in
         let e : get_or (group_of x xs) i 0 ≡ get_or (x ∷ xs) i 0 = p.2 in
@@ -54,19 +54,19 @@ module _ (facts : Facts) where
     few =
         let n = front_with facts (score_at facts x) xs in
         let short : length (take n xs) ≡ min n (length xs) = length-take n xs in
-        let few : length stand.seats + length (x ∷ xs) ≤ LIMIT = above.few in
+        let few : length reached.seats + length (x ∷ xs) ≤ LIMIT = above.few in
         omega (arith, short, few);
     same = λ i j h g. (group_at x xs i h).0 ∙ sym (group_at x xs j g).0;
     below = λ i j h g.
         let p = group_at x xs j g in
         let e : score_at facts (get_or (group_of x xs) j 0) ≡ score_at facts (get_or (x ∷ xs) j 0) = ap (score_at facts) p.2 in
-        let lt : score_at facts (get_or (x ∷ xs) j 0) < score_at facts (get_or stand.seats i 0) = above.below i j h p.1 in
+        let lt : score_at facts (get_or (x ∷ xs) j 0) < score_at facts (get_or reached.seats i 0) = above.below i j h p.1 in
         omega (arith, e, lt);
     there = λ k. omega arith;
   }
 
-  none_is_next : (stand : Stand) → IsAbove facts stand [] → IsNext facts stand []
-  none_is_next stand above = record {
+  none_is_next : (reached : Reached) → IsAbove facts reached [] → IsNext facts reached []
+  none_is_next reached above = record {
     inside = λ i h. let bad : ⊥ = omega (arith, h) in absurd bad;
     few = above.few;
     same = λ i j h g. let bad : ⊥ = omega (arith, h) in absurd bad;
@@ -74,19 +74,19 @@ module _ (facts : Facts) where
     there = above.there;
   }
 
-  pub first_is_next : (stand : Stand) (lower : List ℕ) → IsAbove facts stand lower → IsNext facts stand (first_group facts (scoregroups facts lower))
-  first_is_next stand [] above = none_is_next stand above
-  first_is_next stand (x ∷ xs) above =
-      subst (λ groups. IsNext facts stand (first_group facts groups)) (sym (first_group_is facts x xs)) (group_is_next stand x xs above)
+  pub first_is_next : (reached : Reached) (lower : List ℕ) → IsAbove facts reached lower → IsNext facts reached (first_group facts (scoregroups facts lower))
+  first_is_next reached [] above = none_is_next reached above
+  first_is_next reached (x ∷ xs) above =
+      subst (λ groups. IsNext facts reached (first_group facts groups)) (sym (first_group_is facts x xs)) (group_is_next reached x xs above)
 
   -- the first scoregroup of the lower seats is the next one
-  pub is_next : (stand : Stand) (lower next : List ℕ) → next ≡ first_group facts (scoregroups facts lower) → IsAbove facts stand lower → IsNext facts stand next
-  is_next stand lower next e above = subst (λ group. IsNext facts stand group) (sym e) (first_is_next stand lower above)
+  pub is_next : (reached : Reached) (lower next : List ℕ) → next ≡ first_group facts (scoregroups facts lower) → IsAbove facts reached lower → IsNext facts reached next
+  is_next reached lower next e above = subst (λ group. IsNext facts reached group) (sym e) (first_is_next reached lower above)
 
   -- the quality of a candidate, by its lists
-  pub quality_at : (stand : Stand) (lower next : List ℕ) (draw : Draw) (found : Quality) → next ≡ first_group facts (scoregroups facts lower)
-      → draw.down ≡ down (frame_of facts stand) draw.lists → found ≡ quality facts stand next draw
-      → found ≡ quality_of facts stand lower draw.lists
-  quality_at stand lower next draw found e left h =
-      h ∙ ap (λ group. quality facts stand group draw) e
-      ∙ ap (λ down. quality facts stand (first_group facts (scoregroups facts lower)) (record { lists = draw.lists; down = down })) left
+  pub quality_at : (reached : Reached) (lower next : List ℕ) (candidate : Candidate) (found : Quality) → next ≡ first_group facts (scoregroups facts lower)
+      → candidate.down ≡ down (frame_of facts reached) candidate.lists → found ≡ quality facts reached next candidate
+      → found ≡ quality_of facts reached lower candidate.lists
+  quality_at reached lower next candidate found e left h =
+      h ∙ ap (λ group. quality facts reached group candidate) e
+      ∙ ap (λ down. quality facts reached (first_group facts (scoregroups facts lower)) (record { lists = candidate.lists; down = down })) left

@@ -19,10 +19,10 @@ use Rattle.dutch_player.specs.Facts.{Facts}
 use Rattle.dutch_pair.specs.Eligible.{HasCandidate}
 use Rattle.dutch_pair.specs.Completion.{Completable}
 use Rattle.dutch_pair.specs.Outcomes.{visit_of}
-use Rattle.dutch_pair.specs.declared.reached.Kind.{Kind}
-use Rattle.dutch_pair.specs.declared.reached.Kind.TheVariants.{Ordinary, Last, Penultimate, Collapsed}
-use Rattle.dutch_pair.specs.Reached.{Stand, ends_round, frame_of, numbers_meet, number_may_be_left}
-use Rattle.dutch_pair.specs.Round.{Choice, Visit, Pairing, Round, bracket, brackets, candidates_of, shape_of, paired_again, choice, completable, downfloaters, eligible, everybody, final_bracket, final_by, is_penultimate, no_pairing, ordinary_bracket, ordinary_by, pairing_in, passing, penultimate_bracket, penultimate_by, round, scoregroups}
+use Rattle.dutch_pair.specs.declared.reached.BracketKind.{BracketKind}
+use Rattle.dutch_pair.specs.declared.reached.BracketKind.TheVariants.{Ordinary, Last, Penultimate, Collapsed}
+use Rattle.dutch_pair.specs.Reached.{Reached, ends_round, frame_of, numbers_meet, number_may_be_left}
+use Rattle.dutch_pair.specs.Round.{Choice, Pairing, Round, bracket, brackets, candidates_of, shape_of, choice, completable, downfloaters, eligible, everybody, final_bracket, final_by, is_penultimate, no_pairing, ordinary_bracket, ordinary_by, pairing_in, passing, penultimate_bracket, penultimate_by, round, scoregroups}
 use Rattle.dutch_pair.specs.SeatLaws.{seats_meet_sym}
 use Rattle.dutch_pair.specs.Seated.{seat_of, all_pairs}
 use Rattle.dutch_pair.specs.Seats.{seats_meet, seats_may_be_left}
@@ -62,22 +62,22 @@ module _ (facts : Facts) where
   some_more f None h = h
   some_more f (Some pairing) h = refl
 
-  more_paired : (stand : Stand) (chosen : Choice) (rest : Round) → IsPaired rest → IsPaired (pairing_in facts stand chosen rest)
-  more_paired stand chosen rest = some_more (λ later. record { pairs = all_pairs stand.seats chosen.lists ++ later.pairs; bye = later.bye }) rest.pairing
+  more_paired : (reached : Reached) (chosen : Choice) (rest : Round) → IsPaired rest → IsPaired (pairing_in facts reached chosen rest)
+  more_paired reached chosen rest = some_more (λ later. record { pairs = all_pairs reached.seats chosen.lists ++ later.pairs; bye = later.bye }) rest.pairing
 
   -- ---- the bracket that ends a round
 
-  final_is : (stand : Stand) → Chooses facts stand [] → IsPaired (final_bracket facts stand)
-  final_is stand found = subst (λ o. IsPaired (final_by facts stand o)) (sym found.is) refl
+  final_is : (reached : Reached) → Chooses facts reached [] → IsPaired (final_bracket facts reached)
+  final_is reached found = subst (λ o. IsPaired (final_by facts reached o)) (sym found.is) refl
 
   -- a bracket with a candidate has a choice, and no bracket without one has a shape
-  has_choice : (stand : Stand) (lower : List ℕ) → HasCandidate facts stand lower → Chooses facts stand lower
-  has_choice stand lower has = chooses facts stand lower has.shape has.room has.candidate
+  has_choice : (reached : Reached) (lower : List ℕ) → HasCandidate facts reached lower → Chooses facts reached lower
+  has_choice reached lower has = chooses facts reached lower has.shape has.room has.candidate
 
-  pub shape_there : (stand : Stand) (lower : List ℕ) → HasCandidate facts stand lower → shape_of facts stand lower ≡ None → ⊥
-  shape_there stand lower has none = none_has_one facts stand lower has.shape none has.room has.candidate
+  pub shape_there : (reached : Reached) (lower : List ℕ) → HasCandidate facts reached lower → shape_of facts reached lower ≡ None → ⊥
+  shape_there reached lower has none = none_has_one facts reached lower has.shape none has.room has.candidate
 
-  final_has : (number : ℕ) (kind : Kind) (md residents : List ℕ) → is_penultimate kind ≡ false → (twice : NoneTwice (md ++ residents)) → (mate : ℕ → ℕ)
+  final_has : (number : ℕ) (kind : BracketKind) (md residents : List ℕ) → is_penultimate kind ≡ false → (twice : NoneTwice (md ++ residents)) → (mate : ℕ → ℕ)
       → (are : Mates (md ++ residents) mate) → (apart : (s : ℕ) → IsIn s md → IsIn (mate s) md → mate s ≡ s) → HasCandidate facts (bracket number kind md residents) []
   final_has number kind md residents first twice mate are apart =
       let shape = final_shape facts number kind md residents twice mate are apart in
@@ -104,8 +104,8 @@ module _ (facts : Facts) where
   abbrev no_pairs : Shape
   no_pairs = record { pairs = 0; mdps = 0 }
 
-  module _ (number : ℕ) (kind : Kind) (md residents lower : List ℕ) (twice : NoneTwice (md ++ residents)) (not_last : ends_round kind ≡ false) where
-    abbrev here : Stand
+  module _ (number : ℕ) (kind : BracketKind) (md residents lower : List ℕ) (twice : NoneTwice (md ++ residents)) (not_last : ends_round kind ≡ false) where
+    abbrev here : Reached
     here = bracket number kind md residents
 
     empty_lists : AreLists (frame_of facts here) no_pairs nobody_paired
@@ -145,14 +145,14 @@ module _ (facts : Facts) where
   -- ---- the penultimate bracket
 
   module _ (number : ℕ) (md residents lower : List ℕ) (goes : GoesOut facts md (residents ++ lower)) where
-    abbrev stand : Stand
-    stand = bracket number Penultimate md residents
+    abbrev reached : Reached
+    reached = bracket number Penultimate md residents
 
     abbrev seats : List ℕ
     seats = md ++ residents
 
     abbrev complete_below : Arrangement → Bool
-    complete_below lists = completable facts (downfloaters facts stand lists ++ lower)
+    complete_below lists = completable facts (downfloaters facts reached lists ++ lower)
 
     all_twice : NoneTwice (seats ++ lower)
     all_twice = subst NoneTwice (sym (append_assoc md residents lower)) goes.twice
@@ -160,7 +160,7 @@ module _ (facts : Facts) where
     own_twice : NoneTwice seats
     own_twice = twice-front seats lower all_twice
 
-    left_twice : (a : Arrangement) → NoneTwice (downfloaters facts stand a ++ lower)
+    left_twice : (a : Arrangement) → NoneTwice (downfloaters facts reached a ++ lower)
     left_twice = all_down number Penultimate md residents lower own_twice refl all_twice
 
     empty_complete : complete_below nobody_paired ≡ true
@@ -168,29 +168,29 @@ module _ (facts : Facts) where
         ap (λ left. completable facts (left ++ lower)) (empty_down number Penultimate md residents lower own_twice refl)
         ∙ (by_test (seats ++ lower)).0 (subst (Completable (seats_meet facts) (seats_may_be_left facts)) (sym (append_assoc md residents lower)) goes.complete)
 
-    empty_eligible : has_member (eligible facts stand lower no_pairs) ≡ true
+    empty_eligible : has_member (eligible facts reached lower no_pairs) ≡ true
     empty_eligible =
-        ap has_member (eligible_some facts stand lower no_pairs refl)
-        ∙ has_kept complete_below nobody_paired (candidates_of facts stand no_pairs) (empty_candidate number Penultimate md residents lower own_twice refl) empty_complete
+        ap has_member (eligible_some facts reached lower no_pairs refl)
+        ∙ has_kept complete_below nobody_paired (candidates_of facts reached no_pairs) (empty_candidate number Penultimate md residents lower own_twice refl) empty_complete
 
-    again_has : HasCandidate facts stand lower
+    again_has : HasCandidate facts reached lower
     again_has = record { shape = no_pairs; room = empty_fits number Penultimate md residents lower own_twice refl; candidate = empty_eligible }
 
-    module _ (chosen : Choice) (is' : choice facts stand lower ≡ Some chosen) where
+    module _ (chosen : Choice) (is' : choice facts reached lower ≡ Some chosen) where
       abbrev lists : Arrangement
       lists = chosen.lists
 
       abbrev left : List ℕ
-      left = downfloaters facts stand lists
+      left = downfloaters facts reached lists
 
       left_complete : completable facts (left ++ lower) ≡ true
       left_complete =
-          (kept_of complete_below lists (candidates_of facts stand chosen.shape)
-          (subst (IsIn lists) (eligible_some facts stand lower chosen.shape refl) (chosen_is facts stand lower chosen is').1)).1
+          (kept_of complete_below lists (candidates_of facts reached chosen.shape)
+          (subst (IsIn lists) (eligible_some facts reached lower chosen.shape refl) (chosen_is facts reached lower chosen is').1)).1
 
       module _ (mate : ℕ → ℕ) (are : Mates (left ++ lower) mate) where
         abbrev frame : Frame
-        frame = frame_of facts stand
+        frame = frame_of facts reached
 
         seat_differs : (x y : ℕ) → IsIn x (down frame lists) → IsIn y (down frame lists) → (x ≡ y → ⊥) → seat_of seats x ≡ seat_of seats y → ⊥
         seat_differs x y m n ne e =
@@ -209,7 +209,7 @@ module _ (facts : Facts) where
             let met : seats_meet facts s (mate s) ≡ true = are.met s s_in (λ e. apart (sym e ∙ is)) in
             let may : seats_meet facts s t ≡ true = subst (λ w. seats_meet facts s w ≡ true) is met in
             let more = more_of facts number Penultimate md residents own_twice lower chosen is' refl goes.strangers x y m n rises may in
-            let few : List ℕ = downfloaters facts stand more.lists in
+            let few : List ℕ = downfloaters facts reached more.lists in
             let back : mate t ≡ s = ap mate (sym is) ∙ are.back s s_in in
             let few_in : (b : ℕ) → IsIn b few → IsIn b left × (b ≡ s → ⊥) × (b ≡ t → ⊥) = λ b k.
             let from = IsIn-map (seat_of seats) b (down frame more.lists) k in
@@ -248,8 +248,8 @@ module _ (facts : Facts) where
             let complete : complete_below more.lists ≡ true =
             (by_test (few ++ lower)).0 (mates_complete (seats_meet facts) (seats_may_be_left facts) (few ++ lower) mate (left_twice more.lists) few_are) in
             no_more facts number Penultimate md residents own_twice lower chosen is' refl goes.strangers x y more
-            (ap has_member (eligible_some facts stand lower more.larger refl)
-            ∙ has_kept complete_below more.lists (candidates_of facts stand more.larger)
+            (ap has_member (eligible_some facts reached lower more.larger refl)
+            ∙ has_kept complete_below more.lists (candidates_of facts reached more.larger)
             (more_candidate facts number Penultimate md residents own_twice lower chosen is' refl goes.strangers x y more) complete)
 
         no_mates : (s : ℕ) → IsIn s left → IsIn (mate s) left → mate s ≡ s
@@ -270,12 +270,12 @@ module _ (facts : Facts) where
           let mates = mates_of (left ++ lower) (left_twice lists) ((by_test (left ++ lower)).1 left_complete) in
           final_has place Collapsed left lower refl (left_twice lists) mates.mate mates.are (no_mates mates.mate mates.are)
 
-    again_goes : IsPaired (penultimate_by facts stand lower (choice facts stand lower))
+    again_goes : IsPaired (penultimate_by facts reached lower (choice facts reached lower))
     again_goes =
-        let found = has_choice stand lower again_has in
-        let collapsed = bracket (number + 1) Collapsed (downfloaters facts stand found.chosen.lists) lower in
-        subst (λ o. IsPaired (penultimate_by facts stand lower o)) (sym found.is)
-        (more_paired stand found.chosen (final_bracket facts collapsed)
+        let found = has_choice reached lower again_has in
+        let collapsed = bracket (number + 1) Collapsed (downfloaters facts reached found.chosen.lists) lower in
+        subst (λ o. IsPaired (penultimate_by facts reached lower o)) (sym found.is)
+        (more_paired reached found.chosen (final_bracket facts collapsed)
         (final_is collapsed (has_choice collapsed [] (collapsed_has found.chosen found.is (number + 1)))))
 
   penultimate_goes : (number : ℕ) (md residents lower : List ℕ) → GoesOut facts md (residents ++ lower) → IsPaired (penultimate_bracket facts (bracket number Ordinary md residents) lower)
@@ -284,7 +284,7 @@ module _ (facts : Facts) where
   -- ---- an ordinary bracket
 
   module _ (number : ℕ) (md residents lower : List ℕ) (goes : GoesOut facts md (residents ++ lower)) where
-    abbrev first : Stand
+    abbrev first : Reached
     first = bracket number Ordinary md residents
 
     first_all : NoneTwice ((md ++ residents) ++ lower)
@@ -398,7 +398,7 @@ module _ (facts : Facts) where
     complete = (by_test all).1 e;
   }
 
-  has_by : (kind : Kind) (number : ℕ) (md residents lower : List ℕ) → HasWayOut facts kind number md residents lower → HasCandidate facts (bracket number kind md residents) lower
+  has_by : (kind : BracketKind) (number : ℕ) (md residents lower : List ℕ) → HasWayOut facts kind number md residents lower → HasCandidate facts (bracket number kind md residents) lower
   has_by Ordinary number md residents lower out = first_has number md residents lower out.0
   has_by Last number md residents lower out =
       subst (HasCandidate facts (bracket number Last md residents)) (sym out.1)
@@ -407,24 +407,24 @@ module _ (facts : Facts) where
   has_by Collapsed number md residents lower out = out.0
 
   -- a bracket that comes next has a candidate
-  pub stands_has : (number : ℕ) (stand : Stand) (lower : List ℕ) → StandsBefore facts number stand lower → HasCandidate facts stand lower
-  stands_has number stand lower s =
-      subst (λ (b : Stand). HasCandidate facts b lower) (sym s.is) (has_by stand.kind number s.md s.residents lower s.out)
+  pub stands_has : (number : ℕ) (reached : Reached) (lower : List ℕ) → StandsBefore facts number reached lower → HasCandidate facts reached lower
+  stands_has number reached lower s =
+      subst (λ (b : Reached). HasCandidate facts b lower) (sym s.is) (has_by reached.kind number s.md s.residents lower s.out)
 
   -- those left over by an ordinary one go out with the lower seats where they can be paired out with them
-  pub ordinary_out : (number : ℕ) (stand : Stand) (lower : List ℕ) (made : Choice) → StandsBefore facts number stand lower → stand.kind ≡ Ordinary
-      → choice facts stand lower ≡ Some made → completable facts (downfloaters facts stand made.lists ++ lower) ≡ true → GoesOut facts (downfloaters facts stand made.lists) lower
-  ordinary_out number stand lower made s kind is' e =
-      let own : stand ≡ bracket number Ordinary s.md s.residents = s.is ∙ ap (λ k. bracket number k s.md s.residents) kind in
+  pub ordinary_out : (number : ℕ) (reached : Reached) (lower : List ℕ) (made : Choice) → StandsBefore facts number reached lower → reached.kind ≡ Ordinary
+      → choice facts reached lower ≡ Some made → completable facts (downfloaters facts reached made.lists ++ lower) ≡ true → GoesOut facts (downfloaters facts reached made.lists) lower
+  ordinary_out number reached lower made s kind is' e =
+      let own : reached ≡ bracket number Ordinary s.md s.residents = s.is ∙ ap (λ k. bracket number k s.md s.residents) kind in
       let out = subst (λ k. HasWayOut facts k number s.md s.residents lower) kind s.out in
-      subst (λ (b : Stand). choice facts b lower ≡ Some made → completable facts (downfloaters facts b made.lists ++ lower) ≡ true → GoesOut facts (downfloaters facts b made.lists) lower)
+      subst (λ (b : Reached). choice facts b lower ≡ Some made → completable facts (downfloaters facts b made.lists ++ lower) ≡ true → GoesOut facts (downfloaters facts b made.lists) lower)
       (sym own) (first_out number s.md s.residents lower out.0 made) is' e
 
   -- those left over by the penultimate one and all lower players have a candidate
-  pub collapsed_out : (number : ℕ) (stand : Stand) (lower : List ℕ) (made : Choice) (place : ℕ) → StandsBefore facts number stand lower → stand.kind ≡ Penultimate
-      → choice facts stand lower ≡ Some made → HasCandidate facts (bracket place Collapsed (downfloaters facts stand made.lists) lower) []
-  collapsed_out number stand lower made place s kind is' =
-      let own : stand ≡ bracket number Penultimate s.md s.residents = s.is ∙ ap (λ k. bracket number k s.md s.residents) kind in
+  pub collapsed_out : (number : ℕ) (reached : Reached) (lower : List ℕ) (made : Choice) (place : ℕ) → StandsBefore facts number reached lower → reached.kind ≡ Penultimate
+      → choice facts reached lower ≡ Some made → HasCandidate facts (bracket place Collapsed (downfloaters facts reached made.lists) lower) []
+  collapsed_out number reached lower made place s kind is' =
+      let own : reached ≡ bracket number Penultimate s.md s.residents = s.is ∙ ap (λ k. bracket number k s.md s.residents) kind in
       let out = subst (λ k. HasWayOut facts k number s.md s.residents lower) kind s.out in
-      subst (λ (b : Stand). choice facts b lower ≡ Some made → HasCandidate facts (bracket place Collapsed (downfloaters facts b made.lists) lower) [])
+      subst (λ (b : Reached). choice facts b lower ≡ Some made → HasCandidate facts (bracket place Collapsed (downfloaters facts b made.lists) lower) [])
       (sym own) (λ e. collapsed_has number s.md s.residents lower out.0 made e place) is'

@@ -9,8 +9,8 @@ use Rattle.dutch_order.specs.Choices.{all_meet}
 use Rattle.dutch_order.specs.Keys.{IsIn}
 use Rattle.dutch_order.specs.Arrangements.{Frame, Arrangement, arrangements, down, is_legal, leaves_one}
 use Rattle.dutch_player.specs.Facts.{Facts}
-use Rattle.dutch_pair.specs.declared.reached.Kind.TheVariants.{Ordinary, Last, Collapsed}
-use Rattle.dutch_pair.specs.Reached.{Stand, ends_round, frame_of, numbers_meet, number_may_be_left}
+use Rattle.dutch_pair.specs.declared.reached.BracketKind.TheVariants.{Ordinary, Last, Collapsed}
+use Rattle.dutch_pair.specs.Reached.{Reached, ends_round, frame_of, numbers_meet, number_may_be_left}
 use Rattle.dutch_pair.specs.Round.{Round, Pairing, Choice, bracket, candidates_of, choice, completable, downfloaters, eligible, everybody, can_be_chosen, scoregroups, pairing_in, passing, no_pairing, final_by, final_bracket, penultimate_by, penultimate_bracket, paired_again, ordinary_by, brackets, round}
 use Rattle.dutch_pair.specs.Seated.{all_pairs, seat_of}
 use Rattle.dutch_pair.proofs.LeastPsd.{in_filter}
@@ -24,27 +24,27 @@ leaves_few may_be_left [] e = omega arith
 leaves_few may_be_left (x ∷ []) e = omega arith
 leaves_few may_be_left (x ∷ y ∷ rest) e = absurd (true≢false (sym e))
 
-module _ (facts : Facts) (stand : Stand) where
+module _ (facts : Facts) (reached : Reached) where
   legal : Arrangement → Bool
-  legal a = is_legal (numbers_meet facts stand) (number_may_be_left facts stand) (frame_of facts stand) a
+  legal a = is_legal (numbers_meet facts reached) (number_may_be_left facts reached) (frame_of facts reached) a
 
-  legal_of : (lower : List ℕ) (shape : Shape) (a : Arrangement) → IsIn a (eligible facts stand lower shape) → legal a ≡ true
+  legal_of : (lower : List ℕ) (shape : Shape) (a : Arrangement) → IsIn a (eligible facts reached lower shape) → legal a ≡ true
   unfolding legal
   legal_of lower shape a m =
-      in_passes (λ c. legal c) a (arrangements (frame_of facts stand) shape)
-      (in_filter (can_be_chosen facts stand lower) a (candidates_of facts stand shape) m)
+      in_passes (λ c. legal c) a (arrangements (frame_of facts reached) shape)
+      (in_filter (can_be_chosen facts reached lower) a (candidates_of facts reached shape) m)
 
   -- who is left over by what is chosen, where at most one may be
-  left_few : (lower : List ℕ) (made : Choice) → ends_round stand.kind ≡ true → choice facts stand lower ≡ Some made → length (downfloaters facts stand made.lists) ≤ 1
+  left_few : (lower : List ℕ) (made : Choice) → ends_round reached.kind ≡ true → choice facts reached lower ≡ Some made → length (downfloaters facts reached made.lists) ≤ 1
   unfolding legal
   left_few lower made ends e =
-      let frame : Frame = frame_of facts stand in
+      let frame : Frame = frame_of facts reached in
       let a : Arrangement = made.lists in
-      let first = and_parts (all_meet (numbers_meet facts stand) a.s1 a.s2) _ (legal_of lower made.shape a (chosen_is facts stand lower made e).1) in
-      let second = and_parts (all_meet (numbers_meet facts stand) a.s1r a.s2r) _ first.1 in
-      let one : leaves_one (number_may_be_left facts stand) (down frame a) ≡ true =
-      subst (λ b. (not b || leaves_one (number_may_be_left facts stand) (down frame a)) ≡ true) ends second.1 in
-      omega (arith, leaves_few (number_may_be_left facts stand) (down frame a) one, length-map (down frame a) (seat_of stand.seats))
+      let first = and_parts (all_meet (numbers_meet facts reached) a.s1 a.s2) _ (legal_of lower made.shape a (chosen_is facts reached lower made e).1) in
+      let second = and_parts (all_meet (numbers_meet facts reached) a.s1r a.s2r) _ first.1 in
+      let one : leaves_one (number_may_be_left facts reached) (down frame a) ≡ true =
+      subst (λ b. (not b || leaves_one (number_may_be_left facts reached) (down frame a)) ≡ true) ends second.1 in
+      omega (arith, leaves_few (number_may_be_left facts reached) (down frame a) one, length-map (down frame a) (seat_of reached.seats))
 
 -- ---- bracket by bracket
 
@@ -53,38 +53,38 @@ abbrev pub HasOneBye : Option Pairing → Type 0
 HasOneBye found = IfSome found (λ pairing. length pairing.bye ≤ 1)
 
 module _ (facts : Facts) where
-  bye_stays : (stand : Stand) (made : Choice) (rest : Option Pairing) → HasOneBye rest
-      → HasOneBye (option_map (λ later. record { pairs = all_pairs stand.seats made.lists ++ later.pairs; bye = later.bye }) rest)
-  bye_stays stand made None one = tt
-  bye_stays stand made (Some later) one = one
+  bye_stays : (reached : Reached) (made : Choice) (rest : Option Pairing) → HasOneBye rest
+      → HasOneBye (option_map (λ later. record { pairs = all_pairs reached.seats made.lists ++ later.pairs; bye = later.bye }) rest)
+  bye_stays reached made None one = tt
+  bye_stays reached made (Some later) one = one
 
-  final_at : (stand : Stand) (found : Option Choice) → ends_round stand.kind ≡ true → choice facts stand [] ≡ found → HasOneBye (final_by facts stand found).pairing
-  final_at stand None ends e = tt
-  final_at stand (Some made) ends e = left_few facts stand [] made ends e
+  final_at : (reached : Reached) (found : Option Choice) → ends_round reached.kind ≡ true → choice facts reached [] ≡ found → HasOneBye (final_by facts reached found).pairing
+  final_at reached None ends e = tt
+  final_at reached (Some made) ends e = left_few facts reached [] made ends e
 
-  final_bye : (stand : Stand) → ends_round stand.kind ≡ true → HasOneBye (final_bracket facts stand).pairing
-  final_bye stand ends = final_at stand (choice facts stand []) ends refl
+  final_bye : (reached : Reached) → ends_round reached.kind ≡ true → HasOneBye (final_bracket facts reached).pairing
+  final_bye reached ends = final_at reached (choice facts reached []) ends refl
 
-  penultimate_at : (stand : Stand) (lower : List ℕ) (found : Option Choice) → HasOneBye (penultimate_by facts stand lower found).pairing
-  penultimate_at stand lower None = tt
-  penultimate_at stand lower (Some made) =
-      let last : Stand = bracket (stand.number + 1) Collapsed (downfloaters facts stand made.lists) lower in
-      bye_stays stand made (final_bracket facts last).pairing (final_bye last refl)
+  penultimate_at : (reached : Reached) (lower : List ℕ) (found : Option Choice) → HasOneBye (penultimate_by facts reached lower found).pairing
+  penultimate_at reached lower None = tt
+  penultimate_at reached lower (Some made) =
+      let last : Reached = bracket (reached.number + 1) Collapsed (downfloaters facts reached made.lists) lower in
+      bye_stays reached made (final_bracket facts last).pairing (final_bye last refl)
 
-  penultimate_bye : (stand : Stand) (lower : List ℕ) → HasOneBye (penultimate_bracket facts stand lower).pairing
-  penultimate_bye stand lower = penultimate_at (paired_again stand) lower (choice facts (paired_again stand) lower)
+  penultimate_bye : (reached : Reached) (lower : List ℕ) → HasOneBye (penultimate_bracket facts reached lower).pairing
+  penultimate_bye reached lower = penultimate_at (paired_again reached) lower (choice facts (paired_again reached) lower)
 
-  kept_at : (stand : Stand) (lower : List ℕ) (goes_on : List ℕ → Round) (made : Choice) (t : Bool) → ((left : List ℕ) → HasOneBye (goes_on left).pairing)
-      → HasOneBye (cond t (pairing_in facts stand made (goes_on (downfloaters facts stand made.lists))) (passing facts stand made (penultimate_bracket facts stand lower))).pairing
-  kept_at stand lower goes_on made true later =
-      bye_stays stand made (goes_on (downfloaters facts stand made.lists)).pairing (later (downfloaters facts stand made.lists))
-  kept_at stand lower goes_on made false later = penultimate_bye stand lower
+  kept_at : (reached : Reached) (lower : List ℕ) (goes_on : List ℕ → Round) (made : Choice) (t : Bool) → ((left : List ℕ) → HasOneBye (goes_on left).pairing)
+      → HasOneBye (cond t (pairing_in facts reached made (goes_on (downfloaters facts reached made.lists))) (passing facts reached made (penultimate_bracket facts reached lower))).pairing
+  kept_at reached lower goes_on made true later =
+      bye_stays reached made (goes_on (downfloaters facts reached made.lists)).pairing (later (downfloaters facts reached made.lists))
+  kept_at reached lower goes_on made false later = penultimate_bye reached lower
 
-  ordinary_at : (stand : Stand) (lower : List ℕ) (goes_on : List ℕ → Round) (found : Option Choice) → ((left : List ℕ) → HasOneBye (goes_on left).pairing)
-      → HasOneBye (ordinary_by facts stand lower goes_on found).pairing
-  ordinary_at stand lower goes_on None later = tt
-  ordinary_at stand lower goes_on (Some made) later =
-      kept_at stand lower goes_on made (completable facts (downfloaters facts stand made.lists ++ lower)) later
+  ordinary_at : (reached : Reached) (lower : List ℕ) (goes_on : List ℕ → Round) (found : Option Choice) → ((left : List ℕ) → HasOneBye (goes_on left).pairing)
+      → HasOneBye (ordinary_by facts reached lower goes_on found).pairing
+  ordinary_at reached lower goes_on None later = tt
+  ordinary_at reached lower goes_on (Some made) later =
+      kept_at reached lower goes_on made (completable facts (downfloaters facts reached made.lists ++ lower)) later
 
   no_groups : (group : List ℕ) (groups : List (List ℕ)) → (group ∷ groups) ≡ [] → ⊥
   no_groups group groups e = cc
@@ -93,9 +93,9 @@ module _ (facts : Facts) where
   brackets_bye number moved_down [] few = few refl
   brackets_bye number moved_down (group ∷ []) few = final_bye (bracket number Last moved_down group) refl
   brackets_bye number moved_down (group ∷ next ∷ groups) few =
-      let stand : Stand = bracket number Ordinary moved_down group in
+      let reached : Reached = bracket number Ordinary moved_down group in
       let lower : List ℕ = concat (next ∷ groups) in
-      ordinary_at stand lower (λ left. brackets facts (number + 1) left (next ∷ groups)) (choice facts stand lower)
+      ordinary_at reached lower (λ left. brackets facts (number + 1) left (next ∷ groups)) (choice facts reached lower)
       (λ left. brackets_bye (number + 1) left (next ∷ groups) (λ e. absurd (no_groups next groups e)))
 
   round_at : (t : Bool) → HasOneBye (cond t (brackets facts 1 [] (scoregroups facts (everybody facts))) (no_pairing facts)).pairing

@@ -87,8 +87,8 @@ and_less true t = omega arith
 and_less false t = omega arith
 
 strong_less : (p : Option Pref) (colour : Colour)
-    → one_if (option_map_or (λ wanted. is_strong wanted.kind && not (is_same wanted.colour colour)) p false) ≤ one_if (unmet p colour)
-strong_less (Some p) colour = and_less (is_strong p.kind) (not (is_same p.colour colour))
+    → one_if (option_map_or (λ wanted. is_strong wanted.strength && not (is_same wanted.colour colour)) p false) ≤ one_if (unmet p colour)
+strong_less (Some p) colour = and_less (is_strong p.strength) (not (is_same p.colour colour))
 strong_less None colour = omega arith
 
 strong_in_both : (facts : Facts) (both : ℕ × ℕ) → count_of_both facts (misses StrongPreference) both ≤ count_of_both facts (misses Preference) both

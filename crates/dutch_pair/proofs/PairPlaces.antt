@@ -9,7 +9,7 @@ use Rattle.dutch_player.specs.Meetings.{may_meet}
 use Rattle.dutch_player.proofs.LawLemmas.{meeting_sym}
 use Rattle.dutch_pair.specs.declared.colours_missed.Miss.TheVariants.{Preference}
 use Rattle.dutch_pair.specs.Quality.{misses, count_in}
-use Rattle.dutch_pair.specs.Reached.{Stand, is_number, numbers_meet}
+use Rattle.dutch_pair.specs.Reached.{Reached, is_number, numbers_meet}
 use Rattle.dutch_pair.specs.Seated.{seat_of}
 use Rattle.dutch_pair.specs.ColourFloors.{suits}
 use Rattle.dutch_pair.specs.BitTables.{has_bit}
@@ -18,18 +18,18 @@ use Rattle.dutch_pair.specs.PairFacts.{place_of, KnowsPairs, NotedUpto}
 use Rattle.dutch_pair.proofs.PairMisses.{pair_sym}
 use Rattle.dutch_pair.proofs.BitLemmas.{none_set}
 
-numbers_sym : (facts : Facts) (stand : Stand) (a b : ℕ) → numbers_meet facts stand a b ≡ numbers_meet facts stand b a
-numbers_sym facts stand a b =
-    let inside : (is_number stand a && is_number stand b) ≡ (is_number stand b && is_number stand a) = and_comm (is_number stand a) (is_number stand b) in
+numbers_sym : (facts : Facts) (reached : Reached) (a b : ℕ) → numbers_meet facts reached a b ≡ numbers_meet facts reached b a
+numbers_sym facts reached a b =
+    let inside : (is_number reached a && is_number reached b) ≡ (is_number reached b && is_number reached a) = and_comm (is_number reached a) (is_number reached b) in
     let equal : (a == b) ≡ (b == a) = grind (arith, nat_tests) in
-    let free : may_meet facts (seat_of stand.seats a) (seat_of stand.seats b) ≡ may_meet facts (seat_of stand.seats b) (seat_of stand.seats a)
-    = meeting_sym facts (seat_of stand.seats a) (seat_of stand.seats b) in
+    let free : may_meet facts (seat_of reached.seats a) (seat_of reached.seats b) ≡ may_meet facts (seat_of reached.seats b) (seat_of reached.seats a)
+    = meeting_sym facts (seat_of reached.seats a) (seat_of reached.seats b) in
     cc
 
-pub suits_sym : (facts : Facts) (stand : Stand) (x y : ℕ) → suits facts stand x y ≡ suits facts stand y x
-suits_sym facts stand x y =
-    ap (λ t. t && (count_in facts (misses Preference) (seat_of stand.seats x, seat_of stand.seats y) == 0)) (numbers_sym facts stand x y)
-    ∙ ap (λ k. numbers_meet facts stand y x && (k == 0)) (pair_sym facts (seat_of stand.seats x) (seat_of stand.seats y))
+pub suits_sym : (facts : Facts) (reached : Reached) (x y : ℕ) → suits facts reached x y ≡ suits facts reached y x
+suits_sym facts reached x y =
+    ap (λ t. t && (count_in facts (misses Preference) (seat_of reached.seats x, seat_of reached.seats y) == 0)) (numbers_sym facts reached x y)
+    ∙ ap (λ k. numbers_meet facts reached y x && (k == 0)) (pair_sym facts (seat_of reached.seats x) (seat_of reached.seats y))
 
 row : (n r s : ℕ) → r < s → r * n + n ≤ s * n
 row n r s lt = let le : (r + 1) * n ≤ s * n = mul-le-mul_right n (omega arith) in omega (arith, le)
@@ -72,10 +72,10 @@ noted_same known table from end same noted = subst (NotedUpto known table) same 
 
 module _ (known : Context) where
   abbrev n : ℕ
-  n = length known.stand.seats
+  n = length known.reached.seats
 
   abbrev suit : ℕ → ℕ → Bool
-  suit x y = suits known.facts known.stand x y
+  suit x y = suits known.facts known.reached x y
 
   suit_same : (x y a b : ℕ) (t : Bool) → (a ≡ x) × (b ≡ y) → suit x y ≡ t → suit a b ≡ t
   suit_same x y a b t at e = ap (λ k. suit k b) at.0 ∙ (ap (suit x) at.1 ∙ e)
@@ -84,7 +84,7 @@ module _ (known : Context) where
       → NotedUpto known table (place_of n x y) → has_bit table (place_of n y x) ≡ suit x y
   noted_before table x y p q lt noted =
       let le = row n (y - 1) (x - 1) (omega arith) in
-      noted y x q p ∙ (ap (λ t. t && suit y x) (lt-ltb (place_of n y x) (place_of n x y) (omega (arith, le))) ∙ suits_sym known.facts known.stand y x)
+      noted y x q p ∙ (ap (λ t. t && suit y x) (lt-ltb (place_of n y x) (place_of n x y) (omega (arith, le))) ∙ suits_sym known.facts known.reached y x)
 
   pub suits_more : (old new : List ℕ) (x y : ℕ) → (0 < x) × (x ≤ n) → (0 < y) × (y ≤ n) → suit x y ≡ true
       → has_bit new (place_of n x y) ≡ true → ((i : ℕ) → ¬ (i ≡ place_of n x y) → has_bit new i ≡ has_bit old i)

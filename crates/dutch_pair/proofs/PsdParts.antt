@@ -15,7 +15,7 @@ use Rattle.dutch_order.proofs.Members.{filter-numbers, numbers-append}
 use Rattle.dutch_order.proofs.Counts.{left-append, member-append}
 use Rattle.dutch_player.specs.Facts.{Facts}
 use Rattle.dutch_pair.specs.Seated.{seat_of, score_at, pairs_of, all_pairs, lowest, difference, difference_down}
-use Rattle.dutch_pair.specs.Reached.{Stand, frame_of}
+use Rattle.dutch_pair.specs.Reached.{Reached, frame_of}
 use Rattle.dutch_pair.specs.Quality.{one_if}
 use Rattle.dutch_pair.specs.PsdFloors.{repeated}
 use Rattle.dutch_pair.proofs.Copies.{copies, copies_append}
@@ -128,25 +128,25 @@ residents_left q n (x ∷ numbers) taken residents =
     [ true ↦ residents_left q n numbers taken residents.1 | false ↦ (residents.0, residents_left q n numbers taken residents.1) ]
 
 -- a bracket whose residents have one score, below that of each moved-down player
-pub record OneScore (facts : Facts) (stand : Stand) (s : ℕ) : Type 0 where
-  pub within : stand.mdps < length stand.seats
-  pub higher : (i : ℕ) → 0 < i → i ≤ stand.mdps → s < score_at facts (seat_of stand.seats i)
-  pub same : (i : ℕ) → stand.mdps < i → i ≤ length stand.seats → score_at facts (seat_of stand.seats i) ≡ s
-  pub least : lowest facts stand.seats ≡ s
+pub record OneScore (facts : Facts) (reached : Reached) (s : ℕ) : Type 0 where
+  pub within : reached.mdps < length reached.seats
+  pub higher : (i : ℕ) → 0 < i → i ≤ reached.mdps → s < score_at facts (seat_of reached.seats i)
+  pub same : (i : ℕ) → reached.mdps < i → i ≤ length reached.seats → score_at facts (seat_of reached.seats i) ≡ s
+  pub least : lowest facts reached.seats ≡ s
 
 -- how often a difference stands in the PSD: as the difference of a pair with a moved-down player, of one who is left over, of a pair
 -- of residents, or of a resident who is left over
-pub psd_copies : (facts : Facts) (stand : Stand) (s m j : ℕ) (a : Arrangement) (d : ℕ) → OneScore facts stand s
-    → Parts stand.mdps (length (frame_of facts stand).scores) m j a → length (frame_of facts stand).scores ≡ length stand.seats
-    → (left : ℕ) → left + (m + (j + j)) ≡ length stand.seats - stand.mdps
-    → copies d (map (difference facts) (all_pairs stand.seats a) ++ map (difference_down facts (lowest facts stand.seats)) (map (seat_of stand.seats) (down (frame_of facts stand) a)))
-    ≡ copies d (map (λ i. score_at facts (seat_of stand.seats i) - s) a.s1)
-    + (copies d (map (λ i. (score_at facts (seat_of stand.seats i) - s) + 2) (left_of (numbers_from 1 stand.mdps) a.s1))
+pub psd_copies : (facts : Facts) (reached : Reached) (s m j : ℕ) (a : Arrangement) (d : ℕ) → OneScore facts reached s
+    → Parts reached.mdps (length (frame_of facts reached).scores) m j a → length (frame_of facts reached).scores ≡ length reached.seats
+    → (left : ℕ) → left + (m + (j + j)) ≡ length reached.seats - reached.mdps
+    → copies d (map (difference facts) (all_pairs reached.seats a) ++ map (difference_down facts (lowest facts reached.seats)) (map (seat_of reached.seats) (down (frame_of facts reached) a)))
+    ≡ copies d (map (λ i. score_at facts (seat_of reached.seats i) - s) a.s1)
+    + (copies d (map (λ i. (score_at facts (seat_of reached.seats i) - s) + 2) (left_of (numbers_from 1 reached.mdps) a.s1))
     + (copies d (repeated 0 j) + copies d (repeated 2 left)))
-psd_copies facts stand s m j a d one parts counted left fits =
-    let q = stand.mdps in
-    let n = length (frame_of facts stand).scores in
-    let seats = stand.seats in
+psd_copies facts reached s m j a d one parts counted left fits =
+    let q = reached.mdps in
+    let n = length (frame_of facts reached).scores in
+    let seats = reached.seats in
     let score : ℕ → ℕ = λ i. score_at facts (seat_of seats i) in
     let same : (i : ℕ) → q < i → i ≤ n → score i ≡ s = λ i h g. one.same i h (omega (arith, g, counted)) in
     let rest : List ℕ = left_of (left_of (left_of (numbers_from (q + 1) (n - q)) a.s2) a.s1r) a.s2r in
@@ -160,11 +160,11 @@ psd_copies facts stand s m j a d one parts counted left fits =
     let firsts = paired_differences score s q n one.higher same seats facts as_is 1 a.s1 a.s2 (omega arith) parts.s1 parts.s2 (parts.s1_count ∙ sym parts.s2_count) in
     let others = resident_differences score s q n one.higher same seats facts as_is a.s1r a.s2r parts.s1r parts.s2r (parts.s1r_count ∙ sym parts.s2r_count) in
     let floats = resident_floats score s q n one.higher same rest residents in
-    let halves : down (frame_of facts stand) a ≡ low ++ rest = down_parts (frame_of facts stand) m j a (omega (arith, one.within, counted)) parts in
+    let halves : down (frame_of facts reached) a ≡ low ++ rest = down_parts (frame_of facts reached) m j a (omega (arith, one.within, counted)) parts in
     let by : ℕ → ℕ = λ i. (score i - s) + 2 in
-    let floated : map (difference_down facts (lowest facts seats)) (map (seat_of seats) (down (frame_of facts stand) a)) ≡ map by low ++ map by rest =
-    map-map (difference_down facts (lowest facts seats)) (seat_of seats) (down (frame_of facts stand) a)
-    ∙ ap (λ least. map (λ i. (score i - least) + 2) (down (frame_of facts stand) a)) one.least
+    let floated : map (difference_down facts (lowest facts seats)) (map (seat_of seats) (down (frame_of facts reached) a)) ≡ map by low ++ map by rest =
+    map-map (difference_down facts (lowest facts seats)) (seat_of seats) (down (frame_of facts reached) a)
+    ∙ ap (λ least. map (λ i. (score i - least) + 2) (down (frame_of facts reached) a)) one.least
     ∙ ap (map by) halves
     ∙ map-append by low rest in
     let paired_up : map (difference facts) (all_pairs seats a) ≡ map (λ i. score i - s) a.s1 ++ repeated 0 j =
@@ -172,7 +172,7 @@ psd_copies facts stand s m j a d one parts counted left fits =
     ∙ ap (λ xs. xs ++ map (difference facts) (pairs_of seats a.s1r a.s2r)) firsts
     ∙ ap (λ xs. map (λ i. score i - s) a.s1 ++ xs) (others ∙ ap (repeated 0) parts.s1r_count) in
     let count : length rest ≡ left = (let e = parts.left in omega (arith, e, fits, counted)) in
-    let c1 = copies_append d (map (difference facts) (all_pairs seats a)) (map (difference_down facts (lowest facts seats)) (map (seat_of seats) (down (frame_of facts stand) a))) in
+    let c1 = copies_append d (map (difference facts) (all_pairs seats a)) (map (difference_down facts (lowest facts seats)) (map (seat_of seats) (down (frame_of facts reached) a))) in
     let c2 = copies_append d (map (λ i. score i - s) a.s1) (repeated 0 j) in
     let c3 = copies_append d (map by low) (map by rest) in
     omega (arith, c1, c2, c3, ap (copies d) paired_up, ap (copies d) floated, ap (copies d) (floats ∙ ap (repeated 2) count))

@@ -31,15 +31,15 @@ compared_total =
     list_total (λ q. q.psd) (then_total (on_total (λ (q : Quality). q.next_pairs) (back_total nat_cmp_total)) (list_total (λ q. q.next_psd) colours_total))
 
 -- what is not told apart is the same, item by item
-both_tied : (o p : Ordering) → ordering_then o p ≡ Equal → (o ≡ Equal) × (p ≡ Equal)
+pub both_tied : (o p : Ordering) → ordering_then o p ≡ Equal → (o ≡ Equal) × (p ≡ Equal)
 both_tied Less p e = absurd (cc)
 both_tied Equal p e = (refl, e)
 both_tied Greater p e = absurd (cc)
 
-numbers_tied : (x y : ℕ) → nat_cmp x y ≡ Equal → x ≡ y
+pub numbers_tied : (x y : ℕ) → nat_cmp x y ≡ Equal → x ≡ y
 numbers_tied x y e = by_ranked (x < y) (x ≡ y) (y < x) (nat_cmp x y) (ranked x y (nat_cmp x y) refl) (λ f _. absurd (cc (e, f))) (λ _ f. f) (λ f _. absurd (cc (e, f)))
 
-lists_tied : (xs ys : List ℕ) → slice_cmp nat_cmp xs ys ≡ Equal → xs ≡ ys
+pub lists_tied : (xs ys : List ℕ) → slice_cmp nat_cmp xs ys ≡ Equal → xs ≡ ys
 lists_tied [] [] e = refl
 lists_tied [] (y ∷ ys) e = absurd (cc)
 lists_tied (x ∷ xs) [] e = absurd (cc)
@@ -86,7 +86,7 @@ top_tied a b e =
     let three = both_tied (slice_cmp nat_cmp a.next_psd b.next_psd) _ two.1 in
     (lists_tied _ _ one.0, sym (numbers_tied _ _ two.0), lists_tied _ _ three.0, three.1)
 
-same_items : (a b : Quality) → compared a b ≡ Equal → a ≡ b
+pub same_items : (a b : Quality) → compared a b ≡ Equal → a ≡ b
 same_items a b e =
     let top = top_tied a b e in
     let colours = colours_tied a b top.3 in

@@ -1,12 +1,9 @@
 -- What a walk over a whole round tells of the round.
-use Rattle.std.proofs.Common.{◌≡◌, ℕ, zero, suc, ◌+◌, ◌-◌, ◌<◌, ◌≤◌, Bool, true, false, cond, List, [], ◌∷◌, ◌++◌, length, map, Option, Some, None, is_some, option_map, inl, inr, refl, sym, ap, ◌∙◌, arith, append-nil, append_assoc}
+use Rattle.std.proofs.Common.{◌≡◌, ℕ, zero, suc, ◌+◌, ◌-◌, ◌<◌, ◌≤◌, Bool, true, false, cond, List, [], ◌∷◌, ◌++◌, length, map, Option, Some, None, option_map, inl, inr, refl, sym, ap, ◌∙◌, arith, append-nil, append_assoc}
 use Rattle.std.proofs.lemmas.Bool.{cases_eq}
-use Rattle.dutch_order.specs.declared.bracket.Shape.{Shape}
 use Rattle.dutch_player.specs.Facts.{Facts}
 use Rattle.dutch_pair.specs.declared.stage.Stage.{Stage}
-use Rattle.dutch_pair.specs.Boards.{boards}
-use Rattle.dutch_pair.specs.Reached.{Stand}
-use Rattle.dutch_pair.specs.Round.{Round, Pairing, Visit, ending, passing, pairing_in, round}
+use Rattle.dutch_pair.specs.Round.{Round, Pairing, Visit, passing, pairing_in}
 use Rattle.dutch_pair.specs.Outcomes.{visit, visit_at, visit_of}
 use Rattle.dutch_pair.specs.Seated.{all_pairs}
 use Rattle.dutch_pair.specs.Stages.{choice_of, in_front, own_pairs, stage_first}
@@ -30,7 +27,7 @@ visits_more (first ∷ stages) stage visits = ap (λ (xs : List Visit). visit fi
 module _ (facts : Facts) (stage : Stage) (rest : Round) where
   first_pairing_at : (t : Bool) (front : List (ℕ × ℕ))
       → option_map (in_front front) (cond t (passing facts stage.reached (choice_of stage) rest) (pairing_in facts stage.reached (choice_of stage) rest)).pairing
-      ≡ option_map (in_front (front ++ cond t [] (own_pairs (record { reached = stage.reached; shape = stage.shape; candidate = stage.candidate; again = false })))) rest.pairing
+      ≡ option_map (in_front (front ++ cond t [] (own_pairs (record { reached = stage.reached; shape = stage.shape; candidate = stage.candidate; quality = stage.quality; again = false })))) rest.pairing
   first_pairing_at true front = ap (λ (pairs : List (ℕ × ℕ)). option_map (in_front pairs) rest.pairing) (sym (append-nil front))
   first_pairing_at false front = in_front_more front _ rest.pairing
 

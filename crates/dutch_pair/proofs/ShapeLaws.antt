@@ -1,27 +1,15 @@
 -- The shape that is found is the greatest that a bracket has room for and that has a candidate (C.04.3 C.5, B.1).
 use Rattle.std.proofs.Common.{◌≡◌, ℕ, zero, suc, ◌+◌, ◌-◌, ◌*◌, ◌/◌, ◌<◌, ◌≤◌, ◌⊎◌, ◌↔◌, Bool, true, false, not, ◌&&◌, nat_lt, List, [], map, length, Option, Some, None, inl, inr, refl, sym, ap, ◌∙◌, subst, arith}
 use Rattle.std.specs.Prelude.{flat_map}
-use Rattle.std.proofs.lemmas.Bool.{cases_lt}
+use Rattle.std.proofs.lemmas.Bool.{and_from, and_parts, cases_lt}
 use Rattle.std.proofs.lemmas.Bool.Decides.{nat_tests}
 use Rattle.dutch_order.specs.declared.bracket.Shape.{Shape}
 use Rattle.dutch_order.specs.Arrangements.{Frame, Arrangement, Fits, remainder_pairs}
 use Rattle.dutch_player.specs.Facts.{Facts}
-use Rattle.dutch_pair.specs.Reached.{Stand, frame_of}
+use Rattle.dutch_pair.specs.Reached.{Reached, frame_of}
 use Rattle.dutch_pair.specs.Round.{eligible, shape_of}
 use Rattle.dutch_pair.specs.Shapes.{IsGreater, down_from, fits, has_member, shapes_with}
 use Rattle.dutch_pair.proofs.ShapeSearch.{fits_by_test, found_in, has, passed, shape_with, taken, some_first, none_first}
-
-both : (p q : Bool) → p ≡ true → q ≡ true → (p && q) ≡ true
-both true q e h = h
-both false q e h = let bad : false ≡ true = e in cc
-
-first_of : (p q : Bool) → (p && q) ≡ true → p ≡ true
-first_of true q h = refl
-first_of false q h = h
-
-second_of : (p q : Bool) → (p && q) ≡ true → q ≡ true
-second_of true q h = h
-second_of false q h = let bad : false ≡ true = h in cc
 
 at_most : (a b : ℕ) → b ≤ a → not (nat_lt a b) ≡ true
 at_most a b h = grind (arith, nat_tests)
@@ -29,8 +17,8 @@ at_most a b h = grind (arith, nat_tests)
 -- a bracket that has room for a shape passes the test
 test_by_fits : (frame : Frame) (shape : Shape) → Fits frame shape → fits frame shape ≡ true
 test_by_fits frame shape h =
-    both (not (nat_lt shape.pairs shape.mdps)) _ (at_most shape.pairs shape.mdps h.within_pairs)
-    (both (not (nat_lt frame.mdps shape.mdps)) _ (at_most frame.mdps shape.mdps h.within_moved_down)
+    and_from (not (nat_lt shape.pairs shape.mdps)) _ (at_most shape.pairs shape.mdps h.within_pairs)
+    (and_from (not (nat_lt frame.mdps shape.mdps)) _ (at_most frame.mdps shape.mdps h.within_moved_down)
     (at_most (length frame.scores - frame.mdps) (shape.mdps + 2 * remainder_pairs shape) h.residents_enough))
 
 pub room_by_test : (frame : Frame) (shape : Shape) → Fits frame shape ↔ (fits frame shape ≡ true)
@@ -171,32 +159,32 @@ module _ (eligible_in : Shape → List Arrangement) (room : Shape → Bool) wher
 
 -- ---- in a bracket
 
-module _ (facts : Facts) (stand : Stand) (lower : List ℕ) where
+module _ (facts : Facts) (reached : Reached) (lower : List ℕ) where
   abbrev room_here : Shape → Bool
-  room_here = fits (frame_of facts stand)
+  room_here = fits (frame_of facts reached)
 
   abbrev most_here : ℕ
-  most_here = length (frame_of facts stand).scores / 2
+  most_here = length (frame_of facts reached).scores / 2
 
-  among_here : (t : Shape) → Fits (frame_of facts stand) t → AtMost (eligible facts stand lower) room_here most_here t
-  among_here t h = (few_pairs (frame_of facts stand) t h, h.within_pairs)
+  among_here : (t : Shape) → Fits (frame_of facts reached) t → AtMost (eligible facts reached lower) room_here most_here t
+  among_here t h = (few_pairs (frame_of facts reached) t h, h.within_pairs)
 
-  counts_here : (t : Shape) → Fits (frame_of facts stand) t → has_member (eligible facts stand lower t) ≡ true → has (eligible facts stand lower) room_here t ≡ true
-  counts_here t h has' = both (room_here t) (has_member (eligible facts stand lower t)) (test_by_fits (frame_of facts stand) t h) has'
+  counts_here : (t : Shape) → Fits (frame_of facts reached) t → has_member (eligible facts reached lower t) ≡ true → has (eligible facts reached lower) room_here t ≡ true
+  counts_here t h has' = and_from (room_here t) (has_member (eligible facts reached lower t)) (test_by_fits (frame_of facts reached) t h) has'
 
-  known : (o : Option Shape) → shape_of facts stand lower ≡ o → IsGreatestOf (eligible facts stand lower) room_here (AtMost (eligible facts stand lower) room_here most_here) o
+  known : (o : Option Shape) → shape_of facts reached lower ≡ o → IsGreatestOf (eligible facts reached lower) room_here (AtMost (eligible facts reached lower) room_here most_here) o
   known o e =
-      subst (IsGreatestOf (eligible facts stand lower) room_here (AtMost (eligible facts stand lower) room_here most_here)) e
-      (greatest_pairs (eligible facts stand lower) room_here most_here)
+      subst (IsGreatestOf (eligible facts reached lower) room_here (AtMost (eligible facts reached lower) room_here most_here)) e
+      (greatest_pairs (eligible facts reached lower) room_here most_here)
 
-  pub none_is_greater : (s t : Shape) → shape_of facts stand lower ≡ Some s → Fits (frame_of facts stand) t → has_member (eligible facts stand lower t) ≡ true → ¬ IsGreater t s
+  pub none_is_greater : (s t : Shape) → shape_of facts reached lower ≡ Some s → Fits (frame_of facts reached) t → has_member (eligible facts reached lower t) ≡ true → ¬ IsGreater t s
   none_is_greater s t e h has' = (known (Some s) e).2 t (among_here t h) (counts_here t h has')
 
-  pub has_room : (s : Shape) → shape_of facts stand lower ≡ Some s → Fits (frame_of facts stand) s
-  has_room s e = fits_by_test (frame_of facts stand) s (first_of (room_here s) (has_member (eligible facts stand lower s)) (known (Some s) e).1)
+  pub has_room : (s : Shape) → shape_of facts reached lower ≡ Some s → Fits (frame_of facts reached) s
+  has_room s e = fits_by_test (frame_of facts reached) s (and_parts (room_here s) (has_member (eligible facts reached lower s)) (known (Some s) e).1).0
 
-  pub has_one : (s : Shape) → shape_of facts stand lower ≡ Some s → has_member (eligible facts stand lower s) ≡ true
-  has_one s e = second_of (room_here s) (has_member (eligible facts stand lower s)) (known (Some s) e).1
+  pub has_one : (s : Shape) → shape_of facts reached lower ≡ Some s → has_member (eligible facts reached lower s) ≡ true
+  has_one s e = (and_parts (room_here s) (has_member (eligible facts reached lower s)) (known (Some s) e).1).1
 
-  pub none_has_one : (t : Shape) → shape_of facts stand lower ≡ None → Fits (frame_of facts stand) t → ¬ (has_member (eligible facts stand lower t) ≡ true)
+  pub none_has_one : (t : Shape) → shape_of facts reached lower ≡ None → Fits (frame_of facts reached) t → ¬ (has_member (eligible facts reached lower t) ≡ true)
   none_has_one t e h has' = known None e t (among_here t h) (counts_here t h has')

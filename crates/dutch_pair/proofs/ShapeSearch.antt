@@ -4,7 +4,7 @@ use Rattle.std.specs.Prelude.{flat_map}
 use Rattle.std.proofs.lemmas.Bool.Decides.{nat_tests}
 use Rattle.dutch_order.specs.declared.bracket.Shape.{Shape}
 use Rattle.dutch_order.specs.Arrangements.{Frame, Arrangement, Fits, remainder_pairs}
-use Rattle.dutch_order.specs.Draws.{Draw}
+use Rattle.dutch_order.specs.Candidates.{Candidate}
 use Rattle.dutch_pair.specs.Shapes.{IsFirst, down_from, fits, shapes_with, has_member, first_with}
 
 both_first : (p q : Bool) → (p && q) ≡ true → p ≡ true
@@ -29,8 +29,8 @@ fits_by_test frame shape h =
     }
 
 -- a shape of which there is a first arrangement has one
-pub first_there : (some : List Arrangement) (frame : Frame) (draw : Draw) → IsFirst some frame draw → has_member some ≡ true
-first_there some frame draw h = ap has_member h.first
+pub first_there : (some : List Arrangement) (frame : Frame) (candidate : Candidate) → IsFirst some frame candidate → has_member some ≡ true
+first_there some frame candidate h = ap has_member h.first
 
 pub down_one : (n : ℕ) → 0 < n → down_from n ≡ n ∷ down_from (n - 1)
 down_one zero h = let bad : ⊥ = omega (arith, h) in absurd bad

@@ -5,9 +5,9 @@ use Rattle.std.proofs.lemmas.List.{append-nil}
 use Rattle.dutch_order.specs.declared.bracket.Shape.{Shape}
 use Rattle.dutch_order.specs.Keys.{IsIn}
 use Rattle.dutch_player.specs.Facts.{Facts}
-use Rattle.dutch_pair.specs.declared.reached.Kind.TheVariants.{Ordinary, Last, Collapsed}
+use Rattle.dutch_pair.specs.declared.reached.BracketKind.TheVariants.{Ordinary, Last, Collapsed}
 use Rattle.dutch_pair.specs.Seated.{score_at}
-use Rattle.dutch_pair.specs.Reached.{Stand, IsAbove}
+use Rattle.dutch_pair.specs.Reached.{Reached, IsAbove}
 use Rattle.dutch_pair.specs.Walk.{AreAbove, Goes}
 use Rattle.dutch_pair.specs.Lower.{lower_of}
 use Rattle.dutch_pair.specs.Outcomes.{shown, visit_at, visit_of}
@@ -16,7 +16,7 @@ use Rattle.dutch_pair.proofs.BestLemmas.{chosen_is}
 use Rattle.dutch_pair.proofs.AllLemmas.{all_join}
 use Rattle.dutch_pair.proofs.GroupLemmas.{concat_scoregroups}
 use Rattle.dutch_pair.proofs.GroupWalk.{IsParted, parted_by, parted_above, parted_left, everybody_goes}
-use Rattle.dutch_pair.proofs.LowerLemmas.{EndsAt, lower_is, in_front, in_back, in_either, above_in}
+use Rattle.dutch_pair.proofs.LowerLemmas.{EndsAt, lower_is, in_front, in_back, in_either, above_in, some_in}
 use Rattle.dutch_pair.proofs.WalkEnds.{above_again, collapsed_above}
 use Rattle.dutch_pair.proofs.WalkLemmas.{Descends, LeftGoOn, above_back}
 
@@ -35,37 +35,33 @@ module _ (facts : Facts) where
 
   -- ---- the bracket of a choice
 
-  stands : (stand : Stand) (lower : List ℕ) (made : Choice) (again : Bool) → lower_of facts stand ≡ lower → IsAbove facts stand lower → choice facts stand lower ≡ Some made
-      → StandsAbove (record { bracket = stand; shape = made.shape; lists = made.lists; again = again })
-  stands stand lower made again e above has =
-      (subst (IsAbove facts stand) (sym e) above, ap (shape_of facts stand) e ∙ (chosen_is facts stand lower made has).0)
+  stands : (reached : Reached) (lower : List ℕ) (made : Choice) (again : Bool) → lower_of facts reached ≡ lower → IsAbove facts reached lower → choice facts reached lower ≡ Some made
+      → StandsAbove (record { bracket = reached; shape = made.shape; lists = made.lists; again = again })
+  stands reached lower made again e above has =
+      (subst (IsAbove facts reached) (sym e) above, ap (shape_of facts reached) e ∙ (chosen_is facts reached lower made has).0)
 
   -- ---- the bracket that ends a round
 
-  final_at : (stand : Stand) (found : Option Choice) → choice facts stand [] ≡ found → lower_of facts stand ≡ [] → IsAbove facts stand [] → AllStand (final_by facts stand found).reached
-  final_at stand None e none above = tt
-  final_at stand (Some made) e none above = (stands stand [] made false none above e, tt)
+  final_at : (reached : Reached) (found : Option Choice) → choice facts reached [] ≡ found → lower_of facts reached ≡ [] → IsAbove facts reached [] → AllStand (final_by facts reached found).reached
+  final_at reached None e none above = tt
+  final_at reached (Some made) e none above = (stands reached [] made false none above e, tt)
 
-  final_stands : (stand : Stand) → lower_of facts stand ≡ [] → IsAbove facts stand [] → AllStand (final_bracket facts stand).reached
-  final_stands stand none above = final_at stand (choice facts stand []) refl none above
+  final_stands : (reached : Reached) → lower_of facts reached ≡ [] → IsAbove facts reached [] → AllStand (final_bracket facts reached).reached
+  final_stands reached none above = final_at reached (choice facts reached []) refl none above
 
   -- ---- a bracket above lower players, behind some who are above them too
 
-  record IsPlaced (stand : Stand) (tops lower : List ℕ) : Type 0 where
-    above : IsAbove facts stand lower
-    ends : EndsAt facts stand.seats tops lower
-    goes : LeftGoOn facts stand lower
+  record IsPlaced (reached : Reached) (tops lower : List ℕ) : Type 0 where
+    above : IsAbove facts reached lower
+    ends : EndsAt facts reached.seats tops lower
+    goes : LeftGoOn facts reached lower
     high : AreAbove facts tops lower
     some : 0 < length lower
-
-  some_in : (xs : List ℕ) → 0 < length xs → (x : ℕ) × IsIn x xs
-  some_in [] h = absurd (omega (arith, h))
-  some_in (x ∷ xs) h = (x, inl refl)
 
   collapsed_reached : (left tops lower : List ℕ) (y : ℕ) → 0 < length lower → AreAbove facts tops lower → IsIn y tops ⊎ IsIn y lower
       → (a : ℕ) × IsIn a (left ++ lower) × (score_at facts a ≤ score_at facts y)
   collapsed_reached left tops lower y some above (inl m) =
-      let one = some_in lower some in
+      let one = some_in facts lower some in
       let lt : score_at facts one.0 < score_at facts y = above_in facts tops lower y one.0 above m one.1 in
       (one.0, in_back facts one.0 left lower one.1, omega (arith, lt))
   collapsed_reached left tops lower y some above (inr m) = (y, in_back facts y left lower m, omega arith)
@@ -82,35 +78,35 @@ module _ (facts : Facts) where
       })
 
   module _ (descends : Descends facts) where
-    penultimate_at : (stand : Stand) (tops lower : List ℕ) (found : Option Choice) → IsPlaced stand tops lower → choice facts (paired_again stand) lower ≡ found
-        → AllStand (penultimate_by facts (paired_again stand) lower found).reached
-    penultimate_at stand tops lower None placed e = tt
-    penultimate_at stand tops lower (Some made) placed e =
-        let left : List ℕ = downfloaters facts (paired_again stand) made.lists in (
-          stands (paired_again stand) lower made false (lower_is facts (paired_again stand) tops lower placed.ends) (above_again facts stand lower placed.above) e,
-          final_stands (bracket ((stand.number + 1) + 1) Collapsed left lower)
-              (collapsed_none ((stand.number + 1) + 1) left tops lower placed.some placed.high placed.ends.all)
-              (collapsed_above facts stand lower left made.lists ((stand.number + 1) + 1) descends placed.goes refl),
+    penultimate_at : (reached : Reached) (tops lower : List ℕ) (found : Option Choice) → IsPlaced reached tops lower → choice facts (paired_again reached) lower ≡ found
+        → AllStand (penultimate_by facts (paired_again reached) lower found).reached
+    penultimate_at reached tops lower None placed e = tt
+    penultimate_at reached tops lower (Some made) placed e =
+        let left : List ℕ = downfloaters facts (paired_again reached) made.lists in (
+          stands (paired_again reached) lower made false (lower_is facts (paired_again reached) tops lower placed.ends) (above_again facts reached lower placed.above) e,
+          final_stands (bracket ((reached.number + 1) + 1) Collapsed left lower)
+              (collapsed_none ((reached.number + 1) + 1) left tops lower placed.some placed.high placed.ends.all)
+              (collapsed_above facts reached lower left made.lists ((reached.number + 1) + 1) descends placed.goes refl),
         )
 
-    penultimate_stands : (stand : Stand) (tops lower : List ℕ) → IsPlaced stand tops lower → AllStand (penultimate_bracket facts stand lower).reached
-    penultimate_stands stand tops lower placed = penultimate_at stand tops lower (choice facts (paired_again stand) lower) placed refl
+    penultimate_stands : (reached : Reached) (tops lower : List ℕ) → IsPlaced reached tops lower → AllStand (penultimate_bracket facts reached lower).reached
+    penultimate_stands reached tops lower placed = penultimate_at reached tops lower (choice facts (paired_again reached) lower) placed refl
 
-    kept_at : (stand : Stand) (tops lower : List ℕ) (goes_on : List ℕ → Round) (made : Choice) (t : Bool) → IsPlaced stand tops lower → choice facts stand lower ≡ Some made
-        → AllStand (goes_on (downfloaters facts stand made.lists)).reached
-        → AllStand (cond t (pairing_in facts stand made (goes_on (downfloaters facts stand made.lists))) (passing facts stand made (penultimate_bracket facts stand lower))).reached
-    kept_at stand tops lower goes_on made true placed e later =
-        (stands stand lower made false (lower_is facts stand tops lower placed.ends) placed.above e, later)
-    kept_at stand tops lower goes_on made false placed e later =
-        (stands stand lower made true (lower_is facts stand tops lower placed.ends) placed.above e, penultimate_stands stand tops lower placed)
+    kept_at : (reached : Reached) (tops lower : List ℕ) (goes_on : List ℕ → Round) (made : Choice) (t : Bool) → IsPlaced reached tops lower → choice facts reached lower ≡ Some made
+        → AllStand (goes_on (downfloaters facts reached made.lists)).reached
+        → AllStand (cond t (pairing_in facts reached made (goes_on (downfloaters facts reached made.lists))) (passing facts reached made (penultimate_bracket facts reached lower))).reached
+    kept_at reached tops lower goes_on made true placed e later =
+        (stands reached lower made false (lower_is facts reached tops lower placed.ends) placed.above e, later)
+    kept_at reached tops lower goes_on made false placed e later =
+        (stands reached lower made true (lower_is facts reached tops lower placed.ends) placed.above e, penultimate_stands reached tops lower placed)
 
-    ordinary_at : (stand : Stand) (tops lower : List ℕ) (goes_on : List ℕ → Round) (found : Option Choice) → IsPlaced stand tops lower → choice facts stand lower ≡ found
+    ordinary_at : (reached : Reached) (tops lower : List ℕ) (goes_on : List ℕ → Round) (found : Option Choice) → IsPlaced reached tops lower → choice facts reached lower ≡ found
         → ((left : List ℕ) → Goes facts left lower → AllStand (goes_on left).reached)
-        → AllStand (ordinary_by facts stand lower goes_on found).reached
-    ordinary_at stand tops lower goes_on None placed e later = tt
-    ordinary_at stand tops lower goes_on (Some made) placed e later =
-        kept_at stand tops lower goes_on made (completable facts (downfloaters facts stand made.lists ++ lower)) placed e
-        (later (downfloaters facts stand made.lists) (placed.goes made.lists))
+        → AllStand (ordinary_by facts reached lower goes_on found).reached
+    ordinary_at reached tops lower goes_on None placed e later = tt
+    ordinary_at reached tops lower goes_on (Some made) placed e later =
+        kept_at reached tops lower goes_on made (completable facts (downfloaters facts reached made.lists ++ lower)) placed e
+        (later (downfloaters facts reached made.lists) (placed.goes made.lists))
 
     -- ---- all brackets
 
@@ -125,7 +121,7 @@ module _ (facts : Facts) where
     ends_reached : (md front rest group : List ℕ) (y : ℕ) → 0 < length group → AreAbove facts front rest → ((g : ℕ) → IsIn g group → IsIn g rest)
         → IsIn y front ⊎ IsIn y group → (a : ℕ) × IsIn a (md ++ group) × (score_at facts a ≤ score_at facts y)
     ends_reached md front rest group y some above inside (inl m) =
-        let one = some_in group some in
+        let one = some_in facts group some in
         let lt : score_at facts one.0 < score_at facts y = above_in facts front rest y one.0 above m (inside one.0 one.1) in
         (one.0, in_back facts one.0 md group one.1, omega (arith, lt))
     ends_reached md front rest group y some above inside (inr m) = (y, in_back facts y md group m, omega arith)
@@ -161,8 +157,8 @@ module _ (facts : Facts) where
     last_stands : (number : ℕ) (md front rest group : List ℕ) → Goes facts md rest → everybody facts ≡ front ++ rest → AreAbove facts front rest
         → group ∷ [] ≡ scoregroups facts rest → AllStand (final_bracket facts (bracket number Last md group)).reached
     last_stands number md front rest group goes all above e =
-        let stand : Stand = bracket number Last md group in
-        final_stands stand (lower_is facts stand (front ++ group) [] (ends_at md front rest group [] goes all above e))
+        let reached : Reached = bracket number Last md group in
+        final_stands reached (lower_is facts reached (front ++ group) [] (ends_at md front rest group [] goes all above e))
         (parted_above facts (parted_at md rest group [] goes e) number Last (λ h. let bad : Last ≡ Ordinary = h in absurd (cc)))
 
     brackets_stand : (number : ℕ) (md front rest : List ℕ) (groups : List (List ℕ)) → groups ≡ scoregroups facts rest → Goes facts md rest
@@ -170,14 +166,14 @@ module _ (facts : Facts) where
     brackets_stand number md front rest [] e goes all above = tt
     brackets_stand number md front rest (group ∷ []) e goes all above = last_stands number md front rest group goes all above e
     brackets_stand number md front rest (group ∷ next ∷ groups) e goes all above =
-        let stand : Stand = bracket number Ordinary md group in
+        let reached : Reached = bracket number Ordinary md group in
         let lower : List ℕ = concat (next ∷ groups) in
         let parts = parted_at md rest group (next ∷ groups) goes e in
         let others : next ∷ groups ≡ scoregroups facts lower = ap (drop 1) (e ∙ parts.groups) in
         let some : 0 < length lower = some_rest lower next groups others in
         let ends : EndsAt facts (md ++ group) (front ++ group) lower = ends_at md front rest group (next ∷ groups) goes all above e in
         let tops : AreAbove facts (front ++ group) lower = tops_above md front rest group (next ∷ groups) goes above e in
-        ordinary_at stand (front ++ group) lower (λ left. brackets facts (number + 1) left (next ∷ groups)) (choice facts stand lower)
+        ordinary_at reached (front ++ group) lower (λ left. brackets facts (number + 1) left (next ∷ groups)) (choice facts reached lower)
         (record {
           above = parted_above facts parts number Ordinary (λ h. some);
           ends = ends;
@@ -196,15 +192,15 @@ module _ (facts : Facts) where
     at_place zero (first ∷ visits) visit all e = let same : first ≡ visit = cc in subst StandsAbove same all.0
     at_place (suc place) (first ∷ visits) visit all e = at_place place visits visit all.1 e
 
-    shown_stands : (number : ℕ) (stand : Stand) (shape : Shape) (found : Option Visit) → found ≡ visit_of number (round facts).reached → shown found ≡ Some (stand, shape)
-        → IsAbove facts stand (lower_of facts stand) × (shape_of facts stand (lower_of facts stand) ≡ Some shape)
-    shown_stands number stand shape None e is' = let bad : None ≡ Some (stand, shape) = is' in absurd (cc)
-    shown_stands zero stand shape (Some visit) e is' = let bad : Some visit ≡ None = e in absurd (cc)
-    shown_stands (suc place) stand shape (Some visit) e is' =
-        let same : (visit.bracket, visit.shape) ≡ (stand, shape) = cc in
-        subst (λ (s : Stand × Shape). IsAbove facts s.0 (lower_of facts s.0) × (shape_of facts s.0 (lower_of facts s.0) ≡ Some s.1)) same
+    shown_stands : (number : ℕ) (reached : Reached) (shape : Shape) (found : Option Visit) → found ≡ visit_of number (round facts).reached → shown found ≡ Some (reached, shape)
+        → IsAbove facts reached (lower_of facts reached) × (shape_of facts reached (lower_of facts reached) ≡ Some shape)
+    shown_stands number reached shape None e is' = let bad : None ≡ Some (reached, shape) = is' in absurd (cc)
+    shown_stands zero reached shape (Some visit) e is' = let bad : Some visit ≡ None = e in absurd (cc)
+    shown_stands (suc place) reached shape (Some visit) e is' =
+        let same : (visit.bracket, visit.shape) ≡ (reached, shape) = cc in
+        subst (λ (s : Reached × Shape). IsAbove facts s.0 (lower_of facts s.0) × (shape_of facts s.0 (lower_of facts s.0) ≡ Some s.1)) same
         (at_place place (round facts).reached visit (round_at (completable facts (everybody facts))) (sym e))
 
-    pub bracket_stands : (number : ℕ) (stand : Stand) (shape : Shape) → shown (visit_of number (round facts).reached) ≡ Some (stand, shape)
-        → IsAbove facts stand (lower_of facts stand) × (shape_of facts stand (lower_of facts stand) ≡ Some shape)
-    bracket_stands number stand shape = shown_stands number stand shape (visit_of number (round facts).reached) refl
+    pub bracket_stands : (number : ℕ) (reached : Reached) (shape : Shape) → shown (visit_of number (round facts).reached) ≡ Some (reached, shape)
+        → IsAbove facts reached (lower_of facts reached) × (shape_of facts reached (lower_of facts reached) ≡ Some shape)
+    bracket_stands number reached shape = shown_stands number reached shape (visit_of number (round facts).reached) refl

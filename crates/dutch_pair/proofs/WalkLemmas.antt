@@ -8,10 +8,10 @@ use Rattle.dutch_order.specs.Limbo.{IsNonAscending}
 use Rattle.dutch_order.proofs.Turns.{at_index}
 use Rattle.dutch_order.proofs.Skipping.{all-behind}
 use Rattle.dutch_player.specs.Facts.{Facts}
-use Rattle.dutch_pair.specs.declared.reached.Kind.{Kind}
-use Rattle.dutch_pair.specs.declared.reached.Kind.TheVariants.{Ordinary}
+use Rattle.dutch_pair.specs.declared.reached.BracketKind.{BracketKind}
+use Rattle.dutch_pair.specs.declared.reached.BracketKind.TheVariants.{Ordinary}
 use Rattle.dutch_pair.specs.Seated.{score_at, seat_of, AreSeats}
-use Rattle.dutch_pair.specs.Reached.{Stand, IsAbove}
+use Rattle.dutch_pair.specs.Reached.{Reached, IsAbove}
 use Rattle.dutch_pair.specs.Round.{bracket, downfloaters}
 use Rattle.dutch_pair.specs.Walk.{AreRanked, AreAbove, Goes}
 use Rattle.dutch_pair.proofs.AllLemmas.{all_join}
@@ -23,8 +23,8 @@ pub record Descends (facts : Facts) : Type 0 where
   pub few : length facts.seats ≤ LIMIT
 
 -- whoever is left over by a bracket goes on above the lower seats
-abbrev pub LeftGoOn : Facts → Stand → List ℕ → Type 0
-LeftGoOn facts stand lower = (lists : Arrangement) → Goes facts (downfloaters facts stand lists) lower
+abbrev pub LeftGoOn : Facts → Reached → List ℕ → Type 0
+LeftGoOn facts reached lower = (lists : Arrangement) → Goes facts (downfloaters facts reached lists) lower
 
 all_front : (P : ℕ → Type 0) (xs ys : List ℕ) → AllByRecursion P (xs ++ ys) → AllByRecursion P xs
 all_front P [] ys h = tt
@@ -114,7 +114,7 @@ module _ (facts : Facts) where
     whole md residents lower goes = subst (AreRanked facts) (sym (append_assoc md residents lower)) goes.ranked
 
     -- a bracket of those moved down and of the front of the rest is one of the field, above the others
-    pub is_above : (number : ℕ) (kind : Kind) (md residents lower : List ℕ) → Goes facts md (residents ++ lower) → AreAbove facts residents lower
+    pub is_above : (number : ℕ) (kind : BracketKind) (md residents lower : List ℕ) → Goes facts md (residents ++ lower) → AreAbove facts residents lower
         → (kind ≡ Ordinary → 0 < length lower) → IsAbove facts (bracket number kind md residents) lower
     is_above number kind md residents lower goes above there =
         let all : AreRanked facts ((md ++ residents) ++ lower) = whole md residents lower goes in
@@ -199,7 +199,7 @@ module _ (facts : Facts) where
         (picked_ranked p (suc first) seats lower h.2)
 
     -- those left over go on above the lower seats
-    pub left_go_on : (number : ℕ) (kind : Kind) (md residents lower : List ℕ) (lists : Arrangement) → Goes facts md (residents ++ lower)
+    pub left_go_on : (number : ℕ) (kind : BracketKind) (md residents lower : List ℕ) (lists : Arrangement) → Goes facts md (residents ++ lower)
         → AreAbove facts residents lower → Goes facts (downfloaters facts (bracket number kind md residents) lists) lower
     left_go_on number kind md residents lower lists goes above =
         let seats = md ++ residents in
@@ -212,4 +212,7 @@ module _ (facts : Facts) where
         subst (λ left. Goes facts left lower) (sym same) (record {
           ranked = picked_ranked p 1 seats lower (whole md residents lower goes);
           above = picked_all (λ a. AllByRecursion (λ b. score_at facts b < score_at facts a) lower) p 1 seats all;
+          front = goes.front ++ residents;
+          all = goes.all ∙ sym (append_assoc goes.front residents lower);
+          high = all_join (λ a. AllByRecursion (λ b. score_at facts b < score_at facts a) lower) goes.front residents (above_back goes.front residents lower goes.high) above;
         })

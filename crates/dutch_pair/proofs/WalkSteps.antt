@@ -1,45 +1,55 @@
 -- One bracket more of a walk: what comes next has a way out again, and the round from there on is the rest of the round.
-use Rattle.std.proofs.Common.{◌≡◌, ℕ, ◌+◌, ◌<◌, ◌≤◌, Bool, true, false, cond, not, List, [], ◌∷◌, ◌++◌, length, map, Option, Some, None, refl, sym, ap, ◌∙◌, subst, arith, append-nil}
+use Rattle.std.proofs.Common.{◌≡◌, ℕ, ◌+◌, ◌≤◌, Bool, true, false, cond, List, [], ◌∷◌, ◌++◌, length, map, Option, Some, refl, sym, ap, ◌∙◌, subst, arith, append-nil}
 use Rattle.std.proofs.lemmas.Bool.{not-false}
 use Rattle.dutch_order.specs.declared.bracket.Shape.{Shape}
 use Rattle.dutch_order.specs.Arrangements.{down}
 use Rattle.dutch_player.specs.Facts.{Facts}
-use Rattle.dutch_pair.specs.declared.reached.Kind.{Kind}
-use Rattle.dutch_pair.specs.declared.reached.Kind.TheVariants.{Ordinary, Last, Penultimate, Collapsed}
+use Rattle.dutch_pair.specs.declared.reached.BracketKind.{BracketKind}
+use Rattle.dutch_pair.specs.declared.reached.BracketKind.TheVariants.{Ordinary, Last, Penultimate, Collapsed}
 use Rattle.dutch_pair.specs.declared.choice.Choice.{Choice as Made}
 use Rattle.dutch_pair.specs.declared.stage.Stage.{Stage}
 use Rattle.dutch_pair.specs.Context.{Context}
+use Rattle.dutch_pair.specs.Lower.{lower_of}
 use Rattle.dutch_pair.specs.Outcomes.{IsChoice, IsStage, shown, visit_at}
-use Rattle.dutch_pair.specs.Reached.{Stand, IsAbove, IsOf, frame_of}
-use Rattle.dutch_pair.specs.Round.{Round, Choice, bracket, brackets, choice, completable, downfloaters, ending, final_bracket, final_by, ordinary_by, paired_again, passing, pairing_in, penultimate_bracket, penultimate_by, scoregroups, shape_of}
+use Rattle.dutch_pair.specs.QualityIn.{quality_in}
+use Rattle.dutch_pair.specs.Reached.{Reached, IsAbove, frame_of}
+use Rattle.dutch_pair.specs.Round.{Round, Choice, bracket, brackets, choice, completable, downfloaters, final_by, ordinary_by, passing, pairing_in, penultimate_bracket, penultimate_by, quality_of, scoregroups, shape_of}
 use Rattle.dutch_pair.specs.Seated.{seat_of}
-use Rattle.dutch_pair.specs.Stages.{Walk, IsSettled, choice_of, group_kind, is_again, round_by, stage_first}
+use Rattle.dutch_pair.specs.Stages.{Walk, IsSettled, choice_of, group_kind, is_again, round_by}
 use Rattle.dutch_pair.specs.Walk.{Goes}
 use Rattle.dutch_pair.specs.WaysOut.{GoesOut, HasWayOut, StandsBefore}
 use Rattle.dutch_pair.proofs.BestLemmas.{choice_of_shape}
 use Rattle.dutch_pair.proofs.GroupWalk.{IsParted}
-use Rattle.dutch_pair.proofs.NoDeadEnd.{collapsed_out, ordinary_out}
-use Rattle.dutch_pair.proofs.WalkEnds.{above_none, drawn}
+use Rattle.dutch_pair.proofs.LowerLemmas.{goes_ends, lower_is}
+use Rattle.dutch_pair.proofs.NoDeadEnd.{collapsed_out}
+use Rattle.dutch_pair.proofs.WalkEnds.{above_none, of_bracket}
 use Rattle.dutch_pair.proofs.WalkLemmas.{Descends, is_above, left_go_on}
 
-module _ (facts : Facts) (number : ℕ) (stand : Stand) (lower : List ℕ) (s : StandsBefore facts number stand lower) where
-  pub stands_number : stand.number ≡ number
-  stands_number = ap (λ (b : Stand). b.number) s.is
+module _ (facts : Facts) (number : ℕ) (reached : Reached) (lower : List ℕ) (s : StandsBefore facts number reached lower) where
+  pub stands_number : reached.number ≡ number
+  stands_number = ap (λ (b : Reached). b.number) s.is
 
-  pub stands_above : Descends facts → IsAbove facts stand lower
+  pub stands_above : Descends facts → IsAbove facts reached lower
   stands_above descends =
-      subst (λ (b : Stand). IsAbove facts b lower) (sym s.is)
-      (is_above facts descends number stand.kind s.md s.residents lower s.goes s.above (λ kind. (subst (λ k. HasWayOut facts k number s.md s.residents lower) kind s.out).1))
+      subst (λ (b : Reached). IsAbove facts b lower) (sym s.is)
+      (is_above facts descends number reached.kind s.md s.residents lower s.goes s.above (λ kind. (subst (λ k. HasWayOut facts k number s.md s.residents lower) kind s.out).1))
 
-  pub stands_left : Descends facts → (made : Choice) → Goes facts (downfloaters facts stand made.lists) lower
+  pub stands_left : Descends facts → (made : Choice) → Goes facts (downfloaters facts reached made.lists) lower
   stands_left descends made =
-      subst (λ (b : Stand). Goes facts (downfloaters facts b made.lists) lower) (sym s.is)
-      (left_go_on facts descends number stand.kind s.md s.residents lower made.lists s.goes s.above)
+      subst (λ (b : Reached). Goes facts (downfloaters facts b made.lists) lower) (sym s.is)
+      (left_go_on facts descends number reached.kind s.md s.residents lower made.lists s.goes s.above)
 
-  pub stands_collapsed : Descends facts → (made : Choice) → stand.kind ≡ Penultimate → choice facts stand lower ≡ Some made
-      → StandsBefore facts (number + 1) (bracket (number + 1) Collapsed (downfloaters facts stand made.lists) lower) []
+  -- all who are below the bracket are the lower ones
+  pub stands_lower : Descends facts → lower_of facts reached ≡ lower
+  stands_lower descends =
+      ap (lower_of facts) s.is
+      ∙ lower_is facts (bracket number reached.kind s.md s.residents) (s.goes.front ++ s.residents) lower
+      (goes_ends facts descends s.md s.residents lower s.goes s.above s.some)
+
+  pub stands_collapsed : Descends facts → (made : Choice) → reached.kind ≡ Penultimate → choice facts reached lower ≡ Some made
+      → StandsBefore facts (number + 1) (bracket (number + 1) Collapsed (downfloaters facts reached made.lists) lower) []
   stands_collapsed descends made kind is' =
-      let left : List ℕ = downfloaters facts stand made.lists in
+      let left : List ℕ = downfloaters facts reached made.lists in
       let out = subst (λ k. HasWayOut facts k number s.md s.residents lower) kind s.out in
       record {
         md = left;
@@ -47,8 +57,9 @@ module _ (facts : Facts) (number : ℕ) (stand : Stand) (lower : List ℕ) (s : 
         is = refl;
         goes = subst (λ (xs : List ℕ). Goes facts left xs) (sym (append-nil lower)) (stands_left descends made);
         above = above_none facts lower;
+        some = out.2;
         out = (
-          collapsed_out facts number stand lower made (number + 1) s kind is',
+          collapsed_out facts number reached lower made (number + 1) s kind is',
           refl,
           omega (arith, out.1),
         );
@@ -68,6 +79,7 @@ stands_group facts number {md = md} {group = group} {lower = lower} parts whole 
   is = refl;
   goes = parts.goes;
   above = parts.above;
+  some = parts.some;
   out = group_out facts number md group lower (subst (GoesOut facts md) (sym whole) out) (omega (arith, small, parts.count, parts.some));
 }
 
@@ -82,58 +94,66 @@ is_kept facts lower stage settled e kind =
 
 -- ---- the bracket that comes next, for its shape alone
 
-module _ (facts : Facts) (stand : Stand) (lower : List ℕ) (made : Choice) (e : choice facts stand lower ≡ Some made) where
-  shown_ordinary : (t : Bool) (on again : Round) → shown (visit_at 0 (cond t (pairing_in facts stand made on) (passing facts stand made again)).reached) ≡ Some (stand, made.shape)
+module _ (facts : Facts) (reached : Reached) (lower : List ℕ) (made : Choice) (e : choice facts reached lower ≡ Some made) where
+  shown_ordinary : (t : Bool) (on again : Round) → shown (visit_at 0 (cond t (pairing_in facts reached made on) (passing facts reached made again)).reached) ≡ Some (reached, made.shape)
   shown_ordinary true on again = refl
   shown_ordinary false on again = refl
 
-  shown_by : (kind : Kind) (number : ℕ) (md residents : List ℕ) → HasWayOut facts kind number md residents lower
-      → shown (visit_at 0 (round_by facts kind stand lower).reached) ≡ Some (stand, made.shape)
+  shown_by : (kind : BracketKind) (number : ℕ) (md residents : List ℕ) → HasWayOut facts kind number md residents lower
+      → shown (visit_at 0 (round_by facts kind reached lower).reached) ≡ Some (reached, made.shape)
   shown_by Ordinary number md residents out =
-      let goes_on' : List ℕ → Round = λ left. brackets facts (stand.number + 1) left (scoregroups facts lower) in
-      ap (λ (c : Option Choice). shown (visit_at 0 (ordinary_by facts stand lower goes_on' c).reached)) e
-      ∙ shown_ordinary (completable facts (downfloaters facts stand made.lists ++ lower)) (goes_on' (downfloaters facts stand made.lists)) (penultimate_bracket facts stand lower)
-  shown_by Penultimate number md residents out = ap (λ (c : Option Choice). shown (visit_at 0 (penultimate_by facts stand lower c).reached)) e
-  shown_by Last number md residents out = ap (λ (c : Option Choice). shown (visit_at 0 (final_by facts stand c).reached)) (ap (choice facts stand) (sym out.1) ∙ e)
-  shown_by Collapsed number md residents out = ap (λ (c : Option Choice). shown (visit_at 0 (final_by facts stand c).reached)) (ap (choice facts stand) (sym out.1) ∙ e)
+      let goes_on' : List ℕ → Round = λ left. brackets facts (reached.number + 1) left (scoregroups facts lower) in
+      ap (λ (c : Option Choice). shown (visit_at 0 (ordinary_by facts reached lower goes_on' c).reached)) e
+      ∙ shown_ordinary (completable facts (downfloaters facts reached made.lists ++ lower)) (goes_on' (downfloaters facts reached made.lists)) (penultimate_bracket facts reached lower)
+  shown_by Penultimate number md residents out = ap (λ (c : Option Choice). shown (visit_at 0 (penultimate_by facts reached lower c).reached)) e
+  shown_by Last number md residents out = ap (λ (c : Option Choice). shown (visit_at 0 (final_by facts reached c).reached)) (ap (choice facts reached) (sym out.1) ∙ e)
+  shown_by Collapsed number md residents out = ap (λ (c : Option Choice). shown (visit_at 0 (final_by facts reached c).reached)) (ap (choice facts reached) (sym out.1) ∙ e)
 
-pub stands_shown : (facts : Facts) (number : ℕ) (stand : Stand) (lower : List ℕ) (shape : Shape) → StandsBefore facts number stand lower → shape_of facts stand lower ≡ Some shape
-    → shown (visit_at 0 (round_by facts stand.kind stand lower).reached) ≡ Some (stand, shape)
-stands_shown facts number stand lower shape s e =
-    let one = choice_of_shape facts stand lower shape e in
-    shown_by facts stand lower (record { shape = shape; lists = one.0 }) one.1 stand.kind number s.md s.residents s.out
+pub stands_shown : (facts : Facts) (number : ℕ) (reached : Reached) (lower : List ℕ) (shape : Shape) → StandsBefore facts number reached lower → shape_of facts reached lower ≡ Some shape
+    → shown (visit_at 0 (round_by facts reached.kind reached lower).reached) ≡ Some (reached, shape)
+stands_shown facts number reached lower shape s e =
+    let one = choice_of_shape facts reached lower shape e in
+    shown_by facts reached lower (record { shape = shape; lists = one.0 }) one.1 reached.kind number s.md s.residents s.out
 
 -- ---- a bracket is settled as the one that was read
 
-pub settled_in : (facts : Facts) (reached : Stand) (lower : List ℕ) (k : Context) (stage : Stage) → k ≡ record { facts = facts; stand = reached; lower = lower } → stage.reached ≡ reached
-    → choice k.facts k.stand k.lower ≡ Some (choice_of stage) → stage.candidate.down ≡ down (frame_of k.facts k.stand) stage.candidate.lists
-    → stage.again ≡ is_again k.stand.kind (completable k.facts (map (seat_of k.stand.seats) stage.candidate.down ++ k.lower)) → IsSettled facts lower stage
-settled_in facts reached lower k stage same own e left again =
-    let here : k ≡ record { facts = facts; stand = stage.reached; lower = lower } =
-    same ∙ ap (λ (s : Stand). let read : Context = record { facts = facts; stand = s; lower = lower } in read) (sym own) in
+pub settled_in : (facts : Facts) (reached : Reached) (lower : List ℕ) (k : Context) (stage : Stage) → k ≡ record { facts = facts; reached = reached; lower = lower } → stage.reached ≡ reached
+    → choice k.facts k.reached k.lower ≡ Some (choice_of stage) → stage.candidate.down ≡ down (frame_of k.facts k.reached) stage.candidate.lists
+    → quality_in stage.quality ≡ quality_of k.facts k.reached k.lower stage.candidate.lists
+    → stage.again ≡ is_again k.reached.kind (completable k.facts (map (seat_of k.reached.seats) stage.candidate.down ++ k.lower)) → IsSettled facts lower stage
+settled_in facts reached lower k stage same own e left value again =
+    let here : k ≡ record { facts = facts; reached = stage.reached; lower = lower } =
+    same ∙ ap (λ (s : Reached). let read : Context = record { facts = facts; reached = s; lower = lower } in read) (sym own) in
     record {
-      choice = subst (λ (b : Context). choice b.facts b.stand b.lower ≡ Some (choice_of stage)) here e;
-      down = subst (λ (b : Context). stage.candidate.down ≡ down (frame_of b.facts b.stand) stage.candidate.lists) here left;
-      again = subst (λ (b : Context). stage.again ≡ is_again b.stand.kind (completable b.facts (map (seat_of b.stand.seats) stage.candidate.down ++ b.lower))) here again;
+      choice = subst (λ (b : Context). choice b.facts b.reached b.lower ≡ Some (choice_of stage)) here e;
+      down = subst (λ (b : Context). stage.candidate.down ≡ down (frame_of b.facts b.reached) stage.candidate.lists) here left;
+      value = subst (λ (b : Context). quality_in stage.quality ≡ quality_of b.facts b.reached b.lower stage.candidate.lists) here value;
+      again = subst (λ (b : Context). stage.again ≡ is_again b.reached.kind (completable b.facts (map (seat_of b.reached.seats) stage.candidate.down ++ b.lower))) here again;
     }
 
 -- what is chosen in a bracket that was read
-pub chosen_as : (k : Context) (stopped : Type 0) {a b : Made} → a ≡ b → IsChoice k.facts k.stand k.lower stopped a → IsChoice k.facts k.stand k.lower stopped b
-chosen_as k stopped e h = subst (λ (made : Made). IsChoice k.facts k.stand k.lower stopped made) e h
+pub chosen_as : (k : Context) (stopped : Type 0) {a b : Made} → a ≡ b → IsChoice k.facts k.reached k.lower stopped a → IsChoice k.facts k.reached k.lower stopped b
+chosen_as k stopped e h = subst (λ (made : Made). IsChoice k.facts k.reached k.lower stopped made) e h
 
 -- ---- a walk before a bracket, and behind the stage that comes of it
 
-module _ (facts : Facts) (number : ℕ) (reached : Stand) (lower : List ℕ) (s : StandsBefore facts number reached lower) where
-  pub walk_is : (limit : ℕ) (own : Stand) → own ≡ reached
+module _ (facts : Facts) (number : ℕ) (reached : Reached) (lower : List ℕ) (s : StandsBefore facts number reached lower) where
+  pub walk_is : (limit : ℕ) (own : Reached) → own ≡ reached
       → record { facts = facts; number = number; rest = round_by facts reached.kind reached lower; limit = limit }
       ≡ (let walk : Walk = record { facts = facts; number = own.number; rest = round_by facts own.kind own lower; limit = limit } in walk)
   walk_is limit own same =
       ap (λ (n : ℕ). let walk : Walk = record { facts = facts; number = n; rest = round_by facts reached.kind reached lower; limit = limit } in walk)
       (sym (stands_number facts number reached lower s))
-      ∙ ap (λ (b : Stand). let walk : Walk = record { facts = facts; number = b.number; rest = round_by facts b.kind b lower; limit = limit } in walk) (sym same)
+      ∙ ap (λ (b : Reached). let walk : Walk = record { facts = facts; number = b.number; rest = round_by facts b.kind b lower; limit = limit } in walk) (sym same)
 
   pub stage_is : Descends facts → (stage : Stage) → stage.reached ≡ reached → IsSettled facts lower stage → IsStage facts stage
-  stage_is descends stage same settled = record {
-    bracket = subst (IsOf facts) (sym same) (stands_above facts number reached lower s descends).bracket;
-    candidate = drawn facts stage.reached lower stage.shape stage.candidate settled.choice settled.down;
-  }
+  stage_is descends stage same settled =
+      let above : IsAbove facts stage.reached lower = subst (λ (b : Reached). IsAbove facts b lower) (sym same) (stands_above facts number reached lower s descends) in
+      let below : lower_of facts stage.reached ≡ lower = ap (lower_of facts) same ∙ stands_lower facts number reached lower s descends in
+      record {
+        bracket = above.bracket;
+        candidate = of_bracket facts stage.reached lower stage.shape stage.candidate settled.choice settled.down;
+        above = subst (IsAbove facts stage.reached) (sym below) above;
+        choice = ap (choice facts stage.reached) below ∙ settled.choice;
+        value = settled.value ∙ ap (λ (all : List ℕ). quality_of facts stage.reached all stage.candidate.lists) (sym below);
+      }

@@ -6,8 +6,8 @@ use Rattle.dutch_player.specs.declared.float.Float.{Float}
 use Rattle.dutch_player.specs.declared.float.Float.TheVariants.{Up, Down}
 use Rattle.dutch_player.specs.Facts.{SeatFacts, Facts}
 use Rattle.dutch_order.specs.Arrangements.{Arrangement}
-use Rattle.dutch_pair.specs.declared.reached.Kind.TheVariants.{Ordinary}
-use Rattle.dutch_pair.specs.Reached.{Stand}
+use Rattle.dutch_pair.specs.declared.reached.BracketKind.TheVariants.{Ordinary}
+use Rattle.dutch_pair.specs.Reached.{Reached}
 use Rattle.dutch_pair.specs.Quality.{Quality}
 use Rattle.dutch_pair.specs.Round.{bracket, round}
 use Rattle.dutch_pair.specs.Boards.{boards}
@@ -63,7 +63,7 @@ leader_moves_down =
     ∷ player 3 0 (Black ∷ []) (1 ∷ []) None ∷ [])
 
 -- its second bracket: the leader above the two with one half point, who are followed by the last player
-abbrev pub leader_above_two : Stand
+abbrev pub leader_above_two : Reached
 leader_above_two = bracket 2 Ordinary (0 ∷ []) (1 ∷ 2 ∷ [])
 
 -- in that bracket the leader meets one of the two, by his number

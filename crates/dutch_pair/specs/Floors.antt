@@ -6,7 +6,7 @@ use Rattle.dutch_player.specs.Facts.{Facts}
 use Rattle.dutch_pair.specs.declared.colours_missed.Miss.TheVariants.{Wide, Third}
 use Rattle.dutch_pair.specs.NextBracket.{is_lower}
 use Rattle.dutch_pair.specs.Quality.{Quality, NextValue, misses, count_with_topscorers, again, differences, quality_with}
-use Rattle.dutch_pair.specs.Reached.{Stand}
+use Rattle.dutch_pair.specs.Reached.{Reached}
 use Rattle.dutch_pair.specs.Seated.{Seated, going_down, going_up}
 use Rattle.dutch_pair.specs.Beginnings.{fixed}
 use Rattle.dutch_pair.specs.ColourFloors.{more_missed, more_missed_strong}
@@ -42,9 +42,13 @@ pub record IsFloor (f q : Quality) : Type 0 where
   pub down_again_before_by : is_lower q.down_again_before_by f.down_again_before_by ≡ false
   pub up_again_before_by : is_lower q.up_again_before_by f.up_again_before_by ≡ false
 
--- what no candidate with a beginning is better than: a PSD and a value of the next bracket, the items of the pairs that are fixed, and
--- so many more who miss a preference, or a strong one
-abbrev pub floor_with : Facts → Stand → List ℕ → NextValue → ℕ → ℕ → Arrangement → Quality
-floor_with facts stand psd next more_missed more_missed_strong b =
-    let k = quality_with facts (fixed facts stand b) next in
+-- what no candidate is better than of which this is known: a PSD and a value of the next bracket, the items of what is known, and so many
+-- more who miss a preference, or a strong one
+abbrev pub floor_over : Facts → List ℕ → NextValue → ℕ → ℕ → Seated → Quality
+floor_over facts psd next more_missed more_missed_strong known =
+    let k = quality_with facts known next in
     record k { psd = psd; missed_preferences = k.missed_preferences + more_missed; missed_strong = k.missed_strong + more_missed_strong }
+
+-- the same where a beginning is known: the pairs that are fixed
+abbrev pub floor_with : Facts → Reached → List ℕ → NextValue → ℕ → ℕ → Arrangement → Quality
+floor_with facts reached psd next more_missed more_missed_strong b = floor_over facts psd next more_missed more_missed_strong (fixed facts reached b)

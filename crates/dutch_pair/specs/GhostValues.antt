@@ -6,19 +6,19 @@ use Rattle.dutch_order.specs.Arrangements.{candidates}
 use Rattle.dutch_player.specs.Facts.{Facts}
 use Rattle.dutch_pair.specs.Quality.{NextValue}
 use Rattle.dutch_pair.specs.NextBracket.{no_value}
-use Rattle.dutch_pair.specs.Reached.{Stand}
+use Rattle.dutch_pair.specs.Reached.{Reached}
 use Rattle.dutch_pair.specs.Seated.{seat_of, score_at}
 use Rattle.dutch_pair.specs.Shapes.{greatest_shape}
 use Rattle.dutch_pair.specs.Ghosts.{ghosts_meet, ghost_may_be_left, ghost_scores, ghost_frame, ghost_floor}
 use Rattle.dutch_order.specs.declared.numbers.TheConstants.{LIMIT}
 
 -- the scores of the moved-down players whom the first S1 of a shape leaves over
-abbrev pub first_limbo : Facts → Stand → Shape → List ℕ
-first_limbo facts stand shape = map (λ i. score_at facts (seat_of stand.seats i)) (numbers_from (shape.mdps + 1) (stand.mdps - shape.mdps))
+abbrev pub first_limbo : Facts → Reached → Shape → List ℕ
+first_limbo facts reached shape = map (λ i. score_at facts (seat_of reached.seats i)) (numbers_from (shape.mdps + 1) (reached.mdps - shape.mdps))
 
 -- the scores of the ghosts for them and for the residents who go down
-abbrev pub first_ghosts : Facts → Stand → Shape → List ℕ
-first_ghosts facts stand shape = ghost_scores facts stand shape (first_limbo facts stand shape)
+abbrev pub first_ghosts : Facts → Reached → Shape → List ℕ
+first_ghosts facts reached shape = ghost_scores facts reached shape (first_limbo facts reached shape)
 
 -- the shape that ghosts with these scores find in the next bracket
 abbrev pub shape_by_ghosts : Facts → List ℕ → List ℕ → List ℕ → Option Shape
@@ -41,6 +41,6 @@ value_with_floor facts next ghosts (Some most) =
     record { pairs = most.pairs; psd = floor_held ghosts (score_at facts (slice_index next 0)) (length next) most.pairs }
 
 -- C.7: what no value of the next bracket is better than, where an arrangement of a shape leaves the Limbo of the first S1
-abbrev pub ghost_value : Facts → Stand → Shape → List ℕ → NextValue
-ghost_value facts stand shape next =
-    value_with_floor facts next (first_ghosts facts stand shape) (shape_by_ghosts facts stand.seats next (first_ghosts facts stand shape))
+abbrev pub ghost_value : Facts → Reached → Shape → List ℕ → NextValue
+ghost_value facts reached shape next =
+    value_with_floor facts next (first_ghosts facts reached shape) (shape_by_ghosts facts reached.seats next (first_ghosts facts reached shape))

@@ -8,7 +8,7 @@ use Rattle.dutch_player.specs.Facts.{Facts, seat_at}
 use Rattle.dutch_player.specs.Meetings.{may_meet}
 use Rattle.dutch_pair.specs.NextBracket.{is_lower}
 use Rattle.dutch_pair.specs.Quality.{NextValue, highest_first}
-use Rattle.dutch_pair.specs.Reached.{Stand}
+use Rattle.dutch_pair.specs.Reached.{Reached}
 use Rattle.dutch_pair.specs.Seated.{seat_of, score_at}
 use Rattle.dutch_pair.specs.ColourFloors.{residents_down}
 use Rattle.dutch_pair.specs.PsdFloors.{repeated}
@@ -46,9 +46,9 @@ abbrev pub IsNotBetter : NextValue → ℕ → List ℕ → Type 0
 IsNotBetter value pairs psd = (value.pairs < pairs) ⊎ ((value.pairs ≡ pairs) × (is_lower value.psd psd ≡ false))
 
 -- the scores of ghosts: those of a Limbo, and one score for each resident who goes down with a shape
-abbrev pub ghost_scores : Facts → Stand → Shape → List ℕ → List ℕ
-ghost_scores facts stand shape limbo =
-    limbo ++ repeated (score_at facts (seat_of stand.seats (stand.mdps + 1))) (residents_down stand shape)
+abbrev pub ghost_scores : Facts → Reached → Shape → List ℕ → List ℕ
+ghost_scores facts reached shape limbo =
+    limbo ++ repeated (score_at facts (seat_of reached.seats (reached.mdps + 1))) (residents_down reached shape)
 
 -- the next bracket, with ghosts who have these scores
 abbrev pub ghost_frame : Facts → List ℕ → List ℕ → Frame
@@ -60,5 +60,5 @@ ghost_floor ghosts s residents pairs =
     highest_first (map (λ x. x - s) ghosts ++ (repeated 0 (pairs - length ghosts) ++ repeated 2 ((length ghosts + residents) - 2 * pairs)))
 
 -- C.7 by counts: half of those who go down and of the next lower scoregroup
-abbrev pub pairs_by_counts : Stand → Shape → List ℕ → ℕ
-pairs_by_counts stand shape next = ((length stand.seats - 2 * shape.pairs) + length next) / 2
+abbrev pub pairs_by_counts : Reached → Shape → List ℕ → ℕ
+pairs_by_counts reached shape next = ((length reached.seats - 2 * shape.pairs) + length next) / 2

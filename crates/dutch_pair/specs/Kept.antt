@@ -1,18 +1,12 @@
 -- The best candidate so far, while a bracket's candidates are looked at one by one.
 use Rattle.std.specs.Prelude.{◌≡◌, ℕ, Bool, true, List, Option, Some, None}
 use Rattle.dutch_order.specs.Arrangements.{Arrangement, down}
-use Rattle.dutch_order.specs.Draws.{Draw}
 use Rattle.dutch_player.specs.Facts.{Facts}
 use Rattle.dutch_pair.specs.declared.choice.Best.{Best}
-use Rattle.dutch_pair.specs.Reached.{Stand, frame_of}
+use Rattle.dutch_pair.specs.Reached.{Reached, frame_of}
 use Rattle.dutch_pair.specs.Quality.{Quality, is_better}
 use Rattle.dutch_pair.specs.QualityIn.{quality_in}
 use Rattle.dutch_pair.specs.Round.{quality_of}
-
--- the candidate that is kept, if there is one
-abbrev pub kept_draw : Option Best → Option Draw
-kept_draw None = None
-kept_draw (Some best) = Some best.candidate
 
 -- the lists of the candidate that is kept, if there is one
 abbrev pub kept_lists : Option Best → Option Arrangement
@@ -25,7 +19,7 @@ wins quality None = true
 wins quality (Some best) = is_better quality (quality_in best.quality)
 
 -- who is kept has its downfloaters and its quality
-abbrev pub IsKept : Facts → Stand → List ℕ → Option Best → Type 0
-IsKept facts stand lower None = Unit {0}
-IsKept facts stand lower (Some best) =
-    (best.candidate.down ≡ down (frame_of facts stand) best.candidate.lists) × (quality_in best.quality ≡ quality_of facts stand lower best.candidate.lists)
+abbrev pub IsKept : Facts → Reached → List ℕ → Option Best → Type 0
+IsKept facts reached lower None = Unit {0}
+IsKept facts reached lower (Some best) =
+    (best.candidate.down ≡ down (frame_of facts reached) best.candidate.lists) × (quality_in best.quality ≡ quality_of facts reached lower best.candidate.lists)

@@ -4,6 +4,7 @@ pub mod Shapes
 pub mod Quality
 pub mod QualityIn
 pub mod NextBracket
+pub mod Items
 pub mod Completion
 pub mod Seats
 pub mod Stops
@@ -38,3 +39,6 @@ pub mod FloorOf
 pub mod Outlooks
 pub mod WaysOut
 pub mod Remembered
+pub mod Wishes
+pub mod RuledOut
+pub mod KnownBeside

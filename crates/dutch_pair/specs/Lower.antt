@@ -3,7 +3,7 @@ use Rattle.std.specs.Prelude.{ℕ, Bool, nat_lt, List, filter}
 use Rattle.std.specs.List.{list_all}
 use Rattle.dutch_player.specs.Facts.{Facts}
 use Rattle.dutch_pair.specs.Seated.{score_at}
-use Rattle.dutch_pair.specs.Reached.{Stand}
+use Rattle.dutch_pair.specs.Reached.{Reached}
 use Rattle.dutch_pair.specs.Round.{everybody}
 
 -- the score of a seat is lower than each of some seats
@@ -11,5 +11,5 @@ abbrev pub is_below : Facts → List ℕ → ℕ → Bool
 is_below facts seats seat = list_all (λ other. nat_lt (score_at facts seat) (score_at facts other)) seats
 
 -- the present players with a lower score than all of a bracket, by rank
-abbrev pub lower_of : Facts → Stand → List ℕ
-lower_of facts stand = filter (is_below facts stand.seats) (everybody facts)
+abbrev pub lower_of : Facts → Reached → List ℕ
+lower_of facts reached = filter (is_below facts reached.seats) (everybody facts)

@@ -13,10 +13,13 @@ use Rattle.dutch_pair.specs.declared.round.BracketAt.TheVariants.{Bracket, NotRe
 use Rattle.dutch_pair.specs.declared.round.AllStages.{AllStages}
 use Rattle.dutch_pair.specs.declared.round.AllStages.TheVariants.{Paired as StagesPaired, NoPairing as NoStages, Undecided as StagesUndecided}
 use Rattle.dutch_pair.specs.declared.stage.Stage.{Stage}
-use Rattle.dutch_pair.specs.NextBracket.{IsDraw}
-use Rattle.dutch_pair.specs.Reached.{Stand, IsOf, frame_of}
-use Rattle.dutch_pair.specs.Round.{Visit, round, choice, everybody}
+use Rattle.dutch_pair.specs.NextBracket.{IsOfBracket}
+use Rattle.dutch_pair.specs.Lower.{lower_of}
+use Rattle.dutch_pair.specs.QualityIn.{quality_in}
+use Rattle.dutch_pair.specs.Reached.{Reached, IsAbove, IsOf, frame_of}
+use Rattle.dutch_pair.specs.Round.{Visit, round, choice, everybody, quality_of}
 use Rattle.dutch_pair.specs.Completion.{Completable}
+use Rattle.dutch_pair.specs.Seated.{AreSeats}
 use Rattle.dutch_pair.specs.Seats.{seats_meet, seats_may_be_left}
 use Rattle.dutch_pair.specs.Boards.{boards}
 
@@ -32,19 +35,19 @@ visit_of zero visits = None
 visit_of (suc place) visits = visit_at place visits
 
 -- a bracket that was reached, with its shape
-abbrev pub shown : Option Visit → Option (Stand × Shape)
+abbrev pub shown : Option Visit → Option (Reached × Shape)
 shown found = option_map (λ visit. (visit.bracket, visit.shape)) found
 
 -- a call was stopped at its limit, in one of the brackets reached or in the one behind them
 abbrev pub IsStoppedIn : Facts → ℕ → ℕ → ℕ → Type 0
 IsStoppedIn facts limit bracket used = (used ≡ limit) × (1 ≤ bracket) × (bracket ≤ length (round facts).reached + 1)
 
--- the choice in a bracket above lower seats; what a call that was stopped owes is given with it
-abbrev pub IsChoice : Facts → Stand → List ℕ → Type 0 → Choice → Type 0
-IsChoice facts stand lower stopped (IsChosen shape candidate) =
-    (choice facts stand lower ≡ Some (record { shape = shape; lists = candidate.lists })) × (candidate.down ≡ down (frame_of facts stand) candidate.lists)
-    × Fits (frame_of facts stand) shape
-IsChoice facts stand lower stopped ChoiceUndecided = stopped
+-- the choice in a bracket above lower seats, with its quality; what a call that was stopped owes is given with it
+abbrev pub IsChoice : Facts → Reached → List ℕ → Type 0 → Choice → Type 0
+IsChoice facts reached lower stopped (IsChosen shape candidate quality) =
+    (choice facts reached lower ≡ Some (record { shape = shape; lists = candidate.lists })) × (candidate.down ≡ down (frame_of facts reached) candidate.lists)
+    × Fits (frame_of facts reached) shape × (quality_in quality ≡ quality_of facts reached lower candidate.lists)
+IsChoice facts reached lower stopped ChoiceUndecided = stopped
 
 -- the outcome of a round
 abbrev pub IsOutcome : Facts → ℕ → Outcome → Type 0
@@ -56,16 +59,20 @@ IsOutcome facts limit (Undecided bracket used) = IsStoppedIn facts limit bracket
 abbrev pub visit : Stage → Visit
 visit stage = record { bracket = stage.reached; shape = stage.shape; lists = stage.candidate.lists; again = stage.again }
 
--- a stage is one of the field, and so is its candidate
+-- a stage is one of the field, and so is its candidate; above all players below it the candidate is the choice, and has the quality that
+-- is told
 pub record IsStage (facts : Facts) (stage : Stage) : Type 0 where
   pub bracket : IsOf facts stage.reached
-  pub candidate : IsDraw facts stage.reached stage.candidate
+  pub candidate : IsOfBracket facts stage.reached stage.candidate
+  pub above : IsAbove facts stage.reached (lower_of facts stage.reached)
+  pub choice : choice facts stage.reached (lower_of facts stage.reached) ≡ Some (record { shape = stage.shape; lists = stage.candidate.lists })
+  pub value : quality_in stage.quality ≡ quality_of facts stage.reached (lower_of facts stage.reached) stage.candidate.lists
 
--- the stages of a round are the brackets that it reaches, and who is left over has the bye
+-- the stages of a round are the brackets that it reaches, and who is left over, one of the field, has the bye
 abbrev pub AreStages : Facts → ℕ → AllStages → Type 0
 AreStages facts limit (StagesPaired stages bye) =
     (map visit stages.items ≡ (round facts).reached) × AllByRecursion (IsStage facts) stages.items
-    × (option_map (λ pairing. pairing.bye) (round facts).pairing ≡ Some bye.items)
+    × (option_map (λ pairing. pairing.bye) (round facts).pairing ≡ Some bye.items) × AreSeats facts bye.items
 AreStages facts limit NoStages = (round facts).pairing ≡ None
 AreStages facts limit (StagesUndecided bracket used) = IsStoppedIn facts limit bracket used
 

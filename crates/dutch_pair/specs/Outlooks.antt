@@ -11,23 +11,23 @@ use Rattle.dutch_pair.specs.declared.outlook.Outlook.{Outlook}
 use Rattle.dutch_pair.specs.GhostValues.{first_limbo}
 use Rattle.dutch_pair.specs.NextBracket.{IsFlat, is_lower}
 use Rattle.dutch_pair.specs.Quality.{Quality, NextValue}
-use Rattle.dutch_pair.specs.Reached.{Stand, frame_of}
+use Rattle.dutch_pair.specs.Reached.{Reached, frame_of}
 use Rattle.dutch_pair.specs.Round.{quality_of}
 use Rattle.dutch_pair.specs.Seated.{seat_of, score_at}
 
 -- the scores of the moved-down players who are not in an S1
-abbrev pub limbo_scores : Facts → Stand → List ℕ → List ℕ
-limbo_scores facts stand s1 = map (λ i. score_at facts (seat_of stand.seats i)) (left_of (numbers_from 1 stand.mdps) s1)
+abbrev pub limbo_scores : Facts → Reached → List ℕ → List ℕ
+limbo_scores facts reached s1 = map (λ i. score_at facts (seat_of reached.seats i)) (left_of (numbers_from 1 reached.mdps) s1)
 
 -- an S1 leaves a Limbo with the scores of the first one
-abbrev pub leaves_first : Facts → Stand → Shape → List ℕ → Bool
-leaves_first facts stand shape s1 = is_same (limbo_scores facts stand s1) (first_limbo facts stand shape)
+abbrev pub leaves_first : Facts → Reached → Shape → List ℕ → Bool
+leaves_first facts reached shape s1 = is_same (limbo_scores facts reached s1) (first_limbo facts reached shape)
 
 -- and so does every S1, where a floor is known before one is chosen
-abbrev pub leaves_first_by : Filling → Facts → Stand → Shape → List ℕ → Bool
-leaves_first_by S1 facts stand shape s1 = true
-leaves_first_by S2 facts stand shape s1 = leaves_first facts stand shape s1
-leaves_first_by S2r facts stand shape s1 = leaves_first facts stand shape s1
+abbrev pub leaves_first_by : Filling → Facts → Reached → Shape → List ℕ → Bool
+leaves_first_by S1 facts reached shape s1 = true
+leaves_first_by S2 facts reached shape s1 = leaves_first facts reached shape s1
+leaves_first_by S2r facts reached shape s1 = leaves_first facts reached shape s1
 
 -- what is known where the Limbo is as the first one, if that is so
 abbrev pub known_by : Option NextValue → Bool → NextValue → NextValue
@@ -35,16 +35,16 @@ known_by None same any = any
 known_by (Some first) same any = if same then first else any
 
 -- the best that the next bracket can be behind arrangements with an S1
-abbrev pub awaited : Facts → Stand → Shape → Outlook → Filling → List ℕ → NextValue
-awaited facts stand shape outlook filling s1 = known_by outlook.first (leaves_first_by filling facts stand shape s1) outlook.any
+abbrev pub awaited : Facts → Reached → Shape → Outlook → Filling → List ℕ → NextValue
+awaited facts reached shape outlook filling s1 = known_by outlook.first (leaves_first_by filling facts reached shape s1) outlook.any
 
 -- a quality has no better value of the next bracket
 abbrev pub HasNoBetter : Quality → NextValue → Type 0
 HasNoBetter q next = (q.next_pairs ≤ next.pairs) × (q.next_pairs ≡ next.pairs → is_lower q.next_psd next.psd ≡ false)
 
 -- no arrangement has a better value of the next bracket than an outlook says: any at all, and those that leave the first Limbo
-pub record IsOutlook (facts : Facts) (stand : Stand) (lower : List ℕ) (shape : Shape) (outlook : Outlook) : Type 0 where
-  pub any : (a : Arrangement) → IsIn a (arrangements (frame_of facts stand) shape) → HasNoBetter (quality_of facts stand lower a) outlook.any
+pub record IsOutlook (facts : Facts) (reached : Reached) (lower : List ℕ) (shape : Shape) (outlook : Outlook) : Type 0 where
+  pub any : (a : Arrangement) → IsIn a (arrangements (frame_of facts reached) shape) → HasNoBetter (quality_of facts reached lower a) outlook.any
   pub first : (value : NextValue) → outlook.first ≡ Some value
-      → IsFlat facts stand × ((a : Arrangement) → IsIn a (arrangements (frame_of facts stand) shape)
-      → limbo_scores facts stand a.s1 ≡ first_limbo facts stand shape → HasNoBetter (quality_of facts stand lower a) value)
+      → IsFlat facts reached × ((a : Arrangement) → IsIn a (arrangements (frame_of facts reached) shape)
+      → limbo_scores facts reached a.s1 ≡ first_limbo facts reached shape → HasNoBetter (quality_of facts reached lower a) value)

@@ -18,16 +18,16 @@ place_of n x y = (x - 1) * n + (y - 1)
 -- a table has a bit where two numbers suit
 abbrev pub KnowsPairs : Context → List ℕ → Type 0
 KnowsPairs known table =
-    (x y : ℕ) → (0 < x) × (x ≤ length known.stand.seats) → (0 < y) × (y ≤ length known.stand.seats)
-    → has_bit table (place_of (length known.stand.seats) x y) ≡ suits known.facts known.stand x y
+    (x y : ℕ) → (0 < x) × (x ≤ length known.reached.seats) → (0 < y) × (y ≤ length known.reached.seats)
+    → has_bit table (place_of (length known.reached.seats) x y) ≡ suits known.facts known.reached x y
 
 -- the bits in front of a place tell who suit each other, and those from it on are not set
 abbrev pub NotedUpto : Context → List ℕ → ℕ → Type 0
 NotedUpto known table end =
-    (x y : ℕ) → (0 < x) × (x ≤ length known.stand.seats) → (0 < y) × (y ≤ length known.stand.seats)
-    → has_bit table (place_of (length known.stand.seats) x y)
-    ≡ (nat_lt (place_of (length known.stand.seats) x y) end && suits known.facts known.stand x y)
+    (x y : ℕ) → (0 < x) × (x ≤ length known.reached.seats) → (0 < y) × (y ≤ length known.reached.seats)
+    → has_bit table (place_of (length known.reached.seats) x y)
+    ≡ (nat_lt (place_of (length known.reached.seats) x y) end && suits known.facts known.reached x y)
 
 -- a table has a bit for each pair of so many players
 abbrev pub HasRoom : Context → List ℕ → Type 0
-HasRoom known table = length known.stand.seats * length known.stand.seats ≤ 64 * length table
+HasRoom known table = length known.reached.seats * length known.reached.seats ≤ 64 * length table

@@ -8,13 +8,13 @@ use Rattle.trf16.specs.declared.cell.Colour.{Colour}
 use Rattle.trf16.specs.declared.cell.Colour.TheVariants.{White, Black}
 use Rattle.dutch_player.specs.declared.float.Float.{Float}
 use Rattle.dutch_player.specs.declared.float.Float.TheVariants.{Up, Down}
-use Rattle.dutch_player.specs.declared.preference.Kind.{Kind}
-use Rattle.dutch_player.specs.declared.preference.Kind.TheVariants.{Absolute, Strong, Mild}
+use Rattle.dutch_player.specs.declared.preference.Strength.{Strength}
+use Rattle.dutch_player.specs.declared.preference.Strength.TheVariants.{Absolute, Strong, Mild}
 use Rattle.dutch_player.specs.Preferences.{is_same, last_two, preference}
 use Rattle.dutch_player.specs.Meetings.{is_topscorer}
 use Rattle.dutch_player.specs.Colours.{distance, colours}
 use Rattle.dutch_player.specs.Facts.{SeatFacts, Facts, seat_at}
-use Rattle.dutch_pair.specs.declared.seated.Mover.{Mover}
+use Rattle.dutch_pair.specs.declared.seated.Floater.{Floater}
 use Rattle.dutch_pair.specs.declared.colours_missed.Miss.{Miss}
 use Rattle.dutch_pair.specs.declared.colours_missed.Miss.TheVariants.{Wide, Third, Preference, StrongPreference}
 use Rattle.dutch_pair.specs.Seated.{Seated, difference, difference_down, going_down, going_up}
@@ -89,7 +89,7 @@ abbrev pub is_missed : SeatFacts → Colour → Bool
 is_missed seat colour = option_map_or (λ wanted. not (is_same wanted.colour colour)) (preference seat.played) false
 
 -- A.6: a preference that is strong and not absolute
-abbrev pub is_strong : Kind → Bool
+abbrev pub is_strong : Strength → Bool
 is_strong Absolute = false
 is_strong Strong = true
 is_strong Mild = false
@@ -97,7 +97,7 @@ is_strong Mild = false
 -- C.11: the colour is not that of a preference that is strong and not absolute
 abbrev pub is_strong_missed : SeatFacts → Colour → Bool
 is_strong_missed seat colour =
-    option_map_or (λ wanted. is_strong wanted.kind && not (is_same wanted.colour colour)) (preference seat.played) false
+    option_map_or (λ wanted. is_strong wanted.strength && not (is_same wanted.colour colour)) (preference seat.played) false
 
 -- C.8 to C.11
 abbrev pub misses : Miss → SeatFacts → Colour → Bool
@@ -151,12 +151,12 @@ abbrev pub float_of : Facts → ℕ → ℕ → Option Float
 float_of facts back seat = if back == 1 then (seat_at facts seat).latest else (seat_at facts seat).earlier
 
 -- C.12 to C.15: those who had this float in the round so far back
-abbrev pub again : Facts → Float → ℕ → List Mover → List Mover
-again facts float back movers = filter (λ mover. is_float float (float_of facts back mover.seat)) movers
+abbrev pub again : Facts → Float → ℕ → List Floater → List Floater
+again facts float back floaters = filter (λ floater. is_float float (float_of facts back floater.seat)) floaters
 
 -- C.16 to C.19: the differences of some who move, the highest first
-abbrev pub differences : List Mover → List ℕ
-differences movers = highest_first (map (λ mover. mover.by) movers)
+abbrev pub differences : List Floater → List ℕ
+differences floaters = highest_first (map (λ floater. floater.by) floaters)
 
 -- C.6 to C.19: the quality of a candidate, for a value of the next bracket
 abbrev pub quality_with : Facts → Seated → NextValue → Quality

@@ -5,11 +5,11 @@ use Rattle.arrayvec.specs.ArrayVec.{ArrayVec}
 use Rattle.lru.specs.LruCache.{LruCache}
 use Rattle.dutch_order.specs.Choices.{is_same}
 use Rattle.dutch_player.specs.Facts.{Facts}
-use Rattle.dutch_pair.specs.declared.reached.Kind.TheVariants.{Ordinary}
+use Rattle.dutch_pair.specs.declared.reached.BracketKind.TheVariants.{Ordinary}
 use Rattle.dutch_pair.specs.declared.remembered.Look.{Look}
 use Rattle.dutch_pair.specs.declared.remembered.Look.TheVariants.{Value, Undecided}
 use Rattle.dutch_pair.specs.Seated.{seat_of}
-use Rattle.dutch_pair.specs.Reached.{Stand, IsOf}
+use Rattle.dutch_pair.specs.Reached.{Reached, IsOf}
 use Rattle.dutch_pair.specs.Quality.{NextValue}
 use Rattle.dutch_pair.specs.Round.{first_group, scoregroups}
 use Rattle.dutch_pair.specs.NextBracket.{IsNext, value_in}
@@ -18,13 +18,13 @@ use Rattle.dutch_pair.specs.NextBracket.{IsNext, value_in}
 -- the last used first
 pub record Remembered : Type 0 where
   pub facts : Facts
-  pub stand : Stand
+  pub reached : Reached
   pub next : List ℕ
   pub kept : List (List ℕ)
 
 -- C.7: what the next bracket can be for downfloaters of a bracket
-abbrev pub value_below : Facts → Stand → List ℕ → List ℕ → NextValue
-value_below facts stand next down = value_in stand.kind facts (map (seat_of stand.seats) down) next
+abbrev pub value_below : Facts → Reached → List ℕ → List ℕ → NextValue
+value_below facts reached next down = value_in reached.kind facts (map (seat_of reached.seats) down) next
 
 -- whether a list is one of those that are kept
 abbrev pub is_kept : List ℕ → List (List ℕ) → Bool
@@ -42,7 +42,7 @@ with_used down kept = down ∷ (if is_kept down kept then others down kept else 
 
 -- a look-ahead after it used the value of a list
 abbrev pub after_use : List ℕ → Remembered → Remembered
-after_use down old = record { facts = old.facts; stand = old.stand; next = old.next; kept = with_used down old.kept }
+after_use down old = record { facts = old.facts; reached = old.reached; next = old.next; kept = with_used down old.kept }
 
 -- a look-ahead answers the value; or it was stopped, and then owes what is given with it
 abbrev pub IsLook : NextValue → Type 0 → Look → Type 0
@@ -58,20 +58,20 @@ IsKeptAfter down old new Undecided = new ≡ old
 -- a look-ahead still looks from its bracket to its next scoregroup, whatever it keeps
 pub record LooksOn (old new : Remembered) : Type 0 where
   pub facts : new.facts ≡ old.facts
-  pub stand : new.stand ≡ old.stand
+  pub reached : new.reached ≡ old.reached
   pub next : new.next ≡ old.next
 
 -- a look-ahead of an ordinary bracket above lower seats: it looks to their first scoregroup
-pub record LooksFrom (facts : Facts) (stand : Stand) (lower : List ℕ) (look : Remembered) : Type 0 where
-  pub ordinary : stand.kind ≡ Ordinary
+pub record LooksFrom (facts : Facts) (reached : Reached) (lower : List ℕ) (look : Remembered) : Type 0 where
+  pub ordinary : reached.kind ≡ Ordinary
   pub field : look.facts ≡ facts
-  pub bracket : look.stand ≡ stand
+  pub bracket : look.reached ≡ reached
   pub group : look.next ≡ first_group facts (scoregroups facts lower)
 
 -- there is a look-ahead in an ordinary bracket, and none in another one
-abbrev pub LooksBelow : Facts → Stand → List ℕ → Option Remembered → Type 0
-LooksBelow facts stand lower None = stand.kind ≡ Ordinary → ⊥
-LooksBelow facts stand lower (Some look) = LooksFrom facts stand lower look
+abbrev pub LooksBelow : Facts → Reached → List ℕ → Option Remembered → Type 0
+LooksBelow facts reached lower None = reached.kind ≡ Ordinary → ⊥
+LooksBelow facts reached lower (Some look) = LooksFrom facts reached lower look
 
 -- the lists for which values are kept
 abbrev pub lists_kept : List (ArrayVec ℕ × NextValue) → List (List ℕ)
@@ -82,9 +82,9 @@ abbrev pub is_key : ArrayVec ℕ → ArrayVec ℕ → Bool
 is_key down key = pointwise nat_eq down.items key.items
 
 -- the values kept below an ordinary bracket: at most 64, and each is that of the list that it is kept for
-pub record AreValues (facts : Facts) (stand : Stand) (next : List ℕ) (values : LruCache (ArrayVec ℕ) NextValue) : Type 0 where
-  pub bracket : IsOf facts stand
-  pub ordinary : stand.kind ≡ Ordinary
-  pub next_below : IsNext facts stand next
+pub record AreValues (facts : Facts) (reached : Reached) (next : List ℕ) (values : LruCache (ArrayVec ℕ) NextValue) : Type 0 where
+  pub bracket : IsOf facts reached
+  pub ordinary : reached.kind ≡ Ordinary
+  pub next_below : IsNext facts reached next
   pub most : values.cap ≡ 64
-  pub each : (e : ArrayVec ℕ × NextValue) → Contains values.entries e → e.1 ≡ value_below facts stand next e.0.items
+  pub each : (e : ArrayVec ℕ × NextValue) → Contains values.entries e → e.1 ≡ value_below facts reached next e.0.items

@@ -6,9 +6,9 @@ use Rattle.dutch_order.specs.Choices.{numbers_from}
 use Rattle.dutch_order.specs.Arrangements.{Arrangement, candidates, down}
 use Rattle.dutch_order.specs.Cursors.{◌>>=◌}
 use Rattle.dutch_player.specs.Facts.{Facts}
-use Rattle.dutch_pair.specs.declared.reached.Kind.{Kind}
-use Rattle.dutch_pair.specs.declared.reached.Kind.TheVariants.{Ordinary, Last, Penultimate, Collapsed}
-use Rattle.dutch_pair.specs.Reached.{Stand, frame_of, numbers_meet, number_may_be_left}
+use Rattle.dutch_pair.specs.declared.reached.BracketKind.{BracketKind}
+use Rattle.dutch_pair.specs.declared.reached.BracketKind.TheVariants.{Ordinary, Last, Penultimate, Collapsed}
+use Rattle.dutch_pair.specs.Reached.{Reached, frame_of, numbers_meet, number_may_be_left}
 use Rattle.dutch_pair.specs.Seated.{seat_of, score_at, all_pairs}
 use Rattle.dutch_pair.specs.Seats.{seats_meet, seats_may_be_left}
 use Rattle.dutch_pair.specs.Completion.{can_complete}
@@ -24,7 +24,7 @@ pub record Choice : Type 0 where
 
 -- a bracket that was reached, its shape, the arrangement that is chosen in it, and whether it is paired again
 pub record Visit : Type 0 where
-  pub bracket : Stand
+  pub bracket : Reached
   pub shape : Shape
   pub lists : Arrangement
   pub again : Bool
@@ -40,20 +40,20 @@ pub record Round : Type 0 where
   pub pairing : Option Pairing
 
 -- A.9: a bracket that is paired again, by C.4
-abbrev pub is_penultimate : Kind → Bool
+abbrev pub is_penultimate : BracketKind → Bool
 is_penultimate Ordinary = false
 is_penultimate Last = false
 is_penultimate Penultimate = true
 is_penultimate Collapsed = false
 
 -- A.3: a bracket of some moved down and some residents
-abbrev pub bracket : ℕ → Kind → List ℕ → List ℕ → Stand
+abbrev pub bracket : ℕ → BracketKind → List ℕ → List ℕ → Reached
 bracket number kind moved_down residents =
     record { number = number; kind = kind; mdps = length moved_down; seats = moved_down ++ residents }
 
 -- a bracket that is paired again as the penultimate one
-abbrev pub paired_again : Stand → Stand
-paired_again stand = record { number = stand.number + 1; kind = Penultimate; mdps = stand.mdps; seats = stand.seats }
+abbrev pub paired_again : Reached → Reached
+paired_again reached = record { number = reached.number + 1; kind = Penultimate; mdps = reached.mdps; seats = reached.seats }
 
 module _ (facts : Facts) where
   -- a seat put before groups of lower seats: into the first of them if that has its score
@@ -82,44 +82,44 @@ module _ (facts : Facts) where
   completable seats = can_complete (seats_meet facts) (seats_may_be_left facts) seats
 
   -- the downfloaters of an arrangement, by seat
-  abbrev pub downfloaters : Stand → Arrangement → List ℕ
-  downfloaters stand lists = map (seat_of stand.seats) (down (frame_of facts stand) lists)
+  abbrev pub downfloaters : Reached → Arrangement → List ℕ
+  downfloaters reached lists = map (seat_of reached.seats) (down (frame_of facts reached) lists)
 
   -- C.1 to C.3: the candidates of a bracket
-  abbrev pub candidates_of : Stand → Shape → List Arrangement
-  candidates_of stand shape = candidates (numbers_meet facts stand) (number_may_be_left facts stand) (frame_of facts stand) shape
+  abbrev pub candidates_of : Reached → Shape → List Arrangement
+  candidates_of reached shape = candidates (numbers_meet facts reached) (number_may_be_left facts reached) (frame_of facts reached) shape
 
   -- C.4: whether a candidate can be chosen: in the penultimate bracket only if it leaves players who can be paired out with all lower
   -- ones
-  abbrev pub can_be_chosen : Stand → List ℕ → Arrangement → Bool
-  can_be_chosen stand lower lists = not (is_penultimate stand.kind) || completable (downfloaters stand lists ++ lower)
+  abbrev pub can_be_chosen : Reached → List ℕ → Arrangement → Bool
+  can_be_chosen reached lower lists = not (is_penultimate reached.kind) || completable (downfloaters reached lists ++ lower)
 
   -- C.4: the candidates that can be chosen
-  abbrev pub eligible : Stand → List ℕ → Shape → List Arrangement
-  eligible stand lower shape = filter (can_be_chosen stand lower) (candidates_of stand shape)
+  abbrev pub eligible : Reached → List ℕ → Shape → List Arrangement
+  eligible reached lower shape = filter (can_be_chosen reached lower) (candidates_of reached shape)
 
   -- C.6 to C.19: the quality of a candidate above all lower seats, of which the first scoregroup is the next bracket's
-  abbrev pub quality_of : Stand → List ℕ → Arrangement → Quality
-  quality_of stand lower lists =
-      quality facts stand (first_group (scoregroups lower)) (record { lists = lists; down = down (frame_of facts stand) lists })
+  abbrev pub quality_of : Reached → List ℕ → Arrangement → Quality
+  quality_of reached lower lists =
+      quality facts reached (first_group (scoregroups lower)) (record { lists = lists; down = down (frame_of facts reached) lists })
 
   -- B.8: a candidate is better than another one
-  abbrev pub is_better_in : Stand → List ℕ → Arrangement → Arrangement → Bool
-  is_better_in stand lower c d = is_better (quality_of stand lower c) (quality_of stand lower d)
+  abbrev pub is_better_in : Reached → List ℕ → Arrangement → Arrangement → Bool
+  is_better_in reached lower c d = is_better (quality_of reached lower c) (quality_of reached lower d)
 
   -- B.8: of the candidates of a shape that can be chosen the first that none is better than
-  abbrev pub best_of_shape : Stand → List ℕ → Shape → Option Arrangement
-  best_of_shape stand lower shape = best (is_better_in stand lower) (eligible stand lower shape)
+  abbrev pub best_of_shape : Reached → List ℕ → Shape → Option Arrangement
+  best_of_shape reached lower shape = best (is_better_in reached lower) (eligible reached lower shape)
 
   -- C.5: the shape of a bracket
-  abbrev pub shape_of : Stand → List ℕ → Option Shape
-  shape_of stand lower = greatest_shape (eligible stand lower) (frame_of facts stand)
+  abbrev pub shape_of : Reached → List ℕ → Option Shape
+  shape_of reached lower = greatest_shape (eligible reached lower) (frame_of facts reached)
 
   -- the choice in a bracket above all lower seats: its shape, and the best of it; none where no shape has a candidate
-  abbrev pub choice : Stand → List ℕ → Option Choice
-  choice stand lower = do
-    shape ← shape_of stand lower
-    lists ← best_of_shape stand lower shape
+  abbrev pub choice : Reached → List ℕ → Option Choice
+  choice reached lower = do
+    shape ← shape_of reached lower
+    lists ← best_of_shape reached lower shape
     Some (record { shape = shape; lists = lists })
 
   -- there is no pairing, and no bracket from here on
@@ -127,17 +127,17 @@ module _ (facts : Facts) where
   no_pairing = record { reached = []; pairing = None }
 
   -- a bracket that is passed before the rest of a round, without its pairs; it stays among those reached (our own choice)
-  abbrev pub passing : Stand → Choice → Round → Round
-  passing stand choice rest = record {
-    reached = record { bracket = stand; shape = choice.shape; lists = choice.lists; again = true } ∷ rest.reached;
+  abbrev pub passing : Reached → Choice → Round → Round
+  passing reached choice rest = record {
+    reached = record { bracket = reached; shape = choice.shape; lists = choice.lists; again = true } ∷ rest.reached;
     pairing = rest.pairing;
   }
 
   -- a bracket before the rest of a round, with its pairs
-  abbrev pub pairing_in : Stand → Choice → Round → Round
-  pairing_in stand choice rest = record {
-    reached = record { bracket = stand; shape = choice.shape; lists = choice.lists; again = false } ∷ rest.reached;
-    pairing = option_map (λ later. record { pairs = all_pairs stand.seats choice.lists ++ later.pairs; bye = later.bye }) rest.pairing;
+  abbrev pub pairing_in : Reached → Choice → Round → Round
+  pairing_in reached choice rest = record {
+    reached = record { bracket = reached; shape = choice.shape; lists = choice.lists; again = false } ∷ rest.reached;
+    pairing = option_map (λ later. record { pairs = all_pairs reached.seats choice.lists ++ later.pairs; bye = later.bye }) rest.pairing;
   }
 
   -- the end of a round: who is left over has the bye
@@ -145,36 +145,36 @@ module _ (facts : Facts) where
   ending left = record { reached = []; pairing = Some (record { pairs = []; bye = left }) }
 
   -- the bracket that ends the round, by its choice; none has no pairing
-  abbrev pub final_by : Stand → Option Choice → Round
-  final_by stand None = no_pairing
-  final_by stand (Some choice) = pairing_in stand choice (ending (downfloaters stand choice.lists))
+  abbrev pub final_by : Reached → Option Choice → Round
+  final_by reached None = no_pairing
+  final_by reached (Some choice) = pairing_in reached choice (ending (downfloaters reached choice.lists))
 
   -- A.9: the last bracket or the collapsed one, which ends the round
-  abbrev pub final_bracket : Stand → Round
-  final_bracket stand = final_by stand (choice stand [])
+  abbrev pub final_bracket : Reached → Round
+  final_bracket reached = final_by reached (choice reached [])
 
   -- the penultimate bracket by its choice, and then the collapsed one of those whom it leaves over with all lower players
-  abbrev pub penultimate_by : Stand → List ℕ → Option Choice → Round
-  penultimate_by stand lower None = no_pairing
-  penultimate_by stand lower (Some choice) =
-      pairing_in stand choice (final_bracket (bracket (stand.number + 1) Collapsed (downfloaters stand choice.lists) lower))
+  abbrev pub penultimate_by : Reached → List ℕ → Option Choice → Round
+  penultimate_by reached lower None = no_pairing
+  penultimate_by reached lower (Some choice) =
+      pairing_in reached choice (final_bracket (bracket (reached.number + 1) Collapsed (downfloaters reached choice.lists) lower))
 
   -- A.9: a bracket that is paired again, and the collapsed one behind it
-  abbrev pub penultimate_bracket : Stand → List ℕ → Round
-  penultimate_bracket stand lower = penultimate_by (paired_again stand) lower (choice (paired_again stand) lower)
+  abbrev pub penultimate_bracket : Reached → List ℕ → Round
+  penultimate_bracket reached lower = penultimate_by (paired_again reached) lower (choice (paired_again reached) lower)
 
   -- an ordinary bracket by its choice: it keeps its pairs if those whom it leaves over can be paired out with all lower players; else
   -- it is paired again
-  abbrev pub ordinary_by : Stand → List ℕ → (List ℕ → Round) → Option Choice → Round
-  ordinary_by stand lower goes_on None = no_pairing
-  ordinary_by stand lower goes_on (Some choice) =
-      if completable (downfloaters stand choice.lists ++ lower)
-      then pairing_in stand choice (goes_on (downfloaters stand choice.lists))
-      else passing stand choice (penultimate_bracket stand lower)
+  abbrev pub ordinary_by : Reached → List ℕ → (List ℕ → Round) → Option Choice → Round
+  ordinary_by reached lower goes_on None = no_pairing
+  ordinary_by reached lower goes_on (Some choice) =
+      if completable (downfloaters reached choice.lists ++ lower)
+      then pairing_in reached choice (goes_on (downfloaters reached choice.lists))
+      else passing reached choice (penultimate_bracket reached lower)
 
   -- A.9: an ordinary bracket, and how the round goes on behind it
-  abbrev pub ordinary_bracket : Stand → List ℕ → (List ℕ → Round) → Round
-  ordinary_bracket stand lower goes_on = ordinary_by stand lower goes_on (choice stand lower)
+  abbrev pub ordinary_bracket : Reached → List ℕ → (List ℕ → Round) → Round
+  ordinary_bracket reached lower goes_on = ordinary_by reached lower goes_on (choice reached lower)
 
   -- A.3: the brackets from a number on, for those moved down and the scoregroups to come
   abbrev pub brackets : ℕ → List ℕ → List (List ℕ) → Round

@@ -2,11 +2,11 @@
 use Rattle.std.specs.Prelude.{◌≡◌, ℕ, ◌+◌, ◌-◌, ◌<◌, ◌≤◌, length, Bool, not, ◌==◌, nat_lt, min, if◌then◌else◌, List, [], ◌∷◌, ◌++◌, map, filter, slice_index}
 use Rattle.std.specs.List.{AllByRecursion}
 use Rattle.dutch_order.specs.Arrangements.{Arrangement}
-use Rattle.dutch_order.specs.Draws.{Draw}
+use Rattle.dutch_order.specs.Candidates.{Candidate}
 use Rattle.dutch_player.specs.declared.float.Float.{Float}
 use Rattle.dutch_player.specs.declared.float.Float.TheVariants.{Up, Down}
 use Rattle.dutch_player.specs.Facts.{Facts, seat_at}
-use Rattle.dutch_pair.specs.declared.seated.Mover.{Mover}
+use Rattle.dutch_pair.specs.declared.seated.Floater.{Floater}
 use Rattle.dutch_order.specs.declared.numbers.TheConstants.{LIMIT}
 
 -- the pairs of a candidate, its downfloaters, and the lowest score in its bracket
@@ -44,10 +44,10 @@ lowest facts [] = 0
 lowest facts (seat ∷ seats) = lowest_upto facts (score_at facts seat) seats
 
 -- a candidate of a bracket with these seats
-abbrev pub by_seats : Facts → List ℕ → Draw → Seated
-by_seats facts seats draw = record {
-  pairs = all_pairs seats draw.lists;
-  down = map (seat_of seats) draw.down;
+abbrev pub by_seats : Facts → List ℕ → Candidate → Seated
+by_seats facts seats candidate = record {
+  pairs = all_pairs seats candidate.lists;
+  down = map (seat_of seats) candidate.down;
   lowest = lowest facts seats;
 }
 
@@ -65,31 +65,31 @@ abbrev pub is_uneven : Facts → ℕ × ℕ → Bool
 is_uneven facts pair = not (score_at facts pair.0 == score_at facts pair.1)
 
 -- A.4: of a pair with different scores the player with the higher one goes down
-abbrev pub goes_down : Facts → ℕ × ℕ → Mover
+abbrev pub goes_down : Facts → ℕ × ℕ → Floater
 goes_down facts pair =
     record { seat = if nat_lt (score_at facts pair.0) (score_at facts pair.1) then pair.1 else pair.0; by = difference facts pair }
 
 -- A.4: and the player with the lower one goes up
-abbrev pub goes_up : Facts → ℕ × ℕ → Mover
+abbrev pub goes_up : Facts → ℕ × ℕ → Floater
 goes_up facts pair =
     record { seat = if nat_lt (score_at facts pair.0) (score_at facts pair.1) then pair.0 else pair.1; by = difference facts pair }
 
 -- A.4: the player of such a pair who floats so
-abbrev pub goes : Facts → Float → ℕ × ℕ → Mover
+abbrev pub goes : Facts → Float → ℕ × ℕ → Floater
 goes facts Up = goes_up facts
 goes facts Down = goes_down facts
 
 -- who is in no pair goes down too (our own choice)
-abbrev pub floats_down : Facts → ℕ → ℕ → Mover
+abbrev pub floats_down : Facts → ℕ → ℕ → Floater
 floats_down facts least seat = record { seat = seat; by = difference_down facts least seat }
 
 -- all who go down
-abbrev pub going_down : Facts → Seated → List Mover
+abbrev pub going_down : Facts → Seated → List Floater
 going_down facts candidate =
     map (goes_down facts) (filter (is_uneven facts) candidate.pairs) ++ map (floats_down facts candidate.lowest) candidate.down
 
 -- all who go up
-abbrev pub going_up : Facts → Seated → List Mover
+abbrev pub going_up : Facts → Seated → List Floater
 going_up facts candidate = map (goes_up facts) (filter (is_uneven facts) candidate.pairs)
 
 -- all of these are seats of the field
@@ -112,12 +112,12 @@ AllNumbers seats numbers = AllByRecursion (λ number. (0 < number) × (number �
 
 -- a candidate of a bracket with these seats: its numbers are the bracket's, the lists of those who meet have one length, and pairs
 -- and downfloaters are at most LIMIT
-pub record IsCandidate (seats : List ℕ) (draw : Draw) : Type 0 where
-  pub moved_down : length draw.lists.s1 ≡ length draw.lists.s2
-  pub residents : length draw.lists.s1r ≡ length draw.lists.s2r
-  pub s1 : AllNumbers seats draw.lists.s1
-  pub s2 : AllNumbers seats draw.lists.s2
-  pub s1r : AllNumbers seats draw.lists.s1r
-  pub s2r : AllNumbers seats draw.lists.s2r
-  pub down : AllNumbers seats draw.down
-  pub few : (length draw.lists.s1 + length draw.lists.s1r) + length draw.down ≤ LIMIT
+pub record IsCandidate (seats : List ℕ) (candidate : Candidate) : Type 0 where
+  pub moved_down : length candidate.lists.s1 ≡ length candidate.lists.s2
+  pub residents : length candidate.lists.s1r ≡ length candidate.lists.s2r
+  pub s1 : AllNumbers seats candidate.lists.s1
+  pub s2 : AllNumbers seats candidate.lists.s2
+  pub s1r : AllNumbers seats candidate.lists.s1r
+  pub s2r : AllNumbers seats candidate.lists.s2r
+  pub down : AllNumbers seats candidate.down
+  pub few : (length candidate.lists.s1 + length candidate.lists.s1r) + length candidate.down ≤ LIMIT

@@ -2,7 +2,7 @@
 use Rattle.std.specs.Prelude.{ℕ, zero, suc, ◌+◌, ◌-◌, ◌*◌, ◌/◌, ◌≡◌, ◌<◌, ◌⊎◌, Bool, true, false, not, ◌&&◌, nat_lt, if◌then◌else◌, List, [], ◌∷◌, map, filter, flat_map, length, Option, Some, None}
 use Rattle.dutch_order.specs.declared.bracket.Shape.{Shape}
 use Rattle.dutch_order.specs.Arrangements.{Frame, Arrangement, down, remainder_pairs}
-use Rattle.dutch_order.specs.Draws.{Draw}
+use Rattle.dutch_order.specs.Candidates.{Candidate}
 
 -- the numbers from one down to 0
 abbrev pub down_from : ℕ → List ℕ
@@ -33,10 +33,10 @@ has_member [] = false
 has_member (a ∷ rest) = true
 
 -- an arrangement, with those whom it leaves over, is the first of some of a bracket
-pub record IsFirst (some : List Arrangement) (frame : Frame) (draw : Draw) : Type 0 where
+pub record IsFirst (some : List Arrangement) (frame : Frame) (candidate : Candidate) : Type 0 where
   pub others : List Arrangement
-  pub first : some ≡ draw.lists ∷ others
-  pub down : draw.down ≡ down frame draw.lists
+  pub first : some ≡ candidate.lists ∷ others
+  pub down : candidate.down ≡ down frame candidate.lists
 
 -- the first shape for which some arrangement is there
 abbrev pub first_with : (Shape → List Arrangement) → List Shape → Option Shape

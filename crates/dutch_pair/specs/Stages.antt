@@ -1,17 +1,18 @@
 -- A walk over the brackets of a round, as the round from where it stands on: a model that carries the round's proof.
-use Rattle.std.specs.Prelude.{◌≡◌, ℕ, ◌+◌, Bool, true, false, not, if◌then◌else◌, List, [], ◌∷◌, ◌++◌, map, Some}
+use Rattle.std.specs.Prelude.{◌≡◌, ℕ, ◌+◌, Bool, false, not, if◌then◌else◌, List, [], ◌∷◌, ◌++◌, map, Some}
 use Rattle.dutch_order.specs.declared.bracket.Shape.{Shape}
 use Rattle.dutch_order.specs.Arrangements.{Fits, down}
 use Rattle.dutch_player.specs.Facts.{Facts}
-use Rattle.dutch_pair.specs.declared.reached.Kind.{Kind}
-use Rattle.dutch_pair.specs.declared.reached.Kind.TheVariants.{Ordinary, Last, Penultimate, Collapsed}
+use Rattle.dutch_pair.specs.declared.reached.BracketKind.{BracketKind}
+use Rattle.dutch_pair.specs.declared.reached.BracketKind.TheVariants.{Ordinary, Last, Penultimate, Collapsed}
 use Rattle.dutch_pair.specs.declared.stage.Stage.{Stage}
 use Rattle.dutch_pair.specs.declared.walk.Next.{Next}
 use Rattle.dutch_pair.specs.declared.walk.Next.TheVariants.{Bracket, Bye}
 use Rattle.dutch_pair.specs.declared.walk.Turn.{Turn}
 use Rattle.dutch_pair.specs.declared.walk.Turn.TheVariants.{Settled, Ended, Undecided}
-use Rattle.dutch_pair.specs.Reached.{Stand, IsOf, frame_of}
-use Rattle.dutch_pair.specs.Round.{Round, Choice, Pairing, brackets, choice, completable, ending, final_bracket, ordinary_bracket, passing, pairing_in, penultimate_by, scoregroups}
+use Rattle.dutch_pair.specs.QualityIn.{quality_in}
+use Rattle.dutch_pair.specs.Reached.{Reached, IsOf, frame_of}
+use Rattle.dutch_pair.specs.Round.{Round, Choice, Pairing, brackets, choice, completable, ending, final_bracket, ordinary_bracket, passing, pairing_in, penultimate_by, quality_of, scoregroups}
 use Rattle.dutch_pair.specs.Outcomes.{IsStage, shown, visit_at}
 use Rattle.dutch_pair.specs.Seated.{AreSeats, all_pairs, seat_of}
 use Rattle.dutch_pair.specs.WaysOut.{StandsBefore}
@@ -24,7 +25,7 @@ pub record Walk : Type 0 where
   pub limit : ℕ
 
 -- the kind of the bracket of a scoregroup above lower seats
-abbrev pub group_kind : List ℕ → Kind
+abbrev pub group_kind : List ℕ → BracketKind
 group_kind [] = Last
 group_kind (seat ∷ seats) = Ordinary
 
@@ -33,7 +34,7 @@ abbrev pub choice_of : Stage → Choice
 choice_of stage = record { shape = stage.shape; lists = stage.candidate.lists }
 
 -- C.4: whether a bracket is paired again, where those whom it leaves over can be paired out with all lower players or cannot
-abbrev pub is_again : Kind → Bool → Bool
+abbrev pub is_again : BracketKind → Bool → Bool
 is_again Ordinary complete = not complete
 is_again Last complete = false
 is_again Penultimate complete = false
@@ -41,11 +42,11 @@ is_again Collapsed complete = false
 
 module _ (facts : Facts) where
   -- the round from a bracket above lower seats on, by its kind
-  abbrev pub round_by : Kind → Stand → List ℕ → Round
-  round_by Ordinary stand lower = ordinary_bracket facts stand lower (λ left. brackets facts (stand.number + 1) left (scoregroups facts lower))
-  round_by Last stand lower = final_bracket facts stand
-  round_by Penultimate stand lower = penultimate_by facts stand lower (choice facts stand lower)
-  round_by Collapsed stand lower = final_bracket facts stand
+  abbrev pub round_by : BracketKind → Reached → List ℕ → Round
+  round_by Ordinary reached lower = ordinary_bracket facts reached lower (λ left. brackets facts (reached.number + 1) left (scoregroups facts lower))
+  round_by Last reached lower = final_bracket facts reached
+  round_by Penultimate reached lower = penultimate_by facts reached lower (choice facts reached lower)
+  round_by Collapsed reached lower = final_bracket facts reached
 
   -- the round from what comes next on
   abbrev pub round_from : List ℕ → Next → Round
@@ -66,6 +67,7 @@ module _ (facts : Facts) where
   pub record IsSettled (lower : List ℕ) (stage : Stage) : Type 0 where
     pub choice : choice facts stage.reached lower ≡ Some (choice_of stage)
     pub down : stage.candidate.down ≡ down (frame_of facts stage.reached) stage.candidate.lists
+    pub value : quality_in stage.quality ≡ quality_of facts stage.reached lower stage.candidate.lists
     pub again : stage.again ≡ is_again stage.reached.kind (completable facts (map (seat_of stage.reached.seats) stage.candidate.down ++ lower))
 
 -- pairs in front of those of a pairing
@@ -89,7 +91,7 @@ IsBehindIn facts lower limit stage =
     IsBehind stage (record { facts = facts; number = stage.reached.number; rest = round_by facts stage.reached.kind stage.reached lower; limit = limit })
 
 -- a round begins with a bracket, which has a shape
-abbrev pub Shows : Facts → Round → Stand → Shape → Type 0
+abbrev pub Shows : Facts → Round → Reached → Shape → Type 0
 Shows facts round reached shape =
     (shown (visit_at 0 round.reached) ≡ Some (reached, shape)) × IsOf facts reached × Fits (frame_of facts reached) shape
 

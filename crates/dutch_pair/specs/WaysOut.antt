@@ -4,11 +4,11 @@ use Rattle.std.specs.Prelude.{◌≡◌, ℕ, ◌+◌, ◌<◌, ◌≤◌, true,
 use Rattle.dutch_order.specs.Forms.{NoneTwice}
 use Rattle.dutch_order.specs.Keys.{IsIn}
 use Rattle.dutch_player.specs.Facts.{Facts}
-use Rattle.dutch_pair.specs.declared.reached.Kind.{Kind}
-use Rattle.dutch_pair.specs.declared.reached.Kind.TheVariants.{Ordinary, Last, Penultimate, Collapsed}
+use Rattle.dutch_pair.specs.declared.reached.BracketKind.{BracketKind}
+use Rattle.dutch_pair.specs.declared.reached.BracketKind.TheVariants.{Ordinary, Last, Penultimate, Collapsed}
 use Rattle.dutch_pair.specs.Completion.{Completable}
 use Rattle.dutch_pair.specs.Eligible.{HasCandidate}
-use Rattle.dutch_pair.specs.Reached.{Stand}
+use Rattle.dutch_pair.specs.Reached.{Reached}
 use Rattle.dutch_pair.specs.Round.{bracket}
 use Rattle.dutch_pair.specs.Seats.{seats_meet, seats_may_be_left}
 use Rattle.dutch_pair.specs.Walk.{AreAbove, Goes}
@@ -20,18 +20,19 @@ pub record GoesOut (facts : Facts) (md rest : List ℕ) : Type 0 where
   pub complete : Completable (seats_meet facts) (seats_may_be_left facts) (md ++ rest)
 
 -- the way out of a bracket, by its kind: its players and the lower ones go out, or it is known to have a candidate; and its number is small
-abbrev pub HasWayOut : Facts → Kind → ℕ → List ℕ → List ℕ → List ℕ → Type 0
+abbrev pub HasWayOut : Facts → BracketKind → ℕ → List ℕ → List ℕ → List ℕ → Type 0
 HasWayOut facts Ordinary number md residents lower = GoesOut facts md (residents ++ lower) × (0 < length lower) × (number + length lower ≤ length facts.seats)
 HasWayOut facts Last number md residents lower = GoesOut facts md (residents ++ lower) × (lower ≡ []) × (number ≤ length facts.seats)
-HasWayOut facts Penultimate number md residents lower = GoesOut facts md (residents ++ lower) × (number ≤ length facts.seats)
+HasWayOut facts Penultimate number md residents lower = GoesOut facts md (residents ++ lower) × (number ≤ length facts.seats) × (0 < length lower)
 HasWayOut facts Collapsed number md residents lower =
     HasCandidate facts (bracket number Collapsed md residents) lower × (lower ≡ []) × (number ≤ length facts.seats + 1)
 
 -- the bracket of a number, of those moved down and some residents, which comes next in a walk, above the lower seats
-pub record StandsBefore (facts : Facts) (number : ℕ) (stand : Stand) (lower : List ℕ) : Type 0 where
+pub record StandsBefore (facts : Facts) (number : ℕ) (reached : Reached) (lower : List ℕ) : Type 0 where
   pub md : List ℕ
   pub residents : List ℕ
-  pub is : stand ≡ bracket number stand.kind md residents
+  pub is : reached ≡ bracket number reached.kind md residents
   pub goes : Goes facts md (residents ++ lower)
   pub above : AreAbove facts residents lower
-  pub out : HasWayOut facts stand.kind number md residents lower
+  pub some : 0 < length residents
+  pub out : HasWayOut facts reached.kind number md residents lower

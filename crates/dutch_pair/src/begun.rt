@@ -10,9 +10,7 @@ use crate::context::Context;
 use crate::reached::Reached;
 use crate::seated::{Pair, Seated, push_pairs};
 use arrayvec::ArrayVec;
-use dutch_order::bracket::Shape;
-use dutch_order::numbers::LIMIT;
-use dutch_order::prefix::{Filling, Prefix};
+use dutch_order::{Filling, LIMIT, Prefix, Shape};
 use std::marker::Model;
 
 /// The lists that a beginning fixes.
@@ -93,8 +91,8 @@ pub(crate) fn is_of_shape(reached: &Reached, shape: Shape, begun: &Begun<'_>) ->
 /// Fills a list with the pairs that lists make, by seats.
 #[tactic(auto, using(crate::proofs::BegunLemmas::front_pairs, crate::proofs::BegunLemmas::front_numbers, crate::proofs::BegunLemmas::fixed_within))]
 fn fill_pairs(context: &Context<'_>, begun: &Begun<'_>, pairs: &mut ArrayVec<Pair, LIMIT>)
-    requires { HasNumbers context.now.stand begun.now }
-    ensures items { pairs.new.items ≡ all_pairs context.now.stand.seats begun.now }
+    requires { HasNumbers context.now.reached begun.now }
+    ensures items { pairs.new.items ≡ all_pairs context.now.reached.seats begun.now }
     ensures inside { AllPairs context.now.facts pairs.new.items }
     ensures few { length pairs.new.items ≤ LIMIT }
 {
@@ -106,8 +104,8 @@ fn fill_pairs(context: &Context<'_>, begun: &Begun<'_>, pairs: &mut ArrayVec<Pai
 
 /// Fills in lists by seats: their pairs, and nobody who goes down.
 pub(crate) fn fill_fixed(context: &Context<'_>, begun: &Begun<'_>, seated: &mut Seated)
-    requires { HasNumbers context.now.stand begun.now }
-    ensures value { seated.new ≡ fixed context.now.facts context.now.stand begun.now }
+    requires { HasNumbers context.now.reached begun.now }
+    ensures value { seated.new ≡ fixed context.now.facts context.now.reached begun.now }
     ensures inside { HasSeats context.now.facts seated.new }
 {
     fill_pairs(context, begun, &mut seated.pairs);

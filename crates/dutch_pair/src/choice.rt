@@ -4,12 +4,12 @@ ghost use Rattle.std.specs.Option.{MatchOption};
 ghost use Rattle.dutch_order.specs.Arrangements.{Arrangement, Fits, down};
 ghost use Rattle.dutch_order.specs.Steps.{MatchStep, Spends};
 ghost use Rattle.dutch_pair.specs.Reached.{IsAbove, frame_of};
-ghost use Rattle.dutch_pair.specs.NextBracket.{IsDraw};
+ghost use Rattle.dutch_pair.specs.NextBracket.{IsOfBracket};
 ghost use Rattle.dutch_pair.specs.QualityIn.{quality_in};
-ghost use Rattle.dutch_pair.specs.Round.{best_of_shape, quality_of};
-ghost use Rattle.dutch_pair.specs.Eligible.{HasCandidate};
-ghost use Rattle.dutch_pair.specs.Kept.{kept_draw, IsKept};
-ghost use Rattle.dutch_pair.specs.Aims.{aim_in, best_near, best_yet, is_idle};
+ghost use Rattle.dutch_pair.specs.Round.{quality_of};
+ghost use Rattle.dutch_pair.specs.Eligible.{HasCandidate, Lists};
+ghost use Rattle.dutch_pair.specs.Kept.{IsKept};
+ghost use Rattle.dutch_pair.specs.Aims.{aim_in, best_near, best_wished, best_yet, is_idle};
 ghost use Rattle.dutch_pair.specs.Outcomes.{IsChoice};
 ghost use Rattle.dutch_pair.specs.Remembered.{LooksBelow};
 
@@ -18,26 +18,29 @@ use crate::context::Context;
 use crate::eligible::can_be_chosen;
 use crate::fault::PairFault;
 use crate::floor::Floors;
+use crate::greatest::Lister;
 use crate::outlook::Outlook;
 use crate::pair_facts::PairFacts;
 use crate::quality::{Quality, Room};
-use crate::reached::Reached;
+use crate::reached::{ByNumber, Reached};
 use crate::remembered::{Judge, judge_candidate, look_below};
 use crate::shape::shape_of;
-use crate::skipper::{Pass, Skipper};
-use dutch_order::bracket::Shape;
-use dutch_order::candidate::Candidate;
-use dutch_order::candidates::Candidates;
-use dutch_order::steps::{Budget, Step};
-use dutch_player::field::Field;
+use crate::skipper::{Pass, Skipper, known_with};
+use crate::wish::{Wish, is_wished};
+use dutch_order::{Budget, Candidate, Shape, Step};
+use dutch_player::Field;
 use std::alloc::Global;
 use std::mem::take;
 
 /// What is chosen in a bracket.
 #[derive(Debug, Drop)]
 pub enum Choice {
-    /// The shape, and the first candidate of it that none is better than.
-    Chosen { shape: Shape, candidate: Candidate },
+    /// The shape, and the first candidate of it that none is better than, with its quality.
+    Chosen {
+        shape: Shape,
+        candidate: Candidate,
+        quality: Quality,
+    },
     /// The budget's limit was reached first.
     Undecided,
 }
@@ -45,8 +48,8 @@ pub enum Choice {
 /// The best candidate so far, with its quality.
 #[derive(Debug, Drop)]
 pub(crate) struct Best {
-    candidate: Candidate,
-    quality: Quality,
+    pub(crate) candidate: Candidate,
+    pub(crate) quality: Quality,
 }
 
 /// Whether a quality is of no interest: the aim is better, or it is not better than that of the candidate that is kept.
@@ -64,36 +67,41 @@ pub(crate) fn is_idle(quality: &Quality, aim: &Option<Quality>, kept: &Option<Be
     }
 }
 
-/// Keeps a candidate in place of the one before it if it is of interest and can be chosen. It says whether the budget sufficed for that.
-#[tactic(auto, using(crate::proofs::AimLemmas::idle_passed, crate::proofs::BestLemmas::winner_kept, crate::proofs::BestLemmas::unfit_is_passed))]
+/// Keeps a candidate in place of the one before it if it grants what is wished, is of interest and can be chosen. It says whether the
+/// budget sufficed for that.
+#[tactic(auto, using(crate::proofs::AimLemmas::unwished_passed, crate::proofs::AimLemmas::idle_passed, crate::proofs::BestLemmas::winner_kept, crate::proofs::BestLemmas::unfit_is_passed))]
 fn consider(
     pass: &Pass<'_>,
-    candidate: Candidate,
+    candidate: &Candidate,
     kept: &mut Option<Best>,
     judge: &mut Judge<'_>,
     budget: &mut Budget,
 ) -> bool
-    requires candidate { IsDraw pass.now.context.now.facts pass.now.context.now.stand candidate }
-    requires kept { IsKept pass.now.context.now.facts pass.now.context.now.stand pass.now.context.now.lower kept.old }
-    requires look { LooksBelow pass.now.context.now.facts pass.now.context.now.stand pass.now.context.now.lower judge.old.look }
+    requires candidate { IsOfBracket pass.now.context.now.facts pass.now.context.now.reached candidate.now }
+    requires kept { IsKept pass.now.context.now.facts pass.now.context.now.reached pass.now.context.now.lower kept.old }
+    requires look { LooksBelow pass.now.context.now.facts pass.now.context.now.reached pass.now.context.now.lower judge.old.look }
     requires within { budget.old.used ≤ budget.old.limit }
     ensures same { result ≡ true → (coming : List Arrangement)
-        → best_yet pass.now.context.now.facts pass.now.context.now.stand pass.now.context.now.lower (aim_in pass.now.aim) kept.new coming
-        ≡ best_yet pass.now.context.now.facts pass.now.context.now.stand pass.now.context.now.lower (aim_in pass.now.aim) kept.old (candidate.lists ∷ coming) }
+        → best_yet pass.now.context.now.facts pass.now.context.now.reached pass.now.context.now.lower pass.now.wish (aim_in pass.now.aim) kept.new coming
+        ≡ best_yet pass.now.context.now.facts pass.now.context.now.reached pass.now.context.now.lower pass.now.wish (aim_in pass.now.aim) kept.old (candidate.now.lists ∷ coming) }
     ensures stopped { result ≡ false → budget.new.used ≡ budget.new.limit }
-    ensures kept { IsKept pass.now.context.now.facts pass.now.context.now.stand pass.now.context.now.lower kept.new }
-    ensures look { LooksBelow pass.now.context.now.facts pass.now.context.now.stand pass.now.context.now.lower judge.new.look }
+    ensures kept { IsKept pass.now.context.now.facts pass.now.context.now.reached pass.now.context.now.lower kept.new }
+    ensures look { LooksBelow pass.now.context.now.facts pass.now.context.now.reached pass.now.context.now.lower judge.new.look }
     ensures spends { Spends budget.old budget.new }
 {
-    if !judge_candidate(pass.context, &candidate, judge, budget) {
+    if !is_wished(pass.wish, candidate) {
+        return true;
+    }
+    if !judge_candidate(pass.context, candidate, judge, budget) {
         return false;
     }
     if is_idle(&judge.room.quality, &pass.aim, kept) {
         return true;
     }
-    match can_be_chosen(pass.context, &candidate, budget) {
+    match can_be_chosen(pass.context, candidate, budget) {
         Answer::Yes => {
             let quality = take(&mut judge.room.quality);
+            let candidate = candidate.copied();
             *kept = Some(Best { candidate, quality });
             true
         }
@@ -102,90 +110,126 @@ fn consider(
     }
 }
 
-/// The candidate that is kept; `End` where there is none.
-fn handed_out(kept: Option<Best>) -> Step<Candidate>
-    ensures { MatchStep result (λ c. kept_draw kept ≡ Some c) (kept_draw kept ≡ None) ⊥ }
+/// The candidate that is kept, with its quality; `End` where there is none.
+fn handed_out(kept: Option<Best>) -> Step<Best>
+    ensures { MatchStep result (λ best. kept ≡ Some best) (kept ≡ None) ⊥ }
 {
     match kept {
-        Some(best) => Step::Found(best.candidate),
+        Some(best) => Step::Found(best),
         None => Step::End,
     }
 }
 
 /// Of the candidates that a pass seeks, and that can be chosen, the first that none is better than. `End` is answered where there is
 /// none.
-fn best_near<'a>(pass: &'a Pass<'a>, judge: &mut Judge<'_>, budget: &mut Budget) -> Step<Candidate>
-    requires look { LooksBelow pass.now.context.now.facts pass.now.context.now.stand pass.now.context.now.lower judge.old.look }
+fn best_near<'a>(
+    pass: &'a Pass<'a>,
+    lister: &mut Lister<'_, ByNumber<'_>>,
+    judge: &mut Judge<'_>,
+    budget: &mut Budget,
+) -> Step<Best>
+    requires lists { Lists pass.now.context.now.facts pass.now.context.now.reached lister.old.listing }
+    requires look { LooksBelow pass.now.context.now.facts pass.now.context.now.reached pass.now.context.now.lower judge.old.look }
     requires within { budget.old.used ≤ budget.old.limit }
     ensures answer { MatchStep result
-        (λ c. (best_near pass.now.context.now.facts pass.now.context.now.stand pass.now.context.now.lower (aim_in pass.now.aim) pass.now.shape ≡ Some c.lists)
-        × (c.down ≡ down (frame_of pass.now.context.now.facts pass.now.context.now.stand) c.lists))
-        (best_near pass.now.context.now.facts pass.now.context.now.stand pass.now.context.now.lower (aim_in pass.now.aim) pass.now.shape ≡ None)
+        (λ b. (best_near pass.now.context.now.facts pass.now.context.now.reached pass.now.context.now.lower pass.now.wish (aim_in pass.now.aim) pass.now.shape ≡ Some b.candidate.lists)
+        × IsKept pass.now.context.now.facts pass.now.context.now.reached pass.now.context.now.lower (Some b))
+        (best_near pass.now.context.now.facts pass.now.context.now.reached pass.now.context.now.lower pass.now.wish (aim_in pass.now.aim) pass.now.shape ≡ None)
         (budget.new.used ≡ budget.new.limit) }
-    ensures look { LooksBelow pass.now.context.now.facts pass.now.context.now.stand pass.now.context.now.lower judge.new.look }
+    ensures lists { Lists pass.now.context.now.facts pass.now.context.now.reached lister.new.listing }
+    ensures look { LooksBelow pass.now.context.now.facts pass.now.context.now.reached pass.now.context.now.lower judge.new.look }
     ensures spends { Spends budget.old budget.new }
 {
-    let context = pass.context;
-    let rule = context.rule();
-    let mut candidates = Candidates::new(context.frame(), pass.shape, &rule);
+    lister.listing.restart(pass.shape);
     let mut kept = None;
     loop {
         let skipper = Skipper { pass, kept: &kept };
-        match candidates.next_within(&skipper, &mut judge.room, budget) {
-            Step::Found(candidate) => {
-                if !consider(pass, candidate, &mut kept, judge, budget) {
-                    return Step::Undecided;
-                }
-            }
+        match lister
+            .listing
+            .put_next_within(&skipper, &mut judge.room, &mut lister.drawn, budget)
+        {
+            Step::Found(()) => {}
             Step::End => return handed_out(kept),
             Step::Undecided => return Step::Undecided,
+        }
+        if !consider(pass, &lister.drawn, &mut kept, judge, budget) {
+            return Step::Undecided;
         }
     }
 }
 
-/// What a pass with an aim chooses: the choice of all. `End` is answered where there is no aim, or where the pass finds none that can be
+/// What a pass with an aim chooses: the best of all. `End` is answered where there is no aim, or where the pass finds none that can be
 /// chosen, which says nothing of the choice.
-#[tactic(auto, using(crate::proofs::AimLemmas::a_pass_serves))]
 fn best_by_aim<'a>(
     pass: &'a Pass<'a>,
+    lister: &mut Lister<'_, ByNumber<'_>>,
     judge: &mut Judge<'_>,
     budget: &mut Budget,
-) -> Step<Candidate>
-    requires look { LooksBelow pass.now.context.now.facts pass.now.context.now.stand pass.now.context.now.lower judge.old.look }
+) -> Step<Best>
+    requires lists { Lists pass.now.context.now.facts pass.now.context.now.reached lister.old.listing }
+    requires look { LooksBelow pass.now.context.now.facts pass.now.context.now.reached pass.now.context.now.lower judge.old.look }
     requires within { budget.old.used ≤ budget.old.limit }
     ensures answer { MatchStep result
-        (λ c. (best_of_shape pass.now.context.now.facts pass.now.context.now.stand pass.now.context.now.lower pass.now.shape ≡ Some c.lists)
-        × (c.down ≡ down (frame_of pass.now.context.now.facts pass.now.context.now.stand) c.lists))
+        (λ b. (best_wished pass.now.context.now.facts pass.now.context.now.reached pass.now.context.now.lower pass.now.wish pass.now.shape ≡ Some b.candidate.lists)
+        × IsKept pass.now.context.now.facts pass.now.context.now.reached pass.now.context.now.lower (Some b))
         (Unit {0})
         (budget.new.used ≡ budget.new.limit) }
-    ensures look { LooksBelow pass.now.context.now.facts pass.now.context.now.stand pass.now.context.now.lower judge.new.look }
+    ensures lists { Lists pass.now.context.now.facts pass.now.context.now.reached lister.new.listing }
+    ensures look { LooksBelow pass.now.context.now.facts pass.now.context.now.reached pass.now.context.now.lower judge.new.look }
     ensures spends { Spends budget.old budget.new }
 {
     if pass.aim.is_none() {
         return Step::End;
     }
-    best_near(pass, judge, budget)
+    best_near(pass, lister, judge, budget)
 }
 
-/// Of the candidates of a shape that can be chosen the first that none is better than: what a pass with an aim ends with, or else one
-/// without. `End` is answered where no candidate can be chosen.
+/// What a pass with an aim ends with, or else the same pass without one. (Apart from its caller, as a lister is large.)
+#[inline(never)]
 #[tactic(auto, using(crate::proofs::AimLemmas::without_aim))]
-fn best_of<'a>(
+fn best_in_passes(pass: &mut Pass<'_>, judge: &mut Judge<'_>, budget: &mut Budget) -> Step<Best>
+    requires look { LooksBelow pass.old.context.now.facts pass.old.context.now.reached pass.old.context.now.lower judge.old.look }
+    requires within { budget.old.used ≤ budget.old.limit }
+    ensures answer { MatchStep result
+        (λ b. (best_wished pass.old.context.now.facts pass.old.context.now.reached pass.old.context.now.lower pass.old.wish pass.old.shape ≡ Some b.candidate.lists)
+        × IsKept pass.old.context.now.facts pass.old.context.now.reached pass.old.context.now.lower (Some b))
+        (best_wished pass.old.context.now.facts pass.old.context.now.reached pass.old.context.now.lower pass.old.wish pass.old.shape ≡ None)
+        (budget.new.used ≡ budget.new.limit) }
+    ensures spends { Spends budget.old budget.new }
+{
+    let rule = pass.context.rule();
+    let mut lister = Lister::new(pass.context.frame(), &rule);
+    match best_by_aim(pass, &mut lister, judge, budget) {
+        Step::Found(best) => return Step::Found(best),
+        Step::Undecided => return Step::Undecided,
+        Step::End => {}
+    }
+    pass.aim = None;
+    best_near(pass, &mut lister, judge, budget)
+}
+
+/// Of the candidates of a shape that can be chosen, and that grant a wish where something is wished, the first that none of them is
+/// better than: what a pass with an aim ends with, or else one without. `End` is answered where there is none.
+pub(crate) fn best_of<'a>(
     alloc: Global,
     context: &'a Context<'a>,
     shape: Shape,
-    judge: &mut Judge<'_>,
+    wish: Option<Wish>,
     budget: &mut Budget,
-) -> Result<Step<Candidate>, PairFault>
-    requires look { LooksBelow context.now.facts context.now.stand context.now.lower judge.old.look }
-    requires fits { Fits (frame_of context.now.facts context.now.stand) shape }
+) -> Result<Step<Best>, PairFault>
+    requires fits { Fits (frame_of context.now.facts context.now.reached) shape }
     requires within { budget.old.used ≤ budget.old.limit }
     ensures answer { IfOk result (λ step. MatchStep step
-        (λ c. (best_of_shape context.now.facts context.now.stand context.now.lower shape ≡ Some c.lists) × (c.down ≡ down (frame_of context.now.facts context.now.stand) c.lists))
-        (best_of_shape context.now.facts context.now.stand context.now.lower shape ≡ None)
+        (λ b. (best_wished context.now.facts context.now.reached context.now.lower wish shape ≡ Some b.candidate.lists)
+        × IsKept context.now.facts context.now.reached context.now.lower (Some b))
+        (best_wished context.now.facts context.now.reached context.now.lower wish shape ≡ None)
         (budget.new.used ≡ budget.new.limit)) }
     ensures spends { Spends budget.old budget.new }
 {
+    let mut judge = Judge {
+        look: look_below(alloc, context)?,
+        room: Room::default(),
+    };
     let Some(pairs) = PairFacts::read(alloc, context, budget)? else {
         return Ok(Step::Undecided);
     };
@@ -193,31 +237,27 @@ fn best_of<'a>(
         return Ok(Step::Undecided);
     };
     let floors = Floors::new(pairs, shape, outlook);
+    let known = known_with(context, wish);
     let mut pass = Pass {
         context,
         shape,
-        aim: floors.aim(),
+        wish,
+        aim: floors.aim(known),
         floors,
     };
-    match best_by_aim(&pass, judge, budget) {
-        Step::Found(candidate) => return Ok(Step::Found(candidate)),
-        Step::Undecided => return Ok(Step::Undecided),
-        Step::End => {}
-    }
-    pass.aim = None;
-    Ok(best_near(&pass, judge, budget))
+    Ok(best_in_passes(&mut pass, &mut judge, budget))
 }
 
 /// The choice in a bracket that has a candidate.
-#[tactic(auto, using(crate::proofs::BestLemmas::choice_is, crate::proofs::BestLemmas::shape_has_best))]
+#[tactic(auto, using(crate::proofs::AimLemmas::choice_is_best, crate::proofs::AimLemmas::shape_has_one))]
 pub(crate) fn choose_in<'a>(
     alloc: Global,
     context: &'a Context<'a>,
     budget: &mut Budget,
 ) -> Result<Choice, PairFault>
-    requires candidate { HasCandidate context.now.facts context.now.stand context.now.lower }
+    requires candidate { HasCandidate context.now.facts context.now.reached context.now.lower }
     requires within { budget.old.used ≤ budget.old.limit }
-    ensures answer { IfOk result (IsChoice context.now.facts context.now.stand context.now.lower (budget.new.used ≡ budget.new.limit)) }
+    ensures answer { IfOk result (IsChoice context.now.facts context.now.reached context.now.lower (budget.new.used ≡ budget.new.limit)) }
     ensures spends { Spends budget.old budget.new }
 {
     let shape = match shape_of(context, budget) {
@@ -225,12 +265,12 @@ pub(crate) fn choose_in<'a>(
         Step::End => unreachable!(),
         Step::Undecided => return Ok(Choice::Undecided),
     };
-    let mut judge = Judge {
-        look: look_below(alloc, context)?,
-        room: Room::default(),
-    };
-    match best_of(alloc, context, shape, &mut judge, budget)? {
-        Step::Found(candidate) => Ok(Choice::Chosen { shape, candidate }),
+    match best_of(alloc, context, shape, None, budget)? {
+        Step::Found(best) => Ok(Choice::Chosen {
+            shape,
+            candidate: best.candidate,
+            quality: best.quality,
+        }),
         Step::End => unreachable!(),
         Step::Undecided => Ok(Choice::Undecided),
     }

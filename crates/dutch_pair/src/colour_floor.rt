@@ -3,91 +3,95 @@ ghost use Rattle.std.specs.Prelude.{◌≡◌, ◌+◌, ◌*◌, ◌<◌, ◌≤
 ghost use Rattle.dutch_order.specs.declared.numbers.TheConstants.{LIMIT};
 ghost use Rattle.dutch_pair.specs.declared.colours_missed.Miss.TheVariants.{Preference, StrongPreference};
 ghost use Rattle.dutch_pair.specs.Quality.{misses, count_in, count_in_pairs};
-ghost use Rattle.dutch_pair.specs.Seated.{AllPairs};
+ghost use Rattle.dutch_pair.specs.Seated.{AllPairs, AreSeats, HasSeats};
 ghost use Rattle.dutch_pair.specs.Beginnings.{in_both};
-ghost use Rattle.dutch_pair.specs.FloorOf.{wish_of, surplus_in, more_in};
+ghost use Rattle.dutch_pair.specs.FloorOf.{wanting, surplus_in, more_in};
 
 use crate::colours_missed::{Miss, count_in};
 use crate::context::Context;
-use crate::seated::Pair;
-use dutch_order::bracket::Shape;
-use trf16::cell::Colour;
+use crate::seated::{Pair, Seated};
+use dutch_order::Shape;
+use trf16::Colour;
 
 /// Whose preferences are counted: those for a colour, or only the firm ones for it.
 #[derive(Debug, Clone, Copy)]
-struct Wish {
+struct Want {
     colour: Colour,
     firm: bool,
 }
 
 /// 1 for a seat whose preference is counted.
-fn weight(context: &Context<'_>, wish: Wish, seat: u16) -> usize
+fn weight(context: &Context<'_>, want: Want, seat: u16) -> usize
     requires { seat < length context.now.facts.seats }
-    ensures value { result ≡ wish_of wish.firm context.now.facts wish.colour seat }
+    ensures value { result ≡ wanting want.firm context.now.facts want.colour seat }
     ensures one { result ≤ 1 }
 {
-    if wish.firm {
-        usize::from(context.wants_firmly(wish.colour, seat))
+    if want.firm {
+        usize::from(context.wants_firmly(want.colour, seat))
     } else {
-        usize::from(context.wants(wish.colour, seat))
+        usize::from(context.wants(want.colour, seat))
     }
 }
 
-/// How many players of the bracket are counted.
-fn in_bracket(context: &Context<'_>, wish: Wish) -> usize
-    ensures value { result ≡ sum_by (wish_of wish.firm context.now.facts wish.colour) context.now.stand.seats }
+/// How many players are counted.
+fn in_seats(context: &Context<'_>, want: Want, seats: &[u16]) -> usize
+    requires inside { AreSeats context.now.facts seats.now }
+    requires few { length seats.now ≤ LIMIT }
+    ensures value { result ≡ sum_by (wanting want.firm context.now.facts want.colour) seats.now }
     ensures few { result ≤ LIMIT }
 {
     let mut count = 0;
-    for seat in context.reached().seats() {
-        count += weight(context, wish, *seat);
+    for seat in seats {
+        count += weight(context, want, *seat);
     }
     count
 }
 
 /// How many players of pairs are counted.
-fn in_pairs(context: &Context<'_>, wish: Wish, pairs: &[Pair]) -> usize
+fn in_pairs(context: &Context<'_>, want: Want, pairs: &[Pair]) -> usize
     requires inside { AllPairs context.now.facts pairs.now }
     requires few { length pairs.now ≤ LIMIT }
-    ensures { result ≡ sum_by (in_both (wish_of wish.firm context.now.facts wish.colour)) pairs.now }
+    ensures { result ≡ sum_by (in_both (wanting want.firm context.now.facts want.colour)) pairs.now }
 {
     let mut count = 0;
     for pair in pairs {
-        count += weight(context, wish, pair.0) + weight(context, wish, pair.1);
+        count += weight(context, want, pair.0) + weight(context, want, pair.1);
     }
     count
 }
 
-/// How many who are counted are in no pair, and more than can be served.
-fn surplus(context: &Context<'_>, shape: Shape, pairs: &[Pair], wish: Wish) -> usize
-    requires inside { AllPairs context.now.facts pairs.now }
-    requires few { length pairs.now ≤ LIMIT }
+/// How many who are counted, and are in no pair and not among those who go down, are more than can be served.
+fn surplus(context: &Context<'_>, shape: Shape, known: &Seated, want: Want) -> usize
+    requires inside { HasSeats context.now.facts known.now }
     requires small { shape.pairs ≤ LIMIT }
-    ensures value { result ≡ surplus_in (wish_of wish.firm context.now.facts wish.colour) context.now.stand shape pairs.now }
+    ensures value { result ≡ surplus_in (wanting want.firm context.now.facts want.colour) context.now.reached shape known.now }
     ensures few { result ≤ LIMIT }
 {
-    let free = in_bracket(context, wish).saturating_sub(in_pairs(context, wish, pairs));
-    let to_make = shape.pairs.saturating_sub(pairs.len());
-    free.saturating_sub(to_make + context.len().saturating_sub(2 * shape.pairs))
+    let reached = context.reached();
+    let free = in_seats(context, want, reached.seats())
+        .saturating_sub(in_pairs(context, want, &known.pairs))
+        .saturating_sub(in_seats(context, want, &known.down));
+    let to_make = shape.pairs.saturating_sub(known.pairs.len());
+    let to_leave = context.len().saturating_sub(2 * shape.pairs);
+    free.saturating_sub(to_make + to_leave.saturating_sub(known.down.len()))
 }
 
-/// How many miss more than in the pairs (C.10); of firm preferences alone (C.11).
-pub(crate) fn more_missed(context: &Context<'_>, shape: Shape, pairs: &[Pair], firm: bool) -> usize
-    requires inside { AllPairs context.now.facts pairs.now }
-    requires few { length pairs.now ≤ LIMIT }
+/// How many miss more than in the pairs that are known (C.10); of firm preferences alone (C.11).
+pub(crate) fn more_missed(context: &Context<'_>, shape: Shape, known: &Seated, firm: bool) -> usize
+    requires inside { HasSeats context.now.facts known.now }
     requires small { shape.pairs ≤ LIMIT }
-    ensures value { result ≡ more_in firm context.now.facts context.now.stand shape pairs.now }
+    ensures value { result ≡ more_in firm context.now.facts context.now.reached shape known.now }
     ensures few { result ≤ LIMIT }
 {
-    let white = Wish {
+    let white = Want {
         colour: Colour::White,
         firm,
     };
-    let black = Wish {
+    let black = Want {
         colour: Colour::Black,
         firm,
     };
-    surplus(context, shape, pairs, white).max(surplus(context, shape, pairs, black))
+    surplus(context, shape, known, white).max(surplus(context, shape, known, black))
 }
 
 /// How many players of pairs miss their preference (C.10).

@@ -8,7 +8,7 @@ ghost use Rattle.dutch_player.specs.Facts.{Facts};
 ghost use Rattle.dutch_player.specs.Meetings.{may_meet};
 ghost use Rattle.dutch_pair.specs.declared.colours_missed.Miss.TheVariants.{Wide, Third, Preference, StrongPreference};
 ghost use Rattle.dutch_pair.specs.Seated.{all_pairs};
-ghost use Rattle.dutch_pair.specs.Reached.{Stand, frame_of};
+ghost use Rattle.dutch_pair.specs.Reached.{Reached, frame_of};
 ghost use Rattle.dutch_pair.specs.Round.{candidates_of, quality_of};
 ghost use Rattle.dutch_pair.specs.Quality.{misses, count_in, count_in_pairs, count_with_topscorers};
 ghost use Rattle.dutch_pair.specs.Beginnings.{HasPairsOf, LacksEndOfS2r, in_both};
@@ -30,34 +30,34 @@ pub fn a_pair_misses_firmly()
 
 /// C.10: how many miss their preference at least, with a beginning.
 pub fn a_beginning_misses()
-    ensures { (facts : Facts) (stand : Stand) (lower : List ℕ) (shape : Shape) (b a : Arrangement) → stand.mdps ≤ length stand.seats
-        → IsIn a (arrangements (frame_of facts stand) shape) → HasPairsOf b a
-        → count_in_pairs facts (misses Preference) (all_pairs stand.seats b) + more_missed facts stand shape b
-        ≤ (quality_of facts stand lower a).missed_preferences }
+    ensures { (facts : Facts) (reached : Reached) (lower : List ℕ) (shape : Shape) (b a : Arrangement) → reached.mdps ≤ length reached.seats
+        → IsIn a (arrangements (frame_of facts reached) shape) → HasPairsOf b a
+        → count_in_pairs facts (misses Preference) (all_pairs reached.seats b) + more_missed facts reached shape b
+        ≤ (quality_of facts reached lower a).missed_preferences }
 {}
 
 /// C.11: how many miss a strong preference at least, with a beginning, where C.8 and C.9 are its own.
 pub fn a_beginning_misses_strongly()
-    ensures { (facts : Facts) (stand : Stand) (lower : List ℕ) (shape : Shape) (b a : Arrangement) → stand.mdps ≤ length stand.seats
-        → IsIn a (candidates_of facts stand shape) → HasPairsOf b a
-        → (quality_of facts stand lower a).wide_differences ≡ count_with_topscorers facts (misses Wide) (all_pairs stand.seats b)
-        → (quality_of facts stand lower a).third_colours ≡ count_with_topscorers facts (misses Third) (all_pairs stand.seats b)
-        → count_in_pairs facts (misses StrongPreference) (all_pairs stand.seats b) + more_missed_strong facts stand shape b
-        ≤ (quality_of facts stand lower a).missed_strong }
+    ensures { (facts : Facts) (reached : Reached) (lower : List ℕ) (shape : Shape) (b a : Arrangement) → reached.mdps ≤ length reached.seats
+        → IsIn a (candidates_of facts reached shape) → HasPairsOf b a
+        → (quality_of facts reached lower a).wide_differences ≡ count_with_topscorers facts (misses Wide) (all_pairs reached.seats b)
+        → (quality_of facts reached lower a).third_colours ≡ count_with_topscorers facts (misses Third) (all_pairs reached.seats b)
+        → count_in_pairs facts (misses StrongPreference) (all_pairs reached.seats b) + more_missed_strong facts reached shape b
+        ≤ (quality_of facts reached lower a).missed_strong }
 {}
 
 /// C.10: lonely players miss their preference, where all but an end of S2R is chosen.
 pub fn lonely_players_miss()
-    ensures { (facts : Facts) (stand : Stand) (lower : List ℕ) (shape : Shape) (b a : Arrangement) → stand.mdps ≤ length stand.seats
-        → IsIn a (candidates_of facts stand shape) → LacksEndOfS2r b a
-        → count_in_pairs facts (misses Preference) (all_pairs stand.seats b) + lonely facts stand shape b
-        ≤ (quality_of facts stand lower a).missed_preferences }
+    ensures { (facts : Facts) (reached : Reached) (lower : List ℕ) (shape : Shape) (b a : Arrangement) → reached.mdps ≤ length reached.seats
+        → IsIn a (candidates_of facts reached shape) → LacksEndOfS2r b a
+        → count_in_pairs facts (misses Preference) (all_pairs reached.seats b) + lonely facts reached shape b
+        ≤ (quality_of facts reached lower a).missed_preferences }
 {}
 
 /// C.10: and so at least as many as each of the two bounds says.
 pub fn a_beginning_with_s1r_misses()
-    ensures { (facts : Facts) (stand : Stand) (lower : List ℕ) (shape : Shape) (b a : Arrangement) → stand.mdps ≤ length stand.seats
-        → IsIn a (candidates_of facts stand shape) → LacksEndOfS2r b a
-        → count_in_pairs facts (misses Preference) (all_pairs stand.seats b) + max (more_missed facts stand shape b) (lonely facts stand shape b)
-        ≤ (quality_of facts stand lower a).missed_preferences }
+    ensures { (facts : Facts) (reached : Reached) (lower : List ℕ) (shape : Shape) (b a : Arrangement) → reached.mdps ≤ length reached.seats
+        → IsIn a (candidates_of facts reached shape) → LacksEndOfS2r b a
+        → count_in_pairs facts (misses Preference) (all_pairs reached.seats b) + max (more_missed facts reached shape b) (lonely facts reached shape b)
+        ≤ (quality_of facts reached lower a).missed_preferences }
 {}

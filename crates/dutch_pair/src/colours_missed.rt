@@ -6,10 +6,9 @@ ghost use Rattle.dutch_pair.specs.Seated.{AllPairs};
 ghost use Rattle.dutch_pair.specs.Quality.{is_wide, is_third, is_missed, is_strong, is_strong_missed, misses, count_in, has_topscorer, count_in_pairs, count_with_topscorers};
 
 use crate::seated::Pair;
-use dutch_order::numbers::LIMIT;
-use dutch_player::field::Field;
-use dutch_player::preference::Kind;
-use trf16::cell::Colour;
+use dutch_order::LIMIT;
+use dutch_player::{Field, Strength};
+use trf16::Colour;
 
 /// What is wrong with the colour that a player gets.
 #[derive(Debug, Clone, Copy, PartialEq, Eq)]
@@ -33,12 +32,12 @@ pub(crate) fn is_same(mine: Colour, theirs: Colour) -> bool
     }
 }
 
-fn is_strong(kind: Kind) -> bool
-    ensures { result ≡ is_strong kind }
+fn is_strong(strength: Strength) -> bool
+    ensures { result ≡ is_strong strength }
 {
-    match kind {
-        Kind::Strong => true,
-        Kind::Absolute | Kind::Mild => false,
+    match strength {
+        Strength::Strong => true,
+        Strength::Absolute | Strength::Mild => false,
     }
 }
 
@@ -82,12 +81,12 @@ fn is_strong_missed(field: &Field, seat: u16, colour: Colour) -> bool
     ensures { result ≡ is_strong_missed (seat_at field.now seat) colour }
 {
     match field.preference(seat) {
-        Some(wanted) => is_strong(wanted.kind) && !is_same(wanted.colour, colour),
+        Some(wanted) => is_strong(wanted.strength) && !is_same(wanted.colour, colour),
         None => false,
     }
 }
 
-fn misses(field: &Field, miss: Miss, seat: u16, colour: Colour) -> bool
+pub(crate) fn misses(field: &Field, miss: Miss, seat: u16, colour: Colour) -> bool
     requires { seat < length field.now.seats }
     ensures { result ≡ misses miss (seat_at field.now seat) colour }
 {
@@ -112,7 +111,7 @@ pub(crate) fn count_in(field: &Field, miss: Miss, pair: Pair) -> u16
 }
 
 /// One of a pair is a topscorer.
-fn has_topscorer(field: &Field, pair: Pair) -> bool
+pub(crate) fn has_topscorer(field: &Field, pair: Pair) -> bool
     requires first { pair.0 < length field.now.seats }
     requires second { pair.1 < length field.now.seats }
     ensures { result ≡ has_topscorer field.now pair }

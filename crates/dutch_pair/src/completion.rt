@@ -7,9 +7,7 @@ ghost use Rattle.dutch_pair.specs.Completion.{Completable, can_cover, some_partn
 ghost use Rattle.dutch_pair.specs.declared.completion.Answer.TheVariants.{No};
 
 use crate::reached::push_all;
-use dutch_order::numbers::{LIMIT, Numbers};
-use dutch_order::rules::Rule;
-use dutch_order::steps::Budget;
+use dutch_order::{Budget, LIMIT, Numbers, Rule};
 
 /// Whether players are completable.
 #[derive(Debug, Clone, Copy, PartialEq, Eq)]
@@ -148,7 +146,7 @@ fn leave_first<R: Rule>(
         return Answer::Undecided;
     }
     budget.used += 1;
-    if !rule.last_ok(first) {
+    if !rule.may_be_left(first) {
         return Answer::No;
     }
     can_pair(later, false, rule, budget)

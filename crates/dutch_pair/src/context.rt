@@ -17,13 +17,10 @@ use crate::colours_missed::is_same;
 use crate::group::split_first_group;
 use crate::reached::{ByNumber, Reached};
 use crate::seated::{Pair, lowest};
-use dutch_order::bracket::{Bracket, Shape};
-use dutch_order::numbers::{LIMIT, Numbers, numbered_from};
-use dutch_order::rules::Rule;
-use dutch_player::field::Field;
-use dutch_player::preference::{Kind, Pref};
+use dutch_order::{Bracket, LIMIT, Numbers, Rule, Shape, numbered_from};
+use dutch_player::{Field, Pref, Strength};
 use std::marker::Model;
-use trf16::cell::Colour;
+use trf16::Colour;
 
 /// A bracket of a field above all lower seats by rank.
 #[derive(Drop)]
@@ -44,17 +41,17 @@ impl<'a> Model for Context<'a> {
 
     ghost Value = { Context };
 
-    ghost view = { λ c. record { facts = c.field.now; stand = c.reached.now; lower = c.lower.now } };
+    ghost view = { λ c. record { facts = c.field.now; reached = c.reached.now; lower = c.lower.now } };
 
     ghost invariant = { λ c. IsRead c.field.now c.reached.now c.lower.now c.frame c.lowest c.next.now };
 }
 
-fn is_firm(kind: Kind) -> bool
-    ensures { result ≡ is_firm kind }
+fn is_firm(strength: Strength) -> bool
+    ensures { result ≡ is_firm strength }
 {
-    match kind {
-        Kind::Absolute | Kind::Strong => true,
-        Kind::Mild => false,
+    match strength {
+        Strength::Absolute | Strength::Strong => true,
+        Strength::Mild => false,
     }
 }
 
@@ -72,7 +69,7 @@ impl<'a> Context<'a> {
     /// Reads a bracket above all lower seats by rank.
     pub(crate) fn new(field: &'a Field, reached: &'a Reached, lower: &'a [u16]) -> Context<'a>
         requires { IsAbove field.now reached.now lower.now }
-        ensures { result ≡ record { facts = field.now; stand = reached.now; lower = lower.now } }
+        ensures { result ≡ record { facts = field.now; reached = reached.now; lower = lower.now } }
     {
         Context {
             field,
@@ -93,9 +90,9 @@ impl<'a> Context<'a> {
 
     /// The bracket.
     pub(crate) fn reached(&self) -> &'a Reached
-        ensures value { result.now ≡ self.now.stand }
-        ensures sound { IsOf self.now.facts self.now.stand }
-        ensures above { IsAbove self.now.facts self.now.stand self.now.lower }
+        ensures value { result.now ≡ self.now.reached }
+        ensures sound { IsOf self.now.facts self.now.reached }
+        ensures above { IsAbove self.now.facts self.now.reached self.now.lower }
     {
         self.reached
     }
@@ -103,7 +100,7 @@ impl<'a> Context<'a> {
     /// The seats below the bracket, by rank.
     pub(crate) fn lower(&self) -> &'a [u16]
         ensures value { result.now ≡ self.now.lower }
-        ensures few { length self.now.stand.seats + length result.now ≤ LIMIT }
+        ensures few { length self.now.reached.seats + length result.now ≤ LIMIT }
     {
         self.lower
     }
@@ -112,14 +109,14 @@ impl<'a> Context<'a> {
     #[tactic(auto, using(crate::proofs::NextGroups::is_next))]
     pub(crate) fn next(&self) -> &'a [u16]
         ensures value { result.now ≡ first_group self.now.facts (scoregroups self.now.facts self.now.lower) }
-        ensures sound { IsNext self.now.facts self.now.stand result.now }
+        ensures sound { IsNext self.now.facts self.now.reached result.now }
     {
         self.next
     }
 
     /// The bracket by scores.
     pub(crate) fn frame(&self) -> &Bracket
-        ensures { result.now ≡ frame_of self.now.facts self.now.stand }
+        ensures { result.now ≡ frame_of self.now.facts self.now.reached }
     {
         &self.frame
     }
@@ -127,23 +124,23 @@ impl<'a> Context<'a> {
     /// Who of its players may meet, and who may be left over, by number (C.1 to C.3).
     pub(crate) fn rule(&self) -> ByNumber<'a>
         ensures field { result.field.now ≡ self.now.facts }
-        ensures reached { result.reached.now ≡ self.now.stand }
-        ensures meets { ⟦<ByNumber<'a> as Rule>⟧.meets result ≡ numbers_meet self.now.facts self.now.stand }
-        ensures may_be_left { ⟦<ByNumber<'a> as Rule>⟧.may_be_left result ≡ number_may_be_left self.now.facts self.now.stand }
+        ensures reached { result.reached.now ≡ self.now.reached }
+        ensures meets { ⟦<ByNumber<'a> as Rule>⟧.meets result ≡ numbers_meet self.now.facts self.now.reached }
+        ensures may_be_left { ⟦<ByNumber<'a> as Rule>⟧.may_be_left result ≡ number_may_be_left self.now.facts self.now.reached }
     {
         self.reached.rule(self.field)
     }
 
     /// The lowest score, in half points.
     pub(crate) fn lowest(&self) -> u16
-        ensures { result ≡ lowest self.now.facts self.now.stand.seats }
+        ensures { result ≡ lowest self.now.facts self.now.reached.seats }
     {
         self.lowest
     }
 
     /// How many players the bracket has.
     pub(crate) fn len(&self) -> usize
-        ensures value { result ≡ length self.now.stand.seats }
+        ensures value { result ≡ length self.now.reached.seats }
         ensures few { result ≤ LIMIT }
     {
         self.reached.seats().len()
@@ -151,8 +148,8 @@ impl<'a> Context<'a> {
 
     /// The score of a number of the bracket, in half points.
     pub(crate) fn score(&self, number: u16) -> u16
-        requires { (0 < number) × (number ≤ length self.now.stand.seats) }
-        ensures value { result ≡ score_at self.now.facts (seat_of self.now.stand.seats number) }
+        requires { (0 < number) × (number ≤ length self.now.reached.seats) }
+        ensures value { result ≡ score_at self.now.facts (seat_of self.now.reached.seats number) }
         ensures few { result ≤ 2 * MOST_ROUNDS }
     {
         self.field.score(self.reached.seat(number))
@@ -161,7 +158,7 @@ impl<'a> Context<'a> {
     /// How many residents go down with a shape.
     pub(crate) fn residents_down(&self, shape: Shape) -> usize
         requires { shape.pairs ≤ LIMIT }
-        ensures { result ≡ residents_down self.now.stand shape }
+        ensures { result ≡ residents_down self.now.reached shape }
     {
         let residents = self.len().saturating_sub(self.reached.mdps());
         let pairs = shape.pairs.saturating_sub(shape.mdps);
@@ -172,9 +169,9 @@ impl<'a> Context<'a> {
 
     /// The numbers of the moved-down players.
     pub(crate) fn moved_down(&self) -> Numbers
-        ensures items { result.items ≡ numbers_from 1 self.now.stand.mdps }
-        ensures len { array_vec_len result ≡ self.now.stand.mdps }
-        ensures numbers { AllNumbers self.now.stand.seats result.items }
+        ensures items { result.items ≡ numbers_from 1 self.now.reached.mdps }
+        ensures len { array_vec_len result ≡ self.now.reached.mdps }
+        ensures numbers { AllNumbers self.now.reached.seats result.items }
     {
         numbered_from(1, self.reached().mdps())
     }
@@ -198,7 +195,7 @@ impl<'a> Context<'a> {
         ensures one { result ≤ 1 }
     {
         match self.field.preference(seat) {
-            Some(wanted) => u16::from(is_firm(wanted.kind) && is_same(wanted.colour, colour)),
+            Some(wanted) => u16::from(is_firm(wanted.strength) && is_same(wanted.colour, colour)),
             None => 0,
         }
     }
@@ -214,7 +211,7 @@ impl<'a> Context<'a> {
 
     /// Whether two numbers may meet, and neither misses his preference. It says no of a number that is not the bracket's.
     pub(crate) fn suits(&self, x: u16, y: u16) -> bool
-        ensures { result ≡ suits self.now.facts self.now.stand x y }
+        ensures { result ≡ suits self.now.facts self.now.reached x y }
     {
         self.reached.rule(self.field).may_meet(x, y)
             && !self.has_miss((self.reached.seat(x), self.reached.seat(y)))

@@ -7,26 +7,24 @@ ghost use Rattle.dutch_pair.specs.Seated.{seat_of, AllNumbers};
 ghost use Rattle.dutch_pair.specs.Completion.{Tells};
 ghost use Rattle.dutch_pair.specs.Shapes.{IsFirst, has_member};
 ghost use Rattle.dutch_pair.specs.Round.{is_penultimate, completable, eligible};
-ghost use Rattle.dutch_pair.specs.Eligible.{can_be_chosen};
+ghost use Rattle.dutch_pair.specs.Eligible.{Lists, can_be_chosen};
 ghost use Rattle.dutch_order.specs.Steps.{MatchStep, Spends};
 
 use crate::completion::{Answer, completes};
 use crate::context::Context;
-use crate::reached::{Kind, Reached, Seats, push_all};
+use crate::greatest::Lister;
+use crate::reached::{BracketKind, ByNumber, Reached, Seats, push_all};
 use crate::seated::seats_of;
 use crate::seats::seats;
-use dutch_order::bracket::Shape;
-use dutch_order::candidate::Candidate;
-use dutch_order::candidates::Candidates;
-use dutch_order::steps::{Budget, Step};
-use dutch_player::field::Field;
+use dutch_order::{Budget, Candidate, Shape, Step};
+use dutch_player::Field;
 
-impl Kind {
+impl BracketKind {
     /// Whether the bracket is paired again so that all lower players can be paired out.
     pub fn is_penultimate(self) -> bool
         ensures { result ≡ is_penultimate self }
     {
-        matches!(self, Kind::Penultimate)
+        matches!(self, BracketKind::Penultimate)
     }
 }
 
@@ -57,10 +55,10 @@ pub(crate) fn leaves_completable(
     candidate: &Candidate,
     budget: &mut Budget,
 ) -> Answer
-    requires numbers { AllNumbers context.now.stand.seats candidate.now.down }
-    requires few { length candidate.now.down ≤ length context.now.stand.seats }
+    requires numbers { AllNumbers context.now.reached.seats candidate.now.down }
+    requires few { length candidate.now.down ≤ length context.now.reached.seats }
     requires within { budget.old.used ≤ budget.old.limit }
-    ensures answer { Tells result (completable context.now.facts (map (seat_of context.now.stand.seats) candidate.now.down ++ context.now.lower)) (budget.new.used ≡ budget.new.limit) }
+    ensures answer { Tells result (completable context.now.facts (map (seat_of context.now.reached.seats) candidate.now.down ++ context.now.lower)) (budget.new.used ≡ budget.new.limit) }
     ensures spends { Spends budget.old budget.new }
 {
     let players = seats_with_lower(context.reached(), candidate.down(), context.lower());
@@ -75,9 +73,9 @@ pub(crate) fn can_be_chosen(
     candidate: &Candidate,
     budget: &mut Budget,
 ) -> Answer
-    requires left { candidate.now.down ≡ down (frame_of context.now.facts context.now.stand) candidate.now.lists }
+    requires left { candidate.now.down ≡ down (frame_of context.now.facts context.now.reached) candidate.now.lists }
     requires within { budget.old.used ≤ budget.old.limit }
-    ensures answer { Tells result (can_be_chosen context.now.facts context.now.stand context.now.lower candidate.now.lists) (budget.new.used ≡ budget.new.limit) }
+    ensures answer { Tells result (can_be_chosen context.now.facts context.now.reached context.now.lower candidate.now.lists) (budget.new.used ≡ budget.new.limit) }
     ensures spends { Spends budget.old budget.new }
 {
     if !context.reached().kind().is_penultimate() {
@@ -86,32 +84,35 @@ pub(crate) fn can_be_chosen(
     leaves_completable(context, candidate, budget)
 }
 
-/// The first candidate of a shape that can be chosen.
+/// Draws the first candidate of a shape that can be chosen.
 #[tactic(auto, using(crate::proofs::EligibleLemmas::first_fit, crate::proofs::EligibleLemmas::passes_unfit, crate::proofs::EligibleLemmas::has_none))]
 pub(crate) fn first_eligible(
     context: &Context<'_>,
+    lister: &mut Lister<'_, ByNumber<'_>>,
     shape: Shape,
     budget: &mut Budget,
-) -> Step<Candidate>
-    requires fits { Fits (frame_of context.now.facts context.now.stand) shape }
+) -> Step<()>
+    requires fits { Fits (frame_of context.now.facts context.now.reached) shape }
+    requires lists { Lists context.now.facts context.now.reached lister.old.listing }
     requires within { budget.old.used ≤ budget.old.limit }
     ensures answer { MatchStep result
-        (IsFirst (eligible context.now.facts context.now.stand context.now.lower shape) (frame_of context.now.facts context.now.stand))
-        (has_member (eligible context.now.facts context.now.stand context.now.lower shape) ≡ false)
+        (λ _. IsFirst (eligible context.now.facts context.now.reached context.now.lower shape) (frame_of context.now.facts context.now.reached) lister.new.drawn)
+        (has_member (eligible context.now.facts context.now.reached context.now.lower shape) ≡ false)
         (budget.new.used ≡ budget.new.limit) }
+    ensures lists { Lists context.now.facts context.now.reached lister.new.listing }
     ensures spends { Spends budget.old budget.new }
 {
-    let rule = context.rule();
-    let mut candidates = Candidates::new(context.frame(), shape, &rule);
+    lister.listing.restart(shape);
     loop {
-        match candidates.next(budget) {
-            Step::Found(candidate) => match can_be_chosen(context, &candidate, budget) {
-                Answer::Yes => return Step::Found(candidate),
-                Answer::No => {}
-                Answer::Undecided => return Step::Undecided,
-            },
+        match lister.listing.put_next(&mut lister.drawn, budget) {
+            Step::Found(()) => {}
             Step::End => return Step::End,
             Step::Undecided => return Step::Undecided,
+        }
+        match can_be_chosen(context, &lister.drawn, budget) {
+            Answer::Yes => return Step::Found(()),
+            Answer::No => {}
+            Answer::Undecided => return Step::Undecided,
         }
     }
 }

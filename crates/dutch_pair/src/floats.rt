@@ -7,11 +7,10 @@ ghost use Rattle.dutch_pair.specs.Quality.{is_float, again, placed_all, differen
 
 use crate::differences::put;
 use crate::seated::{Pair, Seated, difference_down, goes, is_uneven};
-use dutch_order::numbers::{LIMIT, Numbers};
-use dutch_player::field::Field;
-use dutch_player::float::Float;
+use dutch_order::{LIMIT, Numbers};
+use dutch_player::{Field, Float};
 
-fn is_float(float: Float, had: Option<Float>) -> bool
+pub(crate) fn is_float(float: Float, had: Option<Float>) -> bool
     ensures { result ≡ is_float float had }
 {
     match (float, had) {
@@ -27,14 +26,14 @@ fn put_pairs(field: &Field, float: Float, back: u8, pairs: &[Pair], by: &mut Num
     requires one { 1 ≤ back }
     requires two { back ≤ 2 }
     ensures items { by.new.items ≡ placed_all by.old.items
-        (map (λ mover. mover.by) (again field.now float back (map (goes field.now float) (filter (is_uneven field.now) pairs.now)))) }
+        (map (λ floater. floater.by) (again field.now float back (map (goes field.now float) (filter (is_uneven field.now) pairs.now)))) }
     ensures len { array_vec_len by.new ≤ array_vec_len by.old + length pairs.now }
 {
     for pair in pairs {
         if is_uneven(field, *pair) {
-            let mover = goes(field, float, *pair);
-            if is_float(float, field.float(mover.seat, back)) {
-                put(by, mover.by);
+            let floater = goes(field, float, *pair);
+            if is_float(float, field.float(floater.seat, back)) {
+                put(by, floater.by);
             }
         }
     }
@@ -46,7 +45,7 @@ fn put_down(field: &Field, least: u16, back: u8, down: &[u16], by: &mut Numbers)
     requires room { array_vec_len by.old + length down.now ≤ LIMIT }
     requires one { 1 ≤ back }
     requires two { back ≤ 2 }
-    ensures items { by.new.items ≡ placed_all by.old.items (map (λ mover. mover.by) (again field.now Down back (map (floats_down field.now least) down.now))) }
+    ensures items { by.new.items ≡ placed_all by.old.items (map (λ floater. floater.by) (again field.now Down back (map (floats_down field.now least) down.now))) }
 {
     for seat in down {
         if is_float(Float::Down, field.float(*seat, back)) {

@@ -1,29 +1,30 @@
 // The floor of a beginning: a quality that no candidate with it is better than (C.04.3 C.6 to C.19). It is asked at each beginning
 // that a choice comes to, so it takes no memory and looks at each player a few times.
-ghost use Rattle.std.specs.Prelude.{◌≡◌, ◌<◌, ◌≤◌, ◌||◌, ◌&&◌, true, length};
+ghost use Rattle.std.specs.Prelude.{◌≡◌, ◌<◌, ◌≤◌, ◌||◌, ◌&&◌, IfSome, true, length};
 ghost use Rattle.dutch_order.specs.Arrangements.{Fits};
 ghost use Rattle.dutch_order.specs.declared.numbers.TheConstants.{LIMIT};
 ghost use Rattle.dutch_pair.specs.QualityIn.{quality_in};
 ghost use Rattle.dutch_pair.specs.Beginnings.{fixed};
 ghost use Rattle.dutch_pair.specs.PsdFloors.{psd_with};
 ghost use Rattle.dutch_pair.specs.Reached.{IsOf, frame_of};
-ghost use Rattle.dutch_pair.specs.Seated.{all_pairs, AllNumbers, AllPairs, HasSeats};
+ghost use Rattle.dutch_pair.specs.Seated.{all_pairs, AllNumbers, HasSeats};
 ghost use Rattle.dutch_pair.specs.Outlooks.{awaited};
-ghost use Rattle.dutch_pair.specs.FloorOf.{HasNumbers, is_flat, is_uniform, is_known, has_s1, residents_score, psd_by, more_by, floor_by, floor_of};
+ghost use Rattle.dutch_pair.specs.FloorOf.{HasNumbers, is_flat, is_uniform, is_known, has_s1, residents_score, psd_over, more_by, more_in, floor_by, floor_by_seats, floor_knowing, floor_of};
+ghost use Rattle.dutch_pair.specs.Floors.{floor_over};
+ghost use Rattle.dutch_pair.specs.KnownBeside.{AreKnown, known_by};
 
 use crate::begun::{Begun, fill_fixed, fixed_lists, is_of_shape};
 use crate::colour_floor::{missed, missed_strong, more_missed};
 use crate::context::Context;
 use crate::differences::fill_psd;
+use crate::known::{Known, fill_known};
 use crate::lonely::lonely;
 use crate::outlook::Outlook;
 use crate::pair_facts::PairFacts;
 use crate::psd_floor::fill_psd_with;
 use crate::quality::{NextValue, Quality, Room, fill_others};
-use crate::seated::{Pair, Seated};
-use dutch_order::bracket::Shape;
-use dutch_order::numbers::{LIMIT, Numbers, numbered_from};
-use dutch_order::prefix::{Filling, Prefix};
+use crate::seated::Seated;
+use dutch_order::{Filling, LIMIT, Numbers, Prefix, Shape, numbered_from};
 use std::marker::Model;
 
 /// What the floors of a bracket and a shape stand on, read once for a choice.
@@ -50,16 +51,16 @@ impl<'a> Model for Floors<'a> {
 
     ghost Value = { Basis };
 
-    ghost view = { λ f. record { facts = f.pairs.facts; stand = f.pairs.stand; shape = f.shape; outlook = f.outlook } };
+    ghost view = { λ f. record { facts = f.pairs.facts; reached = f.pairs.reached; shape = f.shape; outlook = f.outlook } };
 
-    ghost invariant = { λ f. (Fits (frame_of f.pairs.facts f.pairs.stand) f.shape)
-        × (f.flat ≡ is_flat f.pairs.facts f.pairs.stand) × (f.uniform ≡ is_uniform f.pairs.facts f.pairs.stand f.shape)
+    ghost invariant = { λ f. (Fits (frame_of f.pairs.facts f.pairs.reached) f.shape)
+        × (f.flat ≡ is_flat f.pairs.facts f.pairs.reached) × (f.uniform ≡ is_uniform f.pairs.facts f.pairs.reached f.shape)
         × (f.first.items ≡ numbers_from 1 f.shape.mdps) };
 }
 
 /// Whether there is a resident, and all residents have one score.
 fn is_flat(context: &Context<'_>) -> bool
-    ensures { result ≡ is_flat context.now.facts context.now.stand }
+    ensures { result ≡ is_flat context.now.facts context.now.reached }
 {
     let (first, last) = (context.reached().mdps() + 1, context.len());
     if last < first {
@@ -70,8 +71,8 @@ fn is_flat(context: &Context<'_>) -> bool
 
 /// Whether all S1 of a shape leave moved-down players with the same scores.
 fn is_uniform(context: &Context<'_>, shape: Shape) -> bool
-    requires { Fits (frame_of context.now.facts context.now.stand) shape }
-    ensures { result ≡ is_uniform context.now.facts context.now.stand shape }
+    requires { Fits (frame_of context.now.facts context.now.reached) shape }
+    ensures { result ≡ is_uniform context.now.facts context.now.reached shape }
 {
     let mdps = context.reached().mdps();
     if shape.mdps == 0 || shape.mdps == mdps {
@@ -94,8 +95,8 @@ impl<'a> Floors<'a> {
     /// The floors of a shape, for what the next bracket can be at best.
     #[tactic(auto, using(crate::proofs::FloorLemmas::small_mdps))]
     pub(crate) fn new(pairs: PairFacts<'a>, shape: Shape, outlook: Outlook) -> Floors<'a>
-        requires { Fits (frame_of pairs.facts pairs.stand) shape }
-        ensures { result ≡ record { facts = pairs.entry.facts; stand = pairs.entry.stand; shape = shape; outlook = outlook } }
+        requires { Fits (frame_of pairs.facts pairs.reached) shape }
+        ensures { result ≡ record { facts = pairs.entry.facts; reached = pairs.entry.reached; shape = shape; outlook = outlook } }
     {
         let _reached = pairs.context().reached();
         let flat = is_flat(pairs.context());
@@ -114,8 +115,8 @@ impl<'a> Floors<'a> {
     #[tactic(auto, using(crate::proofs::FloorLemmas::small_pairs))]
     fn shape(&self) -> Shape
         ensures value { result ≡ self.now.shape }
-        ensures fits { Fits (frame_of self.now.facts self.now.stand) self.now.shape }
-        ensures of { IsOf self.now.facts self.now.stand }
+        ensures fits { Fits (frame_of self.now.facts self.now.reached) self.now.shape }
+        ensures of { IsOf self.now.facts self.now.reached }
         ensures small { result.pairs ≤ LIMIT }
     {
         let _reached = self.pairs.context().reached();
@@ -125,10 +126,10 @@ impl<'a> Floors<'a> {
     /// Fills a list with the PSD that S1 gives where all residents have one score.
     #[tactic(auto, using(crate::proofs::FloorLemmas::has_room))]
     fn fill_psd_with(&self, s1: &[u16], psd: &mut Numbers)
-        requires resident { self.now.stand.mdps < length self.now.stand.seats }
-        requires numbers { AllNumbers self.now.stand.seats s1.now }
+        requires resident { self.now.reached.mdps < length self.now.reached.seats }
+        requires numbers { AllNumbers self.now.reached.seats s1.now }
         requires few { length s1.now ≤ self.now.shape.mdps }
-        ensures { psd.new.items ≡ psd_with self.now.facts self.now.stand self.now.shape (residents_score self.now.facts self.now.stand) s1.now }
+        ensures { psd.new.items ≡ psd_with self.now.facts self.now.reached self.now.shape (residents_score self.now.facts self.now.reached) s1.now }
     {
         let context = self.pairs.context();
         let score = context.score(context.reached().mdps() as u16 + 1);
@@ -137,23 +138,22 @@ impl<'a> Floors<'a> {
 
     /// The best that the next bracket can be behind arrangements with an S1 (C.7).
     fn awaited(&self, filling: Filling, s1: &[u16]) -> &NextValue
-        ensures { result.now ≡ awaited self.now.facts self.now.stand self.now.shape self.now.outlook filling s1.now }
+        ensures { result.now ≡ awaited self.now.facts self.now.reached self.now.shape self.now.outlook filling s1.now }
     {
         self.outlook
             .awaited(self.pairs.context(), self.shape(), filling, s1)
     }
 
     /// How many more miss than in the pairs that are fixed (C.10).
-    fn more_by(&self, filling: Filling, begun: &Begun<'_>, pairs: &[Pair]) -> usize
-        requires numbers { HasNumbers self.now.stand begun.now }
-        requires pairs { pairs.now ≡ all_pairs self.now.stand.seats begun.now }
-        requires inside { AllPairs self.now.facts pairs.now }
-        requires few { length pairs.now ≤ LIMIT }
+    fn more_by(&self, filling: Filling, begun: &Begun<'_>, seated: &Seated) -> usize
+        requires numbers { HasNumbers self.now.reached begun.now }
+        requires seated { seated.now ≡ fixed self.now.facts self.now.reached begun.now }
+        requires inside { HasSeats self.now.facts seated.now }
         ensures value { result ≡ more_by filling self.now begun.now }
         ensures few { result ≤ LIMIT }
     {
         let shape = self.shape();
-        let more = more_missed(self.pairs.context(), shape, pairs, false);
+        let more = more_missed(self.pairs.context(), shape, seated, false);
         match filling {
             Filling::S1 | Filling::S2 => return more,
             Filling::S2r => return more.max(lonely(&self.pairs, shape, begun)),
@@ -162,12 +162,11 @@ impl<'a> Floors<'a> {
 
     /// Fills a list with the PSD (C.6).
     #[tactic(auto, using(crate::proofs::FloorLemmas::first_numbers, crate::proofs::FloorLemmas::first_length))]
-    fn fill_psd(&self, filling: Filling, begun: &Begun<'_>, seated: &Seated, psd: &mut Numbers)
-        requires seated { seated.now ≡ fixed self.now.facts self.now.stand begun.now }
+    fn fill_psd(&self, filling: Filling, s1: &[u16], seated: &Seated, psd: &mut Numbers)
         requires inside { HasSeats self.now.facts seated.now }
-        requires numbers { AllNumbers self.now.stand.seats begun.now.s1 }
-        requires few { length begun.now.s1 ≤ self.now.shape.mdps }
-        ensures { psd.new.items ≡ psd_by filling self.now begun.now }
+        requires numbers { AllNumbers self.now.reached.seats s1.now }
+        requires few { length s1.now ≤ self.now.shape.mdps }
+        ensures { psd.new.items ≡ psd_over filling self.now s1.now seated.now }
     {
         let _shape = self.shape();
         if !self.flat {
@@ -175,53 +174,112 @@ impl<'a> Floors<'a> {
         }
         match filling {
             Filling::S1 => return self.fill_psd_with(&self.first, psd),
-            Filling::S2 | Filling::S2r => return self.fill_psd_with(begun.s1, psd),
+            Filling::S2 | Filling::S2r => return self.fill_psd_with(s1, psd),
         }
     }
 
-    /// Fills the floor by the list that is being filled and those that are fixed.
-    fn fill_floor(&self, filling: Filling, begun: &Begun<'_>, room: &mut Room)
-        requires numbers { HasNumbers self.now.stand begun.now }
-        requires few { length begun.now.s1 ≤ self.now.shape.mdps }
-        ensures { quality_in room.new.quality ≡ floor_by filling self.now begun.now }
+    /// Fills the floor by what is known by seats, where so many more miss (C.10).
+    fn fill_over(&self, filling: Filling, s1: &[u16], more: usize, room: &mut Room)
+        requires inside { HasSeats self.now.facts room.old.seated }
+        requires numbers { AllNumbers self.now.reached.seats s1.now }
+        requires few { length s1.now ≤ self.now.shape.mdps }
+        requires more { more ≤ LIMIT }
+        ensures { quality_in room.new.quality ≡ floor_over self.now.facts (psd_over filling self.now s1.now room.old.seated)
+            (awaited self.now.facts self.now.reached self.now.shape self.now.outlook filling s1.now) more
+            (more_in true self.now.facts self.now.reached self.now.shape room.old.seated) room.old.seated }
     {
         let context = self.pairs.context();
-        let seated = &mut room.seated;
+        let seated = &room.seated;
         let quality = &mut room.quality;
-        fill_fixed(context, begun, seated);
-        let more = self.more_by(filling, begun, &seated.pairs);
-        let more_strong = more_missed(context, self.shape(), &seated.pairs, true);
-        self.fill_psd(filling, begun, seated, &mut quality.psd);
-        let next = self.awaited(filling, begun.s1);
+        let more_strong = more_missed(context, self.shape(), seated, true);
+        self.fill_psd(filling, s1, seated, &mut quality.psd);
+        let next = self.awaited(filling, s1);
         quality.put_next(next.pairs, &next.psd);
         quality.missed_preferences = missed(context, &seated.pairs) + more as u16;
         quality.missed_strong = missed_strong(context, &seated.pairs) + more_strong as u16;
         fill_others(context.field(), seated, quality);
     }
 
-    /// Fills the floor of a beginning. None is known where its lists are not of the bracket and the shape, or where S1 is not chosen and
-    /// it matters which is.
-    #[tactic(auto, using(crate::proofs::FloorLemmas::numbers_fit, crate::proofs::FloorLemmas::first_few))]
+    /// Fills the floor by the list that is being filled and those that are fixed.
+    fn fill_floor(&self, filling: Filling, begun: &Begun<'_>, room: &mut Room)
+        requires numbers { HasNumbers self.now.reached begun.now }
+        requires few { length begun.now.s1 ≤ self.now.shape.mdps }
+        ensures { quality_in room.new.quality ≡ floor_by filling self.now begun.now }
+    {
+        fill_fixed(self.pairs.context(), begun, &mut room.seated);
+        let more = self.more_by(filling, begun, &room.seated);
+        self.fill_over(filling, begun.s1, more, room);
+    }
+
+    /// The same with what is known beside them. It says no where there is no room for a pair more.
+    fn fill_floor_knowing(
+        &self,
+        filling: Filling,
+        begun: &Begun<'_>,
+        known: Known,
+        room: &mut Room,
+    ) -> bool
+        requires numbers { HasNumbers self.now.reached begun.now }
+        requires few { length begun.now.s1 ≤ self.now.shape.mdps }
+        requires seats { AreKnown self.now.facts known }
+        ensures { result ≡ true → quality_in room.new.quality
+            ≡ floor_by_seats filling self.now begun.now.s1 (known_by self.now.facts self.now.reached known (all_pairs self.now.reached.seats begun.now)) }
+    {
+        let context = self.pairs.context();
+        if !fill_known(context, begun, known, &mut room.seated) {
+            return false;
+        }
+        let more = more_missed(context, self.shape(), &room.seated, false);
+        self.fill_over(filling, begun.s1, more, room);
+        true
+    }
+
+    /// Whether a floor of a beginning is known: not where its lists are not of the bracket and the shape, nor where S1 is not chosen and it
+    /// matters which is.
+    fn is_known(&self, prefix: &Prefix<'_>) -> bool
+        ensures { result ≡ is_known self.now prefix.now }
+    {
+        let begun = fixed_lists(prefix);
+        if !is_of_shape(self.pairs.context().reached(), self.shape(), &begun) {
+            return false;
+        }
+        has_s1(prefix.filling()) || self.uniform
+    }
+
+    /// Fills the floor of a beginning, where one is known.
+    #[tactic(auto, using(crate::proofs::FloorLemmas::known_numbers, crate::proofs::FloorLemmas::known_few))]
     pub(crate) fn floor(&self, prefix: &Prefix<'_>, room: &mut Room) -> bool
         ensures known { result ≡ is_known self.now prefix.now }
         ensures value { result ≡ true → quality_in room.new.quality ≡ floor_of self.now prefix.now }
     {
-        let begun = fixed_lists(prefix);
-        let shape = self.shape();
-        if !is_of_shape(self.pairs.context().reached(), shape, &begun) {
+        let _shape = self.shape();
+        if !self.is_known(prefix) {
             return false;
         }
-        if !has_s1(prefix.filling()) && !self.uniform {
-            return false;
-        }
-        self.fill_floor(prefix.filling(), &begun, room);
+        self.fill_floor(prefix.filling(), &fixed_lists(prefix), room);
         true
     }
 
-    /// The quality that a first pass aims at, where all residents have one score: what a beginning with the first S1 promises up to
-    /// C.11. Any aim serves: what is chosen of the candidates that it is not better than is chosen of all.
+    /// Fills the floor of a beginning of which something more is known, where one is known.
+    #[tactic(auto, using(crate::proofs::FloorLemmas::known_numbers, crate::proofs::FloorLemmas::known_few))]
+    pub(crate) fn floor_knowing(&self, known: Known, prefix: &Prefix<'_>, room: &mut Room) -> bool
+        requires { AreKnown self.now.facts known }
+        ensures known { result ≡ true → is_known self.now prefix.now ≡ true }
+        ensures value { result ≡ true → quality_in room.new.quality ≡ floor_knowing self.now known prefix.now }
+    {
+        let _shape = self.shape();
+        if !self.is_known(prefix) {
+            return false;
+        }
+        self.fill_floor_knowing(prefix.filling(), &fixed_lists(prefix), known, room)
+    }
+
+    /// The quality that a first pass aims at, where all residents have one score: what a beginning with the first S1, and what is known
+    /// beside it, promises up to C.11. Any aim serves: what is chosen of the candidates that it is not better than is chosen of all.
     #[tactic(auto, using(crate::proofs::FloorLemmas::first_length, crate::proofs::FloorLemmas::first_numbers))]
-    pub(crate) fn aim(&self) -> Option<Quality> {
+    pub(crate) fn aim(&self, known: Option<Known>) -> Option<Quality>
+        requires { IfSome known (AreKnown self.now.facts) }
+    {
         if !self.flat {
             return None;
         }
@@ -233,7 +291,14 @@ impl<'a> Floors<'a> {
             s2r: &[],
         };
         let mut room = Room::default();
-        self.fill_floor(Filling::S2, &begun, &mut room);
+        match known {
+            Some(known) => {
+                if !self.fill_floor_knowing(Filling::S2, &begun, known, &mut room) {
+                    return None;
+                }
+            }
+            None => self.fill_floor(Filling::S2, &begun, &mut room),
+        }
         Some(room.quality.with_the_worst_floats())
     }
 }

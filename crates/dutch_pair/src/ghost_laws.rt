@@ -5,10 +5,10 @@ ghost use Rattle.dutch_order.specs.Choices.{numbers_from};
 ghost use Rattle.dutch_order.specs.Keys.{IsIn};
 ghost use Rattle.dutch_order.specs.Arrangements.{Frame, Arrangement, IsBracket, arrangements, candidates, left_of};
 ghost use Rattle.dutch_player.specs.Facts.{Facts};
-ghost use Rattle.dutch_pair.specs.declared.reached.Kind.TheVariants.{Ordinary};
+ghost use Rattle.dutch_pair.specs.declared.reached.BracketKind.TheVariants.{Ordinary};
 ghost use Rattle.dutch_pair.specs.Completion.{can_cover};
 ghost use Rattle.dutch_pair.specs.Seated.{seat_of, score_at};
-ghost use Rattle.dutch_pair.specs.Reached.{Stand, IsOf, frame_of, numbers_meet, number_may_be_left};
+ghost use Rattle.dutch_pair.specs.Reached.{Reached, IsOf, frame_of, numbers_meet, number_may_be_left};
 ghost use Rattle.dutch_pair.specs.Shapes.{fits, shapes_with, first_with, greatest_shape};
 ghost use Rattle.dutch_pair.specs.NextBracket.{IsFlat, IsNext, is_lower, psd_in, value_of, value_in};
 ghost use Rattle.dutch_pair.specs.Round.{is_penultimate, downfloaters, eligible};
@@ -20,9 +20,9 @@ ghost use Rattle.dutch_pair.specs.Takers.{can_go_out};
 /// Where as many downfloaters as a number of pairs leaves cannot be paired out with the lower players, whoever they are, a penultimate
 /// bracket has no candidate with so many pairs.
 pub fn a_count_of_downfloaters_tells_of_pairs()
-    ensures { (facts : Facts) (stand : Stand) (lower : List ℕ) → is_penultimate stand.kind ≡ true → stand.mdps ≤ length stand.seats → (pairs : ℕ)
-        → can_go_out facts stand.seats (length stand.seats - 2 * pairs) lower ≡ false
-        → first_with (eligible facts stand lower) (filter (fits (frame_of facts stand)) (shapes_with pairs)) ≡ None }
+    ensures { (facts : Facts) (reached : Reached) (lower : List ℕ) → is_penultimate reached.kind ≡ true → reached.mdps ≤ length reached.seats → (pairs : ℕ)
+        → can_go_out facts reached.seats (length reached.seats - 2 * pairs) lower ≡ false
+        → first_with (eligible facts reached lower) (filter (fits (frame_of facts reached)) (shapes_with pairs)) ≡ None }
 {}
 
 /// A rule by which no fewer may meet has no fewer pairs in a bracket with the same scores.
@@ -34,52 +34,52 @@ pub fn a_weaker_rule_has_no_fewer_pairs()
 
 /// In a bracket whose residents have one score no arrangement has a lower PSD than the floor for as many pairs.
 pub fn no_psd_is_below_the_floor()
-    ensures { (facts : Facts) (stand : Stand) → IsOf facts stand → IsFlat facts stand → (shape : Shape) (a : Arrangement) → shape.mdps ≤ shape.pairs
-        → IsIn a (arrangements (frame_of facts stand) shape)
-        → is_lower (psd_in facts stand a) (floor_psd facts stand (score_at facts (seat_of stand.seats (stand.mdps + 1))) shape.pairs) ≡ false }
+    ensures { (facts : Facts) (reached : Reached) → IsOf facts reached → IsFlat facts reached → (shape : Shape) (a : Arrangement) → shape.mdps ≤ shape.pairs
+        → IsIn a (arrangements (frame_of facts reached) shape)
+        → is_lower (psd_in facts reached a) (floor_psd facts reached (score_at facts (seat_of reached.seats (reached.mdps + 1))) shape.pairs) ≡ false }
 {}
 
 /// What a bracket that is not a last one can be is not better than what a weaker rule finds, with the floor of its PSD.
 pub fn no_value_is_better_than_by_a_weaker_rule()
-    ensures { (facts : Facts) (stand : Stand) → IsOf facts stand → IsFlat facts stand → (frame_of facts stand).last ≡ false
-        → (meets : ℕ → ℕ → Bool) (left : ℕ → Bool) → ((i j : ℕ) → numbers_meet facts stand i j ≡ true → meets i j ≡ true)
-        → ((i : ℕ) → number_may_be_left facts stand i ≡ true → left i ≡ true)
-        → (most : Shape) → greatest_shape (candidates meets left (frame_of facts stand)) (frame_of facts stand) ≡ Some most
-        → IsNotBetter (value_of facts stand) most.pairs (floor_psd facts stand (score_at facts (seat_of stand.seats (stand.mdps + 1))) most.pairs) }
+    ensures { (facts : Facts) (reached : Reached) → IsOf facts reached → IsFlat facts reached → (frame_of facts reached).last ≡ false
+        → (meets : ℕ → ℕ → Bool) (left : ℕ → Bool) → ((i j : ℕ) → numbers_meet facts reached i j ≡ true → meets i j ≡ true)
+        → ((i : ℕ) → number_may_be_left facts reached i ≡ true → left i ≡ true)
+        → (most : Shape) → greatest_shape (candidates meets left (frame_of facts reached)) (frame_of facts reached) ≡ Some most
+        → IsNotBetter (value_of facts reached) most.pairs (floor_psd facts reached (score_at facts (seat_of reached.seats (reached.mdps + 1))) most.pairs) }
 {}
 
 /// What an arrangement with this Limbo leaves for the next bracket is not better than what ghosts find.
 pub fn ghosts_tell_of_the_next_bracket()
-    ensures { (facts : Facts) (stand : Stand) → IsOf facts stand → IsFlat facts stand → (next : List ℕ) → IsNext facts stand next
-        → (shape : Shape) (a : Arrangement) → IsIn a (arrangements (frame_of facts stand) shape) → stand.kind ≡ Ordinary
-        → (limbo : List ℕ) → map (λ i. score_at facts (seat_of stand.seats i)) (left_of (numbers_from 1 stand.mdps) a.s1) ≡ limbo
+    ensures { (facts : Facts) (reached : Reached) → IsOf facts reached → IsFlat facts reached → (next : List ℕ) → IsNext facts reached next
+        → (shape : Shape) (a : Arrangement) → IsIn a (arrangements (frame_of facts reached) shape) → reached.kind ≡ Ordinary
+        → (limbo : List ℕ) → map (λ i. score_at facts (seat_of reached.seats i)) (left_of (numbers_from 1 reached.mdps) a.s1) ≡ limbo
         → (most : Shape)
-        → greatest_shape (candidates (ghosts_meet facts stand.seats (length (ghost_scores facts stand shape limbo)) next)
-        (ghost_may_be_left facts stand.seats (length (ghost_scores facts stand shape limbo)) next)
-        (ghost_frame facts (ghost_scores facts stand shape limbo) next)) (ghost_frame facts (ghost_scores facts stand shape limbo) next) ≡ Some most
-        → IsNotBetter (value_in Ordinary facts (downfloaters facts stand a) next) most.pairs
-        (ghost_floor (ghost_scores facts stand shape limbo) (score_at facts (slice_index next 0)) (length next) most.pairs) }
+        → greatest_shape (candidates (ghosts_meet facts reached.seats (length (ghost_scores facts reached shape limbo)) next)
+        (ghost_may_be_left facts reached.seats (length (ghost_scores facts reached shape limbo)) next)
+        (ghost_frame facts (ghost_scores facts reached shape limbo) next)) (ghost_frame facts (ghost_scores facts reached shape limbo) next) ≡ Some most
+        → IsNotBetter (value_in Ordinary facts (downfloaters facts reached a) next) most.pairs
+        (ghost_floor (ghost_scores facts reached shape limbo) (score_at facts (slice_index next 0)) (length next) most.pairs) }
 {}
 
 /// Ghosts in front of the next scoregroup are a bracket.
 pub fn ghosts_are_a_bracket()
-    ensures { (facts : Facts) (stand : Stand) → IsOf facts stand → IsFlat facts stand → (next : List ℕ) → IsNext facts stand next → (shape : Shape)
-        → IsBracket (ghost_frame facts (first_ghosts facts stand shape) next).scores (length (first_ghosts facts stand shape)) }
+    ensures { (facts : Facts) (reached : Reached) → IsOf facts reached → IsFlat facts reached → (next : List ℕ) → IsNext facts reached next → (shape : Shape)
+        → IsBracket (ghost_frame facts (first_ghosts facts reached shape) next).scores (length (first_ghosts facts reached shape)) }
 {}
 
 /// What the next bracket is worth by ghosts: no arrangement with the Limbo of the first S1 has a better value. Where all S1 leave the
 /// same scores, every arrangement has that Limbo.
 pub fn no_value_is_better_than_by_ghosts()
-    ensures value { (facts : Facts) (stand : Stand) → IsOf facts stand → IsFlat facts stand → (shape : Shape) (a : Arrangement)
-        → IsIn a (arrangements (frame_of facts stand) shape) → stand.kind ≡ Ordinary → (next : List ℕ) → IsNext facts stand next
-        → map (λ i. score_at facts (seat_of stand.seats i)) (left_of (numbers_from 1 stand.mdps) a.s1) ≡ first_limbo facts stand shape
-        → IsNotBetter (value_in Ordinary facts (downfloaters facts stand a) next) (ghost_value facts stand shape next).pairs (ghost_value facts stand shape next).psd }
-    ensures limbo { (facts : Facts) (stand : Stand) → IsOf facts stand → IsFlat facts stand → (shape : Shape) (a : Arrangement)
-        → IsIn a (arrangements (frame_of facts stand) shape) → IsUniform facts stand shape
-        → map (λ i. score_at facts (seat_of stand.seats i)) (left_of (numbers_from 1 stand.mdps) a.s1) ≡ first_limbo facts stand shape }
+    ensures value { (facts : Facts) (reached : Reached) → IsOf facts reached → IsFlat facts reached → (shape : Shape) (a : Arrangement)
+        → IsIn a (arrangements (frame_of facts reached) shape) → reached.kind ≡ Ordinary → (next : List ℕ) → IsNext facts reached next
+        → map (λ i. score_at facts (seat_of reached.seats i)) (left_of (numbers_from 1 reached.mdps) a.s1) ≡ first_limbo facts reached shape
+        → IsNotBetter (value_in Ordinary facts (downfloaters facts reached a) next) (ghost_value facts reached shape next).pairs (ghost_value facts reached shape next).psd }
+    ensures limbo { (facts : Facts) (reached : Reached) → IsOf facts reached → IsFlat facts reached → (shape : Shape) (a : Arrangement)
+        → IsIn a (arrangements (frame_of facts reached) shape) → IsUniform facts reached shape
+        → map (λ i. score_at facts (seat_of reached.seats i)) (left_of (numbers_from 1 reached.mdps) a.s1) ≡ first_limbo facts reached shape }
 {}
 
 /// Without ghosts: what a bracket can be is not better than half its players in pairs, with no PSD at all.
 pub fn no_value_has_more_than_half_the_players_in_pairs()
-    ensures { (facts : Facts) (stand : Stand) → IsNotBetter (value_of facts stand) (length stand.seats / 2) [] }
+    ensures { (facts : Facts) (reached : Reached) → IsNotBetter (value_of facts reached) (length reached.seats / 2) [] }
 {}

@@ -4,7 +4,7 @@ ghost use Rattle.std.specs.Prelude.{◌≡◌, ◌+◌, ◌-◌, ◌*◌, ◌<�
 ghost use Rattle.std.specs.Option.{MatchOption};
 ghost use Rattle.arrayvec.specs.ArrayVec.{array_vec_len};
 ghost use Rattle.dutch_order.specs.Arrangements.{Fits, IsBracket, left_of};
-ghost use Rattle.dutch_pair.specs.declared.reached.Kind.TheVariants.{Ordinary};
+ghost use Rattle.dutch_pair.specs.declared.reached.BracketKind.TheVariants.{Ordinary};
 ghost use Rattle.dutch_pair.specs.Ghosts.{ghost_frame};
 ghost use Rattle.dutch_pair.specs.GhostValues.{first_limbo, first_ghosts, floor_held, ghost_value};
 ghost use Rattle.dutch_pair.specs.NextBracket.{IsFlat};
@@ -18,21 +18,19 @@ ghost use Rattle.dutch_order.specs.Steps.{Spends};
 use crate::context::Context;
 use crate::differences::{put, put_times};
 use crate::ghosts::Ghosts;
-use crate::greatest::{Legal, greatest_shape};
+use crate::greatest::greatest_legal;
 use crate::quality::NextValue;
 use crate::reached::push_all;
 use arrayvec::ArrayVec;
-use dutch_order::bracket::{Bracket, Shape};
-use dutch_order::numbers::{LIMIT, Numbers, numbered_from};
-use dutch_order::steps::{Budget, Step};
-use dutch_player::field::Field;
+use dutch_order::{Bracket, Budget, LIMIT, Numbers, Shape, Step, numbered_from};
+use dutch_player::Field;
 
 /// Adds the scores of those of some numbers who are not in S1.
 pub(crate) fn push_left(context: &Context<'_>, numbers: &[u16], s1: &[u16], scores: &mut Numbers)
-    requires numbers { AllNumbers context.now.stand.seats numbers.now }
+    requires numbers { AllNumbers context.now.reached.seats numbers.now }
     requires room { array_vec_len scores.old + length numbers.now ≤ LIMIT }
     ensures items { scores.new.items ≡ scores.old.items
-        ++ map (λ i. score_at context.now.facts (seat_of context.now.stand.seats i)) (left_of numbers.now s1.now) }
+        ++ map (λ i. score_at context.now.facts (seat_of context.now.reached.seats i)) (left_of numbers.now s1.now) }
 {
     for number in numbers {
         if !s1.contains(number) {
@@ -43,9 +41,9 @@ pub(crate) fn push_left(context: &Context<'_>, numbers: &[u16], s1: &[u16], scor
 
 /// The scores of the moved-down players whom the first S1 of a shape leaves over, in half points.
 pub(crate) fn first_limbo(context: &Context<'_>, shape: Shape) -> Numbers
-    requires { Fits (frame_of context.now.facts context.now.stand) shape }
-    ensures items { result.items ≡ first_limbo context.now.facts context.now.stand shape }
-    ensures len { array_vec_len result ≡ context.now.stand.mdps - shape.mdps }
+    requires { Fits (frame_of context.now.facts context.now.reached) shape }
+    ensures items { result.items ≡ first_limbo context.now.facts context.now.reached shape }
+    ensures len { array_vec_len result ≡ context.now.reached.mdps - shape.mdps }
 {
     let left = context.reached().mdps() - shape.mdps;
     let limbo = numbered_from(shape.mdps + 1, left);
@@ -80,10 +78,10 @@ fn push_scores(field: &Field, seats: &[u16], scores: &mut Numbers)
 /// The scores of the ghosts for a shape: those of the Limbo of its first S1, and the residents' score for each who goes down.
 #[tactic(auto, using(crate::proofs::C07Outlook::few_pairs))]
 fn ghost_scores(context: &Context<'_>, shape: Shape) -> Numbers
-    requires flat { IsFlat context.now.facts context.now.stand }
-    requires fits { Fits (frame_of context.now.facts context.now.stand) shape }
-    ensures items { result.items ≡ first_ghosts context.now.facts context.now.stand shape }
-    ensures bracket { IsBracket (ghost_frame context.now.facts (first_ghosts context.now.facts context.now.stand shape) (first_group context.now.facts (scoregroups context.now.facts context.now.lower))).scores (length (first_ghosts context.now.facts context.now.stand shape)) }
+    requires flat { IsFlat context.now.facts context.now.reached }
+    requires fits { Fits (frame_of context.now.facts context.now.reached) shape }
+    ensures items { result.items ≡ first_ghosts context.now.facts context.now.reached shape }
+    ensures bracket { IsBracket (ghost_frame context.now.facts (first_ghosts context.now.facts context.now.reached shape) (first_group context.now.facts (scoregroups context.now.facts context.now.lower))).scores (length (first_ghosts context.now.facts context.now.reached shape)) }
 {
     let mut scores = first_limbo(context, shape);
     let reached = context.reached();
@@ -141,27 +139,23 @@ pub(crate) fn ghost_value(
     shape: Shape,
     budget: &mut Budget,
 ) -> Option<NextValue>
-    requires ordinary { context.now.stand.kind ≡ Ordinary }
-    requires flat { IsFlat context.now.facts context.now.stand }
-    requires fits { Fits (frame_of context.now.facts context.now.stand) shape }
+    requires ordinary { context.now.reached.kind ≡ Ordinary }
+    requires flat { IsFlat context.now.facts context.now.reached }
+    requires fits { Fits (frame_of context.now.facts context.now.reached) shape }
     requires within { budget.old.used ≤ budget.old.limit }
     ensures answer { MatchOption result (budget.new.used ≡ budget.new.limit)
-        (λ v. v ≡ ghost_value context.now.facts context.now.stand shape (first_group context.now.facts (scoregroups context.now.facts context.now.lower))) }
+        (λ v. v ≡ ghost_value context.now.facts context.now.reached shape (first_group context.now.facts (scoregroups context.now.facts context.now.lower))) }
     ensures spends { Spends budget.old budget.new }
 {
     let ghosts = Ghosts::read(context, budget)?;
     let scores = ghost_scores(context, shape);
     let bracket = ghost_bracket(context, &scores);
     let rule = ghosts.rule(scores.len());
-    let legal = Legal {
-        bracket: &bracket,
-        rule: &rule,
-    };
-    match greatest_shape(&legal, budget) {
+    match greatest_legal(&bracket, &rule, budget) {
         Step::Found(most) => {
             let next = context.next();
             let least = context.field().score(next[0]);
-            let pairs = most.shape.pairs;
+            let pairs = most.pairs;
             Some(NextValue {
                 pairs,
                 psd: floor_held(&scores, least, next.len(), pairs),

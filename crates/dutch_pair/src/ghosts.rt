@@ -14,10 +14,8 @@ ghost use Rattle.dutch_order.specs.Steps.{Spends};
 use crate::context::Context;
 use crate::spending::spend;
 use arrayvec::ArrayVec;
-use dutch_order::numbers::LIMIT;
-use dutch_order::rules::Rule;
-use dutch_order::steps::Budget;
-use dutch_player::field::Field;
+use dutch_order::{Budget, LIMIT, Rule};
+use dutch_player::Field;
 use std::marker::Model;
 
 /// Players of a bracket, for whose downfloaters ghosts stand, above lower players.
@@ -89,7 +87,7 @@ impl<'a> Ghosts<'a> {
     pub(crate) fn read(context: &Context<'a>, budget: &mut Budget) -> Option<Ghosts<'a>>
         requires within { budget.old.used ≤ budget.old.limit }
         ensures answer { MatchOption result (budget.new.used ≡ budget.new.limit)
-            (λ ghosts. ghosts ≡ record { facts = context.now.facts; seats = context.now.stand.seats; lower = first_group context.now.facts (scoregroups context.now.facts context.now.lower) }) }
+            (λ ghosts. ghosts ≡ record { facts = context.now.facts; seats = context.now.reached.seats; lower = first_group context.now.facts (scoregroups context.now.facts context.now.lower) }) }
         ensures spends { Spends budget.old budget.new }
     {
         let (field, seats, lower) = (context.field(), context.reached().seats(), context.next());
@@ -202,7 +200,7 @@ impl<'a> Rule for GhostRule<'a> {
         }
     }
 
-    fn last_ok(&self, a: u16) -> bool {
+    fn may_be_left(&self, a: u16) -> bool {
         if !self.has(a) {
             return false;
         }

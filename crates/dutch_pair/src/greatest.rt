@@ -3,31 +3,46 @@
 // counts, and a bracket of the round, where those count that can be chosen.
 ghost use Rattle.std.specs.Prelude.{◌≡◌, ◌≤◌, ◌*◌, ◌&&◌, List, Some, None, true, false, length, filter};
 ghost use Rattle.dutch_order.specs.declared.bracket.Shape.{Shape};
-ghost use Rattle.dutch_order.specs.Arrangements.{Arrangement, Fits, Frame};
+ghost use Rattle.dutch_order.specs.Arrangements.{Arrangement, Fits, Frame, candidates};
+ghost use Rattle.dutch_order.specs.Listings.{Listing};
 ghost use Rattle.dutch_order.specs.Steps.{MatchStep, Spends};
 ghost use Rattle.dutch_pair.specs.Shapes.{IsFirst, fits, shapes_with, has_member, first_with, greatest_shape};
 ghost use Rattle.dutch_pair.specs.Completion.{MatchAnswer};
 
 use crate::completion::Answer;
-use dutch_order::bracket::{Bracket, Shape};
-use dutch_order::candidate::Candidate;
-use dutch_order::candidates::Candidates;
-use dutch_order::rules::Rule;
-use dutch_order::steps::{Budget, Step};
+use dutch_order::{Bracket, Budget, Candidate, Candidates, Rule, Shape, Step};
 
-/// A shape, and the first of its arrangements that count.
-#[derive(Debug, Drop)]
-pub(crate) struct Found {
-    pub(crate) shape: Shape,
-    pub(crate) first: Candidate,
+/// What a bracket's arrangements are drawn with: a listing, which begins anew for each shape, and a place for what it hands out. They
+/// are made once for a bracket.
+#[derive(Drop)]
+pub(crate) struct Lister<'a, R: Rule> {
+    pub(crate) listing: Candidates<'a, R>,
+    pub(crate) drawn: Candidate,
+}
+
+impl<'a, R: Rule> Lister<'a, R> {
+    /// A lister of a bracket by a rule. (It is large, and a function pays at its entry for the size of its locals: so who makes one does
+    /// little else, and is not inlined.)
+    pub(crate) fn new(bracket: &'a Bracket, rule: &'a R) -> Lister<'a, R>
+        ensures frame { result.listing.frame ≡ bracket.now }
+        ensures rule { result.listing.rule ≡ rule.now }
+    {
+        Lister {
+            listing: Candidates::ended(bracket, rule),
+            drawn: Candidate::empty(),
+        }
+    }
 }
 
 /// A bracket whose greatest shape is looked for.
-pub(crate) trait Shapes {
+pub(crate) trait Shapes<R: Rule> {
     /// The arrangements of a shape that count.
     ghost counting: { Self → Shape → List Arrangement };
 
     ghost frame: { Self → Frame };
+
+    /// A listing is of this bracket.
+    ghost lists: { Self → Listing R → Type 0 };
 
     /// The bracket by scores.
     fn bracket(&self) -> &Bracket
@@ -42,13 +57,15 @@ pub(crate) trait Shapes {
             (budget.new.used ≡ budget.new.limit) }
         ensures spends { Spends budget.old budget.new };
 
-    /// The first arrangement of a shape that counts.
-    fn first(&self, shape: Shape, budget: &mut Budget) -> Step<Candidate>
+    /// Draws the first arrangement of a shape that counts.
+    fn first(&self, lister: &mut Lister<'_, R>, shape: Shape, budget: &mut Budget) -> Step<()>
         requires fits { Fits (frame self.now) shape }
+        requires lists { lists self.now lister.old.listing }
         requires within { budget.old.used ≤ budget.old.limit }
-        ensures answer { MatchStep result (IsFirst (counting self.now shape) (frame self.now))
+        ensures answer { MatchStep result (λ _. IsFirst (counting self.now shape) (frame self.now) lister.new.drawn)
             (has_member (counting self.now shape) ≡ false)
             (budget.new.used ≡ budget.new.limit) }
+        ensures lists { lists self.now lister.new.listing }
         ensures spends { Spends budget.old budget.new };
 }
 
@@ -59,12 +76,15 @@ pub(crate) struct Legal<'a, R: Rule> {
     pub(crate) rule: &'a R,
 }
 
-impl<'a, R: Rule> Shapes for Legal<'a, R> {
+impl<'a, R: Rule> Shapes<R> for Legal<'a, R> {
+    ghost use Rattle.std.specs.Prelude.{◌≡◌};
     ghost use Rattle.dutch_order.specs.Arrangements.{candidates};
 
     ghost counting = { λ l. candidates (R.meets l.rule.now) (R.may_be_left l.rule.now) l.bracket.now };
 
     ghost frame = { λ l. l.bracket.now };
+
+    ghost lists = { λ l listing. (listing.frame ≡ l.bracket.now) × (listing.rule ≡ l.rule.now) };
 
     fn bracket(&self) -> &Bracket {
         self.bracket
@@ -74,9 +94,9 @@ impl<'a, R: Rule> Shapes for Legal<'a, R> {
         Answer::Yes
     }
 
-    fn first(&self, shape: Shape, budget: &mut Budget) -> Step<Candidate> {
-        let mut candidates = Candidates::new(self.bracket, shape, self.rule);
-        candidates.next(budget)
+    fn first(&self, lister: &mut Lister<'_, R>, shape: Shape, budget: &mut Budget) -> Step<()> {
+        lister.listing.restart(shape);
+        lister.listing.put_next(&mut lister.drawn, budget)
     }
 }
 
@@ -92,34 +112,49 @@ fn has_room(bracket: &Bracket, shape: Shape) -> bool
     shape.mdps + 2 * (shape.pairs - shape.mdps) <= residents
 }
 
-/// The first arrangement of a shape that counts, if the bracket has room for that shape.
+/// Draws the first arrangement of a shape that counts, if the bracket has room for that shape.
 #[tactic(auto, using(crate::proofs::ShapeSearch::fits_by_test, crate::proofs::ShapeSearch::first_there))]
-fn first_of<S: Shapes>(asked: &S, shape: Shape, budget: &mut Budget) -> Step<Candidate>
+fn first_of<R: Rule, S: Shapes<R>>(
+    asked: &S,
+    lister: &mut Lister<'_, R>,
+    shape: Shape,
+    budget: &mut Budget,
+) -> Step<()>
     requires small { shape.pairs ≤ length (S.frame asked.now).scores }
+    requires lists { S.lists asked.now lister.old.listing }
     requires within { budget.old.used ≤ budget.old.limit }
     ensures answer { MatchStep result
-        (λ c. IsFirst (S.counting asked.now shape) (S.frame asked.now) c
+        (λ _. IsFirst (S.counting asked.now shape) (S.frame asked.now) lister.new.drawn
         × ((fits (S.frame asked.now) shape && has_member (S.counting asked.now shape)) ≡ true))
         ((fits (S.frame asked.now) shape && has_member (S.counting asked.now shape)) ≡ false)
         (budget.new.used ≡ budget.new.limit) }
+    ensures lists { S.lists asked.now lister.new.listing }
     ensures spends { Spends budget.old budget.new }
 {
     if !has_room(asked.bracket(), shape) {
         return Step::End;
     }
-    asked.first(shape, budget)
+    asked.first(lister, shape, budget)
 }
 
-/// Of the shapes with a number of pairs the one with the most moved-down players that has an arrangement that counts.
+/// Of the shapes with a number of pairs the one with the most moved-down players that has an arrangement that counts, of which the
+/// first is drawn.
 #[tactic(auto, using(crate::proofs::ShapeSearch::mdps_taken, crate::proofs::ShapeSearch::mdps_passed, crate::proofs::ShapeSearch::mdps_ended))]
-fn shape_with<S: Shapes>(asked: &S, pairs: usize, budget: &mut Budget) -> Step<Found>
+fn shape_with<R: Rule, S: Shapes<R>>(
+    asked: &S,
+    lister: &mut Lister<'_, R>,
+    pairs: usize,
+    budget: &mut Budget,
+) -> Step<Shape>
     requires small { 2 * pairs ≤ length (S.frame asked.now).scores }
+    requires lists { S.lists asked.now lister.old.listing }
     requires within { budget.old.used ≤ budget.old.limit }
     ensures answer { MatchStep result
-        (λ found. (first_with (S.counting asked.now) (filter (fits (S.frame asked.now)) (shapes_with pairs)) ≡ Some found.shape)
-        × IsFirst (S.counting asked.now found.shape) (S.frame asked.now) found.first)
+        (λ shape. (first_with (S.counting asked.now) (filter (fits (S.frame asked.now)) (shapes_with pairs)) ≡ Some shape)
+        × IsFirst (S.counting asked.now shape) (S.frame asked.now) lister.new.drawn)
         (first_with (S.counting asked.now) (filter (fits (S.frame asked.now)) (shapes_with pairs)) ≡ None)
         (budget.new.used ≡ budget.new.limit) }
+    ensures lists { S.lists asked.now lister.new.listing }
     ensures spends { Spends budget.old budget.new }
 {
     match asked.may_have(pairs, budget) {
@@ -130,8 +165,8 @@ fn shape_with<S: Shapes>(asked: &S, pairs: usize, budget: &mut Budget) -> Step<F
     let mut mdps = pairs;
     loop {
         let shape = Shape { pairs, mdps };
-        match first_of(asked, shape, budget) {
-            Step::Found(first) => return Step::Found(Found { shape, first }),
+        match first_of(asked, lister, shape, budget) {
+            Step::Found(()) => return Step::Found(shape),
             Step::End => {}
             Step::Undecided => return Step::Undecided,
         }
@@ -142,20 +177,27 @@ fn shape_with<S: Shapes>(asked: &S, pairs: usize, budget: &mut Budget) -> Step<F
     }
 }
 
-/// The greatest shape of a bracket that has an arrangement that counts, with the first of these; `End` is answered where none has one.
-pub(crate) fn greatest_shape<S: Shapes>(asked: &S, budget: &mut Budget) -> Step<Found>
+/// The greatest shape of a bracket that has an arrangement that counts, of which the first is drawn; `End` is answered where no shape
+/// has one.
+pub(crate) fn greatest_shape<R: Rule, S: Shapes<R>>(
+    asked: &S,
+    lister: &mut Lister<'_, R>,
+    budget: &mut Budget,
+) -> Step<Shape>
+    requires lists { S.lists asked.now lister.old.listing }
     requires within { budget.old.used ≤ budget.old.limit }
     ensures answer { MatchStep result
-        (λ found. (greatest_shape (S.counting asked.now) (S.frame asked.now) ≡ Some found.shape)
-        × IsFirst (S.counting asked.now found.shape) (S.frame asked.now) found.first)
+        (λ shape. (greatest_shape (S.counting asked.now) (S.frame asked.now) ≡ Some shape)
+        × IsFirst (S.counting asked.now shape) (S.frame asked.now) lister.new.drawn)
         (greatest_shape (S.counting asked.now) (S.frame asked.now) ≡ None)
         (budget.new.used ≡ budget.new.limit) }
+    ensures lists { S.lists asked.now lister.new.listing }
     ensures spends { Spends budget.old budget.new }
 {
     let mut pairs = asked.bracket().len() / 2;
     loop {
-        match shape_with(asked, pairs, budget) {
-            Step::Found(found) => return Step::Found(found),
+        match shape_with(asked, lister, pairs, budget) {
+            Step::Found(shape) => return Step::Found(shape),
             Step::End => {}
             Step::Undecided => return Step::Undecided,
         }
@@ -163,5 +205,29 @@ pub(crate) fn greatest_shape<S: Shapes>(asked: &S, budget: &mut Budget) -> Step<
             return Step::End;
         }
         pairs -= 1;
+    }
+}
+
+/// The greatest shape of a bracket that has a legal arrangement by a rule; `End` is answered where no shape has one. (Apart from its
+/// caller, as a lister is large.)
+#[inline(never)]
+pub(crate) fn greatest_legal<R: Rule>(
+    bracket: &Bracket,
+    rule: &R,
+    budget: &mut Budget,
+) -> Step<Shape>
+    requires within { budget.old.used ≤ budget.old.limit }
+    ensures answer { MatchStep result
+        (λ shape. greatest_shape (candidates (R.meets rule.now) (R.may_be_left rule.now) bracket.now) bracket.now ≡ Some shape)
+        (greatest_shape (candidates (R.meets rule.now) (R.may_be_left rule.now) bracket.now) bracket.now ≡ None)
+        (budget.new.used ≡ budget.new.limit) }
+    ensures spends { Spends budget.old budget.new }
+{
+    let legal = Legal { bracket, rule };
+    let mut lister = Lister::new(bracket, rule);
+    match greatest_shape(&legal, &mut lister, budget) {
+        Step::Found(shape) => Step::Found(shape),
+        Step::End => Step::End,
+        Step::Undecided => Step::Undecided,
     }
 }

@@ -4,7 +4,7 @@ ghost use Rattle.dutch_pair.specs.Seated.{AreSeats};
 ghost use Rattle.dutch_pair.specs.Groups.{front_with};
 ghost use Rattle.dutch_pair.specs.Round.{first_group, scoregroups};
 
-use dutch_player::field::Field;
+use dutch_player::Field;
 
 /// How many seats at the front have a score.
 pub(crate) fn front_with(field: &Field, score: u16, seats: &[u16]) -> usize

@@ -10,25 +10,29 @@ ghost use Rattle.dutch_pair.specs.Quality.{Quality, is_better};
 ghost use Rattle.dutch_player.specs.Facts.{Facts, facts_of};
 ghost use Rattle.dutch_player.specs.Laws.{CountFromOne};
 ghost use Rattle.std.specs.List.{AllByRecursion, concat};
+ghost use Rattle.std.specs.Option.{IsSomeAnd};
 ghost use Rattle.dutch_pair.specs.Boards.{AreInOrder, boards, ordered};
 ghost use Rattle.dutch_pair.specs.Groups.{IsScoregroup, NeighboursDiffer};
 ghost use Rattle.dutch_pair.specs.Everybody.{NameEverybodyOnce};
 ghost use Rattle.dutch_order.specs.Arrangements.{Fits, Frame, down};
+ghost use Rattle.dutch_order.specs.Candidates.{Candidate};
 ghost use Rattle.dutch_order.specs.Keys.{IsIn};
 ghost use Rattle.dutch_order.specs.declared.bracket.Shape.{Shape};
 ghost use Rattle.dutch_pair.specs.Eligible.{HasCandidate};
+ghost use Rattle.dutch_pair.specs.Items.{DifferFirstIn, IsInFrontIn, first_difference, players_counted, who_counts};
+ghost use Rattle.dutch_pair.specs.declared.items.Item.{Item};
 ghost use Rattle.dutch_pair.specs.Lower.{lower_of};
-ghost use Rattle.dutch_pair.specs.NextBracket.{IsDraw, IsNext};
-ghost use Rattle.dutch_pair.specs.Outcomes.{shown, visit_of};
-ghost use Rattle.dutch_pair.specs.Reached.{IsAbove, Stand, frame_of};
+ghost use Rattle.dutch_pair.specs.NextBracket.{IsOfBracket, IsNext, quality};
+ghost use Rattle.dutch_pair.specs.Outcomes.{IsStage, shown, visit_of};
+ghost use Rattle.dutch_pair.specs.Reached.{IsAbove, Reached, frame_of};
 ghost use Rattle.dutch_pair.specs.Round.{Pairing, candidates_of, eligible, first_group, round, scoregroups, shape_of};
 ghost use Rattle.dutch_pair.specs.Shapes.{IsGreater, fits, has_member};
 ghost use Rattle.dutch_pair.specs.Completion.{Completable, can_complete, most};
 
 use crate::reached::Reached;
-use dutch_order::bracket::Shape;
-use dutch_order::candidate::Candidate;
-use dutch_player::field::Field;
+use crate::stage::Stage;
+use dutch_order::{Candidate, Shape};
+use dutch_player::Field;
 use dutch_player::laws::scores_do_not_ascend;
 
 /// Of two qualities one is better, or they are the same: a strict and total order.
@@ -37,6 +41,21 @@ pub fn better_is_an_order()
     ensures irreflexive { (a : Quality) → is_better a a ≡ false }
     ensures transitive { (a b c : Quality) → is_better a b ≡ true → is_better b c ≡ true → is_better a c ≡ true }
     ensures total { (a b : Quality) → (a ≡ b) ⊎ ((is_better a b ≡ true) ⊎ (is_better b a ≡ true)) }
+{}
+
+/// One quality is better than another exactly where it stands in front at the first item in which they differ: they differ in it, and in
+/// none that counts before it. Two that differ in none are the same, and neither is better.
+pub fn better_at_the_first_difference()
+    ensures better { (a b : Quality) → (is_better a b ≡ true) ↔ IsSomeAnd (first_difference a b) (λ item. IsInFrontIn item a b) }
+    ensures first { (a b : Quality) (item : Item) → first_difference a b ≡ Some item → DifferFirstIn item a b }
+    ensures none { (a b : Quality) → (first_difference a b ≡ None) ↔ (a ≡ b) }
+    ensures neither { (a b : Quality) → first_difference a b ≡ None → (is_better a b ≡ false) × (is_better b a ≡ false) }
+{}
+
+/// Of each candidate of a bracket an item counts as many players as it says (C.8 to C.15).
+pub fn as_many_count_as_the_item_says()
+    ensures { (facts : Facts) (reached : Reached) (next : List ℕ) (draw : Candidate) (item : Item)
+        → length (who_counts facts reached draw item) ≡ players_counted item (quality facts reached next draw) }
 {}
 
 /// Players are completable exactly where the test says so.
@@ -76,13 +95,13 @@ pub fn boards_can_be_the_next_round()
 /// The shape of a bracket has room in it and a candidate that can be chosen, and no shape with room and such a candidate is greater;
 /// where there is none, no shape has both (C.5, B.1).
 pub fn the_shape_is_the_greatest()
-    ensures room { (facts : Facts) (stand : Stand) (lower : List ℕ) (s : Shape) → shape_of facts stand lower ≡ Some s → Fits (frame_of facts stand) s }
-    ensures candidate { (facts : Facts) (stand : Stand) (lower : List ℕ) (s : Shape) → shape_of facts stand lower ≡ Some s
-        → has_member (eligible facts stand lower s) ≡ true }
-    ensures greatest { (facts : Facts) (stand : Stand) (lower : List ℕ) (s t : Shape) → shape_of facts stand lower ≡ Some s
-        → Fits (frame_of facts stand) t → has_member (eligible facts stand lower t) ≡ true → ¬ IsGreater t s }
-    ensures none { (facts : Facts) (stand : Stand) (lower : List ℕ) (t : Shape) → shape_of facts stand lower ≡ None
-        → Fits (frame_of facts stand) t → ¬ (has_member (eligible facts stand lower t) ≡ true) }
+    ensures room { (facts : Facts) (reached : Reached) (lower : List ℕ) (s : Shape) → shape_of facts reached lower ≡ Some s → Fits (frame_of facts reached) s }
+    ensures candidate { (facts : Facts) (reached : Reached) (lower : List ℕ) (s : Shape) → shape_of facts reached lower ≡ Some s
+        → has_member (eligible facts reached lower s) ≡ true }
+    ensures greatest { (facts : Facts) (reached : Reached) (lower : List ℕ) (s t : Shape) → shape_of facts reached lower ≡ Some s
+        → Fits (frame_of facts reached) t → has_member (eligible facts reached lower t) ≡ true → ¬ IsGreater t s }
+    ensures none { (facts : Facts) (reached : Reached) (lower : List ℕ) (t : Shape) → shape_of facts reached lower ≡ None
+        → Fits (frame_of facts reached) t → ¬ (has_member (eligible facts reached lower t) ≡ true) }
 {}
 
 /// A bracket has room for a shape exactly where the test says so.
@@ -120,10 +139,24 @@ pub fn the_first_scoregroup_is_next(field: &Field, reached: &Reached, lower: &[u
     ensures { IsNext field.now reached.now (first_group field.now (scoregroups field.now lower.now)) }
 {}
 
+/// A bracket of which all stages of a round tell stands above the players below it, and above them it has its shape and a candidate: whoever
+/// has asked for the stages can ask for the choice in it, and for the quality of each of its candidates.
+pub fn a_stage_stands_above_the_lower(field: &Field, stage: &Stage)
+    requires { IsStage field.now stage.now }
+    ensures above { IsAbove field.now stage.now.reached (lower_of field.now stage.now.reached) }
+    ensures shape { shape_of field.now stage.now.reached (lower_of field.now stage.now.reached) ≡ Some stage.now.shape }
+    ensures candidate { HasCandidate field.now stage.now.reached (lower_of field.now stage.now.reached) }
+{}
+
 /// A candidate of a bracket and a shape is one whose quality can be asked for.
-#[tactic(auto, using(crate::proofs::WalkEnds::candidate_drawn))]
-pub fn candidates_are_draws(field: &Field, reached: &Reached, shape: Shape, candidate: &Candidate)
+#[tactic(auto, using(crate::proofs::WalkEnds::candidate_of_bracket))]
+pub fn candidates_are_of_the_bracket(
+    field: &Field,
+    reached: &Reached,
+    shape: Shape,
+    candidate: &Candidate,
+)
     requires listed { IsIn candidate.now.lists (candidates_of field.now reached.now shape) }
     requires left { candidate.now.down ≡ down (frame_of field.now reached.now) candidate.now.lists }
-    ensures { IsDraw field.now reached.now candidate.now }
+    ensures { IsOfBracket field.now reached.now candidate.now }
 {}

@@ -1,46 +1,78 @@
-// Pairings of a round by the FIDE (Dutch) System: who can be paired out, and who meets whom, specified by lists of pairs.
+//! Pairings of a round by the FIDE (Dutch) System (C.04.3): who can be paired out, and who meets whom, specified by lists of pairs.
+//!
+//! `pair_round` gives the boards of the round that the definitions name, or that there is no pairing, exactly where the present players
+//! cannot be paired out. `bracket_at` gives one bracket of that round, `stages` all of them; `completes`, `choose`, `boards` and
+//! `lookahead::quality` give the parts. `laws` and its neighbours hold what is proved of the definitions alone.
+//!
+//! Each bracket may make so many steps as its budget has. Where they end the answer is undecided, and never another pairing; that some
+//! number of steps decides a bracket is not proved.
+//!
+//! Lists are arrays with room for 1,024 numbers on the stack, some 2 MiB of it for a round. On the heap are the boards, the last 64
+//! values of C.7, and for a bracket some bits for each two players. Where memory is refused that is the answer.
+//!
+//! To mind: players are named by seat in a field, by number from 1 in a bracket, and by start rank on boards alone.
 #![tactic(auto)]
 
 mod begun;
 mod bit_table;
 pub mod boards;
-pub mod choice;
+mod choice;
 mod colour_floor;
 mod colour_floor_laws;
-pub mod colours_missed;
-pub mod completion;
+mod colours_missed;
+mod completion;
 pub mod completion_laws;
-pub mod conditions;
+mod conditions;
 mod context;
-pub mod differences;
-pub mod eligible;
+mod differences;
+mod eligible;
 pub mod examples;
-pub mod fault;
-pub mod floats;
+mod fault;
+mod floats;
 mod floor;
 mod floor_laws;
 mod ghost_laws;
 mod ghost_value;
 mod ghosts;
 mod greatest;
-pub mod group;
+mod group;
+mod instead;
+mod items;
+mod known;
 pub mod laws;
 mod lonely;
 pub mod lookahead;
-pub mod lower;
+mod lower;
 pub mod order_laws;
 mod outlook;
 mod pair_facts;
 mod psd_floor;
-pub mod quality;
-pub mod reached;
-pub mod remembered;
-pub mod round;
-pub mod seated;
+mod quality;
+mod reached;
+mod remembered;
+mod round;
+mod seated;
 pub mod seats;
-pub mod shape;
+mod shape;
 mod skipper;
 mod spending;
-pub mod stage;
+mod stage;
 mod takers;
 mod walk;
+mod wish;
+pub mod wish_laws;
+
+pub use choice::{Choice, choose};
+pub use completion::{Answer, completes};
+pub use conditions::{are_left, is_next};
+pub use fault::PairFault;
+pub use group::split_first_group;
+pub use instead::{Instead, best_instead};
+pub use items::{ITEMS, Item, who_counts};
+pub use quality::{NextValue, Quality};
+pub use reached::{BracketKind, ByNumber, Reached, Seats};
+pub use remembered::{Look, LookAhead};
+pub use round::{AllStages, BracketAt, Outcome, bracket_at, pair_round, stages};
+pub use seated::Pair;
+pub use stage::Stage;
+pub use wish::Wish;

@@ -13,8 +13,7 @@ use crate::begun::Begun;
 use crate::bit_table::{WORD, has_bit, set_bit};
 use crate::context::Context;
 use crate::pair_facts::PairFacts;
-use dutch_order::bracket::Shape;
-use dutch_order::numbers::{LIMIT, Numbers, numbered_from};
+use dutch_order::{LIMIT, Numbers, Shape, numbered_from};
 
 /// A mark for each number of a bracket.
 type Marks = [u64; LIMIT / WORD + 1];
@@ -31,7 +30,7 @@ fn mark(numbers: &[u16], marks: &mut Marks)
 
 /// The residents who have a place.
 fn taken(context: &Context<'_>, begun: &Begun<'_>) -> Marks
-    requires { HasNumbers context.now.stand begun.now }
+    requires { HasNumbers context.now.reached begun.now }
     ensures { (i : ℕ) → has_bit result i ≡ ((is_member i begun.now.s2 || is_member i begun.now.s1r) || is_member i begun.now.s2r) }
 {
     let _count = context.len();
@@ -60,9 +59,9 @@ fn unmarked(numbers: &[u16], marks: &Marks) -> Numbers
 /// The residents with whom S1R can still be paired.
 #[tactic(auto, using(crate::proofs::LonelyLemmas::pool_is, crate::proofs::LonelyLemmas::pool_numbers))]
 fn pool(context: &Context<'_>, begun: &Begun<'_>) -> Numbers
-    requires { HasNumbers context.now.stand begun.now }
-    ensures items { result.items ≡ pool context.now.facts context.now.stand begun.now }
-    ensures numbers { AllNumbers context.now.stand.seats result.items }
+    requires { HasNumbers context.now.reached begun.now }
+    ensures items { result.items ≡ pool context.now.facts context.now.reached begun.now }
+    ensures numbers { AllNumbers context.now.reached.seats result.items }
     ensures few { length result.items ≤ LIMIT }
 {
     let mdps = context.reached().mdps();
@@ -73,9 +72,9 @@ fn pool(context: &Context<'_>, begun: &Begun<'_>) -> Numbers
 /// The players of S1R who have no opponent yet.
 #[tactic(auto, using(crate::proofs::LonelyLemmas::beyond_is, crate::proofs::LonelyLemmas::back_numbers))]
 fn waiting<'a>(context: &Context<'_>, begun: &Begun<'a>) -> &'a [u16]
-    requires { HasNumbers context.now.stand begun.now }
+    requires { HasNumbers context.now.reached begun.now }
     ensures items { result.now ≡ waiting begun.now }
-    ensures numbers { AllNumbers context.now.stand.seats result.now }
+    ensures numbers { AllNumbers context.now.reached.seats result.now }
     ensures few { length result.now ≤ LIMIT }
 {
     let _count = context.len();
@@ -84,9 +83,9 @@ fn waiting<'a>(context: &Context<'_>, begun: &Begun<'a>) -> &'a [u16]
 
 /// Whether a number suits one of some.
 fn suits_one(pairs: &PairFacts<'_>, x: u16, others: &[u16]) -> bool
-    requires number { (0 < x) × (x ≤ length pairs.now.stand.seats) }
-    requires others { AllNumbers pairs.now.stand.seats others.now }
-    ensures { result ≡ list_any (suits pairs.now.facts pairs.now.stand x) others.now }
+    requires number { (0 < x) × (x ≤ length pairs.now.reached.seats) }
+    requires others { AllNumbers pairs.now.reached.seats others.now }
+    ensures { result ≡ list_any (suits pairs.now.facts pairs.now.reached x) others.now }
 {
     for other in others {
         if pairs.suits(x, *other) {
@@ -98,9 +97,9 @@ fn suits_one(pairs: &PairFacts<'_>, x: u16, others: &[u16]) -> bool
 
 /// Whether one of some suits a number.
 fn is_suited(pairs: &PairFacts<'_>, y: u16, others: &[u16]) -> bool
-    requires number { (0 < y) × (y ≤ length pairs.now.stand.seats) }
-    requires others { AllNumbers pairs.now.stand.seats others.now }
-    ensures { result ≡ list_any (λ x. suits pairs.now.facts pairs.now.stand x y) others.now }
+    requires number { (0 < y) × (y ≤ length pairs.now.reached.seats) }
+    requires others { AllNumbers pairs.now.reached.seats others.now }
+    ensures { result ≡ list_any (λ x. suits pairs.now.facts pairs.now.reached x y) others.now }
 {
     for other in others {
         if pairs.suits(*other, y) {
@@ -112,9 +111,9 @@ fn is_suited(pairs: &PairFacts<'_>, y: u16, others: &[u16]) -> bool
 
 /// How many of those who wait suit nobody of the pool.
 fn lonely_first(pairs: &PairFacts<'_>, waiting: &[u16], pool: &[u16]) -> usize
-    requires waiting { AllNumbers pairs.now.stand.seats waiting.now }
-    requires pool { AllNumbers pairs.now.stand.seats pool.now }
-    ensures value { result ≡ length (filter (λ x. not (list_any (suits pairs.now.facts pairs.now.stand x) pool.now)) waiting.now) }
+    requires waiting { AllNumbers pairs.now.reached.seats waiting.now }
+    requires pool { AllNumbers pairs.now.reached.seats pool.now }
+    ensures value { result ≡ length (filter (λ x. not (list_any (suits pairs.now.facts pairs.now.reached x) pool.now)) waiting.now) }
     ensures few { result ≤ length waiting.now }
 {
     let mut count = 0;
@@ -128,9 +127,9 @@ fn lonely_first(pairs: &PairFacts<'_>, waiting: &[u16], pool: &[u16]) -> usize
 
 /// How many of the pool suit nobody who waits.
 fn lonely_second(pairs: &PairFacts<'_>, waiting: &[u16], pool: &[u16]) -> usize
-    requires waiting { AllNumbers pairs.now.stand.seats waiting.now }
-    requires pool { AllNumbers pairs.now.stand.seats pool.now }
-    ensures value { result ≡ length (filter (λ y. not (list_any (λ x. suits pairs.now.facts pairs.now.stand x y) waiting.now)) pool.now) }
+    requires waiting { AllNumbers pairs.now.reached.seats waiting.now }
+    requires pool { AllNumbers pairs.now.reached.seats pool.now }
+    ensures value { result ≡ length (filter (λ y. not (list_any (λ x. suits pairs.now.facts pairs.now.reached x y) waiting.now)) pool.now) }
     ensures few { result ≤ length pool.now }
 {
     let mut count = 0;
@@ -154,9 +153,9 @@ fn more_lonely(first: usize, second: usize, down: usize) -> usize
 
 /// How many miss at least for want of an opponent who suits.
 pub(crate) fn lonely(pairs: &PairFacts<'_>, shape: Shape, begun: &Begun<'_>) -> usize
-    requires numbers { HasNumbers pairs.now.stand begun.now }
+    requires numbers { HasNumbers pairs.now.reached begun.now }
     requires small { shape.pairs ≤ LIMIT }
-    ensures value { result ≡ lonely pairs.now.facts pairs.now.stand shape begun.now }
+    ensures value { result ≡ lonely pairs.now.facts pairs.now.reached shape begun.now }
     ensures few { result ≤ LIMIT }
 {
     let context = pairs.context();

@@ -4,21 +4,19 @@
 // the sets with the higher scores first: the first candidate has the least PSD, and no other one is looked at.
 ghost use Rattle.std.specs.Prelude.{◌≡◌, map, ℕ, slice_index, ◌≤◌, true, MatchOption};
 ghost use Rattle.dutch_pair.specs.Seated.{seat_of};
-ghost use Rattle.dutch_pair.specs.declared.reached.Kind.TheVariants.{Ordinary};
+ghost use Rattle.dutch_pair.specs.declared.reached.BracketKind.TheVariants.{Ordinary};
 ghost use Rattle.dutch_pair.specs.Reached.{IsOf};
 ghost use Rattle.dutch_pair.specs.QualityIn.{quality_in};
-ghost use Rattle.dutch_pair.specs.NextBracket.{IsDraw, IsFlat, AreLeft, IsNext, next_stand, value_in, value_of, quality};
+ghost use Rattle.dutch_pair.specs.NextBracket.{IsOfBracket, IsFlat, AreLeft, IsNext, next_bracket, value_in, value_of, quality};
 ghost use Rattle.dutch_order.specs.Steps.{Spends};
 
 use crate::differences::fill_psd;
-use crate::greatest::{Legal, greatest_shape};
+use crate::greatest::{Legal, Lister, greatest_shape};
 use crate::quality::{NextValue, Quality, Room, fill_quality};
-use crate::reached::{Kind, Reached, push_all};
+use crate::reached::{BracketKind, Reached, push_all};
 use crate::seated::{by_seats, seats_of};
-use dutch_order::candidate::Candidate;
-use dutch_order::numbers::Numbers;
-use dutch_order::steps::{Budget, Step};
-use dutch_player::field::Field;
+use dutch_order::{Budget, Candidate, Numbers, Step};
+use dutch_player::Field;
 
 /// Scores are such as a `u16` holds.
 fn are_small(scores: &[u16])
@@ -27,7 +25,8 @@ fn are_small(scores: &[u16])
     let _count = scores.len();
 }
 
-/// What a bracket can be (C.7): none where the budget's limit was reached first.
+/// What a bracket can be (C.7): none where the budget's limit was reached first. (Apart from its caller, as a lister is large.)
+#[inline(never)]
 pub(crate) fn value_of(field: &Field, reached: &Reached, budget: &mut Budget) -> Option<NextValue>
     requires of { IsOf field.now reached.now }
     requires flat { IsFlat field.now reached.now }
@@ -42,13 +41,14 @@ pub(crate) fn value_of(field: &Field, reached: &Reached, budget: &mut Budget) ->
         bracket: &bracket,
         rule: &rule,
     };
-    match greatest_shape(&legal, budget) {
-        Step::Found(greatest) => {
-            let first = by_seats(field, reached.seats(), &greatest.first);
+    let mut lister = Lister::new(&bracket, &rule);
+    match greatest_shape(&legal, &mut lister, budget) {
+        Step::Found(shape) => {
+            let first = by_seats(field, reached.seats(), &lister.drawn);
             let mut psd = Numbers::new();
             fill_psd(field, &first, &mut psd);
             Some(NextValue {
-                pairs: greatest.shape.pairs,
+                pairs: shape.pairs,
                 psd,
             })
         }
@@ -63,14 +63,14 @@ fn next_bracket(field: &Field, reached: &Reached, down: &[u16], next: &[u16]) ->
     requires of { IsOf field.now reached.now }
     requires down { AreLeft reached.now down.now }
     requires next { IsNext field.now reached.now next.now }
-    ensures { result ≡ next_stand (map (seat_of reached.now.seats) down.now) next.now }
+    ensures { result ≡ next_bracket (map (seat_of reached.now.seats) down.now) next.now }
 {
     let mut seats = seats_of(reached.seats(), down);
     let mdps = seats.len();
     push_all(next, &mut seats);
     Reached {
         number: 0,
-        kind: Kind::Ordinary,
+        kind: BracketKind::Ordinary,
         mdps,
         seats,
     }
@@ -97,7 +97,7 @@ pub(crate) fn value_below(
 }
 
 /// The value of the next bracket for a candidate (C.7): in ordinary brackets alone.
-#[tactic(auto, using(crate::proofs::NextBrackets::left_by_draw))]
+#[tactic(auto, using(crate::proofs::NextBrackets::left_by_candidate))]
 fn next_value(
     field: &Field,
     reached: &Reached,
@@ -106,7 +106,7 @@ fn next_value(
     budget: &mut Budget,
 ) -> Option<NextValue>
     requires of { IsOf field.now reached.now }
-    requires candidate { IsDraw field.now reached.now candidate.now }
+    requires candidate { IsOfBracket field.now reached.now candidate.now }
     requires next { IsNext field.now reached.now next.now }
     requires within { budget.old.used ≤ budget.old.limit }
     ensures answer { MatchOption result (budget.new.used ≡ budget.new.limit)
@@ -114,7 +114,7 @@ fn next_value(
     ensures spends { Spends budget.old budget.new }
 {
     match reached.kind() {
-        Kind::Ordinary => value_below(field, reached, candidate.down(), next, budget),
+        BracketKind::Ordinary => value_below(field, reached, candidate.down(), next, budget),
         _ => Some(NextValue::none()),
     }
 }
@@ -129,7 +129,7 @@ pub fn quality(
     budget: &mut Budget,
 ) -> Option<Quality>
     requires of { IsOf field.now reached.now }
-    requires candidate { IsDraw field.now reached.now candidate.now }
+    requires candidate { IsOfBracket field.now reached.now candidate.now }
     requires next { IsNext field.now reached.now next.now }
     requires within { budget.old.used ≤ budget.old.limit }
     ensures answer { MatchOption result (budget.new.used ≡ budget.new.limit)

@@ -7,7 +7,7 @@ ghost use Rattle.dutch_pair.specs.Lower.{is_below, lower_of};
 
 use crate::reached::{Reached, Seats};
 use crate::walk::everybody;
-use dutch_player::field::Field;
+use dutch_player::Field;
 
 /// Whether a seat's score is lower than each of some seats.
 #[tactic(auto, using(crate::proofs::LowerLemmas::below_more, crate::proofs::LowerLemmas::below_not, crate::proofs::LowerLemmas::below_end))]

@@ -3,7 +3,7 @@
 ghost use Rattle.std.specs.Prelude.{◌≡◌, ◌≤◌, []};
 ghost use Rattle.std.specs.Option.{MatchOption};
 ghost use Rattle.dutch_order.specs.Arrangements.{Fits};
-ghost use Rattle.dutch_pair.specs.declared.reached.Kind.TheVariants.{Ordinary};
+ghost use Rattle.dutch_pair.specs.declared.reached.BracketKind.TheVariants.{Ordinary};
 ghost use Rattle.dutch_pair.specs.FloorOf.{is_flat};
 ghost use Rattle.dutch_pair.specs.Ghosts.{pairs_by_counts};
 ghost use Rattle.dutch_pair.specs.Outlooks.{IsOutlook, awaited, leaves_first, leaves_first_by};
@@ -14,11 +14,8 @@ ghost use Rattle.dutch_order.specs.Steps.{Spends};
 use crate::context::Context;
 use crate::ghost_value::ghost_value;
 use crate::quality::NextValue;
-use crate::reached::Kind;
-use dutch_order::bracket::Shape;
-use dutch_order::numbers::Numbers;
-use dutch_order::prefix::Filling;
-use dutch_order::steps::Budget;
+use crate::reached::BracketKind;
+use dutch_order::{Budget, Filling, Numbers, Shape};
 
 /// What the next bracket can be at best.
 #[derive(Debug, Drop)]
@@ -32,8 +29,8 @@ pub(crate) struct Outlook {
 /// Whether an S1 leaves a Limbo with the scores of the first one of a shape.
 #[tactic(auto, using(crate::proofs::ArrangementParts::next_number))]
 fn leaves_first(context: &Context<'_>, shape: Shape, s1: &[u16]) -> bool
-    requires { Fits (frame_of context.now.facts context.now.stand) shape }
-    ensures { result ≡ leaves_first context.now.facts context.now.stand shape s1.now }
+    requires { Fits (frame_of context.now.facts context.now.reached) shape }
+    ensures { result ≡ leaves_first context.now.facts context.now.reached shape s1.now }
 {
     let moved_down = context.reached().mdps();
     // how many numbers stand before those of the first Limbo that are to come
@@ -55,8 +52,8 @@ fn leaves_first(context: &Context<'_>, shape: Shape, s1: &[u16]) -> bool
 
 /// The same, where it is known that every S1 does as long as none is chosen.
 fn leaves_first_by(context: &Context<'_>, shape: Shape, filling: Filling, s1: &[u16]) -> bool
-    requires { Fits (frame_of context.now.facts context.now.stand) shape }
-    ensures { result ≡ leaves_first_by filling context.now.facts context.now.stand shape s1.now }
+    requires { Fits (frame_of context.now.facts context.now.reached) shape }
+    ensures { result ≡ leaves_first_by filling context.now.facts context.now.reached shape s1.now }
 {
     match filling {
         Filling::S1 => return true,
@@ -67,8 +64,8 @@ fn leaves_first_by(context: &Context<'_>, shape: Shape, filling: Filling, s1: &[
 /// What half of those who go down and of the next lower scoregroup come to in pairs.
 #[tactic(auto, using(crate::proofs::C07Outlook::few_pairs))]
 fn value_by_counts(context: &Context<'_>, shape: Shape) -> NextValue
-    requires { Fits (frame_of context.now.facts context.now.stand) shape }
-    ensures { result ≡ record { pairs = pairs_by_counts context.now.stand shape (first_group context.now.facts (scoregroups context.now.facts context.now.lower)); psd = [] } }
+    requires { Fits (frame_of context.now.facts context.now.reached) shape }
+    ensures { result ≡ record { pairs = pairs_by_counts context.now.reached shape (first_group context.now.facts (scoregroups context.now.facts context.now.lower)); psd = [] } }
 {
     let down = context.reached().seats().len() - 2 * shape.pairs;
     NextValue {
@@ -79,7 +76,7 @@ fn value_by_counts(context: &Context<'_>, shape: Shape) -> NextValue
 
 /// Whether there is a resident, and all residents have one score.
 fn is_flat(context: &Context<'_>) -> bool
-    ensures { result ≡ is_flat context.now.facts context.now.stand }
+    ensures { result ≡ is_flat context.now.facts context.now.reached }
 {
     let (field, reached) = (context.field(), context.reached());
     let seats = reached.seats();
@@ -94,27 +91,30 @@ impl Outlook {
     /// are not ordinary the next one does not count.
     #[tactic(auto, using(crate::proofs::C07Outlook::none_counts))]
     pub(crate) fn find(context: &Context<'_>, shape: Shape, budget: &mut Budget) -> Option<Outlook>
-        requires fits { Fits (frame_of context.now.facts context.now.stand) shape }
+        requires fits { Fits (frame_of context.now.facts context.now.reached) shape }
         requires within { budget.old.used ≤ budget.old.limit }
-        ensures answer { MatchOption result (budget.new.used ≡ budget.new.limit) (IsOutlook context.now.facts context.now.stand context.now.lower shape) }
+        ensures answer { MatchOption result (budget.new.used ≡ budget.new.limit) (IsOutlook context.now.facts context.now.reached context.now.lower shape) }
         ensures spends { Spends budget.old budget.new }
     {
         match context.reached().kind() {
-            Kind::Ordinary => Outlook::below_ordinary(context, shape, budget),
-            Kind::Last | Kind::Penultimate | Kind::Collapsed => Some(Outlook {
-                first: None,
-                any: NextValue::none(),
-            }),
+            BracketKind::Ordinary => Outlook::below_ordinary(context, shape, budget),
+            BracketKind::Last | BracketKind::Penultimate | BracketKind::Collapsed => Some(
+                Outlook {
+                    first: None,
+                    any: NextValue::none(),
+                },
+            ),
         }
     }
 
     /// The same in an ordinary bracket.
+    #[inline(never)]
     #[tactic(auto, using(crate::proofs::C07Outlook::by_counts, crate::proofs::C07Outlook::by_ghosts, crate::proofs::C07Outlook::flat_residents))]
     fn below_ordinary(context: &Context<'_>, shape: Shape, budget: &mut Budget) -> Option<Outlook>
-        requires ordinary { context.now.stand.kind ≡ Ordinary }
-        requires fits { Fits (frame_of context.now.facts context.now.stand) shape }
+        requires ordinary { context.now.reached.kind ≡ Ordinary }
+        requires fits { Fits (frame_of context.now.facts context.now.reached) shape }
         requires within { budget.old.used ≤ budget.old.limit }
-        ensures answer { MatchOption result (budget.new.used ≡ budget.new.limit) (IsOutlook context.now.facts context.now.stand context.now.lower shape) }
+        ensures answer { MatchOption result (budget.new.used ≡ budget.new.limit) (IsOutlook context.now.facts context.now.reached context.now.lower shape) }
         ensures spends { Spends budget.old budget.new }
     {
         let _reached = context.reached();
@@ -137,8 +137,8 @@ impl Outlook {
         filling: Filling,
         s1: &[u16],
     ) -> &NextValue
-        requires { Fits (frame_of context.now.facts context.now.stand) shape }
-        ensures { result.now ≡ awaited context.now.facts context.now.stand shape self.now filling s1.now }
+        requires { Fits (frame_of context.now.facts context.now.reached) shape }
+        ensures { result.now ≡ awaited context.now.facts context.now.reached shape self.now filling s1.now }
     {
         match &self.first {
             Some(first) => {

@@ -12,7 +12,7 @@ use crate::bit_table::{WORD, has_bit, set_bit};
 use crate::context::Context;
 use crate::fault::PairFault;
 use crate::spending::spend;
-use dutch_order::steps::Budget;
+use dutch_order::Budget;
 use std::alloc::{AllocError, Global};
 use std::marker::Model;
 
@@ -48,10 +48,10 @@ fn place_of(n: usize, x: u16, y: u16) -> usize
 /// Whether two numbers suit, where those before them in the table are noted.
 fn suits_by(context: &Context<'_>, table: &[u64], x: u16, y: u16) -> bool
     requires room { HasRoom context.now table.now }
-    requires noted { NotedUpto context.now table.now (place_of (length context.now.stand.seats) x y) }
-    requires first { (0 < x) × (x ≤ length context.now.stand.seats) }
-    requires second { (0 < y) × (y ≤ length context.now.stand.seats) }
-    ensures { result ≡ suits context.now.facts context.now.stand x y }
+    requires noted { NotedUpto context.now table.now (place_of (length context.now.reached.seats) x y) }
+    requires first { (0 < x) × (x ≤ length context.now.reached.seats) }
+    requires second { (0 < y) × (y ≤ length context.now.reached.seats) }
+    ensures { result ≡ suits context.now.facts context.now.reached x y }
 {
     if y < x {
         return has_bit(table, place_of(context.len(), y, x));
@@ -62,10 +62,10 @@ fn suits_by(context: &Context<'_>, table: &[u64], x: u16, y: u16) -> bool
 /// Notes whether two numbers suit.
 fn note(context: &Context<'_>, table: &mut [u64], x: u16, y: u16)
     requires room { HasRoom context.now table.old }
-    requires noted { NotedUpto context.now table.old (place_of (length context.now.stand.seats) x y) }
-    requires first { (0 < x) × (x ≤ length context.now.stand.seats) }
-    requires second { (0 < y) × (y ≤ length context.now.stand.seats) }
-    ensures noted { NotedUpto context.now table.new (place_of (length context.now.stand.seats) x y + 1) }
+    requires noted { NotedUpto context.now table.old (place_of (length context.now.reached.seats) x y) }
+    requires first { (0 < x) × (x ≤ length context.now.reached.seats) }
+    requires second { (0 < y) × (y ≤ length context.now.reached.seats) }
+    ensures noted { NotedUpto context.now table.new (place_of (length context.now.reached.seats) x y + 1) }
     ensures room { length table.new ≡ length table.old }
 {
     if suits_by(context, table, x, y) {
@@ -76,9 +76,9 @@ fn note(context: &Context<'_>, table: &mut [u64], x: u16, y: u16)
 /// Notes whom a number suits.
 fn note_row(context: &Context<'_>, table: &mut [u64], x: u16)
     requires room { HasRoom context.now table.old }
-    requires noted { NotedUpto context.now table.old (place_of (length context.now.stand.seats) x 1) }
-    requires number { (0 < x) × (x ≤ length context.now.stand.seats) }
-    ensures noted { NotedUpto context.now table.new (length context.now.stand.seats * x) }
+    requires noted { NotedUpto context.now table.old (place_of (length context.now.reached.seats) x 1) }
+    requires number { (0 < x) × (x ≤ length context.now.reached.seats) }
+    ensures noted { NotedUpto context.now table.new (length context.now.reached.seats * x) }
     ensures room { length table.new ≡ length table.old }
 {
     for y in 0..context.len() {
@@ -136,9 +136,9 @@ impl<'a> PairFacts<'a> {
 
     /// Whether two numbers of the bracket suit each other.
     pub(crate) fn suits(&self, x: u16, y: u16) -> bool
-        requires first { (0 < x) × (x ≤ length self.now.stand.seats) }
-        requires second { (0 < y) × (y ≤ length self.now.stand.seats) }
-        ensures { result ≡ suits self.now.facts self.now.stand x y }
+        requires first { (0 < x) × (x ≤ length self.now.reached.seats) }
+        requires second { (0 < y) × (y ≤ length self.now.reached.seats) }
+        ensures { result ≡ suits self.now.facts self.now.reached x y }
     {
         has_bit(&self.suiting, place_of(self.context.len(), x, y))
     }

@@ -11,14 +11,13 @@ ghost use Rattle.dutch_pair.specs.PsdFloors.{repeated, psd_with};
 
 use crate::context::Context;
 use crate::differences::{put, put_times};
-use dutch_order::bracket::Shape;
-use dutch_order::numbers::Numbers;
+use dutch_order::{Numbers, Shape};
 
 /// Puts the differences of moved-down players who are paired with residents of a score.
 fn put_paired(context: &Context<'_>, score: u16, s1: &[u16], psd: &mut Numbers)
-    requires numbers { AllNumbers context.now.stand.seats s1.now }
+    requires numbers { AllNumbers context.now.reached.seats s1.now }
     requires room { array_vec_len psd.old + length s1.now ≤ LIMIT }
-    ensures items { psd.new.items ≡ placed_all psd.old.items (map (λ i. score_at context.now.facts (seat_of context.now.stand.seats i) - score) s1.now) }
+    ensures items { psd.new.items ≡ placed_all psd.old.items (map (λ i. score_at context.now.facts (seat_of context.now.reached.seats i) - score) s1.now) }
     ensures len { array_vec_len psd.new ≡ array_vec_len psd.old + length s1.now }
 {
     for number in s1 {
@@ -29,10 +28,10 @@ fn put_paired(context: &Context<'_>, score: u16, s1: &[u16], psd: &mut Numbers)
 /// Puts the differences of the moved-down players who are not in S1, and so are not paired.
 #[tactic(auto, using(crate::proofs::ArrangementParts::next_number))]
 fn put_limbo(context: &Context<'_>, score: u16, s1: &[u16], psd: &mut Numbers)
-    requires room { array_vec_len psd.old + context.now.stand.mdps ≤ LIMIT }
+    requires room { array_vec_len psd.old + context.now.reached.mdps ≤ LIMIT }
     ensures items { psd.new.items ≡ placed_all psd.old.items
-        (map (λ i. (score_at context.now.facts (seat_of context.now.stand.seats i) - score) + 2) (left_of (numbers_from 1 context.now.stand.mdps) s1.now)) }
-    ensures len { array_vec_len psd.new ≤ array_vec_len psd.old + context.now.stand.mdps }
+        (map (λ i. (score_at context.now.facts (seat_of context.now.reached.seats i) - score) + 2) (left_of (numbers_from 1 context.now.reached.mdps) s1.now)) }
+    ensures len { array_vec_len psd.new ≤ array_vec_len psd.old + context.now.reached.mdps }
 {
     for above in 0..context.reached().mdps() {
         let number = above as u16 + 1;
@@ -51,10 +50,10 @@ pub(crate) fn fill_psd_with(
     s1: &[u16],
     psd: &mut Numbers,
 )
-    requires numbers { AllNumbers context.now.stand.seats s1.now }
-    requires room { (length s1.now + context.now.stand.mdps) + (remainder_pairs shape + residents_down context.now.stand shape) ≤ LIMIT }
+    requires numbers { AllNumbers context.now.reached.seats s1.now }
+    requires room { (length s1.now + context.now.reached.mdps) + (remainder_pairs shape + residents_down context.now.reached shape) ≤ LIMIT }
     requires small { shape.pairs ≤ LIMIT }
-    ensures { psd.new.items ≡ psd_with context.now.facts context.now.stand shape score s1.now }
+    ensures { psd.new.items ≡ psd_with context.now.facts context.now.reached shape score s1.now }
 {
     psd.clear();
     put_paired(context, score, s1, psd);

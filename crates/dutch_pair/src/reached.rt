@@ -7,15 +7,13 @@ ghost use Rattle.dutch_pair.specs.Round.{bracket};
 ghost use Rattle.dutch_pair.specs.Reached.{IsOf, ends_round, frame_of, is_number, numbers_meet, number_may_be_left};
 
 use arrayvec::ArrayVec;
-use dutch_order::bracket::Bracket;
-use dutch_order::numbers::LIMIT;
-use dutch_order::rules::Rule;
-use dutch_player::field::Field;
+use dutch_order::{Bracket, LIMIT, Rule};
+use dutch_player::Field;
 use std::marker::Model;
 
 /// What a bracket is for the round.
 #[derive(Debug, Clone, Copy, PartialEq, Eq)]
-pub enum Kind {
+pub enum BracketKind {
     /// Its downfloaters move down to the next one.
     Ordinary,
     /// No player stands below it.
@@ -26,14 +24,14 @@ pub enum Kind {
     Collapsed,
 }
 
-impl Kind {
+impl BracketKind {
     /// Whether the round ends with this bracket, so that it may leave over at most one player.
     pub fn ends_round(self) -> bool
         ensures { result ≡ ends_round self }
     {
         match self {
-            Kind::Last | Kind::Collapsed => true,
-            Kind::Ordinary | Kind::Penultimate => false,
+            BracketKind::Last | BracketKind::Collapsed => true,
+            BracketKind::Ordinary | BracketKind::Penultimate => false,
         }
     }
 }
@@ -46,15 +44,15 @@ pub type Seats = ArrayVec<u16, LIMIT>;
 #[derive(Debug, Drop)]
 pub struct Reached {
     pub(crate) number: u16,
-    pub(crate) kind: Kind,
+    pub(crate) kind: BracketKind,
     pub(crate) mdps: usize,
     pub(crate) seats: Seats,
 }
 
 impl Model for Reached {
-    ghost use Rattle.dutch_pair.specs.Reached.{Stand};
+    ghost use Rattle.dutch_pair.specs.Reached.{Reached};
 
-    ghost Value = { Stand };
+    ghost Value = { Reached };
 
     ghost view = { λ r. record { number = r.number; kind = r.kind; mdps = r.mdps; seats = r.seats.items } };
 }
@@ -68,7 +66,7 @@ impl Reached {
     }
 
     /// What the bracket is for the round.
-    pub fn kind(&self) -> Kind
+    pub fn kind(&self) -> BracketKind
         ensures { result ≡ self.now.kind }
     {
         self.kind
@@ -163,7 +161,12 @@ pub(crate) fn copied(seats: &[u16]) -> Seats
 }
 
 /// A bracket of some moved down and some residents.
-pub(crate) fn bracket(number: u16, kind: Kind, moved_down: &[u16], residents: &[u16]) -> Reached
+pub(crate) fn bracket(
+    number: u16,
+    kind: BracketKind,
+    moved_down: &[u16],
+    residents: &[u16],
+) -> Reached
     requires { length moved_down.now + length residents.now ≤ LIMIT }
     ensures { result ≡ bracket number kind moved_down.now residents.now }
 {
@@ -229,7 +232,7 @@ impl<'a> Rule for ByNumber<'a> {
             .may_meet(self.reached.seat(a), self.reached.seat(b))
     }
 
-    fn last_ok(&self, a: u16) -> bool {
+    fn may_be_left(&self, a: u16) -> bool {
         self.reached.has(a) && self.field.may_bye(self.reached.seat(a))
     }
 }

@@ -5,10 +5,10 @@
 ghost use Rattle.std.specs.Prelude.{◌≡◌, ◌≤◌, true, false, [], length, map, take, IfOk, ◌⊎◌};
 ghost use Rattle.std.specs.Map.{lookup};
 ghost use Rattle.lru.specs.LruCache.{lru_cache, promoted, put_entries};
-ghost use Rattle.dutch_pair.specs.declared.reached.Kind.TheVariants.{Ordinary};
+ghost use Rattle.dutch_pair.specs.declared.reached.BracketKind.TheVariants.{Ordinary};
 ghost use Rattle.std.specs.Option.{MatchOption};
 ghost use Rattle.dutch_pair.specs.Reached.{IsOf};
-ghost use Rattle.dutch_pair.specs.NextBracket.{IsNext, IsDraw, AreLeft, quality};
+ghost use Rattle.dutch_pair.specs.NextBracket.{IsNext, IsOfBracket, AreLeft, quality};
 ghost use Rattle.dutch_pair.specs.QualityIn.{quality_in};
 ghost use Rattle.dutch_pair.specs.Round.{quality_of};
 ghost use Rattle.dutch_pair.specs.Remembered.{value_below, is_kept, is_key, IsLook, IsKeptAfter, LooksOn, LooksBelow};
@@ -18,11 +18,9 @@ use crate::context::Context;
 use crate::fault::PairFault;
 use crate::lookahead::value_below;
 use crate::quality::{NextValue, Room, fill_quality};
-use crate::reached::{Kind, Reached, Seats, push_all};
-use dutch_order::candidate::Candidate;
-use dutch_order::numbers::{LIMIT, Numbers};
-use dutch_order::steps::Budget;
-use dutch_player::field::Field;
+use crate::reached::{BracketKind, Reached, Seats, push_all};
+use dutch_order::{Budget, Candidate, LIMIT, Numbers};
+use dutch_player::Field;
 use lru::LruCache;
 use std::alloc::Global;
 use std::marker::Model;
@@ -57,7 +55,7 @@ impl<'a> Model for LookAhead<'a> {
 
     ghost Value = { Remembered };
 
-    ghost view = { λ a. record { facts = a.field.now; stand = a.reached.now; next = a.next.items; kept = lists_kept a.values.entries } };
+    ghost view = { λ a. record { facts = a.field.now; reached = a.reached.now; next = a.next.items; kept = lists_kept a.values.entries } };
 
     ghost invariant = { λ a. AreValues a.field.now a.reached.now a.next.items a.values };
 }
@@ -122,7 +120,7 @@ impl<'a> LookAhead<'a> {
         requires of { IsOf field.now reached.now }
         requires ordinary { reached.now.kind ≡ Ordinary }
         requires next { IsNext field.now reached.now next.now }
-        ensures { IfOk result (λ ahead. ahead ≡ record { facts = field.now; stand = reached.now; next = next.now; kept = [] }) }
+        ensures { IfOk result (λ ahead. ahead ≡ record { facts = field.now; reached = reached.now; next = next.now; kept = [] }) }
     {
         let mut seats = Seats::new();
         push_all(next, &mut seats);
@@ -137,9 +135,9 @@ impl<'a> LookAhead<'a> {
     /// What the next bracket can be for downfloaters for whom no value is kept.
     fn looked_for(&mut self, down: Numbers, budget: &mut Budget) -> Look
         requires unknown { is_kept down.items self.old.kept ≡ false }
-        requires down { AreLeft self.old.stand down.items }
+        requires down { AreLeft self.old.reached down.items }
         requires within { budget.old.used ≤ budget.old.limit }
-        ensures answer { IsLook (value_below self.old.facts self.old.stand self.old.next down.items) (budget.new.used ≡ budget.new.limit) result }
+        ensures answer { IsLook (value_below self.old.facts self.old.reached self.old.next down.items) (budget.new.used ≡ budget.new.limit) result }
         ensures kept { IsKeptAfter down.items self.old self.new result }
         ensures spends { Spends budget.old budget.new }
     {
@@ -155,9 +153,9 @@ impl<'a> LookAhead<'a> {
     /// What the next bracket can be for downfloaters, by their numbers in the bracket. A value that is kept takes no step. Where memory
     /// is refused the value is not kept.
     pub fn value(&mut self, down: &[u16], budget: &mut Budget) -> Look
-        requires down { AreLeft self.old.stand down.now }
+        requires down { AreLeft self.old.reached down.now }
         requires within { budget.old.used ≤ budget.old.limit }
-        ensures answer { IsLook (value_below self.old.facts self.old.stand self.old.next down.now)
+        ensures answer { IsLook (value_below self.old.facts self.old.reached self.old.next down.now)
             ((is_kept down.now self.old.kept ≡ false) × (budget.new.used ≡ budget.new.limit)) result }
         ensures free { is_kept down.now self.old.kept ≡ true → budget.new.used ≡ budget.old.used }
         ensures kept { IsKeptAfter down.now self.old self.new result }
@@ -172,11 +170,11 @@ impl<'a> LookAhead<'a> {
     }
 
     /// Fills the quality of a candidate of the bracket: no where the budget's limit was reached first.
-    #[tactic(auto, using(crate::proofs::NextBrackets::left_by_draw))]
+    #[tactic(auto, using(crate::proofs::NextBrackets::left_by_candidate))]
     fn fill_quality(&mut self, candidate: &Candidate, room: &mut Room, budget: &mut Budget) -> bool
-        requires candidate { IsDraw self.old.facts self.old.stand candidate.now }
+        requires candidate { IsOfBracket self.old.facts self.old.reached candidate.now }
         requires within { budget.old.used ≤ budget.old.limit }
-        ensures filled { result ≡ true → quality_in room.new.quality ≡ quality self.old.facts self.old.stand self.old.next candidate.now }
+        ensures filled { result ≡ true → quality_in room.new.quality ≡ quality self.old.facts self.old.reached self.old.next candidate.now }
         ensures stopped { result ≡ false → budget.new.used ≡ budget.new.limit }
         ensures looks_on { LooksOn self.old self.new }
         ensures spends { Spends budget.old budget.new }
@@ -206,10 +204,10 @@ pub(crate) fn look_below<'a>(
     alloc: Global,
     context: &'a Context<'a>,
 ) -> Result<Option<LookAhead<'a>>, PairFault>
-    ensures { IfOk result (LooksBelow context.now.facts context.now.stand context.now.lower) }
+    ensures { IfOk result (LooksBelow context.now.facts context.now.reached context.now.lower) }
 {
     match context.reached().kind() {
-        Kind::Ordinary => {
+        BracketKind::Ordinary => {
             let look = LookAhead::new(alloc, context.field(), context.reached(), context.next())?;
             Ok(Some(look))
         }
@@ -233,12 +231,12 @@ pub(crate) fn judge_candidate(
     judge: &mut Judge<'_>,
     budget: &mut Budget,
 ) -> bool
-    requires candidate { IsDraw context.now.facts context.now.stand candidate.now }
-    requires look { LooksBelow context.now.facts context.now.stand context.now.lower judge.old.look }
+    requires candidate { IsOfBracket context.now.facts context.now.reached candidate.now }
+    requires look { LooksBelow context.now.facts context.now.reached context.now.lower judge.old.look }
     requires within { budget.old.used ≤ budget.old.limit }
-    ensures judged { result ≡ true → quality_in judge.new.room.quality ≡ quality_of context.now.facts context.now.stand context.now.lower candidate.now.lists }
+    ensures judged { result ≡ true → quality_in judge.new.room.quality ≡ quality_of context.now.facts context.now.reached context.now.lower candidate.now.lists }
     ensures stopped { result ≡ false → budget.new.used ≡ budget.new.limit }
-    ensures look { LooksBelow context.now.facts context.now.stand context.now.lower judge.new.look }
+    ensures look { LooksBelow context.now.facts context.now.reached context.now.lower judge.new.look }
     ensures spends { Spends budget.old budget.new }
 {
     let room = &mut judge.room;

@@ -2,21 +2,20 @@
 ghost use Rattle.std.specs.Prelude.{◌≡◌, IfOk};
 ghost use Rattle.dutch_pair.specs.Outcomes.{AreStages, IsOutcome, IsBracketAt, TellsCompletion, TellsCompletionAt};
 
-use crate::boards::{Pair, boards};
+use crate::boards::{Board, boards};
 use crate::fault::PairFault;
 use crate::reached::{Reached, Seats};
 use crate::stage::Stage;
 use crate::walk::{Turn, Walk, everybody};
-use dutch_order::bracket::Shape;
-use dutch_order::steps::Step;
-use dutch_player::field::Field;
+use dutch_order::{Shape, Step};
+use dutch_player::Field;
 use std::alloc::Global;
 
 /// The outcome of pairing a round.
 #[derive(Debug, Drop)]
 pub enum Outcome {
     /// The boards in their order: start ranks of white and of black, 0 for the pairing-allocated bye, which is last.
-    Paired(Vec<Pair>),
+    Paired(Vec<Board>),
     /// No pairing meets the absolute criteria.
     NoPairing,
     /// The steps of a bracket reached the limit, which is `used`, before it was decided.

@@ -4,15 +4,13 @@ ghost use Rattle.arrayvec.specs.ArrayVec.{array_vec_len};
 ghost use Rattle.dutch_pair.specs.Seated.{seat_of, pairs_of, lowest, lowest_upto, by_seats, difference, difference_down, is_uneven, goes, AreSeats, AllNumbers, HasSeats, IsCandidate};
 
 use arrayvec::ArrayVec;
-use dutch_order::candidate::Candidate;
-use dutch_order::numbers::{LIMIT, Numbers};
-use dutch_player::field::Field;
-use dutch_player::float::Float;
+use dutch_order::{Candidate, LIMIT, Numbers};
+use dutch_player::{Field, Float};
 use std::marker::Model;
 
 /// A player who goes down or up, and by how much.
 #[derive(Debug, Clone, Copy, Default, PartialEq, Eq)]
-pub struct Mover {
+pub struct Floater {
     pub seat: u16,
     pub by: u16,
 }
@@ -96,7 +94,7 @@ pub(crate) fn is_uneven(field: &Field, pair: Pair) -> bool
 }
 
 /// The player of a pair with different scores who floats so.
-pub(crate) fn goes(field: &Field, float: Float, pair: Pair) -> Mover
+pub(crate) fn goes(field: &Field, float: Float, pair: Pair) -> Floater
     requires first { pair.0 < length field.now.seats }
     requires second { pair.1 < length field.now.seats }
     ensures value { result ≡ goes field.now float pair }
@@ -105,8 +103,8 @@ pub(crate) fn goes(field: &Field, float: Float, pair: Pair) -> Mover
     let by = difference(field, pair);
     let first_is_lower = field.score(pair.0) < field.score(pair.1);
     match (float, first_is_lower) {
-        (Float::Up, true) | (Float::Down, false) => Mover { seat: pair.0, by },
-        (Float::Up, false) | (Float::Down, true) => Mover { seat: pair.1, by },
+        (Float::Up, true) | (Float::Down, false) => Floater { seat: pair.0, by },
+        (Float::Up, false) | (Float::Down, true) => Floater { seat: pair.1, by },
     }
 }
 

@@ -2,8 +2,8 @@
 ghost use Rattle.std.specs.Prelude.{◌≡◌};
 ghost use Rattle.dutch_pair.specs.Seats.{is_seat, seats_meet, seats_may_be_left};
 
-use dutch_order::rules::Rule;
-use dutch_player::field::Field;
+use dutch_order::Rule;
+use dutch_player::Field;
 use std::marker::Model;
 
 /// The players of a field by seat: who may meet whom, and who may have the bye. It says false for a number that is no seat, and for
@@ -50,7 +50,7 @@ impl<'a> Rule for BySeat<'a> {
         self.has(a) && self.has(b) && a != b && self.field.may_meet(a, b)
     }
 
-    fn last_ok(&self, a: u16) -> bool {
+    fn may_be_left(&self, a: u16) -> bool {
         self.has(a) && self.field.may_bye(a)
     }
 

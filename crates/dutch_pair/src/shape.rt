@@ -1,34 +1,47 @@
 // The shape of a bracket (C.04.3 C.5, B.1): the most pairs that some candidate has, and then the most moved-down players in them.
-ghost use Rattle.std.specs.Prelude.{◌≡◌, ◌≤◌, Some, None};
+ghost use Rattle.std.specs.Prelude.{◌≡◌, ◌*◌, ◌≤◌, Some, None, filter, length};
 ghost use Rattle.dutch_order.specs.Arrangements.{Fits};
 ghost use Rattle.dutch_order.specs.Steps.{MatchStep, Spends};
 ghost use Rattle.dutch_pair.specs.Reached.{frame_of};
-ghost use Rattle.dutch_pair.specs.Round.{shape_of};
+ghost use Rattle.dutch_pair.specs.Completion.{MatchAnswer};
+ghost use Rattle.dutch_pair.specs.Round.{eligible, shape_of};
+ghost use Rattle.dutch_pair.specs.Shapes.{first_with, fits, shapes_with};
 
 use crate::completion::Answer;
 use crate::context::Context;
 use crate::eligible::first_eligible;
-use crate::greatest::{Shapes, greatest_shape};
+use crate::greatest::{Lister, Shapes, greatest_shape};
+use crate::reached::ByNumber;
 use crate::takers::can_go_out;
-use dutch_order::bracket::{Bracket, Shape};
-use dutch_order::candidate::Candidate;
-use dutch_order::steps::{Budget, Step};
+use dutch_order::{Bracket, Budget, Shape, Step};
 
-impl<'a> Shapes for Context<'a> {
+impl<'a, 'b> Shapes<ByNumber<'b>> for Context<'a> {
+    ghost use Rattle.dutch_pair.specs.Eligible.{Lists};
     ghost use Rattle.dutch_pair.specs.Reached.{frame_of};
     ghost use Rattle.dutch_pair.specs.Round.{eligible};
 
-    ghost counting = { λ c. eligible c.facts c.stand c.lower };
+    ghost counting = { λ c. eligible c.facts c.reached c.lower };
 
-    ghost frame = { λ c. frame_of c.facts c.stand };
+    ghost frame = { λ c. frame_of c.facts c.reached };
 
-    fn bracket(&self) -> &Bracket {
+    ghost lists = { λ c listing. Lists c.facts c.reached listing };
+
+    fn bracket(&self) -> &Bracket
+        ensures { result.now ≡ frame_of self.now.facts self.now.reached }
+    {
         self.frame()
     }
 
     // Where as many downfloaters as so many pairs leave in a penultimate bracket cannot be paired out with the lower players, whoever they
     // are, no candidate can be chosen (C.4).
-    fn may_have(&self, pairs: usize, budget: &mut Budget) -> Answer {
+    fn may_have(&self, pairs: usize, budget: &mut Budget) -> Answer
+        requires small { 2 * pairs ≤ length (frame_of self.now.facts self.now.reached).scores }
+        requires within { budget.old.used ≤ budget.old.limit }
+        ensures answer { MatchAnswer result (Unit {0})
+            (first_with (eligible self.now.facts self.now.reached self.now.lower) (filter (fits (frame_of self.now.facts self.now.reached)) (shapes_with pairs)) ≡ None)
+            (budget.new.used ≡ budget.new.limit) }
+        ensures spends { Spends budget.old budget.new }
+    {
         if !self.reached().kind().is_penultimate() {
             return Answer::Yes;
         }
@@ -39,23 +52,31 @@ impl<'a> Shapes for Context<'a> {
         }
     }
 
-    fn first(&self, shape: Shape, budget: &mut Budget) -> Step<Candidate> {
-        first_eligible(self, shape, budget)
+    fn first(
+        &self,
+        lister: &mut Lister<'_, ByNumber<'b>>,
+        shape: Shape,
+        budget: &mut Budget,
+    ) -> Step<()> {
+        first_eligible(self, lister, shape, budget)
     }
 }
 
 /// The shape of a bracket of a field above all lower seats by rank: of the shapes that have a candidate, the one with the most pairs,
 /// and for them with the most moved-down players. `End` is answered where none has one.
+#[inline(never)]
 pub(crate) fn shape_of(context: &Context<'_>, budget: &mut Budget) -> Step<Shape>
     requires within { budget.old.used ≤ budget.old.limit }
     ensures answer { MatchStep result
-        (λ shape. (shape_of context.now.facts context.now.stand context.now.lower ≡ Some shape) × Fits (frame_of context.now.facts context.now.stand) shape)
-        (shape_of context.now.facts context.now.stand context.now.lower ≡ None)
+        (λ shape. (shape_of context.now.facts context.now.reached context.now.lower ≡ Some shape) × Fits (frame_of context.now.facts context.now.reached) shape)
+        (shape_of context.now.facts context.now.reached context.now.lower ≡ None)
         (budget.new.used ≡ budget.new.limit) }
     ensures spends { Spends budget.old budget.new }
 {
-    match greatest_shape(context, budget) {
-        Step::Found(found) => Step::Found(found.shape),
+    let rule = context.rule();
+    let mut lister = Lister::new(context.frame(), &rule);
+    match greatest_shape(context, &mut lister, budget) {
+        Step::Found(shape) => Step::Found(shape),
         Step::End => Step::End,
         Step::Undecided => Step::Undecided,
     }

@@ -1,8 +1,10 @@
 // What a pass over the candidates of a shape may skip (C.04.3 B.8), specified by the candidates that are of no interest.
 //
-// A candidate is of no interest where the aim of the pass is better than it, or where it is not better than the candidate that is kept.
-// Both hold of each candidate with a beginning where they hold of a floor, a quality that none of them is better than.
-ghost use Rattle.std.specs.Prelude.{◌≡◌, true, false};
+// A candidate is of no interest where it does not grant what is wished, where the aim of the pass is better than it, or where it is not
+// better than the candidate that is kept. The first holds of each candidate with a beginning that rules the wish out; the others hold of
+// each where they hold of a floor, a quality that none of them is better than. With a wish a floor serves that is one only for those that
+// grant it: it counts the pair that is wished, or the one who is to go down, from the first question on.
+ghost use Rattle.std.specs.Prelude.{◌≡◌, ◌⊎◌, IfSome, true, false};
 ghost use Rattle.dutch_order.specs.Arrangements.{Arrangement, Fits};
 ghost use Rattle.dutch_order.specs.Keys.{IsIn};
 ghost use Rattle.dutch_order.specs.Prefixes.{Begins};
@@ -11,34 +13,144 @@ ghost use Rattle.dutch_pair.specs.FloorOf.{IsBasis};
 ghost use Rattle.dutch_pair.specs.Quality.{is_better};
 ghost use Rattle.dutch_pair.specs.QualityIn.{quality_in};
 ghost use Rattle.dutch_pair.specs.Round.{candidates_of, quality_of};
+ghost use Rattle.dutch_pair.specs.Aims.{aim_in, is_dull, is_idle};
+ghost use Rattle.dutch_pair.specs.KnownBeside.{AreKnown, Holds, turned};
+ghost use Rattle.dutch_pair.specs.Wishes.{grants, is_wished};
+ghost use Rattle.dutch_pair.specs.declared.wish.Wish.TheVariants.{Over};
 
 use crate::choice::{Best, is_idle};
 use crate::context::Context;
 use crate::floor::Floors;
+use crate::known::Known;
 use crate::quality::{Quality, Room};
-use dutch_order::bound::Bound;
-use dutch_order::bracket::Shape;
-use dutch_order::prefix::Prefix;
+use crate::wish::Wish;
+use dutch_order::{Bound, Prefix, Shape};
 
 /// One pass over the candidates of a shape, in a bracket above all lower seats by rank. With an aim it seeks those alone that the aim
-/// is not better than.
+/// is not better than, and with a wish those alone that grant it.
 #[derive(Drop)]
 pub(crate) struct Pass<'a> {
     pub(crate) context: &'a Context<'a>,
     pub(crate) shape: Shape,
+    pub(crate) wish: Option<Wish>,
     pub(crate) aim: Option<Quality>,
     pub(crate) floors: Floors<'a>,
-    ghost fits: { Fits (frame_of context.now.facts context.now.stand) shape },
-    ghost basis: { IsBasis context.now.facts context.now.stand context.now.lower shape floors },
+    ghost fits: { Fits (frame_of context.now.facts context.now.reached) shape },
+    ghost basis: { IsBasis context.now.facts context.now.reached context.now.lower shape floors },
 }
 
 /// Fills a quality that no candidate with a beginning is better than: no where none is known.
 fn fill_floor(pass: &Pass<'_>, prefix: &Prefix<'_>, room: &mut Room) -> bool
-    ensures { result ≡ true → (a : Arrangement) → IsIn a (candidates_of pass.now.context.now.facts pass.now.context.now.stand pass.now.shape) → Begins prefix.now a
-        → is_better (quality_of pass.now.context.now.facts pass.now.context.now.stand pass.now.context.now.lower a) (quality_in room.new.quality) ≡ false }
+    ensures { result ≡ true → (a : Arrangement) → IsIn a (candidates_of pass.now.context.now.facts pass.now.context.now.reached pass.now.shape) → Begins prefix.now a
+        → is_better (quality_of pass.now.context.now.facts pass.now.context.now.reached pass.now.context.now.lower a) (quality_in room.new.quality) ≡ false }
 {
     let _reached = pass.context.reached();
     pass.floors.floor(prefix, room)
+}
+
+/// Whether each candidate of a shape has a player in a pair: all moved-down players are in one, or all residents.
+#[tactic(auto, using(crate::proofs::FloorLemmas::small_pairs))]
+fn pairs_always(context: &Context<'_>, shape: Shape, number: u16) -> bool
+    requires { Fits (frame_of context.now.facts context.now.reached) shape }
+    ensures { result ≡ true → (a : Arrangement) → IsIn a (candidates_of context.now.facts context.now.reached shape) → grants (Over number) a ≡ false }
+{
+    let reached = context.reached();
+    if !reached.has(number) {
+        return false;
+    }
+    if usize::from(number) <= reached.mdps() {
+        return shape.mdps == reached.mdps();
+    }
+    context.residents_down(shape) == 0
+}
+
+/// Whether no candidate of a shape grants a wish.
+fn bars(context: &Context<'_>, shape: Shape, wish: Wish) -> bool
+    requires { Fits (frame_of context.now.facts context.now.reached) shape }
+    ensures { result ≡ true → (a : Arrangement) → IsIn a (candidates_of context.now.facts context.now.reached shape) → grants wish a ≡ false }
+{
+    match wish {
+        Wish::Pair(_, _) => false,
+        Wish::Over(number) => pairs_always(context, shape, number),
+    }
+}
+
+/// Whether no candidate with a beginning grants a wish.
+fn begins_without(context: &Context<'_>, wish: Wish, prefix: &Prefix<'_>) -> bool
+    ensures { result ≡ true → (shape : Shape) (a : Arrangement) → Fits (frame_of context.now.facts context.now.reached) shape
+        → IsIn a (candidates_of context.now.facts context.now.reached shape) → Begins prefix.now a → grants wish a ≡ false }
+{
+    wish.is_ruled_out(context.reached().mdps(), prefix)
+}
+
+/// Whether no candidate of a shape that has a beginning grants a wish.
+pub(crate) fn rules_out(
+    context: &Context<'_>,
+    shape: Shape,
+    wish: Wish,
+    prefix: &Prefix<'_>,
+) -> bool
+    requires { Fits (frame_of context.now.facts context.now.reached) shape }
+    ensures { result ≡ true → (a : Arrangement) → IsIn a (candidates_of context.now.facts context.now.reached shape) → Begins prefix.now a → grants wish a ≡ false }
+{
+    bars(context, shape, wish) || begins_without(context, wish, prefix)
+}
+
+/// Whether no candidate with a beginning grants what is wished.
+fn is_barred(pass: &Pass<'_>, prefix: &Prefix<'_>) -> bool
+    ensures { result ≡ true → (a : Arrangement) → IsIn a (candidates_of pass.now.context.now.facts pass.now.context.now.reached pass.now.shape) → Begins prefix.now a
+        → is_wished pass.now.wish a ≡ false }
+{
+    match pass.wish {
+        Some(wish) => rules_out(pass.context, pass.shape, wish, prefix),
+        None => false,
+    }
+}
+
+/// The same of a candidate of which something more is known.
+fn fill_floor_knowing(pass: &Pass<'_>, known: Known, prefix: &Prefix<'_>, room: &mut Room) -> bool
+    requires { AreKnown pass.now.context.now.facts known }
+    ensures { result ≡ true → (a : Arrangement) → IsIn a (candidates_of pass.now.context.now.facts pass.now.context.now.reached pass.now.shape) → Begins prefix.now a
+        → Holds pass.now.context.now.facts pass.now.context.now.reached known a
+        → is_better (quality_of pass.now.context.now.facts pass.now.context.now.reached pass.now.context.now.lower a) (quality_in room.new.quality) ≡ false }
+{
+    let _reached = pass.context.reached();
+    pass.floors.floor_knowing(known, prefix, room)
+}
+
+/// What is known of each candidate that grants a wish, or of a pair in its order or in the other one. Nothing is where it names a number
+/// that the bracket has not.
+#[tactic(auto, using(crate::proofs::KnownByWish::seat_inside, crate::proofs::KnownByWish::they_meet, crate::proofs::KnownByWish::goes_down))]
+pub(crate) fn known_by_wish(context: &Context<'_>, wish: Wish) -> Option<Known>
+    ensures seats { IfSome result (AreKnown context.now.facts) }
+    ensures holds { IfSome result (λ known. (a : Arrangement) → grants wish a ≡ true
+        → Holds context.now.facts context.now.reached known a ⊎ Holds context.now.facts context.now.reached (turned known) a) }
+{
+    let reached = context.reached();
+    match wish {
+        Wish::Pair(p, q) => {
+            if !reached.has(p) || !reached.has(q) {
+                return None;
+            }
+            Some(Known::Meet(reached.seat(p), reached.seat(q)))
+        }
+        Wish::Over(p) => {
+            if !reached.has(p) {
+                return None;
+            }
+            Some(Known::Down(reached.seat(p)))
+        }
+    }
+}
+
+/// The same where something may be wished.
+pub(crate) fn known_with(context: &Context<'_>, wish: Option<Wish>) -> Option<Known>
+    ensures { IfSome result (AreKnown context.now.facts) }
+{
+    match wish {
+        Some(wish) => known_by_wish(context, wish),
+        None => None,
+    }
 }
 
 /// Tells which beginnings a pass may skip, beside the candidate that it keeps.
@@ -48,32 +160,79 @@ pub(crate) struct Skipper<'a, 'k> {
     pub(crate) kept: &'k Option<Best>,
 }
 
-impl<'a, 'k> Bound for Skipper<'a, 'k> {
-    type Room = Room;
-
-    ghost use Rattle.dutch_pair.specs.Reached.{frame_of, numbers_meet, number_may_be_left};
-    ghost use Rattle.dutch_pair.specs.Round.{quality_of};
-    ghost use Rattle.dutch_pair.specs.Aims.{aim_in, is_idle};
-
-    ghost frame = { λ s. frame_of s.pass.now.context.now.facts s.pass.now.context.now.stand };
-
-    ghost shape = { λ s. s.pass.now.shape };
-
-    ghost meets = { λ s. numbers_meet s.pass.now.context.now.facts s.pass.now.context.now.stand };
-
-    ghost may_be_left = { λ s. number_may_be_left s.pass.now.context.now.facts s.pass.now.context.now.stand };
-
-    ghost is_dull = { λ s a. is_idle (aim_in s.pass.now.aim) s.kept.now (quality_of s.pass.now.context.now.facts s.pass.now.context.now.stand s.pass.now.context.now.lower a) };
-
+impl<'a, 'k> Skipper<'a, 'k> {
+    /// Whether no candidate with a beginning of which something more is known is of interest.
     #[tactic(auto, using(crate::proofs::AimLemmas::idle_floor))]
-    fn cannot_win(&self, prefix: &Prefix<'_>, room: &mut Room) -> bool {
-        // then all are of interest
-        if self.pass.aim.is_none() && self.kept.is_none() {
+    fn is_idle_knowing(&self, known: Known, prefix: &Prefix<'_>, room: &mut Room) -> bool
+        requires { AreKnown self.now.pass.now.context.now.facts known }
+        ensures { result ≡ true → (a : Arrangement) → IsIn a (candidates_of self.now.pass.now.context.now.facts self.now.pass.now.context.now.reached self.now.pass.now.shape)
+            → Begins prefix.now a → Holds self.now.pass.now.context.now.facts self.now.pass.now.context.now.reached known a
+            → is_idle (aim_in self.now.pass.now.aim) self.now.kept.now
+            (quality_of self.now.pass.now.context.now.facts self.now.pass.now.context.now.reached self.now.pass.now.context.now.lower a) ≡ true }
+    {
+        if !fill_floor_knowing(self.pass, known, prefix, room) {
             return false;
         }
+        let floor = &room.quality;
+        is_idle(floor, &self.pass.aim, self.kept)
+    }
+
+    /// Whether no candidate with a beginning is of interest, whatever it grants.
+    #[tactic(auto, using(crate::proofs::AimLemmas::idle_floor))]
+    fn is_idle_all(&self, prefix: &Prefix<'_>, room: &mut Room) -> bool
+        ensures { result ≡ true → (a : Arrangement) → IsIn a (candidates_of self.now.pass.now.context.now.facts self.now.pass.now.context.now.reached self.now.pass.now.shape)
+            → Begins prefix.now a → is_idle (aim_in self.now.pass.now.aim) self.now.kept.now
+            (quality_of self.now.pass.now.context.now.facts self.now.pass.now.context.now.reached self.now.pass.now.context.now.lower a) ≡ true }
+    {
         if !fill_floor(self.pass, prefix, room) {
             return false;
         }
         is_idle(&room.quality, &self.pass.aim, self.kept)
+    }
+
+    /// Whether no candidate with a beginning that grants what is wished is of interest.
+    fn is_idle_granted(&self, prefix: &Prefix<'_>, room: &mut Room) -> bool
+        ensures { result ≡ true → (a : Arrangement) → IsIn a (candidates_of self.now.pass.now.context.now.facts self.now.pass.now.context.now.reached self.now.pass.now.shape)
+            → Begins prefix.now a
+            → is_dull self.now.pass.now.context.now.facts self.now.pass.now.context.now.reached self.now.pass.now.context.now.lower self.now.pass.now.wish
+            (aim_in self.now.pass.now.aim) self.now.kept.now a ≡ true }
+    {
+        let Some(wish) = self.pass.wish else {
+            return false;
+        };
+        let Some(known) = known_by_wish(self.pass.context, wish) else {
+            return false;
+        };
+        self.is_idle_knowing(known, prefix, room)
+            && self.is_idle_knowing(known.turned(), prefix, room)
+    }
+}
+
+impl<'a, 'k> Bound for Skipper<'a, 'k> {
+    type Room = Room;
+
+    ghost use Rattle.dutch_pair.specs.Reached.{frame_of, numbers_meet, number_may_be_left};
+    ghost use Rattle.dutch_pair.specs.Aims.{aim_in, is_dull};
+
+    ghost frame = { λ s. frame_of s.pass.now.context.now.facts s.pass.now.context.now.reached };
+
+    ghost shape = { λ s. s.pass.now.shape };
+
+    ghost meets = { λ s. numbers_meet s.pass.now.context.now.facts s.pass.now.context.now.reached };
+
+    ghost may_be_left = { λ s. number_may_be_left s.pass.now.context.now.facts s.pass.now.context.now.reached };
+
+    ghost is_dull = { λ s. is_dull s.pass.now.context.now.facts s.pass.now.context.now.reached s.pass.now.context.now.lower s.pass.now.wish (aim_in s.pass.now.aim) s.kept.now };
+
+    #[tactic(auto, using(crate::proofs::AimLemmas::unwished_is_dull, crate::proofs::AimLemmas::idle_is_dull))]
+    fn cannot_win(&self, prefix: &Prefix<'_>, room: &mut Room) -> bool {
+        if is_barred(self.pass, prefix) {
+            return true;
+        }
+        // then all others are of interest
+        if self.pass.aim.is_none() && self.kept.is_none() {
+            return false;
+        }
+        self.is_idle_all(prefix, room) || self.is_idle_granted(prefix, room)
     }
 }

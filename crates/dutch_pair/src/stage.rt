@@ -11,18 +11,16 @@ ghost use Rattle.dutch_pair.specs.Seated.{AllNumbers, seat_of};
 ghost use Rattle.dutch_pair.specs.Outcomes.{IsStage};
 ghost use Rattle.dutch_pair.specs.Stages.{IsSettled, is_again, own_pairs};
 
-use crate::boards::Pair;
 use crate::choice::{Choice, choose_in};
 use crate::completion::Answer;
 use crate::context::Context;
 use crate::eligible::leaves_completable;
 use crate::fault::PairFault;
-use crate::reached::{Kind, Reached};
-use crate::seated::by_seats;
-use dutch_order::bracket::Shape;
-use dutch_order::candidate::Candidate;
-use dutch_order::steps::Budget;
-use dutch_player::field::Field;
+use crate::quality::Quality;
+use crate::reached::{BracketKind, Reached};
+use crate::seated::{Pair, by_seats};
+use dutch_order::{Budget, Candidate, Shape};
+use dutch_player::Field;
 use std::alloc::Global;
 
 /// A bracket that a round reaches, and what is chosen in it.
@@ -31,6 +29,7 @@ pub struct Stage {
     pub(crate) reached: Reached,
     pub(crate) shape: Shape,
     pub(crate) candidate: Candidate,
+    pub(crate) quality: Quality,
     // it is paired again, so its pairs do not count
     pub(crate) again: bool,
 }
@@ -38,16 +37,16 @@ pub struct Stage {
 /// Whether a bracket is paired again (C.4): an ordinary one, if those whom it leaves over cannot be paired out with all lower players.
 /// None says that the budget's limit was reached first.
 fn is_again(context: &Context<'_>, candidate: &Candidate, budget: &mut Budget) -> Option<bool>
-    requires numbers { AllNumbers context.now.stand.seats candidate.now.down }
-    requires few { length candidate.now.down ≤ length context.now.stand.seats }
+    requires numbers { AllNumbers context.now.reached.seats candidate.now.down }
+    requires few { length candidate.now.down ≤ length context.now.reached.seats }
     requires within { budget.old.used ≤ budget.old.limit }
-    ensures answer { IfSome result (λ again. again ≡ is_again context.now.stand.kind
-        (completable context.now.facts (map (seat_of context.now.stand.seats) candidate.now.down ++ context.now.lower))) }
+    ensures answer { IfSome result (λ again. again ≡ is_again context.now.reached.kind
+        (completable context.now.facts (map (seat_of context.now.reached.seats) candidate.now.down ++ context.now.lower))) }
     ensures spends { Spends budget.old budget.new }
 {
     let complete = match context.reached().kind() {
-        Kind::Ordinary => leaves_completable(context, candidate, budget),
-        Kind::Last | Kind::Penultimate | Kind::Collapsed => return Some(false),
+        BracketKind::Ordinary => leaves_completable(context, candidate, budget),
+        BracketKind::Last | BracketKind::Penultimate | BracketKind::Collapsed => return Some(false),
     };
     match complete {
         Answer::Yes => Some(false),
@@ -71,8 +70,12 @@ pub(crate) fn settle(
 {
     let mut budget = budget;
     let context = Context::new(field, reached, lower);
-    let (shape, candidate) = match choose_in(alloc, &context, &mut budget)? {
-        Choice::Chosen { shape, candidate } => (shape, candidate),
+    let (shape, candidate, quality) = match choose_in(alloc, &context, &mut budget)? {
+        Choice::Chosen {
+            shape,
+            candidate,
+            quality,
+        } => (shape, candidate, quality),
         Choice::Undecided => return Ok(None),
     };
     let Some(again) = is_again(&context, &candidate, &mut budget) else {
@@ -82,6 +85,7 @@ pub(crate) fn settle(
         reached: reached.copied(),
         shape,
         candidate,
+        quality,
         again,
     }))
 }
@@ -108,6 +112,13 @@ impl Stage {
         &self.candidate
     }
 
+    /// The quality of what is chosen in it (C.6 to C.19).
+    pub fn quality(&self) -> &Quality
+        ensures { result.now ≡ self.now.quality }
+    {
+        &self.quality
+    }
+
     /// Whether it is paired again, as the next one (C.4): then its pairs do not count.
     pub fn is_again(&self) -> bool
         ensures { result ≡ self.now.again }
@@ -117,7 +128,7 @@ impl Stage {
 
     /// Puts its pairs by seat behind others: none if it is paired again.
     #[tactic(auto, using(crate::proofs::WalkEnds::candidate_is, crate::proofs::WalkEnds::pairs_join))]
-    pub(crate) fn put_pairs(&self, field: &Field, pairs: &mut Vec<Pair>) -> Result<(), PairFault>
+    pub fn put_pairs(&self, field: &Field, pairs: &mut Vec<Pair>) -> Result<(), PairFault>
         requires stage { IsStage field.now self.now }
         requires pairs { AllByRecursion (IsPair field.now) pairs.old.items }
         ensures value { OnOk result (pairs.new.items ≡ pairs.old.items ++ own_pairs self.now) }

@@ -17,9 +17,7 @@ use crate::context::Context;
 use crate::reached::push_all;
 use crate::seats::seats;
 use crate::spending::Stopped;
-use dutch_order::numbers::Numbers;
-use dutch_order::rules::Rule;
-use dutch_order::steps::Budget;
+use dutch_order::{Budget, Numbers, Rule};
 
 /// How many downfloaters there are for the lower players, and whether one of these may be left out.
 #[derive(Debug, Clone, Copy)]
@@ -37,7 +35,7 @@ fn may_meet(context: &Context<'_>, one: u16, other: u16) -> bool
 
 /// Whether some player of a bracket may meet a lower one.
 fn takes(context: &Context<'_>, lower: u16) -> bool
-    ensures { result ≡ meets_bracket context.now.facts context.now.stand.seats lower }
+    ensures { result ≡ meets_bracket context.now.facts context.now.reached.seats lower }
 {
     let rule = seats(context.field());
     context
@@ -53,9 +51,9 @@ pub(crate) fn can_go_out(
     takers: usize,
     budget: &mut Budget,
 ) -> Result<bool, Stopped>
-    requires few { takers ≤ length context.now.stand.seats }
+    requires few { takers ≤ length context.now.reached.seats }
     requires within { budget.old.used ≤ budget.old.limit }
-    ensures answer { Decides result (can_go_out context.now.facts context.now.stand.seats takers context.now.lower) (budget.new.used ≡ budget.new.limit) }
+    ensures answer { Decides result (can_go_out context.now.facts context.now.reached.seats takers context.now.lower) (budget.new.used ≡ budget.new.limit) }
     ensures spends { Spends budget.old budget.new }
 {
     let lower = context.lower();
@@ -74,7 +72,7 @@ pub(crate) fn can_go_out(
 #[tactic(auto, using(crate::proofs::TakersSearch::nobody_there, crate::proofs::TakersSearch::first_paired, crate::proofs::TakersSearch::first_taken, crate::proofs::TakersSearch::first_left))]
 fn can_pair(context: &Context<'_>, players: &mut [u16], room: Room, budget: &mut Budget) -> Answer
     requires within { budget.old.used ≤ budget.old.limit }
-    ensures answer { Tells result (can_take_out context.now.facts context.now.stand.seats room.bye (length players.old) room.takers players.old) (budget.new.used ≡ budget.new.limit) }
+    ensures answer { Tells result (can_take_out context.now.facts context.now.reached.seats room.bye (length players.old) room.takers players.old) (budget.new.used ≡ budget.new.limit) }
     ensures spends { Spends budget.old budget.new }
     ensures kept { result ≡ No → players.new ≡ players.old }
 {
@@ -106,7 +104,7 @@ fn pair_first(
 ) -> Answer
     requires within { budget.old.used ≤ budget.old.limit }
     ensures answer { Tells result
-        (some_partner (seats_meet context.now.facts first) (can_take_out context.now.facts context.now.stand.seats room.bye (length later.old - 1) room.takers) [] later.old)
+        (some_partner (seats_meet context.now.facts first) (can_take_out context.now.facts context.now.reached.seats room.bye (length later.old - 1) room.takers) [] later.old)
         (budget.new.used ≡ budget.new.limit) }
     ensures spends { Spends budget.old budget.new }
     ensures kept { result ≡ No → later.new ≡ later.old }
@@ -135,7 +133,7 @@ fn pair_with(
     requires some { 0 < length later.old }
     requires within { budget.old.used ≤ budget.old.limit }
     ensures answer { Tells result (seats_meet context.now.facts first (slice_index later.old 0)
-        && can_take_out context.now.facts context.now.stand.seats room.bye (length later.old - 1) room.takers (drop 1 later.old))
+        && can_take_out context.now.facts context.now.reached.seats room.bye (length later.old - 1) room.takers (drop 1 later.old))
         (budget.new.used ≡ budget.new.limit) }
     ensures spends { Spends budget.old budget.new }
     ensures kept { result ≡ No → later.new ≡ later.old }
@@ -161,7 +159,7 @@ fn take_first(
 ) -> Answer
     requires within { budget.old.used ≤ budget.old.limit }
     ensures answer { Tells result
-        (takes_one (meets_bracket context.now.facts context.now.stand.seats first) (λ k. can_take_out context.now.facts context.now.stand.seats room.bye (length later.old) k later.old) room.takers)
+        (takes_one (meets_bracket context.now.facts context.now.reached.seats first) (λ k. can_take_out context.now.facts context.now.reached.seats room.bye (length later.old) k later.old) room.takers)
         (budget.new.used ≡ budget.new.limit) }
     ensures spends { Spends budget.old budget.new }
     ensures kept { result ≡ No → later.new ≡ later.old }
@@ -193,7 +191,7 @@ fn leave_first(
     budget: &mut Budget,
 ) -> Answer
     requires within { budget.old.used ≤ budget.old.limit }
-    ensures answer { Tells result (left_over room.bye (seats_may_be_left context.now.facts) first && can_take_out context.now.facts context.now.stand.seats false (length later.old) room.takers later.old)
+    ensures answer { Tells result (left_over room.bye (seats_may_be_left context.now.facts) first && can_take_out context.now.facts context.now.reached.seats false (length later.old) room.takers later.old)
         (budget.new.used ≡ budget.new.limit) }
     ensures spends { Spends budget.old budget.new }
     ensures kept { result ≡ No → later.new ≡ later.old }
@@ -205,7 +203,7 @@ fn leave_first(
         return Answer::Undecided;
     }
     budget.used += 1;
-    if !seats(context.field()).last_ok(first) {
+    if !seats(context.field()).may_be_left(first) {
         return Answer::No;
     }
     let nobody_else = Room {

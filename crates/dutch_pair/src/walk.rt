@@ -18,14 +18,12 @@ use crate::context::Context;
 use crate::eligible::can_complete;
 use crate::fault::PairFault;
 use crate::group::split_first_group;
-use crate::reached::{Kind, Reached, Seats, bracket, copied};
+use crate::reached::{BracketKind, Reached, Seats, bracket, copied};
 use crate::seated::seats_of;
 use crate::shape::shape_of;
 use crate::stage::{Stage, settle};
-use dutch_order::bracket::Shape;
-use dutch_order::numbers::numbered_from;
-use dutch_order::steps::{Budget, Step};
-use dutch_player::field::Field;
+use dutch_order::{Budget, Shape, Step, numbered_from};
+use dutch_player::Field;
 use dutch_player::laws::scores_do_not_ascend;
 use std::alloc::Global;
 use std::marker::Model;
@@ -82,12 +80,12 @@ pub(crate) enum Turn {
 }
 
 /// The kind of the bracket of a scoregroup above lower seats.
-fn group_kind(lower: &[u16]) -> Kind
+fn group_kind(lower: &[u16]) -> BracketKind
     ensures { result ≡ group_kind lower.now }
 {
     match lower {
-        [] => Kind::Last,
-        _ => Kind::Ordinary,
+        [] => BracketKind::Last,
+        _ => BracketKind::Ordinary,
     }
 }
 
@@ -98,7 +96,7 @@ fn paired_again(reached: &Reached) -> Reached
 {
     let mut again = reached.copied();
     again.number += 1;
-    again.kind = Kind::Penultimate;
+    again.kind = BracketKind::Penultimate;
     again
 }
 
@@ -175,9 +173,9 @@ impl<'a> Walk<'a> {
             };
         }
         match reached.kind() {
-            Kind::Ordinary => Walk::before_group(field, number, left, lower, budget),
-            Kind::Penultimate => {
-                let collapsed = bracket(number, Kind::Collapsed, &left, lower);
+            BracketKind::Ordinary => Walk::before_group(field, number, left, lower, budget),
+            BracketKind::Penultimate => {
+                let collapsed = bracket(number, BracketKind::Collapsed, &left, lower);
                 Walk {
                     field,
                     number,
@@ -186,7 +184,7 @@ impl<'a> Walk<'a> {
                     budget,
                 }
             }
-            Kind::Last | Kind::Collapsed => Walk {
+            BracketKind::Last | BracketKind::Collapsed => Walk {
                 field,
                 number,
                 next: Next::Bye(left),

@@ -35,7 +35,7 @@ clash_comm : (p q : Option Pref) → clash p q ≡ clash q p
 clash_comm None None = refl
 clash_comm None (Some q) = refl
 clash_comm (Some p) None = refl
-clash_comm (Some p) (Some q) = and_comm3 (is_absolute p.kind) (is_absolute q.kind) (is_same p.colour q.colour) (is_same q.colour p.colour) (same_comm p.colour q.colour)
+clash_comm (Some p) (Some q) = and_comm3 (is_absolute p.strength) (is_absolute q.strength) (is_same p.colour q.colour) (is_same q.colour p.colour) (same_comm p.colour q.colour)
 
 allow_comm : (x y z : Bool) → (x || y || z) ≡ (y || x || z)
 allow_comm true true z = refl

@@ -2,8 +2,8 @@
 use Rattle.std.specs.Prelude.{ℕ, ◌+◌, ◌-◌, ◌%◌, Bool, ◌&&◌, ◌||◌, ◌==◌, nat_lt, if◌then◌else◌, List, [], ◌∷◌, Option, Some, None}
 use Rattle.trf16.specs.declared.cell.Colour.{Colour}
 use Rattle.trf16.specs.declared.cell.Colour.TheVariants.{White, Black}
-use Rattle.dutch_player.specs.declared.preference.Kind.{Kind}
-use Rattle.dutch_player.specs.declared.preference.Kind.TheVariants.{Absolute, Strong, Mild}
+use Rattle.dutch_player.specs.declared.preference.Strength.{Strength}
+use Rattle.dutch_player.specs.declared.preference.Strength.TheVariants.{Absolute, Strong, Mild}
 use Rattle.dutch_player.specs.declared.preference.Pref.{Pref}
 use Rattle.dutch_player.specs.declared.colour_rule.ColourRule.{ColourRule}
 use Rattle.dutch_player.specs.declared.colour_rule.ColourRule.TheVariants.{BothPreferences, StrongerPreference, Alternation, HigherRank, InitialColour}
@@ -13,10 +13,10 @@ use Rattle.dutch_player.specs.Meetings.{is_absolute}
 use Rattle.dutch_player.specs.Facts.{SeatFacts, Facts, seat_at}
 
 -- absolute is stronger than strong, and strong than mild
-abbrev pub strength : Kind → ℕ
-strength Absolute = 2
-strength Strong = 1
-strength Mild = 0
+abbrev pub grade : Strength → ℕ
+grade Absolute = 2
+grade Strong = 1
+grade Mild = 0
 
 -- how far a colour difference is from 0
 abbrev pub distance : List Colour → ℕ
@@ -25,8 +25,8 @@ distance played = (whites played - blacks played) + (blacks played - whites play
 -- E.2: the stronger preference; of two absolute ones that of the player whose colour difference is further from 0
 abbrev pub is_stronger : Pref → List Colour → Pref → List Colour → Bool
 is_stronger mine played theirs their_played =
-    nat_lt (strength theirs.kind) (strength mine.kind)
-    || (is_absolute mine.kind && is_absolute theirs.kind && nat_lt (distance their_played) (distance played))
+    nat_lt (grade theirs.strength) (grade mine.strength)
+    || (is_absolute mine.strength && is_absolute theirs.strength && nat_lt (distance their_played) (distance played))
 
 -- E.3: where, seen from the last game back, one had white and the other black for the first time, each gets the other colour
 abbrev pub alternated : List Colour → List Colour → Option Colour

@@ -3,7 +3,7 @@ use Rattle.std.specs.Prelude.{◌≡◌, ℕ, ◌+◌, ◌-◌, Bool, false, ◌
 use Rattle.std.specs.Option.{ok_or, option_map_or}
 use Rattle.trf16.specs.declared.cell.Colour.{Colour}
 use Rattle.trf16.specs.declared.cell.Colour.TheVariants.{White}
-use Rattle.trf16.specs.declared.kind.Kind.TheVariants.{Xxa, Xxs, Rank}
+use Rattle.trf16.specs.declared.kind.LineKind.TheVariants.{Xxa, Xxs, Rank}
 use Rattle.trf16.specs.Sheet.{Entry, Sheet, rounds_played}
 use Rattle.trf16.specs.Outcomes.{◌>>=◌}
 use Rattle.trf16.specs.Unfinished.{unfinished}

@@ -5,7 +5,7 @@ use Rattle.trf16.specs.Sheet.{Sheet, known, rounds_played}
 use Rattle.trf16.specs.Absence.{absent}
 use Rattle.trf16.specs.declared.cell.Colour.{Colour}
 use Rattle.dutch_player.specs.declared.colour_rule.ColourRule.TheVariants.{BothPreferences, HigherRank, InitialColour}
-use Rattle.dutch_player.specs.declared.preference.Kind.TheVariants.{Absolute}
+use Rattle.dutch_player.specs.declared.preference.Strength.TheVariants.{Absolute}
 use Rattle.dutch_player.specs.declared.preference.Pref.{Pref}
 use Rattle.dutch_player.specs.Preferences.{preference}
 use Rattle.dutch_player.specs.Facts.{Facts, seat_at, total_of}
@@ -20,7 +20,7 @@ Gets facts a b colour = colours facts a b ≡ with_colour a b colour
 abbrev pub GrantsBoth : Facts → ℕ → ℕ → Type 0
 GrantsBoth facts a b = (p q : Pref) → may_meet facts a b ≡ true
     → preference (seat_at facts a).played ≡ Some p → preference (seat_at facts b).played ≡ Some q
-    → p.kind ≡ Absolute → q.kind ≡ Absolute → (p.colour ≡ q.colour → ⊥)
+    → p.strength ≡ Absolute → q.strength ≡ Absolute → (p.colour ≡ q.colour → ⊥)
     → (colours facts a b ≡ with_colour a b p.colour) × (colours facts a b ≡ with_colour b a q.colour)
 
 -- what the rule tells by which the colours of two are decided. E.1: whoever prefers a colour gets it. E.4: the higher ranked gets the

@@ -6,4 +6,5 @@ pub mod Facts
 pub mod Meetings
 pub mod Colours
 pub mod SeatOf
+pub mod StartRanks
 pub mod Laws

@@ -1,8 +1,8 @@
 -- Who may meet whom (C.04.3 A.7, C.1, C.3).
 use Rattle.std.specs.Prelude.{ℕ, ◌-◌, Bool, true, false, not, ◌&&◌, ◌||◌, ◌==◌, nat_lt, Option, Some}
 use Rattle.std.specs.List.{list_any}
-use Rattle.dutch_player.specs.declared.preference.Kind.{Kind}
-use Rattle.dutch_player.specs.declared.preference.Kind.TheVariants.{Absolute, Strong, Mild}
+use Rattle.dutch_player.specs.declared.preference.Strength.{Strength}
+use Rattle.dutch_player.specs.declared.preference.Strength.TheVariants.{Absolute, Strong, Mild}
 use Rattle.dutch_player.specs.declared.preference.Pref.{Pref}
 use Rattle.dutch_player.specs.Preferences.{is_same, preference}
 use Rattle.dutch_player.specs.Facts.{SeatFacts, Facts, seat_at}
@@ -28,14 +28,14 @@ abbrev pub are_apart : SeatFacts → SeatFacts → Bool
 are_apart a b = is_kept_from a b || is_kept_from b a
 
 -- A.6: an absolute preference
-abbrev pub is_absolute : Kind → Bool
+abbrev pub is_absolute : Strength → Bool
 is_absolute Absolute = true
 is_absolute Strong = false
 is_absolute Mild = false
 
 -- both preferences are absolute, and for one colour
 abbrev pub clash : Option Pref → Option Pref → Bool
-clash (Some a) (Some b) = is_absolute a.kind && is_absolute b.kind && is_same a.colour b.colour
+clash (Some a) (Some b) = is_absolute a.strength && is_absolute b.strength && is_same a.colour b.colour
 clash _ _ = false
 
 -- C.3: two who are no topscorers do not meet where their absolute preferences are for one colour

@@ -2,8 +2,8 @@
 use Rattle.std.specs.Prelude.{ℕ, ◌+◌, Bool, true, false, nat_lt, if◌then◌else◌, List, [], ◌∷◌, Option, Some, None, count_by, ℤ, pos, ◌-ℤ◌}
 use Rattle.trf16.specs.declared.cell.Colour.{Colour}
 use Rattle.trf16.specs.declared.cell.Colour.TheVariants.{White, Black}
-use Rattle.dutch_player.specs.declared.preference.Kind.{Kind}
-use Rattle.dutch_player.specs.declared.preference.Kind.TheVariants.{Absolute, Strong, Mild}
+use Rattle.dutch_player.specs.declared.preference.Strength.{Strength}
+use Rattle.dutch_player.specs.declared.preference.Strength.TheVariants.{Absolute, Strong, Mild}
 use Rattle.dutch_player.specs.declared.preference.Pref.{Pref}
 
 -- the colour that the opponent of a player with this one has
@@ -44,9 +44,9 @@ last_two [] = None
 last_two (last ∷ []) = None
 last_two (last ∷ before ∷ rest) = if is_same last before then Some last else None
 
--- a kind of preference for a colour
-abbrev pub for : Kind → Colour → Pref
-for kind colour = record { kind = kind; colour = colour }
+-- a preference of a strength for a colour
+abbrev pub for : Strength → Colour → Pref
+for strength colour = record { strength = strength; colour = colour }
 
 -- mild: with a difference of 0, to alternate the colour of the last game; without games there is no preference
 abbrev pub mild : List Colour → Option Pref

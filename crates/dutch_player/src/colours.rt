@@ -2,13 +2,13 @@
 ghost use Rattle.std.specs.Prelude.{◌≡◌, ◌≤◌, length};
 ghost use Rattle.dutch_player.specs.declared.colour_rule.ColourRule.TheVariants.{BothPreferences};
 ghost use Rattle.dutch_player.specs.SeatOf.{facts_in};
-ghost use Rattle.dutch_player.specs.Colours.{strength, distance, is_stronger, alternated, by, by_history, contested, by_preferences, by_start, decided, with_colour};
+ghost use Rattle.dutch_player.specs.Colours.{grade, distance, is_stronger, alternated, by, by_history, contested, by_preferences, by_start, decided, with_colour};
 
 use crate::colour_rule::ColourRule;
 use crate::meetings::is_absolute;
-use crate::preference::{Kind, Pref, blacks, is_same, other, whites};
+use crate::preference::{Pref, Strength, blacks, is_same, other, whites};
 use crate::seat::Seat;
-use trf16::cell::Colour;
+use trf16::Colour;
 
 /// How the colours of two are decided.
 #[derive(Clone, Copy, Drop)]
@@ -19,13 +19,13 @@ pub(crate) struct Decision {
     pub(crate) colour: Colour,
 }
 
-fn strength(kind: Kind) -> u8
-    ensures { result ≡ strength kind }
+fn grade(strength: Strength) -> u8
+    ensures { result ≡ grade strength }
 {
-    match kind {
-        Kind::Absolute => 2,
-        Kind::Strong => 1,
-        Kind::Mild => 0,
+    match strength {
+        Strength::Absolute => 2,
+        Strength::Strong => 1,
+        Strength::Mild => 0,
     }
 }
 
@@ -40,10 +40,12 @@ fn distance(played: &[Colour]) -> usize
 fn is_stronger(mine: Pref, played: &[Colour], theirs: Pref, their_played: &[Colour]) -> bool
     ensures { result ≡ is_stronger mine played.now theirs their_played.now }
 {
-    if strength(theirs.kind) < strength(mine.kind) {
+    if grade(theirs.strength) < grade(mine.strength) {
         return true;
     }
-    is_absolute(mine.kind) && is_absolute(theirs.kind) && distance(their_played) < distance(played)
+    is_absolute(mine.strength)
+        && is_absolute(theirs.strength)
+        && distance(their_played) < distance(played)
 }
 
 // E.3: both lists have the last game first.

@@ -4,7 +4,7 @@ ghost use Rattle.dutch_player.specs.Preferences.{difference, last_two, preferenc
 ghost use Rattle.dutch_player.specs.Facts.{seat_at, facts_of};
 ghost use Rattle.dutch_player.specs.Outcomes.{Gives};
 ghost use Rattle.dutch_player.specs.SeatOf.{facts_in};
-ghost use Rattle.dutch_player.specs.Meetings.{is_topscorer, may_meet};
+ghost use Rattle.dutch_player.specs.Meetings.{colours_allow, is_topscorer, may_meet};
 ghost use Rattle.dutch_player.specs.Colours.{colours, colour_rule, decision_of};
 ghost use Rattle.trf16.specs.declared.limits.TheConstants.{MOST_PLAYERS, MOST_ROUNDS};
 
@@ -19,8 +19,7 @@ use crate::refusals::total_for;
 use crate::seat::Seat;
 use std::alloc::Global;
 use std::marker::Model;
-use trf16::cell::Colour;
-use trf16::report::Report;
+use trf16::{Colour, Report};
 
 /// The present players by rank: higher score first, then smaller start rank (A.2). A seat is a place in that order, from 0.
 #[derive(Drop)]
@@ -75,6 +74,20 @@ impl Field {
         ensures few { result ≤ MOST_PLAYERS }
     {
         self.seats.len()
+    }
+
+    /// The number of the round that is to be paired, from 1.
+    pub fn round(&self) -> u8
+        ensures { result ≡ self.now.round }
+    {
+        self.round
+    }
+
+    /// The total of rounds of the tournament.
+    pub fn total(&self) -> u8
+        ensures { result ≡ self.now.total }
+    {
+        self.total
     }
 
     fn seat(&self, seat: u16) -> &Seat
@@ -164,6 +177,16 @@ impl Field {
         if have_met(first, second) || are_apart(first, second) {
             return false;
         }
+        self.colours_allow(a, b)
+    }
+
+    /// Whether the colours of two players allow that they meet (C.3): one of them is a topscorer, or they have no absolute preferences
+    /// for one colour.
+    pub fn colours_allow(&self, a: u16, b: u16) -> bool
+        requires first { a < length self.now.seats }
+        requires second { b < length self.now.seats }
+        ensures { result ≡ colours_allow self.now (seat_at self.now a) (seat_at self.now b) }
+    {
         self.topscorer(a) || self.topscorer(b) || !clash(self.preference(a), self.preference(b))
     }
 

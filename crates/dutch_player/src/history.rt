@@ -6,9 +6,7 @@ ghost use Rattle.trf16.specs.declared.limits.TheConstants.{MOST_ROUNDS};
 
 use crate::float::Float;
 use std::alloc::{AllocError, Global};
-use trf16::cell::{Bye, Cell, Colour};
-use trf16::cells::{cell_at, front};
-use trf16::report::Report;
+use trf16::{Bye, Cell, Colour, Report, cell_at, front};
 
 /// The colour of a game that was played; that of a forfeit is none.
 pub fn colour_played(cell: &Cell) -> Option<Colour>

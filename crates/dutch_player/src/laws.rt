@@ -7,6 +7,7 @@ ghost use Rattle.trf16.specs.declared.cell.Colour.{Colour};
 ghost use Rattle.dutch_player.specs.Meetings.{are_apart, may_meet};
 ghost use Rattle.dutch_player.specs.Colours.{colours, colour_rule};
 ghost use Rattle.dutch_player.specs.Facts.{Facts, facts_of, seat_at, goes_before};
+ghost use Rattle.dutch_player.specs.StartRanks.{TellsSeat, seat_with};
 ghost use Rattle.dutch_player.specs.Laws.{GrantsBoth, IsFieldOf, TellsRule};
 ghost use Rattle.trf16.specs.declared.limits.TheConstants.{MOST_PLAYERS};
 
@@ -77,4 +78,10 @@ pub fn the_report_tells_who_is_kept_apart()
     ensures { (sheet : Sheet) (asked : Option ℕ) (initial : Option Colour) (facts : Facts) → HasOwnStarts sheet → facts_of sheet asked initial ≡ Ok facts
         → (a b : ℕ) → a < length facts.seats → b < length facts.seats
         → are_apart (seat_at facts a) (seat_at facts b) ≡ apart sheet (seat_at facts a).start (seat_at facts b).start }
+{}
+
+/// The seat of a start rank is one whose player has it; where there is none, no present player has it.
+#[tactic(auto, using(crate::proofs::StartLemmas::tells_seat))]
+pub fn seats_are_found_by_start_ranks()
+    ensures { (facts : Facts) (start : ℕ) → TellsSeat facts start (seat_with facts start) }
 {}

@@ -3,7 +3,7 @@ ghost use Rattle.std.specs.Prelude.{◌≡◌};
 ghost use Rattle.dutch_player.specs.SeatOf.{facts_in};
 ghost use Rattle.dutch_player.specs.Meetings.{has_met, have_met, is_kept_from, are_apart, is_absolute, clash};
 
-use crate::preference::{Kind, Pref, is_same};
+use crate::preference::{Pref, Strength, is_same};
 use crate::seat::Seat;
 
 fn has_met(a: &Seat, b: &Seat) -> bool
@@ -33,12 +33,12 @@ pub(crate) fn are_apart(a: &Seat, b: &Seat) -> bool
     is_kept_from(a, b) || is_kept_from(b, a)
 }
 
-pub(crate) fn is_absolute(kind: Kind) -> bool
-    ensures { result ≡ is_absolute kind }
+pub(crate) fn is_absolute(strength: Strength) -> bool
+    ensures { result ≡ is_absolute strength }
 {
-    match kind {
-        Kind::Absolute => true,
-        Kind::Strong | Kind::Mild => false,
+    match strength {
+        Strength::Absolute => true,
+        Strength::Strong | Strength::Mild => false,
     }
 }
 
@@ -47,8 +47,8 @@ pub(crate) fn clash(a: Option<Pref>, b: Option<Pref>) -> bool
     ensures { result ≡ clash a b }
 {
     match (a, b) {
-        (Some(a), Some(b)) => is_absolute(a.kind)
-            && is_absolute(b.kind)
+        (Some(a), Some(b)) => is_absolute(a.strength)
+            && is_absolute(b.strength)
             && is_same(a.colour, b.colour),
         _ => false,
     }

@@ -3,11 +3,11 @@ ghost use Rattle.std.specs.Prelude.{◌≡◌, ◌≤◌, ◌-ℤ◌, ◌≤ℤ�
 ghost use Rattle.dutch_player.specs.Preferences.{other, is_white, is_black, is_same, whites, blacks, difference, last_two, mild, strong_or_mild, preference};
 ghost use Rattle.trf16.specs.declared.limits.TheConstants.{MOST_ROUNDS};
 
-use trf16::cell::Colour;
+use trf16::Colour;
 
 /// How strong a colour preference is.
 #[derive(Debug, Clone, Copy, PartialEq, Eq)]
-pub enum Kind {
+pub enum Strength {
     /// The player must not get the other colour.
     Absolute,
     /// A colour difference of one.
@@ -16,10 +16,10 @@ pub enum Kind {
     Mild,
 }
 
-/// A colour preference: a kind, and the colour that the player is to get.
+/// A colour preference: how strong it is, and the colour that the player is to get.
 #[derive(Debug, Clone, Copy, PartialEq, Eq)]
 pub struct Pref {
-    pub kind: Kind,
+    pub strength: Strength,
     pub colour: Colour,
 }
 
@@ -110,7 +110,7 @@ fn mild(played: &[Colour]) -> Option<Pref>
 {
     match played {
         [last, ..] => Some(Pref {
-            kind: Kind::Mild,
+            strength: Strength::Mild,
             colour: other(*last),
         }),
         _ => None,
@@ -124,13 +124,13 @@ fn strong_or_mild(played: &[Colour]) -> Option<Pref>
     let (whites, blacks) = (whites(played), blacks(played));
     if blacks < whites {
         return Some(Pref {
-            kind: Kind::Strong,
+            strength: Strength::Strong,
             colour: Colour::Black,
         });
     }
     if whites < blacks {
         return Some(Pref {
-            kind: Kind::Strong,
+            strength: Strength::Strong,
             colour: Colour::White,
         });
     }
@@ -145,19 +145,19 @@ pub(crate) fn preference(played: &[Colour]) -> Option<Pref>
     let (whites, blacks) = (whites(played), blacks(played));
     if blacks + 1 < whites {
         return Some(Pref {
-            kind: Kind::Absolute,
+            strength: Strength::Absolute,
             colour: Colour::Black,
         });
     }
     if whites + 1 < blacks {
         return Some(Pref {
-            kind: Kind::Absolute,
+            strength: Strength::Absolute,
             colour: Colour::White,
         });
     }
     match last_two(played) {
         Some(colour) => Some(Pref {
-            kind: Kind::Absolute,
+            strength: Strength::Absolute,
             colour: other(colour),
         }),
         None => strong_or_mild(played),

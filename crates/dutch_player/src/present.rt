@@ -10,9 +10,7 @@ use crate::preference::preference;
 use crate::ranking::ranked;
 use crate::seat::Seat;
 use std::alloc::{AllocError, Global};
-use trf16::cells::front;
-use trf16::player::Player;
-use trf16::report::Report;
+use trf16::{Player, Report, front};
 
 // What the rounds that were paired make of a player.
 fn seat_of(

@@ -4,8 +4,7 @@ ghost use Rattle.dutch_player.specs.declared.fault.FieldFault.TheVariants.{OutOf
 ghost use Rattle.dutch_player.specs.Facts.{total_for};
 
 use crate::fault::FieldFault;
-use trf16::kind::Kind;
-use trf16::report::Report;
+use trf16::{LineKind, Report};
 
 /// The total of rounds, where a further round can be paired.
 #[tactic(auto, unfolding(crate::specs::Facts::total_for))]
@@ -16,7 +15,7 @@ pub(crate) fn total_for(report: &Report<'_>, asked: Option<u8>) -> Result<u8, Fi
     if let Some((player, round)) = report.unfinished() {
         return Err(FieldFault::Unfinished { player, round });
     }
-    if let Some(line) = report.unsupported(&[Kind::Xxa, Kind::Xxs, Kind::Rank]) {
+    if let Some(line) = report.unsupported(&[LineKind::Xxa, LineKind::Xxs, LineKind::Rank]) {
         return Err(FieldFault::Unsupported { line });
     }
     let Some(total) = asked.or(report.total_rounds()) else {

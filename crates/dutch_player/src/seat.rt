@@ -5,7 +5,7 @@ ghost use Rattle.dutch_player.specs.Preferences.{preference as preference_of};
 
 use crate::float::Float;
 use crate::preference::Pref;
-use trf16::cell::Colour;
+use trf16::Colour;
 
 /// What the rounds that were paired make of a player.
 #[derive(Drop)]

@@ -4,7 +4,7 @@ use Rattle.std.specs.Option.{option_cmp}
 use Rattle.std.specs.Cmp.Lexicographic.{slice_cmp}
 use Rattle.std.specs.declared.cmp.Ordering.{Ordering}
 use Rattle.std.specs.Ordering.{nat_cmp, ordering_then, is_lt}
-use Rattle.trf16.specs.declared.kind.Kind.TheVariants.{Xxs}
+use Rattle.trf16.specs.declared.kind.LineKind.TheVariants.{Xxs}
 use Rattle.trf16.specs.Sheet.{Entry, Sheet}
 use Rattle.trf16.specs.Outcomes.{◌>>=◌}
 use Rattle.trf16.specs.Unfinished.{unfinished}

@@ -3,8 +3,7 @@ ghost use Rattle.std.specs.Prelude.{◌≡◌, ◌<◌, ◌≤◌};
 ghost use Rattle.trf16.specs.Sheet.{rounds_played};
 ghost use Rattle.tiebreak.specs.Games.{is_game_with, have_met, virtual_score, opponent_score};
 
-use trf16::cell::Cell;
-use trf16::report::Report;
+use trf16::{Cell, Report};
 
 fn is_game_with(cell: &Cell, other: u16) -> bool
     ensures { result ≡ is_game_with other cell.now }

@@ -9,8 +9,7 @@ use crate::games::{have_met, opponent_score};
 use crate::key::Key;
 use crate::row::Row;
 use std::alloc::{AllocError, Global};
-use trf16::cell::Cell;
-use trf16::report::Report;
+use trf16::{Cell, Report};
 
 #[tactic(auto, using(crate::proofs::RoundLemmas::next))]
 fn buchholz(report: &Report<'_>, rounds: u8, start: u16) -> u32

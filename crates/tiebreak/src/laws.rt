@@ -8,7 +8,7 @@ ghost use Rattle.tiebreak.specs.Laws.{HasEachOnce, HasEachKey};
 use crate::key::Key;
 use crate::row::Row;
 use crate::standings::Standings;
-use trf16::report::Report;
+use trf16::Report;
 
 /// No row goes before one that stands in front of it.
 #[tactic(auto, using(crate::proofs::OrderLemmas::ranked_at))]

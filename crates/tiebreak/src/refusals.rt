@@ -4,8 +4,7 @@ ghost use Rattle.tiebreak.specs.declared.fault.TieFault.TheVariants.{OutOfMemory
 ghost use Rattle.tiebreak.specs.Standings.{judged};
 
 use crate::fault::TieFault;
-use trf16::kind::Kind;
-use trf16::report::Report;
+use trf16::{LineKind, Report};
 
 /// Refuses a game without a result, and other points for games.
 #[tactic(auto, unfolding(crate::specs::Standings::judged))]
@@ -16,7 +15,7 @@ pub(crate) fn judged(report: &Report<'_>) -> Result<(), TieFault>
     if let Some((player, round)) = report.unfinished() {
         return Err(TieFault::Unfinished { player, round });
     }
-    if let Some(line) = report.unsupported(&[Kind::Xxs]) {
+    if let Some(line) = report.unsupported(&[LineKind::Xxs]) {
         return Err(TieFault::Unsupported { line });
     }
     Ok(())

@@ -12,7 +12,7 @@ use crate::refusals::judged;
 use crate::row::Row;
 use std::alloc::{AllocError, Global};
 use std::marker::Model;
-use trf16::report::Report;
+use trf16::Report;
 
 /// All players of a report in order: higher score first, then the higher value in the first key in which two differ, then the smaller
 /// start rank.

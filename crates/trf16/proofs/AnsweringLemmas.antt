@@ -10,8 +10,8 @@ use Rattle.std.specs.Prelude.{option_copied, option_map}
 use denote.Ref.{Bor}
 use Rattle.trf16.specs.Extensions.{is_kind, is_word, names_absent, names_both}
 use Rattle.trf16.specs.Absence.{is_of, first_at}
-use Rattle.trf16.specs.declared.kind.Kind.{Kind}
-use Rattle.trf16.specs.declared.kind.Kind.TheVariants.{Xxa, Xxs, Rank}
+use Rattle.trf16.specs.declared.kind.LineKind.{LineKind}
+use Rattle.trf16.specs.declared.kind.LineKind.TheVariants.{Xxa, Xxs, Rank}
 use Rattle.trf16.specs.declared.player.Player.{Player}
 use Rattle.trf16.specs.Sheet.{Entry, Sheet, entry_of}
 use Rattle.trf16.specs.Summed.{all_cells_fit}
@@ -91,7 +91,7 @@ pub some_of-cons : (test : List (List ℕ) → Bool) (utf8 : Bool) (line : List 
 some_of-cons test utf8 line rest here none is = ap (λ b. b || some_of test utf8 rest) (carried-test test utf8 line none ∙ is)
 
 -- whether a line of one of some kinds is no player's
-pub not_of_kinds : (line : List (List ℕ)) (kinds : List Kind) → is_player line ≡ true → list_any (is_of line) kinds ≡ false
+pub not_of_kinds : (line : List (List ℕ)) (kinds : List LineKind) → is_player line ≡ true → list_any (is_of line) kinds ≡ false
 not_of_kinds line [] player = refl
 not_of_kinds line (Xxa ∷ kinds) player = rw (not_of_kind line (codes "XXA") refl player) (not_of_kinds line kinds player)
 not_of_kinds line (Xxs ∷ kinds) player = rw (not_of_kind line (codes "XXS") refl player) (not_of_kinds line kinds player)

@@ -8,8 +8,8 @@ use Rattle.trf16.specs.Extensions.{is_kind, is_word, words_of}
 use Rattle.trf16.specs.Absence.{is_of}
 use Rattle.std.specs.Prelude.{codes}
 use Rattle.std.specs.List.{list_any}
-use Rattle.trf16.specs.declared.kind.Kind.{Kind}
-use Rattle.trf16.specs.declared.kind.Kind.TheVariants.{Xxa, Xxs, Rank}
+use Rattle.trf16.specs.declared.kind.LineKind.{LineKind}
+use Rattle.trf16.specs.declared.kind.LineKind.TheVariants.{Xxa, Xxs, Rank}
 use Rattle.trf16.specs.Notes.{begins_with_x}
 
 one_column : (b : ℕ) (t : Bool) (cols : List (List ℕ)) → (w : List ℕ) × (text (cond t (onto_first b cols) ((b ∷ []) ∷ cols)) 1 3 ≡ b ∷ w)
@@ -47,7 +47,7 @@ no_extension utf8 (b ∷ rest) capitals other =
     let kind = kind_begins utf8 b rest in
     ap (λ (w : List ℕ). is_word w (88 ∷ capitals)) kind.1 ∙ other_word b kind.0 capitals other
 
-pub of_no_kind : (utf8 : Bool) (line : List ℕ) (kind : Kind) → begins_with_x line ≡ false → is_of (columns utf8 line) kind ≡ false
+pub of_no_kind : (utf8 : Bool) (line : List ℕ) (kind : LineKind) → begins_with_x line ≡ false → is_of (columns utf8 line) kind ≡ false
 of_no_kind utf8 line Xxa other = no_extension utf8 line (88 ∷ 65 ∷ []) other
 of_no_kind utf8 line Xxs other = no_extension utf8 line (88 ∷ 83 ∷ []) other
 of_no_kind utf8 line Rank other =

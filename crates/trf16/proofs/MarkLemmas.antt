@@ -1,13 +1,15 @@
--- Marks of which none is set, and one of them that is set.
-use Rattle.std.proofs.Common.{◌≡◌, ℕ, zero, suc, ◌+◌, ◌*◌, ◌<◌, ◌≤◌, Bool, true, false, ◌&&◌, ◌||◌, ◌==◌, List, [], ◌∷◌, length, refl, sym, ap, ◌∙◌, slice_index_or, inl, inr, ◌≢◌, arith}
-use Rattle.std.specs.List.{AllClonesOf}
+-- Marks of which none is set, one of them that is set, and the places of some.
+use Rattle.std.proofs.Common.{◌≡◌, ℕ, zero, suc, ◌+◌, ◌*◌, ◌<◌, ◌≤◌, Bool, true, false, ◌&&◌, ◌||◌, ◌==◌, List, [], ◌∷◌, length, refl, sym, ap, ◌∙◌, ◌++◌, nat_lt, slice_index_or, inl, inr, ◌≢◌, arith}
+use Rattle.std.specs.List.{AllByRecursion, AllClonesOf}
 use Rattle.std.proofs.Math.ListN.{set}
 use Rattle.std.proofs.Math.Nat.{mul-suc, mul-le-mul_left}
-use Rattle.std.proofs.Math.Bool.{or-true, or-false}
+use Rattle.std.proofs.Math.Bool.{or-true, or-false, and-false}
 use Rattle.std.proofs.lemmas.Bool.{cases_lt}
-use Rattle.std.proofs.lemmas.Bool.Decides.{eqb_tells}
+use Rattle.std.proofs.lemmas.Bool.Decides.{eqb_tells, nat_tests}
 use Rattle.std.proofs.lemmas.Grind.{get_or-set_at}
 use Rattle.std.proofs.lemmas.List.{get_or-set_other}
+use Rattle.std.proofs.lemmas.List.Folds.{list_any-append}
+use Rattle.trf16.specs.Notes.{is_place}
 
 -- whatever is a clone of false is false
 pub none_marked : (marks : List Bool) (i : ℕ) → AllClonesOf (λ x y. y ≡ x) false marks → slice_index_or marks i false ≡ false
@@ -56,3 +58,32 @@ marked_at marks n i j k l room room' within =
           get_or-set_other marks (n * i + j) (n * k + l) true false not
           ∙ sym (rw (other.0) (or-false (slice_index_or marks (n * k + l) false)))
     ]
+
+-- the places of those in front of whom something holds: one place more
+same_in_front : (n k : ℕ) → n ≢ k → nat_lt k (n + 1) ≡ nat_lt k n
+same_in_front n k other = grind (arith, nat_tests)
+
+pub place_added : (places : List ℕ) (n k : ℕ) (holds : ℕ → Bool) → is_place places k ≡ (nat_lt k n && holds k) → holds n ≡ true
+    → is_place (places ++ n ∷ []) k ≡ (nat_lt k (n + 1) && holds k)
+place_added places n k holds before here =
+    list_any-append (λ place. place == k) places (n ∷ []) ∙ ap (λ b. b || ((n == k) || false)) before
+    ∙ elim (eqb_tells n k) [
+      | inl same ↦
+          let last : nat_lt k (n + 1) ≡ true = (let is : n ≡ k = same.1 in grind (arith, nat_tests)) in
+          let held : holds k ≡ true = ap holds (sym same.1) ∙ here in
+          rw (same.0, last, held) (or-true (nat_lt k n && true))
+      | inr other ↦ rw (other.0, same_in_front n k other.1) (or-false (nat_lt k n && holds k))
+    ]
+
+pub place_passed : (b : Bool) (n k : ℕ) (holds : ℕ → Bool) → b ≡ (nat_lt k n && holds k) → holds n ≡ false → b ≡ (nat_lt k (n + 1) && holds k)
+place_passed b n k holds before here =
+    before ∙ elim (eqb_tells n k) [
+      | inl same ↦
+          let none : holds k ≡ false = ap holds (sym same.1) ∙ here in
+          rw (none) (and-false (nat_lt k n) ∙ sym (and-false (nat_lt k (n + 1))))
+      | inr other ↦ rw (same_in_front n k other.1) refl
+    ]
+
+pub within_added : (bound n : ℕ) (places : List ℕ) → n < bound → AllByRecursion (λ place. place < bound) places → AllByRecursion (λ place. place < bound) (places ++ n ∷ [])
+within_added bound n [] lt all = (lt, all)
+within_added bound n (place ∷ places) lt (here, rest) = (here, within_added bound n places lt rest)

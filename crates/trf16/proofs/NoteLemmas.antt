@@ -12,12 +12,12 @@ use Rattle.trf16.specs.Lines.{columns}
 use Rattle.trf16.specs.Extensions.{is_kind, is_word, names_absent}
 use Rattle.trf16.specs.Answering.{has_other_points}
 use Rattle.std.proofs.lemmas.Bool.Decides.{nat_tests}
-use Rattle.trf16.specs.declared.kind.Kind.TheVariants.{Xxs}
+use Rattle.trf16.specs.declared.kind.LineKind.TheVariants.{Xxs}
 use Rattle.trf16.specs.Absence.{is_of, first_at, first_of}
 use Rattle.trf16.specs.Verdict.{carried_line, without_players}
 use Rattle.trf16.specs.Sheet.{Sheet}
 use Rattle.trf16.specs.Notes.{is_marked, first_noted, noted_first, earlier, Tells}
-use Rattle.trf16.specs.declared.kind.Kind.{Kind}
+use Rattle.trf16.specs.declared.kind.LineKind.{LineKind}
 use Rattle.trf16.specs.declared.notes.Notes.{Notes}
 use Rattle.trf16.proofs.AnsweringLemmas.{some_of, some_of-cons, not_of_kind, not_of_kinds, not_absent, first_at-cons}
 
@@ -28,7 +28,7 @@ not_both word one other differ is =
     ap (λ (w : List ℕ). bytes_eq w (map to_ascii_lowercase other)) ((bytes_eq-Decides (map to_ascii_lowercase word) (map to_ascii_lowercase one)).0 is) ∙ differ
 
 -- the lines of a kind
-abbrev pub of_kind : Kind → List (List ℕ) → Bool
+abbrev pub of_kind : LineKind → List (List ℕ) → Bool
 of_kind kind line = list_any (is_of line) (kind ∷ [])
 
 pub or_false : (b : Bool) → (b || false) ≡ b
@@ -38,7 +38,7 @@ or_false false = refl
 -- what is noted, and what the lines from line n on say, are together what all lines say
 pub record AreNoted (notes : Notes) (utf8 : Bool) (n : ℕ) (rest all : List (List ℕ)) : Type 0 where
   pub absent : (start : ℕ) → (is_marked notes start || some_of (names_absent start) utf8 rest) ≡ some_of (names_absent start) utf8 all
-  pub first : (kind : Kind) → option_or (first_noted notes kind) (first_at (of_kind kind) utf8 n (map (carried_line utf8) rest))
+  pub first : (kind : LineKind) → option_or (first_noted notes kind) (first_at (of_kind kind) utf8 n (map (carried_line utf8) rest))
       ≡ first_at (of_kind kind) utf8 1 (map (carried_line utf8) all)
   pub together : (notes.together || some_of (is_kind (codes "XXP")) utf8 rest) ≡ some_of (is_kind (codes "XXP")) utf8 all
 
@@ -53,7 +53,7 @@ first_step None true n others = refl
 first_step None false n others = refl
 
 -- before the first line nothing is noted
-pub noted-none : (notes : Notes) (utf8 : Bool) (all : List (List ℕ)) → ((start : ℕ) → is_marked notes start ≡ false) → ((kind : Kind) → first_noted notes kind ≡ None)
+pub noted-none : (notes : Notes) (utf8 : Bool) (all : List (List ℕ)) → ((start : ℕ) → is_marked notes start ≡ false) → ((kind : LineKind) → first_noted notes kind ≡ None)
     → notes.together ≡ false → AreNoted notes utf8 1 all all
 noted-none notes utf8 all none no_first no_line = record {
   absent = λ start. rw (none start) refl;
@@ -64,7 +64,7 @@ noted-none notes utf8 all none no_first no_line = record {
 -- one more line
 pub noted-more : (notes next : Notes) (utf8 : Bool) (n : ℕ) (line : List ℕ) (rest all : List (List ℕ)) → AreNoted notes utf8 n (line ∷ rest) all
     → ((start : ℕ) → is_marked next start ≡ (is_marked notes start || names_absent start (columns utf8 line)))
-    → ((kind : Kind) → first_noted next kind ≡ noted_first (first_noted notes kind) (is_of (columns utf8 line) kind) n)
+    → ((kind : LineKind) → first_noted next kind ≡ noted_first (first_noted notes kind) (is_of (columns utf8 line) kind) n)
     → next.together ≡ (notes.together || is_kind (codes "XXP") (columns utf8 line))
     → AreNoted next utf8 (n + 1) rest all
 noted-more notes next utf8 n line rest all noted marks firsts together = record {
@@ -111,7 +111,7 @@ tells_same notes a b same_columns same_lines told = record {
 
 -- notes that say the same of each start rank and kind
 pub tells_again : (notes again : Notes) (sheet : Sheet) → ((start : ℕ) → is_marked again start ≡ is_marked notes start)
-    → ((kind : Kind) → first_noted again kind ≡ first_noted notes kind) → again.together ≡ notes.together → Tells notes sheet → Tells again sheet
+    → ((kind : LineKind) → first_noted again kind ≡ first_noted notes kind) → again.together ≡ notes.together → Tells notes sheet → Tells again sheet
 tells_again notes again sheet marks firsts same told = record {
   absent = λ start. marks start ∙ told.absent start;
   first = λ kind. firsts kind ∙ told.first kind;
@@ -170,7 +170,7 @@ first_of_none utf8 n (None ∷ rest) = first_of_none utf8 (n + 1) rest
 first_of_none utf8 n (Some bytes ∷ rest) = first_of_none utf8 (n + 1) rest
 
 -- the first lines of some kinds and of one more
-pub first_of-cons : (kind : Kind) (kinds : List Kind) (utf8 : Bool) (n : ℕ) (lines : List (Option (List ℕ)))
+pub first_of-cons : (kind : LineKind) (kinds : List LineKind) (utf8 : Bool) (n : ℕ) (lines : List (Option (List ℕ)))
     → earlier (first_at (of_kind kind) utf8 n lines) (first_at (λ line. list_any (is_of line) kinds) utf8 n lines) ≡ first_at (λ line. list_any (is_of line) (kind ∷ kinds)) utf8 n lines
 first_of-cons kind kinds utf8 n lines =
     ap (λ (o : Option ℕ). earlier o (first_at (λ line. list_any (is_of line) kinds) utf8 n lines)) (same_first lines n)
@@ -214,7 +214,7 @@ other_points-first sheet = some_found (of_kind Xxs) sheet.utf8 sheet.carried 1 �
     same_any (Some bytes ∷ rest) = rw (or_false (is_kind (codes "XXS") (columns sheet.utf8 bytes)), same_any rest) refl
 
 -- one more kind is asked for
-pub kinds-more : (sheet : Sheet) (kinds : List Kind) (i : ℕ) (d : Kind) (before total : Option ℕ) → i < length kinds
+pub kinds-more : (sheet : Sheet) (kinds : List LineKind) (i : ℕ) (d : LineKind) (before total : Option ℕ) → i < length kinds
     → earlier before (first_of (drop i kinds) sheet) ≡ total
     → earlier (earlier before (first_of (get_or kinds i d ∷ []) sheet)) (first_of (drop (i + 1) kinds) sheet) ≡ total
 kinds-more sheet kinds i d before total lt so_far =
@@ -222,9 +222,9 @@ kinds-more sheet kinds i d before total lt so_far =
     let later = drop (i + 1) kinds in
     earlier_assoc before (first_of (kind ∷ []) sheet) (first_of later sheet)
     ∙ ap (earlier before) (first_of-cons kind later sheet.utf8 1 sheet.carried
-    ∙ sym (ap (λ (ks : List Kind). first_of ks sheet) (drop_more kinds i d lt)))
+    ∙ sym (ap (λ (ks : List LineKind). first_of ks sheet) (drop_more kinds i d lt)))
     ∙ so_far
 
-pub kinds-end : (sheet : Sheet) (kinds : List Kind) (i : ℕ) (before total : Option ℕ) → length kinds ≤ i → earlier before (first_of (drop i kinds) sheet) ≡ total → before ≡ total
+pub kinds-end : (sheet : Sheet) (kinds : List LineKind) (i : ℕ) (before total : Option ℕ) → length kinds ≤ i → earlier before (first_of (drop i kinds) sheet) ≡ total → before ≡ total
 kinds-end sheet kinds i before total le so_far =
-    sym (ap (λ (ks : List Kind). earlier before (first_of ks sheet)) (drop_all i kinds le) ∙ ap (earlier before) (first_of_none sheet.utf8 1 sheet.carried) ∙ earlier_none before) ∙ so_far
+    sym (ap (λ (ks : List LineKind). earlier before (first_of ks sheet)) (drop_all i kinds le) ∙ ap (earlier before) (first_of_none sheet.utf8 1 sheet.carried) ∙ earlier_none before) ∙ so_far

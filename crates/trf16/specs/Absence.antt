@@ -8,8 +8,8 @@ use Rattle.trf16.specs.Sheet.{Sheet, cell_in, rounds_played}
 use Rattle.trf16.specs.declared.cell.Bye.TheVariants.{Half, Full, Allocated, Zero}
 use Rattle.trf16.specs.declared.cell.Cell.{Cell}
 use Rattle.trf16.specs.declared.cell.Cell.TheVariants.{Blank, Bye, Game, Forfeit, Unfinished}
-use Rattle.trf16.specs.declared.kind.Kind.{Kind}
-use Rattle.trf16.specs.declared.kind.Kind.TheVariants.{Xxa, Xxs, Rank}
+use Rattle.trf16.specs.declared.kind.LineKind.{LineKind}
+use Rattle.trf16.specs.declared.kind.LineKind.TheVariants.{Xxa, Xxs, Rank}
 
 -- whether some line that is carried passes a test of its columns
 abbrev pub some_carried : (List (List ℕ) → Bool) → Sheet → Bool
@@ -43,7 +43,7 @@ abbrev pub apart_from : Sheet → ℕ → List ℕ
 apart_from sheet start = filter (apart sheet start) (map (λ entry. entry.start) sheet.players)
 
 -- a line of a kind that is known and not supported: XXA, XXS, or XXC with the word rank
-abbrev pub is_of : List (List ℕ) → Kind → Bool
+abbrev pub is_of : List (List ℕ) → LineKind → Bool
 is_of line Xxa = is_kind (codes "XXA") line
 is_of line Xxs = is_kind (codes "XXS") line
 is_of line Rank = is_kind (codes "XXC") line && list_any (λ word. is_word word (codes "RANK")) (words_of line)
@@ -54,5 +54,5 @@ first_at test utf8 n [] = None
 first_at test utf8 n (line ∷ rest) = if option_map_or (λ bytes. test (columns utf8 bytes)) line false then Some n else first_at test utf8 (n + 1) rest
 
 -- the number of the first line of one of some kinds, from 1
-abbrev pub first_of : List Kind → Sheet → Option ℕ
+abbrev pub first_of : List LineKind → Sheet → Option ℕ
 first_of kinds sheet = first_at (λ line. list_any (is_of line) kinds) sheet.utf8 1 sheet.carried

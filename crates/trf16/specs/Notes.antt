@@ -1,11 +1,12 @@
 -- What is noted of the carried lines while they are read, and what it must agree with.
 use Rattle.std.specs.Prelude.{◌≡◌, ℕ, ◌+◌, ◌*◌, ◌<◌, Bool, true, false, ◌||◌, ◌==◌, nat_lt, codes, length, map, vec_len, if◌then◌else◌, List, [], ◌∷◌, Option, Some, None, slice_index_or}
+use Rattle.std.specs.List.{list_any}
 use Rattle.std.specs.Option.{option_or}
 use Rattle.std.specs.Str.{byte}
 use Rattle.trf16.specs.Sheet.{Sheet}
 use Rattle.trf16.specs.Absence.{is_named_absent, first_of}
-use Rattle.trf16.specs.declared.kind.Kind.{Kind}
-use Rattle.trf16.specs.declared.kind.Kind.TheVariants.{Xxa, Xxs, Rank}
+use Rattle.trf16.specs.declared.kind.LineKind.{LineKind}
+use Rattle.trf16.specs.declared.kind.LineKind.TheVariants.{Xxa, Xxs, Rank}
 use Rattle.trf16.specs.Extensions.{is_kind, names_both}
 use Rattle.trf16.specs.Absence.{some_carried}
 use Rattle.trf16.specs.declared.start_ranks.StartRanks.{StartRanks}
@@ -21,7 +22,7 @@ abbrev pub is_marked : Notes → ℕ → Bool
 is_marked notes start = has_start notes.absent start
 
 -- the first line of a kind that is noted
-abbrev pub first_noted : Notes → Kind → Option ℕ
+abbrev pub first_noted : Notes → LineKind → Option ℕ
 first_noted notes Xxa = notes.xxa
 first_noted notes Xxs = notes.xxs
 first_noted notes Rank = notes.rank
@@ -32,14 +33,14 @@ begins_with_x [] = false
 begins_with_x (b ∷ rest) = (b == byte "X") || (b == byte "x")
 
 -- whether two kinds are one
-abbrev pub is_same_kind : Kind → Kind → Bool
+abbrev pub is_same_kind : LineKind → LineKind → Bool
 is_same_kind Xxa Xxa = true
 is_same_kind Xxs Xxs = true
 is_same_kind Rank Rank = true
 is_same_kind _ _ = false
 
 -- whether what was found is a kind
-abbrev pub is_kind_of : Option Kind → Kind → Bool
+abbrev pub is_kind_of : Option LineKind → LineKind → Bool
 is_kind_of None kind = false
 is_kind_of (Some found) kind = is_same_kind found kind
 
@@ -56,12 +57,16 @@ earlier found None = found
 -- what is noted is what the carried lines of a report say
 pub record Tells (notes : Notes) (sheet : Sheet) : Type 0 where
   pub absent : (start : ℕ) → is_marked notes start ≡ is_named_absent sheet start
-  pub first : (kind : Kind) → first_noted notes kind ≡ first_of (kind ∷ []) sheet
+  pub first : (kind : LineKind) → first_noted notes kind ≡ first_of (kind ∷ []) sheet
   pub together : notes.together ≡ some_carried (is_kind (codes "XXP")) sheet
 
 -- whether two players, by their places in the order of the lines, are marked as named together
 abbrev pub are_marked : Apart → ℕ → ℕ → Bool
 are_marked apart i j = slice_index_or apart.marks.items (vec_len apart.starts * i + j) false
+
+-- a place is one of some
+abbrev pub is_place : List ℕ → ℕ → Bool
+is_place places k = list_any (λ place. place == k) places
 
 -- the start rank of the player at a place
 abbrev pub start_at : Apart → ℕ → ℕ

@@ -1,9 +1,10 @@
 // Marking which players are named together by lines `XXP`: each line names a set, and each two of it are marked.
-ghost use Rattle.std.specs.Prelude.{◌≡◌, ℕ, ◌<◌, ◌≤◌, ◌&&◌, ◌||◌, ◌==◌, ◌*◌, nat_lt, false, codes, IfOk, length, vec_len};
+ghost use Rattle.std.specs.Prelude.{◌≡◌, ℕ, ◌<◌, ◌≤◌, ◌&&◌, ◌||◌, ◌==◌, ◌*◌, false, codes, IfOk, vec_len};
+ghost use Rattle.std.specs.List.{AllByRecursion};
 ghost use Rattle.trf16.specs.Lines.{lines, columns};
 ghost use Rattle.trf16.specs.Fields.{words};
 ghost use Rattle.trf16.specs.Extensions.{is_word, is_named, names_both};
-ghost use Rattle.trf16.specs.Notes.{has_start, are_marked, start_at};
+ghost use Rattle.trf16.specs.Notes.{has_start, are_marked, is_place, start_at};
 ghost use Rattle.trf16.specs.Verdict.{without_players};
 ghost use Rattle.trf16.specs.Absence.{some_carried};
 ghost use Rattle.trf16.specs.declared.limits.TheConstants.{MOST_PLAYERS};
@@ -76,32 +77,44 @@ impl Apart {
         self.marks[self.starts.len() * i + j] = true;
     }
 
-    // Marks a player together with each one who is named.
-    fn mark_row(&mut self, i: usize, named: &StartRanks)
+    // The places of those who are named.
+    fn places_of(&self, alloc: Global, named: &StartRanks) -> Result<Vec<usize>, AllocError>
+        ensures named { IfOk result (λ places. (k : ℕ) → k < vec_len self.now.starts → is_place places.items k ≡ has_start named.now (start_at self.now k)) }
+        ensures inside { IfOk result (λ places. AllByRecursion (λ place. place < vec_len self.now.starts) places.items) }
+    {
+        let mut places = Vec::new(alloc);
+        for place in 0..self.starts.len() {
+            if named.has(self.starts[place]) {
+                places.push(place)?;
+            }
+        }
+        Ok(places)
+    }
+
+    // Marks a player together with each of some.
+    fn mark_row(&mut self, i: usize, places: &[usize])
         requires first { i < vec_len self.old.starts }
+        requires inside { AllByRecursion (λ place. place < vec_len self.old.starts) places.now }
         requires room { vec_len self.old.marks ≡ vec_len self.old.starts * vec_len self.old.starts }
-        ensures marked { (k l : ℕ) → l < vec_len self.old.starts → are_marked self.new k l ≡ (are_marked self.old k l || ((i == k) && has_start named.now (start_at self.old l))) }
+        ensures marked { (k l : ℕ) → l < vec_len self.old.starts → are_marked self.new k l ≡ (are_marked self.old k l || ((i == k) && is_place places.now l)) }
         ensures same { self.new.starts ≡ self.old.starts }
         ensures room { vec_len self.new.marks ≡ vec_len self.new.starts * vec_len self.new.starts }
     {
-        for j in 0..self.starts.len() {
-            if named.has(self.starts[j]) {
-                self.mark(i, j);
-            }
+        for place in places {
+            self.mark(i, *place);
         }
     }
 
-    // Marks each two who are named.
-    fn mark_named(&mut self, named: &StartRanks)
+    // Marks each two of some.
+    fn mark_each_two(&mut self, places: &[usize])
+        requires inside { AllByRecursion (λ place. place < vec_len self.old.starts) places.now }
         requires room { vec_len self.old.marks ≡ vec_len self.old.starts * vec_len self.old.starts }
-        ensures marked { (k l : ℕ) → k < vec_len self.old.starts → l < vec_len self.old.starts → are_marked self.new k l ≡ (are_marked self.old k l || (has_start named.now (start_at self.old k) && has_start named.now (start_at self.old l))) }
+        ensures marked { (k l : ℕ) → l < vec_len self.old.starts → are_marked self.new k l ≡ (are_marked self.old k l || (is_place places.now k && is_place places.now l)) }
         ensures same { self.new.starts ≡ self.old.starts }
         ensures room { vec_len self.new.marks ≡ vec_len self.new.starts * vec_len self.new.starts }
     {
-        for i in 0..self.starts.len() {
-            if named.has(self.starts[i]) {
-                self.mark_row(i, named);
-            }
+        for place in places {
+            self.mark_row(*place, places);
         }
     }
 
@@ -116,7 +129,8 @@ impl Apart {
         if is_word(kind, b"XXP") {
             let mut named = StartRanks::new(alloc)?;
             named.mark_words(rest);
-            self.mark_named(&named);
+            let places = self.places_of(alloc, &named)?;
+            self.mark_each_two(&places);
         }
         Ok(())
     }

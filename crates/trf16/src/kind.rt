@@ -2,7 +2,7 @@
 
 /// A kind of line that changes what a report means.
 #[derive(Debug, Clone, Copy, PartialEq, Eq)]
-pub enum Kind {
+pub enum LineKind {
     /// `XXA`: accelerated pairings.
     Xxa,
     /// `XXS`: other points for games.

@@ -8,7 +8,7 @@ ghost use Rattle.trf16.specs.Notes.{is_marked, first_noted, is_kind_of, noted_fi
 
 use crate::columns::split_kind;
 use crate::extensions::{has_rank, is_word};
-use crate::kind::Kind;
+use crate::kind::LineKind;
 use crate::notes::Notes;
 use crate::start_ranks::StartRanks;
 use std::alloc::{AllocError, Global};
@@ -17,7 +17,7 @@ impl Notes {
     /// Nothing is noted.
     pub(crate) fn new(alloc: Global) -> Result<Notes, AllocError>
         ensures absent { IfOk result (λ notes. (start : ℕ) → is_marked notes start ≡ false) }
-        ensures firsts { IfOk result (λ notes. (kind : Kind) → first_noted notes kind ≡ None) }
+        ensures firsts { IfOk result (λ notes. (kind : LineKind) → first_noted notes kind ≡ None) }
         ensures together { IfOk result (λ notes. notes.together ≡ false) }
     {
         Ok(Notes {
@@ -32,7 +32,7 @@ impl Notes {
     /// The same once more.
     pub(crate) fn copy(&self, alloc: Global) -> Result<Notes, AllocError>
         ensures absent { IfOk result (λ notes. (start : ℕ) → is_marked notes start ≡ is_marked self.now start) }
-        ensures firsts { IfOk result (λ notes. (kind : Kind) → first_noted notes kind ≡ first_noted self.now kind) }
+        ensures firsts { IfOk result (λ notes. (kind : LineKind) → first_noted notes kind ≡ first_noted self.now kind) }
         ensures together { IfOk result (λ notes. notes.together ≡ self.now.together) }
     {
         Ok(Notes {
@@ -45,20 +45,20 @@ impl Notes {
     }
 
     /// The first line of a kind that is noted.
-    pub(crate) fn first(&self, kind: Kind) -> Option<usize>
+    pub(crate) fn first(&self, kind: LineKind) -> Option<usize>
         ensures { result ≡ first_noted self.now kind }
     {
         match kind {
-            Kind::Xxa => self.xxa,
-            Kind::Xxs => self.xxs,
-            Kind::Rank => self.rank,
+            LineKind::Xxa => self.xxa,
+            LineKind::Xxs => self.xxs,
+            LineKind::Rank => self.rank,
         }
     }
 
     // Marks those whom a line names, if it is of the kind `XXZ`.
     fn note_absent(&mut self, kind: &[u8], rest: &[u8])
         ensures absent { (i : ℕ) → is_marked self.new i ≡ (is_marked self.old i || (is_word kind.now (codes "XXZ") && is_named (words rest.now) i)) }
-        ensures firsts { (kind : Kind) → first_noted self.new kind ≡ first_noted self.old kind }
+        ensures firsts { (kind : LineKind) → first_noted self.new kind ≡ first_noted self.old kind }
         ensures together { self.new.together ≡ self.old.together }
     {
         if is_word(kind, b"XXZ") {
@@ -67,15 +67,15 @@ impl Notes {
     }
 
     // Notes that line n is of a kind, unless an earlier line is.
-    fn note_first(&mut self, found: Option<Kind>, n: usize)
+    fn note_first(&mut self, found: Option<LineKind>, n: usize)
         ensures absent { (i : ℕ) → is_marked self.new i ≡ is_marked self.old i }
-        ensures firsts { (kind : Kind) → first_noted self.new kind ≡ noted_first (first_noted self.old kind) (is_kind_of found kind) n }
+        ensures firsts { (kind : LineKind) → first_noted self.new kind ≡ noted_first (first_noted self.old kind) (is_kind_of found kind) n }
         ensures together { self.new.together ≡ self.old.together }
     {
         match found {
-            Some(Kind::Xxa) => self.xxa = self.xxa.or(Some(n)),
-            Some(Kind::Xxs) => self.xxs = self.xxs.or(Some(n)),
-            Some(Kind::Rank) => self.rank = self.rank.or(Some(n)),
+            Some(LineKind::Xxa) => self.xxa = self.xxa.or(Some(n)),
+            Some(LineKind::Xxs) => self.xxs = self.xxs.or(Some(n)),
+            Some(LineKind::Rank) => self.rank = self.rank.or(Some(n)),
             None => {}
         }
     }
@@ -83,7 +83,7 @@ impl Notes {
     // Notes what line n says, if it is an extension.
     fn note_extension(&mut self, n: usize, line: &[u8], utf8: bool)
         ensures absent { (i : ℕ) → is_marked self.new i ≡ (is_marked self.old i || names_absent i (columns utf8 line.now)) }
-        ensures firsts { (kind : Kind) → first_noted self.new kind ≡ noted_first (first_noted self.old kind) (is_of (columns utf8 line.now) kind) n }
+        ensures firsts { (kind : LineKind) → first_noted self.new kind ≡ noted_first (first_noted self.old kind) (is_of (columns utf8 line.now) kind) n }
         ensures together { self.new.together ≡ (self.old.together || is_kind (codes "XXP") (columns utf8 line.now)) }
     {
         let (kind, rest) = split_kind(line, utf8);
@@ -95,7 +95,7 @@ impl Notes {
     /// Notes what line n says. Most lines are no extensions, and their first byte tells it.
     pub(crate) fn note(&mut self, n: usize, line: &[u8], utf8: bool)
         ensures absent { (i : ℕ) → is_marked self.new i ≡ (is_marked self.old i || names_absent i (columns utf8 line.now)) }
-        ensures firsts { (kind : Kind) → first_noted self.new kind ≡ noted_first (first_noted self.old kind) (is_of (columns utf8 line.now) kind) n }
+        ensures firsts { (kind : LineKind) → first_noted self.new kind ≡ noted_first (first_noted self.old kind) (is_of (columns utf8 line.now) kind) n }
         ensures together { self.new.together ≡ (self.old.together || is_kind (codes "XXP") (columns utf8 line.now)) }
     {
         if begins_with_x(line) {
@@ -115,17 +115,17 @@ fn begins_with_x(line: &[u8]) -> bool
 }
 
 // Which kind that is not supported a line is of, by its first columns and what stands behind them.
-fn kind_of(kind: &[u8], rest: &[u8]) -> Option<Kind>
-    ensures { (k : Kind) → (line : List (List ℕ)) → text line 1 3 ≡ kind.now → joined (drop 3 line) ≡ rest.now → is_kind_of result k ≡ is_of line k }
+fn kind_of(kind: &[u8], rest: &[u8]) -> Option<LineKind>
+    ensures { (k : LineKind) → (line : List (List ℕ)) → text line 1 3 ≡ kind.now → joined (drop 3 line) ≡ rest.now → is_kind_of result k ≡ is_of line k }
 {
     if is_word(kind, b"XXA") {
-        return Some(Kind::Xxa);
+        return Some(LineKind::Xxa);
     }
     if is_word(kind, b"XXS") {
-        return Some(Kind::Xxs);
+        return Some(LineKind::Xxs);
     }
     if is_word(kind, b"XXC") && has_rank(rest) {
-        return Some(Kind::Rank);
+        return Some(LineKind::Rank);
     }
     None
 }

@@ -11,7 +11,7 @@ ghost use Rattle.trf16.specs.declared.limits.TheConstants.{MOST_PLAYERS};
 use crate::cell::{Bye, Cell};
 use crate::cells::{first_unfinished, front};
 use crate::extensions::names_both;
-use crate::kind::Kind;
+use crate::kind::LineKind;
 use crate::lines::next_line;
 use crate::noting::earlier;
 use crate::report::Report;
@@ -36,7 +36,7 @@ impl<'a> Report<'a> {
     }
 
     // The first line of a kind.
-    fn first_line(&self, kind: Kind) -> Option<usize>
+    fn first_line(&self, kind: LineKind) -> Option<usize>
         ensures { result ≡ first_of (kind ∷ []) self.now }
     {
         self.notes.first(kind)
@@ -46,7 +46,7 @@ impl<'a> Report<'a> {
     pub(crate) fn has_other_points(&self) -> bool
         ensures { result ≡ has_other_points self.now }
     {
-        self.first_line(Kind::Xxs).is_some()
+        self.first_line(LineKind::Xxs).is_some()
     }
 
     /// Whether a player is absent from the round behind the last that was paired: a line `XXZ` names him, or his cell there is
@@ -144,7 +144,7 @@ impl<'a> Report<'a> {
     }
 
     /// The number of the first line of one of some kinds, from 1.
-    pub fn unsupported(&self, kinds: &[Kind]) -> Option<usize>
+    pub fn unsupported(&self, kinds: &[LineKind]) -> Option<usize>
         ensures { result ≡ first_of kinds.now self.now }
     {
         let mut first = None;

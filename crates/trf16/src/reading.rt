@@ -19,7 +19,7 @@ use crate::extensions::{are_start_ranks, colour_in, is_word, rounds_in};
 use crate::fault::{Excess, Fault};
 use crate::fields::{number_in, points_in, trimmed};
 use crate::grammar::cell_from;
-use crate::kind::Kind;
+use crate::kind::LineKind;
 use crate::limits::{MOST_BYTES, MOST_PLAYERS, MOST_ROUNDS};
 use crate::lines::{next_line, skip_marks};
 use crate::notes::Notes;
@@ -264,7 +264,7 @@ fn lines_onto<'a>(
     text: &'a [u8],
 ) -> Result<bool, Fault>
     requires absent { (start : ℕ) → is_marked notes.old start ≡ false }
-    requires firsts { (kind : Kind) → first_noted notes.old kind ≡ None }
+    requires firsts { (kind : LineKind) → first_noted notes.old kind ≡ None }
     requires together { notes.old.together ≡ false }
     ensures given { Gives (λ _. draft.new) result (lines_onto draft.old 1 (lines text.now)) }
     ensures long { IfOk result (λ long. long ≡ has_too_many_rounds draft.old.utf8 (lines text.now)) }

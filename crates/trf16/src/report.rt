@@ -105,8 +105,8 @@ impl<'a> Report<'a> {
         points_of(cells, self.bye)
     }
 
-    // Whether a start rank is that of a player.
-    pub(crate) fn knows(&self, start: u16) -> bool
+    /// Whether a start rank is that of a player.
+    pub fn knows(&self, start: u16) -> bool
         ensures { result ≡ known self.now start }
     {
         self.players.contains_key(&start)

@@ -1,8 +1,7 @@
 // What the tests of the order share: a rule that bars a meeting, and a limit that rises by one.
 ghost use Rattle.std.specs.Prelude.{◌≤◌};
 
-use dutch_order::rules::Rule;
-use dutch_order::steps::Budget;
+use dutch_order::{Budget, Rule};
 
 // A rule that bars one pair, and one player from being left over.
 #[derive(Drop)]
@@ -24,7 +23,7 @@ impl Rule for Barred {
         !((a == self.one && b == self.other) || (a == self.other && b == self.one))
     }
 
-    fn last_ok(&self, a: u16) -> bool {
+    fn may_be_left(&self, a: u16) -> bool {
         !(a == self.stays)
     }
 

@@ -3,13 +3,9 @@ ghost use Rattle.std.specs.Prelude.{◌≡◌, ◌≤◌};
 ghost use Rattle.dutch_order.specs.Arrangements.{Fits};
 
 use crate::below::barred::{AMPLE, Barred, FREE, raised};
-use dutch_order::bound::Bound;
-use dutch_order::bracket::{Bracket, Shape};
-use dutch_order::candidate::Candidate;
-use dutch_order::candidates::Candidates;
-use dutch_order::prefix::{Filling, Prefix};
-use dutch_order::rules::Rule;
-use dutch_order::steps::{Budget, Step};
+use dutch_order::{
+    Bound, Bracket, Budget, Candidate, Candidates, Filling, Prefix, Rule, Shape, Step,
+};
 use std::alloc::Global;
 use std::test::Fail;
 
@@ -98,7 +94,8 @@ fn right_rests(
         if let Some(others) = behind.strip_prefix(&own) {
             behind = others;
         }
-        let from = Candidates::from(bracket, shape, rule, arrangement.cursor());
+        let cursor = arrangement.cursor();
+        let from = Candidates::from(bracket, shape, rule, &cursor);
         let (rest, _) = listing(alloc, from, most - 1 - turn, 0)?;
         if rest.as_slice() != behind {
             return Ok(turn);

@@ -1,6 +1,5 @@
 // Texts that are cursors of a bracket, and texts that are not.
-use dutch_order::bracket::{Bracket, Shape};
-use dutch_order::cursor::{Cursor, CursorFault};
+use dutch_order::{Bracket, Cursor, CursorFault, Shape};
 use std::test::Fail;
 
 // Four residents.

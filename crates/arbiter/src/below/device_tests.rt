@@ -1,7 +1,7 @@
 // Counted readers and writers over memory, and over devices that fail. What they count is seen in their contracts alone.
 use std::io;
 use std::io::{ErrorKind, Read, Write};
-use trf16::devices::{Counted, Failed, Sink, Source};
+use trf16::{Counted, Failed, Sink, Source};
 
 // Every read is interrupted.
 #[derive(Drop)]

@@ -1,8 +1,8 @@
 // Reports made of the lines of their players, and the fields that they are.
-use dutch_player::field::Field;
+use dutch_player::Field;
 use std::alloc::{AllocError, Global};
 use std::test::Fail;
-use trf16::cell::Colour;
+use trf16::Colour;
 
 // What stands in front of column 9, and what stands from column 92 on.
 pub(super) type Line<'a> = (&'a str, &'a str);

@@ -4,11 +4,9 @@ ghost use Rattle.std.specs.List.Sorted.{IsStrictlyIncreasing};
 ghost use Rattle.dutch_order.specs.declared.numbers.TheConstants.{LIMIT};
 
 use crate::below::barred::{AMPLE, Barred, FREE, raised};
-use dutch_order::exchange::Exchanges;
-use dutch_order::limbo::LimboExchanges;
-use dutch_order::numbers::{LIMIT, Numbers, numbered_from};
-use dutch_order::steps::{Budget, Step};
-use dutch_order::transposition::Transpositions;
+use dutch_order::{
+    Budget, Exchanges, LIMIT, LimboExchanges, Numbers, Step, Transpositions, numbered_from,
+};
 use std::alloc::Global;
 use std::test::Fail;
 

@@ -1,16 +1,13 @@
 // Completion under rules that bar nothing, and that bar every meeting, and the rule of a small report.
 
 use crate::below::lines::{Line, field_of};
-use dutch_order::rules::Rule;
-use dutch_order::steps::Budget;
-use dutch_pair::completion::{Answer, completes};
-use dutch_pair::reached::Kind;
-use dutch_pair::round::{BracketAt, Outcome, bracket_at, pair_round};
+use dutch_order::{Budget, Rule};
 use dutch_pair::seats::seats;
-use dutch_player::field::Field;
+use dutch_pair::{Answer, BracketAt, BracketKind, Outcome, bracket_at, completes, pair_round};
+use dutch_player::Field;
 use std::alloc::Global;
 use std::test::Fail;
-use trf16::cell::Colour;
+use trf16::Colour;
 
 /// A rule that allows every bye, and every meeting or none.
 #[derive(Drop)]
@@ -29,7 +26,7 @@ impl Rule for All {
         self.meetings
     }
 
-    fn last_ok(&self, _a: u16) -> bool {
+    fn may_be_left(&self, _a: u16) -> bool {
         true
     }
 
@@ -100,7 +97,7 @@ fn seats_for_the_bye(rt: HostRuntime) -> Result<(), Fail> {
     let field = field_of(rt.alloc(), &FOUR, Some(5), Some(Colour::White))?;
     let rule = seats(&field);
     for (seat, may) in [(0, false), (1, true), (4, false)] {
-        assert_eq!(rt; rule.last_ok(seat), may, "{seat}");
+        assert_eq!(rt; rule.may_be_left(seat), may, "{seat}");
     }
     let mut budget = Budget { limit: 9, used: 0 };
     assert_eq!(rt; completes(&[0, 1, 2], &rule, &mut budget), Answer::Yes);
@@ -135,7 +132,7 @@ fn kind_and_pairs(
     alloc: Global,
     field: &Field,
     number: u16,
-) -> Result<Option<(Kind, usize)>, Fail> {
+) -> Result<Option<(BracketKind, usize)>, Fail> {
     match bracket_at(alloc, field, 1000, number)? {
         BracketAt::Bracket { reached, shape } => Ok(Some((reached.kind(), shape.pairs))),
         BracketAt::NotReached => Ok(None),
@@ -148,8 +145,8 @@ fn brackets_of_a_pair_given_up(rt: HostRuntime) -> Result<(), Fail> {
     let field = field_of(rt.alloc(), &PAIR_GIVEN_UP, Some(3), Some(Colour::White))?;
     let table = [
         (0, None),
-        (1, Some((Kind::Ordinary, 1))),
-        (3, Some((Kind::Collapsed, 2))),
+        (1, Some((BracketKind::Ordinary, 1))),
+        (3, Some((BracketKind::Collapsed, 2))),
         (4, None),
     ];
     for (number, wanted) in table {

@@ -3,28 +3,25 @@
 // Each question to a field stands once, in a function that asks it of a seat if the field has it: so the tests themselves are lists of
 // what must come, and are proved in no time.
 use crate::below::lines::{Line, field_of, text_of};
-use dutch_player::colour_rule::ColourRule;
-use dutch_player::fault::FieldFault;
-use dutch_player::field::Field;
-use dutch_player::float::Float;
-use dutch_player::history::{colour_played, opponent_played};
-use dutch_player::preference::{Kind, Pref};
+use dutch_player::{
+    ColourRule, Field, FieldFault, Float, Pref, Strength, colour_played, opponent_played,
+};
 use std::alloc::Global;
 use std::test::Fail;
-use trf16::cell::{Cell, Colour, Outcome};
+use trf16::{Cell, Colour, Outcome};
 
 const ABSOLUTE_WHITE: Option<Pref> = Some(Pref {
-    kind: Kind::Absolute,
+    strength: Strength::Absolute,
     colour: Colour::White,
 });
 
 const ABSOLUTE_BLACK: Option<Pref> = Some(Pref {
-    kind: Kind::Absolute,
+    strength: Strength::Absolute,
     colour: Colour::Black,
 });
 
 const MILD_WHITE: Option<Pref> = Some(Pref {
-    kind: Kind::Mild,
+    strength: Strength::Mild,
     colour: Colour::White,
 });
 

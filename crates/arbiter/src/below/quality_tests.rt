@@ -4,23 +4,19 @@ ghost use Rattle.dutch_pair.specs.Lower.{lower_of};
 ghost use Rattle.dutch_pair.specs.Reached.{IsAbove, frame_of};
 
 use crate::below::lines::{Line, field_of};
-use dutch_order::bracket::Shape;
-use dutch_order::candidates::Candidates;
-use dutch_order::steps::{Budget, Step};
+use dutch_order::{Budget, Candidates, Shape, Step};
 use dutch_pair::boards::boards;
-use dutch_pair::choice::{Choice, choose};
-use dutch_pair::group::split_first_group;
 use dutch_pair::laws::{
-    a_bracket_stands_above_the_lower, candidates_are_draws, the_first_scoregroup_is_next,
+    a_bracket_stands_above_the_lower, candidates_are_of_the_bracket, the_first_scoregroup_is_next,
 };
 use dutch_pair::lookahead::quality;
-use dutch_pair::quality::Quality;
-use dutch_pair::reached::Reached;
-use dutch_pair::round::{BracketAt, bracket_at};
-use dutch_player::field::Field;
+use dutch_pair::{
+    BracketAt, Choice, Item, Quality, Reached, bracket_at, choose, split_first_group,
+};
+use dutch_player::Field;
 use std::alloc::Global;
 use std::test::Fail;
-use trf16::cell::Colour;
+use trf16::Colour;
 
 // The first won against the third, and the others drew: he moves down to the second and the fourth.
 const ONE_MOVES_DOWN: [Line<'static>; 4] = [
@@ -54,7 +50,7 @@ fn qualities(
     loop {
         match candidates.next(&mut budget) {
             Step::Found(candidate) => {
-                candidates_are_draws(field, reached, shape, &candidate);
+                candidates_are_of_the_bracket(field, reached, shape, &candidate);
                 match quality(field, reached, &candidate, next, &mut budget) {
                     Some(found) => all.push(found)?,
                     None => return Err(Fail::new("undecided")),
@@ -77,6 +73,13 @@ fn qualities_of_both_candidates(rt: HostRuntime) -> Result<(), Fail> {
     a_bracket_stands_above_the_lower(&field, 2, &reached, shape);
     let all = qualities(alloc, &field, &reached, shape)?;
     assert_eq!(rt; all.len(), 2);
+    if let [first, second] = all.as_slice() {
+        assert_eq!(rt;
+            first.first_difference(second),
+            Some(Item::MissedPreferences)
+        );
+        assert_eq!(rt; first.first_difference(first), None);
+    }
     for (quality, missed) in all.iter().zip([0, 1]) {
         assert_eq!(rt; quality.psd(), [2, 1].as_slice());
         assert_eq!(rt; quality.next_pairs(), 1);
@@ -119,7 +122,10 @@ fn choice_of_a_bracket(rt: HostRuntime) -> Result<(), Fail> {
         Choice::Chosen {
             shape: chosen,
             candidate,
+            quality,
         } => {
+            assert_eq!(rt; quality.psd(), [2, 1].as_slice());
+            assert_eq!(rt; (quality.next_pairs(), quality.missed_strong()), (1, 0));
             assert_eq!(rt; (chosen.pairs, chosen.mdps), (shape.pairs, shape.mdps));
             assert_eq!(rt;
                 (candidate.s1(), candidate.s2()),

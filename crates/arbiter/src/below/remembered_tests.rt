@@ -3,16 +3,12 @@ ghost use Rattle.std.specs.Prelude.{◌≡◌, ◌≤◌, IfOk};
 ghost use Rattle.dutch_pair.specs.Reached.{IsOf};
 
 use crate::below::lines::{Line, field_of};
-use dutch_order::numbers::Numbers;
-use dutch_order::steps::Budget;
-use dutch_pair::conditions::{are_left, is_next};
-use dutch_pair::reached::{Kind, Reached};
-use dutch_pair::remembered::{Look, LookAhead};
-use dutch_pair::round::{BracketAt, bracket_at};
-use dutch_player::field::Field;
+use dutch_order::{Budget, Numbers};
+use dutch_pair::{BracketAt, BracketKind, Look, LookAhead, Reached, are_left, bracket_at, is_next};
+use dutch_player::Field;
 use std::alloc::Global;
 use std::test::Fail;
-use trf16::cell::Colour;
+use trf16::Colour;
 
 // Eight with a full-point bye, by rank, above four who drew.
 const TWELVE: [Line<'static>; 12] = [
@@ -53,10 +49,10 @@ fn look_at_four<'a>(
     reached: &'a Reached,
 ) -> Result<LookAhead<'a>, Fail>
     requires { IsOf field.now reached.now }
-    ensures { IfOk result (λ look. look.stand ≡ reached.now) }
+    ensures { IfOk result (λ look. look.reached ≡ reached.now) }
 {
     match reached.kind() {
-        Kind::Ordinary => {}
+        BracketKind::Ordinary => {}
         _ => return Err(Fail::new("not ordinary")),
     }
     if !is_next(field, reached, &FOUR) {
@@ -83,9 +79,9 @@ fn look_of(
     down: &[u16],
     budget: &mut Budget,
 ) -> Result<Look, Fail>
-    requires stand { look.old.stand ≡ reached.now }
+    requires reached { look.old.reached ≡ reached.now }
     requires within { budget.old.used ≤ budget.old.limit }
-    ensures stand { look.new.stand ≡ reached.now }
+    ensures reached { look.new.reached ≡ reached.now }
     ensures within { budget.new.used ≤ budget.new.limit }
 {
     if !are_left(reached, down) {
@@ -104,9 +100,9 @@ fn value_of(
     down: &[u16],
     budget: &mut Budget,
 ) -> Result<(usize, Numbers), Fail>
-    requires stand { look.old.stand ≡ reached.now }
+    requires reached { look.old.reached ≡ reached.now }
     requires within { budget.old.used ≤ budget.old.limit }
-    ensures stand { look.new.stand ≡ reached.now }
+    ensures reached { look.new.reached ≡ reached.now }
     ensures within { budget.new.used ≤ budget.new.limit }
 {
     match look_of(look, reached, down, budget)? {

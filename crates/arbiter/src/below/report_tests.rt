@@ -1,11 +1,9 @@
 // Each call over a small report, whose answers follow from TRF16's columns by hand.
 use std::test::Fail;
-use trf16::cell::{Bye, Cell, Colour, Outcome};
-use trf16::cells::{cell_at, front};
-use trf16::fault::{Excess, Fault};
-use trf16::kind::Kind;
-use trf16::report::Report;
-use trf16::{column_count, read, read_with};
+use trf16::{
+    Bye, Cell, Colour, Excess, Fault, LineKind, Outcome, Report, cell_at, column_count, front,
+    read, read_with,
+};
 
 // Round 1: 1 beats 2, and 3 has the pairing-allocated bye. Round 2: 1 has half a point, 2 wins against 3 by forfeit. 3 does not play on.
 const REPORT: &[u8] =
@@ -102,7 +100,7 @@ fn lines_and_points(rt: HostRuntime) -> Result<(), Fail> {
     assert_eq!(rt; lengths_of_carried_lines(&report), [Some(19), None, None]);
     assert_eq!(rt; some_points(&report), [2, 3, 2]);
     assert_eq!(rt; absences(&report), [false, true, true]);
-    assert_eq!(rt; report.unsupported(&[Kind::Rank, Kind::Xxa]), None);
+    assert_eq!(rt; report.unsupported(&[LineKind::Rank, LineKind::Xxa]), None);
     Ok(())
 }
 
@@ -147,8 +145,11 @@ fn some_cells(rt: HostRuntime) {
 #[test]
 fn first_line_of_a_kind(rt: HostRuntime) -> Result<(), Fail> {
     let report = read(rt.alloc(), b"xxs 1\nXXC rank\nXXA\n001    1\n")?;
-    assert_eq!(rt; report.unsupported(&[Kind::Xxa]), Some(3));
-    assert_eq!(rt; report.unsupported(&[Kind::Xxa, Kind::Rank]), Some(2));
+    assert_eq!(rt; report.unsupported(&[LineKind::Xxa]), Some(3));
+    assert_eq!(rt;
+        report.unsupported(&[LineKind::Xxa, LineKind::Rank]),
+        Some(2)
+    );
     assert_eq!(rt; report.unsupported(&[]), None);
     Ok(())
 }

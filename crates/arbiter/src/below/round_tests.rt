@@ -1,10 +1,7 @@
 // Reports whose next round is paired, written and read again.
 use std::alloc::Global;
 use std::test::Fail;
-use trf16::cell::{Bye, Cell};
-use trf16::devices::Counted;
-use trf16::fault::Fault;
-use trf16::{read, write};
+use trf16::{Bye, Cell, Counted, Fault, read, write};
 
 const FOUR: &[u8] = b"001    1\n001    2\n001    3\n001    4\n";
 

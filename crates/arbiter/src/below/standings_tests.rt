@@ -2,9 +2,7 @@
 use crate::below::lines::{Line, text_of};
 use std::alloc::Global;
 use std::test::Fail;
-use tiebreak::fault::TieFault;
-use tiebreak::key::Key;
-use tiebreak::standings::{Standings, table};
+use tiebreak::{Key, Standings, TieFault, table};
 
 const KEYS: [Key; 3] = [Key::Direct, Key::Buchholz, Key::SonnebornBerger];
 

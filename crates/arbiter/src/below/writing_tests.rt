@@ -3,9 +3,7 @@ use std::alloc::Global;
 use std::io;
 use std::io::Write;
 use std::test::Fail;
-use trf16::devices::{Counted, Failed};
-use trf16::fault::Fault;
-use trf16::{read, write};
+use trf16::{Counted, Failed, Fault, read, write};
 
 // Small letters and capitals, numbers and points in other forms, lines that end in different ways.
 const REPORT: &str = "012 Pohár města\r\n\

@@ -9,8 +9,8 @@ use crate::options::{
 use clap::error::ErrorKind;
 use clap::{ArgMatches, Command, Error};
 use std::alloc::{AllocError, Global};
-use tiebreak::key::Key;
-use trf16::cell::Colour;
+use tiebreak::Key;
+use trf16::Colour;
 
 // Takes every text for a cursor but the empty one.
 struct AnyText;

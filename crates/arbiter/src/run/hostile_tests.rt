@@ -7,7 +7,7 @@ use crate::run::tests::{Breaking, Dripping, check, has_refused, run_on};
 use std::alloc::{AllocError, Global};
 use std::io;
 use std::io::{ErrorKind, Read, Write};
-use trf16::devices::Counted;
+use trf16::Counted;
 
 // Two players who have met.
 const MET: [&str; 2] = ["     2 w 1", "     1 b 0"];

@@ -4,8 +4,8 @@ use Rattle.dutch_order.specs.Arrangements.{Frame, Arrangement, arrangements, is_
 use Rattle.dutch_order.specs.Keys.{IsIn}
 use Rattle.dutch_pair.specs.declared.reached.ByNumber.{ByNumber}
 use Rattle.dutch_pair.specs.Reached.{frame_of, numbers_meet, number_may_be_left}
-use Rattle.dutch_pair.specs.Round.{candidates_of, quality_of}
-use Rattle.dutch_pair.specs.Aims.{aim_in, is_idle, best_near, best_yet}
+use Rattle.dutch_pair.specs.Round.{candidates_of}
+use Rattle.dutch_pair.specs.Aims.{aim_in, is_dull, best_near, best_yet}
 use Rattle.dutch_pair.proofs.LeastPsd.{in_filter}
 use Rattle.dutch_pair.proofs.FlatBrackets.{listed_as}
 use Rattle.dutch_pair.proofs.BestLemmas.{best_last, handed}
@@ -14,23 +14,26 @@ use Rattle.dutch_pair.proofs.SkippedLemmas.{left_was_there}
 use Rattle.dutch_order.proofs.Spending.{spends-none, spends-more}
 use Rattle.dutch_pair.proofs.choice.best_near.Goals as goal
 
-pub loop-candidate-init : goal.loop-candidate-init
-loop-candidate-init c =
+pub loop-kept-init : goal.loop-kept-init
+loop-kept-init c =
     let pass = c.args.pass.now in
     let facts = pass.context.now.facts in
-    let stand = pass.context.now.stand in
-    let coming = c.new-candidates.result.coming in
-    let listed : candidates_of facts stand pass.shape ≡ coming =
-    listed_as facts c.rule-rule.result.field.now stand c.rule-rule.result.reached.now c.frame.result.now pass.shape coming coming
-    c.new-candidates.ensures.coming c.rule-rule.ensures.field c.rule-rule.ensures.reached c.frame.ensures refl in
+    let reached = pass.context.now.reached in
+    let coming = c.restart.new.self.coming in
+    let before = c.args.lister.now.listing in
+    let listed : candidates_of facts reached pass.shape ≡ coming =
+    listed_as facts before.rule.field.now reached before.rule.reached.now before.frame pass.shape coming coming
+    c.restart.ensures.coming c.requires.lists.field c.requires.lists.bracket c.requires.lists.frame refl in
     record {
-      chosen = ap (λ (all : List Arrangement). best_yet facts stand pass.context.now.lower (aim_in pass.aim) None all) listed;
+      chosen = ap (λ (all : List Arrangement). best_yet facts reached pass.context.now.lower pass.wish (aim_in pass.aim) None all) listed;
       kept = tt;
       inside = λ lists m. subst (IsIn lists) (sym listed) m;
-      frame = c.new-candidates.ensures.frame ∙ c.frame.ensures;
-      shape = c.new-candidates.ensures.shape;
-      field = ap (λ (rule : ByNumber). rule.field.now) c.new-candidates.ensures.rule ∙ c.rule-rule.ensures.field;
-      reached = ap (λ (rule : ByNumber). rule.reached.now) c.new-candidates.ensures.rule ∙ c.rule-rule.ensures.reached;
+      lists = record {
+        frame = c.restart.ensures.frame ∙ c.requires.lists.frame;
+        field = ap (λ (rule : ByNumber). rule.field.now) c.restart.ensures.rule ∙ c.requires.lists.field;
+        bracket = ap (λ (rule : ByNumber). rule.reached.now) c.restart.ensures.rule ∙ c.requires.lists.bracket;
+      };
+      shape = c.restart.ensures.shape;
       spends = spends-none _ c.requires.within;
       look = c.requires.look;
     }
@@ -39,39 +42,41 @@ pub consider-requires-clause-candidate : goal.consider-requires-clause-candidate
 consider-requires-clause-candidate c =
     let pass = c.args.pass.now in
     let facts = pass.context.now.facts in
-    let stand = pass.context.now.stand in
-    let kept = c.loop-candidate.kept in
-    let lists = c.in-Found.candidate.lists in
-    let m : IsIn lists (candidates_of facts stand pass.shape) =
-    c.loop-candidate.invariant.inside lists
-    (left_was_there (λ a. is_idle (aim_in pass.aim) kept (quality_of facts stand pass.context.now.lower a) ≡ true) lists c.loop-candidate.candidates.coming _ c.in-Found.ensures.answer.0 (inl refl)) in
+    let reached = pass.context.now.reached in
+    let kept = c.loop-kept.kept in
+    let lists = c.put_next_within.new.candidate.lists in
+    let m : IsIn lists (candidates_of facts reached pass.shape) =
+    c.loop-kept.invariant.inside lists
+    (left_was_there (λ a. is_dull facts reached pass.context.now.lower pass.wish (aim_in pass.aim) kept a ≡ true) lists c.loop-kept.lister.listing.coming _ c.in-Found.ensures.answer.0 (inl refl)) in
     record {
-      lists = (pass.shape, in_filter (is_legal (numbers_meet facts stand) (number_may_be_left facts stand) (frame_of facts stand)) lists (arrangements (frame_of facts stand) pass.shape) m);
-      down = c.in-Found.ensures.answer.1 ∙ ap (λ (frame : Frame). down frame lists) c.loop-candidate.invariant.frame;
+      lists = (pass.shape, in_filter (is_legal (numbers_meet facts reached) (number_may_be_left facts reached) (frame_of facts reached)) lists (arrangements (frame_of facts reached) pass.shape) m);
+      down = c.in-Found.ensures.answer.1 ∙ ap (λ (frame : Frame). down frame lists) c.loop-kept.invariant.lists.frame;
     }
 
-pub loop-candidate-preserved : goal.loop-candidate-preserved
-loop-candidate-preserved c =
+pub loop-kept-preserved : goal.loop-kept-preserved
+loop-kept-preserved c =
     let pass = c.args.pass.now in
     let facts = pass.context.now.facts in
-    let stand = pass.context.now.stand in
+    let reached = pass.context.now.reached in
     let lower = pass.context.now.lower in
-    let kept = c.loop-candidate.kept in
+    let kept = c.loop-kept.kept in
     let aim = aim_in pass.aim in
-    let before = c.loop-candidate.candidates.coming in
-    let after = c.in-Found.candidate.lists ∷ c.next_within.new.self.coming in
+    let before = c.loop-kept.lister.listing.coming in
+    let after = c.put_next_within.new.candidate.lists ∷ c.put_next_within.new.self.coming in
     record {
-      chosen = c.loop-candidate.invariant.chosen
-          ∙ skipped_same facts stand lower aim kept before after c.loop-candidate.invariant.kept c.in-Found.ensures.answer.0
-          ∙ sym (c.if-not-consider.ensures.same refl c.next_within.new.self.coming);
+      chosen = c.loop-kept.invariant.chosen
+          ∙ skipped_same facts reached lower pass.wish aim kept before after c.loop-kept.invariant.kept c.in-Found.ensures.answer.0
+          ∙ sym (c.if-not-consider.ensures.same refl c.put_next_within.new.self.coming);
       kept = c.if-not-consider.ensures.kept;
-      inside = λ lists m. c.loop-candidate.invariant.inside lists
-          (left_was_there (λ a. is_idle aim kept (quality_of facts stand lower a) ≡ true) lists before after c.in-Found.ensures.answer.0 (inr m));
-      frame = c.in-Found.ensures.frame ∙ c.loop-candidate.invariant.frame;
-      shape = c.in-Found.ensures.shape ∙ c.loop-candidate.invariant.shape;
-      field = ap (λ (rule : ByNumber). rule.field.now) c.in-Found.ensures.rule ∙ c.loop-candidate.invariant.field;
-      reached = ap (λ (rule : ByNumber). rule.reached.now) c.in-Found.ensures.rule ∙ c.loop-candidate.invariant.reached;
-      spends = spends-more c.loop-candidate.invariant.spends (spends-more c.in-Found.ensures.spends c.if-not-consider.ensures.spends);
+      inside = λ lists m. c.loop-kept.invariant.inside lists
+          (left_was_there (λ a. is_dull facts reached lower pass.wish aim kept a ≡ true) lists before after c.in-Found.ensures.answer.0 (inr m));
+      lists = record {
+        frame = c.in-Found.ensures.frame ∙ c.loop-kept.invariant.lists.frame;
+        field = ap (λ (rule : ByNumber). rule.field.now) c.in-Found.ensures.rule ∙ c.loop-kept.invariant.lists.field;
+        bracket = ap (λ (rule : ByNumber). rule.reached.now) c.in-Found.ensures.rule ∙ c.loop-kept.invariant.lists.bracket;
+      };
+      shape = c.in-Found.ensures.shape ∙ c.loop-kept.invariant.shape;
+      spends = spends-more c.loop-kept.invariant.spends (spends-more c.in-Found.ensures.spends c.if-not-consider.ensures.spends);
       look = c.if-not-consider.ensures.look;
     }
 
@@ -79,12 +84,12 @@ pub returns-in-End-clause-answer : goal.returns-in-End-clause-answer
 returns-in-End-clause-answer c =
     let pass = c.args.pass.now in
     let facts = pass.context.now.facts in
-    let stand = pass.context.now.stand in
+    let reached = pass.context.now.reached in
     let lower = pass.context.now.lower in
-    let kept = c.loop-candidate.kept in
+    let kept = c.loop-kept.kept in
     let aim = aim_in pass.aim in
-    let all = best_near facts stand lower aim pass.shape in
-    handed facts stand lower kept c.handed_out.result all (c.next_within.new.budget.used ≡ c.next_within.new.budget.limit) c.loop-candidate.invariant.kept
-    (best_last facts stand lower aim kept all
-    (c.loop-candidate.invariant.chosen ∙ skipped_same facts stand lower aim kept c.loop-candidate.candidates.coming [] c.loop-candidate.invariant.kept c.in-End.ensures.answer.0))
+    let all = best_near facts reached lower pass.wish aim pass.shape in
+    handed facts reached lower kept c.handed_out.result all (c.put_next_within.new.budget.used ≡ c.put_next_within.new.budget.limit) c.loop-kept.invariant.kept
+    (best_last facts reached lower pass.wish aim kept all
+    (c.loop-kept.invariant.chosen ∙ skipped_same facts reached lower pass.wish aim kept c.loop-kept.lister.listing.coming [] c.loop-kept.invariant.kept c.in-End.ensures.answer.0))
     c.handed_out.ensures

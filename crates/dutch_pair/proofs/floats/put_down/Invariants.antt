@@ -8,7 +8,7 @@ use Rattle.dutch_pair.proofs.floats.put_down.Given as goal
 
 abbrev pub invariant-loop-seat : goal.invariant-loop-seat
 invariant-loop-seat l = record {
-  items : placed_all l.by.items (map (λ mover. mover.by) (again l.field Down l.back (map (floats_down l.field l.least) (drop l.seat-index l.down))))
-      ≡ placed_all l.initial.by.items (map (λ mover. mover.by) (again l.field Down l.back (map (floats_down l.field l.least) l.down)));
+  items : placed_all l.by.items (map (λ floater. floater.by) (again l.field Down l.back (map (floats_down l.field l.least) (drop l.seat-index l.down))))
+      ≡ placed_all l.initial.by.items (map (λ floater. floater.by) (again l.field Down l.back (map (floats_down l.field l.least) l.down)));
   len : array_vec_len l.by ≤ array_vec_len l.initial.by + l.seat-index;
 }

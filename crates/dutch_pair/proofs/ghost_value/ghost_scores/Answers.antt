@@ -7,6 +7,6 @@ use Rattle.dutch_pair.proofs.ghost_value.ghost_scores.Goals as goal
 pub returns-clause-bracket : goal.returns-clause-bracket
 returns-clause-bracket c =
     let facts = c.args.context.now.facts in
-    let stand = c.args.context.now.stand in
+    let reached = c.args.context.now.reached in
     let lower = c.args.context.now.lower in
-    ghosts_are_a_bracket facts stand c.reached-reached.ensures.sound c.requires.flat (first_group facts (scoregroups facts lower)) (first_is_next facts stand lower c.reached-reached.ensures.above) c.args.shape
+    ghosts_are_a_bracket facts reached c.reached-reached.ensures.sound c.requires.flat (first_group facts (scoregroups facts lower)) (first_is_next facts reached lower c.reached-reached.ensures.above) c.args.shape

@@ -17,7 +17,7 @@ pub floor_held-requires-clause-small : goal.floor_held-requires-clause-small
 floor_held-requires-clause-small c =
     let facts = c.args.context.now.facts in
     let next : List ℕ = first_group facts (scoregroups facts c.args.context.now.lower) in
-    let frame : c.ghost_bracket-bracket.result ≡ ghost_frame facts (first_ghosts facts c.args.context.now.stand c.args.shape) next =
+    let frame : c.ghost_bracket-bracket.result ≡ ghost_frame facts (first_ghosts facts c.args.context.now.reached c.args.shape) next =
     c.ghost_bracket-bracket.ensures ∙ ap (λ (ghosts : List ℕ). ghost_frame facts ghosts next) (c.deref.ensures.0 ∙ c.ghost_scores-scores.ensures.items) in
-    let upto = found_few _ c.ghost_bracket-bracket.result c.in-Found.most.shape c.in-Found.ensures.answer.0 in
+    let upto = found_few _ c.ghost_bracket-bracket.result c.in-Found.most c.in-Found.ensures.answer in
     omega (arith, c.ghost_scores-scores.ensures.bracket.few, ap (λ (f : Frame). length f.scores) frame, upto)

@@ -7,7 +7,7 @@ use Rattle.dutch_pair.proofs.ghost_value.push_left.Given as goal
 
 abbrev pub invariant-loop-number : goal.invariant-loop-number
 invariant-loop-number l = record {
-  items : l.scores.items ++ map (λ i. score_at l.context.facts (seat_of l.context.stand.seats i)) (left_of (drop l.number-index l.numbers) l.s1)
-      ≡ l.initial.scores.items ++ map (λ i. score_at l.context.facts (seat_of l.context.stand.seats i)) (left_of l.numbers l.s1);
+  items : l.scores.items ++ map (λ i. score_at l.context.facts (seat_of l.context.reached.seats i)) (left_of (drop l.number-index l.numbers) l.s1)
+      ≡ l.initial.scores.items ++ map (λ i. score_at l.context.facts (seat_of l.context.reached.seats i)) (left_of l.numbers l.s1);
   len : array_vec_len l.scores ≤ array_vec_len l.initial.scores + l.number-index;
 }

@@ -6,13 +6,14 @@ use Rattle.dutch_pair.proofs.ShapeSearch.{found_in}
 use Rattle.dutch_order.specs.Steps.{Spends}
 use Rattle.dutch_pair.proofs.greatest.greatest_shape.Given as goal
 
-abbrev pub decreases-loop-found : goal.decreases-loop-found
-decreases-loop-found g l = l.pairs
+abbrev pub decreases-loop-shape : goal.decreases-loop-shape
+decreases-loop-shape g l = l.pairs
 
-abbrev pub invariant-loop-found : goal.invariant-loop-found
-invariant-loop-found g l = record {
+abbrev pub invariant-loop-shape : goal.invariant-loop-shape
+invariant-loop-shape g l = record {
   found : greatest_shape (g.S.Shapes.counting l.asked) (g.S.Shapes.frame l.asked)
       ≡ found_in (g.S.Shapes.counting l.asked) (fits (g.S.Shapes.frame l.asked)) (flat_map shapes_with (down_from l.pairs));
   few : 2 * l.pairs ≤ length (g.S.Shapes.frame l.asked).scores;
+  lists : g.S.Shapes.lists l.asked l.lister.listing;
   spends : Spends l.initial.budget l.budget;
 }

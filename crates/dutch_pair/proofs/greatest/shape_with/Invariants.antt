@@ -5,13 +5,14 @@ use Rattle.dutch_pair.proofs.ShapeSearch.{found_in, shape_with}
 use Rattle.dutch_order.specs.Steps.{Spends}
 use Rattle.dutch_pair.proofs.greatest.shape_with.Given as goal
 
-abbrev pub decreases-loop-first : goal.decreases-loop-first
-decreases-loop-first g l = l.mdps
+abbrev pub decreases-loop-mdps : goal.decreases-loop-mdps
+decreases-loop-mdps g l = l.mdps
 
-abbrev pub invariant-loop-first : goal.invariant-loop-first
-invariant-loop-first g l =
+abbrev pub invariant-loop-mdps : goal.invariant-loop-mdps
+invariant-loop-mdps g l =
     let found_in = found_in (g.S.Shapes.counting l.asked) (fits (g.S.Shapes.frame l.asked)) in
     record {
       found : found_in (shapes_with l.pairs) ≡ found_in (map (shape_with l.pairs) (down_from l.mdps));
+      lists : g.S.Shapes.lists l.asked l.lister.listing;
       spends : Spends l.initial.budget l.budget;
     }

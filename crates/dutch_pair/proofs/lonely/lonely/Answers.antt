@@ -8,20 +8,20 @@ use Rattle.dutch_pair.proofs.lonely.lonely.Goals as goal
 pub returns-clause-value : goal.returns-clause-value
 returns-clause-value c =
     let facts = c.args.pairs.now.facts in
-    let stand = c.args.pairs.now.stand in
+    let reached = c.args.pairs.now.reached in
     let b = c.args.begun.now in
-    let pooled : c.pool-pool.result.items ≡ pool facts stand b =
-    c.pool-pool.ensures.items ∙ ap (λ (k : Context). pool k.facts k.stand b) c.context-context.ensures in
-    let first : c.lonely_first-first.result ≡ lonely_first facts stand b =
+    let pooled : c.pool-pool.result.items ≡ pool facts reached b =
+    c.pool-pool.ensures.items ∙ ap (λ (k : Context). pool k.facts k.reached b) c.context-context.ensures in
+    let first : c.lonely_first-first.result ≡ lonely_first facts reached b =
     c.lonely_first-first.ensures.value
-    ∙ (ap (λ (p : List ℕ). length (filter (λ x. not (list_any (suits facts stand x) p)) c.waiting-waiting.result.now)) (c.deref.ensures.0 ∙ pooled)
-    ∙ ap (λ (w : List ℕ). length (filter (λ x. not (list_any (suits facts stand x) (pool facts stand b))) w)) c.waiting-waiting.ensures.items) in
-    let second : c.lonely_second-second.result ≡ lonely_second facts stand b =
+    ∙ (ap (λ (p : List ℕ). length (filter (λ x. not (list_any (suits facts reached x) p)) c.waiting-waiting.result.now)) (c.deref.ensures.0 ∙ pooled)
+    ∙ ap (λ (w : List ℕ). length (filter (λ x. not (list_any (suits facts reached x) (pool facts reached b))) w)) c.waiting-waiting.ensures.items) in
+    let second : c.lonely_second-second.result ≡ lonely_second facts reached b =
     c.lonely_second-second.ensures.value
-    ∙ (ap (λ (p : List ℕ). length (filter (λ y. not (list_any (λ x. suits facts stand x y) c.waiting-waiting.result.now)) p)) (c.deref-2.ensures.0 ∙ pooled)
-    ∙ ap (λ (w : List ℕ). length (filter (λ y. not (list_any (λ x. suits facts stand x y) w)) (pool facts stand b))) c.waiting-waiting.ensures.items) in
-    let down : c.residents_down.result ≡ residents_down stand c.args.shape =
-    c.residents_down.ensures ∙ ap (λ (k : Context). residents_down k.stand c.args.shape) c.context-context.ensures in
+    ∙ (ap (λ (p : List ℕ). length (filter (λ y. not (list_any (λ x. suits facts reached x y) c.waiting-waiting.result.now)) p)) (c.deref-2.ensures.0 ∙ pooled)
+    ∙ ap (λ (w : List ℕ). length (filter (λ y. not (list_any (λ x. suits facts reached x y) w)) (pool facts reached b))) c.waiting-waiting.ensures.items) in
+    let down : c.residents_down.result ≡ residents_down reached c.args.shape =
+    c.residents_down.ensures ∙ ap (λ (k : Context). residents_down k.reached c.args.shape) c.context-context.ensures in
     c.more_lonely.ensures.value
     ∙ (ap (λ n. max n (c.lonely_second-second.result - c.residents_down.result)) first
-    ∙ ap (max (lonely_first facts stand b)) (ap (λ n. n - c.residents_down.result) second ∙ ap (λ n. lonely_second facts stand b - n) down))
+    ∙ ap (max (lonely_first facts reached b)) (ap (λ n. n - c.residents_down.result) second ∙ ap (λ n. lonely_second facts reached b - n) down))

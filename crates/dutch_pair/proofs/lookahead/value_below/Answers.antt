@@ -1,17 +1,17 @@
 -- The next bracket is one of the field, and its residents have one score.
 use Rattle.std.proofs.Common.{sym, subst}
-use Rattle.dutch_pair.specs.Reached.{Stand, IsOf}
+use Rattle.dutch_pair.specs.Reached.{Reached, IsOf}
 use Rattle.dutch_pair.specs.NextBracket.{IsFlat}
 use Rattle.dutch_pair.proofs.NextBrackets.{next_of, next_flat}
 use Rattle.dutch_pair.proofs.lookahead.value_below.Goals as goal
 
 pub value_of-requires-clause-of : goal.value_of-requires-clause-of
 value_of-requires-clause-of c =
-    let P : Stand → Type 0 = IsOf c.args.field.now in
+    let P : Reached → Type 0 = IsOf c.args.field.now in
     subst P (sym c.next_bracket.ensures) (next_of c.args.field.now c.args.reached.now c.args.down.now c.args.next.now c.requires.of c.requires.down c.requires.next)
 
 pub value_of-requires-clause-flat : goal.value_of-requires-clause-flat
 value_of-requires-clause-flat c =
-    let P : Stand → Type 0 = IsFlat c.args.field.now in
+    let P : Reached → Type 0 = IsFlat c.args.field.now in
     subst P (sym c.next_bracket.ensures)
     (next_flat c.args.field.now c.args.reached.now c.args.down.now c.args.next.now c.requires.of c.requires.down c.requires.next c.requires.ordinary)

@@ -11,23 +11,25 @@ use Rattle.dutch_pair.proofs.lookahead.value_of.Goals as goal
 pub by_seats-first-requires-clause-candidate : goal.by_seats-first-requires-clause-candidate
 by_seats-first-requires-clause-candidate c =
     let facts = c.args.field.now in
-    let stand = c.args.reached.now in
-    let greatest = c.in-Found.greatest in
-    let known = greatest_as facts c.rule-rule.result.field.now stand c.rule-rule.result.reached.now c.frame-bracket.result greatest.shape greatest.first
+    let reached = c.args.reached.now in
+    let shape = c.in-Found.shape in
+    let first = c.greatest_shape.new.lister.drawn in
+    let known = greatest_as facts c.rule-rule.result.field.now reached c.rule-rule.result.reached.now c.frame-bracket.result shape first
     c.rule-rule.ensures.field c.rule-rule.ensures.reached c.frame-bracket.ensures c.in-Found.ensures.answer in
-    subst (λ seats. IsCandidate seats greatest.first) (sym c.seats.ensures)
-    (candidate_of facts stand greatest.shape greatest.first c.requires.of (in_legal facts stand greatest.shape greatest.first.lists known.1.others known.1.first) known.1.down)
+    subst (λ seats. IsCandidate seats first) (sym c.seats.ensures)
+    (candidate_of facts reached shape first c.requires.of (in_legal facts reached shape first.lists known.1.others known.1.first) known.1.down)
 
 pub returns-in-Found-clause-answer : goal.returns-in-Found-clause-answer
 returns-in-Found-clause-answer c =
     let facts = c.args.field.now in
-    let stand = c.args.reached.now in
-    let greatest = c.in-Found.greatest in
-    let known = greatest_as facts c.rule-rule.result.field.now stand c.rule-rule.result.reached.now c.frame-bracket.result greatest.shape greatest.first
+    let reached = c.args.reached.now in
+    let shape = c.in-Found.shape in
+    let first = c.greatest_shape.new.lister.drawn in
+    let known = greatest_as facts c.rule-rule.result.field.now reached c.rule-rule.result.reached.now c.frame-bracket.result shape first
     c.rule-rule.ensures.field c.rule-rule.ensures.reached c.frame-bracket.ensures c.in-Found.ensures.answer in
-    value_found facts stand greatest.shape greatest.first known.1.others c.fill_psd.new.numbers.items c.requires.of c.requires.flat
+    value_found facts reached shape first known.1.others c.fill_psd.new.numbers.items c.requires.of c.requires.flat
     (let P : Frame → Type 0 = λ frame. (i : ℕ) → slice_index frame.scores i ≤ 65535 in
     subst P c.frame-bracket.ensures (let Q : List ℕ → Type 0 = λ scores. (i : ℕ) → slice_index scores i ≤ 65535 in subst Q c.scores.ensures.scores c.are_small.ensures))
     known.1.first known.1.down
-    (c.fill_psd.ensures ∙ ap (λ (candidate : Seated). psd facts candidate) (c.by_seats-first.ensures.value ∙ ap (λ seats. by_seats facts seats greatest.first) c.seats.ensures))
-    ∙ ap (value_of_shape facts stand) (sym known.0)
+    (c.fill_psd.ensures ∙ ap (λ (candidate : Seated). psd facts candidate) (c.by_seats-first.ensures.value ∙ ap (λ seats. by_seats facts seats first) c.seats.ensures))
+    ∙ ap (value_of_shape facts reached) (sym known.0)

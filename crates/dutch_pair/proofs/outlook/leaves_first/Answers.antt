@@ -3,7 +3,7 @@ use Rattle.std.proofs.Common.{◌≡◌, ℕ, zero, suc, ◌+◌, ◌-◌, ◌�
 use Rattle.std.proofs.lemmas.Bool.{eq-eqb, ne_eqb}
 use Rattle.dutch_order.specs.Arrangements.{left_of}
 use Rattle.dutch_order.specs.Choices.{is_member, is_same, numbers_from}
-use Rattle.dutch_pair.specs.Reached.{Stand}
+use Rattle.dutch_pair.specs.Reached.{Reached}
 use Rattle.dutch_pair.specs.Seated.{seat_of, score_at}
 use Rattle.dutch_pair.proofs.ArrangementParts.{next_number, no_number}
 use Rattle.dutch_pair.proofs.outlook.leaves_first.Goals as goal
@@ -22,8 +22,8 @@ returns-then-passed-moved_down c =
     let n = c.mdps-moved_down.result in
     let p = c.loop-above.passed in
     let i = c.loop-above.above in
-    let f : ℕ → ℕ = λ i. score_at c.args.context.now.facts (seat_of c.args.context.now.stand.seats i) in
-    let counted : n ≡ c.args.context.now.stand.mdps = c.mdps-moved_down.ensures ∙ ap (λ (stand : Stand). stand.mdps) c.reached.ensures.value in
+    let f : ℕ → ℕ = λ i. score_at c.args.context.now.facts (seat_of c.args.context.now.reached.seats i) in
+    let counted : n ≡ c.args.context.now.reached.mdps = c.mdps-moved_down.ensures ∙ ap (λ (reached : Reached). reached.mdps) c.reached.ensures.value in
     one_left f i n c.args.s1.now (omega (arith, c.loop-above-test.true)) (sym c.if-not-contains.ensures.value)
     ∙ ap (λ xs. is_same (map f (left_of (numbers_from (i + 1) (n - i)) c.args.s1.now)) (map f xs)) (sym (no_number p n (omega (arith, c.if-passed-moved_down.true))))
     ∙ (rw counted c.loop-above.invariant.same)
@@ -32,8 +32,8 @@ pub returns : goal.returns
 returns c =
     let n = c.mdps-moved_down.result in
     let p = c.loop-above.passed in
-    let f : ℕ → ℕ = λ i. score_at c.args.context.now.facts (seat_of c.args.context.now.stand.seats i) in
-    let counted : n ≡ c.args.context.now.stand.mdps = c.mdps-moved_down.ensures ∙ ap (λ (stand : Stand). stand.mdps) c.reached.ensures.value in
+    let f : ℕ → ℕ = λ i. score_at c.args.context.now.facts (seat_of c.args.context.now.reached.seats i) in
+    let counted : n ≡ c.args.context.now.reached.mdps = c.mdps-moved_down.ensures ∙ ap (λ (reached : Reached). reached.mdps) c.reached.ensures.value in
     let ended = no_number c.loop-above.above n (omega (arith, c.loop-above-test.false)) in
     none_left f p n (n - p) refl (omega (arith, c.loop-above.invariant.within, counted))
     ∙ ap (λ xs. is_same (map f (left_of xs c.args.s1.now)) (map f (numbers_from (p + 1) (n - p)))) (sym ended)

@@ -8,8 +8,8 @@ use Rattle.dutch_pair.proofs.outlook.leaves_first.Given as goal
 
 abbrev pub invariant-loop-above : goal.invariant-loop-above
 invariant-loop-above l = record {
-  same : is_same (map (λ i. score_at l.context.facts (seat_of l.context.stand.seats i)) (left_of (numbers_from (l.above + 1) (l.context.stand.mdps - l.above)) l.s1))
-      (map (λ i. score_at l.context.facts (seat_of l.context.stand.seats i)) (numbers_from (l.passed + 1) (l.context.stand.mdps - l.passed)))
-      ≡ leaves_first l.context.facts l.context.stand l.fn.shape l.s1;
-  within : l.passed ≤ l.context.stand.mdps;
+  same : is_same (map (λ i. score_at l.context.facts (seat_of l.context.reached.seats i)) (left_of (numbers_from (l.above + 1) (l.context.reached.mdps - l.above)) l.s1))
+      (map (λ i. score_at l.context.facts (seat_of l.context.reached.seats i)) (numbers_from (l.passed + 1) (l.context.reached.mdps - l.passed)))
+      ≡ leaves_first l.context.facts l.context.reached l.fn.shape l.s1;
+  within : l.passed ≤ l.context.reached.mdps;
 }

@@ -7,7 +7,7 @@ use Rattle.dutch_pair.proofs.pair_facts.note.Goals as goal
 
 pub returns-then-suits_by-clause-noted : goal.returns-then-suits_by-clause-noted
 returns-then-suits_by-clause-noted c =
-    let at : c.place_of.result ≡ place_of (length c.args.context.now.stand.seats) c.args.x c.args.y =
+    let at : c.place_of.result ≡ place_of (length c.args.context.now.reached.seats) c.args.x c.args.y =
     c.place_of.ensures.value ∙ ap (λ (k : ℕ). place_of k c.args.x c.args.y) c.len.ensures.value in
     suits_more c.args.context.now c.args.table.now c.set_bit.new.words c.args.x c.args.y c.requires.first c.requires.second
     (sym c.suits_by.ensures ∙ c.if-suits_by.true) (ap (has_bit c.set_bit.new.words) (sym at) ∙ c.set_bit.ensures.set)

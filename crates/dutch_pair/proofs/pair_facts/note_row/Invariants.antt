@@ -5,7 +5,7 @@ use Rattle.dutch_pair.proofs.pair_facts.note_row.Given as goal
 
 abbrev pub invariant-loop-y : goal.invariant-loop-y
 invariant-loop-y l = record {
-  noted : NotedUpto l.context l.table (place_of (length l.context.stand.seats) l.x 1 + l.y);
+  noted : NotedUpto l.context l.table (place_of (length l.context.reached.seats) l.x 1 + l.y);
   room : length l.table ≡ length l.initial.table;
-  within : l.y ≤ length l.context.stand.seats;
+  within : l.y ≤ length l.context.reached.seats;
 }

@@ -1,5 +1,5 @@
 -- The bracket that is asked for is the next one, or it stands behind that.
-use Rattle.std.proofs.Common.{◌≡◌, ◌+◌, ◌≤◌, ℕ, suc, length, ap, sym, ◌∙◌, subst, arith}
+use Rattle.std.proofs.Common.{◌≡◌, ◌+◌, suc, length, ap, sym, ◌∙◌, subst, arith}
 use Rattle.dutch_pair.specs.Round.{Round, round}
 use Rattle.dutch_pair.specs.Stages.{GoesOn, Walk}
 use Rattle.dutch_pair.proofs.NoDeadEnd.{round_goes}

@@ -1,5 +1,5 @@
 -- One stage more: its pairs stand behind those so far.
-use Rattle.std.proofs.Common.{◌≡◌, ◌+◌, ◌≤◌, ℕ, List, suc, length, option_map, ap, sym, ◌∙◌, subst, arith}
+use Rattle.std.proofs.Common.{◌≡◌, ◌+◌, ℕ, List, suc, length, option_map, ap, sym, ◌∙◌, subst, arith}
 use Rattle.std.specs.List.{AllByRecursion}
 use Rattle.dutch_pair.specs.Boards.{IsPair}
 use Rattle.dutch_pair.specs.Stages.{GoesOn, Walk, in_front}

@@ -1,10 +1,10 @@
 -- One stage more stands behind those so far.
-use Rattle.std.proofs.Common.{◌≡◌, ◌+◌, ◌≤◌, ◌++◌, ℕ, List, [], ◌∷◌, suc, length, map, ap, sym, ◌∙◌, subst, arith, append-nil}
+use Rattle.std.proofs.Common.{◌≡◌, ◌+◌, ◌++◌, List, [], ◌∷◌, suc, length, map, ap, sym, ◌∙◌, subst, arith}
 use Rattle.std.specs.List.{AllByRecursion}
 use Rattle.dutch_player.specs.Facts.{Facts}
 use Rattle.dutch_pair.specs.declared.stage.Stage.{Stage}
 use Rattle.dutch_pair.specs.Outcomes.{IsStage, visit}
-use Rattle.dutch_pair.specs.Round.{Round, Visit}
+use Rattle.dutch_pair.specs.Round.{Visit}
 use Rattle.dutch_pair.specs.Stages.{GoesOn, Walk}
 use Rattle.dutch_pair.proofs.AllLemmas.{all_join}
 use Rattle.dutch_pair.proofs.RoundEnds.{bye_in, first_bye, first_count, first_reached, visits_more}

@@ -1,5 +1,5 @@
 -- The stages so far and the brackets of the rest of the round are those of the whole round.
-use Rattle.std.proofs.Common.{◌≡◌, ◌+◌, ◌≤◌, ◌++◌, true, length, map}
+use Rattle.std.proofs.Common.{◌≡◌, ◌+◌, ◌≤◌, ◌++◌, length, map}
 use Rattle.std.specs.List.{AllByRecursion}
 use Rattle.dutch_pair.specs.Outcomes.{IsStage, visit}
 use Rattle.dutch_pair.specs.Round.{round}

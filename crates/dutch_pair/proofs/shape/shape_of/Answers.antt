@@ -5,4 +5,4 @@ use Rattle.dutch_pair.proofs.shape.shape_of.Goals as goal
 pub returns-in-Found-clause-answer : goal.returns-in-Found-clause-answer
 returns-in-Found-clause-answer c =
     let found = c.in-Found.ensures.answer.0 in
-    (found, has_room c.args.context.now.facts c.args.context.now.stand c.args.context.now.lower c.in-Found.found.shape found)
+    (found, has_room c.args.context.now.facts c.args.context.now.reached c.args.context.now.lower c.in-Found.shape found)

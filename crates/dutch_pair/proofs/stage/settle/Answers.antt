@@ -8,13 +8,13 @@ pub is_again-requires-clause-numbers : goal.is_again-requires-clause-numbers
 is_again-requires-clause-numbers c =
     let k = c.new-context.result in
     let h = chosen_as k _ c.in-Chosen.is c.in_ok-shape.ensures.answer in
-    numbers_left k.facts k.stand c.in-Chosen.candidate.lists k.stand.seats c.in-Chosen.candidate.down refl h.1
+    numbers_left k.facts k.reached c.in-Chosen.candidate.lists k.reached.seats c.in-Chosen.candidate.down refl h.1
 
 pub is_again-requires-clause-few : goal.is_again-requires-clause-few
 is_again-requires-clause-few c =
     let k = c.new-context.result in
     let h = chosen_as k _ c.in-Chosen.is c.in_ok-shape.ensures.answer in
-    few_left k.facts k.stand c.in-Chosen.candidate.lists c.in-Chosen.candidate.down h.1
+    few_left k.facts k.reached c.in-Chosen.candidate.lists c.in-Chosen.candidate.down h.1
 
 pub returns : goal.returns
 returns c =
@@ -22,6 +22,6 @@ returns c =
     let h = chosen_as k _ c.in-Chosen.is c.in_ok-shape.ensures.answer in (
       c.copied.ensures,
       settled_in c.args.field.now c.args.reached.now c.args.lower.now k
-          (record { reached = c.copied.result; shape = c.in-Chosen.shape; candidate = c.in-Chosen.candidate; again = c.in-Some.again })
-          c.new-context.ensures c.copied.ensures h.0 h.1 c.in-Some.ensures.answer,
+          (record { reached = c.copied.result; shape = c.in-Chosen.shape; candidate = c.in-Chosen.candidate; quality = c.in-Chosen.quality; again = c.in-Some.again })
+          c.new-context.ensures c.copied.ensures h.0 h.1 h.3 c.in-Some.ensures.answer,
     )

@@ -12,7 +12,7 @@ use Rattle.dutch_pair.proofs.takers.+search.Goals as goal
 pub pair_first-returns-in-Yes-clause-answer : goal.pair_first-returns-in-Yes-clause-answer
 pair_first-returns-in-Yes-clause-answer t c =
     let meets = seats_meet c.args.context.now.facts c.args.first in
-    let cover = λ (n : ℕ) (xs : List ℕ). can_take_out c.args.context.now.facts c.args.context.now.stand.seats c.args.room.bye n c.args.room.takers xs in
+    let cover = λ (n : ℕ) (xs : List ℕ). can_take_out c.args.context.now.facts c.args.context.now.reached.seats c.args.room.bye n c.args.room.takers xs in
     let all = c.args.later.now in
     let place = c.loop-place.place in
     let front : c.swap.new.self ≡ brought place all =
@@ -25,7 +25,7 @@ pair_first-returns-in-Yes-clause-answer t c =
 pub pair_first-loop-place-preserved : goal.pair_first-loop-place-preserved
 pair_first-loop-place-preserved t c =
     let meets = seats_meet c.args.context.now.facts c.args.first in
-    let cover = λ (n : ℕ) (xs : List ℕ). can_take_out c.args.context.now.facts c.args.context.now.stand.seats c.args.room.bye n c.args.room.takers xs in
+    let cover = λ (n : ℕ) (xs : List ℕ). can_take_out c.args.context.now.facts c.args.context.now.reached.seats c.args.room.bye n c.args.room.takers xs in
     let all = c.args.later.now in
     let place = c.loop-place.place in
     let front : c.swap.new.self ≡ brought place all =

@@ -26,7 +26,7 @@ abbrev pub invariant-pair_first-loop-place : goal.invariant-pair_first-loop-plac
 invariant-pair_first-loop-place l =
     let meets = seats_meet l.context.facts l.first in
     let all = l.initial.later in
-    let holds = can_take_out l.context.facts l.context.stand.seats l.room.bye (length all - 1) l.room.takers in
+    let holds = can_take_out l.context.facts l.context.reached.seats l.room.bye (length all - 1) l.room.takers in
     record {
       turned : l.later ≡ turned l.place all;
       len : length l.later ≡ length all;

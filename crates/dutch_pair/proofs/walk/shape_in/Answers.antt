@@ -8,4 +8,4 @@ use Rattle.dutch_pair.proofs.walk.shape_in.Goals as goal
 pub unreachable-requires : goal.unreachable-requires
 unreachable-requires c =
     shape_there c.args.field.now c.args.reached.now c.args.lower.now c.requires.candidate
-    (ap (λ (k : Context). shape_of k.facts k.stand k.lower) (sym c.new.ensures) ∙ c.in-End.ensures.answer)
+    (ap (λ (k : Context). shape_of k.facts k.reached k.lower) (sym c.new.ensures) ∙ c.in-End.ensures.answer)

@@ -7,7 +7,7 @@ use Rattle.trf16.specs.Verdict.{is_player, is_too_long, line_onto, lines_onto, h
 use Rattle.trf16.proofs.ReadingLemmas.{Fails-on, SameText, line_onto-text, lines-go_on, lines-fail, lines-end, stays_long, becomes_long, nil_from_length}
 use Rattle.trf16.specs.Extensions.{is_kind, names_absent}
 use Rattle.trf16.specs.Absence.{is_of}
-use Rattle.trf16.specs.declared.kind.Kind.{Kind}
+use Rattle.trf16.specs.declared.kind.LineKind.{LineKind}
 use Rattle.trf16.specs.Notes.{is_marked, first_noted, noted_first}
 use Rattle.trf16.proofs.NoteLemmas.{AreNoted, noted-more}
 use Rattle.trf16.proofs.reading.lines_onto.Goals as goal
@@ -50,7 +50,7 @@ loop-rest-preserved c =
       omega (arith, c.next_line.ensures.shorter, c.loop-rest.invariant.3),
       noted-more c.loop-rest.notes c.note.new.self utf8 c.loop-rest.n line after (lines c.args.text.now) noted
           (subst (λ (u : Bool). (start : ℕ) → is_marked c.note.new.self start ≡ (is_marked c.loop-rest.notes start || names_absent start (columns u line))) c.is_utf8-utf8.ensures c.note.ensures.absent)
-          (subst (λ (u : Bool). (kind : Kind) → first_noted c.note.new.self kind ≡ noted_first (first_noted c.loop-rest.notes kind) (is_of (columns u line) kind) c.loop-rest.n) c.is_utf8-utf8.ensures c.note.ensures.firsts)
+          (subst (λ (u : Bool). (kind : LineKind) → first_noted c.note.new.self kind ≡ noted_first (first_noted c.loop-rest.notes kind) (is_of (columns u line) kind) c.loop-rest.n) c.is_utf8-utf8.ensures c.note.ensures.firsts)
           (subst (λ (u : Bool). c.note.new.self.together ≡ (c.loop-rest.notes.together || is_kind (codes "XXP") (columns u line))) c.is_utf8-utf8.ensures c.note.ensures.together),
     )
 

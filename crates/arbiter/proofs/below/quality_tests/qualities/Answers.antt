@@ -3,8 +3,8 @@ use Rattle.std.proofs.Common.{◌∙◌, inl, inr, refl, subst, sym}
 use Rattle.dutch_order.specs.Keys.{IsIn}
 use Rattle.arbiter.proofs.below.quality_tests.qualities.Goals as goal
 
-pub candidates_are_draws-requires-clause-listed : goal.candidates_are_draws-requires-clause-listed
-candidates_are_draws-requires-clause-listed c =
+pub candidates_are_of_the_bracket-requires-clause-listed : goal.candidates_are_of_the_bracket-requires-clause-listed
+candidates_are_of_the_bracket-requires-clause-listed c =
     let lists = c.in-Found.candidate.lists in
     c.loop-candidate.invariant.inside lists (subst (IsIn lists) (sym c.in-Found.ensures.answer.0) (inl refl))
 

@@ -4,6 +4,6 @@ use Rattle.arbiter.proofs.below.remembered_tests.the_last_64_values_are_kept.Giv
 
 abbrev pub invariant-loop-number : goal.invariant-loop-number
 invariant-loop-number g l = record {
-  stand : l.look.stand ≡ l.initial.look.stand;
+  reached : l.look.reached ≡ l.initial.look.reached;
   within : l.budget.used ≤ l.budget.limit;
 }

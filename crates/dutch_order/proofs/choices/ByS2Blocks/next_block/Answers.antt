@@ -1,11 +1,8 @@
-use Rattle.std.proofs.Common.{◌≡◌, ◌≤◌, ℕ, sym, subst, ap, ◌∙◌, [], ◌∷◌, List, None, false, length}
+use Rattle.std.proofs.Common.{◌≡◌, ◌≤◌, sym, subst, ap, ◌∙◌, [], ◌∷◌, None, length, not, option_copied}
 use Rattle.std.specs.List.{AllByRecursion}
-use Rattle.dutch_order.specs.Arrangements.{Arrangement, left_of}
-use Rattle.dutch_order.specs.Choices.{is_same}
-use Rattle.dutch_order.specs.Exchange.{exchanges}
-use Rattle.dutch_order.specs.Levels.{HasS1r, Of, by_s1r, behind_s1r, joined, s2_blocks}
-use Rattle.dutch_order.proofs.Blocks.{passes-s2, other-block}
-use Rattle.dutch_order.specs.contracts.cursor.Cursor.{the_view}
+use Rattle.dutch_order.specs.Arrangements.{left_of}
+use Rattle.dutch_order.specs.Levels.{HasS1r, if_own, in_s2, joined, s2_blocks}
+use Rattle.dutch_order.proofs.Blocks.{block-comes, none-lent, passes-s2, taken}
 use Rattle.dutch_order.proofs.Skipping.{passes-none, passes-more, passes-keeps}
 use Rattle.dutch_order.proofs.choices.ByS2Blocks.next_block.Goals as goal
 
@@ -13,78 +10,90 @@ pub returns-in-End-clause-answer : goal.returns-in-End-clause-answer
 returns-in-End-clause-answer g c =
     let own = c.self.inside in
     let Idle = g.C.Cuts.Idle c.args.cuts.now in
+    let none = none-lent own.resume (c.is_none.ensures ∙ ap not c.if-is_none.true) in
     passes-more (AllByRecursion Idle) _ _ _ (passes-none (AllByRecursion Idle) _ _ (sym c.self.view_is))
-    (passes-s2 Idle (g.R.Rule.meets own.rule.now) own.k own.s1.items _ own.residents.items own.resume c.deref.ensures.0 (sym c.take.ensures.value ∙ c.in_default.is) _ [] c.in-End.ensures.answer.0)
+    (passes-s2 Idle (g.R.Rule.meets own.rule.now) own.k own.s1.items _ own.residents.items (option_copied own.resume) c.deref.ensures.0 none _ [] c.in-End.ensures.answer.0)
 
 pub invariant_of-self-in-Undecided : goal.invariant_of-self-in-Undecided
 invariant_of-self-in-Undecided g c =
     let own = c.self.inside in (
       c.self.invariant.0,
       passes-keeps _ (λ s2. own.k ≤ length (left_of own.residents.items s2)) _ _ c.in-Undecided.ensures.answer.0 c.self.invariant.1,
-      subst (Of (λ own'. HasS1r own.k (left_of own.residents.items own'.s2) own')) (sym c.take.ensures.after) (tt {0}),
+      c.self.invariant.2,
     )
 
 pub returns-in-Undecided-clause-answer : goal.returns-in-Undecided-clause-answer
 returns-in-Undecided-clause-answer g c =
     let own = c.self.inside in
     let meets = g.R.Rule.meets own.rule.now in
-    let Idle = g.C.Cuts.Idle c.args.cuts.now in (
+    let Idle = g.C.Cuts.Idle c.args.cuts.now in
+    let none = none-lent own.resume (c.is_none.ensures ∙ ap not c.if-is_none.true) in (
       passes-more (AllByRecursion Idle) _ _ _ (passes-none (AllByRecursion Idle) _ _ (sym c.self.view_is))
           (passes-more (AllByRecursion Idle) _ _ _
-          (passes-s2 Idle meets own.k own.s1.items _ own.residents.items own.resume c.deref.ensures.0 (sym c.take.ensures.value ∙ c.in_default.is) _ _ c.in-Undecided.ensures.answer.0)
-          (passes-none (AllByRecursion Idle) _ _ (ap (λ resume. s2_blocks meets resume own.k own.s1.items own.residents.items c.put_next_past.new.self.coming) (sym c.take.ensures.after)))),
+          (passes-s2 Idle meets own.k own.s1.items _ own.residents.items (option_copied own.resume) c.deref.ensures.0 none _ _ c.in-Undecided.ensures.answer.0)
+          (passes-none (AllByRecursion Idle) _ _ (ap (λ at. s2_blocks meets own.k own.s1.items own.residents.items at c.put_next_past.new.self.coming) (sym none)))),
       c.in-Undecided.ensures.answer.1,
     )
 
-pub new-requires-clause-enough : goal.new-requires-clause-enough
-new-requires-clause-enough g c =
+pub start-requires-clause-enough : goal.start-requires-clause-enough
+start-requires-clause-enough g c =
     let own = c.self.inside in
-    subst (λ residents. own.k ≤ length (left_of residents c.put_next_past.new.numbers.items)) (sym c.deref-in_default-2.ensures.0)
-    (passes-keeps _ (λ s2. own.k ≤ length (left_of own.residents.items s2)) _ _ c.in-Found.ensures.answer c.self.invariant.1).0
+    subst (λ residents. own.k ≤ length (left_of residents c.deref-then-is_none-3.result.now)) (sym c.deref-then-is_none-2.ensures.0)
+    (subst (λ s2. own.k ≤ length (left_of own.residents.items s2)) (sym c.deref-then-is_none-3.ensures.0)
+    (passes-keeps _ (λ s2. own.k ≤ length (left_of own.residents.items s2)) _ _ c.in-Found.ensures.answer c.self.invariant.1).0)
 
-pub invariant_of-self-in_default : goal.invariant_of-self-in_default
-invariant_of-self-in_default g c =
+pub invariant_of-self-then-is_none : goal.invariant_of-self-then-is_none
+invariant_of-self-then-is_none g c =
     let own = c.self.inside in (
       c.self.invariant.0,
       (passes-keeps _ (λ s2. own.k ≤ length (left_of own.residents.items s2)) _ _ c.in-Found.ensures.answer c.self.invariant.1).1,
-      subst (Of (λ own'. HasS1r own.k (left_of own.residents.items own'.s2) own')) (sym c.take.ensures.after) (tt {0}),
+      c.self.invariant.2,
     )
 
-pub returns-in_default-clause-answer : goal.returns-in_default-clause-answer
-returns-in_default-clause-answer g c =
+pub returns-then-is_none-clause-answer : goal.returns-then-is_none-clause-answer
+returns-then-is_none-clause-answer g c =
     let own = c.self.inside in
     let meets = g.R.Rule.meets own.rule.now in
     let Idle = g.C.Cuts.Idle c.args.cuts.now in
-    let s2 = c.put_next_past.new.numbers.items in
-    let fresh : List ℕ → List Arrangement = λ s2. joined (by_s1r meets own.s1.items s2 (left_of own.residents.items s2) (exchanges (left_of own.residents.items s2) own.k)) in
-    let made : c.new-in_default.result ≡ fresh s2 =
-    c.new-in_default.ensures
-    ∙ ap joined c.new.ensures
-    ∙ ap (λ s1. joined (by_s1r meets s1 s2 (left_of c.deref-in_default-2.result.now s2) (exchanges (left_of c.deref-in_default-2.result.now s2) own.k))) c.deref-in_default.ensures.0
-    ∙ ap (λ residents. joined (by_s1r meets own.s1.items s2 (left_of residents s2) (exchanges (left_of residents s2) own.k))) c.deref-in_default-2.ensures.0 in
+    let none = none-lent own.resume (c.is_none.ensures ∙ ap not c.if-is_none.true) in
+    let later = c.put_next_past.new.self.coming in
+    let made : joined c.start.new.self ≡ in_s2 meets own.k own.s1.items own.residents.items None c.put_next_past.new.numbers.items =
+    c.start.ensures
+    ∙ ap (λ s1. in_s2 meets own.k s1 c.deref-then-is_none-2.result.now None c.deref-then-is_none-3.result.now) c.deref-then-is_none.ensures.0
+    ∙ ap (λ residents. in_s2 meets own.k own.s1.items residents None c.deref-then-is_none-3.result.now) c.deref-then-is_none-2.ensures.0
+    ∙ ap (in_s2 meets own.k own.s1.items own.residents.items None) c.deref-then-is_none-3.ensures.0 in
     passes-more (AllByRecursion Idle) _ _ _ (passes-none (AllByRecursion Idle) _ _ (sym c.self.view_is))
     (passes-more (AllByRecursion Idle) _ _ _
-    (passes-s2 Idle meets own.k own.s1.items _ own.residents.items own.resume c.deref.ensures.0 (sym c.take.ensures.value ∙ c.in_default.is) _ _ c.in-Found.ensures.answer)
+    (passes-s2 Idle meets own.k own.s1.items _ own.residents.items (option_copied own.resume) c.deref.ensures.0 none _ _ c.in-Found.ensures.answer)
     (passes-none (AllByRecursion Idle) _ _
-    (ap (λ block. block ∷ s2_blocks meets None own.k own.s1.items own.residents.items c.put_next_past.new.self.coming) (sym made)
-    ∙ ap (λ resume. c.new-in_default.result ∷ s2_blocks meets resume own.k own.s1.items own.residents.items c.put_next_past.new.self.coming) (sym c.take.ensures.after))))
+    (ap (λ block. block ∷ s2_blocks meets own.k own.s1.items own.residents.items None later) (sym made)
+    ∙ ap (λ at. joined c.start.new.self ∷ s2_blocks meets own.k own.s1.items own.residents.items at later) (sym none))))
+
+pub start-requires-2-clause-given : goal.start-requires-2-clause-given
+start-requires-2-clause-given g c =
+    let own = c.self.inside in
+    taken (λ a. a.s2) (λ a. HasS1r own.k (left_of own.residents.items a.s2) a) (HasS1r own.k (left_of c.deref-4.result.now c.deref-5.result.now))
+    (option_copied own.resume) _ c.deref-2.result.now c.take_by_s2-own.ensures.own c.self.invariant.2
+    (λ a has same.
+    subst (λ remainder. HasS1r own.k remainder a)
+    (ap (left_of own.residents.items) (same ∙ c.deref-2.ensures.0 ∙ sym c.deref-5.ensures.0) ∙ ap (λ residents. left_of residents c.deref-5.result.now) (sym c.deref-4.ensures.0))
+    has)
 
 pub returns-clause-answer : goal.returns-clause-answer
 returns-clause-answer g c =
     let own = c.self.inside in
+    let at = option_copied own.resume in
+    let s2 = c.put_next.new.numbers.items in
+    let later = c.put_next.new.self.coming in
     let meets = g.R.Rule.meets own.rule.now in
-    let s2 = c.in-Found-next.s2.items in
-    let fresh : List ℕ → List Arrangement = λ s2. joined (by_s1r meets own.s1.items s2 (left_of own.residents.items s2) (exchanges (left_of own.residents.items s2) own.k)) in
-    let at_s2 = ap (λ i. (the_view i).s2) c.cursor-inside.view_is ∙ ap (λ (a : Arrangement). a.s2) c.cursor.view_is in
-    let differs : is_same s2 c.in-Some.cursor.s2 ≡ false = ap (λ one. is_same one c.in-Some.cursor.s2) (sym c.deref-2.ensures.0) ∙ ap (is_same c.deref-2.result.now) (sym (c.deref-3.ensures.0 ∙ at_s2)) ∙ sym c.is_same.ensures.same ∙ c.if-is_same.false in
-    let made : c.new-3.result ≡ fresh s2 =
-    c.new-3.ensures
-    ∙ ap joined c.new-2.ensures
-    ∙ ap (λ s1. joined (by_s1r meets s1 s2 (left_of c.deref-5.result.now s2) (exchanges (left_of c.deref-5.result.now s2) own.k))) c.deref-4.ensures.0
-    ∙ ap (λ residents. joined (by_s1r meets own.s1.items s2 (left_of residents s2) (exchanges (left_of residents s2) own.k))) c.deref-5.ensures.0 in
+    let made : joined c.start-2.new.self ≡ in_s2 meets own.k own.s1.items own.residents.items (if_own (λ a. a.s2) at s2) s2 =
+    c.start-2.ensures
+    ∙ ap (λ s1. in_s2 meets own.k s1 c.deref-4.result.now (option_copied c.take_by_s2-own.result) c.deref-5.result.now) c.deref-3.ensures.0
+    ∙ ap (λ residents. in_s2 meets own.k own.s1.items residents (option_copied c.take_by_s2-own.result) c.deref-5.result.now) c.deref-4.ensures.0
+    ∙ ap (in_s2 meets own.k own.s1.items own.residents.items (option_copied c.take_by_s2-own.result)) c.deref-5.ensures.0
+    ∙ ap (λ taken. in_s2 meets own.k own.s1.items own.residents.items taken s2) (c.take_by_s2-own.ensures.own ∙ ap (if_own (λ a. a.s2) at) c.deref-2.ensures.0) in
     passes-none (AllByRecursion (g.C.Cuts.Idle c.args.cuts.now)) _ _
     (sym c.self.view_is
-    ∙ other-block (λ a. a.s2) (behind_s1r meets own.k own.s1.items own.residents.items) fresh
-    own.resume c.in-Some.cursor s2 own.lists.coming c.next.new.self.coming (sym c.take.ensures.value ∙ c.in-Some.is) c.in-Found-next.ensures.answer differs
-    ∙ ap (λ block. block ∷ s2_blocks meets None own.k own.s1.items own.residents.items c.next.new.self.coming) (sym made)
-    ∙ ap (λ resume. c.new-3.result ∷ s2_blocks meets resume own.k own.s1.items own.residents.items c.next.new.self.coming) (sym c.take.ensures.after))
+    ∙ block-comes (λ a. a.s2) (in_s2 meets own.k own.s1.items own.residents.items) at s2 own.lists.coming later c.in-Found-put_next.ensures.answer
+    ∙ ap (λ block. block ∷ s2_blocks meets own.k own.s1.items own.residents.items None later) (sym made)
+    ∙ ap (λ resume. joined c.start-2.new.self ∷ s2_blocks meets own.k own.s1.items own.residents.items (option_copied resume) later) (sym c.take_by_s2-own.ensures.taken))

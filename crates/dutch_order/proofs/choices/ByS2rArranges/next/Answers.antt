@@ -1,4 +1,4 @@
-use Rattle.std.proofs.Common.{sym, ap, refl, [], ◌∙◌, ◌∷◌, map}
+use Rattle.std.proofs.Common.{sym, ap, refl, [], ◌∙◌, ◌∷◌, map, option_copied}
 use Rattle.dutch_order.specs.Levels.{arranged, without_own}
 use Rattle.dutch_order.proofs.Blocks.{passes-arranged, same-lists}
 use Rattle.dutch_order.proofs.Skipping.{passes-none, passes-more}
@@ -30,4 +30,4 @@ returns-clause-answer g c =
     passes-more Idle _ _ _ (passes-none Idle _ _ (sym c.self.view_is))
     (passes-more Idle _ _ _
     (passes-arranged Idle own.s1.items own.s2.items own.s1r.items _ _ _ c.deref.ensures.0 c.deref-2.ensures.0 c.deref-3.ensures.0 _ _ c.in-Found.ensures.answer)
-    (passes-none Idle _ _ (ap (λ a. a ∷ map (arranged own.s1.items own.s2.items own.s1r.items) (without_own c.put_next_other.new.resume c.put_next_other.new.lists.coming)) made)))
+    (passes-none Idle _ _ (ap (λ a. a ∷ map (arranged own.s1.items own.s2.items own.s1r.items) (without_own (option_copied c.put_next_other.new.resume) c.put_next_other.new.lists.coming)) made)))

@@ -1,4 +1,4 @@
-use Rattle.std.proofs.Common.{ℕ, List, ◌+◌, ◌≡◌, ◌<◌, ◌∷◌, [], ◌∙◌, ap, sym, subst}
+use Rattle.std.proofs.Common.{ℕ, List, ◌+◌, ◌≡◌, ◌<◌, ◌∷◌, ◌∙◌, ap, sym, subst}
 use Rattle.dutch_order.specs.declared.exchange.Place.{Place}
 use Rattle.dutch_order.specs.Stages.{sets_from, trials_from, set_of}
 use Rattle.dutch_order.proofs.exchange.Exchanges.put_next.Goals as goal

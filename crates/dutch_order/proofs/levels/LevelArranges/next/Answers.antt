@@ -1,6 +1,6 @@
-use Rattle.std.proofs.Common.{ap, sym, refl, arith, ◌++◌}
+use Rattle.std.proofs.Common.{sym, refl, arith}
 use Rattle.std.specs.List.{AllByRecursion}
-use Rattle.dutch_order.specs.Levels.{within, joined}
+use Rattle.dutch_order.specs.Levels.{joined}
 use Rattle.dutch_order.proofs.Skipping.{passes-none, passes-more, passes-before, passes-between, passes-fewer}
 use Rattle.dutch_order.proofs.Spending.{spends-none, spends-more}
 use Rattle.dutch_order.proofs.levels.LevelArranges.next.Goals as goal
@@ -15,13 +15,13 @@ pub loop-self-preserved : goal.loop-self-preserved
 loop-self-preserved g c =
     let Idle = g.C.Cuts.Idle c.args.cuts.now in
     record {
-      passes = passes-more Idle _ _ _ c.loop-self.invariant.passes (passes-between Idle _ _ _ c.in-End.ensures.answer c.in-Found-enter.ensures.answer);
-      spends = spends-more (spends-more c.loop-self.invariant.spends c.in-End.ensures.spends) c.in-Found-enter.ensures.spends;
+      passes = passes-more Idle _ _ _ c.loop-self.invariant.passes (passes-between Idle _ _ _ c.in-End.ensures.answer c.in-Found-next_block.ensures.answer);
+      spends = spends-more (spends-more c.loop-self.invariant.spends c.in-End.ensures.spends) c.in-Found-next_block.ensures.spends;
     }
 
 pub loop-self-smaller : goal.loop-self-smaller
 loop-self-smaller g c =
-    omega (arith, passes-fewer (AllByRecursion (g.C.Cuts.Idle c.args.cuts.now)) _ _ c.in-Found-enter.ensures.answer)
+    omega (arith, passes-fewer (AllByRecursion (g.C.Cuts.Idle c.args.cuts.now)) _ _ c.in-Found-next_block.ensures.answer)
 
 pub returns-in-Found-clause-answer : goal.returns-in-Found-clause-answer
 returns-in-Found-clause-answer g c =
@@ -37,18 +37,16 @@ returns-in-Undecided-clause-answer g c =
       c.in-Undecided.ensures.answer.1,
     )
 
-pub returns-in-Undecided-enter-clause-answer : goal.returns-in-Undecided-enter-clause-answer
-returns-in-Undecided-enter-clause-answer g c =
+pub returns-in-Undecided-next_block-clause-answer : goal.returns-in-Undecided-next_block-clause-answer
+returns-in-Undecided-next_block-clause-answer g c =
     let Idle = g.C.Cuts.Idle c.args.cuts.now in (
       passes-more Idle _ _ _ (passes-none Idle _ _ (sym c.self.view_is))
-          (passes-more Idle _ _ _ c.loop-self.invariant.passes
-          (passes-more Idle _ _ _ (passes-between Idle _ _ _ c.in-End.ensures.answer c.in-Undecided-enter.ensures.answer.0)
-          (passes-none Idle _ _ (ap (λ block. within g.B.Block.Arranges.coming block ++ joined (g.B.Blocks.blocks c.enter.new.blocks)) (sym c.in-Undecided-enter.ensures.answer.1))))),
-      c.in-Undecided-enter.ensures.answer.2,
+          (passes-more Idle _ _ _ c.loop-self.invariant.passes (passes-between Idle _ _ _ c.in-End.ensures.answer c.in-Undecided-next_block.ensures.answer.0)),
+      c.in-Undecided-next_block.ensures.answer.1,
     )
 
-pub returns-in-End-enter-clause-answer : goal.returns-in-End-enter-clause-answer
-returns-in-End-enter-clause-answer g c =
+pub returns-in-End-next_block-clause-answer : goal.returns-in-End-next_block-clause-answer
+returns-in-End-next_block-clause-answer g c =
     let Idle = g.C.Cuts.Idle c.args.cuts.now in
     passes-more Idle _ _ _ (passes-none Idle _ _ (sym c.self.view_is))
-    (passes-more Idle _ _ _ c.loop-self.invariant.passes (passes-between Idle _ _ _ c.in-End.ensures.answer c.in-End-enter.ensures.answer))
+    (passes-more Idle _ _ _ c.loop-self.invariant.passes (passes-between Idle _ _ _ c.in-End.ensures.answer c.in-End-next_block.ensures.answer))

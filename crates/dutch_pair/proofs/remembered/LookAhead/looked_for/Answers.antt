@@ -21,9 +21,9 @@ returns-in-Some-clause-answer c =
     let right : c.in-Some.value ≡ value_below c.self.inside.field.now c.self.inside.reached.now c.self.inside.next.items c.args.down.items =
     c.in-Some.ensures.answer ∙ ap (λ l. value_below c.self.inside.field.now c.self.inside.reached.now c.deref-2.result.now l) c.deref.ensures.0
     ∙ ap (λ l. value_below c.self.inside.field.now c.self.inside.reached.now l c.args.down.items) c.deref-2.ensures.0 in
-    look_is c.in-Some.value (value_below c.args.self.now.facts c.args.self.now.stand c.args.self.now.next c.args.down.items)
+    look_is c.in-Some.value (value_below c.args.self.now.facts c.args.self.now.reached c.args.self.now.next c.args.down.items)
     (c.value_below.new.budget.used ≡ c.value_below.new.budget.limit) c.told.result c.told.ensures
-    (right ∙ ap (λ r. value_below r.facts r.stand r.next c.args.down.items) c.self.view_is)
+    (right ∙ ap (λ r. value_below r.facts r.reached r.next c.args.down.items) c.self.view_is)
 
 pub returns-in-Some-clause-kept : goal.returns-in-Some-clause-kept
 returns-in-Some-clause-kept c =
@@ -31,12 +31,12 @@ returns-in-Some-clause-kept c =
     kept_is c.in-Some.value c.args.down.items c.args.self.now _ c.told.result c.told.ensures
     (elim c.keep.ensures [
       | inl put ↦ inl (
-          ap (λ v. record { facts = c.self.inside.field.now; stand = c.self.inside.reached.now; next = c.self.inside.next.items; kept = lists_kept v.entries }) put
-          ∙ ap (λ l. record { facts = c.self.inside.field.now; stand = c.self.inside.reached.now; next = c.self.inside.next.items; kept = l })
+          ap (λ v. record { facts = c.self.inside.field.now; reached = c.self.inside.reached.now; next = c.self.inside.next.items; kept = lists_kept v.entries }) put
+          ∙ ap (λ l. record { facts = c.self.inside.field.now; reached = c.self.inside.reached.now; next = c.self.inside.next.items; kept = l })
           (put_kept c.args.down c.self.inside.values c.copied.result c.self.invariant.most unknown)
           ∙ ap (λ r. after_use c.args.down.items r) c.self.view_is)
       | inr same ↦ inr (
         c.requires.unknown,
-        ap (λ v. record { facts = c.self.inside.field.now; stand = c.self.inside.reached.now; next = c.self.inside.next.items; kept = lists_kept v.entries }) same ∙ c.self.view_is,
+        ap (λ v. record { facts = c.self.inside.field.now; reached = c.self.inside.reached.now; next = c.self.inside.next.items; kept = lists_kept v.entries }) same ∙ c.self.view_is,
       )
     ])

@@ -9,7 +9,7 @@ use Rattle.dutch_pair.proofs.remembered.LookAhead.value.Goals as goal
 
 pub key_of-key-requires : goal.key_of-key-requires
 key_of-key-requires c =
-    let left : AreLeft c.self.inside.reached.now c.args.down.now = subst (λ r. AreLeft r.stand c.args.down.now) (sym c.self.view_is) c.requires.down in
+    let left : AreLeft c.self.inside.reached.now c.args.down.now = subst (λ r. AreLeft r.reached c.args.down.now) (sym c.self.view_is) c.requires.down in
     let short = down_short c.self.inside.field.now c.self.inside.reached.now c.args.down.now c.self.inside.next.items c.self.invariant.bracket left c.self.invariant.next_below in
     omega (arith, short, c.self.invariant.next_below.few)
 
@@ -27,10 +27,10 @@ pub returns-in-Some-clause-answer : goal.returns-in-Some-clause-answer
 returns-in-Some-clause-answer c =
     let found : lookup (is_key c.key_of-key.result) c.self.inside.values.entries ≡ Some c.in-Some.value = sym c.in-Some.ensures.value in
     let own = found_value c.key_of-key.result c.self.inside.field.now c.self.inside.reached.now c.self.inside.next.items c.self.inside.values c.self.invariant c.in-Some.value found in
-    look_is c.in-Some.value (value_below c.args.self.now.facts c.args.self.now.stand c.args.self.now.next c.args.down.now)
+    look_is c.in-Some.value (value_below c.args.self.now.facts c.args.self.now.reached c.args.self.now.next c.args.down.now)
     _ c.told.result c.told.ensures
     (own ∙ ap (λ l. value_below c.self.inside.field.now c.self.inside.reached.now c.self.inside.next.items l) c.key_of-key.ensures
-    ∙ ap (λ r. value_below r.facts r.stand r.next c.args.down.now) c.self.view_is)
+    ∙ ap (λ r. value_below r.facts r.reached r.next c.args.down.now) c.self.view_is)
 
 pub returns-in-Some-clause-kept : goal.returns-in-Some-clause-kept
 returns-in-Some-clause-kept c =
@@ -39,7 +39,7 @@ returns-in-Some-clause-kept c =
     ap (λ v. lists_kept v.entries) c.recalled.ensures.kept ∙ promoted_kept c.key_of-key.result c.self.inside.values.entries c.in-Some.value found
     ∙ ap (λ l. with_used l (lists_kept c.self.inside.values.entries)) c.key_of-key.ensures in
     kept_is c.in-Some.value c.args.down.now c.args.self.now _ c.told.result c.told.ensures
-    (inl (ap (λ l. record { facts = c.self.inside.field.now; stand = c.self.inside.reached.now; next = c.self.inside.next.items; kept = l }) lists ∙ ap (λ r. after_use c.args.down.now r) c.self.view_is))
+    (inl (ap (λ l. record { facts = c.self.inside.field.now; reached = c.self.inside.reached.now; next = c.self.inside.next.items; kept = l }) lists ∙ ap (λ r. after_use c.args.down.now r) c.self.view_is))
 
 pub looked_for-requires-clause-unknown : goal.looked_for-requires-clause-unknown
 looked_for-requires-clause-unknown c =
@@ -56,7 +56,7 @@ returns-in-None-clause-answer c =
     ∙ none_kept c.key_of-key.result c.self.inside.values.entries none in
     look_stopped _ _ _ _ c.looked_for.result c.looked_for.ensures.answer
     (ap (λ l. value_below c.self.inside.field.now c.self.inside.reached.now c.self.inside.next.items l) c.key_of-key.ensures
-    ∙ ap (λ r. value_below r.facts r.stand r.next c.args.down.now) c.self.view_is)
+    ∙ ap (λ r. value_below r.facts r.reached r.next c.args.down.now) c.self.view_is)
     (λ stopped. (unknown, stopped))
 
 pub returns-in-None-clause-free : goal.returns-in-None-clause-free
@@ -71,8 +71,8 @@ pub returns-in-None-clause-kept : goal.returns-in-None-clause-kept
 returns-in-None-clause-kept c =
     let none : lookup (is_key c.key_of-key.result) c.self.inside.values.entries ≡ None = sym c.in-None.ensures.value in
     let same =
-    ap (λ v. record { facts = c.self.inside.field.now; stand = c.self.inside.reached.now; next = c.self.inside.next.items; kept = lists_kept v.entries }) c.recalled.ensures.kept
-    ∙ ap (λ es. record { facts = c.self.inside.field.now; stand = c.self.inside.reached.now; next = c.self.inside.next.items; kept = lists_kept es }) (none_promoted c.key_of-key.result c.self.inside.values.entries none)
+    ap (λ v. record { facts = c.self.inside.field.now; reached = c.self.inside.reached.now; next = c.self.inside.next.items; kept = lists_kept v.entries }) c.recalled.ensures.kept
+    ∙ ap (λ es. record { facts = c.self.inside.field.now; reached = c.self.inside.reached.now; next = c.self.inside.next.items; kept = lists_kept es }) (none_promoted c.key_of-key.result c.self.inside.values.entries none)
     ∙ c.self.view_is in
     subst (λ d. IsKeptAfter d c.args.self.now c.looked_for.new.self c.looked_for.result) c.key_of-key.ensures
     (subst (λ old. IsKeptAfter c.key_of-key.result.items old c.looked_for.new.self c.looked_for.result) same c.looked_for.ensures.kept)

@@ -1,6 +1,6 @@
 -- The bracket of the first scoregroup comes next, and the round from it on is that of the seats that are left.
 use Rattle.std.proofs.Common.{◌+◌, ◌≤◌, List, ℕ, length, ap, sym, ◌∙◌, subst}
-use Rattle.dutch_pair.specs.Reached.{Stand}
+use Rattle.dutch_pair.specs.Reached.{Reached}
 use Rattle.dutch_pair.specs.Round.{Round, bracket}
 use Rattle.dutch_pair.specs.Stages.{Walk, group_kind, round_by}
 use Rattle.dutch_pair.specs.WaysOut.{StandsBefore}
@@ -31,7 +31,7 @@ invariant_of-result-2 c =
     c.requires.goes (some_by_test c.args.rest.now c.if-is_empty.ensures) c.split_first_group.ensures.whole c.split_first_group.ensures.first in
     let same = c.bracket-reached.ensures ∙ ap (λ k. bracket c.args.number k c.deref.result.now group) c.group_kind.ensures
     ∙ ap (λ (m : List ℕ). bracket c.args.number (group_kind lower) m group) c.deref.ensures.0 in (
-      subst (λ (b : Stand). StandsBefore facts c.args.number b lower) (sym same)
+      subst (λ (b : Reached). StandsBefore facts c.args.number b lower) (sym same)
           (stands_group facts c.args.number parts c.split_first_group.ensures.whole c.requires.out c.requires.small),
       c.requires.within,
     )
@@ -46,4 +46,4 @@ returns c =
     let same = c.bracket-reached.ensures ∙ ap (λ k. bracket c.args.number k c.deref.result.now group) c.group_kind.ensures
     ∙ ap (λ (m : List ℕ). bracket c.args.number (group_kind lower) m group) c.deref.ensures.0 in
     ap (λ (r : Round). let walk : Walk = record { facts = facts; number = c.args.number; rest = r; limit = c.args.budget.limit } in walk)
-    (ap (λ (b : Stand). round_by facts b.kind b lower) same ∙ sym (group_round facts parts c.args.number))
+    (ap (λ (b : Reached). round_by facts b.kind b lower) same ∙ sym (group_round facts parts c.args.number))

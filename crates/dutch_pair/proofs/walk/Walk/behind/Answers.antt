@@ -1,7 +1,7 @@
 -- What comes next behind a stage that is settled.
-use Rattle.std.proofs.Common.{◌≡◌, ◌+◌, ◌≤◌, ℕ, List, [], length, ap, sym, ◌∙◌, subst, arith}
-use Rattle.dutch_pair.specs.declared.reached.Kind.TheVariants.{Collapsed}
-use Rattle.dutch_pair.specs.Reached.{Stand}
+use Rattle.std.proofs.Common.{◌+◌, ◌≤◌, ℕ, List, [], length, sym, ◌∙◌, subst, arith}
+use Rattle.dutch_pair.specs.declared.reached.BracketKind.TheVariants.{Collapsed}
+use Rattle.dutch_pair.specs.Reached.{Reached}
 use Rattle.dutch_pair.specs.Round.{bracket, downfloaters}
 use Rattle.dutch_pair.specs.Stages.{choice_of}
 use Rattle.dutch_pair.specs.Walk.{Goes}
@@ -67,7 +67,7 @@ invariant_of-t-20 c =
     let collapsed = stands_collapsed facts stage.reached.number stage.reached lower c.requires.stands
     (record { falls = c.scores_do_not_ascend.ensures.scores; few = c.scores_do_not_ascend.ensures.few }) (choice_of stage)
     (sym c.kind.ensures ∙ c.in-Penultimate.is) c.requires.settled.choice in (
-      subst (λ (b : Stand). StandsBefore facts (n + 1) b []) (sym c.bracket-collapsed.ensures)
+      subst (λ (b : Reached). StandsBefore facts (n + 1) b []) (sym c.bracket-collapsed.ensures)
           (subst (λ (xs : List ℕ). StandsBefore facts (n + 1) (bracket (n + 1) Collapsed xs lower) []) (sym (c.deref.ensures.0 ∙ left))
           (subst (λ (m : ℕ). StandsBefore facts (m + 1) (bracket (m + 1) Collapsed (downfloaters facts stage.reached stage.candidate.lists) lower) []) (sym c.number-number.ensures) collapsed)),
       omega arith,

@@ -1,6 +1,6 @@
 -- The bracket that comes next has a candidate, and the round begins with it.
 use Rattle.std.proofs.Common.{◌≡◌, ap, sym, ◌∙◌, subst}
-use Rattle.dutch_pair.specs.Reached.{Stand}
+use Rattle.dutch_pair.specs.Reached.{Reached}
 use Rattle.dutch_pair.specs.Stages.{Shows, StandsAt, Walk, round_from}
 use Rattle.dutch_pair.proofs.NoDeadEnd.{stands_has}
 use Rattle.dutch_pair.proofs.WalkSteps.{stands_above, stands_number, stands_shown}
@@ -28,6 +28,6 @@ returns-in-Found c =
     (record { falls = c.scores_do_not_ascend.ensures.scores; few = c.scores_do_not_ascend.ensures.few }) in
     let here = sym c.self.view_is
     ∙ ap (λ next. let walk : Walk = record { facts = w.field.now; number = w.number; rest = round_from w.field.now w.lower.now next; limit = w.budget.limit } in walk) c.in-Bracket.is in
-    subst (λ (b : Stand). Shows c.args.self.now.facts c.args.self.now.rest b c.in-Found.shape × (b.number ≡ c.args.self.now.number)) (sym c.copied.ensures)
+    subst (λ (b : Reached). Shows c.args.self.now.facts c.args.self.now.rest b c.in-Found.shape × (b.number ≡ c.args.self.now.number)) (sym c.copied.ensures)
     (subst (λ (now : Walk). Shows now.facts now.rest reached c.in-Found.shape × (reached.number ≡ now.number)) (sym here)
     ((stands_shown w.field.now w.number reached w.lower.now c.in-Found.shape s c.in-Found.ensures.0, above.bracket, c.in-Found.ensures.1), stands_number w.field.now w.number reached w.lower.now s))

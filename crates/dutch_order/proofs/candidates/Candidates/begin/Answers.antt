@@ -1,0 +1,45 @@
+use Rattle.std.proofs.Common.{◌∙◌, ◌++◌, filter, ap, sym, subst, length, ◌-◌, ◌*◌, nat_lt, option_copied}
+use Rattle.std.specs.List.{AllByRecursion}
+use Rattle.std.proofs.lemmas.Bool.{and_parts, ltb-true}
+use Rattle.dutch_order.specs.Arrangements.{Fits, arrangements, candidates}
+use Rattle.dutch_order.specs.Keys.{IsIn}
+use Rattle.dutch_order.specs.Levels.{Of, may_leave}
+use Rattle.dutch_order.specs.Listings.{Listing, candidates_from, listed}
+use Rattle.dutch_order.proofs.Behind.{candidates-all, levels-begun, none-from}
+use Rattle.dutch_order.proofs.Hopeless.{none-legal}
+use Rattle.dutch_order.proofs.candidates.Candidates.begin.Goals as goal
+
+pub invariant_of-self : goal.invariant_of-self
+invariant_of-self g c =
+    let frame = c.self.inside.leave.bracket.now in
+    let shape = c.args.shape in
+    let meets = g.R.Rule.meets c.self.inside.leave.rule.now in
+    let may_be_left = g.R.Rule.may_be_left c.self.inside.leave.rule.now in
+    let own = option_copied c.args.own in
+    let fits = subst (λ (l : Listing g.row.R.Denot). Fits l.frame shape) (sym c.self.view_is) c.requires.fits in
+    let given = subst (λ (l : Listing g.row.R.Denot). Of (λ cursor. IsIn cursor (arrangements l.frame shape)) own) (sym c.self.view_is) c.requires.given in
+    let coming =
+    ap (λ kept. filter (may_leave may_be_left frame) (listed kept ++ c.start_drawing.new.drawing.level)) c.start_drawing.ensures.kept
+    ∙ ap (filter (may_leave may_be_left frame)) c.start_drawing.ensures.level
+    ∙ levels-begun frame shape meets may_be_left own given in (
+      c.leaves_too_many-self-inside.ensures,
+      λ hopeless.
+          let many = and_parts frame.last (nat_lt 1 (length frame.scores - 2 * shape.pairs)) (sym c.leaves_too_many-self-inside.ensures ∙ hopeless) in
+          coming
+          ∙ none-from frame shape meets may_be_left own
+          (none-legal frame shape meets may_be_left fits many.0 (ltb-true 1 (length frame.scores - 2 * shape.pairs) many.1)),
+      subst (AllByRecursion (λ a. IsIn a (candidates meets may_be_left frame shape))) (sym coming) (candidates-all frame shape meets may_be_left own),
+    )
+
+pub returns-clause-coming : goal.returns-clause-coming
+returns-clause-coming g c =
+    let frame = c.self.inside.leave.bracket.now in
+    let shape = c.args.shape in
+    let meets = g.R.Rule.meets c.self.inside.leave.rule.now in
+    let may_be_left = g.R.Rule.may_be_left c.self.inside.leave.rule.now in
+    let own = option_copied c.args.own in
+    let given = subst (λ (l : Listing g.row.R.Denot). Of (λ cursor. IsIn cursor (arrangements l.frame shape)) own) (sym c.self.view_is) c.requires.given in
+    ap (λ kept. filter (may_leave may_be_left frame) (listed kept ++ c.start_drawing.new.drawing.level)) c.start_drawing.ensures.kept
+    ∙ ap (filter (may_leave may_be_left frame)) c.start_drawing.ensures.level
+    ∙ levels-begun frame shape meets may_be_left own given
+    ∙ ap (λ (l : Listing g.row.R.Denot). candidates_from (g.R.Rule.meets l.rule) (g.R.Rule.may_be_left l.rule) l.frame shape own) c.self.view_is

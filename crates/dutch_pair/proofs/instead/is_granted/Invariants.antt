@@ -1,0 +1,21 @@
+-- Some candidate grants the wish where some of those to come does.
+use Rattle.std.proofs.Common.{◌≡◌, length}
+use Rattle.std.specs.List.{list_any}
+use Rattle.dutch_order.specs.Steps.{Spends}
+use Rattle.dutch_pair.specs.Reached.{frame_of}
+use Rattle.dutch_pair.specs.Round.{candidates_of}
+use Rattle.dutch_pair.specs.Wishes.{grants}
+use Rattle.dutch_pair.proofs.instead.is_granted.Given as goal
+
+abbrev pub decreases-loop-candidate : goal.decreases-loop-candidate
+decreases-loop-candidate l = length l.candidates.coming
+
+abbrev pub invariant-loop-candidate : goal.invariant-loop-candidate
+invariant-loop-candidate l = record {
+  same : list_any (grants l.wished.wish) (candidates_of l.wished.context.now.facts l.wished.context.now.reached l.wished.shape) ≡ list_any (grants l.wished.wish) l.candidates.coming;
+  frame : l.candidates.frame ≡ frame_of l.wished.context.now.facts l.wished.context.now.reached;
+  shape : l.candidates.shape ≡ l.wished.shape;
+  field : l.candidates.rule.field.now ≡ l.wished.context.now.facts;
+  reached : l.candidates.rule.reached.now ≡ l.wished.context.now.reached;
+  spends : Spends l.initial.budget l.budget;
+}

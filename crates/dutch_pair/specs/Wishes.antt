@@ -1,0 +1,64 @@
+-- A wish for a candidate of a bracket, that two of its players meet or that one of them is left over (C.04.3 B.3), and the best of the
+-- candidates that grant it (B.8).
+use Rattle.std.specs.Prelude.{◌≡◌, ◌⊎◌, ℕ, Bool, true, false, not, ◌&&◌, ◌||◌, ◌==◌, List, ◌∷◌, ◌++◌, filter, Option, Some, None}
+use Rattle.std.specs.List.{list_any}
+use Rattle.dutch_order.specs.declared.bracket.Shape.{Shape}
+use Rattle.dutch_order.specs.Arrangements.{Arrangement, down, paired}
+use Rattle.dutch_order.specs.Choices.{is_member}
+use Rattle.dutch_order.specs.Forms.{pairs_by_number}
+use Rattle.dutch_order.specs.Keys.{IsIn}
+use Rattle.dutch_player.specs.Facts.{Facts}
+use Rattle.dutch_pair.specs.declared.instead.Instead.{Instead}
+use Rattle.dutch_pair.specs.declared.instead.Instead.TheVariants.{Best, NoneEligible, NoneLegal, Undecided}
+use Rattle.dutch_pair.specs.declared.wish.Wish.{Wish}
+use Rattle.dutch_pair.specs.declared.wish.Wish.TheVariants.{Pair, Over}
+use Rattle.dutch_pair.specs.QualityIn.{quality_in}
+use Rattle.dutch_pair.specs.Reached.{Reached, frame_of}
+use Rattle.dutch_pair.specs.Round.{candidates_of, eligible, is_better_in, quality_of}
+use Rattle.dutch_pair.specs.Choice.{best}
+
+-- a pair is that of two players, in whatever order
+abbrev pub are_these : ℕ → ℕ → ℕ × ℕ → Bool
+are_these p q pair = ((pair.0 == p) && (pair.1 == q)) || ((pair.0 == q) && (pair.1 == p))
+
+-- B.3: an arrangement grants a wish: the two are one of its pairs; the one is in none
+abbrev pub grants : Wish → Arrangement → Bool
+grants (Pair p q) lists = list_any (are_these p q) (pairs_by_number lists)
+grants (Over p) lists = not (is_member p (paired lists))
+
+-- the same where something is wished; where nothing is, every arrangement will do
+abbrev pub is_wished : Option Wish → Arrangement → Bool
+is_wished None = λ lists. true
+is_wished (Some wish) = grants wish
+
+-- C.4: the candidates of a shape that can be chosen and grant a wish
+abbrev pub granting : Facts → Reached → List ℕ → Shape → Wish → List Arrangement
+granting facts reached lower shape wish = filter (grants wish) (eligible facts reached lower shape)
+
+-- B.8: of these the first that none of them is better than
+abbrev pub best_granting : Facts → Reached → List ℕ → Shape → Wish → Option Arrangement
+best_granting facts reached lower shape wish = best (is_better_in facts reached lower) (granting facts reached lower shape wish)
+
+-- what is told of a wish, for a bracket above lower seats and its shape: the best candidate that grants it, with its downfloaters and its
+-- quality; that some candidates of the shape grant it, but none of these can be chosen (C.4); that none grants it (C.5); or that the
+-- limit was reached
+abbrev pub IsInstead : Facts → Reached → List ℕ → Shape → Wish → ℕ → Instead → Type 0
+IsInstead facts reached lower shape wish limit (Best candidate quality) =
+    (best_granting facts reached lower shape wish ≡ Some candidate.lists) × (candidate.down ≡ down (frame_of facts reached) candidate.lists)
+    × (quality_in quality ≡ quality_of facts reached lower candidate.lists)
+IsInstead facts reached lower shape wish limit NoneEligible =
+    (list_any (grants wish) (candidates_of facts reached shape) ≡ true) × (list_any (grants wish) (eligible facts reached lower shape) ≡ false)
+IsInstead facts reached lower shape wish limit NoneLegal = list_any (grants wish) (candidates_of facts reached shape) ≡ false
+IsInstead facts reached lower shape wish limit (Undecided used) = used ≡ limit
+
+-- of some candidates one stands before another one
+pub record ComesBefore (c d : Arrangement) (all : List Arrangement) : Type 0 where
+  pub front : List Arrangement
+  pub behind : List Arrangement
+  pub parts : all ≡ front ++ c ∷ behind
+  pub later : IsIn d behind
+
+-- B.8: a candidate is as good as another one, and is the same or stands before it
+abbrev pub IsAsGoodBefore : Facts → Reached → List ℕ → Shape → Arrangement → Arrangement → Type 0
+IsAsGoodBefore facts reached lower shape c d =
+    (quality_of facts reached lower c ≡ quality_of facts reached lower d) × ((c ≡ d) ⊎ ComesBefore c d (eligible facts reached lower shape))

@@ -1,0 +1,154 @@
+// The best candidate of a bracket that grants a wish, in place of the one that is chosen, or why there is none (C.04.3 B.8, C.4, C.5).
+ghost use Rattle.std.specs.Prelude.{◌≡◌, ◌≤◌, IfOk, false, true};
+ghost use Rattle.std.specs.List.{list_any};
+ghost use Rattle.dutch_order.specs.Arrangements.{Fits};
+ghost use Rattle.dutch_order.specs.Steps.{Spends};
+ghost use Rattle.dutch_pair.specs.Completion.{Tells};
+ghost use Rattle.dutch_pair.specs.Lower.{lower_of};
+ghost use Rattle.dutch_pair.specs.Outcomes.{IsStage};
+ghost use Rattle.dutch_pair.specs.Reached.{frame_of};
+ghost use Rattle.dutch_pair.specs.Round.{candidates_of, eligible};
+ghost use Rattle.dutch_pair.specs.Wishes.{IsInstead, grants};
+
+use crate::choice::best_of;
+use crate::completion::Answer;
+use crate::context::Context;
+use crate::fault::PairFault;
+use crate::quality::Quality;
+use crate::skipper::rules_out;
+use crate::stage::Stage;
+use crate::wish::Wish;
+use dutch_order::{Bound, Budget, Candidate, Candidates, Prefix, Shape, Step};
+use dutch_player::Field;
+use std::alloc::Global;
+
+/// What is told of a wish in a bracket.
+#[derive(Debug, Drop)]
+pub enum Instead {
+    /// Of the candidates of the bracket's shape that can be chosen and grant it the first that none of them is better than, and its
+    /// quality.
+    Best {
+        candidate: Candidate,
+        quality: Quality,
+    },
+    /// Candidates of the shape grant it, but none of these can be chosen (C.4). This can be in a penultimate bracket alone.
+    NoneEligible,
+    /// No candidate of the shape grants it (C.5).
+    NoneLegal,
+    /// The limit was reached first, with this many steps.
+    Undecided {
+        used: u64,
+    },
+}
+
+/// A wish for the candidates of a shape in a bracket.
+#[derive(Drop)]
+struct Wished<'a> {
+    context: &'a Context<'a>,
+    shape: Shape,
+    wish: Wish,
+    ghost fits: { Fits (frame_of context.now.facts context.now.reached) shape },
+}
+
+impl<'a> Bound for Wished<'a> {
+    type Room = ();
+
+    ghost use Rattle.std.specs.Prelude.{not};
+    ghost use Rattle.dutch_pair.specs.Reached.{frame_of, numbers_meet, number_may_be_left};
+    ghost use Rattle.dutch_pair.specs.Wishes.{grants};
+
+    ghost frame = { λ w. frame_of w.context.now.facts w.context.now.reached };
+
+    ghost shape = { λ w. w.shape };
+
+    ghost meets = { λ w. numbers_meet w.context.now.facts w.context.now.reached };
+
+    ghost may_be_left = { λ w. number_may_be_left w.context.now.facts w.context.now.reached };
+
+    ghost is_dull = { λ w a. not (grants w.wish a) };
+
+    fn cannot_win(&self, prefix: &Prefix<'_>, _room: &mut ()) -> bool {
+        rules_out(self.context, self.shape, self.wish, prefix)
+    }
+}
+
+/// Whether some candidate grants a wish, whether it can be chosen or not.
+#[tactic(auto, using(crate::proofs::InsteadLemmas::skipped_same))]
+fn is_granted(wished: &Wished<'_>, budget: &mut Budget) -> Answer
+    requires within { budget.old.used ≤ budget.old.limit }
+    ensures answer { Tells result (list_any (grants wished.now.wish) (candidates_of wished.now.context.now.facts wished.now.context.now.reached wished.now.shape))
+        (budget.new.used ≡ budget.new.limit) }
+    ensures spends { Spends budget.old budget.new }
+{
+    let rule = wished.context.rule();
+    let mut candidates = Candidates::new(wished.context.frame(), wished.shape, &rule);
+    loop {
+        match candidates.next_within(wished, &mut (), budget) {
+            Step::Found(candidate) => {
+                if wished.wish.is_granted(&candidate) {
+                    return Answer::Yes;
+                }
+            }
+            Step::End => return Answer::No,
+            Step::Undecided => return Answer::Undecided,
+        }
+    }
+}
+
+/// Why no candidate of a shape that can be chosen grants a wish: in a penultimate bracket others may do so.
+#[tactic(auto, using(crate::proofs::InsteadLemmas::none_legal))]
+fn why_none(wished: &Wished<'_>, budget: &mut Budget) -> Instead
+    requires none { list_any (grants wished.now.wish) (eligible wished.now.context.now.facts wished.now.context.now.reached wished.now.context.now.lower wished.now.shape) ≡ false }
+    requires within { budget.old.used ≤ budget.old.limit }
+    ensures { IsInstead wished.now.context.now.facts wished.now.context.now.reached wished.now.context.now.lower wished.now.shape wished.now.wish budget.old.limit result }
+{
+    if !wished.context.reached().kind().is_penultimate() {
+        return Instead::NoneLegal;
+    }
+    match is_granted(wished, budget) {
+        Answer::Yes => Instead::NoneEligible,
+        Answer::No => Instead::NoneLegal,
+        Answer::Undecided => Instead::Undecided { used: budget.used },
+    }
+}
+
+/// The best candidate that grants a wish, or why there is none.
+#[tactic(auto, using(crate::proofs::InsteadLemmas::none_granting))]
+fn look_for(alloc: Global, wished: &Wished<'_>, budget: &mut Budget) -> Result<Instead, PairFault>
+    requires within { budget.old.used ≤ budget.old.limit }
+    ensures { IfOk result (IsInstead wished.now.context.now.facts wished.now.context.now.reached wished.now.context.now.lower wished.now.shape wished.now.wish budget.old.limit) }
+{
+    let wish = Some(wished.wish);
+    match best_of(alloc, wished.context, wished.shape, wish, budget)? {
+        Step::Found(best) => Ok(Instead::Best {
+            candidate: best.candidate,
+            quality: best.quality,
+        }),
+        Step::End => Ok(why_none(wished, budget)),
+        Step::Undecided => Ok(Instead::Undecided { used: budget.used }),
+    }
+}
+
+/// What would stand in a bracket in place of what is chosen there, were a wish granted: the best candidate of its shape that grants it and
+/// can be chosen (B.8, C.4), or why there is none. The wish names players by their numbers in the bracket; no candidate pairs a number that
+/// the bracket has not. The search has a budget of its own, of `limit` steps.
+#[tactic(auto, using(crate::proofs::InsteadLemmas::stage_fits))]
+pub fn best_instead(
+    alloc: Global,
+    field: &Field,
+    stage: &Stage,
+    wish: Wish,
+    limit: u64,
+) -> Result<Instead, PairFault>
+    requires { IsStage field.now stage.now }
+    ensures { IfOk result (IsInstead field.now stage.now.reached (lower_of field.now stage.now.reached) stage.now.shape wish limit) }
+{
+    let lower = stage.reached().lower(field);
+    let context = Context::new(field, stage.reached(), &lower);
+    let wished = Wished {
+        context: &context,
+        shape: stage.shape(),
+        wish,
+    };
+    look_for(alloc, &wished, &mut Budget { used: 0, limit })
+}

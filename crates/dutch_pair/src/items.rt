@@ -1,0 +1,262 @@
+// The items of a quality one by one (C.04.3 C.6 to C.19): the first in which two qualities differ, and the players whom each counts.
+ghost use Rattle.std.specs.Prelude.{◌≡◌, ◌+◌, ◌*◌, ◌<◌, ◌≤◌, [], if◌then◌else◌, length, map, filter};
+ghost use Rattle.arrayvec.specs.ArrayVec.{array_vec_len};
+ghost use Rattle.dutch_player.specs.declared.float.Float.TheVariants.{Up, Down};
+ghost use Rattle.dutch_pair.specs.Items.{compared_in, counted, first_difference, only_if, seats_of, those_in, those_in_pairs, those_with_topscorers, who_counts};
+ghost use Rattle.dutch_pair.specs.Outcomes.{IsStage};
+ghost use Rattle.dutch_pair.specs.Quality.{again, has_topscorer, highest_first, misses, placed_all};
+ghost use Rattle.dutch_pair.specs.QualityIn.{quality_in};
+ghost use Rattle.dutch_pair.specs.Seated.{AllPairs, AreSeats, HasSeats, floats_down, goes, going_down, going_up, is_uneven};
+
+use crate::colours_missed::{Miss, has_topscorer, misses};
+use crate::differences::put;
+use crate::floats::is_float;
+use crate::quality::Quality;
+use crate::reached::Seats;
+use crate::seated::{Pair, Seated, by_seats, goes, is_uneven};
+use crate::stage::Stage;
+use dutch_order::LIMIT;
+use dutch_player::{Field, Float};
+use std::cmp::Ordering;
+use trf16::Colour;
+
+/// An item of a quality, in the order in which the items count.
+#[derive(Debug, Clone, Copy, PartialEq, Eq)]
+pub enum Item {
+    /// The PSD (C.6).
+    Psd,
+    /// The pairs of the next bracket, and for as many the least PSD (C.7).
+    NextBracket,
+    /// Players in pairs with a topscorer who get a colour difference over +2 or under -2 (C.8).
+    WideDifferences,
+    /// Players in pairs with a topscorer who get the colour of their last two games (C.9).
+    ThirdColours,
+    /// Players in pairs who do not get the colour of their preference (C.10).
+    MissedPreferences,
+    /// Players in pairs who do not get the colour of a strong preference (C.11).
+    MissedStrong,
+    /// Players who go down and had a downfloat in the last round (C.12).
+    DownAgain,
+    /// Players who go up and had an upfloat in the last round (C.13).
+    UpAgain,
+    /// Players who go down and had a downfloat in the round before the last (C.14).
+    DownAgainBefore,
+    /// Players who go up and had an upfloat in the round before the last (C.15).
+    UpAgainBefore,
+    /// The differences of the players of C.12 (C.16).
+    DownAgainBy,
+    /// The differences of the players of C.13 (C.17).
+    UpAgainBy,
+    /// The differences of the players of C.14 (C.18).
+    DownAgainBeforeBy,
+    /// The differences of the players of C.15 (C.19).
+    UpAgainBeforeBy,
+}
+
+/// All items in the order in which they count.
+pub const ITEMS: [Item; 14] = [
+    Item::Psd,
+    Item::NextBracket,
+    Item::WideDifferences,
+    Item::ThirdColours,
+    Item::MissedPreferences,
+    Item::MissedStrong,
+    Item::DownAgain,
+    Item::UpAgain,
+    Item::DownAgainBefore,
+    Item::UpAgainBefore,
+    Item::DownAgainBy,
+    Item::UpAgainBy,
+    Item::DownAgainBeforeBy,
+    Item::UpAgainBeforeBy,
+];
+
+impl Quality {
+    /// How it stands to another one by an item alone: `Less` is in front.
+    fn compared_in(&self, other: &Quality, item: Item) -> Ordering
+        ensures { result ≡ compared_in item (quality_in self.now) (quality_in other.now) }
+    {
+        match item {
+            Item::Psd => self.psd().cmp(other.psd()),
+            Item::NextBracket => {
+                let by_pairs = other.next_pairs().cmp(&self.next_pairs());
+                by_pairs.then(self.next_psd().cmp(other.next_psd()))
+            }
+            Item::WideDifferences => self.wide_differences().cmp(&other.wide_differences()),
+            Item::ThirdColours => self.third_colours().cmp(&other.third_colours()),
+            Item::MissedPreferences => self.missed_preferences().cmp(&other.missed_preferences()),
+            Item::MissedStrong => self.missed_strong().cmp(&other.missed_strong()),
+            Item::DownAgain => self.down_again().cmp(&other.down_again()),
+            Item::UpAgain => self.up_again().cmp(&other.up_again()),
+            Item::DownAgainBefore => self.down_again_before().cmp(&other.down_again_before()),
+            Item::UpAgainBefore => self.up_again_before().cmp(&other.up_again_before()),
+            Item::DownAgainBy => self.down_again_by().cmp(other.down_again_by()),
+            Item::UpAgainBy => self.up_again_by().cmp(other.up_again_by()),
+            Item::DownAgainBeforeBy => self
+                .down_again_before_by()
+                .cmp(other.down_again_before_by()),
+            Item::UpAgainBeforeBy => self.up_again_before_by().cmp(other.up_again_before_by()),
+        }
+    }
+
+    /// The first item in which it differs from another one; none where all are equal (C.6 to C.19).
+    #[tactic(auto, using(crate::proofs::ItemOrder::none_to_come))]
+    pub fn first_difference(&self, other: &Quality) -> Option<Item>
+        ensures { result ≡ first_difference (quality_in self.now) (quality_in other.now) }
+    {
+        for item in ITEMS {
+            if self.compared_in(other, item).is_ne() {
+                return Some(item);
+            }
+        }
+        None
+    }
+}
+
+/// Puts a seat to its place if something holds, the highest number first.
+fn put_if(holds: bool, seat: u16, seats: &mut Seats)
+    requires { array_vec_len seats.old < LIMIT }
+    ensures items { seats.new.items ≡ placed_all seats.old.items (only_if holds seat) }
+    ensures len { array_vec_len seats.new ≤ array_vec_len seats.old + 1 }
+{
+    if holds {
+        put(seats, seat);
+    }
+}
+
+/// Puts those of the players of a pair who miss so to their places.
+#[tactic(auto, using(crate::proofs::Places::placed_all_append))]
+fn put_pair(field: &Field, miss: Miss, pair: Pair, seats: &mut Seats)
+    requires first { pair.0 < length field.now.seats }
+    requires second { pair.1 < length field.now.seats }
+    requires room { array_vec_len seats.old + 2 ≤ LIMIT }
+    ensures items { seats.new.items ≡ placed_all seats.old.items (those_in field.now (misses miss) pair) }
+    ensures len { array_vec_len seats.new ≤ array_vec_len seats.old + 2 }
+{
+    let (white, black) = field.colours(pair.0, pair.1);
+    put_if(misses(field, miss, white, Colour::White), white, seats);
+    put_if(misses(field, miss, black, Colour::Black), black, seats);
+}
+
+/// The same, if one of the pair is a topscorer.
+fn put_if_topscorer(field: &Field, miss: Miss, pair: Pair, seats: &mut Seats)
+    requires first { pair.0 < length field.now.seats }
+    requires second { pair.1 < length field.now.seats }
+    requires room { array_vec_len seats.old + 2 ≤ LIMIT }
+    ensures items { seats.new.items ≡ placed_all seats.old.items (if has_topscorer field.now pair then those_in field.now (misses miss) pair else []) }
+    ensures len { array_vec_len seats.new ≤ array_vec_len seats.old + 2 }
+{
+    if has_topscorer(field, pair) {
+        put_pair(field, miss, pair, seats);
+    }
+}
+
+/// The same of the players in pairs.
+fn put_pairs(field: &Field, miss: Miss, pairs: &[Pair], seats: &mut Seats)
+    requires inside { AllPairs field.now pairs.now }
+    requires room { array_vec_len seats.old + 2 * length pairs.now ≤ LIMIT }
+    ensures { seats.new.items ≡ placed_all seats.old.items (those_in_pairs field.now (misses miss) pairs.now) }
+{
+    for pair in pairs {
+        put_pair(field, miss, *pair, seats);
+    }
+}
+
+/// The same of the players in pairs with a topscorer.
+fn put_with_topscorers(field: &Field, miss: Miss, pairs: &[Pair], seats: &mut Seats)
+    requires inside { AllPairs field.now pairs.now }
+    requires room { array_vec_len seats.old + 2 * length pairs.now ≤ LIMIT }
+    ensures { seats.new.items ≡ placed_all seats.old.items (those_with_topscorers field.now (misses miss) pairs.now) }
+{
+    for pair in pairs {
+        put_if_topscorer(field, miss, *pair, seats);
+    }
+}
+
+/// Puts the players of pairs who float so, and did in the last round (1) or in the one before it (2), to their places.
+fn put_again(field: &Field, float: Float, back: u8, pairs: &[Pair], seats: &mut Seats)
+    requires inside { AllPairs field.now pairs.now }
+    requires room { array_vec_len seats.old + length pairs.now ≤ LIMIT }
+    requires one { 1 ≤ back }
+    requires two { back ≤ 2 }
+    ensures items { seats.new.items ≡ placed_all seats.old.items
+        (seats_of (again field.now float back (map (goes field.now float) (filter (is_uneven field.now) pairs.now)))) }
+    ensures len { array_vec_len seats.new ≤ array_vec_len seats.old + length pairs.now }
+{
+    for pair in pairs {
+        if is_uneven(field, *pair) {
+            let floater = goes(field, float, *pair);
+            if is_float(float, field.float(floater.seat, back)) {
+                put(seats, floater.seat);
+            }
+        }
+    }
+}
+
+/// The same of downfloaters.
+fn put_down_again(field: &Field, least: u16, back: u8, down: &[u16], seats: &mut Seats)
+    requires inside { AreSeats field.now down.now }
+    requires room { array_vec_len seats.old + length down.now ≤ LIMIT }
+    requires one { 1 ≤ back }
+    requires two { back ≤ 2 }
+    ensures { seats.new.items ≡ placed_all seats.old.items
+        (seats_of (again field.now Down back (map (floats_down field.now least) down.now))) }
+{
+    for seat in down {
+        if is_float(Float::Down, field.float(*seat, back)) {
+            put(seats, *seat);
+        }
+    }
+}
+
+/// Fills a list with those who go down and had a downfloat in the last round (1) or in the one before it (2).
+#[tactic(auto, using(crate::proofs::ItemSeats::seats_again))]
+fn fill_going_down(field: &Field, back: u8, candidate: &Seated, seats: &mut Seats)
+    requires inside { HasSeats field.now candidate.now }
+    requires one { 1 ≤ back }
+    requires two { back ≤ 2 }
+    ensures { seats.new.items ≡ highest_first (seats_of (again field.now Down back (going_down field.now candidate.now))) }
+{
+    seats.clear();
+    put_again(field, Float::Down, back, &candidate.pairs, seats);
+    put_down_again(field, candidate.lowest, back, &candidate.down, seats);
+}
+
+/// Fills a list with those of a candidate whom an item counts, the highest number first.
+fn fill_counted(field: &Field, candidate: &Seated, item: Item, seats: &mut Seats)
+    requires inside { HasSeats field.now candidate.now }
+    requires few { 2 * length candidate.now.pairs ≤ LIMIT }
+    ensures { seats.new.items ≡ highest_first (counted field.now candidate.now item) }
+{
+    seats.clear();
+    let pairs = &candidate.pairs;
+    match item {
+        Item::WideDifferences => put_with_topscorers(field, Miss::Wide, pairs, seats),
+        Item::ThirdColours => put_with_topscorers(field, Miss::Third, pairs, seats),
+        Item::MissedPreferences => put_pairs(field, Miss::Preference, pairs, seats),
+        Item::MissedStrong => put_pairs(field, Miss::StrongPreference, pairs, seats),
+        Item::DownAgain => fill_going_down(field, 1, candidate, seats),
+        Item::UpAgain => put_again(field, Float::Up, 1, pairs, seats),
+        Item::DownAgainBefore => fill_going_down(field, 2, candidate, seats),
+        Item::UpAgainBefore => put_again(field, Float::Up, 2, pairs, seats),
+        Item::Psd
+        | Item::NextBracket
+        | Item::DownAgainBy
+        | Item::UpAgainBy
+        | Item::DownAgainBeforeBy
+        | Item::UpAgainBeforeBy => {}
+    }
+}
+
+/// The players whom an item counts of what is chosen in a bracket (C.8 to C.15): their seats by rank, none for the other items.
+#[tactic(auto, using(crate::proofs::WalkEnds::candidate_is, crate::proofs::ItemSeats::pairs_few))]
+pub fn who_counts(field: &Field, stage: &Stage, item: Item) -> Seats
+    requires { IsStage field.now stage.now }
+    ensures { result.items ≡ who_counts field.now stage.now.reached stage.now.candidate item }
+{
+    let candidate = by_seats(field, stage.reached().seats(), stage.candidate());
+    let mut seats = Seats::new();
+    fill_counted(field, &candidate, item, &mut seats);
+    seats.reverse();
+    seats
+}
