@@ -1,10 +1,12 @@
 -- Numbers that are marked one by one, and those that are left.
-use Rattle.std.proofs.Common.{◌≡◌, ℕ, zero, suc, ◌+◌, ◌-◌, ◌<◌, ◌≤◌, Bool, true, false, not, ◌||◌, cond, List, [], ◌∷◌, length, map, get_or, drop, filter, inl, inr, refl, sym, ap, ◌∙◌, subst, arith}
+use Rattle.std.proofs.Common.{◌≡◌, ℕ, zero, suc, ◌+◌, ◌-◌, ◌<◌, ◌≤◌, Bool, true, false, not, ◌||◌, cond, List, [], ◌∷◌, ◌++◌, length, map, get_or, drop, filter, inl, inr, refl, sym, ap, ◌∙◌, subst, arith}
 use Rattle.std.proofs.lemmas.Bool.{eq-eqb, ne_eqb, cases_eq}
-use Rattle.std.proofs.lemmas.List.{drop_more, length-map}
+use Rattle.std.proofs.lemmas.List.{drop_more, length-map, append-nil}
+use Rattle.std.proofs.lemmas.List.Elements.{filter-append}
 use Rattle.std.specs.List.{AllByRecursion}
 use Rattle.dutch_order.specs.Choices.{is_member, numbers_from}
 use Rattle.dutch_order.specs.Arrangements.{left_of, Arrangement}
+use Rattle.dutch_order.proofs.Members.{numbers-append}
 use Rattle.dutch_player.specs.Facts.{Facts}
 use Rattle.dutch_pair.specs.Reached.{Reached}
 use Rattle.dutch_pair.specs.Seated.{score_at, AllNumbers}
@@ -62,6 +64,20 @@ left_is table s2 s1r s2r (x ∷ xs) h =
     ap (λ t. cond (not t) (x ∷ filter (λ y. not (has_bit table y)) xs) (filter (λ y. not (has_bit table y)) xs)) (h x)
     ∙ three (λ y. not (is_member y s2)) (λ y. not (is_member y s1r)) (λ y. not (is_member y s2r)) x xs (filter (λ y. not (has_bit table y)) xs)
     (is_member x s2) (is_member x s1r) (is_member x s2r) refl refl refl (left_is table s2 s1r s2r xs h)
+
+pub unmarked_more : (p : ℕ → Bool) (first place : ℕ) → p (first + place) ≡ true
+    → filter p (numbers_from first (place + 1)) ≡ filter p (numbers_from first place) ++ (first + place) ∷ []
+unmarked_more p first place h =
+    ap (filter p) (numbers-append first place 1)
+    ∙ (filter-append p (numbers_from first place) (numbers_from (first + place) 1)
+    ∙ ap (λ xs. filter p (numbers_from first place) ++ xs) (yes p (first + place) [] h))
+
+pub marked_more : (p : ℕ → Bool) (first place : ℕ) → p (first + place) ≡ false
+    → filter p (numbers_from first (place + 1)) ≡ filter p (numbers_from first place)
+marked_more p first place h =
+    ap (filter p) (numbers-append first place 1)
+    ∙ (filter-append p (numbers_from first place) (numbers_from (first + place) 1)
+    ∙ (ap (λ xs. filter p (numbers_from first place) ++ xs) (no p (first + place) [] h) ∙ append-nil (filter p (numbers_from first place))))
 
 pub pool_is : (facts : Facts) (reached : Reached) (b : Arrangement) (table xs : List ℕ) (count : ℕ) → count ≡ length reached.seats - reached.mdps
     → ((i : ℕ) → has_bit table i ≡ ((is_member i b.s2 || is_member i b.s1r) || is_member i b.s2r))

@@ -145,18 +145,21 @@ impl<'a> Floors<'a> {
     }
 
     /// How many more miss than in the pairs that are fixed (C.10).
-    fn more_by(&self, filling: Filling, begun: &Begun<'_>, seated: &Seated) -> usize
+    fn more_by(&self, filling: Filling, begun: &Begun<'_>, room: &mut Room) -> usize
         requires numbers { HasNumbers self.now.reached begun.now }
-        requires seated { seated.now ≡ fixed self.now.facts self.now.reached begun.now }
-        requires inside { HasSeats self.now.facts seated.now }
+        requires seated { room.old.seated ≡ fixed self.now.facts self.now.reached begun.now }
+        requires inside { HasSeats self.now.facts room.old.seated }
         ensures value { result ≡ more_by filling self.now begun.now }
         ensures few { result ≤ LIMIT }
+        ensures seated { room.new.seated ≡ room.old.seated }
     {
         let shape = self.shape();
-        let more = more_missed(self.pairs.context(), shape, seated, false);
+        let more = more_missed(self.pairs.context(), shape, &room.seated, false);
         match filling {
             Filling::S1 | Filling::S2 => return more,
-            Filling::S2r => return more.max(lonely(&self.pairs, shape, begun)),
+            Filling::S2r => {
+                return more.max(lonely(&self.pairs, shape, begun, &mut room.pool));
+            }
         }
     }
 
@@ -207,7 +210,7 @@ impl<'a> Floors<'a> {
         ensures { quality_in room.new.quality ≡ floor_by filling self.now begun.now }
     {
         fill_fixed(self.pairs.context(), begun, &mut room.seated);
-        let more = self.more_by(filling, begun, &room.seated);
+        let more = self.more_by(filling, begun, room);
         self.fill_over(filling, begun.s1, more, room);
     }
 

@@ -1,5 +1,5 @@
 // Players who miss their preference whoever of those left is their opponent, once S1R is chosen (C.04.3 C.10).
-ghost use Rattle.std.specs.Prelude.{◌≡◌, ◌-◌, ◌<◌, ◌≤◌, ◌||◌, ◌++◌, ℕ, not, length, filter, max};
+ghost use Rattle.std.specs.Prelude.{◌≡◌, ◌+◌, ◌-◌, ◌<◌, ◌≤◌, ◌||◌, ◌++◌, ℕ, not, length, filter, max};
 ghost use Rattle.std.specs.List.{list_any, AllByRecursion};
 ghost use Rattle.arrayvec.specs.ArrayVec.{array_vec_len};
 ghost use Rattle.dutch_order.specs.declared.numbers.TheConstants.{LIMIT};
@@ -13,7 +13,7 @@ use crate::begun::Begun;
 use crate::bit_table::{WORD, has_bit, set_bit};
 use crate::context::Context;
 use crate::pair_facts::PairFacts;
-use dutch_order::{LIMIT, Numbers, Shape, numbered_from};
+use dutch_order::{LIMIT, Numbers, Shape};
 
 /// A mark for each number of a bracket.
 type Marks = [u64; LIMIT / WORD + 1];
@@ -41,32 +41,33 @@ fn taken(context: &Context<'_>, begun: &Begun<'_>) -> Marks
     marks
 }
 
-/// Those of some numbers that are not marked.
-fn unmarked(numbers: &[u16], marks: &Marks) -> Numbers
-    requires few { length numbers.now ≤ LIMIT }
-    requires small { AllByRecursion (λ number. number ≤ LIMIT) numbers.now }
-    ensures { result.items ≡ filter (λ x. not (has_bit marks.now x)) numbers.now }
+/// Fills a list with those of so many numbers from a first one on that are not marked.
+#[tactic(auto, using(crate::proofs::LonelyLemmas::unmarked_more, crate::proofs::LonelyLemmas::marked_more))]
+fn put_unmarked(first: usize, count: usize, marks: &Marks, left: &mut Numbers)
+    requires small { first + count ≤ LIMIT + 1 }
+    requires few { count ≤ LIMIT }
+    ensures items { left.new.items ≡ filter (λ x. not (has_bit marks.now x)) (numbers_from first count) }
+    ensures few { length left.new.items ≤ LIMIT }
 {
-    let mut left = Numbers::new();
-    for number in numbers {
-        if !has_bit(marks, usize::from(*number)) {
-            left.push(*number);
+    left.clear();
+    for place in 0..count {
+        if !has_bit(marks, first + place) {
+            left.push((first + place) as u16);
         }
     }
-    left
 }
 
-/// The residents with whom S1R can still be paired.
+/// Fills a list with the residents with whom S1R can still be paired.
 #[tactic(auto, using(crate::proofs::LonelyLemmas::pool_is, crate::proofs::LonelyLemmas::pool_numbers))]
-fn pool(context: &Context<'_>, begun: &Begun<'_>) -> Numbers
+fn put_pool(context: &Context<'_>, begun: &Begun<'_>, left: &mut Numbers)
     requires { HasNumbers context.now.reached begun.now }
-    ensures items { result.items ≡ pool context.now.facts context.now.reached begun.now }
-    ensures numbers { AllNumbers context.now.reached.seats result.items }
-    ensures few { length result.items ≤ LIMIT }
+    ensures items { left.new.items ≡ pool context.now.facts context.now.reached begun.now }
+    ensures numbers { AllNumbers context.now.reached.seats left.new.items }
+    ensures few { length left.new.items ≤ LIMIT }
 {
     let mdps = context.reached().mdps();
-    let residents = numbered_from(mdps + 1, context.len().saturating_sub(mdps));
-    unmarked(&residents, &taken(context, begun))
+    let residents = context.len().saturating_sub(mdps);
+    put_unmarked(mdps + 1, residents, &taken(context, begun), left);
 }
 
 /// The players of S1R who have no opponent yet.
@@ -151,8 +152,13 @@ fn more_lonely(first: usize, second: usize, down: usize) -> usize
     first.max(second.saturating_sub(down))
 }
 
-/// How many miss at least for want of an opponent who suits.
-pub(crate) fn lonely(pairs: &PairFacts<'_>, shape: Shape, begun: &Begun<'_>) -> usize
+/// How many miss at least for want of an opponent who suits. The list is filled anew with those with whom S1R can still be paired.
+pub(crate) fn lonely(
+    pairs: &PairFacts<'_>,
+    shape: Shape,
+    begun: &Begun<'_>,
+    pool: &mut Numbers,
+) -> usize
     requires numbers { HasNumbers pairs.now.reached begun.now }
     requires small { shape.pairs ≤ LIMIT }
     ensures value { result ≡ lonely pairs.now.facts pairs.now.reached shape begun.now }
@@ -160,8 +166,8 @@ pub(crate) fn lonely(pairs: &PairFacts<'_>, shape: Shape, begun: &Begun<'_>) -> 
 {
     let context = pairs.context();
     let waiting = waiting(context, begun);
-    let pool = pool(context, begun);
-    let first = lonely_first(pairs, waiting, &pool);
-    let second = lonely_second(pairs, waiting, &pool);
+    put_pool(context, begun, pool);
+    let first = lonely_first(pairs, waiting, pool);
+    let second = lonely_second(pairs, waiting, pool);
     more_lonely(first, second, context.residents_down(shape))
 }

@@ -206,11 +206,13 @@ impl Quality {
     }
 }
 
-/// Where a quality is worked out, filled anew for each candidate and each beginning: its players by seats, and its items.
+/// Where a quality is worked out, filled anew for each candidate and each beginning: its players by seats, its items, and those with
+/// whom S1R can still be paired, by number.
 #[derive(Debug, Default, Drop)]
 pub(crate) struct Room {
     pub(crate) seated: Seated,
     pub(crate) quality: Quality,
+    pub(crate) pool: Numbers,
 }
 
 /// Fills a quality with the items of a candidate by seats, but for those of C.6, C.7, C.10 and C.11, which stay.

@@ -10,8 +10,8 @@ returns-clause-value c =
     let facts = c.args.pairs.now.facts in
     let reached = c.args.pairs.now.reached in
     let b = c.args.begun.now in
-    let pooled : c.pool-pool.result.items ≡ pool facts reached b =
-    c.pool-pool.ensures.items ∙ ap (λ (k : Context). pool k.facts k.reached b) c.context-context.ensures in
+    let pooled : c.put_pool.new.left.items ≡ pool facts reached b =
+    c.put_pool.ensures.items ∙ ap (λ (k : Context). pool k.facts k.reached b) c.context-context.ensures in
     let first : c.lonely_first-first.result ≡ lonely_first facts reached b =
     c.lonely_first-first.ensures.value
     ∙ (ap (λ (p : List ℕ). length (filter (λ x. not (list_any (suits facts reached x) p)) c.waiting-waiting.result.now)) (c.deref.ensures.0 ∙ pooled)
