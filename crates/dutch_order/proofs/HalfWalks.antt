@@ -11,11 +11,6 @@ cond-below : (b : Bool) (x y bound : ℕ) → x ≤ bound → y ≤ bound → (i
 cond-below true x y bound p q = p
 cond-below false x y bound p q = q
 
-pub half_stop-below : (half first_count second_count : ℕ) (path : List ℕ) → half_stop half first_count second_count path ≤ first_count + second_count
-half_stop-below half first_count second_count path =
-    cond-below (nat_lt (length path) half) (first_count - (half - 1 - length path)) (second_count - (half + half - 1 - length path)) (first_count + second_count)
-    (omega arith) (omega arith)
-
 -- where both counts are one, it bounds each number
 pub half_stop-one : (half count : ℕ) (path : List ℕ) → half_stop half count count path ≤ count
 half_stop-one half count path =

@@ -1,7 +1,7 @@
 -- Lists in which no number comes twice, and the players of pairs.
-use Rattle.std.proofs.Common.{◌≡◌, ℕ, suc, ◌<◌, ◌≤◌, true, not, List, [], ◌∷◌, ◌++◌, map, length, refl, sym, ap, ◌∙◌, arith, subst, inl, inr, ◌⊎◌}
+use Rattle.std.proofs.Common.{◌≡◌, ℕ, suc, ◌<◌, true, not, List, [], ◌∷◌, ◌++◌, map, length, refl, sym, ap, ◌∙◌, arith, subst, inl, inr, ◌⊎◌}
 use Rattle.std.specs.List.{AllByRecursion}
-use Rattle.std.proofs.lemmas.Bool.{cases_order, and_parts, and_from, not-true, not_from_false, false_from_ne_true, true≢false}
+use Rattle.std.proofs.lemmas.Bool.{and_parts, and_from, not-true, not_from_false, false_from_ne_true, true≢false}
 use Rattle.dutch_order.specs.Choices.{is_member}
 use Rattle.dutch_order.specs.Keys.{IsIn}
 use Rattle.dutch_order.specs.Arrangements.{left_of}
@@ -9,9 +9,6 @@ use Rattle.dutch_order.specs.Cursors.{are_different}
 use Rattle.dutch_order.specs.Forms.{by_place, players_in, NoneTwice, FirstsAscend}
 use Rattle.dutch_order.proofs.Orders.{Rises, all_members, member_has, IsIn-append, IsIn-front, IsIn-back, IsIn-map}
 use Rattle.dutch_order.proofs.CursorSets.{member-in, in-member, kept-in, in-kept}
-
-le-cases : (a b : ℕ) → a ≤ b → (a ≡ b) ⊎ (suc a ≤ b)
-le-cases a b h = elim (cases_order a b) [ inl same ↦ inl same | inr (inl lower) ↦ inr (omega (arith, lower)) | inr (inr higher) ↦ absurd (omega (arith, higher, h)) ]
 
 -- ---- lists without a number twice
 

@@ -165,9 +165,6 @@ module _ (pool : List ℕ) (k : ℕ) (hint : List ℕ) (size difference : ℕ) (
         ∙ ap (λ t. t + trials_of_sizes pool k (most_exchanged pool k - size) (suc size)) (trials-skip pool k size (n - suc difference) (greatest_difference pool k size - n) (suc difference))
         ∙ ap (λ d. (trials (ahead (exchange_plan pool k size d) [] 0) + trials_of_stages pool k (greatest_difference pool k size - n) size (suc d) (lowest (ahead (exchange_plan pool k size d) [] 0))) + trials_of_sizes pool k (most_exchanged pool k - size) (suc size)) above)
 
-    pub stages-next : stages_ahead pool k size n < stages_ahead pool k size difference
-    stages-next = omega (arith, parts.1, parts.2)
-
   module _ (last : following difference (greatest_difference pool k size) beyond ≡ None) where
     sets_left : sets_ahead pool k hint size difference path place beyond ≡ sets_of_sizes pool k (most_exchanged pool k - size) (suc size)
     unfolding larger_sizes

@@ -146,11 +146,6 @@ module _ (facts : Facts) where
       → group ≡ first_group facts (scoregroups facts rest) → IsParted md rest group lower
   parted_by {md = md} {rest = rest} {group = group} {lower = lower} = parted_at_first md rest group lower
 
-  -- where the rest is found not to be empty
-  pub parted_by_test : {md rest group lower : List ℕ} → Descends facts → Goes facts md rest → false ≡ (length rest == 0) → group ++ lower ≡ rest
-      → group ≡ first_group facts (scoregroups facts rest) → IsParted md rest group lower
-  parted_by_test {rest = rest} descends goes test = parted_by descends goes (some_by_test rest test)
-
   pub rest_inside : (md rest : List ℕ) → Goes facts md rest → AreSeats facts rest
   rest_inside md rest goes = ranked_seats facts rest (ranked_back facts md rest goes.ranked)
 

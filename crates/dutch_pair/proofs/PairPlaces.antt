@@ -1,5 +1,5 @@
 -- A table of pairs that is filled place by place.
-use Rattle.std.proofs.Common.{◌≡◌, ℕ, ◌+◌, ◌-◌, ◌*◌, ◌<◌, ◌≤◌, ◌==◌, Bool, true, false, ◌&&◌, nat_lt, List, length, replicate, inl, inr, sym, ap, ◌∙◌, subst, arith, mul_comm}
+use Rattle.std.proofs.Common.{◌≡◌, ℕ, ◌+◌, ◌-◌, ◌*◌, ◌<◌, ◌≤◌, ◌==◌, Bool, true, false, ◌&&◌, nat_lt, List, length, inl, inr, sym, ap, ◌∙◌, subst, arith, mul_comm}
 use Rattle.std.proofs.Math.Nat.{mul-le-mul_right}
 use Rattle.std.proofs.Math.Bool.{and_comm}
 use Rattle.std.proofs.lemmas.Bool.{lt-ltb, le-ltb, cases_lt, cases_eq}
@@ -16,7 +16,6 @@ use Rattle.dutch_pair.specs.BitTables.{has_bit}
 use Rattle.dutch_pair.specs.Context.{Context}
 use Rattle.dutch_pair.specs.PairFacts.{place_of, KnowsPairs, NotedUpto}
 use Rattle.dutch_pair.proofs.PairMisses.{pair_sym}
-use Rattle.dutch_pair.proofs.BitLemmas.{none_set}
 
 numbers_sym : (facts : Facts) (reached : Reached) (a b : ℕ) → numbers_meet facts reached a b ≡ numbers_meet facts reached b a
 numbers_sym facts reached a b =
@@ -112,7 +111,3 @@ module _ (known : Context) where
   pub knows_all : (table : List ℕ) (end : ℕ) → end ≡ n * n → NotedUpto known table end → KnowsPairs known table
   knows_all table end same noted x y p q =
       noted x y p q ∙ ap (λ t. t && suit x y) (lt-ltb (place_of n x y) end (omega (arith, same, inside n x y p q)))
-
-  pub knows_none : (table : List ℕ) (count : ℕ) → table ≡ replicate count 0 → NotedUpto known table 0
-  knows_none table count same x y p q =
-      ap (λ words. has_bit words (place_of n x y)) same ∙ (none_set count (place_of n x y) ∙ sym (ap (λ t. t && suit x y) (le-ltb (place_of n x y) 0 (omega arith))))

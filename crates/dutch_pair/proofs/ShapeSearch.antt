@@ -108,10 +108,6 @@ module _ (eligible : Shape → List Arrangement) (room : Shape → Bool) where
   pairs_passed n more h =
       ap (λ ns. found_in (flat_map shapes_with ns)) (down_one n more) ∙ none_first (shapes_with n) (flat_map shapes_with (down_from (n - 1))) h
 
-  pub pairs_ended : (n : ℕ) → n ≡ 0 → found_in (shapes_with n) ≡ None → found_in (flat_map shapes_with (down_from n)) ≡ None
-  pairs_ended zero e h = none_first (shapes_with zero) [] h
-  pairs_ended (suc n) e h = let bad : ⊥ = omega (arith, e) in absurd bad
-
   found_has : (t : Bool) (shape wanted : Shape) (rest : List Shape) → has_member (eligible shape) ≡ t → (first_with eligible rest ≡ Some wanted → has_member (eligible wanted) ≡ true)
       → cond t (Some shape) (first_with eligible rest) ≡ Some wanted → has_member (eligible wanted) ≡ true
   found_has true shape wanted rest e later h = let same : shape ≡ wanted = cc in ap (λ s. has_member (eligible s)) (sym same) ∙ e

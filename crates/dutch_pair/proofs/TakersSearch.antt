@@ -1,12 +1,9 @@
 -- The steps of the search for the pairs of lower players, some of whom are paired with downfloaters (C.04.3 C.4).
-use Rattle.std.proofs.Common.{◌≡◌, ℕ, suc, ◌+◌, ◌-◌, ◌<◌, Bool, true, false, ◌&&◌, ◌||◌, List, [], ◌∷◌, ◌++◌, take, drop, length, sym, ap, ◌∙◌, subst, arith, length-append}
-use Rattle.std.specs.Prelude.{slice_index, Result}
-use Rattle.std.proofs.lemmas.List.{length-drop, length-take}
+use Rattle.std.proofs.Common.{◌≡◌, ℕ, suc, ◌-◌, Bool, true, false, ◌&&◌, ◌||◌, List, [], ◌∷◌, length, sym, ap, ◌∙◌, arith}
 use Rattle.std.proofs.Math.Bool.{and-true}
 use Rattle.dutch_player.specs.Facts.{Facts}
 use Rattle.dutch_pair.specs.Completion.{some_partner, left_over}
 use Rattle.dutch_pair.specs.Seats.{seats_meet, seats_may_be_left}
-use Rattle.dutch_pair.specs.Stops.{Decides}
 use Rattle.dutch_pair.specs.Takers.{takes_one, meets_bracket, can_take_out}
 
 module _ (facts : Facts) (seats : List ℕ) (bye : Bool) (k : ℕ) where
@@ -43,15 +40,3 @@ module _ (facts : Facts) (seats : List ℕ) (bye : Bool) (k : ℕ) where
   pub first_left : (players : List ℕ) (a : ℕ) (later : List ℕ) → players ≡ a ∷ later → paired a later ≡ false → taken a later ≡ false
       → can_take_out facts seats bye (length players) k players ≡ left a later
   first_left players a later e h g = whole_is players a later e ∙ ap (λ t. t || (taken a later || left a later)) h ∙ ap (λ t. t || left a later) g
-
-  -- the first player meets the one at a place, and what holds of the others holds of both
-  pub with_partner : {E : Type 0} (r : Result Bool E) (a place : ℕ) (later others : List ℕ) (stopped : Type 0) → place < length later
-      → others ≡ take place later ++ drop (place + 1) later → seats_meet facts a (slice_index later place) ≡ true
-      → Decides r (can_take_out facts seats bye (length others) k others) stopped
-      → Decides r (seats_meet facts a (slice_index later place) && can_take_out facts seats bye (length later - 1) k (take place later ++ drop (place + 1) later)) stopped
-  with_partner r a place later others stopped inside e met h =
-      let count : length others ≡ length later - 1 =
-      (let parts = length-append (take place later) (drop (place + 1) later) in
-      omega (arith, ap length e, parts, length-take place later, length-drop (place + 1) later, inside)) in
-      subst (λ t. Decides r (t && can_take_out facts seats bye (length later - 1) k (take place later ++ drop (place + 1) later)) stopped) (sym met)
-      (subst (λ xs. Decides r (can_take_out facts seats bye (length later - 1) k xs) stopped) e (subst (λ n. Decides r (can_take_out facts seats bye n k others) stopped) count h))

@@ -1,5 +1,5 @@
 -- What the answer about completion tells by the test.
-use Rattle.std.proofs.Common.{◌≡◌, ℕ, Bool, true, false, not, ◌||◌, List, ◌++◌, map, refl, subst}
+use Rattle.std.proofs.Common.{◌≡◌, ℕ, Bool, true, false, not, ◌||◌, List, ◌++◌, map, subst}
 use Rattle.std.proofs.lemmas.Bool.{false_from_ne_true}
 use Rattle.dutch_order.specs.Arrangements.{Arrangement, down}
 use Rattle.dutch_player.specs.Facts.{Facts}

@@ -2,7 +2,6 @@
 use Rattle.std.proofs.Common.{◌≡◌, ℕ, zero, suc, ◌+◌, ◌-◌, ◌<◌, Bool, ◌&&◌, List, [], ◌∷◌, ◌++◌, length, take, drop, get_or, refl, sym, ◌∙◌, ap, arith, add-one}
 use Rattle.std.specs.Prelude.{slice_index, swap}
 use Rattle.std.specs.List.{slice_set, slice_index_or}
-use Rattle.std.proofs.lemmas.List.{append-nil, drop_all, take_all, take_more}
 
 -- the one at a place in front, and then the others
 abbrev pub brought : ℕ → List ℕ → List ℕ
@@ -37,14 +36,6 @@ swap-turned (suc k) (x ∷ xs) lt =
 
 pub turned-more : (k : ℕ) (xs : List ℕ) → brought k xs ≡ turned (k + 1) xs
 turned-more k xs = ap (λ j. turned j xs) (sym (add-one k))
-
-pub turned-back : (k : ℕ) (xs : List ℕ) → k ≡ length xs → drop 1 (turned k xs) ++ take 1 (turned k xs) ≡ xs
-turned-back zero [] e = refl
-turned-back zero (x ∷ xs) e = absurd (omega arith)
-turned-back (suc k) xs e =
-    ap (λ ys. (take k xs ++ ys) ++ slice_index xs k ∷ []) (drop_all (k + 1) xs (omega arith))
-    ∙ ap (λ ys. ys ++ slice_index xs k ∷ []) (append-nil (take k xs))
-    ∙ sym (take_more xs k 0 (omega arith)) ∙ take_all (k + 1) xs (omega arith)
 
 -- what is asked of the first of a list, and of the others, where he was brought to the front
 pub of_brought : (meets : ℕ → Bool) (cover : ℕ → List ℕ → Bool) (k : ℕ) (xs ys : List ℕ) → ys ≡ brought k xs → length ys ≡ length xs

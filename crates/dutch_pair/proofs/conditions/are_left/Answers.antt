@@ -1,6 +1,5 @@
 use Rattle.std.proofs.Common.{arith, ◌≡◌, ℕ, zero, suc, ◌+◌, ◌-◌, ◌<◌, ◌≤◌, inl, inr, true, false, nat_le, List, [], ◌∷◌, length, slice_index, refl, sym, ◌∙◌, subst}
 use Rattle.std.proofs.lemmas.Bool.{and_from, cases_lt, le-leb}
-use Rattle.dutch_pair.specs.NextBracket.{AreLeft}
 use Rattle.dutch_pair.specs.Reached.{is_number}
 use Rattle.dutch_pair.specs.Seated.{AllNumbers}
 use Rattle.dutch_pair.proofs.conditions.are_left.Goals.{then-number-last-via-then-number-last, then-number-last-via-else-number-last+then-not-has}

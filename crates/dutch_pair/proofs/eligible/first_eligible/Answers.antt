@@ -1,13 +1,11 @@
 -- One candidate more that cannot be chosen, one that can, or the end of all candidates.
 use Rattle.std.proofs.Common.{◌≡◌, ap, refl, ◌∙◌, filter}
-use Rattle.dutch_order.specs.Arrangements.{Frame, down}
 use Rattle.dutch_pair.specs.declared.reached.ByNumber.{ByNumber}
-use Rattle.dutch_pair.specs.Shapes.{has_member}
 use Rattle.dutch_pair.specs.Round.{candidates_of}
 use Rattle.dutch_pair.specs.Eligible.{can_be_chosen}
 use Rattle.dutch_pair.proofs.FlatBrackets.{listed_as}
-use Rattle.dutch_pair.proofs.EligibleLemmas.{eligible_is, passes_unfit, first_fit, has_none}
-use Rattle.dutch_order.proofs.Spending.{spends-none, spends-more}
+use Rattle.dutch_pair.proofs.EligibleLemmas.{eligible_is}
+use Rattle.dutch_order.proofs.Spending.{spends-none}
 use Rattle.dutch_pair.proofs.eligible.first_eligible.Goals as goal
 
 pub loop-budget-init : goal.loop-budget-init
