@@ -22,7 +22,7 @@ use crate::greatest::Lister;
 use crate::outlook::Outlook;
 use crate::pair_facts::PairFacts;
 use crate::quality::{Quality, Room};
-use crate::reached::{ByNumber, Reached};
+use crate::reached::{ByNumber, Reached, Seats};
 use crate::remembered::{Judge, judge_candidate, look_below};
 use crate::shape::shape_of;
 use crate::skipper::{Pass, Skipper, known_with};
@@ -98,7 +98,7 @@ fn consider(
     if is_idle(&judge.room.quality, &pass.aim, kept) {
         return true;
     }
-    match can_be_chosen(pass.context, candidate, budget) {
+    match can_be_chosen(pass.context, candidate, &mut judge.left, budget) {
         Answer::Yes => {
             let quality = take(&mut judge.room.quality);
             let candidate = candidate.copied();
@@ -229,6 +229,7 @@ pub(crate) fn best_of<'a>(
     let mut judge = Judge {
         look: look_below(alloc, context)?,
         room: Room::default(),
+        left: Seats::new(),
     };
     let Some(pairs) = PairFacts::read(alloc, context, budget)? else {
         return Ok(Step::Undecided);

@@ -14,7 +14,7 @@ use crate::completion::{Answer, completes};
 use crate::context::Context;
 use crate::greatest::Lister;
 use crate::reached::{BracketKind, ByNumber, Reached, Seats, push_all};
-use crate::seated::seats_of;
+use crate::seated::push_seats;
 use crate::seats::seats;
 use dutch_order::{Budget, Candidate, Shape, Step};
 use dutch_player::Field;
@@ -28,15 +28,15 @@ impl BracketKind {
     }
 }
 
-/// The seats of numbers of a bracket, and then lower ones.
-fn seats_with_lower(reached: &Reached, numbers: &[u16], lower: &[u16]) -> Seats
+/// Fills a list with the seats of numbers of a bracket, and then lower ones.
+fn fill_with_lower(reached: &Reached, numbers: &[u16], lower: &[u16], seats: &mut Seats)
     requires numbers { AllNumbers reached.now.seats numbers.now }
     requires few { length numbers.now + length lower.now ≤ LIMIT }
-    ensures { result.items ≡ map (seat_of reached.now.seats) numbers.now ++ lower.now }
+    ensures { seats.new.items ≡ map (seat_of reached.now.seats) numbers.now ++ lower.now }
 {
-    let mut seats = seats_of(reached.seats(), numbers);
-    push_all(lower, &mut seats);
-    seats
+    seats.clear();
+    push_seats(reached.seats(), numbers, seats);
+    push_all(lower, seats);
 }
 
 /// Whether seats can be paired out (A.9).
@@ -49,10 +49,11 @@ pub(crate) fn can_complete(field: &Field, players: &[u16], budget: &mut Budget) 
     completes(players, &seats(field), budget)
 }
 
-/// Whether those whom a candidate leaves over can be paired out with all lower players (A.9).
+/// Whether those whom a candidate leaves over can be paired out with all lower players (A.9). The list is filled anew with them all.
 pub(crate) fn leaves_completable(
     context: &Context<'_>,
     candidate: &Candidate,
+    left: &mut Seats,
     budget: &mut Budget,
 ) -> Answer
     requires numbers { AllNumbers context.now.reached.seats candidate.now.down }
@@ -61,16 +62,17 @@ pub(crate) fn leaves_completable(
     ensures answer { Tells result (completable context.now.facts (map (seat_of context.now.reached.seats) candidate.now.down ++ context.now.lower)) (budget.new.used ≡ budget.new.limit) }
     ensures spends { Spends budget.old budget.new }
 {
-    let players = seats_with_lower(context.reached(), candidate.down(), context.lower());
-    can_complete(context.field(), &players, budget)
+    fill_with_lower(context.reached(), candidate.down(), context.lower(), left);
+    can_complete(context.field(), left, budget)
 }
 
 /// Whether a candidate can be chosen: in the penultimate bracket only if those whom it leaves over can be paired
-/// out with all lower players.
+/// out with all lower players, for whom a list is lent.
 #[tactic(auto, using(crate::proofs::DownLemmas::down_numbers, crate::proofs::DownLemmas::down_few))]
 pub(crate) fn can_be_chosen(
     context: &Context<'_>,
     candidate: &Candidate,
+    left: &mut Seats,
     budget: &mut Budget,
 ) -> Answer
     requires left { candidate.now.down ≡ down (frame_of context.now.facts context.now.reached) candidate.now.lists }
@@ -81,7 +83,7 @@ pub(crate) fn can_be_chosen(
     if !context.reached().kind().is_penultimate() {
         return Answer::Yes;
     }
-    leaves_completable(context, candidate, budget)
+    leaves_completable(context, candidate, left, budget)
 }
 
 /// Draws the first candidate of a shape that can be chosen.
@@ -103,13 +105,14 @@ pub(crate) fn first_eligible(
     ensures spends { Spends budget.old budget.new }
 {
     lister.listing.restart(shape);
+    let mut left = Seats::new();
     loop {
         match lister.listing.put_next(&mut lister.drawn, budget) {
             Step::Found(()) => {}
             Step::End => return Step::End,
             Step::Undecided => return Step::Undecided,
         }
-        match can_be_chosen(context, &lister.drawn, budget) {
+        match can_be_chosen(context, &lister.drawn, &mut left, budget) {
             Answer::Yes => return Step::Found(()),
             Answer::No => {}
             Answer::Undecided => return Step::Undecided,

@@ -215,11 +215,13 @@ pub(crate) fn look_below<'a>(
     }
 }
 
-/// What tells the quality of a bracket's candidates: the look-ahead, in an ordinary bracket, and room to work it out.
+/// What tells the quality of a bracket's candidates: the look-ahead, in an ordinary bracket, and room to work it out; and a list for
+/// those whom a candidate leaves over with all lower players, filled anew for each that is asked about.
 #[derive(Drop)]
 pub(crate) struct Judge<'a> {
     pub(crate) look: Option<LookAhead<'a>>,
     pub(crate) room: Room,
+    pub(crate) left: Seats,
 }
 
 /// Fills the quality of a candidate above all lower seats, by the look-ahead of its bracket: no where the budget's limit was reached

@@ -128,7 +128,7 @@ pub(crate) fn push_pairs(
 }
 
 /// Adds the seats of numbers.
-fn push_seats(seats: &[u16], numbers: &[u16], own: &mut Numbers)
+pub(crate) fn push_seats(seats: &[u16], numbers: &[u16], own: &mut Numbers)
     requires inside { AllNumbers seats.now numbers.now }
     requires room { array_vec_len own.old + length numbers.now ≤ LIMIT }
     ensures { own.new.items ≡ own.old.items ++ map (seat_of seats.now) numbers.now }

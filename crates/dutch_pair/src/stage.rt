@@ -17,7 +17,7 @@ use crate::context::Context;
 use crate::eligible::leaves_completable;
 use crate::fault::PairFault;
 use crate::quality::Quality;
-use crate::reached::{BracketKind, Reached};
+use crate::reached::{BracketKind, Reached, Seats};
 use crate::seated::{Pair, by_seats};
 use dutch_order::{Budget, Candidate, Shape};
 use dutch_player::Field;
@@ -45,7 +45,7 @@ fn is_again(context: &Context<'_>, candidate: &Candidate, budget: &mut Budget) -
     ensures spends { Spends budget.old budget.new }
 {
     let complete = match context.reached().kind() {
-        BracketKind::Ordinary => leaves_completable(context, candidate, budget),
+        BracketKind::Ordinary => leaves_completable(context, candidate, &mut Seats::new(), budget),
         BracketKind::Last | BracketKind::Penultimate | BracketKind::Collapsed => return Some(false),
     };
     match complete {

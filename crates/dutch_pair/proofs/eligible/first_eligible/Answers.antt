@@ -8,8 +8,8 @@ use Rattle.dutch_pair.proofs.EligibleLemmas.{eligible_is}
 use Rattle.dutch_order.proofs.Spending.{spends-none}
 use Rattle.dutch_pair.proofs.eligible.first_eligible.Goals as goal
 
-pub loop-budget-init : goal.loop-budget-init
-loop-budget-init c =
+pub loop-left-init : goal.loop-left-init
+loop-left-init c =
     let facts = c.args.context.now.facts in
     let reached = c.args.context.now.reached in
     let lower = c.args.context.now.lower in

@@ -5,11 +5,11 @@ use Rattle.dutch_pair.specs.Eligible.{Lists, can_be_chosen}
 use Rattle.dutch_order.specs.Steps.{Spends}
 use Rattle.dutch_pair.proofs.eligible.first_eligible.Given as goal
 
-abbrev pub decreases-loop-budget : goal.decreases-loop-budget
-decreases-loop-budget l = length l.lister.listing.coming
+abbrev pub decreases-loop-left : goal.decreases-loop-left
+decreases-loop-left l = length l.lister.listing.coming
 
-abbrev pub invariant-loop-budget : goal.invariant-loop-budget
-invariant-loop-budget l = record {
+abbrev pub invariant-loop-left : goal.invariant-loop-left
+invariant-loop-left l = record {
   same : eligible l.context.facts l.context.reached l.context.lower l.fn.shape ≡ filter (can_be_chosen l.context.facts l.context.reached l.context.lower) l.lister.listing.coming;
   lists : Lists l.context.facts l.context.reached l.lister.listing;
   spends : Spends l.initial.budget l.budget;
