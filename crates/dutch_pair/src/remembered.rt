@@ -18,7 +18,7 @@ use crate::context::Context;
 use crate::fault::PairFault;
 use crate::lookahead::value_below;
 use crate::quality::{NextValue, Room, fill_quality};
-use crate::reached::{BracketKind, Reached, Seats, push_all};
+use crate::reached::{BracketKind, Reached, Seats, copied, push_all};
 use dutch_order::{Budget, Candidate, LIMIT, Numbers};
 use dutch_player::Field;
 use lru::LruCache;
@@ -48,6 +48,8 @@ pub struct LookAhead<'a> {
     reached: &'a Reached,
     next: Seats,
     values: Values,
+    // the downfloaters who are asked about, filled anew for each question
+    key: Numbers,
 }
 
 impl<'a> Model for LookAhead<'a> {
@@ -60,14 +62,13 @@ impl<'a> Model for LookAhead<'a> {
     ghost invariant = { λ a. AreValues a.field.now a.reached.now a.next.items a.values };
 }
 
-/// Downfloaters as a key.
-fn key_of(down: &[u16]) -> Numbers
+/// Fills a key with downfloaters.
+fn fill_key(down: &[u16], key: &mut Numbers)
     requires { length down.now ≤ LIMIT }
-    ensures { result.items ≡ down.now }
+    ensures { key.new.items ≡ down.now }
 {
-    let mut key = Numbers::new();
-    push_all(down, &mut key);
-    key
+    key.clear();
+    push_all(down, key);
 }
 
 /// An empty cache.
@@ -129,21 +130,23 @@ impl<'a> LookAhead<'a> {
             reached,
             next: seats,
             values: no_values(alloc)?,
+            key: Numbers::new(),
         })
     }
 
     /// What the next bracket can be for downfloaters for whom no value is kept.
-    fn looked_for(&mut self, down: Numbers, budget: &mut Budget) -> Look
-        requires unknown { is_kept down.items self.old.kept ≡ false }
-        requires down { AreLeft self.old.reached down.items }
+    fn looked_for(&mut self, down: &[u16], budget: &mut Budget) -> Look
+        requires unknown { is_kept down.now self.old.kept ≡ false }
+        requires down { AreLeft self.old.reached down.now }
         requires within { budget.old.used ≤ budget.old.limit }
-        ensures answer { IsLook (value_below self.old.facts self.old.reached self.old.next down.items) (budget.new.used ≡ budget.new.limit) result }
-        ensures kept { IsKeptAfter down.items self.old self.new result }
+        ensures answer { IsLook (value_below self.old.facts self.old.reached self.old.next down.now) (budget.new.used ≡ budget.new.limit) result }
+        ensures kept { IsKeptAfter down.now self.old self.new result }
         ensures spends { Spends budget.old budget.new }
     {
-        match value_below(self.field, self.reached, &down, &self.next, budget) {
+        match value_below(self.field, self.reached, down, &self.next, budget) {
             Some(value) => {
-                keep(&mut self.values, down, value.copied());
+                let key = copied(down);
+                keep(&mut self.values, key, value.copied());
                 told(value)
             }
             None => Look::Undecided,
@@ -162,10 +165,10 @@ impl<'a> LookAhead<'a> {
         ensures spends { Spends budget.old budget.new }
     {
         let _field = self.field;
-        let key = key_of(down);
-        match recalled(&mut self.values, &key) {
+        fill_key(down, &mut self.key);
+        match recalled(&mut self.values, &self.key) {
             Some(value) => told(value),
-            None => self.looked_for(key, budget),
+            None => self.looked_for(down, budget),
         }
     }
 

@@ -1,40 +1,49 @@
 -- A value that was looked for is kept, or memory was refused.
-use Rattle.std.proofs.Common.{◌≡◌, false, inl, inr, sym, ap, ◌∙◌, subst}
-use Rattle.dutch_pair.specs.Remembered.{AreValues, value_below, is_kept, after_use, lists_kept}
+use Rattle.std.proofs.Common.{◌≡◌, false, inl, inr, sym, ap, ◌∙◌, subst, arith}
+use Rattle.dutch_pair.specs.NextBracket.{AreLeft}
+use Rattle.dutch_pair.specs.Remembered.{AreValues, value_below, is_kept, with_used, after_use, lists_kept}
+use Rattle.dutch_pair.proofs.NextBrackets.{down_short}
 use Rattle.dutch_pair.proofs.KeptValues.{look_is, kept_is, put_values, put_kept}
 use Rattle.dutch_pair.proofs.remembered.LookAhead.looked_for.Goals as goal
 
+pub copied-key-requires : goal.copied-key-requires
+copied-key-requires c =
+    let left : AreLeft c.self.inside.reached.now c.args.down.now = subst (λ r. AreLeft r.reached c.args.down.now) (sym c.self.view_is) c.requires.down in
+    let short = down_short c.self.inside.field.now c.self.inside.reached.now c.args.down.now c.self.inside.next.items c.self.invariant.bracket left c.self.invariant.next_below in
+    omega (arith, short, c.self.invariant.next_below.few)
+
 pub invariant_of-self : goal.invariant_of-self
 invariant_of-self c =
-    let right : c.in-Some.value ≡ value_below c.self.inside.field.now c.self.inside.reached.now c.self.inside.next.items c.args.down.items =
-    c.in-Some.ensures.answer ∙ ap (λ l. value_below c.self.inside.field.now c.self.inside.reached.now c.deref-2.result.now l) c.deref.ensures.0
-    ∙ ap (λ l. value_below c.self.inside.field.now c.self.inside.reached.now l c.args.down.items) c.deref-2.ensures.0 in
+    let right : c.in-Some.value ≡ value_below c.self.inside.field.now c.self.inside.reached.now c.self.inside.next.items c.args.down.now =
+    c.in-Some.ensures.answer ∙ ap (λ l. value_below c.self.inside.field.now c.self.inside.reached.now l c.args.down.now) c.deref.ensures.0 in
     elim c.keep.ensures [
       | inl put ↦
           subst (AreValues c.self.inside.field.now c.self.inside.reached.now c.self.inside.next.items) (sym put)
-          (put_values c.args.down c.self.inside.field.now c.self.inside.reached.now c.self.inside.next.items c.self.inside.values c.self.invariant c.copied.result (c.copied.ensures ∙ right))
+          (put_values c.copied-key.result c.self.inside.field.now c.self.inside.reached.now c.self.inside.next.items c.self.inside.values c.self.invariant c.copied.result (c.copied.ensures ∙ right
+          ∙ ap (λ l. value_below c.self.inside.field.now c.self.inside.reached.now c.self.inside.next.items l) (sym c.copied-key.ensures)))
       | inr same ↦ subst (AreValues c.self.inside.field.now c.self.inside.reached.now c.self.inside.next.items) (sym same) c.self.invariant
     ]
 
 pub returns-in-Some-clause-answer : goal.returns-in-Some-clause-answer
 returns-in-Some-clause-answer c =
-    let right : c.in-Some.value ≡ value_below c.self.inside.field.now c.self.inside.reached.now c.self.inside.next.items c.args.down.items =
-    c.in-Some.ensures.answer ∙ ap (λ l. value_below c.self.inside.field.now c.self.inside.reached.now c.deref-2.result.now l) c.deref.ensures.0
-    ∙ ap (λ l. value_below c.self.inside.field.now c.self.inside.reached.now l c.args.down.items) c.deref-2.ensures.0 in
-    look_is c.in-Some.value (value_below c.args.self.now.facts c.args.self.now.reached c.args.self.now.next c.args.down.items)
+    let right : c.in-Some.value ≡ value_below c.self.inside.field.now c.self.inside.reached.now c.self.inside.next.items c.args.down.now =
+    c.in-Some.ensures.answer ∙ ap (λ l. value_below c.self.inside.field.now c.self.inside.reached.now l c.args.down.now) c.deref.ensures.0 in
+    look_is c.in-Some.value (value_below c.args.self.now.facts c.args.self.now.reached c.args.self.now.next c.args.down.now)
     (c.value_below.new.budget.used ≡ c.value_below.new.budget.limit) c.told.result c.told.ensures
-    (right ∙ ap (λ r. value_below r.facts r.reached r.next c.args.down.items) c.self.view_is)
+    (right ∙ ap (λ r. value_below r.facts r.reached r.next c.args.down.now) c.self.view_is)
 
 pub returns-in-Some-clause-kept : goal.returns-in-Some-clause-kept
 returns-in-Some-clause-kept c =
-    let unknown : is_kept c.args.down.items (lists_kept c.self.inside.values.entries) ≡ false = ap (λ r. is_kept c.args.down.items r.kept) c.self.view_is ∙ c.requires.unknown in
-    kept_is c.in-Some.value c.args.down.items c.args.self.now _ c.told.result c.told.ensures
+    let unknown : is_kept c.args.down.now (lists_kept c.self.inside.values.entries) ≡ false = ap (λ r. is_kept c.args.down.now r.kept) c.self.view_is ∙ c.requires.unknown in
+    kept_is c.in-Some.value c.args.down.now c.args.self.now _ c.told.result c.told.ensures
     (elim c.keep.ensures [
       | inl put ↦ inl (
           ap (λ v. record { facts = c.self.inside.field.now; reached = c.self.inside.reached.now; next = c.self.inside.next.items; kept = lists_kept v.entries }) put
           ∙ ap (λ l. record { facts = c.self.inside.field.now; reached = c.self.inside.reached.now; next = c.self.inside.next.items; kept = l })
-          (put_kept c.args.down c.self.inside.values c.copied.result c.self.invariant.most unknown)
-          ∙ ap (λ r. after_use c.args.down.items r) c.self.view_is)
+          (put_kept c.copied-key.result c.self.inside.values c.copied.result c.self.invariant.most
+          (ap (λ l. is_kept l (lists_kept c.self.inside.values.entries)) c.copied-key.ensures ∙ unknown)
+          ∙ ap (λ l. with_used l (lists_kept c.self.inside.values.entries)) c.copied-key.ensures)
+          ∙ ap (λ r. after_use c.args.down.now r) c.self.view_is)
       | inr same ↦ inr (
         c.requires.unknown,
         ap (λ v. record { facts = c.self.inside.field.now; reached = c.self.inside.reached.now; next = c.self.inside.next.items; kept = lists_kept v.entries }) same ∙ c.self.view_is,
