@@ -4,7 +4,7 @@ use Rattle.std.specs.List.{flat_map}
 use Rattle.std.specs.Fmt.{decimal}
 use Rattle.dutch_order.specs.Arrangements.{Arrangement}
 use Rattle.dutch_order.specs.Cursors.{cursor_text}
-use Rattle.dutch_pair.specs.Items.{article, first_difference}
+use Rattle.dutch_pair.specs.Items.{first_difference}
 use Rattle.dutch_pair.specs.Quality.{Quality}
 use Rattle.dutch_pair.specs.QualityIn.{quality_in}
 use Rattle.dutch_pair.specs.declared.instead.Instead.{Instead}
@@ -12,6 +12,7 @@ use Rattle.dutch_pair.specs.declared.instead.Instead.TheVariants.{Best, NoneElig
 use Rattle.dutch_pair.specs.declared.items.Item.{Item}
 use Rattle.dutch_pair.specs.declared.items.Item.TheVariants.{Psd, NextBracket, WideDifferences, ThirdColours, MissedPreferences, MissedStrong, DownAgain, UpAgain, DownAgainBefore, UpAgainBefore, DownAgainBy, UpAgainBy, DownAgainBeforeBy, UpAgainBeforeBy}
 use Rattle.dutch_pair.specs.declared.stage.Stage.{Stage}
+use Rattle.arbiter.specs.ItemTexts.{article_text}
 use Rattle.arbiter.specs.Statuses.{Answer, done, undecided}
 use Rattle.arbiter.specs.Texts.{halves_text}
 use Rattle.arbiter.specs.declared.obstacle.Obstacle.{Obstacle}
@@ -61,7 +62,7 @@ value_text UpAgainBeforeBy mine theirs = points_text mine.up_again_before_by
 -- how a quality stands to the chosen one: the first item in which they differ, and its value in both; or equal, and so behind
 abbrev pub against_text : Quality → Quality → Option Item → List ℕ
 against_text mine chosen (Some item) =
-    codes " C." ++ (decimal (article item) ++ (codes " " ++ (value_text item mine chosen ++ (codes " " ++ value_text item chosen mine))))
+    codes " " ++ (article_text item ++ (codes " " ++ (value_text item mine chosen ++ (codes " " ++ value_text item chosen mine))))
 against_text mine chosen None = codes " behind"
 
 -- a candidate, and how its quality stands to the chosen one's

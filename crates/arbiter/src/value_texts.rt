@@ -2,11 +2,11 @@
 ghost use Rattle.std.specs.Prelude.{◌≡◌, ◌++◌, IfOk, OnOk, codes, string_bytes};
 ghost use Rattle.std.specs.Fmt.{decimal};
 ghost use Rattle.std.specs.List.{flat_map};
-ghost use Rattle.dutch_pair.specs.Items.{article};
 ghost use Rattle.dutch_pair.specs.QualityIn.{quality_in};
 ghost use Rattle.arbiter.specs.InsteadTexts.{against_text, candidate_text, next_text, points_text, value_text};
 ghost use Rattle.arbiter.specs.Texts.{halves_text};
 
+use crate::item_lines::article;
 use crate::texts::halves;
 use dutch_order::Candidate;
 use dutch_pair::{Item, Quality};
@@ -75,28 +75,6 @@ fn value(alloc: Global, item: Item, mine: &Quality, theirs: &Quality) -> Result<
     }
 }
 
-// The article of an item: C.6 to C.19.
-fn article(item: Item) -> u16
-    ensures { result ≡ article item }
-{
-    match item {
-        Item::Psd => 6,
-        Item::NextBracket => 7,
-        Item::WideDifferences => 8,
-        Item::ThirdColours => 9,
-        Item::MissedPreferences => 10,
-        Item::MissedStrong => 11,
-        Item::DownAgain => 12,
-        Item::UpAgain => 13,
-        Item::DownAgainBefore => 14,
-        Item::UpAgainBefore => 15,
-        Item::DownAgainBy => 16,
-        Item::UpAgainBy => 17,
-        Item::DownAgainBeforeBy => 18,
-        Item::UpAgainBeforeBy => 19,
-    }
-}
-
 // How a quality stands to the chosen one: the first item in which they differ, and its value in both; or equal, and so behind.
 fn against(
     alloc: Global,
@@ -115,7 +93,7 @@ fn against(
         value(alloc, item, chosen, mine)?,
     );
     let (own, other) = (own.as_str(), other.as_str());
-    format!(in alloc; " C.{article} {own} {other}")
+    format!(in alloc; " {article} {own} {other}")
 }
 
 /// A candidate, and how its quality stands to the chosen one's: the first item in which they differ, and its value in both.
