@@ -2,14 +2,14 @@
 //
 // Candidates of a bracket that leave over the same players have one value, so it is looked for once. The values of the last 64 lists
 // that were used are kept, in a cache that is made once for a bracket. Where it cannot grow, the value is looked for each time.
-ghost use Rattle.std.specs.Prelude.{◌≡◌, ◌≤◌, true, false, [], length, map, take, IfOk, ◌⊎◌};
+ghost use Rattle.std.specs.Prelude.{◌≡◌, ◌≤◌, true, false, [], length, map, take, IfOk, ◌⊎◌, if◌then◌else◌, Some, None};
 ghost use Rattle.std.specs.Map.{lookup};
 ghost use Rattle.lru.specs.LruCache.{lru_cache, promoted, put_entries};
 ghost use Rattle.dutch_pair.specs.declared.reached.BracketKind.TheVariants.{Ordinary};
 ghost use Rattle.std.specs.Option.{MatchOption};
 ghost use Rattle.dutch_pair.specs.Reached.{IsOf};
 ghost use Rattle.dutch_pair.specs.NextBracket.{IsNext, IsOfBracket, AreLeft, quality};
-ghost use Rattle.dutch_pair.specs.QualityIn.{quality_in};
+ghost use Rattle.dutch_pair.specs.QualityIn.{quality_in, next_in};
 ghost use Rattle.dutch_pair.specs.Round.{quality_of};
 ghost use Rattle.dutch_pair.specs.Remembered.{value_below, is_kept, is_key, IsLook, IsKeptAfter, LooksOn, LooksBelow};
 ghost use Rattle.dutch_order.specs.Steps.{Spends};
@@ -17,7 +17,7 @@ ghost use Rattle.dutch_order.specs.Steps.{Spends};
 use crate::context::Context;
 use crate::fault::PairFault;
 use crate::lookahead::value_below;
-use crate::quality::{NextValue, Room, fill_quality};
+use crate::quality::{NextValue, Quality, Room, fill_quality};
 use crate::reached::{BracketKind, Reached, Seats, copied, push_all};
 use dutch_order::{Budget, Candidate, LIMIT, Numbers};
 use dutch_player::Field;
@@ -88,6 +88,19 @@ fn recalled(values: &mut Values, down: &Numbers) -> Option<NextValue>
         Some(value) => Some(value.copied()),
         None => None,
     }
+}
+
+/// Puts the value that is kept for downfloaters, who are then the last used, into a quality, with no copy between: no where none is
+/// kept.
+fn put_recalled(values: &mut Values, down: &Numbers, quality: &mut Quality) -> bool
+    ensures put { lookup (is_key down.now) values.old.entries ≡ (if result then Some (next_in (quality_in quality.new)) else None) }
+    ensures kept { values.new ≡ lru_cache (promoted (is_key down.now) values.old.entries) values.old.cap }
+{
+    let Some(value) = values.get(down) else {
+        return false;
+    };
+    quality.put_next(value.pairs, &value.psd);
+    true
 }
 
 /// Keeps a value for downfloaters. Where memory is refused nothing changes.
@@ -172,6 +185,17 @@ impl<'a> LookAhead<'a> {
         }
     }
 
+    /// Puts the value that is kept for downfloaters into a quality: no where none is kept.
+    fn put_kept(&mut self, down: &[u16], quality: &mut Quality) -> bool
+        requires { AreLeft self.old.reached down.now }
+        ensures put { result ≡ true → next_in (quality_in quality.new) ≡ value_below self.old.facts self.old.reached self.old.next down.now }
+        ensures none { result ≡ false → is_kept down.now self.new.kept ≡ false }
+        ensures looks_on { LooksOn self.old self.new }
+    {
+        fill_key(down, &mut self.key);
+        put_recalled(&mut self.values, &self.key, quality)
+    }
+
     /// Fills the quality of a candidate of the bracket: no where the budget's limit was reached first.
     #[tactic(auto, using(crate::proofs::NextBrackets::left_by_candidate))]
     fn fill_quality(&mut self, candidate: &Candidate, room: &mut Room, budget: &mut Budget) -> bool
@@ -182,15 +206,15 @@ impl<'a> LookAhead<'a> {
         ensures looks_on { LooksOn self.old self.new }
         ensures spends { Spends budget.old budget.new }
     {
-        let (field, reached) = (self.field, self.reached);
-        match self.value(candidate.down(), budget) {
-            Look::Value { pairs, psd } => {
-                room.quality.put_next(pairs, &psd);
-                fill_quality(field, reached.seats(), candidate, room);
-                true
+        let (field, reached, down) = (self.field, self.reached, candidate.down());
+        if !self.put_kept(down, &mut room.quality) {
+            match self.looked_for(down, budget) {
+                Look::Value { pairs, psd } => room.quality.put_next(pairs, &psd),
+                Look::Undecided => return false,
             }
-            Look::Undecided => false,
         }
+        fill_quality(field, reached.seats(), candidate, room);
+        true
     }
 
     /// How many values are kept.
