@@ -1,9 +1,8 @@
 -- What is chosen in a bracket leaves over seats of the bracket, each once; two of them who may meet, not both moved down, would make
 -- one pair more, so there are no such two where the choice has the most pairs (C.04.3 C.5).
-use Rattle.std.proofs.Common.{◌≡◌, ℕ, ◌-◌, ◌<◌, ◌≤◌, Bool, true, false, not, ◌&&◌, ◌||◌, ◌==◌, nat_le, cond, List, [], ◌∷◌, ◌++◌, length, refl, sym, ap, ◌∙◌, arith, subst, inl, inr, Some, length-append}
+use Rattle.std.proofs.Common.{◌≡◌, ℕ, ◌<◌, Bool, true, false, not, ◌&&◌, ◌||◌, ◌==◌, cond, List, [], ◌∷◌, ◌++◌, length, refl, sym, ap, ◌∙◌, arith, subst, inl, inr, Some}
 use Rattle.std.specs.List.{filter}
-use Rattle.std.proofs.lemmas.List.{length-map}
-use Rattle.std.proofs.lemmas.Bool.{cases_lt, cases_order, eq-eqb, ne_eqb, and_parts, and_from, not_from_false, not-true, le-leb, true≢false}
+use Rattle.std.proofs.lemmas.Bool.{cases_lt, cases_order, eq-eqb, ne_eqb, and_parts, and_from, not_from_false, not-true, true≢false}
 use Rattle.dutch_order.specs.declared.bracket.Shape.{Shape}
 use Rattle.dutch_order.specs.Arrangements.{Arrangement, Frame, arrangements, down, is_legal, paired, players_of}
 use Rattle.dutch_order.specs.Choices.{is_member}
@@ -18,11 +17,11 @@ use Rattle.dutch_player.specs.Meetings.{may_meet}
 use Rattle.dutch_pair.specs.declared.reached.BracketKind.{BracketKind}
 use Rattle.dutch_pair.specs.Reached.{Reached, ends_round, frame_of, is_number, numbers_meet, number_may_be_left}
 use Rattle.dutch_pair.specs.Round.{Choice, bracket, candidates_of, choice, completable, downfloaters, eligible, is_penultimate}
-use Rattle.dutch_pair.specs.Seated.{seat_of, score_at}
+use Rattle.dutch_pair.specs.Seated.{seat_of}
 use Rattle.dutch_pair.specs.Seats.{is_seat, seats_meet}
 use Rattle.dutch_pair.specs.Shapes.{has_member}
 use Rattle.dutch_pair.proofs.ArrangementParts.{numbers_rise}
-use Rattle.dutch_pair.proofs.FinalBrackets.{get_front, get_in, get_place, place_of}
+use Rattle.dutch_pair.proofs.FinalBrackets.{is_number_true, low_seat, same_number, seat_in, within}
 use Rattle.dutch_pair.proofs.MateLists.{IsNumber, has_kept, twice_map}
 use Rattle.dutch_pair.proofs.OnePairMore.{Larger, one_larger}
 use Rattle.dutch_pair.specs.SeatLaws.{seats_meet_sym}
@@ -82,26 +81,6 @@ module _ (facts : Facts) (number : ℕ) (kind : BracketKind) (md residents : Lis
   abbrev frame : Frame
   frame = frame_of facts reached
 
-  pub count : length frame.scores ≡ length seats
-  count = length-map seats (score_at facts)
-
-  pub within : frame.mdps ≤ length frame.scores
-  within = omega (arith, count, length-append md residents)
-
-  before : (x : ℕ) → IsNumber frame x → x - 1 < length seats
-  before x h = omega (arith, h.0, h.1, count)
-
-  seat_in : (x : ℕ) → IsNumber frame x → IsIn (seat_of seats x) seats
-  seat_in x h = get_in seats (x - 1) (before x h)
-
-  pub same_number : (x y : ℕ) → IsNumber frame x → IsNumber frame y → seat_of seats x ≡ seat_of seats y → x ≡ y
-  same_number x y h g e =
-      let same : x - 1 ≡ y - 1 = sym (get_place seats (x - 1) twice (before x h)) ∙ ap (λ s. place_of s seats) e ∙ get_place seats (y - 1) twice (before y g) in
-      omega (arith, same, h.0, g.0)
-
-  low_seat : (x : ℕ) → IsNumber frame x → x ≤ length md → IsIn (seat_of seats x) md
-  low_seat x h low = get_front md residents (x - 1) (omega (arith, h.0, low))
-
   pub down_number : (a : Arrangement) (x : ℕ) → IsIn x (down frame a) → IsNumber frame x
   down_number a x m =
       let h = numbers-within 1 (length frame.scores) x (in-left x (players_of frame) (paired a) m).0 in (omega (arith, h.0), omega (arith, h.1))
@@ -110,23 +89,19 @@ module _ (facts : Facts) (number : ℕ) (kind : BracketKind) (md residents : Lis
   pub down_twice : (a : Arrangement) → NoneTwice (downfloaters facts reached a)
   down_twice a =
       twice_map (seat_of seats) (down frame a) (rises-twice (down frame a) (Rises-filter (λ x. not (is_member x (paired a))) (players_of frame) (numbers_rise 1 (length frame.scores))))
-      (λ x y m n e. same_number x y (down_number a x m) (down_number a y n) e)
+      (λ x y m n e. same_number facts number kind md residents twice x y (down_number a x m) (down_number a y n) e)
 
   -- they are the bracket's
   pub down_seats : (a : Arrangement) (s : ℕ) → IsIn s (downfloaters facts reached a) → IsIn s seats
   down_seats a s m =
-      let from = IsIn-map (seat_of seats) s (down frame a) m in subst (λ t. IsIn t seats) (sym from.1) (seat_in from.0 (down_number a from.0 from.2))
-
-  is_number_true : (x : ℕ) → IsNumber frame x → is_number reached x ≡ true
-  is_number_true x h =
-      and_from (nat_le 1 x) (nat_le x (length seats)) (le-leb 1 x (omega (arith, h.0))) (le-leb x (length seats) (omega (arith, h.1, count)))
+      let from = IsIn-map (seat_of seats) s (down frame a) m in subst (λ t. IsIn t seats) (sym from.1) (seat_in facts number kind md residents twice from.0 (down_number a from.0 from.2))
 
   meet_numbers : (x y : ℕ) → IsNumber frame x → IsNumber frame y → seats_meet facts (seat_of seats x) (seat_of seats y) ≡ true → numbers_meet facts reached x y ≡ true
   meet_numbers x y h g may =
       let s = seat_of seats x in
       let t = seat_of seats y in
       let last = and_parts (is_seat facts s && is_seat facts t && not (s == t)) (may_meet facts s t) may in
-      and_from (is_number reached x && is_number reached y) _ (and_from (is_number reached x) (is_number reached y) (is_number_true x h) (is_number_true y g))
+      and_from (is_number reached x && is_number reached y) _ (and_from (is_number reached x) (is_number reached y) (is_number_true facts number kind md residents twice x h) (is_number_true facts number kind md residents twice y g))
       (and_from (not (x == y)) (may_meet facts s t) (not_from_false (x == y) (ne_eqb x y (λ e. meets_other facts s t may (ap (seat_of seats) e)))) last.1)
 
   -- no two of those moved down may meet
@@ -158,9 +133,9 @@ module _ (facts : Facts) (number : ℕ) (kind : BracketKind) (md residents : Lis
         let g = down_number chosen.lists y n in
         let resident : length md < y = elim (cases_lt (length md) y) [
           | inl above ↦ above
-          | inr low ↦ absurd (strangers (seat_of seats x) (seat_of seats y) (low_seat x h (omega (arith, low, rises))) (low_seat y g low) may)
+          | inr low ↦ absurd (strangers (seat_of seats x) (seat_of seats y) (low_seat facts number kind md residents twice x (h.0, omega (arith, low, rises))) (low_seat facts number kind md residents twice y (g.0, low)) may)
         ] in
-        one_larger (numbers_meet facts reached) (number_may_be_left facts reached) frame not_last within chosen.shape chosen.lists x y
+        one_larger (numbers_meet facts reached) (number_may_be_left facts reached) frame not_last (within facts number kind md residents twice) chosen.shape chosen.lists x y
         (has_room facts reached lower chosen.shape (chosen_is facts reached lower chosen is).0).within_pairs legal.0 legal.1 m n rises resident
         (meet_numbers x y h g may)
 

@@ -31,8 +31,8 @@ use Rattle.dutch_pair.specs.WaysOut.{GoesOut, HasWayOut, StandsBefore}
 use Rattle.dutch_pair.proofs.ArrangementParts.{numbers_rise}
 use Rattle.dutch_pair.proofs.Covering.{completable_by_test}
 use Rattle.dutch_pair.proofs.BestLemmas.{chosen_is}
-use Rattle.dutch_pair.proofs.Downfloaters.{count, down_number, down_seats, down_strangers, down_twice, eligible_all, eligible_some, kept_of, more_candidate, more_of, no_more, of_kept, same_number, within}
-use Rattle.dutch_pair.proofs.FinalBrackets.{Chooses, chooses, final_candidate, final_fits, final_shape}
+use Rattle.dutch_pair.proofs.Downfloaters.{down_number, down_seats, down_strangers, down_twice, eligible_all, eligible_some, kept_of, more_candidate, more_of, no_more, of_kept}
+use Rattle.dutch_pair.proofs.FinalBrackets.{Chooses, chooses, count, final_candidate, final_fits, final_shape, same_number, within}
 use Rattle.dutch_pair.proofs.GroupLemmas.{concat_scoregroups}
 use Rattle.dutch_pair.proofs.MateLists.{fits_arrangement, has_kept}
 use Rattle.dutch_pair.proofs.Mates.{AreMates, FoundMates, complete_mates, fewer_mates, mates_complete}
