@@ -14,7 +14,7 @@ use Rattle.dutch_order.proofs.Orders.{IsIn-back, IsIn-front}
 use Rattle.dutch_pair.specs.declared.wish.Wish.TheVariants.{Over}
 use Rattle.dutch_pair.specs.Wishes.{grants}
 use Rattle.dutch_pair.proofs.ArrangementParts.{lists_of, numbers_rise, parts_of, subset_whole}
-use Rattle.dutch_pair.proofs.KnownByWish.{number_in}
+use Rattle.dutch_order.proofs.FoundPaths.{in-numbers}
 use Rattle.dutch_pair.proofs.Totals.{total_length}
 
 pub equal : (a b : ℕ) → nat_eq a b ≡ true → a ≡ b
@@ -41,7 +41,7 @@ moved_down_paired frame shape a p within m all low high =
     let none : length (left_of pool a.s1) ≡ 0 =
     omega (arith, whole, total_length (left_of pool a.s1), total_length a.s1, total_length pool, length-numbers 1 q, count, all) in
     nobody_in p (left_of pool a.s1)
-    (left-in p pool a.s1 (number_in p 1 q (omega (arith, low)) (omega (arith, high))) (λ n. not_paired p a granted (IsIn-front p a.s1 (a.s2 ++ (a.s1r ++ a.s2r)) n))) none)
+    (left-in p pool a.s1 (in-numbers p 1 q (omega (arith, low)) (omega (arith, high))) (λ n. not_paired p a granted (IsIn-front p a.s1 (a.s2 ++ (a.s1r ++ a.s2r)) n))) none)
 
 pub residents_paired : (frame : Frame) (shape : Shape) (a : Arrangement) (p : ℕ) → frame.mdps ≤ length frame.scores → IsIn a (arrangements frame shape)
     → length frame.scores - frame.mdps ≤ shape.mdps + 2 * remainder_pairs shape → frame.mdps < p → p ≤ length frame.scores → grants (Over p) a ≡ false
@@ -55,7 +55,7 @@ residents_paired frame shape a p within m all low high =
     let last : List ℕ = left_of rest a.s1r in
     let none : length (left_of last a.s2r) ≡ 0 = omega (arith, parts.left, all) in
     let off : IsIn p (a.s2 ++ (a.s1r ++ a.s2r)) → ⊥ = λ k. not_paired p a granted (IsIn-back p a.s1 (a.s2 ++ (a.s1r ++ a.s2r)) k) in
-    let first = left-in p pool a.s2 (number_in p (q + 1) (n - q) (omega (arith, low)) (omega (arith, high, within))) (λ k. off (IsIn-front p a.s2 (a.s1r ++ a.s2r) k)) in
+    let first = left-in p pool a.s2 (in-numbers p (q + 1) (n - q) (omega (arith, low)) (omega (arith, high, within))) (λ k. off (IsIn-front p a.s2 (a.s1r ++ a.s2r) k)) in
     let second = left-in p rest a.s1r first (λ k. off (IsIn-back p a.s2 (a.s1r ++ a.s2r) (IsIn-front p a.s1r a.s2r k))) in
     let third = left-in p last a.s2r second (λ k. off (IsIn-back p a.s2 (a.s1r ++ a.s2r) (IsIn-back p a.s1r a.s2r k))) in
     nobody_in p (left_of last a.s2r) third none)

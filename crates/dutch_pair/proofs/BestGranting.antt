@@ -1,9 +1,8 @@
 -- When a wish is granted, and what the best candidate that grants it is (C.04.3 B.3, B.8).
-use Rattle.std.proofs.Common.{◌≡◌, ◌⊎◌, ℕ, Bool, true, false, not, ◌&&◌, ◌==◌, cond, List, [], ◌∷◌, ◌++◌, filter, Some, None, inl, inr, refl, sym, ap, ◌∙◌, subst, arith}
+use Rattle.std.proofs.Common.{◌≡◌, ◌⊎◌, ℕ, Bool, true, false, not, ◌&&◌, ◌==◌, cond, List, [], ◌∷◌, ◌++◌, filter, Some, None, inl, inr, refl, sym, ap, ◌∙◌, subst}
 use Rattle.std.specs.Prelude.{◌↔◌}
 use Rattle.std.specs.List.{list_any}
-use Rattle.std.proofs.lemmas.Bool.{or_cases, or_left, or_right, and_parts, and_from, not-true, not-false, not_from_false, false_from_ne_true, true≢false}
-use Rattle.std.proofs.lemmas.Bool.Decides.{nat_tests}
+use Rattle.std.proofs.lemmas.Bool.{or_cases, or_left, or_right, and_parts, and_from, not-true, not-false, not_from_false, false_from_ne_true, true≢false, eqb-true, eq-eqb}
 use Rattle.std.proofs.lemmas.List.Elements.{filter-append}
 use Rattle.dutch_order.specs.declared.bracket.Shape.{Shape}
 use Rattle.dutch_order.specs.Arrangements.{Arrangement, Frame, down, paired, players_of}
@@ -29,18 +28,12 @@ use Rattle.dutch_pair.proofs.QualityOrder.{total}
 
 -- ---- when a wish is granted
 
-same_number : (a b : ℕ) → (a == b) ≡ true → a ≡ b
-same_number a b h = grind (arith, nat_tests)
-
-is_number_same : (a : ℕ) → (a == a) ≡ true
-is_number_same a = grind (arith, nat_tests)
-
 any_in : {X : Type 0} (test : X → Bool) (x : X) (xs : List X) → IsIn x xs → test x ≡ true → list_any test xs ≡ true
 any_in test x [] m h = absurd m
 any_in test x (y ∷ xs) (inl same) h = or_left (test y) (list_any test xs) (ap test (sym same) ∙ h)
 any_in test x (y ∷ xs) (inr m) h = or_right (test y) (list_any test xs) (any_in test x xs m h)
 
-found_in : {X : Type 0} (test : X → Bool) (xs : List X) → list_any test xs ≡ true → (x : X) × IsIn x xs × (test x ≡ true)
+pub found_in : {X : Type 0} (test : X → Bool) (xs : List X) → list_any test xs ≡ true → (x : X) × IsIn x xs × (test x ≡ true)
 found_in test [] h = absurd (true≢false (sym h))
 found_in test (x ∷ xs) h =
     elim (or_cases (test x) (list_any test xs) h) [
@@ -56,17 +49,17 @@ one_way p q pair pairs m h =
     elim (or_cases ((pair.0 == p) && (pair.1 == q)) _ h) [
       | inl one ↦
           let both = and_parts (pair.0 == p) _ one in
-          inl (subst (λ (x : ℕ × ℕ). IsIn x pairs) (same_pair p q pair (same_number pair.0 p both.0) (same_number pair.1 q both.1)) m)
+          inl (subst (λ (x : ℕ × ℕ). IsIn x pairs) (same_pair p q pair (eqb-true pair.0 p both.0) (eqb-true pair.1 q both.1)) m)
       | inr other ↦
           let both = and_parts (pair.0 == q) _ other in
-          inr (subst (λ (x : ℕ × ℕ). IsIn x pairs) (same_pair q p pair (same_number pair.0 q both.0) (same_number pair.1 p both.1)) m)
+          inr (subst (λ (x : ℕ × ℕ). IsIn x pairs) (same_pair q p pair (eqb-true pair.0 q both.0) (eqb-true pair.1 p both.1)) m)
     ]
 
 first_way : (p q : ℕ) → are_these p q (p, q) ≡ true
-first_way p q = or_left ((p == p) && (q == q)) _ (and_from (p == p) (q == q) (is_number_same p) (is_number_same q))
+first_way p q = or_left ((p == p) && (q == q)) _ (and_from (p == p) (q == q) (eq-eqb p p refl) (eq-eqb q q refl))
 
 other_way : (p q : ℕ) → are_these p q (q, p) ≡ true
-other_way p q = or_right ((q == p) && (p == q)) ((q == q) && (p == p)) (and_from (q == q) (p == p) (is_number_same q) (is_number_same p))
+other_way p q = or_right ((q == p) && (p == q)) ((q == q) && (p == p)) (and_from (q == q) (p == p) (eq-eqb q q refl) (eq-eqb p p refl))
 
 pub pair_by_test : (p q : ℕ) (a : Arrangement) → (grants (Pair p q) a ≡ true) ↔ (IsIn (p, q) (pairs_by_number a) ⊎ IsIn (q, p) (pairs_by_number a))
 pair_by_test p q a = (

@@ -27,7 +27,7 @@ use Rattle.dutch_pair.specs.Round.{downfloaters}
 use Rattle.dutch_pair.specs.ColourFloors.{residents_down}
 use Rattle.dutch_pair.specs.PsdFloors.{repeated, floor_psd}
 use Rattle.dutch_pair.specs.Ghosts.{IsNotBetter, is_upto, ghost_pair, may_bye, ghosts_meet, ghost_may_be_left, ghost_scores, ghost_frame, ghost_floor}
-use Rattle.dutch_pair.proofs.GhostPairs.{IsOneOf, append_low, append_high, numbers_are_seats, pair_of, left_of_ghost}
+use Rattle.dutch_pair.proofs.GhostPairs.{IsOneOf, numbers_are_seats, pair_of, left_of_ghost}
 use Rattle.dutch_pair.proofs.AllLemmas.{all_filter}
 use Rattle.dutch_pair.proofs.ArrangementParts.{parts_of, numbers_within}
 use Rattle.dutch_pair.proofs.DownLemmas.{down_numbers}
@@ -39,6 +39,8 @@ use Rattle.dutch_pair.proofs.C07WeakerRules.{a_weaker_rule_has_no_fewer_pairs, f
 use Rattle.dutch_pair.proofs.C07PsdFloor.{no_psd_is_below_the_floor}
 use Rattle.dutch_pair.proofs.ShapeSearch.{fits_by_test, first_has}
 use Rattle.dutch_pair.specs.Shapes.{shapes}
+use Rattle.std.proofs.Math.ListN.{get_or-append}
+use Rattle.std.proofs.Math.Seq.{get_or-append_right}
 
 pub none_lower_than_none : (xs : List ℕ) → is_lower xs [] ≡ false
 none_lower_than_none [] = refl
@@ -168,14 +170,14 @@ module _ (facts : Facts) (reached : Reached) (of' : IsOf facts reached) (flat : 
   one_of i from upto =
       let floats : List ℕ = downfloaters facts reached a in
       let short : i - 1 < length floats = omega (arith, from, upto) in
-      subst (IsOneOf reached.seats) (sym (append_low floats next (i - 1) short))
+      subst (IsOneOf reached.seats) (sym (get_or-append floats next 0 (i - 1) short))
       (numbers_are_seats reached.seats (down (frame_of facts reached) a) (down_numbers facts reached a) (i - 1)
       (omega (arith, short, length-map (down (frame_of facts reached) a) (seat_of reached.seats))))
 
   below_of : (i : ℕ) → length (downfloaters facts reached a) < i → seat_of (downfloaters facts reached a ++ next) i ≡ seat_of next (i - length (downfloaters facts reached a))
   below_of i high =
       let floats : List ℕ = downfloaters facts reached a in
-      append_high floats next (i - 1) (omega (arith, high)) ∙ ap (λ k. get_or next k 0) (let e : (i - 1) - length floats ≡ (i - length floats) - 1 = omega (arith, high) in e)
+      get_or-append_right floats next (i - 1) 0 (omega (arith, high)) ∙ ap (λ k. get_or next k 0) (let e : (i - 1) - length floats ≡ (i - length floats) - 1 = omega (arith, high) in e)
 
   meet_for : (i j : ℕ) → numbers_meet facts (next_bracket (downfloaters facts reached a) next) i j ≡ true
       → ghosts_meet facts reached.seats (length (downfloaters facts reached a)) next i j ≡ true
@@ -222,7 +224,7 @@ module _ (facts : Facts) (reached : Reached) (of' : IsOf facts reached) (flat : 
       map-numbers_from f made 1 (λ j h.
       let short : j < length floats = omega (arith, h, count, count') in
       ap (λ k. score_at facts (get_or (floats ++ next) k 0) - s) (let e : (1 + j) - 1 ≡ j = omega arith in e)
-      ∙ ap (λ x. score_at facts x - s) (append_low floats next j short)
+      ∙ ap (λ x. score_at facts x - s) (get_or-append floats next 0 j short)
       ∙ sym (get_or-map by g j 0 0 (omega (arith, short, count)) ∙ ap by (get_or-map (score_at facts) floats j 0 0 short))) in
       ap (λ xs. highest_first (xs ++ (repeated 0 (pairs - length floats) ++ repeated 2 (length (floats ++ next) - 2 * pairs))))
       (ap (λ k. map f (numbers_from 1 k)) (sym (count' ∙ count)) ∙ same)
@@ -249,7 +251,7 @@ module _ (facts : Facts) (reached : Reached) (of' : IsOf facts reached) (flat : 
       ∙ ap (λ scores. most_of facts reached.seats next (length scores) (scores ++ map (score_at facts) next)) same
       ∙ found in
       let at_next : score_at facts (seat_of (floats ++ next) (length floats + 1)) ≡ score_at facts (slice_index next 0) =
-      ap (score_at facts) (append_high floats next ((length floats + 1) - 1) (omega arith) ∙ ap (λ k. get_or next k 0) (let e : ((length floats + 1) - 1) - length floats ≡ 0 = omega arith in e)) in
+      ap (score_at facts) (get_or-append_right floats next ((length floats + 1) - 1) 0 (omega arith) ∙ ap (λ k. get_or next k 0) (let e : ((length floats + 1) - 1) - length floats ≡ 0 = omega arith in e)) in
       let value = no_value_is_better_than_by_a_weaker_rule facts reached' (next_of facts reached candidate.down next of' (left_by_candidate facts reached candidate of_bracket) below) (next_flat facts reached candidate.down next of' (left_by_candidate facts reached candidate of_bracket) below ordinary) refl
       (ghosts_meet facts reached.seats (length floats) next) (ghost_may_be_left facts reached.seats (length floats) next) meet_for left_for most most_here in
       subst (λ (floor : List ℕ). IsNotBetter (value_of facts reached') most.pairs floor)

@@ -1,7 +1,7 @@
 -- What the pairs of a beginning make is the least that an arrangement with it makes (C.04.3 C.8, C.9, C.12 to C.19): the pairs that
 -- it adds and its downfloaters only add to it. So at C.8, C.9 and C.12 to C.15 there are no fewer players, and in the lists of C.16 to
 -- C.19 no difference stands less often, and of such lists, the highest first, the one with more stands behind.
-use Rattle.std.proofs.Common.{◌≡◌, ℕ, ◌+◌, ◌≤◌, Bool, false, List, [], map, filter, length, ap, ◌∙◌, arith, length-append}
+use Rattle.std.proofs.Common.{◌≡◌, ℕ, ◌≤◌, Bool, false, List, [], map, filter, length, ap, ◌∙◌, arith, length-append}
 use Rattle.std.specs.Prelude.{sum_by}
 use Rattle.std.proofs.lemmas.List.{map-append}
 use Rattle.std.proofs.lemmas.List.Elements.{filter-append}
@@ -42,10 +42,6 @@ filtered_add_up f test adds xs ys = ap f (filter-append test xs ys) ∙ adds (fi
 
 mapped_add_up : {X Y : Type 0} (f : List Y → ℕ) (made : X → Y) → AddsUp f → AddsUp (λ xs. f (map made xs))
 mapped_add_up f made adds xs ys = ap f (map-append made xs ys) ∙ adds (map made xs) (map made ys)
-
--- what adds up over a list is nothing for none
-none_of_none : {X : Type 0} (f : List X → ℕ) → AddsUp f → f [] ≡ 0
-none_of_none f adds = let twice : f [] ≡ f [] + f [] = adds [] [] in omega (arith, twice)
 
 module _ (facts : Facts) (reached : Reached) (known : List (ℕ × ℕ)) (gone : List ℕ) (candidate : Candidate) (others : Beside known (all_pairs reached.seats candidate.lists))
     (left : Beside gone (map (seat_of reached.seats) candidate.down)) where

@@ -1,7 +1,7 @@
 -- What a floor is made of has room in a bracket.
-use Rattle.std.proofs.Common.{◌≡◌, ℕ, ◌+◌, ◌-◌, ◌*◌, ◌≤◌, Bool, true, false, ◌&&◌, nat_le, List, [], ◌∷◌, length, map, refl, ap, arith}
+use Rattle.std.proofs.Common.{◌≡◌, ℕ, ◌+◌, ◌-◌, ◌*◌, ◌≤◌, true, nat_le, List, [], ◌∷◌, length, map, ap, arith}
 use Rattle.std.specs.List.{list_all}
-use Rattle.std.proofs.lemmas.Bool.{leb-true}
+use Rattle.std.proofs.lemmas.Bool.{leb-true, and_parts}
 use Rattle.std.proofs.lemmas.List.{length-map}
 use Rattle.dutch_order.specs.declared.bracket.Shape.{Shape}
 use Rattle.dutch_order.specs.Arrangements.{Arrangement, Fits, remainder_pairs}
@@ -16,15 +16,11 @@ use Rattle.dutch_order.proofs.Members.{length-numbers}
 use Rattle.dutch_pair.proofs.ArrangementParts.{numbers_within}
 use Rattle.dutch_order.specs.declared.numbers.TheConstants.{LIMIT}
 
-both : (s t : Bool) → (s && t) ≡ true → (s ≡ true) × (t ≡ true)
-both true t e = (refl, e)
-both false t e = absurd (cc)
-
 all_numbers : (reached : Reached) (numbers : List ℕ) → are_numbers reached numbers ≡ true → AllNumbers reached.seats numbers
 all_numbers reached [] e = tt
 all_numbers reached (x ∷ numbers) e =
-    let here = both (is_number reached x) (list_all (is_number reached) numbers) e in
-    let ends = both (nat_le 1 x) (nat_le x (length reached.seats)) here.0 in
+    let here = and_parts (is_number reached x) (list_all (is_number reached) numbers) e in
+    let ends = and_parts (nat_le 1 x) (nat_le x (length reached.seats)) here.0 in
     let first = leb-true 1 x ends.0 in
     ((omega (arith, first), leb-true x (length reached.seats) ends.1), all_numbers reached numbers here.1)
 
@@ -58,21 +54,21 @@ first_numbers facts reached shape fits of =
 
 pub first_few : (reached : Reached) (shape : Shape) (lists : Arrangement) → is_of_shape reached shape lists ≡ true → length lists.s1 ≤ shape.mdps
 first_few reached shape lists e =
-    let parts = both _ _ e in
-    let counts = both _ _ parts.1 in
-    let first = both _ _ counts.0 in
+    let parts = and_parts _ _ e in
+    let counts = and_parts _ _ parts.1 in
+    let first = and_parts _ _ counts.0 in
     leb-true (length lists.s1) shape.mdps first.0
 
 pub numbers_fit : (facts : Facts) (reached : Reached) (shape : Shape) (lists : Arrangement) → Fits (frame_of facts reached) shape → IsOf facts reached
     → is_of_shape reached shape lists ≡ true → HasNumbers reached lists
 numbers_fit facts reached shape lists fits of e =
-    let parts = both _ _ e in
-    let s1 = both _ _ parts.0 in
-    let s2 = both _ _ s1.1 in
-    let rest = both _ _ s2.1 in
-    let counts = both _ _ parts.1 in
-    let first = both _ _ counts.0 in
-    let second = both _ _ counts.1 in
+    let parts = and_parts _ _ e in
+    let s1 = and_parts _ _ parts.0 in
+    let s2 = and_parts _ _ s1.1 in
+    let rest = and_parts _ _ s2.1 in
+    let counts = and_parts _ _ parts.1 in
+    let first = and_parts _ _ counts.0 in
+    let second = and_parts _ _ counts.1 in
     let s1_few = leb-true (length lists.s1) shape.mdps first.0 in
     let s2_few = leb-true (length lists.s2) (length lists.s1) first.1 in
     let s1r_few = leb-true (length lists.s1r) (remainder_pairs shape) second.0 in
@@ -96,7 +92,7 @@ first_length shape xs e = omega (arith, ap length e, length-numbers 1 shape.mdps
 
 -- where a floor is known, its lists are of the bracket and the shape
 of_shape : (basis : Basis) (b : Beginning) → is_known basis b ≡ true → is_of_shape basis.reached basis.shape (fixed_lists b) ≡ true
-of_shape basis b h = (both (is_of_shape basis.reached basis.shape (fixed_lists b)) _ h).0
+of_shape basis b h = (and_parts (is_of_shape basis.reached basis.shape (fixed_lists b)) _ h).0
 
 pub known_numbers : (basis : Basis) (b : Beginning) → Fits (frame_of basis.facts basis.reached) basis.shape → IsOf basis.facts basis.reached → is_known basis b ≡ true
     → HasNumbers basis.reached (fixed_lists b)

@@ -136,22 +136,18 @@ floor_stands basis lower b a of' m h known outlook =
 pub known_s1 : (basis : Basis) (b : Beginning) → is_known basis b ≡ true → (has_s1 b.filling || is_uniform basis.facts basis.reached basis.shape) ≡ true
 known_s1 basis b h = (and_parts (is_of_shape basis.reached basis.shape (fixed_lists b)) _ h).1
 
+-- what holds of the bracket that floors stand on holds of the one that they are for
+pub from_basis : (facts : Facts) (reached : Reached) (lower : List ℕ) (shape : Shape) (basis : Basis) → IsBasis facts reached lower shape basis
+    → (P : Facts → Reached → Shape → Type 0) → P basis.facts basis.reached basis.shape → P facts reached shape
+from_basis facts reached lower shape basis is P holds =
+    subst (λ fs. P fs reached shape) is.facts_are (subst (λ st. P basis.facts st shape) is.stand_is (subst (P basis.facts basis.reached) is.shape_is holds))
+
 -- the same of a pass over the candidates of a bracket
 pub no_better : (facts : Facts) (reached : Reached) (lower : List ℕ) (shape : Shape) (basis : Basis) (b : Beginning) (floor : Quality) → IsBasis facts reached lower shape basis
     → IsOf facts reached → is_known basis b ≡ true → floor ≡ floor_of basis b
     → (a : Arrangement) → IsIn a (candidates_of facts reached shape) → Begins b a → is_better (quality_of facts reached lower a) floor ≡ false
 no_better facts reached lower shape basis b floor is of' known e a m h =
-    let f = is.facts_are in
-    let s = is.stand_is in
-    let p = is.shape_is in
-    let of'' : IsOf basis.facts basis.reached = subst (λ fs. IsOf fs basis.reached) (sym f) (subst (λ st. IsOf facts st) (sym s) of') in
-    let m' : IsIn a (candidates_of basis.facts basis.reached basis.shape) =
-    subst (λ fs. IsIn a (candidates_of fs basis.reached basis.shape)) (sym f)
-    (subst (λ st. IsIn a (candidates_of facts st basis.shape)) (sym s) (subst (λ sh. IsIn a (candidates_of facts reached sh)) (sym p) m)) in
-    let outlook : IsOutlook basis.facts basis.reached lower basis.shape basis.outlook =
-    subst (λ fs. IsOutlook fs basis.reached lower basis.shape basis.outlook) (sym f)
-    (subst (λ st. IsOutlook facts st lower basis.shape basis.outlook) (sym s) (subst (λ sh. IsOutlook facts reached lower sh basis.outlook) (sym p) is.outlook)) in
-    ap (λ fs. is_better (quality_of fs reached lower a) floor) (sym f)
-    ∙ (ap (λ st. is_better (quality_of basis.facts st lower a) floor) (sym s)
-    ∙ (ap (λ q. is_better (quality_of basis.facts basis.reached lower a) q) e
-    ∙ floor_stands basis lower b a of'' m' h (known_s1 basis b known) outlook))
+    from_basis facts reached lower shape basis is
+    (λ fs st sh. IsOf fs st → IsOutlook fs st lower sh basis.outlook → IsIn a (candidates_of fs st sh) → is_better (quality_of fs st lower a) floor ≡ false)
+    (λ of'' outlook m'. ap (is_better (quality_of basis.facts basis.reached lower a)) e
+    ∙ floor_stands basis lower b a of'' m' h (known_s1 basis b known) outlook) of' is.outlook m

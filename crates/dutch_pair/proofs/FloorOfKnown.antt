@@ -2,8 +2,7 @@
 -- (C.04.3 C.6 to C.19): it is made of pairs and downfloaters that each of these has.
 use Rattle.std.proofs.Common.{◌≡◌, ℕ, ◌+◌, ◌≤◌, Bool, true, false, ◌&&◌, ◌||◌, ◌==◌, cond, List, [], ◌∷◌, ◌++◌, length, inl, inr, refl, sym, ap, ◌∙◌, subst, arith}
 use Rattle.std.specs.List.{list_any}
-use Rattle.std.proofs.lemmas.Bool.{and_from, or_left, or_right, true≢false}
-use Rattle.std.proofs.lemmas.Bool.Decides.{nat_tests}
+use Rattle.std.proofs.lemmas.Bool.{and_from, or_left, or_right, true≢false, eq-eqb}
 use Rattle.std.proofs.lemmas.List.{length-map}
 use Rattle.dutch_order.specs.declared.prefix.Filling.{Filling}
 use Rattle.dutch_order.specs.declared.bracket.Shape.{Shape}
@@ -29,7 +28,7 @@ use Rattle.dutch_pair.proofs.C07Outlook.{awaited_holds}
 use Rattle.dutch_pair.proofs.C10Preferences.{more_miss}
 use Rattle.dutch_pair.proofs.C11StrongPreferences.{more_miss_strongly}
 use Rattle.dutch_pair.proofs.FixedPairs.{Beside, beside, none_known}
-use Rattle.dutch_pair.proofs.FloorOfBeginning.{begun_pairs, known_s1, psd_holds}
+use Rattle.dutch_pair.proofs.FloorOfBeginning.{begun_pairs, from_basis, known_s1, psd_holds}
 use Rattle.dutch_pair.proofs.FloorOrder.{floor_stays}
 use Rattle.dutch_pair.proofs.LegalPairs.{legal_of}
 
@@ -76,14 +75,11 @@ known_more : {X : Type 0} (x : X) (known all : List X) → Beside known all → 
 known_more x known all others m new =
     elim (others.either x m) [ inl old ↦ absurd (new old) | inr other ↦ one_more x known all others other ]
 
-same_number : (a : ℕ) → (a == a) ≡ true
-same_number a = grind (arith, nat_tests)
-
 there : (pair : ℕ × ℕ) (pairs : List (ℕ × ℕ)) → IsIn pair pairs → list_any (λ other. (other.0 == pair.0) && (other.1 == pair.1)) pairs ≡ true
 there pair [] m = absurd m
 there pair (other ∷ pairs) (inl same) =
     or_left ((other.0 == pair.0) && (other.1 == pair.1)) _
-    (subst (λ (x : ℕ × ℕ). ((x.0 == pair.0) && (x.1 == pair.1)) ≡ true) same (and_from (pair.0 == pair.0) (pair.1 == pair.1) (same_number pair.0) (same_number pair.1)))
+    (subst (λ (x : ℕ × ℕ). ((x.0 == pair.0) && (x.1 == pair.1)) ≡ true) same (and_from (pair.0 == pair.0) (pair.1 == pair.1) (eq-eqb pair.0 pair.0 refl) (eq-eqb pair.1 pair.1 refl)))
 there pair (other ∷ pairs) (inr m) = or_right ((other.0 == pair.0) && (other.1 == pair.1)) _ (there pair pairs m)
 
 pair_at : (pair : ℕ × ℕ) (known all : List (ℕ × ℕ)) (t : Bool) → list_any (λ other. (other.0 == pair.0) && (other.1 == pair.1)) known ≡ t → Beside known all
@@ -140,19 +136,7 @@ pub none_better : (facts : Facts) (reached : Reached) (lower : List ℕ) (shape 
     → IsBasis facts reached lower shape basis → IsOf facts reached → is_known basis b ≡ true → floor ≡ floor_knowing basis known b
     → (a : Arrangement) → IsIn a (candidates_of facts reached shape) → Begins b a → Holds facts reached known a → is_better (quality_of facts reached lower a) floor ≡ false
 none_better facts reached lower shape basis known b floor is of' there' e a m h holds =
-    let f = is.facts_are in
-    let s = is.stand_is in
-    let p = is.shape_is in
-    let of'' : IsOf basis.facts basis.reached = subst (λ fs. IsOf fs basis.reached) (sym f) (subst (λ st. IsOf facts st) (sym s) of') in
-    let m' : IsIn a (candidates_of basis.facts basis.reached basis.shape) =
-    subst (λ fs. IsIn a (candidates_of fs basis.reached basis.shape)) (sym f)
-    (subst (λ st. IsIn a (candidates_of facts st basis.shape)) (sym s) (subst (λ sh. IsIn a (candidates_of facts reached sh)) (sym p) m)) in
-    let outlook : IsOutlook basis.facts basis.reached lower basis.shape basis.outlook =
-    subst (λ fs. IsOutlook fs basis.reached lower basis.shape basis.outlook) (sym f)
-    (subst (λ st. IsOutlook facts st lower basis.shape basis.outlook) (sym s) (subst (λ sh. IsOutlook facts reached lower sh basis.outlook) (sym p) is.outlook)) in
-    let holds' : Holds basis.facts basis.reached known a =
-    subst (λ fs. Holds fs basis.reached known a) (sym f) (subst (λ st. Holds facts st known a) (sym s) holds) in
-    ap (λ fs. is_better (quality_of fs reached lower a) floor) (sym f)
-    ∙ (ap (λ st. is_better (quality_of basis.facts st lower a) floor) (sym s)
-    ∙ (ap (λ q. is_better (quality_of basis.facts basis.reached lower a) q) e
-    ∙ stays_knowing basis lower b.filling b.lists a of'' m' h (known_s1 basis b there') outlook known holds'))
+    from_basis facts reached lower shape basis is
+    (λ fs st sh. IsOf fs st → IsOutlook fs st lower sh basis.outlook → IsIn a (candidates_of fs st sh) → Holds fs st known a → is_better (quality_of fs st lower a) floor ≡ false)
+    (λ of'' outlook m' holds'. ap (is_better (quality_of basis.facts basis.reached lower a)) e
+    ∙ stays_knowing basis lower b.filling b.lists a of'' m' h (known_s1 basis b there') outlook known holds') of' is.outlook m holds

@@ -1,5 +1,5 @@
 -- Whoever meets a player of a bracket meets the ghost that stands for him, and a ghost may have the bye if he may (C.04.3 C.7).
-use Rattle.std.proofs.Common.{◌≡◌, ℕ, zero, suc, ◌+◌, ◌-◌, ◌*◌, ◌<◌, ◌≤◌, Bool, true, false, nat_le, cond, inl, inr, List, [], ◌∷◌, ◌++◌, map, filter, length, get_or, refl, sym, ap, ◌∙◌, arith, length-append}
+use Rattle.std.proofs.Common.{◌≡◌, ℕ, zero, suc, ◌+◌, ◌-◌, ◌*◌, ◌<◌, ◌≤◌, Bool, true, false, nat_le, cond, inl, inr, List, [], ◌∷◌, map, filter, length, get_or, refl, sym, ap, ◌∙◌, arith, length-append}
 use Rattle.std.specs.Prelude.{if◌then◌else◌}
 use Rattle.std.specs.List.{list_any}
 use Rattle.std.proofs.lemmas.List.Folds.{list_any_at}
@@ -33,17 +33,6 @@ down_count frame shape a inside within m =
     let halves : length (down frame a) ≡ length low + length rest = ap length (down_parts frame shape.mdps (remainder_pairs shape) a inside parts) ∙ length-append low rest in
     let left : length rest + (shape.mdps + (remainder_pairs shape + remainder_pairs shape)) ≡ n - q = parts.left in
     omega (arith, found, shared, counted, halves, left, parts.s1_count, inside, within)
-
-pub append_low : (xs ys : List ℕ) (i : ℕ) → i < length xs → get_or (xs ++ ys) i 0 ≡ get_or xs i 0
-append_low [] ys i h = absurd (omega arith)
-append_low (x ∷ xs) ys zero h = refl
-append_low (x ∷ xs) ys (suc i) h = append_low xs ys i (omega arith)
-
-pub append_high : (xs ys : List ℕ) (i : ℕ) → length xs ≤ i → get_or (xs ++ ys) i 0 ≡ get_or ys (i - length xs) 0
-append_high [] ys i h = ap (λ k. get_or ys k 0) (let e : i ≡ i - 0 = omega arith in e)
-append_high (x ∷ xs) ys zero h = absurd (omega arith)
-append_high (x ∷ xs) ys (suc i) h =
-    append_high xs ys i (omega arith) ∙ ap (λ k. get_or ys k 0) (let e : i - length xs ≡ suc i - suc (length xs) = omega arith in e)
 
 -- a seat is that of some number of a list of seats
 pub record IsOneOf (seats : List ℕ) (a : ℕ) : Type 0 where

@@ -43,7 +43,7 @@ kept_is v down old new (Value pairs psd) h kept = kept
 kept_is v down old new Undecided h kept = absurd h
 
 module _ (d : ArrayVec ℕ) where
-  found_at : (t : Bool) (v : NextValue) (o : Option NextValue) → is_some (cond t (Some v) o) ≡ (t || is_some o)
+  found_at : {X : Type 0} (t : Bool) (v : X) (o : Option X) → is_some (cond t (Some v) o) ≡ (t || is_some o)
   found_at true v o = refl
   found_at false v o = refl
 
@@ -53,14 +53,10 @@ module _ (d : ArrayVec ℕ) where
       found_at (is_key d e.0) e.1 (lookup (is_key d) es) ∙ ap (λ b. is_key d e.0 || b) (found_kept es)
       ∙ ap (λ t. t || is_kept d.items (lists_kept es)) (key_same d.items e.0.items)
 
-  entry_at : (t : Bool) (e : Kept) (o : Option Kept) → is_some (cond t (Some e) o) ≡ (t || is_some o)
-  entry_at true e o = refl
-  entry_at false e o = refl
-
   entry_kept : (es : List Kept) → is_some (lookup_entry (is_key d) es) ≡ is_kept d.items (lists_kept es)
   entry_kept [] = refl
   entry_kept (e ∷ es) =
-      entry_at (is_key d e.0) e (lookup_entry (is_key d) es) ∙ ap (λ b. is_key d e.0 || b) (entry_kept es)
+      found_at (is_key d e.0) e (lookup_entry (is_key d) es) ∙ ap (λ b. is_key d e.0 || b) (entry_kept es)
       ∙ ap (λ t. t || is_kept d.items (lists_kept es)) (key_same d.items e.0.items)
 
   removed_at : (t : Bool) (e : Kept) (es rest : List Kept) → lists_kept (cond t es (e ∷ rest)) ≡ cond t (lists_kept es) (e.0.items ∷ lists_kept rest)

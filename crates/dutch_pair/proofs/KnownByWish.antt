@@ -1,10 +1,9 @@
 -- What a wish makes known of each candidate that grants it (C.04.3 B.3).
-use Rattle.std.proofs.Common.{◌≡◌, ℕ, zero, suc, ◌+◌, ◌-◌, ◌<◌, ◌≤◌, ◌⊎◌, true, List, [], ◌∷◌, length, inl, inr, ap, arith}
-use Rattle.std.proofs.lemmas.Bool.{and_parts, cases_lt, leb-true}
+use Rattle.std.proofs.Common.{◌≡◌, ℕ, ◌-◌, ◌<◌, ◌≤◌, ◌⊎◌, true, List, [], ◌∷◌, length, inl, inr, ap, arith}
+use Rattle.std.proofs.lemmas.Bool.{and_parts, leb-true}
 use Rattle.std.proofs.lemmas.List.{length-map}
 use Rattle.std.specs.Prelude.{nat_le}
 use Rattle.dutch_order.specs.Arrangements.{Arrangement, down}
-use Rattle.dutch_order.specs.Choices.{numbers_from}
 use Rattle.dutch_order.specs.Forms.{by_place, pairs_by_number}
 use Rattle.dutch_order.specs.Keys.{IsIn}
 use Rattle.dutch_order.proofs.Orders.{IsIn-append, IsIn-back, IsIn-front, map-IsIn}
@@ -16,16 +15,9 @@ use Rattle.dutch_pair.specs.Reached.{IsOf, Reached, frame_of, is_number}
 use Rattle.dutch_pair.specs.Seated.{all_pairs, pairs_of, score_at, seat_of}
 use Rattle.dutch_pair.specs.Wishes.{grants}
 use Rattle.dutch_pair.proofs.BestGranting.{over_by_test, pair_by_test}
+use Rattle.dutch_order.proofs.FoundPaths.{in-numbers}
 
--- a number of a bracket is one of its players, and has a seat of the field
-pub number_in : (z first count : ℕ) → first ≤ z → z < first + count → IsIn z (numbers_from first count)
-number_in z first zero low high = absurd (let bad : ⊥ = omega (arith, low, high) in bad)
-number_in z first (suc count) low high =
-    elim (cases_lt first z) [
-      | inl above ↦ inr (number_in z (suc first) count (omega (arith, above)) (omega (arith, high)))
-      | inr same ↦ inl (let e : z ≡ first = omega (arith, low, same) in e)
-    ]
-
+-- a number of a bracket has a seat of the field
 pub bounds : (reached : Reached) (z : ℕ) → is_number reached z ≡ true → (1 ≤ z) × (z ≤ length reached.seats)
 bounds reached z h =
     let both = and_parts (nat_le 1 z) (nat_le z (length reached.seats)) h in (leb-true 1 z both.0, leb-true z (length reached.seats) both.1)
@@ -62,5 +54,5 @@ pub goes_down : (facts : Facts) (reached : Reached) (p : ℕ) (a : Arrangement) 
 goes_down facts reached p a h granted =
     let within = bounds reached p h in
     let counted = length-map reached.seats (score_at facts) in
-    let player = number_in p 1 (length (frame_of facts reached).scores) within.0 (omega (arith, within.1, counted)) in
+    let player = in-numbers p 1 (length (frame_of facts reached).scores) within.0 (omega (arith, within.1, counted)) in
     map-IsIn (seat_of reached.seats) p (down (frame_of facts reached) a) ((over_by_test (frame_of facts reached) p a player).0 granted)

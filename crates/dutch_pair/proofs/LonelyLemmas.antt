@@ -14,10 +14,7 @@ use Rattle.dutch_pair.specs.BitTables.{has_bit}
 use Rattle.dutch_pair.specs.ColourFloors.{beyond, pool}
 use Rattle.dutch_pair.proofs.AllLemmas.{all_filter}
 use Rattle.dutch_pair.proofs.ArrangementParts.{numbers_within}
-
-or_true : (t : Bool) → true ≡ (t || true)
-or_true true = refl
-or_true false = refl
+use Rattle.std.proofs.Math.Bool.{or-true}
 
 pub or_false : (t : Bool) → t ≡ (t || false)
 or_false true = refl
@@ -28,7 +25,7 @@ marked : (old new rest : List ℕ) (x i : ℕ) → has_bit new x ≡ true → ((
 marked old new rest x i set others =
     elim (cases_eq i x) [
       | inl same ↦ ap (λ t. t || is_member i rest) (ap (has_bit new) same ∙ set)
-          ∙ (or_true (has_bit old i) ∙ sym (ap (λ t. has_bit old i || (t || is_member i rest)) (eq-eqb x i (sym same))))
+          ∙ (sym (or-true (has_bit old i)) ∙ sym (ap (λ t. has_bit old i || (t || is_member i rest)) (eq-eqb x i (sym same))))
       | inr other ↦ ap (λ t. t || is_member i rest) (others i other)
           ∙ sym (ap (λ t. has_bit old i || (t || is_member i rest)) (ne_eqb x i (λ e. other (sym e))))
     ]

@@ -2,7 +2,7 @@
 use Rattle.std.proofs.Common.{◌≡◌, ℕ, ◌<◌, ◌≤◌, ◌⊎◌, Bool, true, false, not, ◌&&◌, ◌==◌, List, [], ◌∷◌, ◌++◌, length, inl, inr, refl, sym, ap, ◌∙◌, subst, arith}
 use Rattle.std.specs.Prelude.{nat_le}
 use Rattle.std.specs.List.{list_any}
-use Rattle.std.proofs.lemmas.Bool.{leb-true, or_cases, or_left, or_right, and_parts, and_from, not-true, not_from_false, false_from_ne_true, true≢false}
+use Rattle.std.proofs.lemmas.Bool.{leb-true, or_cases, or_left, or_right, and_parts, and_from, not-true, not_from_false, false_from_ne_true, true≢false, eqb-true}
 use Rattle.std.proofs.lemmas.Bool.Decides.{nat_tests}
 use Rattle.dutch_order.specs.declared.bracket.Shape.{Shape}
 use Rattle.dutch_order.specs.declared.prefix.Filling.{Filling}
@@ -21,16 +21,8 @@ use Rattle.dutch_pair.specs.declared.wish.Wish.TheVariants.{Pair, Over}
 use Rattle.dutch_pair.specs.FloorOf.{fixed_lists, lists_by}
 use Rattle.dutch_pair.specs.RuledOut.{has_player, parts, has_one_of, s1_bars, s1r_bars, halves_bar, rules_out}
 use Rattle.dutch_pair.specs.Wishes.{are_these, grants}
-
--- ---- a test over a list, and its witness
-
-found_in : {X : Type 0} (test : X → Bool) (xs : List X) → list_any test xs ≡ true → (x : X) × IsIn x xs × (test x ≡ true)
-found_in test [] h = absurd (true≢false (sym h))
-found_in test (x ∷ xs) h =
-    elim (or_cases (test x) (list_any test xs) h) [
-      | inl here ↦ (x, inl refl, here)
-      | inr later ↦ let found = found_in test xs later in (found.0, inr found.1, found.2)
-    ]
+use Rattle.dutch_pair.proofs.BestGranting.{found_in}
+use Rattle.dutch_order.proofs.Blocks.{goes-whole}
 
 -- ---- two players as numbers of a pair
 
@@ -41,21 +33,18 @@ Holds z pair = (z ≡ pair.0) ⊎ (z ≡ pair.1)
 abbrev Are : ℕ → ℕ → ℕ × ℕ → Type 0
 Are p q pair = ((pair.0 ≡ p) × (pair.1 ≡ q)) ⊎ ((pair.0 ≡ q) × (pair.1 ≡ p))
 
-same_number : (a b : ℕ) → (a == b) ≡ true → a ≡ b
-same_number a b h = grind (arith, nat_tests)
-
 are_so : (p q : ℕ) (pair : ℕ × ℕ) → are_these p q pair ≡ true → Are p q pair
 are_so p q pair h =
     elim (or_cases ((pair.0 == p) && (pair.1 == q)) _ h) [
-      | inl one ↦ let both = and_parts (pair.0 == p) _ one in inl (same_number pair.0 p both.0, same_number pair.1 q both.1)
-      | inr other ↦ let both = and_parts (pair.0 == q) _ other in inr (same_number pair.0 q both.0, same_number pair.1 p both.1)
+      | inl one ↦ let both = and_parts (pair.0 == p) _ one in inl (eqb-true pair.0 p both.0, eqb-true pair.1 q both.1)
+      | inr other ↦ let both = and_parts (pair.0 == q) _ other in inr (eqb-true pair.0 q both.0, eqb-true pair.1 p both.1)
     ]
 
 holds_so : (p : ℕ) (pair : ℕ × ℕ) → has_player p pair ≡ true → Holds p pair
 holds_so p pair h =
     elim (or_cases (pair.0 == p) _ h) [
-      | inl one ↦ inl (sym (same_number pair.0 p one))
-      | inr other ↦ inr (sym (same_number pair.1 p other))
+      | inl one ↦ inl (sym (eqb-true pair.0 p one))
+      | inr other ↦ inr (sym (eqb-true pair.1 p other))
     ]
 
 -- both are in it
@@ -102,15 +91,6 @@ goes_on : (pair : ℕ × ℕ) (xs ys xs' ys' : List ℕ) → xs ≡ xs' → Goes
 goes_on pair xs ys xs' ys' same on m =
     subst (λ zs. IsIn pair (by_place zs ys')) same (subst (λ zs. IsIn pair (by_place xs zs)) (sym on.is) (place_on pair xs ys on.rest m))
 
-all_of : (xs : List ℕ) → GoesOn xs xs
-all_of xs = record { rest = []; is = sym (nothing_more xs) } where
-  nothing_more : (xs : List ℕ) → xs ++ [] ≡ xs
-  nothing_more [] = refl
-  nothing_more (x ∷ xs) = ap (λ rest. x ∷ rest) (nothing_more xs)
-
-same_on : (xs ys : List ℕ) → xs ≡ ys → GoesOn xs ys
-same_on xs ys same = subst (GoesOn xs) same (all_of xs)
-
 pairs_stay : (filling : Filling) (lists a : Arrangement) (pair : ℕ × ℕ) → BeginsAt filling lists a → IsIn pair (pairs_by_number (lists_by filling lists))
     → IsIn pair (pairs_by_number a)
 pairs_stay S1 lists a pair h m = absurd m
@@ -122,7 +102,7 @@ pairs_stay S2 lists a pair h m =
 pairs_stay S2r lists a pair h m =
     elim (IsIn-append pair (by_place lists.s1 lists.s2) (by_place lists.s1r lists.s2r) m) [
       | inl first ↦
-          IsIn-front pair (by_place a.s1 a.s2) (by_place a.s1r a.s2r) (goes_on pair lists.s1 lists.s2 a.s1 a.s2 h.0 (same_on lists.s2 a.s2 h.1) first)
+          IsIn-front pair (by_place a.s1 a.s2) (by_place a.s1r a.s2r) (goes_on pair lists.s1 lists.s2 a.s1 a.s2 h.0 (goes-whole lists.s2 a.s2 h.1) first)
       | inr second ↦
           IsIn-back pair (by_place a.s1 a.s2) (by_place a.s1r a.s2r) (goes_on pair lists.s1r lists.s2r a.s1r a.s2r h.2 h.3 second)
     ]

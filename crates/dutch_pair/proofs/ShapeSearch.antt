@@ -6,14 +6,7 @@ use Rattle.dutch_order.specs.declared.bracket.Shape.{Shape}
 use Rattle.dutch_order.specs.Arrangements.{Frame, Arrangement, Fits, remainder_pairs}
 use Rattle.dutch_order.specs.Candidates.{Candidate}
 use Rattle.dutch_pair.specs.Shapes.{IsFirst, down_from, fits, shapes_with, has_member, first_with}
-
-both_first : (p q : Bool) → (p && q) ≡ true → p ≡ true
-both_first true q h = refl
-both_first false q h = h
-
-both_second : (p q : Bool) → (p && q) ≡ true → q ≡ true
-both_second true q h = h
-both_second false q h = let bad : false ≡ true = h in cc
+use Rattle.std.proofs.lemmas.Bool.{and_parts}
 
 not_below : (a b : ℕ) → not (nat_lt a b) ≡ true → b ≤ a
 not_below a b h = grind (arith, nat_tests)
@@ -21,11 +14,11 @@ not_below a b h = grind (arith, nat_tests)
 -- a shape that a bracket has room for, by the test
 pub fits_by_test : (frame : Frame) (shape : Shape) → fits frame shape ≡ true → Fits frame shape
 fits_by_test frame shape h =
-    let others = both_second (not (nat_lt shape.pairs shape.mdps)) _ h in
+    let others = (and_parts (not (nat_lt shape.pairs shape.mdps)) _ h).1 in
     record {
-      within_pairs = not_below shape.pairs shape.mdps (both_first (not (nat_lt shape.pairs shape.mdps)) _ h);
-      within_moved_down = not_below frame.mdps shape.mdps (both_first (not (nat_lt frame.mdps shape.mdps)) _ others);
-      residents_enough = not_below (length frame.scores - frame.mdps) (shape.mdps + 2 * remainder_pairs shape) (both_second (not (nat_lt frame.mdps shape.mdps)) _ others);
+      within_pairs = not_below shape.pairs shape.mdps (and_parts (not (nat_lt shape.pairs shape.mdps)) _ h).0;
+      within_moved_down = not_below frame.mdps shape.mdps (and_parts (not (nat_lt frame.mdps shape.mdps)) _ others).0;
+      residents_enough = not_below (length frame.scores - frame.mdps) (shape.mdps + 2 * remainder_pairs shape) (and_parts (not (nat_lt frame.mdps shape.mdps)) _ others).1;
     }
 
 -- a shape of which there is a first arrangement has one

@@ -5,22 +5,20 @@ use Rattle.std.proofs.lemmas.List.Folds.{list_any-append}
 use Rattle.dutch_order.specs.Arrangements.{Arrangement, paired}
 use Rattle.dutch_order.specs.Choices.{is_member}
 use Rattle.dutch_order.specs.Forms.{by_place, pairs_by_number}
+use Rattle.dutch_order.proofs.Counts.{member-append}
 
 -- some pair passes a test where one of S1 with S2 does, or one of S1R with S2R
 pub pairs_found : (test : ℕ × ℕ → Bool) (a : Arrangement)
     → list_any test (pairs_by_number a) ≡ (list_any test (by_place a.s1 a.s2) || list_any test (by_place a.s1r a.s2r))
 pairs_found test a = list_any-append test (by_place a.s1 a.s2) (by_place a.s1r a.s2r)
 
-member_append : (p : ℕ) (xs ys : List ℕ) → is_member p (xs ++ ys) ≡ (is_member p xs || is_member p ys)
-member_append p xs ys = list_any-append _ xs ys
-
 -- a player is paired where he is in one of the four lists
 pub player_found : (p : ℕ) (a : Arrangement)
     → is_member p (paired a) ≡ (is_member p a.s1 || (is_member p a.s2 || (is_member p a.s1r || is_member p a.s2r)))
 player_found p a =
-    member_append p a.s1 (a.s2 ++ (a.s1r ++ a.s2r))
-    ∙ ap (λ t. is_member p a.s1 || t) (member_append p a.s2 (a.s1r ++ a.s2r))
-    ∙ ap (λ t. is_member p a.s1 || (is_member p a.s2 || t)) (member_append p a.s1r a.s2r)
+    member-append p a.s1 (a.s2 ++ (a.s1r ++ a.s2r))
+    ∙ ap (λ t. is_member p a.s1 || t) (member-append p a.s2 (a.s1r ++ a.s2r))
+    ∙ ap (λ t. is_member p a.s1 || (is_member p a.s2 || t)) (member-append p a.s1r a.s2r)
 
 no_seconds : (xs : List ℕ) → by_place xs [] ≡ []
 no_seconds [] = refl
