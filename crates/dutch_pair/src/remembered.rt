@@ -6,7 +6,6 @@ ghost use Rattle.std.specs.Prelude.{◌≡◌, ◌≤◌, true, false, [], lengt
 ghost use Rattle.std.specs.Map.{lookup};
 ghost use Rattle.lru.specs.LruCache.{lru_cache, promoted, put_entries};
 ghost use Rattle.dutch_pair.specs.declared.reached.BracketKind.TheVariants.{Ordinary};
-ghost use Rattle.std.specs.Option.{MatchOption};
 ghost use Rattle.dutch_pair.specs.Reached.{IsOf};
 ghost use Rattle.dutch_pair.specs.NextBracket.{IsNext, IsOfBracket, AreLeft, quality};
 ghost use Rattle.dutch_pair.specs.QualityIn.{quality_in, next_in};
