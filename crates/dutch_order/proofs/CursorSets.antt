@@ -1,8 +1,8 @@
 -- The lists of a cursor's arrangement are the sets and tuples of the bracket's players.
-use Rattle.std.proofs.Common.{◌≡◌, ℕ, zero, suc, ◌+◌, ◌-◌, ◌<◌, ◌≤◌, Bool, true, false, not, ◌&&◌, ◌==◌, eqb, ltb, cond, List, [], ◌∷◌, map, length, refl, sym, ap, ◌∙◌, arith, subst, inl, inr, ◌⊎◌, Option, Some, None}
+use Rattle.std.proofs.Common.{◌≡◌, ℕ, zero, suc, ◌+◌, ◌-◌, ◌<◌, ◌≤◌, Bool, true, false, not, ◌&&◌, ◌==◌, eqb, ltb, cond, List, [], ◌∷◌, map, length, refl, sym, ap, ◌∙◌, arith, subst, inl, inr, Option, Some, None}
 use Rattle.std.specs.Prelude.{Ok, Err, nat_le}
 use Rattle.std.specs.Option.{is_some, IfSome}
-use Rattle.std.specs.List.{filter, AllByRecursion}
+use Rattle.std.specs.List.{AllByRecursion}
 use Rattle.std.proofs.lemmas.Bool.{ltb-true, lt-ltb, le-leb, eq-eqb, eqb-true, ne_eqb, or_cases, or_left, or_right, and_parts, and_from, not-true, not_from_false, false_from_ne_true, true≢false}
 use Rattle.dutch_order.specs.Choices.{subsets, tuples, is_member, without, numbers_from}
 use Rattle.dutch_order.specs.Keys.{IsIn}
@@ -13,7 +13,7 @@ use Rattle.dutch_order.specs.declared.bracket.Shape.{Shape}
 use Rattle.dutch_order.specs.declared.cursor.CursorFault.TheVariants.{NotOfBracket}
 use Rattle.dutch_order.proofs.HalfWalks.{Climbs}
 use Rattle.dutch_order.proofs.StageSets.{Climbs-length}
-use Rattle.dutch_order.proofs.Orders.{Rises, all_members, member_has, IsIn-append, IsIn-front, IsIn-back, IsIn-map, map-IsIn, IsIn-flat_map, flat_map-IsIn}
+use Rattle.dutch_order.proofs.Orders.{Rises, all_members, member_has, IsIn-append, IsIn-front, IsIn-back, IsIn-map, map-IsIn, IsIn-flat_map, flat_map-IsIn, IsIn-filter, filter-IsIn}
 use Rattle.dutch_order.specs.declared.numbers.TheConstants.{LIMIT}
 
 -- membership, as a test and as a fact
@@ -29,30 +29,6 @@ pub in-member : (x : ℕ) (xs : List ℕ) → IsIn x xs → is_member x xs ≡ t
 in-member x [] m = absurd m
 in-member x (y ∷ ys) (inl same) = or_left (eqb y x) (is_member x ys) (eq-eqb y x (sym same))
 in-member x (y ∷ ys) (inr m) = or_right (eqb y x) (is_member x ys) (in-member x ys m)
-
-kept-cond : (x y : ℕ) (b : Bool) (ys : List ℕ) → IsIn x (cond b (y ∷ ys) ys) → ((x ≡ y) × (b ≡ true)) ⊎ IsIn x ys
-kept-cond x y true ys (inl same) = inl (same, refl)
-kept-cond x y true ys (inr m) = inr m
-kept-cond x y false ys m = inr m
-
--- what a filter keeps
-pub kept-in : (p : ℕ → Bool) (x : ℕ) (xs : List ℕ) → IsIn x (filter p xs) → IsIn x xs × (p x ≡ true)
-kept-in p x [] m = absurd m
-kept-in p x (y ∷ ys) m =
-    elim (kept-cond x y (p y) (filter p ys) m) [
-      | inl here ↦ (inl here.0, ap p here.0 ∙ here.1)
-      | inr later ↦ (inr (kept-in p x ys later).0, (kept-in p x ys later).1)
-    ]
-
-pub in-kept : (p : ℕ → Bool) (x : ℕ) (xs : List ℕ) → IsIn x xs → p x ≡ true → IsIn x (filter p xs)
-in-kept p x [] m passes = absurd m
-in-kept p x (y ∷ ys) (inl same) passes =
-    subst (λ b. IsIn x (cond b (y ∷ filter p ys) (filter p ys))) (sym passes ∙ ap p same) (inl same)
-in-kept p x (y ∷ ys) (inr m) passes =
-    elim (p y) as (λ b. IsIn x (cond b (y ∷ filter p ys) (filter p ys))) [
-      | true ↦ inr (in-kept p x ys m passes)
-      | false ↦ in-kept p x ys m passes
-    ]
 
 -- all are of a pool
 abbrev pub Within : List ℕ → List ℕ → Type 0
@@ -155,7 +131,7 @@ tuple-from (suc k) pool (x ∷ tuple) d within same =
     flat_map-IsIn (λ x. map (λ tuple. x ∷ tuple) (tuples (without x pool) k)) (x ∷ tuple) x pool (within x (inl refl))
     (map-IsIn (λ tuple. x ∷ tuple) tuple (tuples (without x pool) k)
     (tuple-from k (without x pool) tuple both.1
-    (λ y m. in-kept (λ y. not (eqb y x)) y pool (within y (inr m))
+    (λ y m. filter-IsIn (λ y. not (eqb y x)) y pool (within y (inr m))
     (not_from_false (eqb y x) (ne_eqb y x (λ e. true≢false (sym (in-member x tuple (subst (λ z. IsIn z tuple) e m)) ∙ not-true (is_member x tuple) both.0)))))
     (omega arith)))
 
@@ -169,9 +145,9 @@ with_head x pool k tuple in_pool are = record {
   different = and_from (not (is_member x tuple)) (are_different tuple)
       (not_from_false (is_member x tuple)
       (false_from_ne_true (is_member x tuple)
-      (λ h. true≢false (sym (eq-eqb x x refl) ∙ not-true (eqb x x) (kept-in (λ y. not (eqb y x)) x pool (are.within x (member-in x tuple h))).1))))
+      (λ h. true≢false (sym (eq-eqb x x refl) ∙ not-true (eqb x x) (IsIn-filter (λ y. not (eqb y x)) x pool (are.within x (member-in x tuple h))).1))))
       are.different;
-  within = λ y m. elim m [ inl here ↦ subst (λ z. IsIn z pool) (sym here) in_pool | inr n ↦ (kept-in (λ y. not (eqb y x)) y pool (are.within y n)).0 ];
+  within = λ y m. elim m [ inl here ↦ subst (λ z. IsIn z pool) (sym here) in_pool | inr n ↦ (IsIn-filter (λ y. not (eqb y x)) y pool (are.within y n)).0 ];
   count = ap suc are.count;
 }
 
@@ -250,7 +226,7 @@ lists-are frame shape a h =
     }
 
 pub left-within : (pool taken : List ℕ) → Within pool (left_of pool taken)
-left-within pool taken x m = (kept-in (λ y. not (is_member y taken)) x pool m).0
+left-within pool taken x m = (IsIn-filter (λ y. not (is_member y taken)) x pool m).0
 
 pub of-short : (frame : Frame) (shape : Shape) (a : Arrangement) → frame.mdps ≤ LIMIT → length frame.scores - frame.mdps ≤ LIMIT → is_of frame shape a ≡ true → is_short a ≡ true
 of-short frame shape a few_down few h =

@@ -64,7 +64,7 @@ or_none : (b : Bool) → (b || false) ≡ b
 or_none true = refl
 or_none false = refl
 
-numbers-climb : (first count bound : ℕ) → first + count ≤ bound → Climbs first bound (numbers_from first count)
+pub numbers-climb : (first count bound : ℕ) → first + count ≤ bound → Climbs first bound (numbers_from first count)
 numbers-climb first zero bound h = tt
 numbers-climb first (suc count) bound h = (omega arith, omega arith, numbers-climb (suc first) count bound (omega arith))
 

@@ -25,7 +25,7 @@ is_same-true (x ∷ xs) (y ∷ ys) same =
 abbrev pub is_late : (List ℕ → List ℕ) → List ℕ → List ℕ → Bool
 is_late key choice other = not (is_before (key other) (key choice))
 
-filter-each : (p : List ℕ → Bool) (xs : List (List ℕ)) → ((x : List ℕ) → IsIn x xs → p x ≡ true) → filter p xs ≡ xs
+pub filter-each : {X : Type 0} (p : X → Bool) (xs : List X) → ((x : X) → IsIn x xs → p x ≡ true) → filter p xs ≡ xs
 filter-each p [] each = refl
 filter-each p (x ∷ xs) each =
     ap (λ b. cond b (x ∷ filter p xs) (filter p xs)) (each x (inl refl)) ∙ ap (λ rest. x ∷ rest) (filter-each p xs (λ y m. each y (inr m)))

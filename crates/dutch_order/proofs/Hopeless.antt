@@ -15,7 +15,7 @@ use Rattle.dutch_order.proofs.Members.{length-numbers}
 use Rattle.dutch_order.proofs.Counts.{tuples-length, left-length, numbers-rise}
 use Rattle.dutch_order.proofs.Listed.{limbo-length, exchange-length}
 
-filter-none-in : {A : Type 0} (p : A → Bool) (xs : List A) → ((x : A) → IsIn x xs → p x ≡ false) → filter p xs ≡ []
+pub filter-none-in : {A : Type 0} (p : A → Bool) (xs : List A) → ((x : A) → IsIn x xs → p x ≡ false) → filter p xs ≡ []
 filter-none-in p [] none = refl
 filter-none-in p (x ∷ xs) none =
     ap (λ b. cond b (x ∷ filter p xs) (filter p xs)) (none x (inl refl)) ∙ filter-none-in p xs (λ y m. none y (inr m))

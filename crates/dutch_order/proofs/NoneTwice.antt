@@ -7,8 +7,8 @@ use Rattle.dutch_order.specs.Keys.{IsIn}
 use Rattle.dutch_order.specs.Arrangements.{left_of}
 use Rattle.dutch_order.specs.Cursors.{are_different}
 use Rattle.dutch_order.specs.Forms.{by_place, players_in, NoneTwice, FirstsAscend}
-use Rattle.dutch_order.proofs.Orders.{Rises, all_members, member_has, IsIn-append, IsIn-front, IsIn-back, IsIn-map}
-use Rattle.dutch_order.proofs.CursorSets.{member-in, in-member, kept-in, in-kept}
+use Rattle.dutch_order.proofs.Orders.{Rises, all_members, member_has, IsIn-append, IsIn-front, IsIn-back, IsIn-map, IsIn-filter, filter-IsIn}
+use Rattle.dutch_order.proofs.CursorSets.{member-in, in-member}
 
 -- ---- lists without a number twice
 
@@ -53,12 +53,12 @@ twice-apart (x ∷ xs) ys h z (inr m) n = twice-apart xs ys h.1 z m n
 -- what is not taken is left
 pub left-in : (z : ℕ) (numbers taken : List ℕ) → IsIn z numbers → (IsIn z taken → ⊥) → IsIn z (left_of numbers taken)
 left-in z numbers taken m off =
-    in-kept (λ x. not (is_member x taken)) z numbers m
+    filter-IsIn (λ x. not (is_member x taken)) z numbers m
     (not_from_false (is_member z taken) (false_from_ne_true (is_member z taken) (λ t. off (member-in z taken t))))
 
 pub in-left : (z : ℕ) (numbers taken : List ℕ) → IsIn z (left_of numbers taken) → IsIn z numbers × (IsIn z taken → ⊥)
 in-left z numbers taken m =
-    let kept = kept-in (λ x. not (is_member x taken)) z numbers m in
+    let kept = IsIn-filter (λ x. not (is_member x taken)) z numbers m in
     (kept.0, λ n. true≢false (sym (in-member z taken n) ∙ not-true (is_member z taken) kept.1))
 
 -- ---- the players of pairs

@@ -13,7 +13,7 @@ use Rattle.dutch_order.specs.Arrangements.{Frame, Arrangement, residents_of, mov
 use Rattle.dutch_order.specs.Levels.{arranged}
 use Rattle.dutch_order.proofs.FromOn.{is_same-true}
 use Rattle.dutch_order.proofs.Sets.{put-in, sorted-in}
-use Rattle.dutch_order.proofs.Orders.{Rises, Rises-filter, IsIn-append, IsIn-map, IsIn-flat_map, member_has, is_before-irreflexive}
+use Rattle.dutch_order.proofs.Orders.{Rises, Rises-filter, IsIn-append, IsIn-map, IsIn-flat_map, member_has, is_before-irreflexive, IsIn-filter}
 use Rattle.dutch_order.proofs.CursorSets.{subset-to}
 use Rattle.dutch_order.proofs.CursorArrangements.{rises-numbers, pool-rises}
 use Rattle.dutch_order.proofs.TupleSearch.{tuples-ascend}
@@ -47,18 +47,9 @@ flat_map-once f part (x ∷ xs) tells each once =
     once.0 (subst (λ z. IsIn z xs) (sym (tells from.0 y from.2) ∙ tells x y m) from.1))
 
 pub kept-is_in : {X : Type 0} (p : X → Bool) (x : X) (xs : List X) → IsIn x (filter p xs) → IsIn x xs
-kept-is_in p x [] m = m
-kept-is_in p x (y ∷ ys) m =
-    elim (cases_Bool (p y)) [
-      | inl passes ↦
-          elim (subst (λ b. IsIn x (cond b (y ∷ filter p ys) (filter p ys))) passes m) [
-            | inl same ↦ inl same
-            | inr later ↦ inr (kept-is_in p x ys later)
-          ]
-      | inr fails ↦ inr (kept-is_in p x ys (subst (λ b. IsIn x (cond b (y ∷ filter p ys) (filter p ys))) fails m))
-    ]
+kept-is_in p x xs m = (IsIn-filter p x xs m).0
 
-filter-once : {X : Type 0} (p : X → Bool) (xs : List X) → HasEachOnce xs → HasEachOnce (filter p xs)
+pub filter-once : {X : Type 0} (p : X → Bool) (xs : List X) → HasEachOnce xs → HasEachOnce (filter p xs)
 filter-once p [] once = tt
 filter-once p (x ∷ xs) once =
     elim (p x) as (λ b. HasEachOnce (cond b (x ∷ filter p xs) (filter p xs))) [

@@ -220,7 +220,7 @@ Ascends-filter key p (x ∷ xs) ascends =
       | false ↦ Ascends-filter key p xs ascends.1
     ]
 
-pub IsIn-filter : (p : List ℕ → Bool) (c : List ℕ) (xs : List (List ℕ)) → IsIn c (filter p xs) → IsIn c xs × (p c ≡ true)
+pub IsIn-filter : {X : Type 0} (p : X → Bool) (c : X) (xs : List X) → IsIn c (filter p xs) → IsIn c xs × (p c ≡ true)
 IsIn-filter p c [] m = absurd m
 IsIn-filter p c (x ∷ xs) m =
     elim (cases_Bool (p x)) [
@@ -234,7 +234,7 @@ IsIn-filter p c (x ∷ xs) m =
           (inr later.0, later.1)
     ]
 
-pub filter-IsIn : (p : List ℕ → Bool) (c : List ℕ) (xs : List (List ℕ)) → IsIn c xs → p c ≡ true → IsIn c (filter p xs)
+pub filter-IsIn : {X : Type 0} (p : X → Bool) (c : X) (xs : List X) → IsIn c xs → p c ≡ true → IsIn c (filter p xs)
 filter-IsIn p c [] m passes = absurd m
 filter-IsIn p c (x ∷ xs) (inl same) passes =
     subst (λ b. IsIn c (cond b (x ∷ filter p xs) (filter p xs))) (sym (sym (ap p same) ∙ passes)) (inl same)

@@ -11,8 +11,8 @@ use Rattle.dutch_order.specs.Forms.{pairs_by_number}
 use Rattle.dutch_order.specs.Keys.{HasEachOnce, IsIn}
 use Rattle.dutch_order.proofs.CursorSets.{in-member, member-in}
 use Rattle.dutch_order.proofs.NoneTwice.{in-left, left-in}
-use Rattle.dutch_order.proofs.Once.{candidates-once}
-use Rattle.dutch_order.proofs.Orders.{IsIn-back}
+use Rattle.dutch_order.proofs.Once.{candidates-once, filter-once}
+use Rattle.dutch_order.proofs.Orders.{IsIn-back, IsIn-filter, filter-IsIn}
 use Rattle.dutch_player.specs.Facts.{Facts}
 use Rattle.dutch_pair.specs.declared.wish.Wish.{Wish}
 use Rattle.dutch_pair.specs.declared.wish.Wish.TheVariants.{Over, Pair}
@@ -23,7 +23,6 @@ use Rattle.dutch_pair.specs.Reached.{Reached, frame_of, number_may_be_left, numb
 use Rattle.dutch_pair.specs.Round.{best_of_shape, candidates_of, eligible, is_better_in, quality_of}
 use Rattle.dutch_pair.specs.Wishes.{ComesBefore, IsAsGoodBefore, are_these, best_granting, grants, granting}
 use Rattle.dutch_pair.proofs.BestLemmas.{in_unbeaten, order_in}
-use Rattle.dutch_pair.proofs.Downfloaters.{kept_of, of_kept}
 use Rattle.dutch_pair.proofs.QualityOrder.{total}
 
 -- ---- when a wish is granted
@@ -157,22 +156,13 @@ module _ (better : Arrangement → Arrangement → Bool) where
   comes_first all (y ∷ rest) c a e m h =
       before_at all y c a rest (is_unbeaten better all y) refl e m h (λ found n. comes_first all rest c a found n h)
 
-once_at : (test : Arrangement → Bool) (y : Arrangement) (ys : List Arrangement) (t : Bool) → (IsIn y ys → ⊥) → HasEachOnce (filter test ys)
-    → HasEachOnce (cond t (y ∷ filter test ys) (filter test ys))
-once_at test y ys true none once = ((λ m. none (kept_of test y ys m).0), once)
-once_at test y ys false none once = once
-
-once_kept : (test : Arrangement → Bool) (ys : List Arrangement) → HasEachOnce ys → HasEachOnce (filter test ys)
-once_kept test [] once = tt
-once_kept test (y ∷ ys) once = once_at test y ys (test y) once.0 (once_kept test ys once.1)
-
 module _ (facts : Facts) (reached : Reached) (lower : List ℕ) (shape : Shape) where
   abbrev can_be : List Arrangement
   can_be = eligible facts reached lower shape
 
   once : HasEachOnce (eligible facts reached lower shape)
   once =
-      once_kept (can_be_chosen facts reached lower) (candidates_of facts reached shape)
+      filter-once (can_be_chosen facts reached lower) (candidates_of facts reached shape)
       (candidates-once (numbers_meet facts reached) (number_may_be_left facts reached) (frame_of facts reached) shape)
 
   module _ (wish : Wish) (a : Arrangement) (found : best_granting facts reached lower shape wish ≡ Some a) where
@@ -183,13 +173,13 @@ module _ (facts : Facts) (reached : Reached) (lower : List ℕ) (shape : Shape) 
     among = in_unbeaten better (granting facts reached lower shape wish) (granting facts reached lower shape wish) a found
 
     pub best_grants : (grants wish a ≡ true) × IsIn a (eligible facts reached lower shape)
-    best_grants = let kept = kept_of (grants wish) a can_be among in (kept.1, kept.0)
+    best_grants = let kept = IsIn-filter (grants wish) a can_be among in (kept.1, kept.0)
 
     unbeaten : is_unbeaten better (granting facts reached lower shape wish) a ≡ true
     unbeaten = is_one better (granting facts reached lower shape wish) (granting facts reached lower shape wish) a found
 
     pub best_unbeaten : (b : Arrangement) → IsIn b (eligible facts reached lower shape) → grants wish b ≡ true → is_better_in facts reached lower b a ≡ false
-    best_unbeaten b m h = none_better better (granting facts reached lower shape wish) a b unbeaten (of_kept (grants wish) b can_be m h)
+    best_unbeaten b m h = none_better better (granting facts reached lower shape wish) a b unbeaten (filter-IsIn (grants wish) b can_be m h)
 
     parted : (b : Arrangement) → (before : ComesBefore b a can_be) → grants wish b ≡ true
         → granting facts reached lower shape wish ≡ filter (grants wish) before.front ++ b ∷ filter (grants wish) before.behind
@@ -201,8 +191,8 @@ module _ (facts : Facts) (reached : Reached) (lower : List ℕ) (shape : Shape) 
     loses : (b : Arrangement) → ComesBefore b a can_be → grants wish b ≡ true → is_unbeaten better (granting facts reached lower shape wish) b ≡ false
     loses b before h =
         beaten_before better (granting facts reached lower shape wish) (granting facts reached lower shape wish) a b (filter (grants wish) before.front)
-        (filter (grants wish) before.behind) (once_kept (grants wish) can_be once) found (parted b before h)
-        (of_kept (grants wish) a before.behind before.later best_grants.0)
+        (filter (grants wish) before.behind) (filter-once (grants wish) can_be once) found (parted b before h)
+        (filter-IsIn (grants wish) a before.behind before.later best_grants.0)
 
     pub best_first : (b : Arrangement) → ComesBefore b a (eligible facts reached lower shape) → grants wish b ≡ true → is_better_in facts reached lower a b ≡ true
     best_first b before h =

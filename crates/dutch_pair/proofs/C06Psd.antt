@@ -2,7 +2,7 @@
 -- pairs: other pairs and downfloaters only add differences. Where all residents have one score, it is known by S1 alone: each
 -- moved-down player meets a resident with that score or goes down, each pair of residents is even, and how many residents go down the
 -- shape tells.
-use Rattle.std.proofs.Common.{◌≡◌, ℕ, zero, suc, ◌+◌, ◌-◌, ◌<◌, ◌≤◌, true, false, List, [], ◌∷◌, ◌++◌, map, length, inl, inr, refl, sym, ap, ◌∙◌, arith}
+use Rattle.std.proofs.Common.{◌≡◌, ℕ, suc, ◌+◌, ◌-◌, ◌<◌, ◌≤◌, true, false, List, [], ◌∷◌, ◌++◌, map, length, inl, inr, refl, sym, ap, ◌∙◌, arith}
 use Rattle.std.specs.declared.cmp.Ordering.{Ordering}
 use Rattle.std.specs.declared.cmp.Ordering.TheVariants.{Less, Equal, Greater}
 use Rattle.std.specs.Ordering.{nat_cmp, is_lt, ordering_reverse}
@@ -32,6 +32,7 @@ use Rattle.dutch_pair.proofs.FlatBrackets.{one_score_of, seats_fall}
 use Rattle.dutch_pair.proofs.FixedPairs.{Beside, beside}
 use Rattle.dutch_pair.proofs.PairsWithBeginning.{no_less}
 use Rattle.dutch_pair.proofs.PsdParts.{psd_copies}
+use Rattle.dutch_order.proofs.ExchangeSets.{numbers-climb}
 
 -- the PSD is not lower than what is known of it
 pub psd_of_known : (facts : Facts) (reached : Reached) (lower : List ℕ) (known : List (ℕ × ℕ)) (gone : List ℕ) (a : Arrangement) → Beside known (all_pairs reached.seats a)
@@ -105,10 +106,6 @@ all_that_fit low bound (x ∷ xs) climbs full =
     let later : xs ≡ numbers_from (suc x) (length xs) = all_that_fit (suc x) bound xs climbs.2 (omega (arith, first, full)) in
     ap (λ rest. x ∷ rest) later ∙ ap (λ k. k ∷ numbers_from (suc k) (length xs)) first
 
-numbers_climb : (low bound count : ℕ) → low + count ≤ bound → Climbs low bound (numbers_from low count)
-numbers_climb low bound zero h = tt
-numbers_climb low bound (suc n) h = (omega arith, omega arith, numbers_climb (suc low) bound n (omega arith))
-
 -- what a value of a number comes to, where it is one and the same for all
 one_value : (f : ℕ → ℕ) (c q low : ℕ) (xs : List ℕ) → 0 < low → ((i : ℕ) → 0 < i → i ≤ q → f i ≡ c) → Climbs low (1 + q) xs → map f xs ≡ repeated c (length xs)
 one_value f c q low [] p same climbs = refl
@@ -158,7 +155,7 @@ module _ (facts : Facts) (reached : Reached) (shape : Shape) (s : ℕ) where
       let q = reached.mdps in
       let shared = filter-length (λ x. is_member x s1) (numbers_from 1 q) in
       let room : shape.mdps ≤ q = omega (arith, counted, shared, ap length (climbs-filter 1 q s1 climbs), length-numbers 1 q) in
-      let firsts = psd_of_count same (numbers_from 1 shape.mdps) (numbers_climb 1 (1 + q) shape.mdps (omega arith)) in
+      let firsts = psd_of_count same (numbers_from 1 shape.mdps) (numbers-climb 1 shape.mdps (1 + q) (omega arith)) in
       psd_of_count same s1 climbs
       ∙ ap (λ n. highest_first (repeated (by_one 1) n ++ (repeated (by_limbo 1) (q - n) ++ others))) (counted ∙ sym (length-numbers 1 shape.mdps))
       ∙ sym firsts

@@ -2,7 +2,7 @@
 --
 -- Both rules choose from one list of shapes, in which the numbers of pairs do not rise, and each shape that has an arrangement by the
 -- stronger rule has one by the weaker. So the first shape that has one by the weaker rule stands no later in that list.
-use Rattle.std.proofs.Common.{◌≡◌, ℕ, zero, suc, ◌-◌, ◌/◌, ◌≤◌, Bool, true, false, not, ◌&&◌, ◌||◌, nat_lt, cond, inl, inr, List, [], ◌∷◌, ◌++◌, map, filter, length, Some, None, refl, sym, ap, ◌∙◌, arith, subst}
+use Rattle.std.proofs.Common.{◌≡◌, ℕ, zero, suc, ◌-◌, ◌/◌, ◌≤◌, Bool, true, false, not, ◌&&◌, ◌||◌, nat_lt, cond, inl, inr, List, [], ◌∷◌, ◌++◌, map, filter, length, Some, None, refl, sym, ap, ◌∙◌, arith}
 use Rattle.std.proofs.lemmas.Bool.{cases_Bool}
 use Rattle.std.specs.List.{AllByRecursion}
 use Rattle.std.specs.Prelude.{flat_map}
@@ -14,14 +14,12 @@ use Rattle.dutch_order.specs.Arrangements.{Frame, Arrangement, arrangements, can
 use Rattle.dutch_pair.specs.Shapes.{down_from, fits, shapes_with, shapes, has_member, first_with, greatest_shape}
 use Rattle.dutch_pair.proofs.AllLemmas.{all_join, all_filter}
 use Rattle.dutch_pair.proofs.ShapeSearch.{shape_with}
+use Rattle.dutch_player.proofs.PresentLemmas.{or_more}
+use Rattle.dutch_order.proofs.Orders.{IsIn-filter, filter-IsIn, member_has}
 
 and_weaker : (s t s' t' : Bool) → (s ≡ true → s' ≡ true) → (t ≡ true → t' ≡ true) → (s && t) ≡ true → (s' && t') ≡ true
 and_weaker true t s' t' f g e = ap (λ b. b && t') (f refl) ∙ g e
 and_weaker false t s' t' f g e = let bad : false ≡ true = e in absurd (cc)
-
-or_weaker : (s t t' : Bool) → (t ≡ true → t' ≡ true) → (s || t) ≡ true → (s || t') ≡ true
-or_weaker true t t' g e = refl
-or_weaker false t t' g e = g e
 
 module _ (meets meets' : ℕ → ℕ → Bool) (left left' : ℕ → Bool) (more : (i j : ℕ) → meets i j ≡ true → meets' i j ≡ true) (may : (i : ℕ) → left i ≡ true → left' i ≡ true) where
   all_weaker : (xs ys : List ℕ) → all_meet meets xs ys ≡ true → all_meet meets' xs ys ≡ true
@@ -42,7 +40,7 @@ module _ (meets meets' : ℕ → ℕ → Bool) (left left' : ℕ → Bool) (more
       (all_weaker a.s1 a.s2)
       (and_weaker (all_meet meets a.s1r a.s2r) (not frame.last || leaves_one left (down frame a))
       (all_meet meets' a.s1r a.s2r) (not frame.last || leaves_one left' (down frame a))
-      (all_weaker a.s1r a.s2r) (or_weaker (not frame.last) (leaves_one left (down frame a)) (leaves_one left' (down frame a)) (one_weaker (down frame a))))
+      (all_weaker a.s1r a.s2r) (or_more (not frame.last) (leaves_one left (down frame a)) (leaves_one left' (down frame a)) (one_weaker (down frame a))))
       e
 
   filter_weaker : (p q : Arrangement → Bool) → ((a : Arrangement) → p a ≡ true → q a ≡ true) → (xs : List Arrangement) → has_member (filter p xs) ≡ true → has_member (filter q xs) ≡ true
@@ -112,40 +110,6 @@ not_none e (x ∷ xs) s m has h =
       ]
     ]
 
-pub member_fits : (p : Shape → Bool) (s : Shape) (xs : List Shape) → IsIn s (filter p xs) → IsIn s xs × (p s ≡ true)
-member_fits p s [] m = absurd m
-member_fits p s (x ∷ xs) m =
-    elim (cases_Bool (p x)) [
-      | inl on ↦
-          let kept : IsIn s (x ∷ filter p xs) = subst (IsIn s) (ap (λ t. cond t (x ∷ filter p xs) (filter p xs)) on) m in
-          elim kept [
-            | inl same ↦ (inl same, ap p same ∙ on)
-            | inr later ↦ (let both = member_fits p s xs later in (inr both.0, both.1))
-          ]
-      | inr off ↦
-          let both = member_fits p s xs (subst (IsIn s) (ap (λ t. cond t (x ∷ filter p xs) (filter p xs)) off) m) in
-          (inr both.0, both.1)
-    ]
-
-pub fits_member : (p : Shape → Bool) (s : Shape) (xs : List Shape) → IsIn s xs → p s ≡ true → IsIn s (filter p xs)
-fits_member p s [] m e = m
-fits_member p s (x ∷ xs) m e =
-    elim (cases_Bool (p x)) [
-      | inl on ↦
-          subst (IsIn s) (sym (ap (λ t. cond t (x ∷ filter p xs) (filter p xs)) on))
-          (elim m as (λ _. IsIn s (x ∷ filter p xs)) [ inl same ↦ inl same | inr later ↦ inr (fits_member p s xs later e) ])
-      | inr off ↦
-          subst (IsIn s) (sym (ap (λ t. cond t (x ∷ filter p xs) (filter p xs)) off))
-          (elim m as (λ _. IsIn s (filter p xs)) [
-            | inl same ↦ (let bad : true ≡ false = sym e ∙ ap p same ∙ off in absurd (cc))
-            | inr later ↦ fits_member p s xs later e
-          ])
-    ]
-
-member_all : (P : Shape → Type 0) (s : Shape) (xs : List Shape) → AllByRecursion P xs → IsIn s xs → P s
-member_all P s [] all m = absurd m
-member_all P s (x ∷ xs) all m = elim m [ inl same ↦ subst P (sym same) all.0 | inr later ↦ member_all P s xs all.1 later ]
-
 -- of some shapes that sink the first by the weaker test has no fewer pairs
 no_fewer : (e e' : Shape → List Arrangement) → ((shape : Shape) → has_member (e shape) ≡ true → has_member (e' shape) ≡ true)
     → (xs : List Shape) → Sinks xs → (s : Shape) → first_with e xs ≡ Some s → (s' : Shape) × (first_with e' xs ≡ Some s') × (s.pairs ≤ s'.pairs)
@@ -157,7 +121,7 @@ no_fewer e e' each (x ∷ xs) sinks s h =
         ap (λ t. cond t (Some x) (first_with e' xs)) on,
         elim (found_in e (x ∷ xs) s h) [
           | inl same ↦ omega (arith, ap (λ (t : Shape). t.pairs) same)
-          | inr later ↦ member_all (λ y. y.pairs ≤ x.pairs) s xs sinks.0 later
+          | inr later ↦ member_has (λ y. y.pairs ≤ x.pairs) xs sinks.0 s later
         ],
       )
       | inr off ↦
@@ -176,13 +140,13 @@ a_weaker_rule_has_no_fewer_pairs meets meets' left left' more may frame s h =
 
 -- a shape that is found fits, has an arrangement, and has at most half the players in pairs
 pub found_fits : (e : Shape → List Arrangement) (frame : Frame) (s : Shape) → greatest_shape e frame ≡ Some s → fits frame s ≡ true
-found_fits e frame s h = (member_fits (fits frame) s (flat_map shapes_with (down_from (length frame.scores / 2))) (found_in e (shapes frame) s h)).1
+found_fits e frame s h = (IsIn-filter (fits frame) s (flat_map shapes_with (down_from (length frame.scores / 2))) (found_in e (shapes frame) s h)).1
 
 pub found_few : (e : Shape → List Arrangement) (frame : Frame) (s : Shape) → greatest_shape e frame ≡ Some s → s.pairs ≤ length frame.scores / 2
 found_few e frame s h =
     let n = length frame.scores / 2 in
-    member_all (λ (y : Shape). y.pairs ≤ n) s (flat_map shapes_with (down_from n)) (upto n n (omega arith))
-    (member_fits (fits frame) s (flat_map shapes_with (down_from n)) (found_in e (shapes frame) s h)).0
+    member_has (λ (y : Shape). y.pairs ≤ n) (flat_map shapes_with (down_from n)) (upto n n (omega arith)) s
+    (IsIn-filter (fits frame) s (flat_map shapes_with (down_from n)) (found_in e (shapes frame) s h)).0
 
 -- the shape without a pair
 abbrev pub empty : Shape
@@ -207,4 +171,4 @@ always_a_shape meets left frame open' h =
     let alone : Arrangement = record { s1 = []; s2 = []; s1r = []; s2r = [] } in
     let has : has_member (candidates meets left frame empty) ≡ true =
     ap (λ t. has_member (cond (not t || leaves_one left (down frame alone)) (alone ∷ []) [])) open' in
-    not_none (candidates meets left frame) (shapes frame) empty (fits_member (fits frame) empty listed (empty_listed (length frame.scores / 2)) room) has h
+    not_none (candidates meets left frame) (shapes frame) empty (filter-IsIn (fits frame) empty listed (empty_listed (length frame.scores / 2)) room) has h

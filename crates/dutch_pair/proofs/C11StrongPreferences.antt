@@ -1,7 +1,7 @@
 -- C.04.3 C.11: how many players miss a strong preference at least, where C.8 and C.9 are those of the beginning. Of a pair who may
 -- meet and both have a firm preference for one colour somebody misses a strong one, or the pair counts for C.8 or C.9. So where more
 -- free players have a firm preference for a colour than there are pairs to make and downfloaters, each one more misses a strong one.
-use Rattle.std.proofs.Common.{◌≡◌, ℕ, ◌+◌, ◌≤◌, Bool, true, false, not, ◌&&◌, ◌||◌, nat_lt, cond, if◌then◌else◌, List, [], ◌∷◌, length, filter, Option, Some, None, sum_by, refl, ap, ◌∙◌, arith}
+use Rattle.std.proofs.Common.{◌≡◌, ℕ, ◌+◌, ◌≤◌, Bool, true, false, not, ◌&&◌, ◌||◌, nat_lt, cond, if◌then◌else◌, List, [], ◌∷◌, length, filter, Option, sum_by, refl, ap, ◌∙◌, arith}
 use Rattle.std.specs.List.{AllByRecursion}
 use Rattle.std.specs.Option.{option_map_or}
 use Rattle.std.proofs.lemmas.Bool.{and_parts}
@@ -28,25 +28,7 @@ use Rattle.dutch_pair.proofs.FixedPairs.{Beside, beside, none_known, sum_beside}
 use Rattle.dutch_pair.proofs.FreePlayers.{free_served}
 use Rattle.dutch_pair.proofs.GrantedColours.{at_most_one, adds, firm_served}
 use Rattle.dutch_pair.proofs.LegalPairs.{legal_of, others_meet}
-
--- the colours clash in either order
-same_swapped : (c d : Colour) → is_same c d ≡ is_same d c
-same_swapped White White = refl
-same_swapped White Black = refl
-same_swapped Black White = refl
-same_swapped Black Black = refl
-
-and_swapped : (a b c : Bool) → ((a && b) && c) ≡ ((b && a) && c)
-and_swapped true true c = refl
-and_swapped true false c = refl
-and_swapped false true c = refl
-and_swapped false false c = refl
-
-clash_swapped : (p q : Option Pref) → clash p q ≡ clash q p
-clash_swapped None None = refl
-clash_swapped None (Some y) = refl
-clash_swapped (Some x) None = refl
-clash_swapped (Some x) (Some y) = grind (arith, and_swapped, same_swapped)
+use Rattle.dutch_player.proofs.LawLemmas.{clash_comm}
 
 -- the preference of a seat
 abbrev wish_of : Facts → ℕ → Option Pref
@@ -83,7 +65,7 @@ in_order : (facts : Facts) (c : Colour) (a b : ℕ) (top first : Bool) → (top 
     ≤ 1 + (count_of_both facts (misses StrongPreference) (coloured facts a b first) + top_counted facts top (coloured facts a b first))
 in_order facts c a b top true allowed = higher_first facts c a b top allowed
 in_order facts c a b top false allowed =
-    omega (arith, higher_first facts c b a top (ap (λ t. top || not t) (clash_swapped (wish_of facts b) (wish_of facts a)) ∙ allowed))
+    omega (arith, higher_first facts c b a top (ap (λ t. top || not t) (clash_comm (wish_of facts b) (wish_of facts a)) ∙ allowed))
 
 -- what a pair adds to C.8 and C.9 is what its two players do where one of them is a topscorer
 added : (facts : Facts) (pair : ℕ × ℕ) (top : Bool)

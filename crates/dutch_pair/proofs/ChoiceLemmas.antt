@@ -2,6 +2,7 @@
 use Rattle.std.proofs.Common.{◌≡◌, ◌⊎◌, inl, inr, Bool, true, false, not, ◌||◌, cond, List, [], ◌∷◌, filter, Option, Some, None, refl, sym, ap, ◌∙◌}
 use Rattle.std.specs.List.{list_any}
 use Rattle.dutch_pair.specs.Choice.{is_unbeaten, first_unbeaten, best, best_with}
+use Rattle.std.proofs.Math.Bool.{or-true}
 
 -- what an order of better ones keeps
 pub record IsOrder {X : Type 0} (better : X → X → Bool) : Type 0 where
@@ -38,10 +39,6 @@ module _ {X : Type 0} (better : X → X → Bool) (order : IsOrder better) where
   false_or true q h = let bad : true ≡ false = h in cc
   false_or false q h = refl
 
-  or_true : (p : Bool) → (p || true) ≡ true
-  or_true true = refl
-  or_true false = refl
-
   still_better : (c d e : X) → better d c ≡ false → better e c ≡ true → better e d ≡ true
   still_better c d e loses wins = order.within e d c wins loses
 
@@ -63,14 +60,14 @@ module _ {X : Type 0} (better : X → X → Bool) (order : IsOrder better) where
   pass_at c d rest false h loses = refl
   pass_at c d rest true h loses =
       let beaten : list_any (λ e. better e d) (c ∷ rest) ≡ true =
-      ap (λ t. better c d || t) (any_between c d rest loses (sym (false_or (better c c) (list_any (λ e. better e c) rest) (order.irreflexive c)) ∙ h)) ∙ or_true (better c d)
+      ap (λ t. better c d || t) (any_between c d rest loses (sym (false_or (better c c) (list_any (λ e. better e c) rest) (order.irreflexive c)) ∙ h)) ∙ or-true (better c d)
       in ap (λ t. cond (not t) (Some d) (first_unbeaten better (c ∷ rest) rest)) beaten
 
   -- of the first two the second goes on if it is better
   pub best_wins : (c d : X) (rest : List X) → better d c ≡ true → best better (c ∷ d ∷ rest) ≡ best better (d ∷ rest)
   best_wins c d rest wins =
       let beaten : list_any (λ e. better e c) (c ∷ d ∷ rest) ≡ true =
-      ap (λ t. better c c || (t || list_any (λ e. better e c) rest)) wins ∙ or_true (better c c)
+      ap (λ t. better c c || (t || list_any (λ e. better e c) rest)) wins ∙ or-true (better c c)
       in ap (λ t. cond (not t) (Some c) (first_unbeaten better (c ∷ d ∷ rest) (d ∷ rest))) beaten
       ∙ first_same (c ∷ d ∷ rest) (d ∷ rest) (d ∷ rest) (λ x. unbeaten_without c d x rest wins)
 

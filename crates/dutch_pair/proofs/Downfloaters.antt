@@ -1,6 +1,6 @@
 -- What is chosen in a bracket leaves over seats of the bracket, each once; two of them who may meet, not both moved down, would make
 -- one pair more, so there are no such two where the choice has the most pairs (C.04.3 C.5).
-use Rattle.std.proofs.Common.{◌≡◌, ℕ, ◌<◌, Bool, true, false, not, ◌&&◌, ◌||◌, ◌==◌, cond, List, [], ◌∷◌, ◌++◌, length, refl, sym, ap, ◌∙◌, arith, subst, inl, inr, Some}
+use Rattle.std.proofs.Common.{◌≡◌, ℕ, ◌<◌, Bool, true, false, not, ◌&&◌, ◌||◌, ◌==◌, List, ◌++◌, length, refl, sym, ap, ◌∙◌, arith, subst, inl, inr, Some}
 use Rattle.std.specs.List.{filter}
 use Rattle.std.proofs.lemmas.Bool.{cases_lt, cases_order, eq-eqb, ne_eqb, and_parts, and_from, not_from_false, not-true, true≢false}
 use Rattle.dutch_order.specs.declared.bracket.Shape.{Shape}
@@ -10,7 +10,7 @@ use Rattle.dutch_order.specs.Forms.{NoneTwice}
 use Rattle.dutch_order.specs.Keys.{IsIn}
 use Rattle.dutch_order.proofs.CursorSets.{numbers-within}
 use Rattle.dutch_order.proofs.NoneTwice.{in-left, rises-twice}
-use Rattle.dutch_order.proofs.Orders.{IsIn-map, Rises-filter}
+use Rattle.dutch_order.proofs.Orders.{IsIn-map, Rises-filter, IsIn-filter, filter-IsIn}
 use Rattle.dutch_order.proofs.Lists.{filter-all}
 use Rattle.dutch_player.specs.Facts.{Facts}
 use Rattle.dutch_player.specs.Meetings.{may_meet}
@@ -27,25 +27,6 @@ use Rattle.dutch_pair.proofs.OnePairMore.{Larger, one_larger}
 use Rattle.dutch_pair.specs.SeatLaws.{seats_meet_sym}
 use Rattle.dutch_pair.proofs.ShapeLaws.{has_room, none_is_greater}
 use Rattle.dutch_pair.proofs.BestLemmas.{chosen_is}
-
--- ---- lists of arrangements
-
-pub kept_at : (p : Arrangement → Bool) (a b : Arrangement) (all : List Arrangement) (t : Bool) → p b ≡ t → (IsIn a (filter p all) → IsIn a all × (p a ≡ true)) → IsIn a (cond t (b ∷ filter p all) (filter p all))
-    → IsIn a (b ∷ all) × (p a ≡ true)
-kept_at p a b all true e later (inl same) = (inl same, ap p same ∙ e)
-kept_at p a b all true e later (inr m) = let rest = later m in (inr rest.0, rest.1)
-kept_at p a b all false e later m = let rest = later m in (inr rest.0, rest.1)
-
--- what a test keeps
-pub kept_of : (p : Arrangement → Bool) (a : Arrangement) (all : List Arrangement) → IsIn a (filter p all) → IsIn a all × (p a ≡ true)
-kept_of p a [] m = absurd m
-kept_of p a (b ∷ all) m = kept_at p a b all (p b) refl (kept_of p a all) m
-
-pub of_kept : (p : Arrangement → Bool) (a : Arrangement) (all : List Arrangement) → IsIn a all → p a ≡ true → IsIn a (filter p all)
-of_kept p a [] m e = absurd m
-of_kept p a (b ∷ all) (inl same) e = subst (λ t. IsIn a (cond t (b ∷ filter p all) (filter p all))) (sym e ∙ ap p same) (inl same)
-of_kept p a (b ∷ all) (inr m) e =
-    elim (p b) as (λ t. IsIn a (cond t (b ∷ filter p all) (filter p all))) [ true ↦ inr (of_kept p a all m e) | false ↦ of_kept p a all m e ]
 
 -- ---- what is chosen
 
@@ -119,7 +100,7 @@ module _ (facts : Facts) (number : ℕ) (kind : BracketKind) (md residents : Lis
 
     of_candidates_at : (t : Bool) → is_penultimate kind ≡ t → IsIn chosen.lists (candidates_of facts reached chosen.shape)
     of_candidates_at true e =
-        (kept_of (λ lists. completable facts (downfloaters facts reached lists ++ lower)) chosen.lists (candidates_of facts reached chosen.shape)
+        (IsIn-filter (λ lists. completable facts (downfloaters facts reached lists ++ lower)) chosen.lists (candidates_of facts reached chosen.shape)
         (subst (IsIn chosen.lists) (eligible_some facts reached lower chosen.shape e) (chosen_is facts reached lower chosen is).1)).0
     of_candidates_at false e = subst (IsIn chosen.lists) (eligible_all facts reached lower chosen.shape e) (chosen_is facts reached lower chosen is).1
 
@@ -128,7 +109,7 @@ module _ (facts : Facts) (number : ℕ) (kind : BracketKind) (md residents : Lis
 
     pub more_of : (x y : ℕ) → IsIn x (down frame chosen.lists) → IsIn y (down frame chosen.lists) → x < y → seats_meet facts (seat_of seats x) (seat_of seats y) ≡ true → More x y
     more_of x y m n rises may =
-        let legal = kept_of (is_legal (numbers_meet facts reached) (number_may_be_left facts reached) frame) chosen.lists (arrangements frame chosen.shape) of_candidates in
+        let legal = IsIn-filter (is_legal (numbers_meet facts reached) (number_may_be_left facts reached) frame) chosen.lists (arrangements frame chosen.shape) of_candidates in
         let h = down_number chosen.lists x m in
         let g = down_number chosen.lists y n in
         let resident : length md < y = elim (cases_lt (length md) y) [
@@ -141,7 +122,7 @@ module _ (facts : Facts) (number : ℕ) (kind : BracketKind) (md residents : Lis
 
     -- it is a candidate
     pub more_candidate : (x y : ℕ) (more : More x y) → IsIn more.lists (candidates_of facts reached more.larger)
-    more_candidate x y more = of_kept (is_legal (numbers_meet facts reached) (number_may_be_left facts reached) frame) more.lists (arrangements frame more.larger) more.arranged more.legal
+    more_candidate x y more = filter-IsIn (is_legal (numbers_meet facts reached) (number_may_be_left facts reached) frame) more.lists (arrangements frame more.larger) more.arranged more.legal
 
     -- where no two downfloaters in the order of their numbers may meet, no two may at all
     ordered_strangers : ((x y : ℕ) → IsIn x (down frame chosen.lists) → IsIn y (down frame chosen.lists) → x < y → seats_meet facts (seat_of seats x) (seat_of seats y) ≡ true → ⊥)

@@ -15,6 +15,7 @@ use Rattle.dutch_pair.specs.ColourFloors.{beyond, pool}
 use Rattle.dutch_pair.proofs.AllLemmas.{all_filter}
 use Rattle.dutch_pair.proofs.ArrangementParts.{numbers_within}
 use Rattle.std.proofs.Math.Bool.{or-true}
+use Rattle.dutch_order.proofs.Skipping.{filter-keeps, filter-drops}
 
 pub or_false : (t : Bool) → t ≡ (t || false)
 or_false true = refl
@@ -37,22 +38,16 @@ mark_more old new numbers k i lt set others =
     marked old new (drop (k + 1) numbers) (get_or numbers k 0) i set others
     ∙ ap (λ xs. has_bit old i || is_member i xs) (sym (drop_more numbers k 0 lt))
 
-yes : (p : ℕ → Bool) (x : ℕ) (xs : List ℕ) → p x ≡ true → filter p (x ∷ xs) ≡ x ∷ filter p xs
-yes p x xs h = ap (λ t. cond t (x ∷ filter p xs) (filter p xs)) h
-
-no : (p : ℕ → Bool) (x : ℕ) (xs : List ℕ) → p x ≡ false → filter p (x ∷ xs) ≡ filter p xs
-no p x xs h = ap (λ t. cond t (x ∷ filter p xs) (filter p xs)) h
-
 three : (p q r : ℕ → Bool) (x : ℕ) (xs ys : List ℕ) (a b c : Bool) → p x ≡ not a → q x ≡ not b → r x ≡ not c
     → ys ≡ filter r (filter q (filter p xs)) → cond (not ((a || b) || c)) (x ∷ ys) ys ≡ filter r (filter q (filter p (x ∷ xs)))
 three p q r x xs ys false false false f g h e =
-    ap (λ zs. x ∷ zs) e ∙ sym (ap (λ zs. filter r (filter q zs)) (yes p x xs f)
-    ∙ (ap (filter r) (yes q x (filter p xs) g) ∙ yes r x (filter q (filter p xs)) h))
+    ap (λ zs. x ∷ zs) e ∙ sym (ap (λ zs. filter r (filter q zs)) (filter-keeps p x xs f)
+    ∙ (ap (filter r) (filter-keeps q x (filter p xs) g) ∙ filter-keeps r x (filter q (filter p xs)) h))
 three p q r x xs ys false false true f g h e =
-    e ∙ sym (ap (λ zs. filter r (filter q zs)) (yes p x xs f) ∙ (ap (filter r) (yes q x (filter p xs) g) ∙ no r x (filter q (filter p xs)) h))
+    e ∙ sym (ap (λ zs. filter r (filter q zs)) (filter-keeps p x xs f) ∙ (ap (filter r) (filter-keeps q x (filter p xs) g) ∙ filter-drops r x (filter q (filter p xs)) h))
 three p q r x xs ys false true c f g h e =
-    e ∙ sym (ap (λ zs. filter r (filter q zs)) (yes p x xs f) ∙ ap (filter r) (no q x (filter p xs) g))
-three p q r x xs ys true b c f g h e = e ∙ sym (ap (λ zs. filter r (filter q zs)) (no p x xs f))
+    e ∙ sym (ap (λ zs. filter r (filter q zs)) (filter-keeps p x xs f) ∙ ap (filter r) (filter-drops q x (filter p xs) g))
+three p q r x xs ys true b c f g h e = e ∙ sym (ap (λ zs. filter r (filter q zs)) (filter-drops p x xs f))
 
 pub left_is : (table s2 s1r s2r xs : List ℕ) → ((i : ℕ) → has_bit table i ≡ ((is_member i s2 || is_member i s1r) || is_member i s2r))
     → filter (λ x. not (has_bit table x)) xs ≡ left_of (left_of (left_of xs s2) s1r) s2r
@@ -67,14 +62,14 @@ pub unmarked_more : (p : ℕ → Bool) (first place : ℕ) → p (first + place)
 unmarked_more p first place h =
     ap (filter p) (numbers-append first place 1)
     ∙ (filter-append p (numbers_from first place) (numbers_from (first + place) 1)
-    ∙ ap (λ xs. filter p (numbers_from first place) ++ xs) (yes p (first + place) [] h))
+    ∙ ap (λ xs. filter p (numbers_from first place) ++ xs) (filter-keeps p (first + place) [] h))
 
 pub marked_more : (p : ℕ → Bool) (first place : ℕ) → p (first + place) ≡ false
     → filter p (numbers_from first (place + 1)) ≡ filter p (numbers_from first place)
 marked_more p first place h =
     ap (filter p) (numbers-append first place 1)
     ∙ (filter-append p (numbers_from first place) (numbers_from (first + place) 1)
-    ∙ (ap (λ xs. filter p (numbers_from first place) ++ xs) (no p (first + place) [] h) ∙ append-nil (filter p (numbers_from first place))))
+    ∙ (ap (λ xs. filter p (numbers_from first place) ++ xs) (filter-drops p (first + place) [] h) ∙ append-nil (filter p (numbers_from first place))))
 
 pub pool_is : (facts : Facts) (reached : Reached) (b : Arrangement) (table xs : List ℕ) (count : ℕ) → count ≡ length reached.seats - reached.mdps
     → ((i : ℕ) → has_bit table i ≡ ((is_member i b.s2 || is_member i b.s1r) || is_member i b.s2r))

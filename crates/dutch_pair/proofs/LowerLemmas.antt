@@ -1,5 +1,5 @@
 -- The players below a bracket: seat by seat, and those that a round has not reached yet.
-use Rattle.std.proofs.Common.{◌≡◌, ℕ, ◌+◌, ◌<◌, ◌≤◌, ◌⊎◌, Bool, true, false, ◌&&◌, nat_lt, cond, List, [], ◌∷◌, ◌++◌, filter, length, get_or, drop, inl, inr, refl, sym, ap, ◌∙◌, subst, append_assoc, arith}
+use Rattle.std.proofs.Common.{◌≡◌, ℕ, ◌+◌, ◌<◌, ◌≤◌, ◌⊎◌, Bool, true, false, ◌&&◌, nat_lt, cond, List, [], ◌∷◌, ◌++◌, filter, length, get_or, drop, inl, inr, refl, sym, ap, ◌∙◌, append_assoc, arith}
 use Rattle.std.specs.List.{AllByRecursion}
 use Rattle.std.proofs.lemmas.Bool.Decides.{nat_tests}
 use Rattle.std.proofs.lemmas.List.{drop_more, drop_all, append-nil}
@@ -14,6 +14,9 @@ use Rattle.dutch_pair.specs.Round.{everybody}
 use Rattle.dutch_pair.specs.Lower.{is_below, lower_of}
 use Rattle.dutch_pair.proofs.GroupWalk.{everybody_goes, rest_inside}
 use Rattle.dutch_pair.proofs.WalkLemmas.{Descends, above_back}
+use Rattle.dutch_order.proofs.Hopeless.{filter-none-in}
+use Rattle.dutch_order.proofs.FromOn.{filter-each}
+use Rattle.dutch_order.proofs.Orders.{IsIn-front, IsIn-back, IsIn-append, member_has}
 
 module _ (facts : Facts) where
   -- ---- one seat more
@@ -62,52 +65,9 @@ module _ (facts : Facts) where
   pub everybody_inside : (all : List ℕ) → all ≡ everybody facts → AreSeats facts all
   everybody_inside all e = rest_inside facts [] all (everybody_goes facts [] all refl e)
 
-  -- ---- what a test keeps
-
-  none_kept_at : (t : Bool) (y : ℕ) (ys : List ℕ) → t ≡ false → ys ≡ [] → cond t (y ∷ ys) ys ≡ []
-  none_kept_at true y ys e h = let bad : true ≡ false = e in cc
-  none_kept_at false y ys e h = h
-
-  none_kept : (p : ℕ → Bool) (ys : List ℕ) → ((y : ℕ) → IsIn y ys → p y ≡ false) → filter p ys ≡ []
-  none_kept p [] h = refl
-  none_kept p (y ∷ ys) h = none_kept_at (p y) y (filter p ys) (h y (inl refl)) (none_kept p ys (λ z m. h z (inr m)))
-
-  all_kept_at : (t : Bool) (y : ℕ) (kept ys : List ℕ) → t ≡ true → kept ≡ ys → cond t (y ∷ kept) kept ≡ y ∷ ys
-  all_kept_at true y kept ys e h = ap (λ (rest : List ℕ). y ∷ rest) h
-  all_kept_at false y kept ys e h = let bad : false ≡ true = e in cc
-
-  all_kept : (p : ℕ → Bool) (ys : List ℕ) → ((y : ℕ) → IsIn y ys → p y ≡ true) → filter p ys ≡ ys
-  all_kept p [] h = refl
-  all_kept p (y ∷ ys) h = all_kept_at (p y) y (filter p ys) ys (h y (inl refl)) (all_kept p ys (λ z m. h z (inr m)))
-
-  -- ---- members
-
-  pub in_front : (a : ℕ) (xs ys : List ℕ) → IsIn a xs → IsIn a (xs ++ ys)
-  in_front a [] ys m = absurd m
-  in_front a (x ∷ xs) ys (inl e) = inl e
-  in_front a (x ∷ xs) ys (inr m) = inr (in_front a xs ys m)
-
-  pub in_back : (a : ℕ) (xs ys : List ℕ) → IsIn a ys → IsIn a (xs ++ ys)
-  in_back a [] ys m = m
-  in_back a (x ∷ xs) ys m = inr (in_back a xs ys m)
-
-  in_either_more : (a x : ℕ) (xs ys : List ℕ) → IsIn a xs ⊎ IsIn a ys → IsIn a (x ∷ xs) ⊎ IsIn a ys
-  in_either_more a x xs ys (inl m) = inl (inr m)
-  in_either_more a x xs ys (inr m) = inr m
-
-  pub in_either : (a : ℕ) (xs ys : List ℕ) → IsIn a (xs ++ ys) → IsIn a xs ⊎ IsIn a ys
-  in_either a [] ys m = inr m
-  in_either a (x ∷ xs) ys (inl e) = inl (inl e)
-  in_either a (x ∷ xs) ys (inr m) = in_either_more a x xs ys (in_either a xs ys m)
-
-  all_at : (P : ℕ → Type 0) (a : ℕ) (xs : List ℕ) → AllByRecursion P xs → IsIn a xs → P a
-  all_at P a [] h m = absurd m
-  all_at P a (x ∷ xs) h (inl e) = subst P (sym e) h.0
-  all_at P a (x ∷ xs) h (inr m) = all_at P a xs h.1 m
-
   pub above_in : (tops lows : List ℕ) (a b : ℕ) → AreAbove facts tops lows → IsIn a tops → IsIn b lows → score_at facts b < score_at facts a
   above_in tops lows a b h m n =
-      all_at (λ (b : ℕ). score_at facts b < score_at facts a) b lows (all_at (λ (a : ℕ). AllByRecursion (λ b. score_at facts b < score_at facts a) lows) a tops h m) n
+      member_has (λ (b : ℕ). score_at facts b < score_at facts a) lows (member_has (λ (a : ℕ). AllByRecursion (λ b. score_at facts b < score_at facts a) lows) tops h a m) b n
 
   -- ---- a seat that is below all of some, or not
 
@@ -138,8 +98,8 @@ module _ (facts : Facts) where
   pub lower_is : (reached : Reached) (tops lower : List ℕ) → EndsAt reached.seats tops lower → lower_of facts reached ≡ lower
   lower_is reached tops lower h =
       let p : ℕ → Bool = is_below facts reached.seats in
-      let none : filter p tops ≡ [] = none_kept p tops (λ y m. let a = h.reached y m in below_some_not reached.seats y a.0 a.1 a.2) in
-      let all : filter p lower ≡ lower = all_kept p lower (λ y m. below_all reached.seats y (λ a n. h.below a y n m)) in
+      let none : filter p tops ≡ [] = filter-none-in p tops (λ y m. let a = h.reached y m in below_some_not reached.seats y a.0 a.1 a.2) in
+      let all : filter p lower ≡ lower = filter-each p lower (λ y m. below_all reached.seats y (λ a n. h.below a y n m)) in
       ap (filter p) h.all ∙ filter-append p tops lower ∙ ap (λ (xs : List ℕ). xs ++ filter p lower) none ∙ all
 
   -- ---- a walk before a bracket
@@ -153,9 +113,9 @@ module _ (facts : Facts) where
     front_reached : (y : ℕ) → 0 < length residents → IsIn y goes.front ⊎ IsIn y residents → (a : ℕ) × IsIn a (md ++ residents) × (score_at facts a ≤ score_at facts y)
     front_reached y some (inl m) =
         let one = some_in residents some in
-        let lt : score_at facts one.0 < score_at facts y = above_in goes.front (residents ++ lower) y one.0 goes.high m (in_front one.0 residents lower one.1) in
-        (one.0, in_back one.0 md residents one.1, omega (arith, lt))
-    front_reached y some (inr m) = (y, in_back y md residents m, omega arith)
+        let lt : score_at facts one.0 < score_at facts y = above_in goes.front (residents ++ lower) y one.0 goes.high m (IsIn-front one.0 residents lower one.1) in
+        (one.0, IsIn-back one.0 md residents one.1, omega (arith, lt))
+    front_reached y some (inr m) = (y, IsIn-back y md residents m, omega arith)
 
     lower_below : (a b : ℕ) → IsIn a md ⊎ IsIn a residents → IsIn b lower → score_at facts b < score_at facts a
     lower_below a b (inl m) n = above_in md lower a b (above_back facts descends md residents lower goes.above) m n
@@ -165,6 +125,6 @@ module _ (facts : Facts) where
     pub goes_ends : 0 < length residents → EndsAt (md ++ residents) (goes.front ++ residents) lower
     goes_ends some = record {
       all = goes.all ∙ sym (append_assoc goes.front residents lower);
-      reached = λ y m. front_reached y some (in_either y goes.front residents m);
-      below = λ a b m n. lower_below a b (in_either a md residents m) n;
+      reached = λ y m. front_reached y some (IsIn-append y goes.front residents m);
+      below = λ a b m n. lower_below a b (IsIn-append a md residents m) n;
     }

@@ -10,10 +10,10 @@ use Rattle.dutch_order.specs.Cursors.{moved_down_of}
 use Rattle.dutch_order.specs.Forms.{NoneTwice, IsMovedDown, IsResident}
 use Rattle.dutch_order.specs.Keys.{IsIn}
 use Rattle.dutch_order.specs.Arrangements.{Frame, Arrangement, Fits, arrangements, candidates, down, is_legal, leaves_one, left_of, paired, players_of, residents_of}
-use Rattle.dutch_order.proofs.CursorSets.{AreLists, kept-in, in-kept, numbers-within}
+use Rattle.dutch_order.proofs.CursorSets.{AreLists, numbers-within}
 use Rattle.dutch_order.proofs.FormArrangements.{in-lists, moved_down-in, in-moved_down, resident-in, in-residents}
 use Rattle.dutch_order.proofs.NoneTwice.{in-left, left-in, rises-twice, twice-different}
-use Rattle.dutch_order.proofs.Orders.{Rises-filter, IsIn-front, IsIn-back, IsIn-map, map-IsIn}
+use Rattle.dutch_order.proofs.Orders.{Rises-filter, IsIn-front, IsIn-back, IsIn-map, map-IsIn, IsIn-filter, filter-IsIn}
 use Rattle.dutch_order.proofs.StageSets.{Climbs-length}
 use Rattle.dutch_pair.specs.Shapes.{has_member}
 use Rattle.dutch_pair.proofs.ArrangementParts.{numbers_rise, parts_of}
@@ -99,18 +99,18 @@ module _ (frame : Frame) (mate : ℕ → ℕ) (within : frame.mdps ≤ length fr
 
   in_s1 : (x : ℕ) → IsIn x s1 → IsMovedDown frame x × (mate x ≡ x → ⊥)
   in_s1 x m =
-      let kept = kept-in has_mate x (moved_down_of frame) m in
+      let kept = IsIn-filter has_mate x (moved_down_of frame) m in
       (in-moved_down frame x kept.0, λ e. true≢false (sym (eq-eqb (mate x) x e) ∙ not-true (mate x == x) kept.1))
 
   s1_in : (x : ℕ) → IsMovedDown frame x → (mate x ≡ x → ⊥) → IsIn x s1
-  s1_in x h ne = in-kept has_mate x (moved_down_of frame) (moved_down-in frame x h) (not_from_false (mate x == x) (ne_eqb (mate x) x ne))
+  s1_in x h ne = filter-IsIn has_mate x (moved_down_of frame) (moved_down-in frame x h) (not_from_false (mate x == x) (ne_eqb (mate x) x ne))
 
   in_s1r : (x : ℕ) → IsIn x s1r → IsResident frame x × (x < mate x)
   in_s1r x m =
-      let kept = kept-in goes_first x (residents_of frame) m in (in-residents frame x within kept.0, ltb-true x (mate x) kept.1)
+      let kept = IsIn-filter goes_first x (residents_of frame) m in (in-residents frame x within kept.0, ltb-true x (mate x) kept.1)
 
   s1r_in : (x : ℕ) → IsResident frame x → x < mate x → IsIn x s1r
-  s1r_in x h lt = in-kept goes_first x (residents_of frame) (resident-in frame x h) (lt-ltb x (mate x) lt)
+  s1r_in x h lt = filter-IsIn goes_first x (residents_of frame) (resident-in frame x h) (lt-ltb x (mate x) lt)
 
   -- mates differ where those whose mates they are do
   injective : (x y : ℕ) → IsNumber frame x → IsNumber frame y → mate x ≡ mate y → x ≡ y
@@ -152,7 +152,7 @@ module _ (frame : Frame) (mate : ℕ → ℕ) (within : frame.mdps ≤ length fr
   mates_lists = record {
     s1 = record {
       rises = Rises-filter has_mate (moved_down_of frame) (numbers_rise 1 frame.mdps);
-      within = λ x m. (kept-in has_mate x (moved_down_of frame) m).0;
+      within = λ x m. (IsIn-filter has_mate x (moved_down_of frame) m).0;
       count = refl;
     };
     s2 = record {

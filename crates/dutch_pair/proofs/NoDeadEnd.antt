@@ -14,7 +14,7 @@ use Rattle.dutch_order.proofs.CursorSets.{AreLists}
 use Rattle.dutch_order.proofs.FormArrangements.{in-lists}
 use Rattle.dutch_order.proofs.Lists.{filter-all, map-numbers_from}
 use Rattle.dutch_order.proofs.NoneTwice.{rises-twice, twice-apart, twice-back, twice-front, twice-join}
-use Rattle.dutch_order.proofs.Orders.{IsIn-append, IsIn-back, IsIn-front, IsIn-map, map-IsIn}
+use Rattle.dutch_order.proofs.Orders.{IsIn-append, IsIn-back, IsIn-front, IsIn-map, map-IsIn, IsIn-filter, filter-IsIn}
 use Rattle.dutch_player.specs.Facts.{Facts}
 use Rattle.dutch_pair.specs.Eligible.{HasCandidate}
 use Rattle.dutch_pair.specs.Completion.{Completable}
@@ -31,7 +31,7 @@ use Rattle.dutch_pair.specs.WaysOut.{GoesOut, HasWayOut, StandsBefore}
 use Rattle.dutch_pair.proofs.ArrangementParts.{numbers_rise}
 use Rattle.dutch_pair.proofs.Covering.{completable_by_test}
 use Rattle.dutch_pair.proofs.BestLemmas.{chosen_is}
-use Rattle.dutch_pair.proofs.Downfloaters.{down_number, down_seats, down_strangers, down_twice, eligible_all, eligible_some, kept_of, more_candidate, more_of, no_more, of_kept}
+use Rattle.dutch_pair.proofs.Downfloaters.{down_number, down_seats, down_strangers, down_twice, eligible_all, eligible_some, more_candidate, more_of, no_more}
 use Rattle.dutch_pair.proofs.FinalBrackets.{Chooses, chooses, count, final_candidate, final_fits, final_shape, same_number, within}
 use Rattle.dutch_pair.proofs.GroupLemmas.{concat_scoregroups}
 use Rattle.dutch_pair.proofs.MateLists.{fits_arrangement, has_kept}
@@ -127,7 +127,7 @@ module _ (facts : Facts) where
 
     empty_candidate : IsIn nobody_paired (candidates_of facts here no_pairs)
     empty_candidate =
-        of_kept (is_legal (numbers_meet facts here) (number_may_be_left facts here) (frame_of facts here)) nobody_paired (arrangements (frame_of facts here) no_pairs) empty_in empty_legal
+        filter-IsIn (is_legal (numbers_meet facts here) (number_may_be_left facts here) (frame_of facts here)) nobody_paired (arrangements (frame_of facts here) no_pairs) empty_in empty_legal
 
     -- it leaves over all
     empty_down : downfloaters facts here nobody_paired ≡ md ++ residents
@@ -185,7 +185,7 @@ module _ (facts : Facts) where
 
       left_complete : completable facts (left ++ lower) ≡ true
       left_complete =
-          (kept_of complete_below lists (candidates_of facts reached chosen.shape)
+          (IsIn-filter complete_below lists (candidates_of facts reached chosen.shape)
           (subst (IsIn lists) (eligible_some facts reached lower chosen.shape refl) (chosen_is facts reached lower chosen is').1)).1
 
       module _ (mate : ℕ → ℕ) (are : Mates (left ++ lower) mate) where

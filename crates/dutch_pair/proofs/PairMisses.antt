@@ -7,7 +7,7 @@ use Rattle.dutch_player.specs.declared.preference.Pref.{Pref}
 use Rattle.dutch_player.specs.Preferences.{other, is_same, preference}
 use Rattle.dutch_player.specs.Facts.{Facts, SeatFacts, seat_at}
 use Rattle.dutch_player.specs.Colours.{granted, with_colour, colour_of_higher, colours}
-use Rattle.dutch_player.proofs.LawLemmas.{granted-pair}
+use Rattle.dutch_player.proofs.LawLemmas.{granted-pair, same_comm}
 use Rattle.dutch_pair.specs.declared.colours_missed.Miss.TheVariants.{Preference, StrongPreference}
 use Rattle.dutch_pair.specs.Quality.{one_if, is_strong, misses, count_of_both, count_in}
 use Rattle.dutch_pair.specs.PairFacts.{collide}
@@ -56,14 +56,8 @@ higher_misses facts a b =
     with_misses facts a b (colour_of_higher facts a b)
     ∙ granted_misses facts.initial (seat_at facts a) (seat_at facts b) (wish facts a) (wish facts b)
 
-same_sym : (c d : Colour) → is_same c d ≡ is_same d c
-same_sym White White = refl
-same_sym White Black = refl
-same_sym Black White = refl
-same_sym Black Black = refl
-
 collide_sym : (p q : Option Pref) → collide p q ≡ collide q p
-collide_sym (Some p) (Some q) = same_sym p.colour q.colour
+collide_sym (Some p) (Some q) = same_comm p.colour q.colour
 collide_sym (Some p) None = refl
 collide_sym None (Some q) = refl
 collide_sym None None = refl

@@ -16,9 +16,10 @@ use Rattle.dutch_pair.proofs.BestLemmas.{chosen_is}
 use Rattle.dutch_pair.proofs.AllLemmas.{all_join}
 use Rattle.dutch_pair.proofs.GroupLemmas.{concat_scoregroups}
 use Rattle.dutch_pair.proofs.GroupWalk.{IsParted, parted_by, parted_above, parted_left, everybody_goes}
-use Rattle.dutch_pair.proofs.LowerLemmas.{EndsAt, lower_is, in_front, in_back, in_either, above_in, some_in}
+use Rattle.dutch_pair.proofs.LowerLemmas.{EndsAt, lower_is, above_in, some_in}
 use Rattle.dutch_pair.proofs.WalkEnds.{above_again, collapsed_above}
 use Rattle.dutch_pair.proofs.WalkLemmas.{Descends, LeftGoOn, above_back}
+use Rattle.dutch_order.proofs.Orders.{IsIn-front, IsIn-back, IsIn-append}
 
 module _ (facts : Facts) where
   -- a bracket stands above the lower players, above whom it has its shape
@@ -63,8 +64,8 @@ module _ (facts : Facts) where
   collapsed_reached left tops lower y some above (inl m) =
       let one = some_in facts lower some in
       let lt : score_at facts one.0 < score_at facts y = above_in facts tops lower y one.0 above m one.1 in
-      (one.0, in_back facts one.0 left lower one.1, omega (arith, lt))
-  collapsed_reached left tops lower y some above (inr m) = (y, in_back facts y left lower m, omega arith)
+      (one.0, IsIn-back one.0 left lower one.1, omega (arith, lt))
+  collapsed_reached left tops lower y some above (inr m) = (y, IsIn-back y left lower m, omega arith)
 
   -- below the collapsed bracket there is nobody
   collapsed_none : (number : ℕ) (left tops lower : List ℕ) → 0 < length lower → AreAbove facts tops lower → everybody facts ≡ tops ++ lower
@@ -73,7 +74,7 @@ module _ (facts : Facts) where
       lower_is facts (bracket number Collapsed left lower) (tops ++ lower) []
       (record {
         all = all ∙ sym (append-nil (tops ++ lower));
-        reached = λ y m. collapsed_reached left tops lower y some above (in_either facts y tops lower m);
+        reached = λ y m. collapsed_reached left tops lower y some above (IsIn-append y tops lower m);
         below = λ a b m n. absurd n;
       })
 
@@ -123,12 +124,12 @@ module _ (facts : Facts) where
     ends_reached md front rest group y some above inside (inl m) =
         let one = some_in facts group some in
         let lt : score_at facts one.0 < score_at facts y = above_in facts front rest y one.0 above m (inside one.0 one.1) in
-        (one.0, in_back facts one.0 md group one.1, omega (arith, lt))
-    ends_reached md front rest group y some above inside (inr m) = (y, in_back facts y md group m, omega arith)
+        (one.0, IsIn-back one.0 md group one.1, omega (arith, lt))
+    ends_reached md front rest group y some above inside (inr m) = (y, IsIn-back y md group m, omega arith)
 
     ends_below : (md group lower : List ℕ) (a b : ℕ) → AreAbove facts md (group ++ lower) → AreAbove facts group lower → IsIn a md ⊎ IsIn a group → IsIn b lower
         → score_at facts b < score_at facts a
-    ends_below md group lower a b high above (inl m) n = above_in facts md (group ++ lower) a b high m (in_back facts b group lower n)
+    ends_below md group lower a b high above (inl m) n = above_in facts md (group ++ lower) a b high m (IsIn-back b group lower n)
     ends_below md group lower a b high above (inr m) n = above_in facts group lower a b above m n
 
     whole_rest : (rest group : List ℕ) (groups : List (List ℕ)) → group ∷ groups ≡ scoregroups facts rest → group ++ concat groups ≡ rest
@@ -142,8 +143,8 @@ module _ (facts : Facts) where
         record {
           all = all ∙ (ap (λ (xs : List ℕ). front ++ xs) (sym whole) ∙ sym (append_assoc front group (concat groups)));
           reached = λ y m. ends_reached md front rest group y parts.some above
-              (λ g n. subst (IsIn g) whole (in_front facts g group (concat groups) n)) (in_either facts y front group m);
-          below = λ a b m n. ends_below md group (concat groups) a b parts.goes.above parts.above (in_either facts a md group m) n;
+              (λ g n. subst (IsIn g) whole (IsIn-front g group (concat groups) n)) (IsIn-append y front group m);
+          below = λ a b m n. ends_below md group (concat groups) a b parts.goes.above parts.above (IsIn-append a md group m) n;
         }
 
     tops_above : (md front rest group : List ℕ) (groups : List (List ℕ)) → Goes facts md rest → AreAbove facts front rest → group ∷ groups ≡ scoregroups facts rest

@@ -16,6 +16,7 @@ use Rattle.dutch_pair.specs.Round.{bracket, downfloaters}
 use Rattle.dutch_pair.specs.Walk.{AreRanked, AreAbove, Goes}
 use Rattle.dutch_pair.proofs.AllLemmas.{all_join}
 use Rattle.dutch_order.specs.declared.numbers.TheConstants.{LIMIT}
+use Rattle.dutch_order.proofs.LeftOut.{all-each}
 
 -- scores do not ascend along the seats of a field, of which there are at most LIMIT
 pub record Descends (facts : Facts) : Type 0 where
@@ -29,10 +30,6 @@ LeftGoOn facts reached lower = (lists : Arrangement) → Goes facts (downfloater
 all_front : (P : ℕ → Type 0) (xs ys : List ℕ) → AllByRecursion P (xs ++ ys) → AllByRecursion P xs
 all_front P [] ys h = tt
 all_front P (x ∷ xs) ys h = (h.0, all_front P xs ys h.1)
-
-all_of : (P Q : ℕ → Type 0) (xs : List ℕ) → ((x : ℕ) → P x → Q x) → AllByRecursion P xs → AllByRecursion Q xs
-all_of P Q [] f h = tt
-all_of P Q (x ∷ xs) f h = (f x h.0, all_of P Q xs f h.1)
 
 module _ (facts : Facts) where
   ranked_few : (a : ℕ) (xs : List ℕ) → AreRanked facts (a ∷ xs) → a + length (a ∷ xs) ≤ length facts.seats
@@ -102,13 +99,13 @@ module _ (facts : Facts) where
 
     above_front : (md xs ys : List ℕ) → AreAbove facts md (xs ++ ys) → AreAbove facts md xs
     above_front md xs ys h =
-        all_of (λ a. AllByRecursion (λ b. score_at facts b < score_at facts a) (xs ++ ys)) (λ a. AllByRecursion (λ b. score_at facts b < score_at facts a) xs) md
-        (λ a g. all_front (λ b. score_at facts b < score_at facts a) xs ys g) h
+        all-each (λ a. AllByRecursion (λ b. score_at facts b < score_at facts a) (xs ++ ys)) (λ a. AllByRecursion (λ b. score_at facts b < score_at facts a) xs)
+        (λ a g. all_front (λ b. score_at facts b < score_at facts a) xs ys g) md h
 
     pub above_back : (md xs ys : List ℕ) → AreAbove facts md (xs ++ ys) → AreAbove facts md ys
     above_back md xs ys h =
-        all_of (λ a. AllByRecursion (λ b. score_at facts b < score_at facts a) (xs ++ ys)) (λ a. AllByRecursion (λ b. score_at facts b < score_at facts a) ys) md
-        (λ a g. all-behind (λ b. score_at facts b < score_at facts a) xs ys g) h
+        all-each (λ a. AllByRecursion (λ b. score_at facts b < score_at facts a) (xs ++ ys)) (λ a. AllByRecursion (λ b. score_at facts b < score_at facts a) ys)
+        (λ a g. all-behind (λ b. score_at facts b < score_at facts a) xs ys g) md h
 
     whole : (md residents lower : List ℕ) → Goes facts md (residents ++ lower) → AreRanked facts ((md ++ residents) ++ lower)
     whole md residents lower goes = subst (AreRanked facts) (sym (append_assoc md residents lower)) goes.ranked

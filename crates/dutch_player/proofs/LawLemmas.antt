@@ -19,7 +19,7 @@ or_comm true false = refl
 or_comm false true = refl
 or_comm false false = refl
 
-same_comm : (c d : Colour) → is_same c d ≡ is_same d c
+pub same_comm : (c d : Colour) → is_same c d ≡ is_same d c
 same_comm White White = refl
 same_comm White Black = refl
 same_comm Black White = refl
@@ -31,7 +31,7 @@ and_comm3 true false s t e = refl
 and_comm3 false true s t e = refl
 and_comm3 false false s t e = refl
 
-clash_comm : (p q : Option Pref) → clash p q ≡ clash q p
+pub clash_comm : (p q : Option Pref) → clash p q ≡ clash q p
 clash_comm None None = refl
 clash_comm None (Some q) = refl
 clash_comm (Some p) None = refl

@@ -121,7 +121,7 @@ present_seated_at sheet entry rest start true is here h =
       | inr later ↦ later
     ]
 
-or_more : (b c d : Bool) → (c ≡ true → d ≡ true) → (b || c) ≡ true → (b || d) ≡ true
+pub or_more : (b c d : Bool) → (c ≡ true → d ≡ true) → (b || c) ≡ true → (b || d) ≡ true
 or_more true c d more h = refl
 or_more false c d more h = more h
 
