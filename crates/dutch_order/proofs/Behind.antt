@@ -17,7 +17,8 @@ use Rattle.dutch_order.proofs.FromOn.{is_same-refl, is_same-true, elsewhere}
 use Rattle.dutch_order.proofs.Lists.{filter-flat_map, flat_map-filter, flat_map-same, filter-same}
 use Rattle.dutch_order.proofs.Sets.{sorted-in}
 use Rattle.dutch_order.proofs.Orders.{IsIn-flat_map, IsIn-map}
-use Rattle.dutch_order.proofs.Listed.{joined-map, flat_map-members, filter-mapped, s2r-listed, s1r-either, s1r-barred, s2-listed, exchange-length, limbo-length, legal-parts, candidates-listed}
+use Rattle.dutch_order.proofs.Listed.{joined-map, flat_map-members, s2r-listed, s1r-either, s1r-barred, s2-listed, exchange-length, limbo-length, legal-parts, candidates-listed}
+use Rattle.dutch_order.proofs.Members.{filter-map}
 
 same-refl : (a : Arrangement) → is_same_arrangement a a ≡ true
 same-refl a =
@@ -238,7 +239,7 @@ module _ (frame : Frame) (shape : Shape) where
         ∙ ap (map arr)
         (filter-same (all_meet meets a.s1r) (λ s2r. all_meet meets a.s1 a.s2 && all_meet meets a.s1r s2r) split.0
         (λ s2r. ap (λ b. b && all_meet meets a.s1r s2r) (sym met)))
-        ∙ sym (filter-mapped (pairs_meet meets) arr split.0)
+        ∙ sym (filter-map (pairs_meet meets) arr split.0)
         ∙ ap (filter (pairs_meet meets)) (sym split.2)
 
     -- S1R

@@ -13,6 +13,7 @@ use Rattle.dutch_order.specs.Levels.{joined, arranged, in_s1r, in_s2, in_s1, in_
 use Rattle.dutch_order.proofs.Lists.{filter-flat_map, flat_map-filter, flat_map-same, filter-same, filter-filter}
 use Rattle.dutch_order.proofs.Sets.{sorted-in}
 use Rattle.dutch_order.proofs.Counts.{subsets-length}
+use Rattle.dutch_order.proofs.Members.{filter-map}
 
 pub joined-map : {A B : Type 0} (f : A → List B) (xs : List A) → joined (map f xs) ≡ flat_map f xs
 joined-map f [] = refl
@@ -27,15 +28,6 @@ flat_map-members f g (x ∷ xs) same =
 pub flat_map-none : {A B : Type 0} (f : A → List B) (xs : List A) → ((x : A) → f x ≡ []) → flat_map f xs ≡ []
 flat_map-none f [] none = refl
 flat_map-none f (x ∷ xs) none = ap (λ front. front ++ flat_map f xs) (none x) ∙ flat_map-none f xs none
-
-map-cond : {A B : Type 0} (f : A → B) (b : Bool) (x : A) (xs : List A) → cond b (f x ∷ map f xs) (map f xs) ≡ map f (cond b (x ∷ xs) xs)
-map-cond f true x xs = refl
-map-cond f false x xs = refl
-
-pub filter-mapped : {A B : Type 0} (p : B → Bool) (f : A → B) (xs : List A) → filter p (map f xs) ≡ map f (filter (λ x. p (f x)) xs)
-filter-mapped p f [] = refl
-filter-mapped p f (x ∷ xs) =
-    ap (λ rest. cond (p (f x)) (f x ∷ rest) rest) (filter-mapped p f xs) ∙ map-cond f (p (f x)) x (filter (λ y. p (f y)) xs)
 
 pub filter-none : {A : Type 0} (p : A → Bool) (xs : List A) → ((x : A) → p x ≡ false) → filter p xs ≡ []
 filter-none p [] none = refl
@@ -54,12 +46,12 @@ module _ (meets : ℕ → ℕ → Bool) (frame : Frame) (shape : Shape) where
       ∙ ap (map (arranged s1 s2 s1r))
       (filter-same (all_meet meets s1r) (λ s2r. all_meet meets s1 s2 && all_meet meets s1r s2r) (sorted tuple_key (tuples pool (remainder_pairs shape)))
       (λ s2r. ap (λ b. b && all_meet meets s1r s2r) (sym met)))
-      ∙ sym (filter-mapped (pairs_meet meets) (arranged s1 s2 s1r) (sorted tuple_key (tuples pool (remainder_pairs shape))))
+      ∙ sym (filter-map (pairs_meet meets) (arranged s1 s2 s1r) (sorted tuple_key (tuples pool (remainder_pairs shape))))
 
   s2r-barred : (s1 s2 s1r : List ℕ) → all_meet meets s1 s2 ≡ false → filter (pairs_meet meets) (with_s2r frame shape s1 s2 s1r) ≡ []
   s2r-barred s1 s2 s1r barred =
       let pool = left_of (left_of (residents_of frame) s2) s1r in
-      filter-mapped (pairs_meet meets) (arranged s1 s2 s1r) (sorted tuple_key (tuples pool (remainder_pairs shape)))
+      filter-map (pairs_meet meets) (arranged s1 s2 s1r) (sorted tuple_key (tuples pool (remainder_pairs shape)))
       ∙ ap (map (arranged s1 s2 s1r))
       (filter-none (λ s2r. all_meet meets s1 s2 && all_meet meets s1r s2r) (sorted tuple_key (tuples pool (remainder_pairs shape)))
       (λ s2r. ap (λ b. b && all_meet meets s1r s2r) barred))

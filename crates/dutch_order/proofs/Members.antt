@@ -110,11 +110,11 @@ numbers-shift by first zero = refl
 numbers-shift by first (suc count) =
     ap (λ rest. (by + first) ∷ rest) (numbers-shift by (suc first) count ∙ ap (λ a. numbers_from a count) (let e : by + suc first ≡ suc (by + first) = omega arith in e))
 
-filter-map-cond : (f : ℕ → ℕ) (b : Bool) (x : ℕ) (xs : List ℕ) → cond b (f x ∷ map f xs) (map f xs) ≡ map f (cond b (x ∷ xs) xs)
+filter-map-cond : {A B : Type 0} (f : A → B) (b : Bool) (x : A) (xs : List A) → cond b (f x ∷ map f xs) (map f xs) ≡ map f (cond b (x ∷ xs) xs)
 filter-map-cond f true x xs = refl
 filter-map-cond f false x xs = refl
 
-pub filter-map : (q : ℕ → Bool) (f : ℕ → ℕ) (xs : List ℕ) → filter q (map f xs) ≡ map f (filter (λ x. q (f x)) xs)
+pub filter-map : {A B : Type 0} (q : B → Bool) (f : A → B) (xs : List A) → filter q (map f xs) ≡ map f (filter (λ x. q (f x)) xs)
 filter-map q f [] = refl
 filter-map q f (x ∷ xs) =
     ap (λ rest. cond (q (f x)) (f x ∷ rest) rest) (filter-map q f xs) ∙ filter-map-cond f (q (f x)) x (filter (λ x. q (f x)) xs)

@@ -182,19 +182,11 @@ Rises-from_pairs (x ∷ xs) pairs = (
 pub Rises-from : (xs : List ℕ) → IsStrictlyIncreasing xs → Rises xs
 Rises-from xs h = Rises-from_pairs xs (AllPairs-from_increasing xs h)
 
-AllByRecursion-filter : (P : ℕ → Type 0) (p : ℕ → Bool) (xs : List ℕ) → AllByRecursion P xs → AllByRecursion P (filter p xs)
-AllByRecursion-filter P p [] all = tt
-AllByRecursion-filter P p (x ∷ xs) all =
-    elim (p x) as (λ b. AllByRecursion P (cond b (x ∷ filter p xs) (filter p xs))) [
-      | true ↦ (all.0, AllByRecursion-filter P p xs all.1)
-      | false ↦ AllByRecursion-filter P p xs all.1
-    ]
-
 pub Rises-filter : (p : ℕ → Bool) (xs : List ℕ) → Rises xs → Rises (filter p xs)
 Rises-filter p [] rises = tt
 Rises-filter p (x ∷ xs) rises =
     elim (p x) as (λ b. Rises (cond b (x ∷ filter p xs) (filter p xs))) [
-      | true ↦ (AllByRecursion-filter (λ y. x < y) p xs rises.0, Rises-filter p xs rises.1)
+      | true ↦ (all-filter (λ y. x < y) p xs rises.0, Rises-filter p xs rises.1)
       | false ↦ Rises-filter p xs rises.1
     ]
 
