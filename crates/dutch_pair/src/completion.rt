@@ -32,7 +32,20 @@ pub fn completes<R: Rule>(players: &[u16], rule: &R, budget: &mut Budget) -> Ans
 {
     let mut all = Numbers::new();
     push_all(players, &mut all);
-    can_pair(&mut all, true, rule, budget)
+    completes_in(&mut all, rule, budget)
+}
+
+/// The same, by a search in the list itself, whose order it may change.
+pub(crate) fn completes_in<R: Rule>(players: &mut [u16], rule: &R, budget: &mut Budget) -> Answer
+    requires within { budget.old.used ≤ budget.old.limit }
+    ensures answer { MatchAnswer result
+        (Completable (R.meets rule.now) (R.may_be_left rule.now) players.old)
+        (¬ Completable (R.meets rule.now) (R.may_be_left rule.now) players.old)
+        (IsStopped (most (length players.old) true) budget.old budget.new) }
+    ensures steps { Spends (most (length players.old) true) budget.old budget.new }
+    ensures taken { Takes result (length players.old) (length players.old) budget.old budget.new }
+{
+    can_pair(players, true, rule, budget)
 }
 
 /// Puts the first of a list behind the others.

@@ -10,10 +10,10 @@ ghost use Rattle.dutch_pair.specs.Round.{is_penultimate, completable, eligible};
 ghost use Rattle.dutch_pair.specs.Eligible.{Lists, can_be_chosen};
 ghost use Rattle.dutch_order.specs.Steps.{MatchStep, Spends};
 
-use crate::completion::{Answer, completes};
+use crate::completion::{Answer, completes_in};
 use crate::context::Context;
 use crate::greatest::Lister;
-use crate::reached::{BracketKind, ByNumber, Reached, Seats, push_all};
+use crate::reached::{BracketKind, ByNumber, Reached, Seats, copied, push_all};
 use crate::seated::push_seats;
 use crate::seats::seats;
 use dutch_order::{Budget, Candidate, Shape, Step};
@@ -46,7 +46,16 @@ pub(crate) fn can_complete(field: &Field, players: &[u16], budget: &mut Budget) 
     ensures answer { Tells result (completable field.now players.now) (budget.new.used ≡ budget.new.limit) }
     ensures spends { Spends budget.old budget.new }
 {
-    completes(players, &seats(field), budget)
+    can_complete_in(field, &mut copied(players), budget)
+}
+
+/// The same, by a search in the list itself, whose order it may change.
+fn can_complete_in(field: &Field, players: &mut [u16], budget: &mut Budget) -> Answer
+    requires within { budget.old.used ≤ budget.old.limit }
+    ensures answer { Tells result (completable field.now players.old) (budget.new.used ≡ budget.new.limit) }
+    ensures spends { Spends budget.old budget.new }
+{
+    completes_in(players, &seats(field), budget)
 }
 
 /// Whether those whom a candidate leaves over can be paired out with all lower players (A.9). The list is filled anew with them all.
@@ -63,7 +72,7 @@ pub(crate) fn leaves_completable(
     ensures spends { Spends budget.old budget.new }
 {
     fill_with_lower(context.reached(), candidate.down(), context.lower(), left);
-    can_complete(context.field(), left, budget)
+    can_complete_in(context.field(), left, budget)
 }
 
 /// Whether a candidate can be chosen: in the penultimate bracket only if those whom it leaves over can be paired

@@ -1,0 +1,16 @@
+-- The answer about a list of pairs is what the test of the seats tells.
+use Rattle.std.proofs.Common.{◌≡◌, length, true, subst}
+use Rattle.dutch_pair.specs.Completion.{Completable, MatchAnswer, IsStopped, most}
+use Rattle.dutch_pair.specs.Seats.{seats_meet, seats_may_be_left}
+use Rattle.dutch_pair.proofs.TellLemmas.{told}
+use Rattle.dutch_pair.proofs.eligible.can_complete_in.Goals as goal
+
+pub returns-clause-answer : goal.returns-clause-answer
+returns-clause-answer c =
+    let facts = c.args.field.now in
+    let players = c.args.players.now in
+    let stopped = IsStopped (most (length players) true) c.args.budget.now c.completes_in.new.budget in
+    let now = c.completes_in.new.budget.used ≡ c.completes_in.new.budget.limit in
+    told (seats_meet facts) (seats_may_be_left facts) players c.completes_in.result stopped now (λ s. s.reached)
+    (subst (λ f. MatchAnswer c.completes_in.result (Completable (seats_meet f) (seats_may_be_left f) players)
+    (¬ Completable (seats_meet f) (seats_may_be_left f) players) stopped) c.seats.ensures.facts c.completes_in.ensures.answer)
