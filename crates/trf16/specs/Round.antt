@@ -16,7 +16,7 @@ named_by [] = []
 named_by (board ∷ rest) = if board.1 == 0 then board.0 ∷ named_by rest else board.0 ∷ board.1 ∷ named_by rest
 
 -- some boards can be the next round: whoever they name is a player of the report, is present, and is named once; and no round
--- comes behind the 32nd
+-- comes behind the last that a report may have
 pub record CanBePaired (boards : List (ℕ × ℕ)) (sheet : Sheet) : Type 0 where
   pub players : All (λ start. known sheet start ≡ true) (named_by boards)
   pub present : All (λ start. absent sheet start ≡ false) (named_by boards)
