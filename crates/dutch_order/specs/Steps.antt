@@ -1,6 +1,8 @@
 -- What a call that may stop at a limit answers.
-use Rattle.std.specs.Prelude.{◌≡◌, ◌≤◌, ℕ, List, ◌++◌}
+use Rattle.std.specs.Prelude.{◌≡◌, ◌≤◌, ℕ, Bool, true, false, List, ◌++◌, Option, Result, Ok, Err}
 use Rattle.std.specs.List.{AllByRecursion}
+use Rattle.std.specs.Option.{MatchOption}
+use Rattle.std.specs.Result.{MatchResult}
 use Rattle.dutch_order.specs.declared.steps.Budget.{Budget}
 use Rattle.dutch_order.specs.declared.steps.Step.{Step}
 use Rattle.dutch_order.specs.declared.steps.Step.TheVariants.{Found, End, Undecided}
@@ -15,6 +17,16 @@ abbrev pub MatchStep : {T : Type 0} → Step T → (T → Type 0) → Type 0 →
 MatchStep (Found x) found ended undecided = found x
 MatchStep End found ended undecided = ended
 MatchStep Undecided found ended undecided = undecided
+
+-- a fact for each answer of a call that is stopped at a limit, or else says what it found
+abbrev pub MatchFound : {T E : Type 0} → Result (Option T) E → (T → Type 0) → Type 0 → Type 0 → Type 0
+MatchFound answer found none stopped = MatchResult answer (λ o. MatchOption o none found) (λ _. stopped)
+
+-- a fact for each answer of one that says whether it found something
+abbrev pub MatchDrawn : {E : Type 0} → Result Bool E → Type 0 → Type 0 → Type 0 → Type 0
+MatchDrawn (Ok true) drawn none stopped = drawn
+MatchDrawn (Ok false) drawn none stopped = none
+MatchDrawn (Err e) drawn none stopped = stopped
 
 -- a list that goes on as another, once some of its beginning is skipped of which each is idle
 abbrev pub Passes : {T : Type 0} → (T → Type 0) → List T → List T → Type 0

@@ -46,5 +46,5 @@ pub use limbo::LimboExchanges;
 pub use numbers::{LIMIT, Numbers, numbered_from};
 pub use prefix::{Filling, Prefix};
 pub use rules::Rule;
-pub use steps::{Budget, Step};
+pub use steps::{Budget, Step, Stopped};
 pub use transposition::Transpositions;

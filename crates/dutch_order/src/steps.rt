@@ -1,4 +1,7 @@
 // How far a call may go, and what it answers where it may be stopped.
+ghost use Rattle.std.specs.Prelude.{◌≡◌, Ok, Some, None};
+ghost use Rattle.std.specs.Result.{IsErr};
+ghost use Rattle.dutch_order.specs.Steps.{MatchStep};
 
 /// Steps that a run of calls may make, and those that it has made.
 #[derive(Debug, Clone, Copy, PartialEq, Eq)]
@@ -18,4 +21,21 @@ pub enum Step<T> {
     End,
     /// The budget's limit was reached first; with a higher limit the same call goes on.
     Undecided,
+}
+
+/// The budget's limit was reached first: with a higher one the same call goes on.
+#[derive(Debug, Clone, Copy)]
+pub struct Stopped;
+
+impl<T: Drop> Step<T> {
+    /// What was found, and none at the end, to be passed on by `?` where the limit was reached first.
+    pub fn found(self) -> Result<Option<T>, Stopped>
+        ensures { MatchStep self (λ x. result ≡ Ok (Some x)) (result ≡ Ok None) (IsErr result) }
+    {
+        match self {
+            Step::Found(found) => Ok(Some(found)),
+            Step::End => Ok(None),
+            Step::Undecided => Err(Stopped),
+        }
+    }
 }
