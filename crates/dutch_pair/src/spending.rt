@@ -3,11 +3,7 @@ ghost use Rattle.std.specs.Prelude.{◌≡◌, ◌≤◌, false};
 ghost use Rattle.std.specs.Result.{MatchResult};
 ghost use Rattle.dutch_order.specs.Steps.{Spends};
 
-use dutch_order::Budget;
-
-/// The budget's limit was reached first.
-#[derive(Debug, Clone, Copy)]
-pub(crate) struct Stopped;
+use dutch_order::{Budget, Stopped};
 
 /// Makes one step.
 pub(crate) fn step(budget: &mut Budget) -> Result<(), Stopped>

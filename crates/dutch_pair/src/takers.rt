@@ -3,21 +3,20 @@
 //
 // Where only their number is known, downfloaters are all alike. So the search pairs the lower players with one another, and only counts
 // those whom it leaves to downfloaters: which of them takes whom is never tried. It works in one list, as the search for a completion.
-ghost use Rattle.std.specs.Prelude.{◌≡◌, ◌+◌, ◌-◌, ◌<◌, ◌≤◌, true, false, ◌&&◌, [], drop, length, slice_index};
+ghost use Rattle.std.specs.Prelude.{◌≡◌, ◌+◌, ◌-◌, ◌<◌, ◌≤◌, Ok, false, ◌&&◌, [], drop, length, slice_index};
 ghost use Rattle.dutch_order.specs.declared.numbers.TheConstants.{LIMIT};
-ghost use Rattle.dutch_pair.specs.Completion.{some_partner, nobody, left_over, Tells};
+ghost use Rattle.dutch_pair.specs.Completion.{some_partner, nobody, left_over};
 ghost use Rattle.dutch_pair.specs.Seats.{seats_meet, seats_may_be_left};
-ghost use Rattle.dutch_pair.specs.declared.completion.Answer.TheVariants.{No};
 ghost use Rattle.dutch_pair.specs.Stops.{Decides};
 ghost use Rattle.dutch_pair.specs.Takers.{takes_one, meets_bracket, can_take_out, can_go_out};
 ghost use Rattle.dutch_order.specs.Steps.{Spends};
 
-use crate::completion::{Answer, put_last};
+use crate::completion::put_last;
 use crate::context::Context;
 use crate::reached::push_all;
 use crate::seats::seats;
-use crate::spending::Stopped;
-use dutch_order::{Budget, Numbers, Rule};
+use crate::spending::step;
+use dutch_order::{Budget, Numbers, Rule, Stopped};
 
 /// How many downfloaters there are for the lower players, and whether one of these may be left out.
 #[derive(Debug, Clone, Copy)]
@@ -60,34 +59,31 @@ pub(crate) fn can_go_out(
     let bye = (takers + lower.len()) % 2 == 1;
     let mut all = Numbers::new();
     push_all(lower, &mut all);
-    match can_pair(context, &mut all, Room { takers, bye }, budget) {
-        Answer::Yes => Ok(true),
-        Answer::No => Ok(false),
-        Answer::Undecided => Err(Stopped),
-    }
+    can_pair(context, &mut all, Room { takers, bye }, budget)
 }
 
 /// Whether lower players can be paired out, where there is room for some at downfloaters and for one who is left out.
 #[cycle(search)]
 #[tactic(auto, using(crate::proofs::TakersSearch::nobody_there, crate::proofs::TakersSearch::first_paired, crate::proofs::TakersSearch::first_taken, crate::proofs::TakersSearch::first_left))]
-fn can_pair(context: &Context<'_>, players: &mut [u16], room: Room, budget: &mut Budget) -> Answer
+fn can_pair(
+    context: &Context<'_>,
+    players: &mut [u16],
+    room: Room,
+    budget: &mut Budget,
+) -> Result<bool, Stopped>
     requires within { budget.old.used ≤ budget.old.limit }
-    ensures answer { Tells result (can_take_out context.now.facts context.now.reached.seats room.bye (length players.old) room.takers players.old) (budget.new.used ≡ budget.new.limit) }
+    ensures answer { Decides result (can_take_out context.now.facts context.now.reached.seats room.bye (length players.old) room.takers players.old) (budget.new.used ≡ budget.new.limit) }
     ensures spends { Spends budget.old budget.new }
-    ensures kept { result ≡ No → players.new ≡ players.old }
+    ensures kept { result ≡ Ok false → players.new ≡ players.old }
 {
     let Some((first, later)) = players.split_first_mut() else {
-        return Answer::Yes;
+        return Ok(true);
     };
-    match pair_first(context, *first, later, room, budget) {
-        Answer::Yes => return Answer::Yes,
-        Answer::No => {}
-        Answer::Undecided => return Answer::Undecided,
+    if pair_first(context, *first, later, room, budget)? {
+        return Ok(true);
     }
-    match take_first(context, *first, later, room, budget) {
-        Answer::Yes => return Answer::Yes,
-        Answer::No => {}
-        Answer::Undecided => return Answer::Undecided,
+    if take_first(context, *first, later, room, budget)? {
+        return Ok(true);
     }
     leave_first(context, *first, later, room, budget)
 }
@@ -101,24 +97,22 @@ fn pair_first(
     later: &mut [u16],
     room: Room,
     budget: &mut Budget,
-) -> Answer
+) -> Result<bool, Stopped>
     requires within { budget.old.used ≤ budget.old.limit }
-    ensures answer { Tells result
+    ensures answer { Decides result
         (some_partner (seats_meet context.now.facts first) (can_take_out context.now.facts context.now.reached.seats room.bye (length later.old - 1) room.takers) [] later.old)
         (budget.new.used ≡ budget.new.limit) }
     ensures spends { Spends budget.old budget.new }
-    ensures kept { result ≡ No → later.new ≡ later.old }
+    ensures kept { result ≡ Ok false → later.new ≡ later.old }
 {
     for place in 0..later.len() {
         later.swap(0, place);
-        match pair_with(context, first, later, room, budget) {
-            Answer::Yes => return Answer::Yes,
-            Answer::No => {}
-            Answer::Undecided => return Answer::Undecided,
+        if pair_with(context, first, later, room, budget)? {
+            return Ok(true);
         }
     }
     put_last(later);
-    Answer::No
+    Ok(false)
 }
 
 /// Whether the first player may meet the first of the later ones, so that the others can be paired out.
@@ -129,21 +123,18 @@ fn pair_with(
     later: &mut [u16],
     room: Room,
     budget: &mut Budget,
-) -> Answer
+) -> Result<bool, Stopped>
     requires some { 0 < length later.old }
     requires within { budget.old.used ≤ budget.old.limit }
-    ensures answer { Tells result (seats_meet context.now.facts first (slice_index later.old 0)
+    ensures answer { Decides result (seats_meet context.now.facts first (slice_index later.old 0)
         && can_take_out context.now.facts context.now.reached.seats room.bye (length later.old - 1) room.takers (drop 1 later.old))
         (budget.new.used ≡ budget.new.limit) }
     ensures spends { Spends budget.old budget.new }
-    ensures kept { result ≡ No → later.new ≡ later.old }
+    ensures kept { result ≡ Ok false → later.new ≡ later.old }
 {
-    if budget.used == budget.limit {
-        return Answer::Undecided;
-    }
-    budget.used += 1;
+    step(budget)?;
     if !may_meet(context, first, later[0]) {
-        return Answer::No;
+        return Ok(false);
     }
     can_pair(context, &mut later[1..], room, budget)
 }
@@ -156,23 +147,20 @@ fn take_first(
     later: &mut [u16],
     room: Room,
     budget: &mut Budget,
-) -> Answer
+) -> Result<bool, Stopped>
     requires within { budget.old.used ≤ budget.old.limit }
-    ensures answer { Tells result
+    ensures answer { Decides result
         (takes_one (meets_bracket context.now.facts context.now.reached.seats first) (λ k. can_take_out context.now.facts context.now.reached.seats room.bye (length later.old) k later.old) room.takers)
         (budget.new.used ≡ budget.new.limit) }
     ensures spends { Spends budget.old budget.new }
-    ensures kept { result ≡ No → later.new ≡ later.old }
+    ensures kept { result ≡ Ok false → later.new ≡ later.old }
 {
     if room.takers == 0 {
-        return Answer::No;
+        return Ok(false);
     }
-    if budget.used == budget.limit {
-        return Answer::Undecided;
-    }
-    budget.used += 1;
+    step(budget)?;
     if !takes(context, first) {
-        return Answer::No;
+        return Ok(false);
     }
     let fewer = Room {
         takers: room.takers - 1,
@@ -189,22 +177,19 @@ fn leave_first(
     later: &mut [u16],
     room: Room,
     budget: &mut Budget,
-) -> Answer
+) -> Result<bool, Stopped>
     requires within { budget.old.used ≤ budget.old.limit }
-    ensures answer { Tells result (left_over room.bye (seats_may_be_left context.now.facts) first && can_take_out context.now.facts context.now.reached.seats false (length later.old) room.takers later.old)
+    ensures answer { Decides result (left_over room.bye (seats_may_be_left context.now.facts) first && can_take_out context.now.facts context.now.reached.seats false (length later.old) room.takers later.old)
         (budget.new.used ≡ budget.new.limit) }
     ensures spends { Spends budget.old budget.new }
-    ensures kept { result ≡ No → later.new ≡ later.old }
+    ensures kept { result ≡ Ok false → later.new ≡ later.old }
 {
     if !room.bye {
-        return Answer::No;
+        return Ok(false);
     }
-    if budget.used == budget.limit {
-        return Answer::Undecided;
-    }
-    budget.used += 1;
+    step(budget)?;
     if !seats(context.field()).may_be_left(first) {
-        return Answer::No;
+        return Ok(false);
     }
     let nobody_else = Room {
         takers: room.takers,
