@@ -1,11 +1,10 @@
 -- What an aim and what is kept tell of candidates: of those that are near an aim one is chosen as of all, and a candidate that is of no
 -- interest changes nothing.
-use Rattle.std.proofs.Common.{◌≡◌, ℕ, Bool, true, false, not, ◌&&◌, ◌||◌, cond, List, [], ◌∷◌, ◌++◌, filter, Option, Some, None, refl, sym, ap, ◌∙◌}
+use Rattle.std.proofs.Common.{◌≡◌, ℕ, Bool, true, false, not, ◌&&◌, ◌||◌, cond, List, [], ◌∷◌, ◌++◌, filter, Option, Some, None, Result, Ok, Err, refl, sym, ap, ◌∙◌}
 use Rattle.std.specs.List.{list_any, AllByRecursion}
 use Rattle.std.proofs.lemmas.Bool.{true≢false, not-true, not-false, or_left, or_right, and_left, and_right}
-use Rattle.dutch_order.specs.Steps.{MatchStep, Passes}
-use Rattle.dutch_order.specs.declared.steps.Step.{Step}
-use Rattle.dutch_order.specs.declared.steps.Step.TheVariants.{Found, End, Undecided}
+use Rattle.dutch_order.specs.Steps.{MatchFound, Passes}
+use Rattle.dutch_order.specs.declared.steps.Stopped.{Stopped}
 use Rattle.dutch_order.proofs.Lists.{filter-all}
 use Rattle.dutch_order.specs.declared.bracket.Shape.{Shape}
 use Rattle.dutch_order.specs.Arrangements.{Arrangement}
@@ -150,12 +149,12 @@ module _ (facts : Facts) (reached : Reached) (lower : List ℕ) where
         ap (best (is_better_in facts reached lower)) (sym (open_ones shape))
         ∙ an_aim_serves aim (is_open facts reached lower wish) (candidates_of facts reached shape) c found
 
-    pub pass_ends : (aim : Option Quality) (shape : Shape) (step : Step Best) (stopped : Type 0)
-        → MatchStep step (λ b. (best_near facts reached lower wish aim shape ≡ Some b.candidate.lists) × IsKept facts reached lower (Some b)) (best_near facts reached lower wish aim shape ≡ None) stopped
-        → MatchStep step (λ b. (best_wished facts reached lower wish shape ≡ Some b.candidate.lists) × IsKept facts reached lower (Some b)) (Unit {0}) stopped
-    pass_ends aim shape (Found b) stopped h = (a_pass_serves aim shape b.candidate.lists h.0, h.1)
-    pass_ends aim shape End stopped h = tt
-    pass_ends aim shape Undecided stopped h = h
+    pub pass_ends : (aim : Option Quality) (shape : Shape) (found : Result (Option Best) Stopped) (stopped : Type 0)
+        → MatchFound found (λ b. (best_near facts reached lower wish aim shape ≡ Some b.candidate.lists) × IsKept facts reached lower (Some b)) (best_near facts reached lower wish aim shape ≡ None) stopped
+        → MatchFound found (λ b. (best_wished facts reached lower wish shape ≡ Some b.candidate.lists) × IsKept facts reached lower (Some b)) (Unit {0}) stopped
+    pass_ends aim shape (Ok (Some b)) stopped h = (a_pass_serves aim shape b.candidate.lists h.0, h.1)
+    pass_ends aim shape (Ok None) stopped h = tt
+    pass_ends aim shape (Err stop) stopped h = h
 
     -- without an aim a pass finds the best
     pub without_aim : (shape : Shape) → best_near facts reached lower wish None shape ≡ best_wished facts reached lower wish shape

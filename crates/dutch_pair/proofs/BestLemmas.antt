@@ -2,9 +2,7 @@
 use Rattle.std.proofs.Common.{◌≡◌, ℕ, Bool, true, false, not, cond, List, [], ◌∷◌, Option, Some, None, is_some, inl, inr, refl, sym, ap, ◌∙◌, subst}
 use Rattle.std.proofs.lemmas.Bool.{or_parts, and_from, and_left, not-false}
 use Rattle.dutch_order.specs.declared.bracket.Shape.{Shape}
-use Rattle.dutch_order.specs.declared.steps.Step.{Step}
-use Rattle.dutch_order.specs.declared.steps.Step.TheVariants.{Found, End, Undecided}
-use Rattle.dutch_order.specs.Steps.{MatchStep}
+use Rattle.std.specs.Option.{MatchOption}
 use Rattle.dutch_order.specs.Arrangements.{Arrangement}
 use Rattle.dutch_order.specs.Cursors.{◌>>=◌}
 use Rattle.dutch_order.specs.Keys.{IsIn}
@@ -95,12 +93,10 @@ module _ (facts : Facts) (reached : Reached) (lower : List ℕ) where
     best_last aim kept all h = h ∙ kept_at_end (is_better_in facts reached lower) order_in (is_sought facts reached lower wish aim) (kept_lists kept)
 
   -- what is handed out in the end
-  pub handed : (kept : Option Best) (step : Step Best) (all : Option Arrangement) (stopped : Type 0) → IsKept facts reached lower kept → all ≡ kept_lists kept
-      → MatchStep step (λ best. kept ≡ Some best) (kept ≡ None) ⊥
-      → MatchStep step (λ best. (all ≡ Some best.candidate.lists) × IsKept facts reached lower (Some best)) (all ≡ None) stopped
-  handed kept (Found best) all stopped h e given = (e ∙ ap kept_lists given, subst (IsKept facts reached lower) given h)
-  handed kept End all stopped h e given = e ∙ ap kept_lists given
-  handed kept Undecided all stopped h e given = absurd given
+  pub handed : (kept : Option Best) (all : Option Arrangement) → IsKept facts reached lower kept → all ≡ kept_lists kept
+      → MatchOption kept (all ≡ None) (λ best. (all ≡ Some best.candidate.lists) × IsKept facts reached lower (Some best))
+  handed (Some best) all h e = (e, h)
+  handed None all h e = e
 
   -- a shape that is found has a best candidate
   pub shape_has_best : (shape : Shape) → shape_of facts reached lower ≡ Some shape → best_of_shape facts reached lower shape ≡ None → ⊥

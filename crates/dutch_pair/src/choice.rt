@@ -1,8 +1,8 @@
 // The choice in a bracket (C.04.3 B.8): its shape, and the first candidate of it that none is better than.
 ghost use Rattle.std.specs.Prelude.{◌≡◌, ◌≤◌, ◌∷◌, true, false, Some, None, List, IfOk};
-ghost use Rattle.std.specs.Option.{MatchOption};
+ghost use Rattle.std.specs.Result.{MatchResult};
 ghost use Rattle.dutch_order.specs.Arrangements.{Arrangement, Fits, down};
-ghost use Rattle.dutch_order.specs.Steps.{MatchStep, Spends};
+ghost use Rattle.dutch_order.specs.Steps.{MatchFound, MatchStep, Spends};
 ghost use Rattle.dutch_pair.specs.Reached.{IsAbove, frame_of};
 ghost use Rattle.dutch_pair.specs.NextBracket.{IsOfBracket};
 ghost use Rattle.dutch_pair.specs.QualityIn.{quality_in};
@@ -13,7 +13,6 @@ ghost use Rattle.dutch_pair.specs.Aims.{aim_in, best_near, best_wished, best_yet
 ghost use Rattle.dutch_pair.specs.Outcomes.{IsChoice};
 ghost use Rattle.dutch_pair.specs.Remembered.{LooksBelow};
 
-use crate::completion::Answer;
 use crate::context::Context;
 use crate::eligible::can_be_chosen;
 use crate::fault::PairFault;
@@ -27,7 +26,7 @@ use crate::remembered::{Judge, judge_candidate, look_below};
 use crate::shape::shape_of;
 use crate::skipper::{Pass, Skipper, known_with};
 use crate::wish::{Wish, is_wished};
-use dutch_order::{Budget, Candidate, Shape, Step};
+use dutch_order::{Budget, Candidate, Shape, Step, Stopped};
 use dutch_player::Field;
 use std::alloc::Global;
 use std::mem::take;
@@ -67,8 +66,7 @@ pub(crate) fn is_idle(quality: &Quality, aim: &Option<Quality>, kept: &Option<Be
     }
 }
 
-/// Keeps a candidate in place of the one before it if it grants what is wished, is of interest and can be chosen. It says whether the
-/// budget sufficed for that.
+/// Keeps a candidate in place of the one before it if it grants what is wished, is of interest and can be chosen.
 #[tactic(auto, using(crate::proofs::AimLemmas::unwished_passed, crate::proofs::AimLemmas::idle_passed, crate::proofs::BestLemmas::winner_kept, crate::proofs::BestLemmas::unfit_is_passed))]
 fn consider(
     pass: &Pass<'_>,
@@ -76,62 +74,46 @@ fn consider(
     kept: &mut Option<Best>,
     judge: &mut Judge<'_>,
     budget: &mut Budget,
-) -> bool
+) -> Result<(), Stopped>
     requires candidate { IsOfBracket pass.now.context.now.facts pass.now.context.now.reached candidate.now }
     requires kept { IsKept pass.now.context.now.facts pass.now.context.now.reached pass.now.context.now.lower kept.old }
     requires look { LooksBelow pass.now.context.now.facts pass.now.context.now.reached pass.now.context.now.lower judge.old.look }
     requires within { budget.old.used ≤ budget.old.limit }
-    ensures same { result ≡ true → (coming : List Arrangement)
+    ensures answer { MatchResult result
+        (λ _. (coming : List Arrangement)
         → best_yet pass.now.context.now.facts pass.now.context.now.reached pass.now.context.now.lower pass.now.wish (aim_in pass.now.aim) kept.new coming
-        ≡ best_yet pass.now.context.now.facts pass.now.context.now.reached pass.now.context.now.lower pass.now.wish (aim_in pass.now.aim) kept.old (candidate.now.lists ∷ coming) }
-    ensures stopped { result ≡ false → budget.new.used ≡ budget.new.limit }
+        ≡ best_yet pass.now.context.now.facts pass.now.context.now.reached pass.now.context.now.lower pass.now.wish (aim_in pass.now.aim) kept.old (candidate.now.lists ∷ coming))
+        (λ _. budget.new.used ≡ budget.new.limit) }
     ensures kept { IsKept pass.now.context.now.facts pass.now.context.now.reached pass.now.context.now.lower kept.new }
     ensures look { LooksBelow pass.now.context.now.facts pass.now.context.now.reached pass.now.context.now.lower judge.new.look }
     ensures spends { Spends budget.old budget.new }
 {
     if !is_wished(pass.wish, candidate) {
-        return true;
+        return Ok(());
     }
-    if !judge_candidate(pass.context, candidate, judge, budget) {
-        return false;
-    }
+    judge_candidate(pass.context, candidate, judge, budget)?;
     if is_idle(&judge.room.quality, &pass.aim, kept) {
-        return true;
+        return Ok(());
     }
-    match can_be_chosen(pass.context, candidate, &mut judge.left, budget) {
-        Answer::Yes => {
-            let quality = take(&mut judge.room.quality);
-            let candidate = candidate.copied();
-            *kept = Some(Best { candidate, quality });
-            true
-        }
-        Answer::No => true,
-        Answer::Undecided => false,
+    if can_be_chosen(pass.context, candidate, &mut judge.left, budget)? {
+        let quality = take(&mut judge.room.quality);
+        let candidate = candidate.copied();
+        *kept = Some(Best { candidate, quality });
     }
+    Ok(())
 }
 
-/// The candidate that is kept, with its quality; `End` where there is none.
-fn handed_out(kept: Option<Best>) -> Step<Best>
-    ensures { MatchStep result (λ best. kept ≡ Some best) (kept ≡ None) ⊥ }
-{
-    match kept {
-        Some(best) => Step::Found(best),
-        None => Step::End,
-    }
-}
-
-/// Of the candidates that a pass seeks, and that can be chosen, the first that none is better than. `End` is answered where there is
-/// none.
+/// Of the candidates that a pass seeks, and that can be chosen, the first that none is better than: none where there is none.
 fn best_near<'a>(
     pass: &'a Pass<'a>,
     lister: &mut Lister<'_, ByNumber<'_>>,
     judge: &mut Judge<'_>,
     budget: &mut Budget,
-) -> Step<Best>
+) -> Result<Option<Best>, Stopped>
     requires lists { Lists pass.now.context.now.facts pass.now.context.now.reached lister.old.listing }
     requires look { LooksBelow pass.now.context.now.facts pass.now.context.now.reached pass.now.context.now.lower judge.old.look }
     requires within { budget.old.used ≤ budget.old.limit }
-    ensures answer { MatchStep result
+    ensures answer { MatchFound result
         (λ b. (best_near pass.now.context.now.facts pass.now.context.now.reached pass.now.context.now.lower pass.now.wish (aim_in pass.now.aim) pass.now.shape ≡ Some b.candidate.lists)
         × IsKept pass.now.context.now.facts pass.now.context.now.reached pass.now.context.now.lower (Some b))
         (best_near pass.now.context.now.facts pass.now.context.now.reached pass.now.context.now.lower pass.now.wish (aim_in pass.now.aim) pass.now.shape ≡ None)
@@ -148,28 +130,25 @@ fn best_near<'a>(
             .listing
             .put_next_within(&skipper, &mut judge.room, &mut lister.drawn, budget)
         {
-            Step::Found(()) => {}
-            Step::End => return handed_out(kept),
-            Step::Undecided => return Step::Undecided,
-        }
-        if !consider(pass, &lister.drawn, &mut kept, judge, budget) {
-            return Step::Undecided;
+            Step::Found(()) => consider(pass, &lister.drawn, &mut kept, judge, budget)?,
+            Step::End => return Ok(kept),
+            Step::Undecided => return Err(Stopped),
         }
     }
 }
 
-/// What a pass with an aim chooses: the best of all. `End` is answered where there is no aim, or where the pass finds none that can be
+/// What a pass with an aim chooses: the best of all. None is answered where there is no aim, or where the pass finds none that can be
 /// chosen, which says nothing of the choice.
 fn best_by_aim<'a>(
     pass: &'a Pass<'a>,
     lister: &mut Lister<'_, ByNumber<'_>>,
     judge: &mut Judge<'_>,
     budget: &mut Budget,
-) -> Step<Best>
+) -> Result<Option<Best>, Stopped>
     requires lists { Lists pass.now.context.now.facts pass.now.context.now.reached lister.old.listing }
     requires look { LooksBelow pass.now.context.now.facts pass.now.context.now.reached pass.now.context.now.lower judge.old.look }
     requires within { budget.old.used ≤ budget.old.limit }
-    ensures answer { MatchStep result
+    ensures answer { MatchFound result
         (λ b. (best_wished pass.now.context.now.facts pass.now.context.now.reached pass.now.context.now.lower pass.now.wish pass.now.shape ≡ Some b.candidate.lists)
         × IsKept pass.now.context.now.facts pass.now.context.now.reached pass.now.context.now.lower (Some b))
         (Unit {0})
@@ -179,7 +158,7 @@ fn best_by_aim<'a>(
     ensures spends { Spends budget.old budget.new }
 {
     if pass.aim.is_none() {
-        return Step::End;
+        return Ok(None);
     }
     best_near(pass, lister, judge, budget)
 }
@@ -187,10 +166,14 @@ fn best_by_aim<'a>(
 /// What a pass with an aim ends with, or else the same pass without one. (Apart from its caller, as a lister is large.)
 #[inline(never)]
 #[tactic(auto, using(crate::proofs::AimLemmas::without_aim))]
-fn best_in_passes(pass: &mut Pass<'_>, judge: &mut Judge<'_>, budget: &mut Budget) -> Step<Best>
+fn best_in_passes(
+    pass: &mut Pass<'_>,
+    judge: &mut Judge<'_>,
+    budget: &mut Budget,
+) -> Result<Option<Best>, Stopped>
     requires look { LooksBelow pass.old.context.now.facts pass.old.context.now.reached pass.old.context.now.lower judge.old.look }
     requires within { budget.old.used ≤ budget.old.limit }
-    ensures answer { MatchStep result
+    ensures answer { MatchFound result
         (λ b. (best_wished pass.old.context.now.facts pass.old.context.now.reached pass.old.context.now.lower pass.old.wish pass.old.shape ≡ Some b.candidate.lists)
         × IsKept pass.old.context.now.facts pass.old.context.now.reached pass.old.context.now.lower (Some b))
         (best_wished pass.old.context.now.facts pass.old.context.now.reached pass.old.context.now.lower pass.old.wish pass.old.shape ≡ None)
@@ -199,10 +182,8 @@ fn best_in_passes(pass: &mut Pass<'_>, judge: &mut Judge<'_>, budget: &mut Budge
 {
     let rule = pass.context.rule();
     let mut lister = Lister::new(pass.context.frame(), &rule);
-    match best_by_aim(pass, &mut lister, judge, budget) {
-        Step::Found(best) => return Step::Found(best),
-        Step::Undecided => return Step::Undecided,
-        Step::End => {}
+    if let Some(best) = best_by_aim(pass, &mut lister, judge, budget)? {
+        return Ok(Some(best));
     }
     pass.aim = None;
     best_near(pass, &mut lister, judge, budget)
@@ -234,7 +215,7 @@ pub(crate) fn best_of<'a>(
     let Some(pairs) = PairFacts::read(alloc, context, budget)? else {
         return Ok(Step::Undecided);
     };
-    let Some(outlook) = Outlook::find(context, shape, budget) else {
+    let Ok(outlook) = Outlook::find(context, shape, budget) else {
         return Ok(Step::Undecided);
     };
     let floors = Floors::new(pairs, shape, outlook);
@@ -246,7 +227,11 @@ pub(crate) fn best_of<'a>(
         aim: floors.aim(known),
         floors,
     };
-    Ok(best_in_passes(&mut pass, &mut judge, budget))
+    match best_in_passes(&mut pass, &mut judge, budget) {
+        Ok(Some(best)) => Ok(Step::Found(best)),
+        Ok(None) => Ok(Step::End),
+        Err(Stopped) => Ok(Step::Undecided),
+    }
 }
 
 /// The choice in a bracket that has a candidate.
@@ -262,9 +247,9 @@ pub(crate) fn choose_in<'a>(
     ensures spends { Spends budget.old budget.new }
 {
     let shape = match shape_of(context, budget) {
-        Step::Found(shape) => shape,
-        Step::End => unreachable!(),
-        Step::Undecided => return Ok(Choice::Undecided),
+        Ok(Some(shape)) => shape,
+        Ok(None) => unreachable!(),
+        Err(Stopped) => return Ok(Choice::Undecided),
     };
     match best_of(alloc, context, shape, None, budget)? {
         Step::Found(best) => Ok(Choice::Chosen {

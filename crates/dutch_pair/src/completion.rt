@@ -2,12 +2,13 @@
 //
 // The search works in one list. Each later player in turn is swapped to the front, those before him keep their order behind him, and
 // once none of them has served the list is turned back. So a level of the search keeps no list of its own.
-ghost use Rattle.std.specs.Prelude.{◌≡◌, ◌+◌, ◌-◌, ◌*◌, ◌<◌, ◌≤◌, true, false, ◌&&◌, [], ◌++◌, take, drop, length, slice_index, if◌then◌else◌};
+ghost use Rattle.std.specs.Prelude.{◌≡◌, ◌+◌, ◌-◌, ◌*◌, ◌<◌, ◌≤◌, Ok, true, false, ◌&&◌, [], ◌++◌, take, drop, length, slice_index, if◌then◌else◌};
+ghost use Rattle.std.specs.Result.{IsErr};
 ghost use Rattle.dutch_pair.specs.Completion.{Completable, can_cover, some_partner, nobody, left_over, most, Spends, IsStopped, Takes, MatchAnswer, Tells};
 ghost use Rattle.dutch_pair.specs.declared.completion.Answer.TheVariants.{No};
 
 use crate::reached::push_all;
-use dutch_order::{Budget, LIMIT, Numbers, Rule};
+use dutch_order::{Budget, LIMIT, Numbers, Rule, Stopped};
 
 /// Whether players are completable.
 #[derive(Debug, Clone, Copy, PartialEq, Eq)]
@@ -16,6 +17,19 @@ pub enum Answer {
     No,
     /// The budget's limit was reached first.
     Undecided,
+}
+
+impl Answer {
+    /// The same by a `bool`, to be passed on by `?` where the limit was reached first.
+    pub(crate) fn decided(self) -> Result<bool, Stopped>
+        ensures { MatchAnswer self (result ≡ Ok true) (result ≡ Ok false) (IsErr result) }
+    {
+        match self {
+            Answer::Yes => Ok(true),
+            Answer::No => Ok(false),
+            Answer::Undecided => Err(Stopped),
+        }
+    }
 }
 
 /// Whether some list of pairs of players who may meet leaves out at most one of the players, who may be left out (A.9). A step is

@@ -4,19 +4,19 @@ ghost use Rattle.dutch_order.specs.declared.numbers.TheConstants.{LIMIT};
 ghost use Rattle.dutch_order.specs.Arrangements.{Fits, down};
 ghost use Rattle.dutch_pair.specs.Reached.{frame_of};
 ghost use Rattle.dutch_pair.specs.Seated.{seat_of, AllNumbers};
-ghost use Rattle.dutch_pair.specs.Completion.{Tells};
 ghost use Rattle.dutch_pair.specs.Shapes.{IsFirst, has_member};
 ghost use Rattle.dutch_pair.specs.Round.{is_penultimate, completable, eligible};
 ghost use Rattle.dutch_pair.specs.Eligible.{Lists, can_be_chosen};
-ghost use Rattle.dutch_order.specs.Steps.{MatchStep, Spends};
+ghost use Rattle.dutch_pair.specs.Stops.{Decides};
+ghost use Rattle.dutch_order.specs.Steps.{MatchDrawn, Spends};
 
-use crate::completion::{Answer, completes_in};
+use crate::completion::completes_in;
 use crate::context::Context;
 use crate::greatest::Lister;
 use crate::reached::{BracketKind, ByNumber, Reached, Seats, copied, push_all};
 use crate::seated::push_seats;
 use crate::seats::seats;
-use dutch_order::{Budget, Candidate, Shape, Step};
+use dutch_order::{Budget, Candidate, Shape, Stopped};
 use dutch_player::Field;
 
 impl BracketKind {
@@ -40,22 +40,26 @@ fn fill_with_lower(reached: &Reached, numbers: &[u16], lower: &[u16], seats: &mu
 }
 
 /// Whether seats can be paired out (A.9).
-pub(crate) fn can_complete(field: &Field, players: &[u16], budget: &mut Budget) -> Answer
+pub(crate) fn can_complete(
+    field: &Field,
+    players: &[u16],
+    budget: &mut Budget,
+) -> Result<bool, Stopped>
     requires few { length players.now ≤ LIMIT }
     requires within { budget.old.used ≤ budget.old.limit }
-    ensures answer { Tells result (completable field.now players.now) (budget.new.used ≡ budget.new.limit) }
+    ensures answer { Decides result (completable field.now players.now) (budget.new.used ≡ budget.new.limit) }
     ensures spends { Spends budget.old budget.new }
 {
     can_complete_in(field, &mut copied(players), budget)
 }
 
 /// The same, by a search in the list itself, whose order it may change.
-fn can_complete_in(field: &Field, players: &mut [u16], budget: &mut Budget) -> Answer
+fn can_complete_in(field: &Field, players: &mut [u16], budget: &mut Budget) -> Result<bool, Stopped>
     requires within { budget.old.used ≤ budget.old.limit }
-    ensures answer { Tells result (completable field.now players.old) (budget.new.used ≡ budget.new.limit) }
+    ensures answer { Decides result (completable field.now players.old) (budget.new.used ≡ budget.new.limit) }
     ensures spends { Spends budget.old budget.new }
 {
-    completes_in(players, &seats(field), budget)
+    completes_in(players, &seats(field), budget).decided()
 }
 
 /// Whether those whom a candidate leaves over can be paired out with all lower players (A.9). The list is filled anew with them all.
@@ -64,11 +68,11 @@ pub(crate) fn leaves_completable(
     candidate: &Candidate,
     left: &mut Seats,
     budget: &mut Budget,
-) -> Answer
+) -> Result<bool, Stopped>
     requires numbers { AllNumbers context.now.reached.seats candidate.now.down }
     requires few { length candidate.now.down ≤ length context.now.reached.seats }
     requires within { budget.old.used ≤ budget.old.limit }
-    ensures answer { Tells result (completable context.now.facts (map (seat_of context.now.reached.seats) candidate.now.down ++ context.now.lower)) (budget.new.used ≡ budget.new.limit) }
+    ensures answer { Decides result (completable context.now.facts (map (seat_of context.now.reached.seats) candidate.now.down ++ context.now.lower)) (budget.new.used ≡ budget.new.limit) }
     ensures spends { Spends budget.old budget.new }
 {
     fill_with_lower(context.reached(), candidate.down(), context.lower(), left);
@@ -83,31 +87,31 @@ pub(crate) fn can_be_chosen(
     candidate: &Candidate,
     left: &mut Seats,
     budget: &mut Budget,
-) -> Answer
+) -> Result<bool, Stopped>
     requires left { candidate.now.down ≡ down (frame_of context.now.facts context.now.reached) candidate.now.lists }
     requires within { budget.old.used ≤ budget.old.limit }
-    ensures answer { Tells result (can_be_chosen context.now.facts context.now.reached context.now.lower candidate.now.lists) (budget.new.used ≡ budget.new.limit) }
+    ensures answer { Decides result (can_be_chosen context.now.facts context.now.reached context.now.lower candidate.now.lists) (budget.new.used ≡ budget.new.limit) }
     ensures spends { Spends budget.old budget.new }
 {
     if !context.reached().kind().is_penultimate() {
-        return Answer::Yes;
+        return Ok(true);
     }
     leaves_completable(context, candidate, left, budget)
 }
 
-/// Draws the first candidate of a shape that can be chosen.
+/// Draws the first candidate of a shape that can be chosen: no where there is none.
 #[tactic(auto, using(crate::proofs::EligibleLemmas::first_fit, crate::proofs::EligibleLemmas::passes_unfit, crate::proofs::EligibleLemmas::has_none))]
 pub(crate) fn first_eligible(
     context: &Context<'_>,
     lister: &mut Lister<'_, ByNumber<'_>>,
     shape: Shape,
     budget: &mut Budget,
-) -> Step<()>
+) -> Result<bool, Stopped>
     requires fits { Fits (frame_of context.now.facts context.now.reached) shape }
     requires lists { Lists context.now.facts context.now.reached lister.old.listing }
     requires within { budget.old.used ≤ budget.old.limit }
-    ensures answer { MatchStep result
-        (λ _. IsFirst (eligible context.now.facts context.now.reached context.now.lower shape) (frame_of context.now.facts context.now.reached) lister.new.drawn)
+    ensures answer { MatchDrawn result
+        (IsFirst (eligible context.now.facts context.now.reached context.now.lower shape) (frame_of context.now.facts context.now.reached) lister.new.drawn)
         (has_member (eligible context.now.facts context.now.reached context.now.lower shape) ≡ false)
         (budget.new.used ≡ budget.new.limit) }
     ensures lists { Lists context.now.facts context.now.reached lister.new.listing }
@@ -116,15 +120,11 @@ pub(crate) fn first_eligible(
     lister.listing.restart(shape);
     let mut left = Seats::new();
     loop {
-        match lister.listing.put_next(&mut lister.drawn, budget) {
-            Step::Found(()) => {}
-            Step::End => return Step::End,
-            Step::Undecided => return Step::Undecided,
+        if !lister.draw(budget)? {
+            return Ok(false);
         }
-        match can_be_chosen(context, &lister.drawn, &mut left, budget) {
-            Answer::Yes => return Step::Found(()),
-            Answer::No => {}
-            Answer::Undecided => return Step::Undecided,
+        if can_be_chosen(context, &lister.drawn, &mut left, budget)? {
+            return Ok(true);
         }
     }
 }

@@ -1,7 +1,7 @@
 // What the next bracket can be at best, as ghosts tell it (C.04.3 C.7): the most pairs that ghosts with the scores of the downfloaters
 // find there, and the floor of its PSD. It is looked for once a bracket, before any candidate is looked at.
 ghost use Rattle.std.specs.Prelude.{◌≡◌, ◌+◌, ◌-◌, ◌*◌, ◌<◌, ◌≤◌, ◌++◌, false, length, map, slice_index};
-ghost use Rattle.std.specs.Option.{MatchOption};
+ghost use Rattle.std.specs.Result.{MatchResult};
 ghost use Rattle.arrayvec.specs.ArrayVec.{array_vec_len};
 ghost use Rattle.dutch_order.specs.Arrangements.{Fits, IsBracket, left_of};
 ghost use Rattle.dutch_pair.specs.declared.reached.BracketKind.TheVariants.{Ordinary};
@@ -22,7 +22,7 @@ use crate::greatest::greatest_legal;
 use crate::quality::NextValue;
 use crate::reached::push_all;
 use arrayvec::ArrayVec;
-use dutch_order::{Bracket, Budget, LIMIT, Numbers, Shape, Step, numbered_from};
+use dutch_order::{Bracket, Budget, LIMIT, Numbers, Shape, Stopped, numbered_from};
 use dutch_player::Field;
 
 /// Adds the scores of those of some numbers who are not in S1.
@@ -131,37 +131,35 @@ fn floor_held(ghosts: &[u16], least: u16, residents: usize, pairs: usize) -> Num
 }
 
 /// What no value of the next bracket is better than (C.7), where an arrangement of a shape of an ordinary bracket leaves the Limbo of
-/// the first S1: none where the budget's limit was reached first. A step is a player of the bracket with one of the next scoregroup,
+/// the first S1. A step is a player of the bracket with one of the next scoregroup,
 /// or one number tried at one place in the ghosts' bracket.
 #[tactic(auto, using(crate::proofs::C07Outlook::below_ordinary))]
 pub(crate) fn ghost_value(
     context: &Context<'_>,
     shape: Shape,
     budget: &mut Budget,
-) -> Option<NextValue>
+) -> Result<NextValue, Stopped>
     requires ordinary { context.now.reached.kind ≡ Ordinary }
     requires flat { IsFlat context.now.facts context.now.reached }
     requires fits { Fits (frame_of context.now.facts context.now.reached) shape }
     requires within { budget.old.used ≤ budget.old.limit }
-    ensures answer { MatchOption result (budget.new.used ≡ budget.new.limit)
-        (λ v. v ≡ ghost_value context.now.facts context.now.reached shape (first_group context.now.facts (scoregroups context.now.facts context.now.lower))) }
+    ensures answer { MatchResult result
+        (λ v. v ≡ ghost_value context.now.facts context.now.reached shape (first_group context.now.facts (scoregroups context.now.facts context.now.lower)))
+        (λ _. budget.new.used ≡ budget.new.limit) }
     ensures spends { Spends budget.old budget.new }
 {
     let ghosts = Ghosts::read(context, budget)?;
     let scores = ghost_scores(context, shape);
     let bracket = ghost_bracket(context, &scores);
     let rule = ghosts.rule(scores.len());
-    match greatest_legal(&bracket, &rule, budget) {
-        Step::Found(most) => {
-            let next = context.next();
-            let least = context.field().score(next[0]);
-            let pairs = most.pairs;
-            Some(NextValue {
-                pairs,
-                psd: floor_held(&scores, least, next.len(), pairs),
-            })
-        }
-        Step::End => Some(NextValue::none()),
-        Step::Undecided => None,
-    }
+    let Some(most) = greatest_legal(&bracket, &rule, budget)? else {
+        return Ok(NextValue::none());
+    };
+    let next = context.next();
+    let least = context.field().score(next[0]);
+    let pairs = most.pairs;
+    Ok(NextValue {
+        pairs,
+        psd: floor_held(&scores, least, next.len(), pairs),
+    })
 }

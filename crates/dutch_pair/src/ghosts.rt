@@ -2,7 +2,7 @@
 // (C.04.3 C.7). Whom some player may meet is read once, so that a question costs no walk over the bracket.
 ghost use Rattle.std.specs.Prelude.{◌≡◌, ◌+◌, ◌-◌, ◌*◌, ◌<◌, ◌≤◌, ◌&&◌, true, false, map, slice_index, length};
 ghost use Rattle.std.specs.List.{list_any};
-ghost use Rattle.std.specs.Option.{MatchOption};
+ghost use Rattle.std.specs.Result.{MatchResult};
 ghost use Rattle.dutch_order.specs.declared.numbers.TheConstants.{LIMIT};
 ghost use Rattle.dutch_player.specs.Meetings.{may_meet};
 ghost use Rattle.dutch_pair.specs.Seated.{AreSeats};
@@ -14,7 +14,7 @@ ghost use Rattle.dutch_order.specs.Steps.{Spends};
 use crate::context::Context;
 use crate::spending::spend;
 use arrayvec::ArrayVec;
-use dutch_order::{Budget, LIMIT, Rule};
+use dutch_order::{Budget, LIMIT, Rule, Stopped};
 use dutch_player::Field;
 use std::marker::Model;
 
@@ -83,19 +83,18 @@ fn read_met(field: &Field, seats: &[u16], lower: &[u16]) -> ArrayVec<bool, LIMIT
 
 impl<'a> Ghosts<'a> {
     /// Reads whom of the next lower scoregroup some player of a bracket may meet, in a step for each player of the one with each of the
-    /// other. `None` is answered where the budget's limit was reached first.
-    pub(crate) fn read(context: &Context<'a>, budget: &mut Budget) -> Option<Ghosts<'a>>
+    /// other.
+    pub(crate) fn read(context: &Context<'a>, budget: &mut Budget) -> Result<Ghosts<'a>, Stopped>
         requires within { budget.old.used ≤ budget.old.limit }
-        ensures answer { MatchOption result (budget.new.used ≡ budget.new.limit)
-            (λ ghosts. ghosts ≡ record { facts = context.now.facts; seats = context.now.reached.seats; lower = first_group context.now.facts (scoregroups context.now.facts context.now.lower) }) }
+        ensures answer { MatchResult result
+            (λ ghosts. ghosts ≡ record { facts = context.now.facts; seats = context.now.reached.seats; lower = first_group context.now.facts (scoregroups context.now.facts context.now.lower) })
+            (λ _. budget.new.used ≡ budget.new.limit) }
         ensures spends { Spends budget.old budget.new }
     {
         let (field, seats, lower) = (context.field(), context.reached().seats(), context.next());
         let steps = seats.len() as u64 * lower.len() as u64;
-        if !spend(steps, budget) {
-            return None;
-        }
-        Some(Ghosts {
+        spend(steps, budget)?;
+        Ok(Ghosts {
             field,
             seats,
             lower,

@@ -1,16 +1,14 @@
 // The greatest shape of a bracket (C.04.3 C.5, B.1): the most pairs that some arrangement has, and then the most moved-down players in
 // them; and the first of its arrangements, which is found with it. One search serves a bracket by any rule, where each legal arrangement
 // counts, and a bracket of the round, where those count that can be chosen.
-ghost use Rattle.std.specs.Prelude.{◌≡◌, ◌≤◌, ◌*◌, ◌&&◌, List, Some, None, true, false, length, filter};
+ghost use Rattle.std.specs.Prelude.{◌≡◌, ◌≤◌, ◌*◌, ◌&&◌, List, [], ◌∷◌, Some, None, true, false, length, filter};
 ghost use Rattle.dutch_order.specs.declared.bracket.Shape.{Shape};
-ghost use Rattle.dutch_order.specs.Arrangements.{Arrangement, Fits, Frame, candidates};
+ghost use Rattle.dutch_order.specs.Arrangements.{Arrangement, Fits, Frame, candidates, down};
 ghost use Rattle.dutch_order.specs.Listings.{Listing};
-ghost use Rattle.dutch_order.specs.Steps.{MatchStep, Spends};
+ghost use Rattle.dutch_order.specs.Steps.{MatchDrawn, MatchFound, MatchStep, Spends};
 ghost use Rattle.dutch_pair.specs.Shapes.{IsFirst, fits, shapes_with, has_member, first_with, greatest_shape};
-ghost use Rattle.dutch_pair.specs.Completion.{MatchAnswer};
 
-use crate::completion::Answer;
-use dutch_order::{Bracket, Budget, Candidate, Candidates, Rule, Shape, Step};
+use dutch_order::{Bracket, Budget, Candidate, Candidates, Rule, Shape, Stopped};
 
 /// What a bracket's arrangements are drawn with: a listing, which begins anew for each shape, and a place for what it hands out. They
 /// are made once for a bracket.
@@ -32,6 +30,26 @@ impl<'a, R: Rule> Lister<'a, R> {
             drawn: Candidate::empty(),
         }
     }
+
+    /// Draws the next arrangement of the listing: no where there is none.
+    pub(crate) fn draw(&mut self, budget: &mut Budget) -> Result<bool, Stopped>
+        requires within { budget.old.used ≤ budget.old.limit }
+        ensures answer { MatchDrawn result
+            ((self.old.listing.coming ≡ self.new.drawn.lists ∷ self.new.listing.coming)
+            × (self.new.drawn.down ≡ down self.old.listing.frame self.new.drawn.lists))
+            ((self.old.listing.coming ≡ []) × (self.new.listing.coming ≡ []))
+            (budget.new.used ≡ budget.new.limit) }
+        ensures frame { self.new.listing.frame ≡ self.old.listing.frame }
+        ensures rule { self.new.listing.rule ≡ self.old.listing.rule }
+        ensures spends { Spends budget.old budget.new }
+    {
+        Ok(
+            self.listing
+                .put_next(&mut self.drawn, budget)
+                .found()?
+                .is_some(),
+        )
+    }
 }
 
 /// A bracket whose greatest shape is looked for.
@@ -49,20 +67,25 @@ pub(crate) trait Shapes<R: Rule> {
         ensures { result.now ≡ frame self.now };
 
     /// Whether a shape with so many pairs may have an arrangement that counts: no is said only where none has.
-    fn may_have(&self, pairs: usize, budget: &mut Budget) -> Answer
+    fn may_have(&self, pairs: usize, budget: &mut Budget) -> Result<bool, Stopped>
         requires small { 2 * pairs ≤ length (frame self.now).scores }
         requires within { budget.old.used ≤ budget.old.limit }
-        ensures answer { MatchAnswer result (Unit {0})
+        ensures answer { MatchDrawn result (Unit {0})
             (first_with (counting self.now) (filter (fits (frame self.now)) (shapes_with pairs)) ≡ None)
             (budget.new.used ≡ budget.new.limit) }
         ensures spends { Spends budget.old budget.new };
 
-    /// Draws the first arrangement of a shape that counts.
-    fn first(&self, lister: &mut Lister<'_, R>, shape: Shape, budget: &mut Budget) -> Step<()>
+    /// Draws the first arrangement of a shape that counts: no where there is none.
+    fn first(
+        &self,
+        lister: &mut Lister<'_, R>,
+        shape: Shape,
+        budget: &mut Budget,
+    ) -> Result<bool, Stopped>
         requires fits { Fits (frame self.now) shape }
         requires lists { lists self.now lister.old.listing }
         requires within { budget.old.used ≤ budget.old.limit }
-        ensures answer { MatchStep result (λ _. IsFirst (counting self.now shape) (frame self.now) lister.new.drawn)
+        ensures answer { MatchDrawn result (IsFirst (counting self.now shape) (frame self.now) lister.new.drawn)
             (has_member (counting self.now shape) ≡ false)
             (budget.new.used ≡ budget.new.limit) }
         ensures lists { lists self.now lister.new.listing }
@@ -90,13 +113,18 @@ impl<'a, R: Rule> Shapes<R> for Legal<'a, R> {
         self.bracket
     }
 
-    fn may_have(&self, _pairs: usize, _budget: &mut Budget) -> Answer {
-        Answer::Yes
+    fn may_have(&self, _pairs: usize, _budget: &mut Budget) -> Result<bool, Stopped> {
+        Ok(true)
     }
 
-    fn first(&self, lister: &mut Lister<'_, R>, shape: Shape, budget: &mut Budget) -> Step<()> {
+    fn first(
+        &self,
+        lister: &mut Lister<'_, R>,
+        shape: Shape,
+        budget: &mut Budget,
+    ) -> Result<bool, Stopped> {
         lister.listing.restart(shape);
-        lister.listing.put_next(&mut lister.drawn, budget)
+        lister.draw(budget)
     }
 }
 
@@ -112,19 +140,19 @@ fn has_room(bracket: &Bracket, shape: Shape) -> bool
     shape.mdps + 2 * (shape.pairs - shape.mdps) <= residents
 }
 
-/// Draws the first arrangement of a shape that counts, if the bracket has room for that shape.
+/// Draws the first arrangement of a shape that counts, if the bracket has room for that shape: no where there is none.
 #[tactic(auto, using(crate::proofs::ShapeSearch::fits_by_test, crate::proofs::ShapeSearch::first_there))]
 fn first_of<R: Rule, S: Shapes<R>>(
     asked: &S,
     lister: &mut Lister<'_, R>,
     shape: Shape,
     budget: &mut Budget,
-) -> Step<()>
+) -> Result<bool, Stopped>
     requires small { shape.pairs ≤ length (S.frame asked.now).scores }
     requires lists { S.lists asked.now lister.old.listing }
     requires within { budget.old.used ≤ budget.old.limit }
-    ensures answer { MatchStep result
-        (λ _. IsFirst (S.counting asked.now shape) (S.frame asked.now) lister.new.drawn
+    ensures answer { MatchDrawn result
+        (IsFirst (S.counting asked.now shape) (S.frame asked.now) lister.new.drawn
         × ((fits (S.frame asked.now) shape && has_member (S.counting asked.now shape)) ≡ true))
         ((fits (S.frame asked.now) shape && has_member (S.counting asked.now shape)) ≡ false)
         (budget.new.used ≡ budget.new.limit) }
@@ -132,7 +160,7 @@ fn first_of<R: Rule, S: Shapes<R>>(
     ensures spends { Spends budget.old budget.new }
 {
     if !has_room(asked.bracket(), shape) {
-        return Step::End;
+        return Ok(false);
     }
     asked.first(lister, shape, budget)
 }
@@ -145,11 +173,11 @@ fn shape_with<R: Rule, S: Shapes<R>>(
     lister: &mut Lister<'_, R>,
     pairs: usize,
     budget: &mut Budget,
-) -> Step<Shape>
+) -> Result<Option<Shape>, Stopped>
     requires small { 2 * pairs ≤ length (S.frame asked.now).scores }
     requires lists { S.lists asked.now lister.old.listing }
     requires within { budget.old.used ≤ budget.old.limit }
-    ensures answer { MatchStep result
+    ensures answer { MatchFound result
         (λ shape. (first_with (S.counting asked.now) (filter (fits (S.frame asked.now)) (shapes_with pairs)) ≡ Some shape)
         × IsFirst (S.counting asked.now shape) (S.frame asked.now) lister.new.drawn)
         (first_with (S.counting asked.now) (filter (fits (S.frame asked.now)) (shapes_with pairs)) ≡ None)
@@ -157,36 +185,31 @@ fn shape_with<R: Rule, S: Shapes<R>>(
     ensures lists { S.lists asked.now lister.new.listing }
     ensures spends { Spends budget.old budget.new }
 {
-    match asked.may_have(pairs, budget) {
-        Answer::Yes => {}
-        Answer::No => return Step::End,
-        Answer::Undecided => return Step::Undecided,
+    if !asked.may_have(pairs, budget)? {
+        return Ok(None);
     }
     let mut mdps = pairs;
     loop {
         let shape = Shape { pairs, mdps };
-        match first_of(asked, lister, shape, budget) {
-            Step::Found(()) => return Step::Found(shape),
-            Step::End => {}
-            Step::Undecided => return Step::Undecided,
+        if first_of(asked, lister, shape, budget)? {
+            return Ok(Some(shape));
         }
         if mdps == 0 {
-            return Step::End;
+            return Ok(None);
         }
         mdps -= 1;
     }
 }
 
-/// The greatest shape of a bracket that has an arrangement that counts, of which the first is drawn; `End` is answered where no shape
-/// has one.
+/// The greatest shape of a bracket that has an arrangement that counts, of which the first is drawn; none where no shape has one.
 pub(crate) fn greatest_shape<R: Rule, S: Shapes<R>>(
     asked: &S,
     lister: &mut Lister<'_, R>,
     budget: &mut Budget,
-) -> Step<Shape>
+) -> Result<Option<Shape>, Stopped>
     requires lists { S.lists asked.now lister.old.listing }
     requires within { budget.old.used ≤ budget.old.limit }
-    ensures answer { MatchStep result
+    ensures answer { MatchFound result
         (λ shape. (greatest_shape (S.counting asked.now) (S.frame asked.now) ≡ Some shape)
         × IsFirst (S.counting asked.now shape) (S.frame asked.now) lister.new.drawn)
         (greatest_shape (S.counting asked.now) (S.frame asked.now) ≡ None)
@@ -196,28 +219,26 @@ pub(crate) fn greatest_shape<R: Rule, S: Shapes<R>>(
 {
     let mut pairs = asked.bracket().len() / 2;
     loop {
-        match shape_with(asked, lister, pairs, budget) {
-            Step::Found(shape) => return Step::Found(shape),
-            Step::End => {}
-            Step::Undecided => return Step::Undecided,
+        if let Some(shape) = shape_with(asked, lister, pairs, budget)? {
+            return Ok(Some(shape));
         }
         if pairs == 0 {
-            return Step::End;
+            return Ok(None);
         }
         pairs -= 1;
     }
 }
 
-/// The greatest shape of a bracket that has a legal arrangement by a rule; `End` is answered where no shape has one. (Apart from its
-/// caller, as a lister is large.)
+/// The greatest shape of a bracket that has a legal arrangement by a rule; none where no shape has one. (Apart from its caller, as a
+/// lister is large.)
 #[inline(never)]
 pub(crate) fn greatest_legal<R: Rule>(
     bracket: &Bracket,
     rule: &R,
     budget: &mut Budget,
-) -> Step<Shape>
+) -> Result<Option<Shape>, Stopped>
     requires within { budget.old.used ≤ budget.old.limit }
-    ensures answer { MatchStep result
+    ensures answer { MatchFound result
         (λ shape. greatest_shape (candidates (R.meets rule.now) (R.may_be_left rule.now) bracket.now) bracket.now ≡ Some shape)
         (greatest_shape (candidates (R.meets rule.now) (R.may_be_left rule.now) bracket.now) bracket.now ≡ None)
         (budget.new.used ≡ budget.new.limit) }
@@ -225,9 +246,6 @@ pub(crate) fn greatest_legal<R: Rule>(
 {
     let legal = Legal { bracket, rule };
     let mut lister = Lister::new(bracket, rule);
-    match greatest_shape(&legal, &mut lister, budget) {
-        Step::Found(shape) => Step::Found(shape),
-        Step::End => Step::End,
-        Step::Undecided => Step::Undecided,
-    }
+    let found = greatest_shape(&legal, &mut lister, budget)?;
+    Ok(found)
 }

@@ -3,22 +3,21 @@ ghost use Rattle.std.specs.Prelude.{◌≡◌, ◌≤◌, IfOk, false, true};
 ghost use Rattle.std.specs.List.{list_any};
 ghost use Rattle.dutch_order.specs.Arrangements.{Fits};
 ghost use Rattle.dutch_order.specs.Steps.{Spends};
-ghost use Rattle.dutch_pair.specs.Completion.{Tells};
 ghost use Rattle.dutch_pair.specs.Lower.{lower_of};
 ghost use Rattle.dutch_pair.specs.Outcomes.{IsStage};
 ghost use Rattle.dutch_pair.specs.Reached.{frame_of};
 ghost use Rattle.dutch_pair.specs.Round.{candidates_of, eligible};
+ghost use Rattle.dutch_pair.specs.Stops.{Decides};
 ghost use Rattle.dutch_pair.specs.Wishes.{IsInstead, grants};
 
 use crate::choice::best_of;
-use crate::completion::Answer;
 use crate::context::Context;
 use crate::fault::PairFault;
 use crate::quality::Quality;
 use crate::skipper::rules_out;
 use crate::stage::Stage;
 use crate::wish::Wish;
-use dutch_order::{Bound, Budget, Candidate, Candidates, Prefix, Shape, Step};
+use dutch_order::{Bound, Budget, Candidate, Candidates, Prefix, Shape, Step, Stopped};
 use dutch_player::Field;
 use std::alloc::Global;
 
@@ -74,9 +73,9 @@ impl<'a> Bound for Wished<'a> {
 
 /// Whether some candidate grants a wish, whether it can be chosen or not.
 #[tactic(auto, using(crate::proofs::InsteadLemmas::skipped_same))]
-fn is_granted(wished: &Wished<'_>, budget: &mut Budget) -> Answer
+fn is_granted(wished: &Wished<'_>, budget: &mut Budget) -> Result<bool, Stopped>
     requires within { budget.old.used ≤ budget.old.limit }
-    ensures answer { Tells result (list_any (grants wished.now.wish) (candidates_of wished.now.context.now.facts wished.now.context.now.reached wished.now.shape))
+    ensures answer { Decides result (list_any (grants wished.now.wish) (candidates_of wished.now.context.now.facts wished.now.context.now.reached wished.now.shape))
         (budget.new.used ≡ budget.new.limit) }
     ensures spends { Spends budget.old budget.new }
 {
@@ -86,11 +85,11 @@ fn is_granted(wished: &Wished<'_>, budget: &mut Budget) -> Answer
         match candidates.next_within(wished, &mut (), budget) {
             Step::Found(candidate) => {
                 if wished.wish.is_granted(&candidate) {
-                    return Answer::Yes;
+                    return Ok(true);
                 }
             }
-            Step::End => return Answer::No,
-            Step::Undecided => return Answer::Undecided,
+            Step::End => return Ok(false),
+            Step::Undecided => return Err(Stopped),
         }
     }
 }
@@ -106,9 +105,9 @@ fn why_none(wished: &Wished<'_>, budget: &mut Budget) -> Instead
         return Instead::NoneLegal;
     }
     match is_granted(wished, budget) {
-        Answer::Yes => Instead::NoneEligible,
-        Answer::No => Instead::NoneLegal,
-        Answer::Undecided => Instead::Undecided { used: budget.used },
+        Ok(true) => Instead::NoneEligible,
+        Ok(false) => Instead::NoneLegal,
+        Err(Stopped) => Instead::Undecided { used: budget.used },
     }
 }
 

@@ -2,7 +2,8 @@
 //
 // All residents of the next bracket have one score, so within a shape the PSD depends on the scores of S1 alone, and article D lists
 // the sets with the higher scores first: the first candidate has the least PSD, and no other one is looked at.
-ghost use Rattle.std.specs.Prelude.{◌≡◌, map, ℕ, slice_index, ◌≤◌, true, MatchOption};
+ghost use Rattle.std.specs.Prelude.{◌≡◌, map, ℕ, slice_index, ◌≤◌, MatchOption};
+ghost use Rattle.std.specs.Result.{MatchResult};
 ghost use Rattle.dutch_pair.specs.Seated.{seat_of};
 ghost use Rattle.dutch_pair.specs.declared.reached.BracketKind.TheVariants.{Ordinary};
 ghost use Rattle.dutch_pair.specs.Reached.{IsOf};
@@ -15,7 +16,7 @@ use crate::greatest::{Legal, Lister, greatest_shape};
 use crate::quality::{NextValue, Quality, Room, fill_quality};
 use crate::reached::{BracketKind, Reached, push_all};
 use crate::seated::{by_seats, seats_of};
-use dutch_order::{Budget, Candidate, Numbers, Step};
+use dutch_order::{Budget, Candidate, Numbers, Stopped};
 use dutch_player::Field;
 
 /// Scores are such as a `u16` holds.
@@ -25,13 +26,17 @@ fn are_small(scores: &[u16])
     let _count = scores.len();
 }
 
-/// What a bracket can be (C.7): none where the budget's limit was reached first. (Apart from its caller, as a lister is large.)
+/// What a bracket can be (C.7). (Apart from its caller, as a lister is large.)
 #[inline(never)]
-pub(crate) fn value_of(field: &Field, reached: &Reached, budget: &mut Budget) -> Option<NextValue>
+pub(crate) fn value_of(
+    field: &Field,
+    reached: &Reached,
+    budget: &mut Budget,
+) -> Result<NextValue, Stopped>
     requires of { IsOf field.now reached.now }
     requires flat { IsFlat field.now reached.now }
     requires within { budget.old.used ≤ budget.old.limit }
-    ensures answer { MatchOption result (budget.new.used ≡ budget.new.limit) (λ v. v ≡ value_of field.now reached.now) }
+    ensures answer { MatchResult result (λ v. v ≡ value_of field.now reached.now) (λ _. budget.new.used ≡ budget.new.limit) }
     ensures spends { Spends budget.old budget.new }
 {
     let bracket = reached.frame(field);
@@ -42,19 +47,16 @@ pub(crate) fn value_of(field: &Field, reached: &Reached, budget: &mut Budget) ->
         rule: &rule,
     };
     let mut lister = Lister::new(&bracket, &rule);
-    match greatest_shape(&legal, &mut lister, budget) {
-        Step::Found(shape) => {
-            let first = by_seats(field, reached.seats(), &lister.drawn);
-            let mut psd = Numbers::new();
-            fill_psd(field, &first, &mut psd);
-            Some(NextValue {
-                pairs: shape.pairs,
-                psd,
-            })
-        }
-        Step::End => Some(NextValue::none()),
-        Step::Undecided => None,
-    }
+    let Some(shape) = greatest_shape(&legal, &mut lister, budget)? else {
+        return Ok(NextValue::none());
+    };
+    let first = by_seats(field, reached.seats(), &lister.drawn);
+    let mut psd = Numbers::new();
+    fill_psd(field, &first, &mut psd);
+    Ok(NextValue {
+        pairs: shape.pairs,
+        psd,
+    })
 }
 
 /// The bracket that downfloaters make with the next lower scoregroup.
@@ -76,21 +78,22 @@ fn next_bracket(field: &Field, reached: &Reached, down: &[u16], next: &[u16]) ->
     }
 }
 
-/// What the next bracket can be for downfloaters of an ordinary bracket (C.7): none where the budget's limit was reached first.
+/// What the next bracket can be for downfloaters of an ordinary bracket (C.7).
 pub(crate) fn value_below(
     field: &Field,
     reached: &Reached,
     down: &[u16],
     next: &[u16],
     budget: &mut Budget,
-) -> Option<NextValue>
+) -> Result<NextValue, Stopped>
     requires of { IsOf field.now reached.now }
     requires ordinary { reached.now.kind ≡ Ordinary }
     requires down { AreLeft reached.now down.now }
     requires next { IsNext field.now reached.now next.now }
     requires within { budget.old.used ≤ budget.old.limit }
-    ensures answer { MatchOption result (budget.new.used ≡ budget.new.limit)
-        (λ v. v ≡ value_in reached.now.kind field.now (map (seat_of reached.now.seats) down.now) next.now) }
+    ensures answer { MatchResult result
+        (λ v. v ≡ value_in reached.now.kind field.now (map (seat_of reached.now.seats) down.now) next.now)
+        (λ _. budget.new.used ≡ budget.new.limit) }
     ensures spends { Spends budget.old budget.new }
 {
     value_of(field, &next_bracket(field, reached, down, next), budget)
@@ -104,18 +107,19 @@ fn next_value(
     candidate: &Candidate,
     next: &[u16],
     budget: &mut Budget,
-) -> Option<NextValue>
+) -> Result<NextValue, Stopped>
     requires of { IsOf field.now reached.now }
     requires candidate { IsOfBracket field.now reached.now candidate.now }
     requires next { IsNext field.now reached.now next.now }
     requires within { budget.old.used ≤ budget.old.limit }
-    ensures answer { MatchOption result (budget.new.used ≡ budget.new.limit)
-        (λ v. v ≡ value_in reached.now.kind field.now (map (seat_of reached.now.seats) candidate.now.down) next.now) }
+    ensures answer { MatchResult result
+        (λ v. v ≡ value_in reached.now.kind field.now (map (seat_of reached.now.seats) candidate.now.down) next.now)
+        (λ _. budget.new.used ≡ budget.new.limit) }
     ensures spends { Spends budget.old budget.new }
 {
     match reached.kind() {
         BracketKind::Ordinary => value_below(field, reached, candidate.down(), next, budget),
-        _ => Some(NextValue::none()),
+        _ => Ok(NextValue::none()),
     }
 }
 
@@ -136,7 +140,7 @@ pub fn quality(
         (λ q. quality_in q ≡ quality field.now reached.now next.now candidate.now) }
     ensures spends { Spends budget.old budget.new }
 {
-    let value = next_value(field, reached, candidate, next, budget)?;
+    let value = next_value(field, reached, candidate, next, budget).ok()?;
     let mut room = Room::default();
     room.quality.put_next(value.pairs, &value.psd);
     fill_quality(field, reached.seats(), candidate, &mut room);

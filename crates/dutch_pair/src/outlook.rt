@@ -1,7 +1,7 @@
 // The best that the next bracket can be, found before any candidate is looked at (C.04.3 C.7): by ghosts where the bracket's residents
 // have one score, and else by counting players.
 ghost use Rattle.std.specs.Prelude.{◌≡◌, ◌≤◌, []};
-ghost use Rattle.std.specs.Option.{MatchOption};
+ghost use Rattle.std.specs.Result.{MatchResult};
 ghost use Rattle.dutch_order.specs.Arrangements.{Fits};
 ghost use Rattle.dutch_pair.specs.declared.reached.BracketKind.TheVariants.{Ordinary};
 ghost use Rattle.dutch_pair.specs.FloorOf.{is_flat};
@@ -15,7 +15,7 @@ use crate::context::Context;
 use crate::ghost_value::ghost_value;
 use crate::quality::NextValue;
 use crate::reached::BracketKind;
-use dutch_order::{Budget, Filling, Numbers, Shape};
+use dutch_order::{Budget, Filling, Numbers, Shape, Stopped};
 
 /// What the next bracket can be at best.
 #[derive(Debug, Drop)]
@@ -87,43 +87,49 @@ fn is_flat(context: &Context<'_>) -> bool
 }
 
 impl Outlook {
-    /// The best that the next bracket of a bracket and a shape can be: none where the budget's limit was reached first. In brackets that
-    /// are not ordinary the next one does not count.
+    /// The best that the next bracket of a bracket and a shape can be. In brackets that are not ordinary the next one does not
+    /// count.
     #[tactic(auto, using(crate::proofs::C07Outlook::none_counts))]
-    pub(crate) fn find(context: &Context<'_>, shape: Shape, budget: &mut Budget) -> Option<Outlook>
+    pub(crate) fn find(
+        context: &Context<'_>,
+        shape: Shape,
+        budget: &mut Budget,
+    ) -> Result<Outlook, Stopped>
         requires fits { Fits (frame_of context.now.facts context.now.reached) shape }
         requires within { budget.old.used ≤ budget.old.limit }
-        ensures answer { MatchOption result (budget.new.used ≡ budget.new.limit) (IsOutlook context.now.facts context.now.reached context.now.lower shape) }
+        ensures answer { MatchResult result (IsOutlook context.now.facts context.now.reached context.now.lower shape) (λ _. budget.new.used ≡ budget.new.limit) }
         ensures spends { Spends budget.old budget.new }
     {
         match context.reached().kind() {
             BracketKind::Ordinary => Outlook::below_ordinary(context, shape, budget),
-            BracketKind::Last | BracketKind::Penultimate | BracketKind::Collapsed => Some(
-                Outlook {
-                    first: None,
-                    any: NextValue::none(),
-                },
-            ),
+            BracketKind::Last | BracketKind::Penultimate | BracketKind::Collapsed => Ok(Outlook {
+                first: None,
+                any: NextValue::none(),
+            }),
         }
     }
 
     /// The same in an ordinary bracket.
     #[inline(never)]
     #[tactic(auto, using(crate::proofs::C07Outlook::by_counts, crate::proofs::C07Outlook::by_ghosts, crate::proofs::C07Outlook::flat_residents))]
-    fn below_ordinary(context: &Context<'_>, shape: Shape, budget: &mut Budget) -> Option<Outlook>
+    fn below_ordinary(
+        context: &Context<'_>,
+        shape: Shape,
+        budget: &mut Budget,
+    ) -> Result<Outlook, Stopped>
         requires ordinary { context.now.reached.kind ≡ Ordinary }
         requires fits { Fits (frame_of context.now.facts context.now.reached) shape }
         requires within { budget.old.used ≤ budget.old.limit }
-        ensures answer { MatchOption result (budget.new.used ≡ budget.new.limit) (IsOutlook context.now.facts context.now.reached context.now.lower shape) }
+        ensures answer { MatchResult result (IsOutlook context.now.facts context.now.reached context.now.lower shape) (λ _. budget.new.used ≡ budget.new.limit) }
         ensures spends { Spends budget.old budget.new }
     {
         let _reached = context.reached();
         let any = value_by_counts(context, shape);
         if !is_flat(context) {
-            return Some(Outlook { first: None, any });
+            return Ok(Outlook { first: None, any });
         }
         let first = ghost_value(context, shape, budget)?;
-        Some(Outlook {
+        Ok(Outlook {
             first: Some(first),
             any,
         })

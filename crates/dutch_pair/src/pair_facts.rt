@@ -119,7 +119,7 @@ impl<'a> PairFacts<'a> {
         ensures spends { Spends budget.old budget.new }
     {
         let count = context.len();
-        if !spend((count * count.saturating_sub(1) / 2) as u64, budget) {
+        if spend((count * count.saturating_sub(1) / 2) as u64, budget).is_err() {
             return Ok(None);
         }
         let mut suiting = empty(alloc, context)?;

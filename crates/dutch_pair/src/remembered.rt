@@ -4,6 +4,7 @@
 // that were used are kept, in a cache that is made once for a bracket. Where it cannot grow, the value is looked for each time.
 ghost use Rattle.std.specs.Prelude.{◌≡◌, ◌≤◌, true, false, [], length, map, take, IfOk, ◌⊎◌, if◌then◌else◌, Some, None};
 ghost use Rattle.std.specs.Map.{lookup};
+ghost use Rattle.std.specs.Result.{MatchResult};
 ghost use Rattle.lru.specs.LruCache.{lru_cache, promoted, put_entries};
 ghost use Rattle.dutch_pair.specs.declared.reached.BracketKind.TheVariants.{Ordinary};
 ghost use Rattle.dutch_pair.specs.Reached.{IsOf};
@@ -18,7 +19,7 @@ use crate::fault::PairFault;
 use crate::lookahead::value_below;
 use crate::quality::{NextValue, Quality, Room, fill_quality};
 use crate::reached::{BracketKind, Reached, Seats, copied, push_all};
-use dutch_order::{Budget, Candidate, LIMIT, Numbers};
+use dutch_order::{Budget, Candidate, LIMIT, Numbers, Stopped};
 use dutch_player::Field;
 use lru::LruCache;
 use std::alloc::Global;
@@ -156,12 +157,12 @@ impl<'a> LookAhead<'a> {
         ensures spends { Spends budget.old budget.new }
     {
         match value_below(self.field, self.reached, down, &self.next, budget) {
-            Some(value) => {
+            Ok(value) => {
                 let key = copied(down);
                 keep(&mut self.values, key, value.copied());
                 told(value)
             }
-            None => Look::Undecided,
+            Err(Stopped) => Look::Undecided,
         }
     }
 
@@ -195,13 +196,19 @@ impl<'a> LookAhead<'a> {
         put_recalled(&mut self.values, &self.key, quality)
     }
 
-    /// Fills the quality of a candidate of the bracket: no where the budget's limit was reached first.
+    /// Fills the quality of a candidate of the bracket.
     #[tactic(auto, using(crate::proofs::NextBrackets::left_by_candidate))]
-    fn fill_quality(&mut self, candidate: &Candidate, room: &mut Room, budget: &mut Budget) -> bool
+    fn fill_quality(
+        &mut self,
+        candidate: &Candidate,
+        room: &mut Room,
+        budget: &mut Budget,
+    ) -> Result<(), Stopped>
         requires candidate { IsOfBracket self.old.facts self.old.reached candidate.now }
         requires within { budget.old.used ≤ budget.old.limit }
-        ensures filled { result ≡ true → quality_in room.new.quality ≡ quality self.old.facts self.old.reached self.old.next candidate.now }
-        ensures stopped { result ≡ false → budget.new.used ≡ budget.new.limit }
+        ensures answer { MatchResult result
+            (λ _. quality_in room.new.quality ≡ quality self.old.facts self.old.reached self.old.next candidate.now)
+            (λ _. budget.new.used ≡ budget.new.limit) }
         ensures looks_on { LooksOn self.old self.new }
         ensures spends { Spends budget.old budget.new }
     {
@@ -209,11 +216,11 @@ impl<'a> LookAhead<'a> {
         if !self.put_kept(down, &mut room.quality) {
             match self.looked_for(down, budget) {
                 Look::Value { pairs, psd } => room.quality.put_next(pairs, &psd),
-                Look::Undecided => return false,
+                Look::Undecided => return Err(Stopped),
             }
         }
         fill_quality(field, reached.seats(), candidate, room);
-        true
+        Ok(())
     }
 
     /// How many values are kept.
@@ -250,20 +257,20 @@ pub(crate) struct Judge<'a> {
     pub(crate) left: Seats,
 }
 
-/// Fills the quality of a candidate above all lower seats, by the look-ahead of its bracket: no where the budget's limit was reached
-/// first.
+/// Fills the quality of a candidate above all lower seats, by the look-ahead of its bracket.
 #[tactic(auto, using(crate::proofs::NextGroups::is_next, crate::proofs::NextGroups::quality_at))]
 pub(crate) fn judge_candidate(
     context: &Context<'_>,
     candidate: &Candidate,
     judge: &mut Judge<'_>,
     budget: &mut Budget,
-) -> bool
+) -> Result<(), Stopped>
     requires candidate { IsOfBracket context.now.facts context.now.reached candidate.now }
     requires look { LooksBelow context.now.facts context.now.reached context.now.lower judge.old.look }
     requires within { budget.old.used ≤ budget.old.limit }
-    ensures judged { result ≡ true → quality_in judge.new.room.quality ≡ quality_of context.now.facts context.now.reached context.now.lower candidate.now.lists }
-    ensures stopped { result ≡ false → budget.new.used ≡ budget.new.limit }
+    ensures answer { MatchResult result
+        (λ _. quality_in judge.new.room.quality ≡ quality_of context.now.facts context.now.reached context.now.lower candidate.now.lists)
+        (λ _. budget.new.used ≡ budget.new.limit) }
     ensures look { LooksBelow context.now.facts context.now.reached context.now.lower judge.new.look }
     ensures spends { Spends budget.old budget.new }
 {
@@ -273,7 +280,7 @@ pub(crate) fn judge_candidate(
         None => {
             room.quality.put_next(0, &[]);
             fill_quality(context.field(), context.reached().seats(), candidate, room);
-            true
+            Ok(())
         }
     }
 }

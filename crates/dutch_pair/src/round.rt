@@ -7,7 +7,7 @@ use crate::fault::PairFault;
 use crate::reached::{Reached, Seats};
 use crate::stage::Stage;
 use crate::walk::{Turn, Walk, everybody};
-use dutch_order::{Shape, Step};
+use dutch_order::{Shape, Stopped};
 use dutch_player::Field;
 use std::alloc::Global;
 
@@ -54,9 +54,9 @@ pub fn pair_round(alloc: Global, field: &Field, limit: u64) -> Result<Outcome, P
 {
     let all = everybody(field);
     let mut walk = match Walk::start(field, &all, limit) {
-        Step::Found(walk) => walk,
-        Step::End => return Ok(Outcome::NoPairing),
-        Step::Undecided => return Ok(Outcome::Undecided {
+        Ok(Some(walk)) => walk,
+        Ok(None) => return Ok(Outcome::NoPairing),
+        Err(Stopped) => return Ok(Outcome::Undecided {
             bracket: 1,
             used: limit,
         }),
@@ -88,9 +88,9 @@ pub fn bracket_at(
 {
     let all = everybody(field);
     let mut walk = match Walk::start(field, &all, limit) {
-        Step::Found(walk) => walk,
-        Step::End => return Ok(BracketAt::NoPairing),
-        Step::Undecided => return Ok(BracketAt::Undecided {
+        Ok(Some(walk)) => walk,
+        Ok(None) => return Ok(BracketAt::NoPairing),
+        Err(Stopped) => return Ok(BracketAt::Undecided {
             bracket: 1,
             used: limit,
         }),
@@ -98,9 +98,9 @@ pub fn bracket_at(
     loop {
         if walk.number() == number {
             match walk.bracket() {
-                Step::Found((reached, shape)) => return Ok(BracketAt::Bracket { reached, shape }),
-                Step::End => return Ok(BracketAt::NotReached),
-                Step::Undecided => {
+                Ok(Some((reached, shape))) => return Ok(BracketAt::Bracket { reached, shape }),
+                Ok(None) => return Ok(BracketAt::NotReached),
+                Err(Stopped) => {
                     return Ok(BracketAt::Undecided {
                         bracket: number,
                         used: limit,
@@ -126,9 +126,9 @@ pub fn stages(alloc: Global, field: &Field, limit: u64) -> Result<AllStages, Pai
 {
     let all = everybody(field);
     let mut walk = match Walk::start(field, &all, limit) {
-        Step::Found(walk) => walk,
-        Step::End => return Ok(AllStages::NoPairing),
-        Step::Undecided => return Ok(AllStages::Undecided {
+        Ok(Some(walk)) => walk,
+        Ok(None) => return Ok(AllStages::NoPairing),
+        Err(Stopped) => return Ok(AllStages::Undecided {
             bracket: 1,
             used: limit,
         }),

@@ -1,19 +1,17 @@
 // The shape of a bracket (C.04.3 C.5, B.1): the most pairs that some candidate has, and then the most moved-down players in them.
 ghost use Rattle.std.specs.Prelude.{◌≡◌, ◌*◌, ◌≤◌, Some, None, filter, length};
 ghost use Rattle.dutch_order.specs.Arrangements.{Fits};
-ghost use Rattle.dutch_order.specs.Steps.{MatchStep, Spends};
+ghost use Rattle.dutch_order.specs.Steps.{MatchDrawn, MatchFound, Spends};
 ghost use Rattle.dutch_pair.specs.Reached.{frame_of};
-ghost use Rattle.dutch_pair.specs.Completion.{MatchAnswer};
 ghost use Rattle.dutch_pair.specs.Round.{eligible, shape_of};
 ghost use Rattle.dutch_pair.specs.Shapes.{first_with, fits, shapes_with};
 
-use crate::completion::Answer;
 use crate::context::Context;
 use crate::eligible::first_eligible;
 use crate::greatest::{Lister, Shapes, greatest_shape};
 use crate::reached::ByNumber;
 use crate::takers::can_go_out;
-use dutch_order::{Bracket, Budget, Shape, Step};
+use dutch_order::{Bracket, Budget, Shape, Stopped};
 
 impl<'a, 'b> Shapes<ByNumber<'b>> for Context<'a> {
     ghost use Rattle.dutch_pair.specs.Eligible.{Lists};
@@ -34,22 +32,18 @@ impl<'a, 'b> Shapes<ByNumber<'b>> for Context<'a> {
 
     // Where as many downfloaters as so many pairs leave in a penultimate bracket cannot be paired out with the lower players, whoever they
     // are, no candidate can be chosen (C.4).
-    fn may_have(&self, pairs: usize, budget: &mut Budget) -> Answer
+    fn may_have(&self, pairs: usize, budget: &mut Budget) -> Result<bool, Stopped>
         requires small { 2 * pairs ≤ length (frame_of self.now.facts self.now.reached).scores }
         requires within { budget.old.used ≤ budget.old.limit }
-        ensures answer { MatchAnswer result (Unit {0})
+        ensures answer { MatchDrawn result (Unit {0})
             (first_with (eligible self.now.facts self.now.reached self.now.lower) (filter (fits (frame_of self.now.facts self.now.reached)) (shapes_with pairs)) ≡ None)
             (budget.new.used ≡ budget.new.limit) }
         ensures spends { Spends budget.old budget.new }
     {
         if !self.reached().kind().is_penultimate() {
-            return Answer::Yes;
+            return Ok(true);
         }
-        match can_go_out(self, self.len() - 2 * pairs, budget) {
-            Ok(true) => Answer::Yes,
-            Ok(false) => Answer::No,
-            Err(_) => Answer::Undecided,
-        }
+        can_go_out(self, self.len() - 2 * pairs, budget)
     }
 
     fn first(
@@ -57,17 +51,17 @@ impl<'a, 'b> Shapes<ByNumber<'b>> for Context<'a> {
         lister: &mut Lister<'_, ByNumber<'b>>,
         shape: Shape,
         budget: &mut Budget,
-    ) -> Step<()> {
+    ) -> Result<bool, Stopped> {
         first_eligible(self, lister, shape, budget)
     }
 }
 
 /// The shape of a bracket of a field above all lower seats by rank: of the shapes that have a candidate, the one with the most pairs,
-/// and for them with the most moved-down players. `End` is answered where none has one.
+/// and for them with the most moved-down players. None is answered where none has one.
 #[inline(never)]
-pub(crate) fn shape_of(context: &Context<'_>, budget: &mut Budget) -> Step<Shape>
+pub(crate) fn shape_of(context: &Context<'_>, budget: &mut Budget) -> Result<Option<Shape>, Stopped>
     requires within { budget.old.used ≤ budget.old.limit }
-    ensures answer { MatchStep result
+    ensures answer { MatchFound result
         (λ shape. (shape_of context.now.facts context.now.reached context.now.lower ≡ Some shape) × Fits (frame_of context.now.facts context.now.reached) shape)
         (shape_of context.now.facts context.now.reached context.now.lower ≡ None)
         (budget.new.used ≡ budget.new.limit) }
@@ -75,9 +69,8 @@ pub(crate) fn shape_of(context: &Context<'_>, budget: &mut Budget) -> Step<Shape
 {
     let rule = context.rule();
     let mut lister = Lister::new(context.frame(), &rule);
-    match greatest_shape(context, &mut lister, budget) {
-        Step::Found(shape) => Step::Found(shape),
-        Step::End => Step::End,
-        Step::Undecided => Step::Undecided,
-    }
+    let Some(shape) = greatest_shape(context, &mut lister, budget)? else {
+        return Ok(None);
+    };
+    Ok(Some(shape))
 }

@@ -1,5 +1,5 @@
 // Steps that are made at once, for so many questions, and one by one.
-ghost use Rattle.std.specs.Prelude.{◌≡◌, ◌≤◌, false};
+ghost use Rattle.std.specs.Prelude.{◌≡◌, ◌≤◌};
 ghost use Rattle.std.specs.Result.{MatchResult};
 ghost use Rattle.dutch_order.specs.Steps.{Spends};
 
@@ -18,16 +18,16 @@ pub(crate) fn step(budget: &mut Budget) -> Result<(), Stopped>
     Ok(())
 }
 
-/// Makes steps, as many as are asked for. It says no if the budget's limit would be passed: then all that are left are made.
-pub(crate) fn spend(steps: u64, budget: &mut Budget) -> bool
+/// Makes steps, as many as are asked for. If the budget's limit would be passed, all that are left are made.
+pub(crate) fn spend(steps: u64, budget: &mut Budget) -> Result<(), Stopped>
     requires within { budget.old.used ≤ budget.old.limit }
-    ensures stopped { result ≡ false → budget.new.used ≡ budget.new.limit }
+    ensures stopped { MatchResult result (λ _. Unit {0}) (λ _. budget.new.used ≡ budget.new.limit) }
     ensures spends { Spends budget.old budget.new }
 {
     if budget.limit - budget.used < steps {
         budget.used = budget.limit;
-        return false;
+        return Err(Stopped);
     }
     budget.used += steps;
-    true
+    Ok(())
 }

@@ -12,14 +12,13 @@ ghost use Rattle.dutch_pair.specs.Outcomes.{IsStage};
 ghost use Rattle.dutch_pair.specs.Stages.{IsSettled, is_again, own_pairs};
 
 use crate::choice::{Choice, choose_in};
-use crate::completion::Answer;
 use crate::context::Context;
 use crate::eligible::leaves_completable;
 use crate::fault::PairFault;
 use crate::quality::Quality;
 use crate::reached::{BracketKind, Reached, Seats};
 use crate::seated::{Pair, by_seats};
-use dutch_order::{Budget, Candidate, Shape};
+use dutch_order::{Budget, Candidate, Shape, Stopped};
 use dutch_player::Field;
 use std::alloc::Global;
 
@@ -35,23 +34,24 @@ pub struct Stage {
 }
 
 /// Whether a bracket is paired again (C.4): an ordinary one, if those whom it leaves over cannot be paired out with all lower players.
-/// None says that the budget's limit was reached first.
-fn is_again(context: &Context<'_>, candidate: &Candidate, budget: &mut Budget) -> Option<bool>
+fn is_again(
+    context: &Context<'_>,
+    candidate: &Candidate,
+    budget: &mut Budget,
+) -> Result<bool, Stopped>
     requires numbers { AllNumbers context.now.reached.seats candidate.now.down }
     requires few { length candidate.now.down ≤ length context.now.reached.seats }
     requires within { budget.old.used ≤ budget.old.limit }
-    ensures answer { IfSome result (λ again. again ≡ is_again context.now.reached.kind
+    ensures answer { IfOk result (λ again. again ≡ is_again context.now.reached.kind
         (completable context.now.facts (map (seat_of context.now.reached.seats) candidate.now.down ++ context.now.lower))) }
     ensures spends { Spends budget.old budget.new }
 {
-    let complete = match context.reached().kind() {
-        BracketKind::Ordinary => leaves_completable(context, candidate, &mut Seats::new(), budget),
-        BracketKind::Last | BracketKind::Penultimate | BracketKind::Collapsed => return Some(false),
-    };
-    match complete {
-        Answer::Yes => Some(false),
-        Answer::No => Some(true),
-        Answer::Undecided => None,
+    match context.reached().kind() {
+        BracketKind::Ordinary => {
+            let completable = leaves_completable(context, candidate, &mut Seats::new(), budget)?;
+            Ok(!completable)
+        }
+        BracketKind::Last | BracketKind::Penultimate | BracketKind::Collapsed => Ok(false),
     }
 }
 
@@ -78,7 +78,7 @@ pub(crate) fn settle(
         } => (shape, candidate, quality),
         Choice::Undecided => return Ok(None),
     };
-    let Some(again) = is_again(&context, &candidate, &mut budget) else {
+    let Ok(again) = is_again(&context, &candidate, &mut budget) else {
         return Ok(None);
     };
     Ok(Some(Stage {

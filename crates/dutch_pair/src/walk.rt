@@ -5,7 +5,7 @@
 // bracket has a candidate that can be chosen, and the walk comes to an end at which at most one player is left over.
 ghost use Rattle.std.specs.Prelude.{◌≡◌, ◌+◌, ◌<◌, ◌≤◌, true, false, [], length, IfOk, Some};
 ghost use Rattle.dutch_order.specs.Arrangements.{Fits};
-ghost use Rattle.dutch_order.specs.Steps.{MatchStep};
+ghost use Rattle.dutch_order.specs.Steps.{MatchFound};
 ghost use Rattle.dutch_pair.specs.Eligible.{HasCandidate};
 ghost use Rattle.dutch_pair.specs.Reached.{IsAbove, frame_of};
 ghost use Rattle.dutch_pair.specs.Round.{everybody, round, brackets, completable, scoregroups, paired_again, shape_of};
@@ -13,7 +13,6 @@ ghost use Rattle.dutch_pair.specs.Walk.{Goes};
 ghost use Rattle.dutch_pair.specs.WaysOut.{GoesOut, StandsBefore};
 ghost use Rattle.dutch_pair.specs.Stages.{GoesOn, IsBehindIn, IsSettled, Shows, group_kind};
 
-use crate::completion::Answer;
 use crate::context::Context;
 use crate::eligible::can_complete;
 use crate::fault::PairFault;
@@ -22,7 +21,7 @@ use crate::reached::{BracketKind, Reached, Seats, bracket, copied};
 use crate::seated::seats_of;
 use crate::shape::shape_of;
 use crate::stage::{Stage, settle};
-use dutch_order::{Budget, Shape, Step, numbered_from};
+use dutch_order::{Budget, Shape, Stopped, numbered_from};
 use dutch_player::Field;
 use dutch_player::laws::scores_do_not_ascend;
 use std::alloc::Global;
@@ -101,17 +100,21 @@ fn paired_again(reached: &Reached) -> Reached
 }
 
 /// The shape of a bracket.
-fn shape_in(field: &Field, reached: &Reached, lower: &[u16], budget: Budget) -> Step<Shape>
+fn shape_in(
+    field: &Field,
+    reached: &Reached,
+    lower: &[u16],
+    budget: Budget,
+) -> Result<Shape, Stopped>
     requires above { IsAbove field.now reached.now lower.now }
     requires candidate { HasCandidate field.now reached.now lower.now }
     requires within { budget.used ≤ budget.limit }
-    ensures { MatchStep result (λ shape. (shape_of field.now reached.now lower.now ≡ Some shape) × Fits (frame_of field.now reached.now) shape) ⊥ (Unit {0}) }
+    ensures { IfOk result (λ shape. (shape_of field.now reached.now lower.now ≡ Some shape) × Fits (frame_of field.now reached.now) shape) }
 {
     let mut budget = budget;
-    match shape_of(&Context::new(field, reached, lower), &mut budget) {
-        Step::Found(shape) => Step::Found(shape),
-        Step::End => unreachable!(),
-        Step::Undecided => Step::Undecided,
+    match shape_of(&Context::new(field, reached, lower), &mut budget)? {
+        Some(shape) => Ok(shape),
+        None => unreachable!(),
     }
 }
 
@@ -195,21 +198,24 @@ impl<'a> Walk<'a> {
     }
 
     /// A walk over the brackets of the next round. Each bracket may make so many steps for its choice and the test behind it; the test
-    /// of all present players, which comes first, counts to the first one. `End` is answered where they cannot be paired out.
-    pub(crate) fn start(field: &'a Field, all: &'a [u16], limit: u64) -> Step<Walk<'a>>
+    /// of all present players, which comes first, counts to the first one. None is answered where they cannot be paired out.
+    pub(crate) fn start(
+        field: &'a Field,
+        all: &'a [u16],
+        limit: u64,
+    ) -> Result<Option<Walk<'a>>, Stopped>
         requires { all.now ≡ everybody field.now }
-        ensures { MatchStep result
+        ensures { MatchFound result
             (λ walk. (completable field.now (everybody field.now) ≡ true) × (walk ≡ record { facts = field.now; number = 1; rest = round field.now; limit = limit }))
             (completable field.now (everybody field.now) ≡ false)
             (Unit {0}) }
     {
         scores_do_not_ascend(field);
         let mut budget = Budget { limit, used: 0 };
-        match can_complete(field, all, &mut budget) {
-            Answer::Yes => Step::Found(Walk::before_group(field, 1, Seats::new(), all, budget)),
-            Answer::No => Step::End,
-            Answer::Undecided => Step::Undecided,
+        if !can_complete(field, all, &mut budget)? {
+            return Ok(None);
         }
+        Ok(Some(Walk::before_group(field, 1, Seats::new(), all, budget)))
     }
 
     /// The number of the bracket that comes next, if one does.
@@ -235,19 +241,16 @@ impl<'a> Walk<'a> {
         Ok(Turn::Settled(stage))
     }
 
-    /// The bracket that comes next, with its shape, of which alone it is asked. `End` is answered where none comes.
-    pub(crate) fn bracket(&self) -> Step<(Reached, Shape)>
-        ensures { MatchStep result (λ found. Shows self.now.facts self.now.rest found.0 found.1 × (found.0.number ≡ self.now.number))
+    /// The bracket that comes next, with its shape, of which alone it is asked. None is answered where none comes.
+    pub(crate) fn bracket(&self) -> Result<Option<(Reached, Shape)>, Stopped>
+        ensures { MatchFound result (λ found. Shows self.now.facts self.now.rest found.0 found.1 × (found.0.number ≡ self.now.number))
             (self.now.rest.reached ≡ []) (Unit {0}) }
     {
         scores_do_not_ascend(self.field);
         let Next::Bracket(reached) = &self.next else {
-            return Step::End;
+            return Ok(None);
         };
-        match shape_in(self.field, reached, self.lower, self.budget) {
-            Step::Found(shape) => Step::Found((reached.copied(), shape)),
-            Step::End => unreachable!(),
-            Step::Undecided => Step::Undecided,
-        }
+        let shape = shape_in(self.field, reached, self.lower, self.budget)?;
+        Ok(Some((reached.copied(), shape)))
     }
 }

@@ -14,8 +14,8 @@ use Rattle.dutch_pair.proofs.SkippedLemmas.{left_was_there}
 use Rattle.dutch_order.proofs.Spending.{spends-none, spends-more}
 use Rattle.dutch_pair.proofs.choice.best_near.Goals as goal
 
-pub loop-kept-init : goal.loop-kept-init
-loop-kept-init c =
+pub loop-lister-init : goal.loop-lister-init
+loop-lister-init c =
     let pass = c.args.pass.now in
     let facts = pass.context.now.facts in
     let reached = pass.context.now.reached in
@@ -43,41 +43,41 @@ consider-requires-clause-candidate c =
     let pass = c.args.pass.now in
     let facts = pass.context.now.facts in
     let reached = pass.context.now.reached in
-    let kept = c.loop-kept.kept in
+    let kept = c.loop-lister.kept in
     let lists = c.put_next_within.new.candidate.lists in
     let m : IsIn lists (candidates_of facts reached pass.shape) =
-    c.loop-kept.invariant.inside lists
-    (left_was_there (λ a. is_dull facts reached pass.context.now.lower pass.wish (aim_in pass.aim) kept a ≡ true) lists c.loop-kept.lister.listing.coming _ c.in-Found.ensures.answer.0 (inl refl)) in
+    c.loop-lister.invariant.inside lists
+    (left_was_there (λ a. is_dull facts reached pass.context.now.lower pass.wish (aim_in pass.aim) kept a ≡ true) lists c.loop-lister.lister.listing.coming _ c.in-Found.ensures.answer.0 (inl refl)) in
     record {
       lists = (pass.shape, in_filter (is_legal (numbers_meet facts reached) (number_may_be_left facts reached) (frame_of facts reached)) lists (arrangements (frame_of facts reached) pass.shape) m);
-      down = c.in-Found.ensures.answer.1 ∙ ap (λ (frame : Frame). down frame lists) c.loop-kept.invariant.lists.frame;
+      down = c.in-Found.ensures.answer.1 ∙ ap (λ (frame : Frame). down frame lists) c.loop-lister.invariant.lists.frame;
     }
 
-pub loop-kept-preserved : goal.loop-kept-preserved
-loop-kept-preserved c =
+pub loop-lister-preserved : goal.loop-lister-preserved
+loop-lister-preserved c =
     let pass = c.args.pass.now in
     let facts = pass.context.now.facts in
     let reached = pass.context.now.reached in
     let lower = pass.context.now.lower in
-    let kept = c.loop-kept.kept in
+    let kept = c.loop-lister.kept in
     let aim = aim_in pass.aim in
-    let before = c.loop-kept.lister.listing.coming in
+    let before = c.loop-lister.lister.listing.coming in
     let after = c.put_next_within.new.candidate.lists ∷ c.put_next_within.new.self.coming in
     record {
-      chosen = c.loop-kept.invariant.chosen
-          ∙ skipped_same facts reached lower pass.wish aim kept before after c.loop-kept.invariant.kept c.in-Found.ensures.answer.0
-          ∙ sym (c.if-not-consider.ensures.same refl c.put_next_within.new.self.coming);
-      kept = c.if-not-consider.ensures.kept;
-      inside = λ lists m. c.loop-kept.invariant.inside lists
+      chosen = c.loop-lister.invariant.chosen
+          ∙ skipped_same facts reached lower pass.wish aim kept before after c.loop-lister.invariant.kept c.in-Found.ensures.answer.0
+          ∙ sym (c.in_ok-consider-in-Found.ensures.answer c.put_next_within.new.self.coming);
+      kept = c.consider.ensures.kept;
+      inside = λ lists m. c.loop-lister.invariant.inside lists
           (left_was_there (λ a. is_dull facts reached lower pass.wish aim kept a ≡ true) lists before after c.in-Found.ensures.answer.0 (inr m));
       lists = record {
-        frame = c.in-Found.ensures.frame ∙ c.loop-kept.invariant.lists.frame;
-        field = ap (λ (rule : ByNumber). rule.field.now) c.in-Found.ensures.rule ∙ c.loop-kept.invariant.lists.field;
-        bracket = ap (λ (rule : ByNumber). rule.reached.now) c.in-Found.ensures.rule ∙ c.loop-kept.invariant.lists.bracket;
+        frame = c.in-Found.ensures.frame ∙ c.loop-lister.invariant.lists.frame;
+        field = ap (λ (rule : ByNumber). rule.field.now) c.in-Found.ensures.rule ∙ c.loop-lister.invariant.lists.field;
+        bracket = ap (λ (rule : ByNumber). rule.reached.now) c.in-Found.ensures.rule ∙ c.loop-lister.invariant.lists.bracket;
       };
-      shape = c.in-Found.ensures.shape ∙ c.loop-kept.invariant.shape;
-      spends = spends-more c.loop-kept.invariant.spends (spends-more c.in-Found.ensures.spends c.if-not-consider.ensures.spends);
-      look = c.if-not-consider.ensures.look;
+      shape = c.in-Found.ensures.shape ∙ c.loop-lister.invariant.shape;
+      spends = spends-more c.loop-lister.invariant.spends (spends-more c.in-Found.ensures.spends c.consider.ensures.spends);
+      look = c.consider.ensures.look;
     }
 
 pub returns-in-End-clause-answer : goal.returns-in-End-clause-answer
@@ -86,10 +86,9 @@ returns-in-End-clause-answer c =
     let facts = pass.context.now.facts in
     let reached = pass.context.now.reached in
     let lower = pass.context.now.lower in
-    let kept = c.loop-kept.kept in
+    let kept = c.loop-lister.kept in
     let aim = aim_in pass.aim in
     let all = best_near facts reached lower pass.wish aim pass.shape in
-    handed facts reached lower kept c.handed_out.result all (c.put_next_within.new.budget.used ≡ c.put_next_within.new.budget.limit) c.loop-kept.invariant.kept
+    handed facts reached lower kept all c.loop-lister.invariant.kept
     (best_last facts reached lower pass.wish aim kept all
-    (c.loop-kept.invariant.chosen ∙ skipped_same facts reached lower pass.wish aim kept c.loop-kept.lister.listing.coming [] c.loop-kept.invariant.kept c.in-End.ensures.answer.0))
-    c.handed_out.ensures
+    (c.loop-lister.invariant.chosen ∙ skipped_same facts reached lower pass.wish aim kept c.loop-lister.lister.listing.coming [] c.loop-lister.invariant.kept c.in-End.ensures.answer.0))

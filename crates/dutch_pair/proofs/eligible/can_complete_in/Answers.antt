@@ -11,6 +11,6 @@ returns-clause-answer c =
     let players = c.args.players.now in
     let stopped = IsStopped (most (length players) true) c.args.budget.now c.completes_in.new.budget in
     let now = c.completes_in.new.budget.used ≡ c.completes_in.new.budget.limit in
-    told (seats_meet facts) (seats_may_be_left facts) players c.completes_in.result stopped now (λ s. s.reached)
+    told (seats_meet facts) (seats_may_be_left facts) players c.completes_in.result c.decided.result stopped now (λ s. s.reached) c.decided.ensures
     (subst (λ f. MatchAnswer c.completes_in.result (Completable (seats_meet f) (seats_may_be_left f) players)
     (¬ Completable (seats_meet f) (seats_may_be_left f) players) stopped) c.seats.ensures.facts c.completes_in.ensures.answer)

@@ -1,9 +1,9 @@
 -- The players who are tested are those left over and all lower ones.
 use Rattle.std.proofs.Common.{◌≡◌, ◌++◌, map, ap, ◌∙◌, subst}
-use Rattle.dutch_pair.specs.Completion.{Tells}
 use Rattle.dutch_pair.specs.Reached.{Reached}
 use Rattle.dutch_pair.specs.Seated.{seat_of}
 use Rattle.dutch_pair.specs.Round.{completable}
+use Rattle.dutch_pair.specs.Stops.{Decides}
 use Rattle.dutch_pair.proofs.eligible.leaves_completable.Goals as goal
 
 pub returns-clause-answer : goal.returns-clause-answer
@@ -12,5 +12,5 @@ returns-clause-answer c =
     let all = c.deref_mut.ensures.value ∙ c.fill_with_lower.ensures
     ∙ ap (λ (s : Reached). map (seat_of s.seats) c.down.result.now ++ c.lower.result.now) c.reached.ensures.value
     ∙ ap (λ lower. map (seat_of c.args.context.now.reached.seats) c.down.result.now ++ lower) c.lower.ensures.value ∙ ap (λ numbers. map (seat_of c.args.context.now.reached.seats) numbers ++ c.args.context.now.lower) c.down.ensures in
-    subst (λ seats. Tells c.can_complete_in.result (completable c.args.context.now.facts seats) now) all
-    (subst (λ facts. Tells c.can_complete_in.result (completable facts c.deref_mut.result.now) now) c.field.ensures c.can_complete_in.ensures.answer)
+    subst (λ seats. Decides c.can_complete_in.result (completable c.args.context.now.facts seats) now) all
+    (subst (λ facts. Decides c.can_complete_in.result (completable facts c.deref_mut.result.now) now) c.field.ensures c.can_complete_in.ensures.answer)

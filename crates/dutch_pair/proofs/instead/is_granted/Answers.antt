@@ -25,4 +25,4 @@ loop-candidate-preserved c =
 
 pub returns-in-End-clause-answer : goal.returns-in-End-clause-answer
 returns-in-End-clause-answer c =
-    c.loop-candidate.invariant.same ∙ skipped_same c.args.wished.now.wish c.loop-candidate.candidates.coming [] c.in-End.ensures.answer.0
+    sym (c.loop-candidate.invariant.same ∙ skipped_same c.args.wished.now.wish c.loop-candidate.candidates.coming [] c.in-End.ensures.answer.0)

@@ -1,6 +1,7 @@
 -- The first candidate of the greatest shape has the least PSD of all.
 use Rattle.std.proofs.Common.{ℕ, ◌≤◌, List, sym, ap, ◌∙◌, subst}
 use Rattle.std.specs.Prelude.{slice_index}
+use Rattle.std.proofs.lemmas.Option.{MatchOption-at_some}
 use Rattle.dutch_order.specs.Arrangements.{Frame}
 use Rattle.dutch_pair.specs.Seated.{IsCandidate, Seated, by_seats}
 use Rattle.dutch_pair.specs.Quality.{psd}
@@ -12,21 +13,21 @@ pub by_seats-first-requires-clause-candidate : goal.by_seats-first-requires-clau
 by_seats-first-requires-clause-candidate c =
     let facts = c.args.field.now in
     let reached = c.args.reached.now in
-    let shape = c.in-Found.shape in
+    let shape = c.in-Some.shape in
     let first = c.greatest_shape.new.lister.drawn in
     let known = greatest_as facts c.rule-rule.result.field.now reached c.rule-rule.result.reached.now c.frame-bracket.result shape first
-    c.rule-rule.ensures.field c.rule-rule.ensures.reached c.frame-bracket.ensures c.in-Found.ensures.answer in
+    c.rule-rule.ensures.field c.rule-rule.ensures.reached c.frame-bracket.ensures (MatchOption-at_some _ _ c.in-Some.shape c.in-Some.is c.in_ok-shape.ensures.answer) in
     subst (λ seats. IsCandidate seats first) (sym c.seats.ensures)
     (candidate_of facts reached shape first c.requires.of (in_legal facts reached shape first.lists known.1.others known.1.first) known.1.down)
 
-pub returns-in-Found-clause-answer : goal.returns-in-Found-clause-answer
-returns-in-Found-clause-answer c =
+pub returns-clause-answer : goal.returns-clause-answer
+returns-clause-answer c =
     let facts = c.args.field.now in
     let reached = c.args.reached.now in
-    let shape = c.in-Found.shape in
+    let shape = c.in-Some.shape in
     let first = c.greatest_shape.new.lister.drawn in
     let known = greatest_as facts c.rule-rule.result.field.now reached c.rule-rule.result.reached.now c.frame-bracket.result shape first
-    c.rule-rule.ensures.field c.rule-rule.ensures.reached c.frame-bracket.ensures c.in-Found.ensures.answer in
+    c.rule-rule.ensures.field c.rule-rule.ensures.reached c.frame-bracket.ensures (MatchOption-at_some _ _ c.in-Some.shape c.in-Some.is c.in_ok-shape.ensures.answer) in
     value_found facts reached shape first known.1.others c.fill_psd.new.numbers.items c.requires.of c.requires.flat
     (let P : Frame → Type 0 = λ frame. (i : ℕ) → slice_index frame.scores i ≤ 65535 in
     subst P c.frame-bracket.ensures (let Q : List ℕ → Type 0 = λ scores. (i : ℕ) → slice_index scores i ≤ 65535 in subst Q c.scores.ensures.scores c.are_small.ensures))

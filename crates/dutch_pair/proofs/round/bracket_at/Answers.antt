@@ -1,5 +1,6 @@
 -- The bracket that is asked for is the next one, or it stands behind that.
 use Rattle.std.proofs.Common.{◌≡◌, ◌+◌, suc, length, ap, sym, ◌∙◌, subst, arith}
+use Rattle.std.proofs.lemmas.Option.{MatchOption-at_some, MatchOption-at_none}
 use Rattle.dutch_pair.specs.Round.{Round, round}
 use Rattle.dutch_pair.specs.Stages.{GoesOn, Walk}
 use Rattle.dutch_pair.proofs.NoDeadEnd.{round_goes}
@@ -9,13 +10,14 @@ use Rattle.dutch_pair.proofs.round.bracket_at.Goals as goal
 pub loop-alloc-init : goal.loop-alloc-init
 loop-alloc-init c =
     let facts = c.args.field.now in
-    let walk = c.in-Found.walk in
-    let e = c.in-Found.ensures.1 in
+    let walk = c.in-Ok-Some.walk in
+    let found = MatchOption-at_some _ _ walk c.in-Ok-Some.field-0-is c.in-Ok-Some.ensures in
+    let e = found.1 in
     let number : walk.number ≡ 1 = ap (λ (w : Walk). w.number) e in
     let count = ap (λ (w : Walk). length w.rest.reached) e in
     record {
       facts = ap (λ (w : Walk). w.facts) e;
-      complete = c.in-Found.ensures.0;
+      complete = found.0;
       low = omega (arith, number);
       count = omega (arith, number, count);
       ahead = subst (λ (w : Walk). IsAhead c.args.number w.number w.rest.reached (round facts).reached) (sym e) (ahead_first c.args.number (round facts).reached);
@@ -55,10 +57,10 @@ returns-in-Ended-clause-bracket c =
       round_goes facts c.loop-alloc.invariant.complete,
     )
 
-pub returns-in-End-bracket-clause-bracket : goal.returns-in-End-bracket-clause-bracket
-returns-in-End-bracket-clause-bracket c =
+pub returns-in-Ok-None-bracket-clause-bracket : goal.returns-in-Ok-None-bracket-clause-bracket
+returns-in-Ok-None-bracket-clause-bracket c =
     let facts = c.args.field.now in
     let walk = c.loop-alloc.walk in (
-      ahead_none c.args.number walk.number walk.rest.reached (round facts).reached c.in-End-bracket.ensures c.loop-alloc.invariant.ahead,
+      ahead_none c.args.number walk.number walk.rest.reached (round facts).reached (MatchOption-at_none _ _ c.in-Ok-None-bracket.field-0-is c.in-Ok-None-bracket.ensures) c.loop-alloc.invariant.ahead,
       round_goes facts c.loop-alloc.invariant.complete,
     )

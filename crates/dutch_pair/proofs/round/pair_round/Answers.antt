@@ -1,6 +1,7 @@
 -- One stage more: its pairs stand behind those so far.
 use Rattle.std.proofs.Common.{◌≡◌, ◌+◌, ℕ, List, suc, length, option_map, ap, sym, ◌∙◌, subst, arith}
 use Rattle.std.specs.List.{AllByRecursion}
+use Rattle.std.proofs.lemmas.Option.{MatchOption-at_some}
 use Rattle.dutch_pair.specs.Boards.{IsPair}
 use Rattle.dutch_pair.specs.Stages.{GoesOn, Walk, in_front}
 use Rattle.dutch_pair.proofs.RoundEnds.{first_count, first_pairing, front_none}
@@ -8,13 +9,14 @@ use Rattle.dutch_pair.proofs.round.pair_round.Goals as goal
 
 pub loop-pairs-init : goal.loop-pairs-init
 loop-pairs-init c =
-    let walk = c.in-Found.walk in
-    let e = c.in-Found.ensures.1 in
+    let walk = c.in-Ok-Some.walk in
+    let found = MatchOption-at_some _ _ walk c.in-Ok-Some.field-0-is c.in-Ok-Some.ensures in
+    let e = found.1 in
     let number : walk.number ≡ 1 = ap (λ (w : Walk). w.number) e in
     let count = ap (λ (w : Walk). length w.rest.reached) e in
     record {
       facts = ap (λ (w : Walk). w.facts) e;
-      complete = c.in-Found.ensures.0;
+      complete = found.0;
       low = omega (arith, number);
       count = omega (arith, number, count);
       paired = ap (λ (xs : List (ℕ × ℕ)). option_map (in_front xs) walk.rest.pairing) c.new-pairs.ensures.items ∙ front_none walk.rest.pairing ∙ ap (λ (w : Walk). w.rest.pairing) e;

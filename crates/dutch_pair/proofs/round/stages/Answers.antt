@@ -1,6 +1,7 @@
 -- One stage more stands behind those so far.
 use Rattle.std.proofs.Common.{◌≡◌, ◌+◌, ◌++◌, List, [], ◌∷◌, suc, length, map, ap, sym, ◌∙◌, subst, arith}
 use Rattle.std.specs.List.{AllByRecursion}
+use Rattle.std.proofs.lemmas.Option.{MatchOption-at_some}
 use Rattle.dutch_player.specs.Facts.{Facts}
 use Rattle.dutch_pair.specs.declared.stage.Stage.{Stage}
 use Rattle.dutch_pair.specs.Outcomes.{IsStage, visit}
@@ -12,8 +13,9 @@ use Rattle.dutch_pair.proofs.round.stages.Goals as goal
 
 pub loop-stages-init : goal.loop-stages-init
 loop-stages-init c =
-    let walk = c.in-Found.walk in
-    let e = c.in-Found.ensures.1 in
+    let walk = c.in-Ok-Some.walk in
+    let found = MatchOption-at_some _ _ walk c.in-Ok-Some.field-0-is c.in-Ok-Some.ensures in
+    let e = found.1 in
     let number : walk.number ≡ 1 = ap (λ (w : Walk). w.number) e in
     let count = ap (λ (w : Walk). length w.rest.reached) e in
     record {

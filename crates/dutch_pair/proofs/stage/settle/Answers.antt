@@ -22,6 +22,6 @@ returns c =
     let h = chosen_as k _ c.in-Chosen.is c.in_ok-shape.ensures.answer in (
       c.copied.ensures,
       settled_in c.args.field.now c.args.reached.now c.args.lower.now k
-          (record { reached = c.copied.result; shape = c.in-Chosen.shape; candidate = c.in-Chosen.candidate; quality = c.in-Chosen.quality; again = c.in-Some.again })
-          c.new-context.ensures c.copied.ensures h.0 h.1 h.3 c.in-Some.ensures.answer,
+          (record { reached = c.copied.result; shape = c.in-Chosen.shape; candidate = c.in-Chosen.candidate; quality = c.in-Chosen.quality; again = c.in-Ok.again })
+          c.new-context.ensures c.copied.ensures h.0 h.1 h.3 c.in-Ok.ensures.answer,
     )

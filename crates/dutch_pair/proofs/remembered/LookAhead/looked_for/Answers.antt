@@ -14,8 +14,8 @@ copied-key-requires c =
 
 pub invariant_of-self : goal.invariant_of-self
 invariant_of-self c =
-    let right : c.in-Some.value ≡ value_below c.self.inside.field.now c.self.inside.reached.now c.self.inside.next.items c.args.down.now =
-    c.in-Some.ensures.answer ∙ ap (λ l. value_below c.self.inside.field.now c.self.inside.reached.now l c.args.down.now) c.deref.ensures.0 in
+    let right : c.in-Ok.value ≡ value_below c.self.inside.field.now c.self.inside.reached.now c.self.inside.next.items c.args.down.now =
+    c.in-Ok.ensures.answer ∙ ap (λ l. value_below c.self.inside.field.now c.self.inside.reached.now l c.args.down.now) c.deref.ensures.0 in
     elim c.keep.ensures [
       | inl put ↦
           subst (AreValues c.self.inside.field.now c.self.inside.reached.now c.self.inside.next.items) (sym put)
@@ -24,18 +24,18 @@ invariant_of-self c =
       | inr same ↦ subst (AreValues c.self.inside.field.now c.self.inside.reached.now c.self.inside.next.items) (sym same) c.self.invariant
     ]
 
-pub returns-in-Some-clause-answer : goal.returns-in-Some-clause-answer
-returns-in-Some-clause-answer c =
-    let right : c.in-Some.value ≡ value_below c.self.inside.field.now c.self.inside.reached.now c.self.inside.next.items c.args.down.now =
-    c.in-Some.ensures.answer ∙ ap (λ l. value_below c.self.inside.field.now c.self.inside.reached.now l c.args.down.now) c.deref.ensures.0 in
-    look_is c.in-Some.value (value_below c.args.self.now.facts c.args.self.now.reached c.args.self.now.next c.args.down.now)
+pub returns-in-Ok-clause-answer : goal.returns-in-Ok-clause-answer
+returns-in-Ok-clause-answer c =
+    let right : c.in-Ok.value ≡ value_below c.self.inside.field.now c.self.inside.reached.now c.self.inside.next.items c.args.down.now =
+    c.in-Ok.ensures.answer ∙ ap (λ l. value_below c.self.inside.field.now c.self.inside.reached.now l c.args.down.now) c.deref.ensures.0 in
+    look_is c.in-Ok.value (value_below c.args.self.now.facts c.args.self.now.reached c.args.self.now.next c.args.down.now)
     (c.value_below.new.budget.used ≡ c.value_below.new.budget.limit) c.told.result c.told.ensures
     (right ∙ ap (λ r. value_below r.facts r.reached r.next c.args.down.now) c.self.view_is)
 
-pub returns-in-Some-clause-kept : goal.returns-in-Some-clause-kept
-returns-in-Some-clause-kept c =
+pub returns-in-Ok-clause-kept : goal.returns-in-Ok-clause-kept
+returns-in-Ok-clause-kept c =
     let unknown : is_kept c.args.down.now (lists_kept c.self.inside.values.entries) ≡ false = ap (λ r. is_kept c.args.down.now r.kept) c.self.view_is ∙ c.requires.unknown in
-    kept_is c.in-Some.value c.args.down.now c.args.self.now _ c.told.result c.told.ensures
+    kept_is c.in-Ok.value c.args.down.now c.args.self.now _ c.told.result c.told.ensures
     (elim c.keep.ensures [
       | inl put ↦ inl (
           ap (λ v. record { facts = c.self.inside.field.now; reached = c.self.inside.reached.now; next = c.self.inside.next.items; kept = lists_kept v.entries }) put

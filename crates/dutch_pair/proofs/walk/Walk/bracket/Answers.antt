@@ -19,8 +19,8 @@ shape_in-requires-clause-candidate c =
     let s = subst (λ next. StandsAt w.field.now w.number w.lower.now next) c.in-Bracket.is c.self.invariant.0 in
     stands_has w.field.now w.number c.in-Bracket.reached w.lower.now s
 
-pub returns-in-Found : goal.returns-in-Found
-returns-in-Found c =
+pub returns : goal.returns
+returns c =
     let w = c.self.inside in
     let reached = c.in-Bracket.reached in
     let s = subst (λ next. StandsAt w.field.now w.number w.lower.now next) c.in-Bracket.is c.self.invariant.0 in
@@ -28,6 +28,6 @@ returns-in-Found c =
     (record { falls = c.scores_do_not_ascend.ensures.scores; few = c.scores_do_not_ascend.ensures.few }) in
     let here = sym c.self.view_is
     ∙ ap (λ next. let walk : Walk = record { facts = w.field.now; number = w.number; rest = round_from w.field.now w.lower.now next; limit = w.budget.limit } in walk) c.in-Bracket.is in
-    subst (λ (b : Reached). Shows c.args.self.now.facts c.args.self.now.rest b c.in-Found.shape × (b.number ≡ c.args.self.now.number)) (sym c.copied.ensures)
-    (subst (λ (now : Walk). Shows now.facts now.rest reached c.in-Found.shape × (reached.number ≡ now.number)) (sym here)
-    ((stands_shown w.field.now w.number reached w.lower.now c.in-Found.shape s c.in-Found.ensures.0, above.bracket, c.in-Found.ensures.1), stands_number w.field.now w.number reached w.lower.now s))
+    subst (λ (b : Reached). Shows c.args.self.now.facts c.args.self.now.rest b c.in_ok-shape.shape × (b.number ≡ c.args.self.now.number)) (sym c.copied.ensures)
+    (subst (λ (now : Walk). Shows now.facts now.rest reached c.in_ok-shape.shape × (reached.number ≡ now.number)) (sym here)
+    ((stands_shown w.field.now w.number reached w.lower.now c.in_ok-shape.shape s c.in_ok-shape.ensures.0, above.bracket, c.in_ok-shape.ensures.1), stands_number w.field.now w.number reached w.lower.now s))

@@ -1,5 +1,5 @@
 -- At first all seats are to come, and they can be paired out.
-use Rattle.std.proofs.Common.{◌≤◌, List, ℕ, length, sym, subst, arith}
+use Rattle.std.proofs.Common.{◌≤◌, List, ℕ, length, sym, ◌∙◌, subst, arith}
 use Rattle.dutch_pair.specs.WaysOut.{GoesOut}
 use Rattle.dutch_pair.proofs.GroupWalk.{everybody_few, everybody_goes}
 use Rattle.dutch_order.specs.declared.numbers.TheConstants.{LIMIT}
@@ -17,7 +17,7 @@ before_group-requires-clause-goes c = everybody_goes c.args.field.now c.new.resu
 pub before_group-requires-clause-out : goal.before_group-requires-clause-out
 before_group-requires-clause-out c =
     subst (λ (xs : List ℕ). GoesOut c.args.field.now xs c.args.all.now) (sym c.new.ensures)
-    (everybody_out c.args.field.now c.args.all.now c.requires c.in-Yes.ensures.answer)
+    (everybody_out c.args.field.now c.args.all.now c.requires (sym c.in_ok-can_complete.ensures.answer ∙ c.if-not-branch.false))
 
 pub before_group-requires-clause-small : goal.before_group-requires-clause-small
 before_group-requires-clause-small c = omega (arith, everybody_few c.args.field.now c.args.all.now c.requires)
