@@ -120,7 +120,8 @@ pub(crate) fn first_eligible(
     lister.listing.restart(shape);
     let mut left = Seats::new();
     loop {
-        if !lister.draw(budget)? {
+        let drawn = lister.listing.put_next(&mut lister.drawn, budget);
+        if drawn.found()?.is_none() {
             return Ok(false);
         }
         if can_be_chosen(context, &lister.drawn, &mut left, budget)? {

@@ -1,9 +1,9 @@
 // The greatest shape of a bracket (C.04.3 C.5, B.1): the most pairs that some arrangement has, and then the most moved-down players in
 // them; and the first of its arrangements, which is found with it. One search serves a bracket by any rule, where each legal arrangement
 // counts, and a bracket of the round, where those count that can be chosen.
-ghost use Rattle.std.specs.Prelude.{◌≡◌, ◌≤◌, ◌*◌, ◌&&◌, List, [], ◌∷◌, Some, None, true, false, length, filter};
+ghost use Rattle.std.specs.Prelude.{◌≡◌, ◌≤◌, ◌*◌, ◌&&◌, List, Some, None, true, false, length, filter};
 ghost use Rattle.dutch_order.specs.declared.bracket.Shape.{Shape};
-ghost use Rattle.dutch_order.specs.Arrangements.{Arrangement, Fits, Frame, candidates, down};
+ghost use Rattle.dutch_order.specs.Arrangements.{Arrangement, Fits, Frame, candidates};
 ghost use Rattle.dutch_order.specs.Listings.{Listing};
 ghost use Rattle.dutch_order.specs.Steps.{MatchDrawn, MatchFound, MatchStep, Spends};
 ghost use Rattle.dutch_pair.specs.Shapes.{IsFirst, fits, shapes_with, has_member, first_with, greatest_shape};
@@ -29,26 +29,6 @@ impl<'a, R: Rule> Lister<'a, R> {
             listing: Candidates::ended(bracket, rule),
             drawn: Candidate::empty(),
         }
-    }
-
-    /// Draws the next arrangement of the listing: no where there is none.
-    pub(crate) fn draw(&mut self, budget: &mut Budget) -> Result<bool, Stopped>
-        requires within { budget.old.used ≤ budget.old.limit }
-        ensures answer { MatchDrawn result
-            ((self.old.listing.coming ≡ self.new.drawn.lists ∷ self.new.listing.coming)
-            × (self.new.drawn.down ≡ down self.old.listing.frame self.new.drawn.lists))
-            ((self.old.listing.coming ≡ []) × (self.new.listing.coming ≡ []))
-            (budget.new.used ≡ budget.new.limit) }
-        ensures frame { self.new.listing.frame ≡ self.old.listing.frame }
-        ensures rule { self.new.listing.rule ≡ self.old.listing.rule }
-        ensures spends { Spends budget.old budget.new }
-    {
-        Ok(
-            self.listing
-                .put_next(&mut self.drawn, budget)
-                .found()?
-                .is_some(),
-        )
     }
 }
 
@@ -124,7 +104,8 @@ impl<'a, R: Rule> Shapes<R> for Legal<'a, R> {
         budget: &mut Budget,
     ) -> Result<bool, Stopped> {
         lister.listing.restart(shape);
-        lister.draw(budget)
+        let drawn = lister.listing.put_next(&mut lister.drawn, budget);
+        Ok(drawn.found()?.is_some())
     }
 }
 
