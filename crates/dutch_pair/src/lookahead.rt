@@ -59,17 +59,25 @@ pub(crate) fn value_of(
     })
 }
 
+/// A bracket of a field above the next lower scoregroup.
+#[derive(Drop)]
+pub(crate) struct Above<'a> {
+    pub(crate) field: &'a Field,
+    pub(crate) reached: &'a Reached,
+    pub(crate) next: &'a [u16],
+    ghost of: { IsOf field.now reached.now },
+    ghost below: { IsNext field.now reached.now next.now },
+}
+
 /// The bracket that downfloaters make with the next lower scoregroup.
 #[tactic(auto, using(crate::proofs::NextBrackets::down_short))]
-fn next_bracket(field: &Field, reached: &Reached, down: &[u16], next: &[u16]) -> Reached
-    requires of { IsOf field.now reached.now }
-    requires down { AreLeft reached.now down.now }
-    requires next { IsNext field.now reached.now next.now }
-    ensures { result ≡ next_bracket (map (seat_of reached.now.seats) down.now) next.now }
+fn next_bracket(above: &Above<'_>, down: &[u16]) -> Reached
+    requires { AreLeft above.now.reached.now down.now }
+    ensures { result ≡ next_bracket (map (seat_of above.now.reached.now.seats) down.now) above.now.next.now }
 {
-    let mut seats = seats_of(reached.seats(), down);
+    let mut seats = seats_of(above.reached.seats(), down);
     let mdps = seats.len();
-    push_all(next, &mut seats);
+    push_all(above.next, &mut seats);
     Reached {
         number: 0,
         kind: BracketKind::Ordinary,
@@ -80,45 +88,37 @@ fn next_bracket(field: &Field, reached: &Reached, down: &[u16], next: &[u16]) ->
 
 /// What the next bracket can be for downfloaters of an ordinary bracket (C.7).
 pub(crate) fn value_below(
-    field: &Field,
-    reached: &Reached,
+    above: &Above<'_>,
     down: &[u16],
-    next: &[u16],
     budget: &mut Budget,
 ) -> Result<NextValue, Stopped>
-    requires of { IsOf field.now reached.now }
-    requires ordinary { reached.now.kind ≡ Ordinary }
-    requires down { AreLeft reached.now down.now }
-    requires next { IsNext field.now reached.now next.now }
+    requires ordinary { above.now.reached.now.kind ≡ Ordinary }
+    requires down { AreLeft above.now.reached.now down.now }
     requires within { budget.old.used ≤ budget.old.limit }
     ensures answer { MatchResult result
-        (λ v. v ≡ value_in reached.now.kind field.now (map (seat_of reached.now.seats) down.now) next.now)
+        (λ v. v ≡ value_in above.now.reached.now.kind above.now.field.now (map (seat_of above.now.reached.now.seats) down.now) above.now.next.now)
         (λ _. budget.new.used ≡ budget.new.limit) }
     ensures spends { Spends budget.old budget.new }
 {
-    value_of(field, &next_bracket(field, reached, down, next), budget)
+    value_of(above.field, &next_bracket(above, down), budget)
 }
 
 /// The value of the next bracket for a candidate (C.7): in ordinary brackets alone.
 #[tactic(auto, using(crate::proofs::NextBrackets::left_by_candidate))]
 fn next_value(
-    field: &Field,
-    reached: &Reached,
+    above: &Above<'_>,
     candidate: &Candidate,
-    next: &[u16],
     budget: &mut Budget,
 ) -> Result<NextValue, Stopped>
-    requires of { IsOf field.now reached.now }
-    requires candidate { IsOfBracket field.now reached.now candidate.now }
-    requires next { IsNext field.now reached.now next.now }
+    requires candidate { IsOfBracket above.now.field.now above.now.reached.now candidate.now }
     requires within { budget.old.used ≤ budget.old.limit }
     ensures answer { MatchResult result
-        (λ v. v ≡ value_in reached.now.kind field.now (map (seat_of reached.now.seats) candidate.now.down) next.now)
+        (λ v. v ≡ value_in above.now.reached.now.kind above.now.field.now (map (seat_of above.now.reached.now.seats) candidate.now.down) above.now.next.now)
         (λ _. budget.new.used ≡ budget.new.limit) }
     ensures spends { Spends budget.old budget.new }
 {
-    match reached.kind() {
-        BracketKind::Ordinary => value_below(field, reached, candidate.down(), next, budget),
+    match above.reached.kind() {
+        BracketKind::Ordinary => value_below(above, candidate.down(), budget),
         _ => Ok(NextValue::none()),
     }
 }
@@ -140,7 +140,12 @@ pub fn quality(
         (λ q. quality_in q ≡ quality field.now reached.now next.now candidate.now) }
     ensures spends { Spends budget.old budget.new }
 {
-    let value = next_value(field, reached, candidate, next, budget).ok()?;
+    let above = Above {
+        field,
+        reached,
+        next,
+    };
+    let value = next_value(&above, candidate, budget).ok()?;
     let mut room = Room::default();
     room.quality.put_next(value.pairs, &value.psd);
     fill_quality(field, reached.seats(), candidate, &mut room);

@@ -16,7 +16,7 @@ ghost use Rattle.dutch_order.specs.Steps.{Spends};
 
 use crate::context::Context;
 use crate::fault::PairFault;
-use crate::lookahead::value_below;
+use crate::lookahead::{Above, value_below};
 use crate::quality::{NextValue, Quality, Room, fill_quality};
 use crate::reached::{BracketKind, Reached, Seats, copied, push_all};
 use dutch_order::{Budget, Candidate, LIMIT, Numbers, Stopped};
@@ -156,7 +156,12 @@ impl<'a> LookAhead<'a> {
         ensures kept { IsKeptAfter down.now self.old self.new result }
         ensures spends { Spends budget.old budget.new }
     {
-        match value_below(self.field, self.reached, down, &self.next, budget) {
+        let above = Above {
+            field: self.field,
+            reached: self.reached,
+            next: &self.next,
+        };
+        match value_below(&above, down, budget) {
             Ok(value) => {
                 let key = copied(down);
                 keep(&mut self.values, key, value.copied());

@@ -7,5 +7,5 @@ use Rattle.dutch_pair.proofs.lookahead.next_bracket.Goals as goal
 
 pub push_all-requires : goal.push_all-requires
 push_all-requires c =
-    let short = down_short c.args.field.now c.args.reached.now c.args.down.now c.args.next.now c.requires.of c.requires.down c.requires.next in
-    omega (arith, short, c.requires.next.few, ap length c.seats_of-seats.ensures, length-map c.args.down.now (seat_of c.seats.result.now))
+    let short = down_short c.args.above.now.field.now c.args.above.now.reached.now c.args.down.now c.args.above.now.next.now c.args.above.now.of c.requires c.args.above.now.below in
+    omega (arith, short, c.args.above.now.below.few, ap length c.seats_of-seats.ensures, length-map c.args.down.now (seat_of c.seats.result.now))

@@ -7,11 +7,11 @@ use Rattle.dutch_pair.proofs.lookahead.value_below.Goals as goal
 
 pub value_of-requires-clause-of : goal.value_of-requires-clause-of
 value_of-requires-clause-of c =
-    let P : Reached → Type 0 = IsOf c.args.field.now in
-    subst P (sym c.next_bracket.ensures) (next_of c.args.field.now c.args.reached.now c.args.down.now c.args.next.now c.requires.of c.requires.down c.requires.next)
+    let P : Reached → Type 0 = IsOf c.args.above.now.field.now in
+    subst P (sym c.next_bracket.ensures) (next_of c.args.above.now.field.now c.args.above.now.reached.now c.args.down.now c.args.above.now.next.now c.args.above.now.of c.requires.down c.args.above.now.below)
 
 pub value_of-requires-clause-flat : goal.value_of-requires-clause-flat
 value_of-requires-clause-flat c =
-    let P : Reached → Type 0 = IsFlat c.args.field.now in
+    let P : Reached → Type 0 = IsFlat c.args.above.now.field.now in
     subst P (sym c.next_bracket.ensures)
-    (next_flat c.args.field.now c.args.reached.now c.args.down.now c.args.next.now c.requires.of c.requires.down c.requires.next c.requires.ordinary)
+    (next_flat c.args.above.now.field.now c.args.above.now.reached.now c.args.down.now c.args.above.now.next.now c.args.above.now.of c.requires.down c.args.above.now.below c.requires.ordinary)
