@@ -1,17 +1,15 @@
 -- What a search leaves out: all below a beginning goes on from it, so it is idle where all that begins so is.
-use Rattle.std.proofs.Common.{◌≡◌, ℕ, zero, suc, ◌-◌, Bool, true, false, cond, List, [], ◌∷◌, ◌++◌, length, map, Option, refl, sym, ◌∙◌, ap, append_assoc, subst}
+use Rattle.std.proofs.Common.{◌≡◌, ℕ, zero, suc, ◌-◌, Bool, true, false, cond, List, [], ◌∷◌, ◌++◌, length, map, Option, Result, Ok, Err, refl, sym, ◌∙◌, ap, append_assoc, subst}
 use Rattle.std.specs.List.{flat_map, AllByRecursion}
 use Rattle.std.proofs.lemmas.List.{append-nil, map-append}
 use Rattle.dutch_order.specs.Choices.{numbers_from}
 use Rattle.dutch_order.specs.Prefixes.{GoesOn}
-use Rattle.dutch_order.specs.Steps.{Passes, MatchStep}
+use Rattle.dutch_order.specs.Steps.{MatchDrawn, Passes}
 use Rattle.dutch_order.specs.Trials.{Plan, Event, Tried, hits, entry, below, after, ahead}
 use Rattle.dutch_order.specs.Walks.{IsSpent, NoneIdle}
-use Rattle.dutch_order.specs.declared.steps.Step.{Step}
-use Rattle.dutch_order.specs.declared.steps.Step.TheVariants.{Found, End, Undecided}
 use Rattle.dutch_order.proofs.Found.{hits-append}
 use Rattle.dutch_order.proofs.Skipping.{all-append}
-pub use Rattle.dutch_order.proofs.Skipping.{passes-none, passes-more}
+pub use Rattle.dutch_order.proofs.Skipping.{passes-none, passes-more, drawn, drawn-stopped}
 
 -- and of what follows from it
 pub all-each : {T : Type 0} (P Q : T → Type 0) → ((x : T) → P x → Q x) → (xs : List T) → AllByRecursion P xs → AllByRecursion Q xs
@@ -82,7 +80,7 @@ idle-left plan Idle path number end spent idle = (
 )
 
 -- what follows of each answer follows of the answer
-pub step-each : {T : Type 0} (F F' : T → Type 0) (E E' U U' : Type 0) → ((x : T) → F x → F' x) → (E → E') → (U → U') → (answer : Step T) → MatchStep answer F E U → MatchStep answer F' E' U'
-step-each F F' E E' U U' f e u (Found x) given = f x given
-step-each F F' E E' U U' f e u End given = e given
-step-each F F' E E' U U' f e u Undecided given = u given
+pub drawn-each : {E : Type 0} (F F' N N' S S' : Type 0) → (F → F') → (N → N') → (S → S') → (answer : Result Bool E) → MatchDrawn answer F N S → MatchDrawn answer F' N' S'
+drawn-each F F' N N' S S' f n s (Ok true) given = f given
+drawn-each F F' N N' S S' f n s (Ok false) given = n given
+drawn-each F F' N N' S S' f n s (Err e) given = s given

@@ -1,10 +1,12 @@
 -- Lists that go on once some of their beginning is skipped.
-use Rattle.std.proofs.Common.{◌≡◌, ◌≤◌, Bool, true, false, cond, List, [], ◌∷◌, ◌++◌, map, length, length-append, refl, sym, ◌∙◌, ap, subst, append_assoc, append-nil, arith, inl, inr}
+use Rattle.std.proofs.Common.{◌≡◌, ◌≤◌, Bool, true, false, cond, List, [], ◌∷◌, ◌++◌, map, length, length-append, Result, Ok, Err, refl, sym, ◌∙◌, ap, subst, append_assoc, append-nil, arith, inl, inr}
 use Rattle.std.specs.List.{AllByRecursion, filter}
+use Rattle.std.specs.Result.{IsErr}
 use Rattle.std.proofs.lemmas.List.Elements.{filter-append}
 use Rattle.dutch_order.specs.Keys.{IsIn}
 use Rattle.dutch_order.specs.Levels.{joined}
-use Rattle.dutch_order.specs.Steps.{Passes}
+use Rattle.dutch_order.specs.Steps.{MatchDrawn, Passes}
+use Rattle.dutch_order.specs.declared.steps.Stopped.{Stopped}
 
 -- what holds of each in two lists holds of each in both
 pub all-append : {T : Type 0} (P : T → Type 0) (xs ys : List T) → AllByRecursion P xs → AllByRecursion P ys → AllByRecursion P (xs ++ ys)
@@ -127,3 +129,12 @@ filter-keeps p x xs passes = ap (λ b. cond b (x ∷ filter p xs) (filter p xs))
 
 pub filter-drops : {T : Type 0} (p : T → Bool) (x : T) (xs : List T) → p x ≡ false → filter p (x ∷ xs) ≡ filter p xs
 filter-drops p x xs fails = ap (λ b. cond b (x ∷ filter p xs) (filter p xs)) fails
+
+-- what is known of a call that was not stopped, once it is known what it answered
+pub drawn : {was is : Bool} (F N S : Type 0) → was ≡ is → MatchDrawn {E = Stopped} (Ok was) F N S → MatchDrawn {E = Stopped} (Ok is) F N S
+drawn F N S same = subst (λ answer. MatchDrawn {E = Stopped} (Ok answer) F N S) same
+
+-- and of one that was
+pub drawn-stopped : (F N S : Type 0) (answer : Result Bool Stopped) → IsErr answer → S → MatchDrawn answer F N S
+drawn-stopped F N S (Err e) is given = given
+drawn-stopped F N S (Ok answer) is given = cc

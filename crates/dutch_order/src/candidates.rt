@@ -9,7 +9,7 @@ ghost use Rattle.dutch_order.specs.Choices.{is_member};
 ghost use Rattle.dutch_order.specs.Keys.{IsIn};
 ghost use Rattle.dutch_order.specs.Levels.{Of, in_bracket, may_leave};
 ghost use Rattle.dutch_order.specs.Listings.{candidates_from, listed};
-ghost use Rattle.dutch_order.specs.Steps.{MatchStep, Passes, Spends};
+ghost use Rattle.dutch_order.specs.Steps.{MatchDrawn, MatchStep, Passes, Spends};
 
 use crate::arrangement::{Arrangement, Held};
 use crate::bound::Bound;
@@ -22,7 +22,7 @@ use crate::levels::Arranges;
 use crate::numbers::Numbers;
 use crate::prefix::Prefix;
 use crate::rules::Rule;
-use crate::steps::{Budget, Step};
+use crate::steps::{Budget, Drawn, Step, Stopped};
 use std::marker::Model;
 
 /// Whether a player is in one of the four lists.
@@ -62,33 +62,28 @@ struct Drawing<L> {
     level: L,
 }
 
-/// Whether these may be left over (C.04.3 C.2): `Found` if they may, `End` if not. In a bracket that leaves at most one, the one
-/// is asked about in a step.
-fn ask_leave<R: Rule>(rule: &R, last: bool, down: &[u16], budget: &mut Budget) -> Step<()>
+/// Whether these may be left over (C.04.3 C.2). In a bracket that leaves at most one, the one is asked about in a step.
+fn ask_leave<R: Rule>(rule: &R, last: bool, down: &[u16], budget: &mut Budget) -> Drawn
     requires { budget.old.used ≤ budget.old.limit }
-    ensures answer { MatchStep result
-        (λ _. (not last || leaves_one (R.may_be_left rule.now) down.now) ≡ true)
+    ensures answer { MatchDrawn result
+        ((not last || leaves_one (R.may_be_left rule.now) down.now) ≡ true)
         ((not last || leaves_one (R.may_be_left rule.now) down.now) ≡ false)
         (budget.new.used ≡ budget.new.limit) }
     ensures spends { Spends budget.old budget.new }
 {
     if !last {
-        return Step::Found(());
+        return Ok(true);
     }
     match down {
-        [] => Step::Found(()),
+        [] => Ok(true),
         [player] => {
             if budget.used == budget.limit {
-                return Step::Undecided;
+                return Err(Stopped);
             }
             budget.used += 1;
-            if rule.may_be_left(*player) {
-                Step::Found(())
-            } else {
-                Step::End
-            }
+            Ok(rule.may_be_left(*player))
         }
-        _ => Step::End,
+        _ => Ok(false),
     }
 }
 
@@ -107,17 +102,17 @@ fn draw_listed<L: Arranges, C: Cuts>(
     room: &mut C::Room,
     lists: &mut Arrangement,
     budget: &mut Budget,
-) -> Step<()>
+) -> Drawn
     requires { budget.old.used ≤ budget.old.limit }
-    ensures answer { MatchStep result
-        (λ _. Passes (C.Idle cuts.now) (listed drawing.old.kept ++ L.coming drawing.old.level) (lists.new ∷ L.coming drawing.new.level))
+    ensures answer { MatchDrawn result
+        (Passes (C.Idle cuts.now) (listed drawing.old.kept ++ L.coming drawing.old.level) (lists.new ∷ L.coming drawing.new.level))
         (Passes (C.Idle cuts.now) (listed drawing.old.kept ++ L.coming drawing.old.level) [])
         (Passes (C.Idle cuts.now) (listed drawing.old.kept ++ L.coming drawing.old.level) (L.coming drawing.new.level) × (budget.new.used ≡ budget.new.limit)) }
     ensures taken { drawing.new.kept ≡ None }
     ensures spends { Spends budget.old budget.new }
 {
     if drawing.kept.take(lists) {
-        return Step::Found(());
+        return Ok(true);
     }
     drawing.level.next(cuts, room, lists, budget)
 }
@@ -130,10 +125,10 @@ fn draw_legal<R: Rule, L: Arranges, C: Cuts>(
     room: &mut C::Room,
     candidate: &mut Candidate,
     budget: &mut Budget,
-) -> Step<()>
+) -> Drawn
     requires { budget.old.used ≤ budget.old.limit }
-    ensures answer { MatchStep result
-        (λ _. Passes (C.Idle cuts.now)
+    ensures answer { MatchDrawn result
+        (Passes (C.Idle cuts.now)
         (filter (may_leave (R.may_be_left leave.now.rule.now) leave.now.bracket.now) (listed drawing.old.kept ++ L.coming drawing.old.level))
         (candidate.new.lists ∷ filter (may_leave (R.may_be_left leave.now.rule.now) leave.now.bracket.now) (listed drawing.new.kept ++ L.coming drawing.new.level))
         × (candidate.new.down ≡ down leave.now.bracket.now candidate.new.lists))
@@ -145,19 +140,17 @@ fn draw_legal<R: Rule, L: Arranges, C: Cuts>(
     ensures spends { Spends budget.old budget.new }
 {
     loop {
-        match draw_listed(drawing, cuts, room, &mut candidate.lists, budget) {
-            Step::Found(()) => {}
-            Step::End => return Step::End,
-            Step::Undecided => return Step::Undecided,
+        if !draw_listed(drawing, cuts, room, &mut candidate.lists, budget)? {
+            return Ok(false);
         }
         put_left_over(leave.bracket, &candidate.lists, &mut candidate.down);
         match ask_leave(leave.rule, leave.bracket.is_last(), &candidate.down, budget) {
-            Step::Found(()) => return Step::Found(()),
-            Step::Undecided => {
+            Ok(true) => return Ok(true),
+            Ok(false) => {}
+            Err(Stopped) => {
                 drawing.kept.hold(&candidate.lists);
-                return Step::Undecided;
+                return Err(Stopped);
             }
-            Step::End => {}
         }
     }
 }
@@ -353,15 +346,15 @@ impl<'a, R: Rule> Candidates<'a, R> {
             candidate,
             budget,
         ) {
-            Step::Found(()) => {
+            Ok(true) => {
                 self.latest.hold(&candidate.lists);
                 Step::Found(())
             }
-            Step::End => {
+            Ok(false) => {
                 self.ended = true;
                 Step::End
             }
-            Step::Undecided => Step::Undecided,
+            Err(Stopped) => Step::Undecided,
         }
     }
 

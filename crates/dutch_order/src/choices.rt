@@ -10,7 +10,7 @@ ghost use Rattle.dutch_order.specs.declared.numbers.TheConstants.{LIMIT};
 ghost use Rattle.dutch_order.specs.Arrangements.{Arrangement, Fits, arrangements, left_of};
 ghost use Rattle.dutch_order.specs.Keys.{IsIn};
 ghost use Rattle.dutch_order.specs.Levels.{HasS1r, HasS2, HasS2r, Of, if_own, in_bracket, in_s1, in_s1r, in_s2, joined, without_own};
-ghost use Rattle.dutch_order.specs.Steps.{MatchStep, Passes, Spends};
+ghost use Rattle.dutch_order.specs.Steps.{MatchDrawn, Passes, Spends};
 
 use crate::arrangement::Arrangement;
 use crate::bracket::{Bracket, Shape};
@@ -22,7 +22,7 @@ use crate::limbo::LimboExchanges;
 use crate::numbers::{Numbers, fill, is_same, put_left_of};
 use crate::prefix::{Filling, Prefix};
 use crate::rules::Rule;
-use crate::steps::{Budget, Step};
+use crate::steps::{Budget, Drawn};
 use crate::transposition::Transpositions;
 use std::marker::Model;
 
@@ -105,10 +105,10 @@ fn put_next_other<R: Rule, C: CutsTuples>(
     room: &mut C::Room,
     numbers: &mut Numbers,
     budget: &mut Budget,
-) -> Step<()>
+) -> Drawn
     requires { budget.old.used ≤ budget.old.limit }
-    ensures answer { MatchStep result
-        (λ _. Passes (C.Idle cuts.now) (without_own (option_copied resume.old) lists.old.coming) (numbers.new.items ∷ without_own (option_copied resume.new) lists.new.coming))
+    ensures answer { MatchDrawn result
+        (Passes (C.Idle cuts.now) (without_own (option_copied resume.old) lists.old.coming) (numbers.new.items ∷ without_own (option_copied resume.new) lists.new.coming))
         (Passes (C.Idle cuts.now) (without_own (option_copied resume.old) lists.old.coming) [])
         (Passes (C.Idle cuts.now) (without_own (option_copied resume.old) lists.old.coming) (without_own (option_copied resume.new) lists.new.coming) × (budget.new.used ≡ budget.new.limit)) }
     ensures spends { Spends budget.old budget.new }
@@ -116,15 +116,13 @@ fn put_next_other<R: Rule, C: CutsTuples>(
     let Some(cursor) = *resume else {
         return lists.put_next_past(cuts, room, numbers, budget);
     };
-    match lists.put_next(numbers, budget) {
-        Step::Found(()) => {}
-        Step::End => return Step::End,
-        Step::Undecided => return Step::Undecided,
+    if !lists.put_next(numbers, budget)? {
+        return Ok(false);
     }
     let is_own = is_same(numbers, &cursor.lists.s2r);
     *resume = None;
     if !is_own {
-        return Step::Found(());
+        return Ok(true);
     }
     lists.put_next_past(cuts, room, numbers, budget)
 }
@@ -138,29 +136,27 @@ impl<'a, R: Rule> Arranges for ByS2r<'a, R> {
         room: &mut C::Room,
         lists: &mut Arrangement,
         budget: &mut Budget,
-    ) -> Step<()> {
+    ) -> Drawn {
         let tuples = OfS2r {
             cuts,
             s1: &self.s1,
             s2: &self.s2,
             s1r: &self.s1r,
         };
-        match put_next_other(
+        if !put_next_other(
             &mut self.lists,
             &mut self.resume,
             &tuples,
             room,
             &mut lists.s2r,
             budget,
-        ) {
-            Step::Found(()) => {}
-            Step::End => return Step::End,
-            Step::Undecided => return Step::Undecided,
+        )? {
+            return Ok(false);
         }
         fill(&mut lists.s1, &self.s1);
         fill(&mut lists.s2, &self.s2);
         fill(&mut lists.s1r, &self.s1r);
-        Step::Found(())
+        Ok(true)
     }
 }
 
@@ -261,7 +257,7 @@ impl<'a, R: Rule> Blocks for ByS1r<'a, R> {
         room: &mut C::Room,
         block: &mut ByS2r<'a, R>,
         budget: &mut Budget,
-    ) -> Step<()> {
+    ) -> Drawn {
         let prefix = Prefix {
             filling: Filling::S2,
             s1: &self.s1,
@@ -270,12 +266,10 @@ impl<'a, R: Rule> Blocks for ByS1r<'a, R> {
             s2r: &[],
         };
         if cuts.cuts(&prefix, room) {
-            return Step::End;
+            return Ok(false);
         }
-        match self.sets.put_next(&mut self.s1r, budget) {
-            Step::Found(()) => {}
-            Step::End => return Step::End,
-            Step::Undecided => return Step::Undecided,
+        if !self.sets.put_next(&mut self.s1r, budget)? {
+            return Ok(false);
         }
         let own = take_by_s1r(&mut self.resume, &self.s1r);
         block.start(
@@ -286,7 +280,7 @@ impl<'a, R: Rule> Blocks for ByS1r<'a, R> {
             own,
             self.rule,
         );
-        Step::Found(())
+        Ok(true)
     }
 }
 
@@ -390,30 +384,26 @@ impl<'a, R: Rule> Blocks for ByS2<'a, R> {
         room: &mut C::Room,
         block: &mut Level<ByS1r<'a, R>>,
         budget: &mut Budget,
-    ) -> Step<()> {
+    ) -> Drawn {
         if self.resume.is_none() {
             let tuples = OfS2 { cuts, s1: &self.s1 };
-            match self
+            if !self
                 .lists
-                .put_next_past(&tuples, room, &mut self.s2, budget)
+                .put_next_past(&tuples, room, &mut self.s2, budget)?
             {
-                Step::Found(()) => {}
-                Step::End => return Step::End,
-                Step::Undecided => return Step::Undecided,
+                return Ok(false);
             }
             block.in_block = false;
             block.blocks.start(self.k, &self.s1, &self.residents, &self.s2, None, self.rule);
-            return Step::Found(());
+            return Ok(true);
         }
-        match self.lists.put_next(&mut self.s2, budget) {
-            Step::Found(()) => {}
-            Step::End => return Step::End,
-            Step::Undecided => return Step::Undecided,
+        if !self.lists.put_next(&mut self.s2, budget)? {
+            return Ok(false);
         }
         let own = take_by_s2(&mut self.resume, &self.s2);
         block.in_block = false;
         block.blocks.start(self.k, &self.s1, &self.residents, &self.s2, own, self.rule);
-        Step::Found(())
+        Ok(true)
     }
 }
 
@@ -504,18 +494,16 @@ impl<'a, R: Rule> Blocks for ByS1<'a, R> {
         _room: &mut C::Room,
         block: &mut Level<ByS2<'a, R>>,
         budget: &mut Budget,
-    ) -> Step<()> {
-        match self.sets.put_next(&mut self.s1, budget) {
-            Step::Found(()) => {}
-            Step::End => return Step::End,
-            Step::Undecided => return Step::Undecided,
+    ) -> Drawn {
+        if !self.sets.put_next(&mut self.s1, budget)? {
+            return Ok(false);
         }
         let own = take_by_s1(&mut self.resume, &self.s1);
         block.in_block = false;
         block
             .blocks
             .start(self.k, &self.residents, &self.s1, own, self.rule);
-        Step::Found(())
+        Ok(true)
     }
 }
 

@@ -17,7 +17,7 @@ ghost use Rattle.dutch_order.specs.Choices.{subsets, from_on, numbers_from};
 ghost use Rattle.dutch_order.specs.Keys.{IsIn};
 ghost use Rattle.std.specs.List.Sorted.{IsStrictlyIncreasing};
 ghost use Rattle.dutch_order.specs.declared.exchange.Side.TheVariants.{In};
-ghost use Rattle.dutch_order.specs.Steps.{MatchStep, Spends};
+ghost use Rattle.dutch_order.specs.Steps.{MatchDrawn, MatchStep, Spends};
 ghost use Rattle.dutch_order.specs.Walks.{IsOpen};
 ghost use Rattle.dutch_order.specs.Trials.{ahead};
 ghost use Rattle.dutch_order.specs.Hints.{hinted, first_hint};
@@ -25,7 +25,7 @@ ghost use Rattle.dutch_order.specs.Hints.{hinted, first_hint};
 use crate::halves::{end_of_half, first_of_half};
 use crate::numbers::{LIMIT, Numbers, fill};
 use crate::search::{Hinted, Path, Tree, Walk, climb_on, first_hint, put_behind};
-use crate::steps::{Budget, Step};
+use crate::steps::{Budget, Drawn, Step, Stopped};
 use crate::sums::{run_of, total_of, value_at};
 use arrayvec::ArrayVec;
 use std::marker::Model;
@@ -300,14 +300,14 @@ fn next_stage(pool: &[u16], k: usize, place: &mut Place) -> bool
 }
 
 /// Goes on to the next set, whose path the walk then has, unless the budget or the search ends before it.
-fn next_set(pool: &[u16], k: usize, place: &mut Place, budget: &mut Budget) -> Step<()>
+fn next_set(pool: &[u16], k: usize, place: &mut Place, budget: &mut Budget) -> Drawn
     requires few { length pool.now ≤ LIMIT }
     requires enough { k ≤ length pool.now }
     requires standing { IsPlace pool.now k place.old }
     requires within { budget.old.used ≤ budget.old.limit }
     ensures stands { IsPlace pool.now k place.new }
-    ensures answer { MatchStep result
-        (λ _. (sets_from pool.now k place.old ≡ set_of pool.now k place.new.size place.new.walk.path.items ∷ sets_from pool.now k place.new)
+    ensures answer { MatchDrawn result
+        ((sets_from pool.now k place.old ≡ set_of pool.now k place.new.size place.new.walk.path.items ∷ sets_from pool.now k place.new)
         × (length place.new.walk.path.items ≡ place.new.size + place.new.size))
         ((sets_from pool.now k place.old ≡ []) × (sets_from pool.now k place.new ≡ []) × (trials_from pool.now k place.new ≡ 0))
         ((sets_from pool.now k place.new ≡ sets_from pool.now k place.old)
@@ -325,13 +325,11 @@ fn next_set(pool: &[u16], k: usize, place: &mut Place, budget: &mut Budget) -> S
             },
             hint: &place.hint,
         };
-        match climb_on(&tree, &mut place.walk, budget) {
-            Step::Found(()) => return Step::Found(()),
-            Step::Undecided => return Step::Undecided,
-            Step::End => {}
+        if climb_on(&tree, &mut place.walk, budget)? {
+            return Ok(true);
         }
         if !next_stage(pool, k, place) {
-            return Step::End;
+            return Ok(false);
         }
     }
 }
@@ -488,28 +486,26 @@ impl Exchanges {
     {
         let mut numbers = ArrayVec::new();
         match self.put_next(&mut numbers, budget) {
-            Step::Found(()) => Step::Found(numbers),
-            Step::End => Step::End,
-            Step::Undecided => Step::Undecided,
+            Ok(true) => Step::Found(numbers),
+            Ok(false) => Step::End,
+            Err(Stopped) => Step::Undecided,
         }
     }
 
     /// Fills a list with the next one, as `next` gives it.
-    pub(crate) fn put_next(&mut self, numbers: &mut Numbers, budget: &mut Budget) -> Step<()>
+    pub(crate) fn put_next(&mut self, numbers: &mut Numbers, budget: &mut Budget) -> Drawn
         requires { budget.old.used ≤ budget.old.limit }
-        ensures answer { MatchStep result
-            (λ _. self.old.coming ≡ numbers.new.items ∷ self.new.coming)
+        ensures answer { MatchDrawn result
+            (self.old.coming ≡ numbers.new.items ∷ self.new.coming)
             ((self.old.coming ≡ []) × (self.new.coming ≡ []) × (self.new.left ≡ 0))
             ((self.new.coming ≡ self.old.coming) × (budget.new.used ≡ budget.new.limit) × (0 < self.new.left)) }
         ensures steps { budget.new.used + self.new.left ≡ budget.old.used + self.old.left }
         ensures spends { Spends budget.old budget.new }
     {
-        match next_set(&self.pool, self.k, &mut self.place, budget) {
-            Step::Found(()) => {}
-            Step::End => return Step::End,
-            Step::Undecided => return Step::Undecided,
+        if !next_set(&self.pool, self.k, &mut self.place, budget)? {
+            return Ok(false);
         }
         put_set(&self.pool, self.k, &self.place, numbers);
-        Step::Found(())
+        Ok(true)
     }
 }

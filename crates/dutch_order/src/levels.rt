@@ -7,11 +7,11 @@ ghost use Rattle.std.specs.Prelude.{◌≡◌, ◌≤◌, ℕ, List, [], ◌∷�
 ghost use Rattle.std.specs.List.{AllByRecursion};
 ghost use Rattle.dutch_order.specs.Arrangements.{Arrangement};
 ghost use Rattle.dutch_order.specs.Levels.{joined, within};
-ghost use Rattle.dutch_order.specs.Steps.{MatchStep, Passes, Spends};
+ghost use Rattle.dutch_order.specs.Steps.{MatchDrawn, Passes, Spends};
 
 use crate::arrangement::Arrangement;
 use crate::cuts::Cuts;
-use crate::steps::{Budget, Step};
+use crate::steps::{Budget, Drawn};
 use std::marker::Model;
 
 /// What hands out arrangements, one by one.
@@ -19,18 +19,18 @@ pub trait Arranges {
     /// The arrangements to come.
     ghost coming: { Self → List Arrangement };
 
-    /// Fills `lists` with the next arrangement, where those may be skipped of which `cuts` tells. `End` says that all to come are
-    /// idle: what is to come after it is nowhere said.
+    /// Fills `lists` with the next arrangement, where those may be skipped of which `cuts` tells. Where there is none, all to come
+    /// are idle: what is to come after it is nowhere said.
     fn next<C: Cuts>(
         &mut self,
         cuts: &C,
         room: &mut C::Room,
         lists: &mut Arrangement,
         budget: &mut Budget,
-    ) -> Step<()>
+    ) -> Drawn
         requires { budget.old.used ≤ budget.old.limit }
-        ensures answer { MatchStep result
-            (λ _. Passes (C.Idle cuts.now) (coming self.old) (lists.new ∷ coming self.new))
+        ensures answer { MatchDrawn result
+            (Passes (C.Idle cuts.now) (coming self.old) (lists.new ∷ coming self.new))
             (Passes (C.Idle cuts.now) (coming self.old) [])
             (Passes (C.Idle cuts.now) (coming self.old) (coming self.new) × (budget.new.used ≡ budget.new.limit)) }
         ensures spends { Spends budget.old budget.new };
@@ -50,10 +50,10 @@ pub trait Blocks {
         room: &mut C::Room,
         block: &mut Self::Block,
         budget: &mut Budget,
-    ) -> Step<()>
+    ) -> Drawn
         requires { budget.old.used ≤ budget.old.limit }
-        ensures answer { MatchStep result
-            (λ _. Passes (AllByRecursion (C.Idle cuts.now)) (blocks self.old) (Self.Block.coming block.new ∷ blocks self.new))
+        ensures answer { MatchDrawn result
+            (Passes (AllByRecursion (C.Idle cuts.now)) (blocks self.old) (Self.Block.coming block.new ∷ blocks self.new))
             (Passes (AllByRecursion (C.Idle cuts.now)) (blocks self.old) [])
             (Passes (AllByRecursion (C.Idle cuts.now)) (blocks self.old) (blocks self.new) × (budget.new.used ≡ budget.new.limit)) }
         ensures spends { Spends budget.old budget.new };
@@ -99,10 +99,10 @@ fn draw<T: Arranges, C: Cuts>(
     room: &mut C::Room,
     lists: &mut Arrangement,
     budget: &mut Budget,
-) -> Step<()>
+) -> Drawn
     requires { budget.old.used ≤ budget.old.limit }
-    ensures answer { MatchStep result
-        (λ _. Passes (C.Idle cuts.now) (within in_block (T.coming block.old)) (lists.new ∷ within in_block (T.coming block.new)))
+    ensures answer { MatchDrawn result
+        (Passes (C.Idle cuts.now) (within in_block (T.coming block.old)) (lists.new ∷ within in_block (T.coming block.new)))
         (Passes (C.Idle cuts.now) (within in_block (T.coming block.old)) [])
         (Passes (C.Idle cuts.now) (within in_block (T.coming block.old)) (within in_block (T.coming block.new)) × (budget.new.used ≡ budget.new.limit)) }
     ensures spends { Spends budget.old budget.new }
@@ -110,7 +110,7 @@ fn draw<T: Arranges, C: Cuts>(
     if in_block {
         block.next(cuts, room, lists, budget)
     } else {
-        Step::End
+        Ok(false)
     }
 }
 
@@ -123,18 +123,16 @@ impl<B: Blocks> Arranges for Level<B> {
         room: &mut C::Room,
         lists: &mut Arrangement,
         budget: &mut Budget,
-    ) -> Step<()> {
+    ) -> Drawn {
         loop {
-            match draw(self.in_block, &mut self.block, cuts, room, lists, budget) {
-                Step::Found(()) => return Step::Found(()),
-                Step::Undecided => return Step::Undecided,
-                Step::End => self.in_block = false,
+            if draw(self.in_block, &mut self.block, cuts, room, lists, budget)? {
+                return Ok(true);
             }
-            match self.blocks.next_block(cuts, room, &mut self.block, budget) {
-                Step::Found(()) => self.in_block = true,
-                Step::Undecided => return Step::Undecided,
-                Step::End => return Step::End,
+            self.in_block = false;
+            if !self.blocks.next_block(cuts, room, &mut self.block, budget)? {
+                return Ok(false);
             }
+            self.in_block = true;
         }
     }
 }

@@ -7,12 +7,12 @@ ghost use Rattle.dutch_order.specs.Limbo.{limbo_exchanges, IsNonAscending};
 ghost use Rattle.dutch_order.specs.LimboSearch.{leads, mirrors, front_with, numbers_of, places_of, leader, leaders};
 ghost use Rattle.dutch_order.specs.Choices.{subsets, from_on, numbers_from};
 ghost use Rattle.dutch_order.specs.Keys.{IsIn};
-ghost use Rattle.dutch_order.specs.Steps.{MatchStep, Spends};
+ghost use Rattle.dutch_order.specs.Steps.{MatchDrawn, MatchStep, Spends};
 
 use crate::halves::{end_of_half, first_of_half};
 use crate::numbers::{LIMIT, Numbers, fill};
 use crate::search::{Hinted, PLACES, Path, Tree, Walk, climb_on, first_hint, put_behind};
-use crate::steps::{Budget, Step};
+use crate::steps::{Budget, Drawn, Step, Stopped};
 use arrayvec::ArrayVec;
 use std::marker::Model;
 
@@ -269,17 +269,17 @@ impl LimboExchanges {
     {
         let mut numbers = ArrayVec::new();
         match self.put_next(&mut numbers, budget) {
-            Step::Found(()) => Step::Found(numbers),
-            Step::End => Step::End,
-            Step::Undecided => Step::Undecided,
+            Ok(true) => Step::Found(numbers),
+            Ok(false) => Step::End,
+            Err(Stopped) => Step::Undecided,
         }
     }
 
     /// Fills a list with the next one, as `next` gives it.
-    pub(crate) fn put_next(&mut self, numbers: &mut Numbers, budget: &mut Budget) -> Step<()>
+    pub(crate) fn put_next(&mut self, numbers: &mut Numbers, budget: &mut Budget) -> Drawn
         requires { budget.old.used ≤ budget.old.limit }
-        ensures answer { MatchStep result
-            (λ _. self.old.coming ≡ numbers.new.items ∷ self.new.coming)
+        ensures answer { MatchDrawn result
+            (self.old.coming ≡ numbers.new.items ∷ self.new.coming)
             ((self.old.coming ≡ []) × (self.new.coming ≡ []) × (self.new.left ≡ 0))
             ((self.new.coming ≡ self.old.coming) × (budget.new.used ≡ budget.new.limit) × (0 < self.new.left)) }
         ensures steps { budget.new.used + self.new.left ≡ budget.old.used + self.old.left }
@@ -292,13 +292,10 @@ impl LimboExchanges {
             },
             hint: &self.hint,
         };
-        match climb_on(&tree, &mut self.walk, budget) {
-            Step::Found(()) => {
-                put_numbers(&self.walk.path[self.k..], numbers);
-                Step::Found(())
-            }
-            Step::End => Step::End,
-            Step::Undecided => Step::Undecided,
+        if !climb_on(&tree, &mut self.walk, budget)? {
+            return Ok(false);
         }
+        put_numbers(&self.walk.path[self.k..], numbers);
+        Ok(true)
     }
 }

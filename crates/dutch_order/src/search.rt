@@ -8,11 +8,11 @@ ghost use Rattle.std.specs.Prelude.{◌≡◌, ◌+◌, ◌-◌, ◌<◌, ◌≤
 ghost use Rattle.dutch_order.specs.Trials.{Plan, Tried, entry, below, ahead, hits, trials, lower, lowest};
 ghost use Rattle.dutch_order.specs.Hints.{hint_after, first_hint};
 ghost use Rattle.dutch_order.specs.Prefixes.{GoesOn};
-ghost use Rattle.dutch_order.specs.Steps.{MatchStep, Passes, Spends};
+ghost use Rattle.dutch_order.specs.Steps.{MatchDrawn, Passes, Spends};
 ghost use Rattle.dutch_order.specs.Walks.{Stands, IsOpen, IsSpent, NoneIdle};
 
 use crate::numbers::{LIMIT, Numbers};
-use crate::steps::{Budget, Step};
+use crate::steps::{Budget, Drawn, Stopped};
 use arrayvec::ArrayVec;
 
 /// The most places of a search: an exchange or a set of moved-down players fills two for each number.
@@ -300,15 +300,15 @@ pub fn climb_past<T: Tree, C: CutsPaths>(
     room: &mut C::Room,
     walk: &mut Walk,
     budget: &mut Budget,
-) -> Step<()>
+) -> Drawn
     requires standing { Stands (T.plan tree.now) walk.old.path.items }
     requires few { (T.plan tree.now).places ≤ PLACES }
     requires narrow { (T.plan tree.now).width ≤ PLACES }
     requires may_ask { (path : List ℕ) → Stands (T.plan tree.now) path → C.MayAsk cuts.now path }
     requires within { budget.old.used ≤ budget.old.limit }
     ensures stands { Stands (T.plan tree.now) walk.new.path.items }
-    ensures answer { MatchStep result
-        (λ _. Passes (C.Idle cuts.now) (hits (ahead (T.plan tree.now) walk.old.path.items walk.old.number))
+    ensures answer { MatchDrawn result
+        (Passes (C.Idle cuts.now) (hits (ahead (T.plan tree.now) walk.old.path.items walk.old.number))
         (walk.new.path.items ∷ hits (ahead (T.plan tree.now) walk.new.path.items walk.new.number))
         × (length walk.new.path.items ≡ (T.plan tree.now).places))
         (Passes (C.Idle cuts.now) (hits (ahead (T.plan tree.now) walk.old.path.items walk.old.number)) []
@@ -328,11 +328,11 @@ pub fn climb_past<T: Tree, C: CutsPaths>(
         if walk.path.len() == tree.places() {
             if walk.number == 0 {
                 walk.number = 1;
-                return Step::Found(());
+                return Ok(true);
             }
         } else if walk.number < tree.stop(&walk.path) {
             if budget.used == budget.limit {
-                return Step::Undecided;
+                return Err(Stopped);
             }
             budget.used += 1;
             if try_number(tree, walk) {
@@ -341,7 +341,7 @@ pub fn climb_past<T: Tree, C: CutsPaths>(
             continue;
         }
         if !go_back(tree, walk) {
-            return Step::End;
+            return Ok(false);
         }
         leave_idle(tree, cuts, room, walk);
     }
@@ -349,14 +349,14 @@ pub fn climb_past<T: Tree, C: CutsPaths>(
 
 /// Goes on to the next whole path, which the walk then has, unless the budget or the search ends before it. Nothing
 /// is left out.
-pub fn climb_on<T: Tree>(tree: &T, walk: &mut Walk, budget: &mut Budget) -> Step<()>
+pub fn climb_on<T: Tree>(tree: &T, walk: &mut Walk, budget: &mut Budget) -> Drawn
     requires standing { Stands (T.plan tree.now) walk.old.path.items }
     requires few { (T.plan tree.now).places ≤ PLACES }
     requires narrow { (T.plan tree.now).width ≤ PLACES }
     requires within { budget.old.used ≤ budget.old.limit }
     ensures stands { Stands (T.plan tree.now) walk.new.path.items }
-    ensures answer { MatchStep result
-        (λ _. (hits (ahead (T.plan tree.now) walk.old.path.items walk.old.number)
+    ensures answer { MatchDrawn result
+        ((hits (ahead (T.plan tree.now) walk.old.path.items walk.old.number)
         ≡ walk.new.path.items ∷ hits (ahead (T.plan tree.now) walk.new.path.items walk.new.number))
         × (length walk.new.path.items ≡ (T.plan tree.now).places))
         ((hits (ahead (T.plan tree.now) walk.old.path.items walk.old.number) ≡ [])

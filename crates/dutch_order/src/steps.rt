@@ -27,6 +27,9 @@ pub enum Step<T> {
 #[derive(Debug, Clone, Copy)]
 pub struct Stopped;
 
+/// Whether there was a next one, where the limit was not reached first.
+pub(crate) type Drawn = Result<bool, Stopped>;
+
 impl<T: Drop> Step<T> {
     /// What was found, and none at the end, to be passed on by `?` where the limit was reached first.
     pub fn found(self) -> Result<Option<T>, Stopped>

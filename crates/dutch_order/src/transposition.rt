@@ -6,13 +6,13 @@ ghost use Rattle.dutch_order.specs.Transposition.{all_tuples, transpositions, sh
 ghost use Rattle.dutch_order.specs.TranspositionSearch.{transposition_plan, numbers_at, place_in, places_in};
 ghost use Rattle.dutch_order.specs.Choices.{tuples, all_meet, from_on};
 ghost use Rattle.dutch_order.specs.Keys.{IsIn};
-ghost use Rattle.dutch_order.specs.Steps.{MatchStep, Passes, Spends};
+ghost use Rattle.dutch_order.specs.Steps.{MatchDrawn, MatchStep, Passes, Spends};
 
 use crate::cuts::CutsTuples;
 use crate::numbers::{LIMIT, Numbers, fill};
 use crate::rules::Rule;
 use crate::search::{CutsPaths, Hinted, Path, Tree, Walk, climb_on, climb_past, first_hint};
-use crate::steps::{Budget, Step};
+use crate::steps::{Budget, Drawn, Step, Stopped};
 use arrayvec::ArrayVec;
 use std::marker::Model;
 
@@ -236,17 +236,17 @@ impl<'a, R: Rule> Transpositions<'a, R> {
     {
         let mut numbers = ArrayVec::new();
         match self.put_next(&mut numbers, budget) {
-            Step::Found(()) => Step::Found(numbers),
-            Step::End => Step::End,
-            Step::Undecided => Step::Undecided,
+            Ok(true) => Step::Found(numbers),
+            Ok(false) => Step::End,
+            Err(Stopped) => Step::Undecided,
         }
     }
 
     /// Fills a list with the next one, as `next` gives it.
-    pub(crate) fn put_next(&mut self, numbers: &mut Numbers, budget: &mut Budget) -> Step<()>
+    pub(crate) fn put_next(&mut self, numbers: &mut Numbers, budget: &mut Budget) -> Drawn
         requires { budget.old.used ≤ budget.old.limit }
-        ensures answer { MatchStep result
-            (λ _. self.old.coming ≡ numbers.new.items ∷ self.new.coming)
+        ensures answer { MatchDrawn result
+            (self.old.coming ≡ numbers.new.items ∷ self.new.coming)
             ((self.old.coming ≡ []) × (self.new.coming ≡ []) × (self.new.left ≡ 0))
             ((self.new.coming ≡ self.old.coming) × (budget.new.used ≡ budget.new.limit) × (0 < self.new.left)) }
         ensures steps { budget.new.used + self.new.left ≡ budget.old.used + self.old.left }
@@ -260,28 +260,25 @@ impl<'a, R: Rule> Transpositions<'a, R> {
             },
             hint: &self.hint,
         };
-        match climb_on(&tree, &mut self.walk, budget) {
-            Step::Found(()) => {
-                pick(&self.pool, &self.walk.path, numbers);
-                Step::Found(())
-            }
-            Step::End => Step::End,
-            Step::Undecided => Step::Undecided,
+        if !climb_on(&tree, &mut self.walk, budget)? {
+            return Ok(false);
         }
+        pick(&self.pool, &self.walk.path, numbers);
+        Ok(true)
     }
 
     /// Fills a list with the next one, but lists that the cuts know to be idle may be skipped, at no step: they are asked with the
-    /// numbers of each beginning at which the search arrives. All that was skipped is idle, whatever the answer, `Undecided` too.
+    /// numbers of each beginning at which the search arrives. All that was skipped is idle, whatever the answer.
     pub(crate) fn put_next_past<C: CutsTuples>(
         &mut self,
         cuts: &C,
         room: &mut C::Room,
         numbers: &mut Numbers,
         budget: &mut Budget,
-    ) -> Step<()>
+    ) -> Drawn
         requires { budget.old.used ≤ budget.old.limit }
-        ensures answer { MatchStep result
-            (λ _. Passes (C.Idle cuts.now) self.old.coming (numbers.new.items ∷ self.new.coming))
+        ensures answer { MatchDrawn result
+            (Passes (C.Idle cuts.now) self.old.coming (numbers.new.items ∷ self.new.coming))
             (Passes (C.Idle cuts.now) self.old.coming [] × (self.new.coming ≡ []))
             (Passes (C.Idle cuts.now) self.old.coming self.new.coming × (budget.new.used ≡ budget.new.limit)) }
         ensures spends { Spends budget.old budget.new }
@@ -298,12 +295,10 @@ impl<'a, R: Rule> Transpositions<'a, R> {
             pool: &self.pool,
             cuts,
         };
-        match climb_past(&tree, &places, room, &mut self.walk, budget) {
-            Step::Found(()) => {}
-            Step::End => return Step::End,
-            Step::Undecided => return Step::Undecided,
+        if !climb_past(&tree, &places, room, &mut self.walk, budget)? {
+            return Ok(false);
         }
         pick(&self.pool, &self.walk.path, numbers);
-        Step::Found(())
+        Ok(true)
     }
 }

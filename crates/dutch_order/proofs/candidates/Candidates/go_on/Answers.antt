@@ -6,7 +6,7 @@ use Rattle.dutch_order.specs.Keys.{IsIn}
 use Rattle.dutch_order.specs.Levels.{may_leave}
 use Rattle.dutch_order.specs.Listings.{Listing, listed, still_coming}
 use Rattle.dutch_order.specs.Prefixes.{BeginsAt}
-use Rattle.dutch_order.proofs.Skipping.{passes-none, passes-all, all-of, passes-keeps}
+use Rattle.dutch_order.proofs.Skipping.{passes-none, passes-all, all-of, passes-keeps, drawn}
 use Rattle.dutch_order.proofs.candidates.Candidates.go_on.Goals as goal
 use Rattle.dutch_order.proofs.candidates.Candidates.go_on.Goals.{then-self-2-via-then-self-2, then-self-2-via-else-self-2+then-cuts}
 
@@ -29,14 +29,10 @@ returns-then-self-2-clause-answer g c =
     )
 
 pub returns-then-self-2-clause-candidates : goal.returns-then-self-2-clause-candidates
-returns-then-self-2-clause-candidates g c =
-    subst
-    (λ (l : Listing g.row.R.Denot). AllByRecursion (λ a. IsIn a (candidates (g.R.Rule.meets l.rule) (g.R.Rule.may_be_left l.rule) l.frame l.shape)) l.coming)
-    c.self.view_is
-    c.self.invariant.2
+returns-then-self-2-clause-candidates g c = rw (← c.self.view_is) c.self.invariant.2
 
-pub invariant_of-self-in-Found : goal.invariant_of-self-in-Found
-invariant_of-self-in-Found g c =
+pub invariant_of-self-in-Ok-true : goal.invariant_of-self-in-Ok-true
+invariant_of-self-in-Ok-true g c =
     let own = c.self.inside in
     let may = may_leave (g.R.Rule.may_be_left own.leave.rule.now) own.leave.bracket.now in
     let IsOne = λ (a : Arrangement). IsIn a (candidates (g.R.Rule.meets own.leave.rule.now) (g.R.Rule.may_be_left own.leave.rule.now) own.leave.bracket.now own.shape) in
@@ -46,11 +42,11 @@ invariant_of-self-in-Found g c =
       c.self.invariant.0,
       λ hopeless. absurd (true≢false (sym hopeless ∙ c.if-self-2.false)),
       subst (λ told. AllByRecursion IsOne (still_coming told after)) (sym c.if-self.false)
-          (passes-keeps (g.C.Cuts.Idle c.args.cuts.now) IsOne before _ c.in-Found.ensures.answer.0 all).1,
+          (passes-keeps (g.C.Cuts.Idle c.args.cuts.now) IsOne before _ (drawn _ _ _ c.in-Ok-true.field-0-test c.in-Ok-true.ensures.answer).0 all).1,
     )
 
-pub invariant_of-self-in-Undecided : goal.invariant_of-self-in-Undecided
-invariant_of-self-in-Undecided g c =
+pub invariant_of-self-in-Err : goal.invariant_of-self-in-Err
+invariant_of-self-in-Err g c =
     let own = c.self.inside in
     let may = may_leave (g.R.Rule.may_be_left own.leave.rule.now) own.leave.bracket.now in
     let IsOne = λ (a : Arrangement). IsIn a (candidates (g.R.Rule.meets own.leave.rule.now) (g.R.Rule.may_be_left own.leave.rule.now) own.leave.bracket.now own.shape) in
@@ -60,5 +56,5 @@ invariant_of-self-in-Undecided g c =
       c.self.invariant.0,
       λ hopeless. absurd (true≢false (sym hopeless ∙ c.if-self-2.false)),
       subst (λ told. AllByRecursion IsOne (still_coming told after)) (sym c.if-self.false)
-          (passes-keeps (g.C.Cuts.Idle c.args.cuts.now) IsOne before after c.in-Undecided.ensures.answer.0 all),
+          (passes-keeps (g.C.Cuts.Idle c.args.cuts.now) IsOne before after c.in-Err.ensures.answer.0 all),
     )

@@ -1,7 +1,7 @@
 use Rattle.std.proofs.Common.{◌≡◌, ◌∷◌, None, sym, ◌∙◌, ap, option_copied}
 use Rattle.std.specs.List.{AllByRecursion}
 use Rattle.dutch_order.specs.Levels.{HasS2, if_own, in_s1, joined, s1_blocks}
-use Rattle.dutch_order.proofs.Skipping.{passes-none}
+use Rattle.dutch_order.proofs.Skipping.{passes-none, drawn}
 use Rattle.dutch_order.proofs.Blocks.{block-comes, taken}
 use Rattle.dutch_order.proofs.choices.ByS1Blocks.next_block.Goals as goal
 
@@ -25,6 +25,6 @@ returns-clause-answer g c =
     ∙ ap (λ taken. in_s1 meets own.k own.residents.items taken s1) (c.take_by_s1-own.ensures.own ∙ ap (if_own (λ a. a.s1) at) c.deref.ensures.0) in
     passes-none (AllByRecursion (g.C.Cuts.Idle c.args._cuts.now)) _ _
     (sym c.self.view_is
-    ∙ block-comes (λ a. a.s1) (in_s1 meets own.k own.residents.items) at s1 own.sets.coming later c.in-Found.ensures.answer
+    ∙ block-comes (λ a. a.s1) (in_s1 meets own.k own.residents.items) at s1 own.sets.coming later (drawn _ _ _ c.if-not-branch.false c.in_ok-put_next.ensures.answer)
     ∙ ap (λ block. block ∷ s1_blocks meets own.k own.residents.items None later) (sym made)
     ∙ ap (λ resume. joined c.start.new.self ∷ s1_blocks meets own.k own.residents.items (option_copied resume) later) (sym c.take_by_s1-own.ensures.taken))

@@ -2,7 +2,7 @@ use Rattle.std.proofs.Common.{◌≡◌, ◌∷◌, None, sym, ap, subst, ◌∙
 use Rattle.std.specs.List.{AllByRecursion}
 use Rattle.dutch_order.specs.Levels.{HasS2r, if_own, in_s1r, s1r_blocks}
 use Rattle.dutch_order.proofs.Blocks.{block-comes, goes-whole, idle-s1r-blocks, taken}
-use Rattle.dutch_order.proofs.Skipping.{passes-all, passes-none}
+use Rattle.dutch_order.proofs.Skipping.{passes-all, passes-none, drawn}
 use Rattle.dutch_order.proofs.choices.ByS1rBlocks.next_block.Goals as goal
 
 pub returns-then-cuts-clause-answer : goal.returns-then-cuts-clause-answer
@@ -37,6 +37,6 @@ returns-clause-answer g c =
     ∙ ap (λ taken. in_s1r meets own.s1.items own.s2.items own.remainder.items taken s1r) (c.take_by_s1r-own.ensures.own ∙ ap (if_own (λ a. a.s1r) at) c.deref-3.ensures.0) in
     passes-none (AllByRecursion (g.C.Cuts.Idle c.args.cuts.now)) _ _
     (sym c.self.view_is
-    ∙ block-comes (λ a. a.s1r) (in_s1r meets own.s1.items own.s2.items own.remainder.items) at s1r own.sets.coming later c.in-Found.ensures.answer
+    ∙ block-comes (λ a. a.s1r) (in_s1r meets own.s1.items own.s2.items own.remainder.items) at s1r own.sets.coming later (drawn _ _ _ c.if-not-branch.false c.in_ok-put_next.ensures.answer)
     ∙ ap (λ block. block ∷ s1r_blocks meets own.s1.items own.s2.items own.remainder.items None later) (sym made)
     ∙ ap (λ resume. c.start.new.self ∷ s1r_blocks meets own.s1.items own.s2.items own.remainder.items (option_copied resume) later) (sym c.take_by_s1r-own.ensures.taken))

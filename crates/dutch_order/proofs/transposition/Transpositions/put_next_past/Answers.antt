@@ -3,7 +3,7 @@ use Rattle.std.specs.List.{AllByRecursion}
 use Rattle.dutch_order.specs.Trials.{hits, ahead}
 use Rattle.dutch_order.specs.Hints.{hinted}
 use Rattle.dutch_order.specs.TranspositionSearch.{transposition_plan, numbers_at}
-use Rattle.dutch_order.proofs.LeftOut.{passes-same}
+use Rattle.dutch_order.proofs.LeftOut.{passes-same, drawn, drawn-stopped}
 use Rattle.dutch_order.proofs.TupleSearch.{stands-within, tuples-passed, plan-at}
 use Rattle.dutch_order.proofs.transposition.Transpositions.put_next_past.Goals as goal
 
@@ -28,23 +28,22 @@ returns-clause-answer g c =
     let passed = tuples-passed Idle c.self.inside.pool.items c.deref-3.result.now c.args.self.now.coming _ _ _ _ (ap (λ v. v.coming) c.self.view_is) c.deref-3.ensures.0
     (at c.self.inside.walk.path.items c.self.inside.walk.number c.deref.ensures.0 c.deref-2.ensures.0)
     (ap (λ paths. path ∷ paths) (at path c.climb_past.new.walk.number c.deref.ensures.0 c.deref-2.ensures.0))
-    c.in-Found.ensures.answer.0 in
+    (drawn _ _ _ c.if-not-branch.false c.in_ok-climb_past.ensures.answer).0 in
     passes-same Idle c.args.self.now.coming (numbers_at c.self.inside.pool.items path ∷ _) (c.pick.new.numbers.items ∷ _) passed (ap (λ numbers. numbers ∷ map (numbers_at c.self.inside.pool.items) (hits (ahead (hinted c.self.inside.hint.items (transposition_plan (g.R.Rule.meets c.self.inside.rule.now) c.self.inside.first.items c.self.inside.pool.items)) path c.climb_past.new.walk.number))) (sym picked))
 
-pub returns-in-End-clause-answer : goal.returns-in-End-clause-answer
-returns-in-End-clause-answer g c =
-    let at = plan-at (g.R.Rule.meets c.self.inside.rule.now) c.deref.result.now c.self.inside.first.items c.deref-2.result.now c.self.inside.pool.items c.self.inside.hint.items in (
+pub returns-then-not-branch-clause-answer : goal.returns-then-not-branch-clause-answer
+returns-then-not-branch-clause-answer g c =
+    let at = plan-at (g.R.Rule.meets c.self.inside.rule.now) c.deref.result.now c.self.inside.first.items c.deref-2.result.now c.self.inside.pool.items c.self.inside.hint.items in
+    let none = drawn _ _ _ c.if-not-branch.true c.in_ok-climb_past.ensures.answer in (
       tuples-passed (g.C.CutsTuples.Idle c.args.cuts.now) c.self.inside.pool.items c.deref-3.result.now c.args.self.now.coming _ _ _ _ (ap (λ v. v.coming) c.self.view_is) c.deref-3.ensures.0
-          (at c.self.inside.walk.path.items c.self.inside.walk.number c.deref.ensures.0 c.deref-2.ensures.0) refl c.in-End.ensures.answer.0,
-      ap (map (numbers_at c.self.inside.pool.items))
-          (sym (at c.climb_past.new.walk.path.items c.climb_past.new.walk.number c.deref.ensures.0 c.deref-2.ensures.0) ∙ ap hits c.in-End.ensures.answer.1),
+          (at c.self.inside.walk.path.items c.self.inside.walk.number c.deref.ensures.0 c.deref-2.ensures.0) refl none.0,
+      ap (map (numbers_at c.self.inside.pool.items)) (sym (at c.climb_past.new.walk.path.items c.climb_past.new.walk.number c.deref.ensures.0 c.deref-2.ensures.0) ∙ ap hits none.1),
     )
 
-pub returns-in-Undecided-clause-answer : goal.returns-in-Undecided-clause-answer
-returns-in-Undecided-clause-answer g c =
-    let at = plan-at (g.R.Rule.meets c.self.inside.rule.now) c.deref.result.now c.self.inside.first.items c.deref-2.result.now c.self.inside.pool.items c.self.inside.hint.items in (
-      tuples-passed (g.C.CutsTuples.Idle c.args.cuts.now) c.self.inside.pool.items c.deref-3.result.now c.args.self.now.coming _ _ _ _ (ap (λ v. v.coming) c.self.view_is) c.deref-3.ensures.0
-          (at c.self.inside.walk.path.items c.self.inside.walk.number c.deref.ensures.0 c.deref-2.ensures.0)
-          (at c.climb_past.new.walk.path.items c.climb_past.new.walk.number c.deref.ensures.0 c.deref-2.ensures.0) c.in-Undecided.ensures.answer.0,
-      c.in-Undecided.ensures.answer.1,
-    )
+pub returns-in_err-climb_past-clause-answer : goal.returns-in_err-climb_past-clause-answer
+returns-in_err-climb_past-clause-answer g c =
+    let at = plan-at (g.R.Rule.meets c.self.inside.rule.now) c.deref.result.now c.self.inside.first.items c.deref-2.result.now c.self.inside.pool.items c.self.inside.hint.items in
+    let passed = tuples-passed (g.C.CutsTuples.Idle c.args.cuts.now) c.self.inside.pool.items c.deref-3.result.now c.args.self.now.coming _ _ _ _ (ap (λ v. v.coming) c.self.view_is) c.deref-3.ensures.0
+    (at c.self.inside.walk.path.items c.self.inside.walk.number c.deref.ensures.0 c.deref-2.ensures.0)
+    (at c.climb_past.new.walk.path.items c.climb_past.new.walk.number c.deref.ensures.0 c.deref-2.ensures.0) c.in_err-climb_past.ensures.answer.0 in
+    drawn-stopped _ _ _ _ c.from_residual.ensures.0 (passed, c.in_err-climb_past.ensures.answer.1)
