@@ -111,10 +111,7 @@ fn draw_listed<L: Arranges, C: Cuts>(
     ensures taken { drawing.new.kept ≡ None }
     ensures spends { Spends budget.old budget.new }
 {
-    if drawing.kept.take(lists) {
-        return Ok(true);
-    }
-    drawing.level.next(cuts, room, lists, budget)
+    Ok(drawing.kept.take(lists) || drawing.level.next(cuts, room, lists, budget)?)
 }
 
 /// Draws the next arrangement that leaves over whom its bracket may leave, where those may be skipped of which `cuts` tells.

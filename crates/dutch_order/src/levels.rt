@@ -107,11 +107,7 @@ fn draw<T: Arranges, C: Cuts>(
         (Passes (C.Idle cuts.now) (within in_block (T.coming block.old)) (within in_block (T.coming block.new)) × (budget.new.used ≡ budget.new.limit)) }
     ensures spends { Spends budget.old budget.new }
 {
-    if in_block {
-        block.next(cuts, room, lists, budget)
-    } else {
-        Ok(false)
-    }
+    Ok(in_block && block.next(cuts, room, lists, budget)?)
 }
 
 impl<B: Blocks> Arranges for Level<B> {

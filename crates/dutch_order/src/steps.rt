@@ -27,7 +27,7 @@ pub enum Step<T> {
 #[derive(Debug, Clone, Copy)]
 pub struct Stopped;
 
-/// Whether there was a next one, where the limit was not reached first.
+/// Yes or no, mostly whether there was a next one, where the limit was not reached first.
 pub(crate) type Drawn = Result<bool, Stopped>;
 
 impl<T: Drop> Step<T> {
