@@ -182,8 +182,9 @@ fn best_in_passes(
 {
     let rule = pass.context.rule();
     let mut lister = Lister::new(pass.context.frame(), &rule);
-    if let Some(best) = best_by_aim(pass, &mut lister, judge, budget)? {
-        return Ok(Some(best));
+    let by_aim = best_by_aim(pass, &mut lister, judge, budget)?;
+    if by_aim.is_some() {
+        return Ok(by_aim);
     }
     pass.aim = None;
     best_near(pass, &mut lister, judge, budget)

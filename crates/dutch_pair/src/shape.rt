@@ -69,8 +69,10 @@ pub(crate) fn shape_of(context: &Context<'_>, budget: &mut Budget) -> Result<Opt
 {
     let rule = context.rule();
     let mut lister = Lister::new(context.frame(), &rule);
-    let Some(shape) = greatest_shape(context, &mut lister, budget)? else {
-        return Ok(None);
-    };
-    Ok(Some(shape))
+    // One way out, as each one more clears the place of a lister more.
+    match greatest_shape(context, &mut lister, budget) {
+        Ok(Some(shape)) => Ok(Some(shape)),
+        Ok(None) => Ok(None),
+        Err(Stopped) => Err(Stopped),
+    }
 }
