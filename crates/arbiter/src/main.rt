@@ -4,37 +4,7 @@
 ghost use Rattle.std.specs.Prelude.{◌≡◌, ◌≢◌};
 ghost use Rattle.std.specs.IoError.{error_kind};
 
-mod arguments;
-#[cfg(test)]
-mod below;
-mod bracket_lines;
-mod candidates;
-mod check;
-mod commands;
-mod explain;
-mod format;
-mod input;
-mod instead;
-mod instead_laws;
-mod item_lines;
-mod keys;
-mod listing;
-mod obstacle;
-mod options;
-mod pair;
-mod player_line;
-mod question;
-mod refusal;
-mod reply;
-mod run;
-mod standings;
-mod table;
-mod texts;
-mod value_texts;
-mod wall;
-mod words;
-
-use reply::Status;
+use command_line::{Status, run};
 use std::io::ErrorKind;
 use std::process::ExitCode;
 use std::{env, io};
@@ -59,7 +29,7 @@ fn run_on(rt: &HostRuntime) -> io::Result<Status> {
     let mut reader = Counted::new(rt.stdin());
     let mut out = Counted::new(rt.stdout());
     let mut err = Counted::new(rt.stderr());
-    Ok(run::run(alloc, words.as_slice(), &mut reader, &mut out, &mut err))
+    Ok(run(alloc, words.as_slice(), &mut reader, &mut out, &mut err))
 }
 
 // The words could not be had: they are no text, or memory was refused.

@@ -1,0 +1,110 @@
+// A case: what a run is given, and what must come of it.
+use crate::folder::Folder;
+use command_line::{Status, run};
+use std::alloc::{AllocError, Global};
+use std::io;
+use trf16::Counted;
+
+/// A run of the command line, and what must come of it.
+#[derive(Drop)]
+pub struct Case {
+    words: String,
+    report: Vec<u8>,
+    status: u32,
+    // (`None`: some text, whatever it says)
+    output: Option<Vec<u8>>,
+    complaint: Option<Vec<u8>>,
+}
+
+/// What came of a run.
+#[derive(Drop)]
+pub struct Ended {
+    status: Status,
+    output: Vec<u8>,
+    complaint: Vec<u8>,
+}
+
+impl Case {
+    /// The case that a folder holds.
+    ///
+    /// # Errors
+    /// A file of it is missing or cannot be read, or memory was refused.
+    pub fn read(folder: &Folder<'_>) -> io::Result<Case> {
+        Ok(Case {
+            words: folder.text("words")?,
+            report: report_in(folder)?,
+            status: folder.number("status")?,
+            output: folder.find("stdout")?,
+            complaint: folder.find("stderr")?,
+        })
+    }
+
+    /// Runs it.
+    ///
+    /// # Errors
+    /// Memory was refused.
+    pub fn run(&self, alloc: Global) -> Result<Ended, AllocError> {
+        let words: Vec<&str> = self.words.lines().collect(alloc)?;
+        let mut reader = Counted::new(self.report.as_slice());
+        let mut output = Counted::new(Vec::new(alloc));
+        let mut complaint = Counted::new(Vec::new(alloc));
+        let status = run(
+            alloc,
+            words.as_slice(),
+            &mut reader,
+            &mut output,
+            &mut complaint,
+        );
+        Ok(Ended {
+            status,
+            output: output.into_inner(),
+            complaint: complaint.into_inner(),
+        })
+    }
+
+    /// What came otherwise than it must.
+    pub fn differences(&self, ended: &Ended) -> [Option<&'static str>; 3] {
+        [
+            told(
+                u32::from(ended.status.code()) == self.status,
+                "another status",
+            ),
+            told(
+                is_right(&self.output, &ended.output),
+                "another standard output",
+            ),
+            told(
+                is_right(&self.complaint, &ended.complaint),
+                "another standard error",
+            ),
+        ]
+    }
+}
+
+// A text, unless all is right.
+fn told(is_right: bool, text: &'static str) -> Option<&'static str> {
+    if is_right { None } else { Some(text) }
+}
+
+// Whether a text is the one that must come, or where none is told, whether there is one.
+fn is_right(wanted: &Option<Vec<u8>>, came: &Vec<u8>) -> bool {
+    match wanted {
+        Some(text) => text.as_slice() == came.as_slice(),
+        None => !came.is_empty(),
+    }
+}
+
+// The report that a case gives.
+fn report_in(folder: &Folder<'_>) -> io::Result<Vec<u8>> {
+    let mut report = folder.get("report.trf")?;
+    let Some(piece) = folder.find("repeated")? else {
+        return Ok(report);
+    };
+    for _ in 0..folder.number("times")? {
+        report.extend_from_slice(piece.as_slice())?;
+    }
+    if let Some(end) = folder.find("end.trf")? {
+        report.extend_from_slice(end.as_slice())?;
+    }
+    Ok(report)
+}

@@ -1,0 +1,18 @@
+use Rattle.std.proofs.Common.{◌≡◌, ◌≤◌, ◌-◌}
+use Rattle.std.specs.Prelude.{string_bytes}
+use Rattle.dutch_pair.specs.Reached.{frame_of}
+use Rattle.command_line.specs.CandidateTexts.{line_text}
+use Rattle.command_line.proofs.ListingLemmas.{IsUnderway}
+use Rattle.command_line.proofs.listing.lines.Given as goal
+
+abbrev pub invariant-loop-done : goal.invariant-loop-done
+invariant-loop-done g l = record {
+  underway : IsUnderway (line_text l.field l.reached) l.initial.coming.coming l.coming.coming l.done (string_bytes l.text);
+  frame : l.coming.frame ≡ frame_of l.field l.reached;
+  within : l.done ≤ l.count;
+  limit : l.budget.limit ≡ l.steps;
+  used : l.budget.used ≤ l.budget.limit;
+}
+
+abbrev pub decreases-loop-done : goal.decreases-loop-done
+decreases-loop-done g l = l.count - l.done

@@ -1,0 +1,36 @@
+-- What is known where a request is answered, from its words and from its report: a model that carries the proof that boards fit.
+use Rattle.std.specs.Prelude.{◌≡◌, ℕ, ◌≤◌, List, IfSome, Ok}
+use Rattle.dutch_pair.specs.declared.round.Outcome.{Outcome}
+use Rattle.dutch_pair.specs.declared.round.Outcome.TheVariants.{Paired, NoPairing, Undecided}
+use Rattle.trf16.specs.Round.{CanBePaired}
+use Rattle.trf16.specs.Sheet.{Sheet}
+use Rattle.trf16.specs.Verdict.{verdict}
+use Rattle.command_line.specs.declared.options.PairOptions.{PairOptions}
+use Rattle.command_line.specs.declared.words.Request.{Request}
+use Rattle.command_line.specs.declared.words.Request.TheVariants.{Check, Format, Pair, Candidates, Explain, Standings}
+use Rattle.trf16.specs.declared.limits.TheConstants.{MOST_ROUNDS}
+
+-- a total of rounds that is asked for is not above the most rounds
+abbrev pub HasFewRounds : PairOptions → Type 0
+HasFewRounds options = IfSome options.rounds (λ rounds. rounds ≤ MOST_ROUNDS)
+
+-- the same of a request, if it asks to pair
+abbrev pub CanBeAnswered : Request → Type 0
+CanBeAnswered Check = Unit {0}
+CanBeAnswered (Format options) = Unit {0}
+CanBeAnswered (Pair options) = HasFewRounds options
+CanBeAnswered (Candidates options) = Unit {0}
+CanBeAnswered (Explain options) = Unit {0}
+CanBeAnswered (Standings options) = Unit {0}
+
+-- some text is this report, by what the pairing-allocated bye gives
+pub record IsAccepted (sheet : Sheet) : Type 0 where
+  pub bytes : List ℕ
+  pub bye : ℕ
+  pub is : verdict bytes bye ≡ Ok sheet
+
+-- the boards of an outcome, if it has some, can be the next round of a report
+abbrev pub CanBeTold : Sheet → Outcome → Type 0
+CanBeTold sheet (Paired all) = CanBePaired all.items sheet
+CanBeTold sheet NoPairing = Unit {0}
+CanBeTold sheet (Undecided number used) = Unit {0}

@@ -1,0 +1,16 @@
+-- Replies as answers.
+use Rattle.std.specs.Prelude.{ℕ, List, string_bytes}
+use Rattle.command_line.specs.Statuses.{Answer}
+use Rattle.command_line.specs.declared.reply.Text.{Text}
+use Rattle.command_line.specs.declared.reply.Text.TheVariants.{Fixed, Made, Bytes}
+use Rattle.command_line.specs.declared.reply.Reply.{Reply}
+
+-- the bytes of a text
+abbrev pub text_of : Text → List ℕ
+text_of (Fixed text) = text.now
+text_of (Made text) = string_bytes text
+text_of (Bytes text) = text.items
+
+-- the status and the text of a reply
+abbrev pub answer_of : Reply → Answer
+answer_of reply = record { status = reply.status; text = text_of reply.text }

@@ -1,0 +1,173 @@
+// The command `candidates`: a bracket, its shape, and the candidates of that shape in the order of article D.
+ghost use Rattle.std.specs.Prelude.{◌≡◌, ◌≤◌, IfOk, Ok, option_map};
+ghost use Rattle.trf16.specs.Verdict.{verdict};
+ghost use Rattle.dutch_order.specs.Arrangements.{Fits};
+ghost use Rattle.dutch_pair.specs.Outcomes.{IsBracketAt};
+ghost use Rattle.dutch_pair.specs.Reached.{IsOf, frame_of};
+ghost use Rattle.command_line.specs.CandidateAnswers.{AnswersCandidates, InField, Lists, AnswersFound, coming_of};
+ghost use Rattle.command_line.specs.Replies.{answer_of};
+ghost use Rattle.command_line.specs.Statuses.{not_of_bracket, not_reached};
+
+use crate::listing::lines;
+use crate::options::CandidatesOptions;
+use crate::refusal::{cannot_be_paired, no_pairing, refused, undecided};
+use crate::reply::{Reply, Status, Text};
+use crate::texts;
+use dutch_order::{Candidates, Cursor, Rule, Shape};
+use dutch_pair::{BracketAt, PairFault, Reached, bracket_at};
+use dutch_player::{Field, FieldFault};
+use std::alloc::{AllocError, Global};
+use trf16::{Fault, Report};
+
+/// What `candidates` says of the bytes of a report in which the pairing-allocated bye gives `bye` half points.
+pub fn candidates(
+    alloc: Global,
+    options: &CandidatesOptions<'_>,
+    bytes: &[u8],
+    bye: u16,
+) -> Result<Reply, AllocError>
+    requires { bye ≤ 2 }
+    ensures { IfOk result (λ reply. AnswersCandidates options.now (verdict bytes.now bye) (answer_of reply)) }
+{
+    match trf16::read_with(alloc, bytes, bye) {
+        Ok(report) => of_report(alloc, options, &report),
+        Err(Fault::OutOfMemory) => Err(AllocError),
+        Err(fault) => refused(alloc, fault),
+    }
+}
+
+// The same of an accepted report.
+fn of_report(
+    alloc: Global,
+    options: &CandidatesOptions<'_>,
+    report: &Report<'_>,
+) -> Result<Reply, AllocError>
+    ensures { IfOk result (λ reply. AnswersCandidates options.now (Ok report.now) (answer_of reply)) }
+{
+    match Field::new(alloc, report, options.rounds, options.initial) {
+        Ok(field) => of_field(alloc, options, &field),
+        Err(FieldFault::OutOfMemory) => Err(AllocError),
+        Err(fault) => cannot_be_paired(alloc, fault),
+    }
+}
+
+// The same of those whom the next round is paired from.
+#[tactic(auto, using(crate::proofs::ListingLemmas::told))]
+fn of_field(
+    alloc: Global,
+    options: &CandidatesOptions<'_>,
+    field: &Field,
+) -> Result<Reply, AllocError>
+    ensures { IfOk result (λ reply. InField options.now (Ok field.now) (answer_of reply)) }
+{
+    let found = find(alloc, field, options.steps, options.bracket)?;
+    tell(alloc, options, field, &found)
+}
+
+// The bracket of a number, or why there is none.
+fn find(alloc: Global, field: &Field, steps: u64, number: u16) -> Result<BracketAt, AllocError>
+    ensures { IfOk result (IsBracketAt field.now steps number) }
+{
+    match bracket_at(alloc, field, steps, number) {
+        Ok(found) => Ok(found),
+        Err(PairFault::OutOfMemory) => Err(AllocError),
+    }
+}
+
+// What is said of it.
+fn tell(
+    alloc: Global,
+    options: &CandidatesOptions<'_>,
+    field: &Field,
+    found: &BracketAt,
+) -> Result<Reply, AllocError>
+    requires { IsBracketAt field.now options.now.steps options.now.bracket found.now }
+    ensures { IfOk result (λ reply. AnswersFound options.now field.now found.now (answer_of reply)) }
+{
+    match found {
+        BracketAt::Bracket { reached, shape } => list(alloc, options, field, reached, *shape),
+        BracketAt::NotReached => not_reached(alloc, options.bracket),
+        BracketAt::NoPairing => Ok(no_pairing()),
+        BracketAt::Undecided { bracket, used } => undecided(alloc, *bracket, *used),
+    }
+}
+
+// A bracket and its candidates, all or those behind the cursor.
+#[tactic(auto, using(crate::proofs::ListingLemmas::cursor_is_in, crate::proofs::ListingLemmas::not_listed))]
+fn list(
+    alloc: Global,
+    options: &CandidatesOptions<'_>,
+    field: &Field,
+    reached: &Reached,
+    shape: Shape,
+) -> Result<Reply, AllocError>
+    requires of { IsOf field.now reached.now }
+    requires fits { Fits (frame_of field.now reached.now) shape }
+    ensures { IfOk result (λ reply. Lists options.now field.now reached.now shape
+        (coming_of field.now reached.now shape options.now.from) (answer_of reply)) }
+{
+    let frame = reached.frame(field);
+    let rule = reached.rule(field);
+    match &options.from {
+        None => {
+            let coming = Candidates::new(&frame, shape, &rule);
+            list_coming(alloc, options, field, reached, shape, coming)
+        }
+        Some(from) => match Cursor::read(from.as_str(), &frame, shape) {
+            Ok(cursor) => {
+                let coming = Candidates::from(&frame, shape, &rule, &cursor);
+                list_coming(alloc, options, field, reached, shape, coming)
+            }
+            Err(_) => not_of_bracket(alloc, options.bracket),
+        },
+    }
+}
+
+// A bracket and the candidates to come.
+#[tactic(auto, using(crate::proofs::ListingLemmas::listed))]
+fn list_coming<R: Rule>(
+    alloc: Global,
+    options: &CandidatesOptions<'_>,
+    field: &Field,
+    reached: &Reached,
+    shape: Shape,
+    coming: Candidates<'_, R>,
+) -> Result<Reply, AllocError>
+    requires of { IsOf field.now reached.now }
+    requires frame { coming.frame ≡ frame_of field.now reached.now }
+    requires coming { coming_of field.now reached.now shape options.now.from ≡ Ok coming.coming }
+    ensures { IfOk result (λ reply. Lists options.now field.now reached.now shape
+        (coming_of field.now reached.now shape options.now.from) (answer_of reply)) }
+{
+    let mut text = texts::bracket(alloc, options.bracket, reached.kind(), shape)?;
+    let listed = lines(alloc, field, reached, coming, options.count, options.steps)?;
+    text.push_str(listed.text.as_str())?;
+    let last = texts::ending(alloc, options.bracket, listed.ending)?;
+    text.push_str(last.as_str())?;
+    Ok(Reply {
+        status: listed.ending.status(),
+        text: Text::Made(text),
+    })
+}
+
+// The round ends before the bracket that is asked for.
+fn not_reached(alloc: Global, number: u16) -> Result<Reply, AllocError>
+    ensures { IfOk result (λ reply. answer_of reply ≡ not_reached number) }
+{
+    let text = texts::not_reached(alloc, number)?;
+    Ok(Reply {
+        status: Status::BadWords,
+        text: Text::Made(text),
+    })
+}
+
+// The cursor is not one of the bracket that is asked for.
+fn not_of_bracket(alloc: Global, number: u16) -> Result<Reply, AllocError>
+    ensures { IfOk result (λ reply. answer_of reply ≡ not_of_bracket number) }
+{
+    let text = texts::not_of_bracket(alloc, number)?;
+    Ok(Reply {
+        status: Status::BadWords,
+        text: Text::Made(text),
+    })
+}

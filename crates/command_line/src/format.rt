@@ -1,0 +1,69 @@
+// The command `format`: a report in canonical columns.
+ghost use Rattle.std.specs.Prelude.{◌≡◌, ◌≤◌, IfOk, Ok, false, true};
+ghost use Rattle.trf16.specs.Summed.{verdict_unsummed};
+ghost use Rattle.trf16.specs.Verdict.{verdict};
+ghost use Rattle.trf16.specs.Written.{written};
+ghost use Rattle.command_line.specs.Commands.{format_answer, format_verdict};
+ghost use Rattle.command_line.specs.Replies.{answer_of};
+ghost use Rattle.command_line.specs.Statuses.{done};
+
+use crate::options::FormatOptions;
+use crate::refusal::refused;
+use crate::reply::{Reply, Status, Text};
+use std::alloc::{AllocError, Global};
+use trf16::{Counted, Failed, Fault, Report};
+
+/// What `format` says of the bytes of a report in which the pairing-allocated bye gives `bye` half points.
+pub fn format(
+    alloc: Global,
+    options: FormatOptions,
+    bytes: &[u8],
+    bye: u16,
+) -> Result<Reply, AllocError>
+    requires { bye ≤ 2 }
+    ensures { IfOk result (λ reply. answer_of reply ≡ format_answer options.points (format_verdict options.points bytes.now bye)) }
+{
+    if options.points {
+        with_sums(alloc, bytes, bye)
+    } else {
+        as_it_is(alloc, bytes, bye)
+    }
+}
+
+// The report as it was read.
+fn as_it_is(alloc: Global, bytes: &[u8], bye: u16) -> Result<Reply, AllocError>
+    requires { bye ≤ 2 }
+    ensures { IfOk result (λ reply. answer_of reply ≡ format_answer false (verdict bytes.now bye)) }
+{
+    match trf16::read_with(alloc, bytes, bye) {
+        Ok(report) => rewritten(alloc, &report),
+        Err(Fault::OutOfMemory) => Err(AllocError),
+        Err(fault) => refused(alloc, fault),
+    }
+}
+
+// The report with its points fields summed, whatever they say.
+fn with_sums(alloc: Global, bytes: &[u8], bye: u16) -> Result<Reply, AllocError>
+    requires { bye ≤ 2 }
+    ensures { IfOk result (λ reply. answer_of reply ≡ format_answer true (verdict_unsummed bytes.now bye)) }
+{
+    match trf16::read_unsummed(alloc, bytes, bye) {
+        Ok(report) => rewritten(alloc, &report.summed(alloc)?),
+        Err(Fault::OutOfMemory) => Err(AllocError),
+        Err(fault) => refused(alloc, fault),
+    }
+}
+
+/// A report in canonical columns, made whole before the first byte is written.
+pub fn rewritten(alloc: Global, report: &Report<'_>) -> Result<Reply, AllocError>
+    ensures { IfOk result (λ reply. answer_of reply ≡ done (written report.now)) }
+{
+    let mut text = Counted::new(Vec::new(alloc));
+    match trf16::write(report, &mut text) {
+        Ok(()) => Ok(Reply {
+            status: Status::Done,
+            text: Text::Bytes(text.into_inner()),
+        }),
+        Err(Failed) => Err(AllocError),
+    }
+}

@@ -1,0 +1,34 @@
+// The arbiter's command line: from words and the bytes of a tournament report to a text and a status. Its one call is `run`, whose
+// contract is the relation `IsRun` of specs/Run.antt; the program over it reads the words and the standard streams.
+#![tactic(auto)]
+
+mod arguments;
+mod bracket_lines;
+mod candidates;
+mod check;
+mod commands;
+mod explain;
+mod format;
+mod input;
+mod instead;
+mod instead_laws;
+mod item_lines;
+mod keys;
+mod listing;
+mod obstacle;
+mod options;
+mod pair;
+mod player_line;
+mod question;
+mod refusal;
+mod reply;
+mod running;
+mod standings;
+mod table;
+mod texts;
+mod value_texts;
+mod wall;
+mod words;
+
+pub use reply::Status;
+pub use running::run;

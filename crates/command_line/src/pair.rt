@@ -1,0 +1,145 @@
+// The command `pair`: the boards of the next round, or the report with that round.
+ghost use Rattle.std.specs.Prelude.{◌≡◌, ◌≤◌, ◌++◌, IfOk, Ok, OnOk, codes, length, string_bytes};
+ghost use Rattle.std.specs.List.{flat_map};
+ghost use Rattle.std.specs.Fmt.{decimal};
+ghost use Rattle.dutch_player.specs.Facts.{facts_of};
+ghost use Rattle.trf16.specs.Verdict.{verdict};
+ghost use Rattle.trf16.specs.Round.{CanBePaired, with_round};
+ghost use Rattle.trf16.specs.Written.{written};
+ghost use Rattle.command_line.specs.PairAnswers.{AnswersPair, PairsField, TellsBoards, TellsOutcome, TellsReport, board_text, boards_text};
+ghost use Rattle.command_line.specs.Known.{CanBeTold, HasFewRounds, IsAccepted};
+ghost use Rattle.command_line.specs.Replies.{answer_of};
+ghost use Rattle.command_line.specs.Statuses.{done};
+
+use crate::format::rewritten;
+use crate::options::{PairOptions, Shown};
+use crate::refusal::{cannot_be_paired, no_pairing, refused, undecided};
+use crate::reply::{Reply, Status, Text};
+use crate::wall;
+use dutch_pair::boards::Board;
+use dutch_pair::laws::boards_can_be_the_next_round;
+use dutch_pair::{Outcome, PairFault, pair_round};
+use dutch_player::{Field, FieldFault};
+use std::alloc::{AllocError, Global};
+use trf16::{Fault, Report};
+
+/// What `pair` says of the bytes of a report in which the pairing-allocated bye gives `bye` half points.
+#[tactic(auto, using(crate::proofs::PairLemmas::accepted))]
+pub fn pair(
+    alloc: Global,
+    options: PairOptions,
+    bytes: &[u8],
+    bye: u16,
+) -> Result<Reply, AllocError>
+    requires rounds { HasFewRounds options }
+    requires worth { bye ≤ 2 }
+    ensures { IfOk result (λ reply. AnswersPair options (verdict bytes.now bye) (answer_of reply)) }
+{
+    match trf16::read_with(alloc, bytes, bye) {
+        Ok(report) => of_report(alloc, options, &report),
+        Err(Fault::OutOfMemory) => Err(AllocError),
+        Err(fault) => refused(alloc, fault),
+    }
+}
+
+// The same of an accepted report.
+fn of_report(alloc: Global, options: PairOptions, report: &Report<'_>) -> Result<Reply, AllocError>
+    requires few { HasFewRounds options }
+    requires accepted { IsAccepted report.now }
+    ensures { IfOk result (λ reply. AnswersPair options (Ok report.now) (answer_of reply)) }
+{
+    match Field::new(alloc, report, options.rounds, options.initial) {
+        Ok(field) => of_field(alloc, options, report, &field),
+        Err(FieldFault::OutOfMemory) => Err(AllocError),
+        Err(fault) => cannot_be_paired(alloc, fault),
+    }
+}
+
+// The same of those whom the next round is paired from.
+#[tactic(auto, using(crate::proofs::PairLemmas::can_be_told))]
+fn of_field(
+    alloc: Global,
+    options: PairOptions,
+    report: &Report<'_>,
+    field: &Field,
+) -> Result<Reply, AllocError>
+    requires few { HasFewRounds options }
+    requires accepted { IsAccepted report.now }
+    requires field { facts_of report.now options.rounds options.initial ≡ Ok field.now }
+    ensures { IfOk result (λ reply. PairsField options report.now (Ok field.now) (answer_of reply)) }
+{
+    // So `tell` may put them into the report.
+    boards_can_be_the_next_round();
+    match pair_round(alloc, field, options.steps) {
+        Ok(outcome) => tell(alloc, options, report, &outcome),
+        Err(PairFault::OutOfMemory) => Err(AllocError),
+    }
+}
+
+// What is said of the outcome of pairing.
+fn tell(
+    alloc: Global,
+    options: PairOptions,
+    report: &Report<'_>,
+    outcome: &Outcome,
+) -> Result<Reply, AllocError>
+    requires { CanBeTold report.now outcome.now }
+    ensures { IfOk result (λ reply. TellsOutcome options report.now outcome.now (answer_of reply)) }
+{
+    match outcome {
+        Outcome::Paired(boards) => tell_boards(alloc, options.shown, report, boards.as_slice()),
+        Outcome::NoPairing => Ok(no_pairing()),
+        Outcome::Undecided { bracket, used } => undecided(alloc, *bracket, *used),
+    }
+}
+
+// The boards, the boards with names and scores, or the report with them.
+fn tell_boards(
+    alloc: Global,
+    shown: Shown,
+    report: &Report<'_>,
+    boards: &[Board],
+) -> Result<Reply, AllocError>
+    requires { CanBePaired boards.now report.now }
+    ensures { IfOk result (λ reply. TellsBoards shown report.now boards.now (answer_of reply)) }
+{
+    match shown {
+        Shown::Boards => tell_ranks(alloc, boards),
+        Shown::Names => wall::boards(alloc, report, boards),
+        Shown::Report => tell_report(alloc, report, boards),
+    }
+}
+
+// The boards in start ranks.
+fn tell_ranks(alloc: Global, boards: &[Board]) -> Result<Reply, AllocError>
+    ensures { IfOk result (λ reply. answer_of reply ≡ done (boards_text boards.now)) }
+{
+    let text = board_lines(alloc, boards)?;
+    Ok(Reply {
+        status: Status::Done,
+        text: Text::Made(text),
+    })
+}
+
+// The report whose next round the boards are.
+fn tell_report(alloc: Global, report: &Report<'_>, boards: &[Board]) -> Result<Reply, AllocError>
+    requires { CanBePaired boards.now report.now }
+    ensures { IfOk result (λ reply. TellsReport report.now boards.now (answer_of reply)) }
+{
+    let paired = report.with_round(alloc, boards)?;
+    rewritten(alloc, &paired)
+}
+
+// How many boards there are, and a line for each.
+fn board_lines(alloc: Global, boards: &[Board]) -> Result<String, AllocError>
+    ensures { IfOk result (λ text. string_bytes text ≡ boards_text boards.now) }
+{
+    let count = boards.len();
+    let mut text = format!(in alloc; "{count}\n")?;
+    for board in boards {
+        let (white, black) = *board;
+        let line = format!(in alloc; "{white} {black}\n")?;
+        text.push_str(line.as_str())?;
+    }
+    Ok(text)
+}

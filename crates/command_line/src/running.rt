@@ -1,0 +1,122 @@
+// A run of the program: from its words and the bytes of its input to the text that it writes.
+ghost use Rattle.std.specs.Prelude.{◌≡◌, ◌≤◌, ◌+◌, IfOk, map};
+ghost use Rattle.command_line.specs.Commands.{Answers};
+ghost use Rattle.command_line.specs.Known.{CanBeAnswered};
+ghost use Rattle.command_line.specs.Statuses.{out_of_memory, read_fault};
+ghost use Rattle.command_line.specs.Devices.{reading_of};
+ghost use Rattle.trf16.specs.Output.{use_of};
+ghost use Rattle.command_line.specs.Input.{most_read};
+ghost use Rattle.command_line.specs.Replies.{answer_of};
+ghost use Rattle.command_line.specs.Run.{IsAnswer, IsOutOfMemory, IsReplyTo, IsRun};
+
+use crate::candidates::candidates;
+use crate::check::check;
+use crate::explain::explain;
+use crate::format::format;
+use crate::input::{InputFault, read_input};
+use crate::pair::pair;
+use crate::reply::{Reply, Status, Text};
+use crate::standings::standings;
+use crate::texts;
+use crate::words::{Asked, Request, Task, read_words};
+use std::alloc::{AllocError, Global};
+use trf16::{Sink, Source};
+
+/// Carries out what the words after the program's name ask for, over the report that the source
+/// gives, and answers with the status of the program's end.
+///
+/// The words are read before the source. If they are refused or ask for help, nothing is read.
+pub fn run<'a, R: Source, O: Sink, E: Sink>(
+    alloc: Global,
+    words: &'a [&'a str],
+    reader: &mut R,
+    out: &mut O,
+    err: &mut E,
+) -> Status
+    ensures { IsRun (map (λ word. word.now) words.now)
+        (reading_of R.left R.failures R.calls reader.old reader.new)
+        (use_of O.held O.failures out.old out.new)
+        (use_of E.held E.failures err.old err.new) result }
+{
+    reply_to(alloc, words, reader).write(out, err)
+}
+
+// What is answered to the words and to what the source gives.
+fn reply_to<'a, R: Source>(alloc: Global, words: &'a [&'a str], reader: &mut R) -> Reply
+    ensures answers { IsAnswer (map (λ word. word.now) words.now)
+        (reading_of R.left R.failures R.calls reader.old reader.new) (answer_of result) }
+    ensures bounded { R.calls reader.new ≤ R.calls reader.old + most_read }
+{
+    match read_words(alloc, words) {
+        Ok(Asked::Command(task)) => reply_to_task(alloc, task, reader),
+        Ok(Asked::Help(text)) => Reply {
+            status: Status::Done,
+            text: Text::Made(text),
+        },
+        Ok(Asked::Mistake(text)) => Reply {
+            status: Status::BadWords,
+            text: Text::Made(text),
+        },
+        Ok(Asked::Refused(fault)) => Reply {
+            status: Status::BadWords,
+            text: Text::Fixed(texts::bad_words(fault)),
+        },
+        Err(AllocError) => out_of_memory(),
+    }
+}
+
+// What is answered to a task, over what the source gives.
+#[tactic(auto, using(crate::proofs::RunLemmas::answered))]
+fn reply_to_task<R: Source>(alloc: Global, task: Task<'_>, reader: &mut R) -> Reply
+    requires rounds { CanBeAnswered task.request }
+    requires worth { task.bye ≤ 2 }
+    ensures replies { IsReplyTo task.entry
+        (reading_of R.left R.failures R.calls reader.old reader.new) (answer_of result) }
+    ensures bounded { R.calls reader.new ≤ R.calls reader.old + most_read }
+{
+    match read_input(alloc, reader) {
+        Ok(input) => match answer(alloc, task, input.as_slice()) {
+            Ok(reply) => reply,
+            Err(AllocError) => out_of_memory(),
+        },
+        Err(InputFault::Read) => read_failed(),
+        Err(InputFault::Memory) => out_of_memory(),
+    }
+}
+
+// The answer of a command to the bytes of its input.
+fn answer(alloc: Global, task: Task<'_>, input: &[u8]) -> Result<Reply, AllocError>
+    requires rounds { CanBeAnswered task.request }
+    requires worth { task.bye ≤ 2 }
+    ensures { IfOk result (λ reply. Answers task.entry input.now (answer_of reply)) }
+{
+    let Task { request, bye } = task;
+    match request {
+        Request::Check => check(alloc, input, bye),
+        Request::Format(options) => format(alloc, options, input, bye),
+        Request::Candidates(options) => candidates(alloc, &options, input, bye),
+        Request::Explain(options) => explain(alloc, options, input, bye),
+        Request::Standings(options) => standings(alloc, &options, input, bye),
+        Request::Pair(options) => pair(alloc, options, input, bye),
+    }
+}
+
+// A call of the source failed.
+fn read_failed() -> Reply
+    ensures { answer_of result ≡ read_fault }
+{
+    Reply {
+        status: Status::Trouble,
+        text: Text::Fixed("device: read failed\n"),
+    }
+}
+
+// Memory was refused.
+fn out_of_memory() -> Reply
+    ensures { answer_of result ≡ out_of_memory }
+{
+    Reply {
+        status: Status::Trouble,
+        text: Text::Fixed("memory: refused\n"),
+    }
+}

@@ -1,0 +1,142 @@
+// The boards and the standings for the wall: with names, in columns.
+ghost use Rattle.std.specs.Prelude.{◌≡◌, ◌≢◌, ◌++◌, ◌∷◌, [], IfOk, OnOk, length, string_bytes};
+ghost use Rattle.command_line.specs.Replies.{answer_of};
+ghost use Rattle.command_line.specs.Statuses.{done};
+ghost use Rattle.command_line.specs.Tables.{left, right};
+ghost use Rattle.command_line.specs.WallTexts.{board_labels, boards_labels, named_boards_text, named_rows_text, opponent_labels, paired_labels, player_labels, row_labels, rows_labels, shown, values_labels};
+
+use crate::reply::{Reply, Status, Text};
+use crate::standings::value_of;
+use crate::table::{Label, Line, table};
+use crate::texts::halves;
+use dutch_pair::boards::Board;
+use std::alloc::{AllocError, Global};
+use tiebreak::{Key, Row};
+use trf16::Report;
+
+/// The boards with names and scores: for each its number, white and black, and the bye last.
+pub fn boards(alloc: Global, report: &Report<'_>, boards: &[Board]) -> Result<Reply, AllocError>
+    ensures { IfOk result (λ reply. answer_of reply ≡ done (named_boards_text report.now boards.now)) }
+{
+    let mut lines = Vec::new(alloc);
+    for (i, board) in boards.iter().enumerate() {
+        lines.push(board_line(alloc, report, i + 1, *board)?)?;
+    }
+    Ok(Reply {
+        status: Status::Done,
+        text: Text::Bytes(table(alloc, lines.as_slice(), report.is_utf8(), 7)?),
+    })
+}
+
+/// The standings with names: for each player his place, name, score and the values of the keys.
+pub fn standings(
+    alloc: Global,
+    report: &Report<'_>,
+    keys: &[Key],
+    rows: &[Row],
+) -> Result<Reply, AllocError>
+    ensures { IfOk result (λ reply. answer_of reply ≡ done (named_rows_text report.now keys.now rows.now)) }
+{
+    let mut lines = Vec::new(alloc);
+    for (i, row) in rows.iter().enumerate() {
+        lines.push(row_line(alloc, report, keys, i + 1, row)?)?;
+    }
+    let count = 4 + keys.len();
+    Ok(Reply {
+        status: Status::Done,
+        text: Text::Bytes(table(alloc, lines.as_slice(), report.is_utf8(), count)?),
+    })
+}
+
+// A board: its number, white, and black or the bye.
+fn board_line(
+    alloc: Global,
+    report: &Report<'_>,
+    number: usize,
+    board: Board,
+) -> Result<Line, AllocError>
+    ensures { IfOk result (λ line. line ≡ board_labels report.now number board) }
+{
+    let (white, black) = board;
+    let mut line = Line::new(alloc);
+    line.push(Label::right(format!(in alloc; "{number}")?))?;
+    push_paired(alloc, &mut line, report, white)?;
+    if black == 0 {
+        line.push(Label::right(String::from_str(alloc, "bye")?))?;
+    } else {
+        push_paired(alloc, &mut line, report, black)?;
+    }
+    Ok(line)
+}
+
+// Puts a player of the next round, with his score so far.
+fn push_paired(
+    alloc: Global,
+    line: &mut Line,
+    report: &Report<'_>,
+    start: u16,
+) -> Result<(), AllocError>
+    ensures { OnOk result (line.new ≡ line.old ++ paired_labels report.now start) }
+{
+    let score = report.points(start, report.rounds_played());
+    push_player(alloc, line, report, start, score)
+}
+
+// Puts a player: his start rank, his name, or a dash where it is blank, and his score.
+fn push_player(
+    alloc: Global,
+    line: &mut Line,
+    report: &Report<'_>,
+    start: u16,
+    score: u16,
+) -> Result<(), AllocError>
+    ensures { OnOk result (line.new ≡ line.old ++ player_labels report.now start score) }
+{
+    let name = shown(report.name(start));
+    line.push(Label::right(format!(in alloc; "{start}")?))?;
+    line.push(Label::left(alloc, name)?)?;
+    line.push(Label::right(halves(alloc, u32::from(score))?))
+}
+
+// A name, or a dash where it is blank.
+fn shown(name: &[u8]) -> &[u8]
+    ensures { result.now ≡ shown name.now }
+{
+    if name.is_empty() { b"-" } else { name }
+}
+
+// A row of the standings: place, player, and the values of the keys.
+fn row_line(
+    alloc: Global,
+    report: &Report<'_>,
+    keys: &[Key],
+    place: usize,
+    row: &Row,
+) -> Result<Line, AllocError>
+    ensures { IfOk result (λ line. line ≡ row_labels report.now keys.now place row.now) }
+{
+    let mut line = Line::new(alloc);
+    line.push(Label::right(format!(in alloc; "{place}")?))?;
+    push_player(alloc, &mut line, report, row.start(), row.score())?;
+    push_values(alloc, &mut line, keys, row.values())?;
+    Ok(line)
+}
+
+// Puts the values of some keys, in their order.
+#[tactic(auto, using(crate::proofs::TableLemmas::labels_end))]
+fn push_values(
+    alloc: Global,
+    line: &mut Line,
+    keys: &[Key],
+    values: &[Option<u32>],
+) -> Result<(), AllocError>
+    ensures { OnOk result (line.new ≡ line.old ++ values_labels keys.now values.now) }
+{
+    for (i, key) in keys.iter().enumerate() {
+        if values.len() <= i {
+            return Ok(());
+        }
+        line.push(Label::right(value_of(alloc, *key, values[i])?))?;
+    }
+    Ok(())
+}

@@ -1,0 +1,40 @@
+// Tests of the public calls of all other crates, called as their callers do, each that takes memory once with enough of it. They stand
+// in a crate of their own, since a crate with tests is proved twice.
+#![tactic(auto)]
+
+#[cfg(test)]
+mod barred;
+#[cfg(test)]
+mod candidates_tests;
+#[cfg(test)]
+mod cursor_tests;
+#[cfg(test)]
+mod device_tests;
+#[cfg(test)]
+mod hostile_tests;
+#[cfg(test)]
+mod lines;
+#[cfg(test)]
+mod order_tests;
+#[cfg(test)]
+mod pairing_tests;
+#[cfg(test)]
+mod player_tests;
+#[cfg(test)]
+mod quality_tests;
+#[cfg(test)]
+mod remembered_tests;
+#[cfg(test)]
+mod report_tests;
+#[cfg(test)]
+mod round_tests;
+#[cfg(test)]
+mod rows;
+#[cfg(test)]
+mod run_tests;
+#[cfg(test)]
+mod standings_tests;
+#[cfg(test)]
+mod steps_tests;
+#[cfg(test)]
+mod writing_tests;

@@ -1,0 +1,171 @@
+// Standings of small tournaments, by hand.
+use crate::lines::{Line, text_of};
+use std::alloc::Global;
+use std::test::Fail;
+use tiebreak::{Key, Standings, TieFault, table};
+
+const KEYS: [Key; 3] = [Key::Direct, Key::Buchholz, Key::SonnebornBerger];
+
+// A row: start rank, score and the values of the keys.
+type Wanted<'a> = (u16, u16, &'a [Option<u32>]);
+
+// The standings of some lines.
+fn table_of(alloc: Global, lines: &[Line<'_>], keys: &[Key]) -> Result<Standings, Fail> {
+    let text = text_of(alloc, lines)?;
+    let report = trf16::read(alloc, text.as_bytes())?;
+    Ok(table(alloc, &report, keys)?)
+}
+
+// Why some lines have no standings.
+fn refusal_of(alloc: Global, lines: &[Line<'_>]) -> Result<Option<TieFault>, Fail> {
+    let text = text_of(alloc, lines)?;
+    let report = trf16::read(alloc, text.as_bytes())?;
+    Ok(table(alloc, &report, &KEYS).err())
+}
+
+// Whether standings are these rows.
+fn has_rows(standings: &Standings, wanted: &[Wanted<'_>]) -> bool {
+    standings.rows().len() == wanted.len()
+        && standings.rows().iter().zip(wanted).all(|(row, (start, score, values))| {
+            row.start() == *start && row.score() == *score && row.values() == *values
+        })
+}
+
+#[test]
+fn two_who_drew_are_told_apart_by_start_rank(rt: HostRuntime) -> Result<(), Fail> {
+    let lines = [
+        ("001    1", "   3 w 1"),
+        ("001    2", "   4 b ="),
+        ("001    3", "   1 b 0"),
+        ("001    4", "   2 w ="),
+    ];
+    let all: [Wanted<'_>; 4] = [
+        (1, 2, &[None, Some(0), Some(0)]),
+        (2, 1, &[Some(1), Some(1), Some(1)]),
+        (4, 1, &[Some(1), Some(1), Some(1)]),
+        (3, 0, &[None, Some(2), Some(0)]),
+    ];
+    assert!(rt; has_rows(&table_of(rt.alloc(), &lines, &KEYS)?, &all));
+    let one: [Wanted<'_>; 4] = [
+        (1, 2, &[Some(0)]),
+        (2, 1, &[Some(1)]),
+        (4, 1, &[Some(1)]),
+        (3, 0, &[Some(0)]),
+    ];
+    assert!(rt;
+        has_rows(
+            &table_of(rt.alloc(), &lines, &[Key::SonnebornBerger])?,
+            &one
+        )
+    );
+    Ok(())
+}
+
+#[test]
+fn rounds_without_a_game_have_a_virtual_opponent(rt: HostRuntime) -> Result<(), Fail> {
+    let lines = [
+        ("001    1", "0000 - H     2 w +"),
+        ("001    2", "   3 w 1     1 b -"),
+        ("001    3", "   2 b 0  0000 - U"),
+    ];
+    let wanted: [Wanted<'_>; 3] = [
+        (1, 3, &[None, Some(3), Some(4)]),
+        (2, 2, &[Some(2), Some(6), Some(4)]),
+        (3, 2, &[Some(0), Some(2), Some(0)]),
+    ];
+    assert!(rt; has_rows(&table_of(rt.alloc(), &lines, &KEYS)?, &wanted));
+    Ok(())
+}
+
+#[test]
+fn rounds_behind_the_last_that_was_paired_do_not_count(rt: HostRuntime) -> Result<(), Fail> {
+    let lines = [
+        ("001    1", "   2 w 1  0000 - H"),
+        ("001    2", "   1 b 0"),
+        ("001    3", ""),
+    ];
+    let keys = [Key::Buchholz, Key::SonnebornBerger];
+    let wanted: [Wanted<'_>; 3] = [
+        (1, 2, &[Some(0), Some(0)]),
+        (2, 0, &[Some(2), Some(0)]),
+        (3, 0, &[Some(2), Some(0)]),
+    ];
+    assert!(rt; has_rows(&table_of(rt.alloc(), &lines, &keys)?, &wanted));
+    Ok(())
+}
+
+#[test]
+fn who_won_against_a_level_player_goes_first(rt: HostRuntime) -> Result<(), Fail> {
+    let lines = [
+        ("001    1", "   2 w 0     3 b 1"),
+        ("001    2", "   1 b 1  0000 - Z"),
+        ("001    3", "0000 - Z     1 w 0"),
+    ];
+    let wanted: [Wanted<'_>; 3] = [(2, 2, &[Some(2)]), (1, 2, &[Some(0)]), (3, 0, &[None])];
+    assert!(rt; has_rows(&table_of(rt.alloc(), &lines, &[Key::Direct])?, &wanted));
+    Ok(())
+}
+
+#[test]
+fn direct_encounter_sees_the_keys_before_it(rt: HostRuntime) -> Result<(), Fail> {
+    let lines = [
+        ("001    1", "   2 w =  0000 - H"),
+        ("001    2", "   1 b =  0000 - H"),
+        ("001    3", "0000 - U  0000 - Z"),
+        ("001    4", "             5 w 0"),
+        ("001    5", "             4 b 0"),
+    ];
+    let keys = [Key::Direct, Key::Buchholz, Key::Direct];
+    let wanted: [Wanted<'_>; 5] = [
+        (3, 2, &[None, Some(5), None]),
+        (1, 2, &[None, Some(4), Some(1)]),
+        (2, 2, &[None, Some(4), Some(1)]),
+        (4, 0, &[Some(0), Some(3), Some(0)]),
+        (5, 0, &[Some(0), Some(3), Some(0)]),
+    ];
+    assert!(rt; has_rows(&table_of(rt.alloc(), &lines, &keys)?, &wanted));
+    Ok(())
+}
+
+#[test]
+fn a_tie_in_every_key_goes_by_start_rank(rt: HostRuntime) -> Result<(), Fail> {
+    let lines = [("001    9", ""), ("001    3", ""), ("001    5", "0000 - Z")];
+    let wanted: [Wanted<'_>; 3] = [
+        (3, 0, &[None, Some(0), Some(0)]),
+        (5, 0, &[None, Some(0), Some(0)]),
+        (9, 0, &[None, Some(0), Some(0)]),
+    ];
+    assert!(rt; has_rows(&table_of(rt.alloc(), &lines, &KEYS)?, &wanted));
+    let without: [Wanted<'_>; 3] = [(3, 0, &[]), (5, 0, &[]), (9, 0, &[])];
+    assert!(rt; has_rows(&table_of(rt.alloc(), &lines, &[])?, &without));
+    Ok(())
+}
+
+#[test]
+fn a_game_without_a_result_is_refused_first(rt: HostRuntime) -> Result<(), Fail> {
+    let lines = [
+        ("XXS 1", ""),
+        ("001    2", "   3 w 1     1 w  "),
+        ("001    1", "             2 b  "),
+        ("001    3", "   2 b 0"),
+    ];
+    let unfinished = TieFault::Unfinished {
+        player: 2,
+        round: 2,
+    };
+    assert_eq!(rt; refusal_of(rt.alloc(), &lines)?, Some(unfinished));
+    Ok(())
+}
+
+#[test]
+fn other_points_for_games_are_refused(rt: HostRuntime) -> Result<(), Fail> {
+    let lines = [
+        ("XXA 1", ""),
+        ("001    2", ""),
+        ("xxs x", ""),
+        ("XXS y", ""),
+    ];
+    let unsupported = TieFault::Unsupported { line: 3 };
+    assert_eq!(rt; refusal_of(rt.alloc(), &lines)?, Some(unsupported));
+    Ok(())
+}
