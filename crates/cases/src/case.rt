@@ -1,4 +1,6 @@
 // A case: what a run is given, and what must come of it.
+ghost use Rattle.std.specs.Prelude.{◌≡◌, ◌<◌, ◌↔◌, IsTrue, IfSome, IsNone, length};
+
 use crate::folder::Folder;
 use command_line::{Status, run};
 use std::alloc::{AllocError, Global};
@@ -70,11 +72,11 @@ impl Case {
                 "another status",
             ),
             told(
-                is_right(&self.output, &ended.output),
+                is_right(self.output.as_deref(), ended.output.as_slice()),
                 "another standard output",
             ),
             told(
-                is_right(&self.complaint, &ended.complaint),
+                is_right(self.complaint.as_deref(), ended.complaint.as_slice()),
                 "another standard error",
             ),
         ]
@@ -87,9 +89,12 @@ fn told(is_right: bool, text: &'static str) -> Option<&'static str> {
 }
 
 // Whether a text is the one that must come, or where none is told, whether there is one.
-fn is_right(wanted: &Option<Vec<u8>>, came: &Vec<u8>) -> bool {
+fn is_right(wanted: Option<&[u8]>, came: &[u8]) -> bool
+    ensures told { IfSome wanted.entry (λ text. IsTrue result ↔ text.now ≡ came.now) }
+    ensures not_told { IsNone wanted.entry → (IsTrue result ↔ 0 < length came.now) }
+{
     match wanted {
-        Some(text) => text.as_slice() == came.as_slice(),
+        Some(text) => text == came,
         None => !came.is_empty(),
     }
 }

@@ -3,6 +3,7 @@ use std::io::ErrorKind;
 use std::{fs, io};
 
 /// A folder below the one that the program runs in.
+#[derive(Drop)]
 pub struct Folder<'a> {
     rt: &'a HostRuntime,
     name: &'a str,

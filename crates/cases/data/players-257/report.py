@@ -1,3 +1,0 @@
-"""Writes the report of this case to standard output."""
-for start in range(1, 258):
-    print(f"001 {start:4d}")
