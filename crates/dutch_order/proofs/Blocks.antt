@@ -57,11 +57,13 @@ module _ (Idle : Arrangement → Type 0) (s1 s2 : List ℕ) (each : (a : Arrange
 
   -- the blocks for S1R are idle
   pub idle-s1r-blocks : (meets : ℕ → ℕ → Bool) (remainder : List ℕ) (own : Option Arrangement) (sets : List (List ℕ)) → AllByRecursion (AllByRecursion Idle) (s1r_blocks meets s1 s2 remainder own sets)
+  unfolding in_s1r
   idle-s1r-blocks meets remainder own sets =
       all-blocks (AllByRecursion Idle) (λ a. a.s1r) (in_s1r meets s1 s2 remainder) (λ own s1r. idle-arranged s1r _) own sets
 
   -- and so is all that is in them
   pub idle-in-s2 : (meets : ℕ → ℕ → Bool) (k : ℕ) (residents : List ℕ) → AllByRecursion Idle (in_s2 meets k s1 residents None s2)
+  unfolding in_s2
   idle-in-s2 meets k residents =
       all-joined Idle _ (idle-s1r-blocks meets (left_of residents s2) None (exchanges (left_of residents s2) k))
 

@@ -65,6 +65,7 @@ impl<'a, R: Rule> ByS2r<'a, R> {
     }
 
     /// Begins anew with an S1, an S2 and an S1R out of the remainder.
+    #[tactic(auto, unfolding(crate::specs::Levels::in_s1r))]
     fn start(
         &mut self,
         s1: &[u16],
@@ -204,6 +205,7 @@ impl<'a, R: Rule> ByS1r<'a, R> {
     }
 
     /// Begins anew with an S1 and an S2 out of the residents, where the remainder makes `k` pairs.
+    #[tactic(auto, unfolding(crate::specs::Levels::in_s2))]
     fn start(
         &mut self,
         k: usize,
@@ -332,6 +334,7 @@ impl<'a, R: Rule> ByS2<'a, R> {
     }
 
     /// Begins anew with an S1, where the remainder makes `k` pairs.
+    #[tactic(auto, unfolding(crate::specs::Levels::in_s1))]
     fn start(
         &mut self,
         k: usize,
@@ -453,6 +456,7 @@ impl<'a, R: Rule> ByS1<'a, R> {
     }
 
     /// Begins anew with a bracket and a shape for which it has room: all arrangements, or those that stand behind a cursor.
+    #[tactic(auto, unfolding(crate::specs::Levels::in_bracket))]
     pub fn start(&mut self, bracket: &Bracket, shape: Shape, own: Option<&'a Cursor>, rule: &'a R)
         requires fits { Fits bracket.now shape }
         requires given { Of (λ cursor. IsIn cursor (arrangements bracket.now shape)) (option_copied own) }

@@ -2,6 +2,7 @@ use Rattle.std.proofs.Common.{◌≡◌, ℕ, Bool, true, List, subst, sym}
 use Rattle.std.specs.List.{AllByRecursion}
 use Rattle.dutch_order.specs.Arrangements.{Arrangement, Frame, candidates}
 use Rattle.dutch_order.specs.Keys.{IsIn}
+use Rattle.dutch_order.specs.Listings.{AreCandidates}
 use Rattle.dutch_order.specs.Steps.{Passes}
 use Rattle.dutch_order.specs.declared.bracket.Shape.{Shape}
 use Rattle.dutch_order.proofs.Skipping.{passes-weaker}
@@ -9,8 +10,9 @@ use Rattle.dutch_order.proofs.candidates.Candidates.put_next_within.Goals as goa
 
 -- of the candidates of a listing, which are those that a bound knows, those that are idle are without interest
 dull-passed : (meets own_meets : ℕ → ℕ → Bool) (may_be_left own_left : ℕ → Bool) (frame own_frame : Frame) (shape own_shape : Shape) → meets ≡ own_meets → may_be_left ≡ own_left → frame ≡ own_frame → shape ≡ own_shape
-    → (IsDull : Arrangement → Type 0) (before after : List Arrangement) → AllByRecursion (λ a. IsIn a (candidates own_meets own_left own_frame own_shape)) before
+    → (IsDull : Arrangement → Type 0) (before after : List Arrangement) → AreCandidates own_meets own_left own_frame own_shape before
     → Passes (λ a. IsIn a (candidates meets may_be_left frame shape) → IsDull a) before after → Passes IsDull before after
+unfolding AreCandidates
 dull-passed meets own_meets may_be_left own_left frame own_frame shape own_shape e0 e1 e2 e3 IsDull before after known passed =
     let all = candidates meets may_be_left frame shape in
     let same : all ≡ candidates own_meets own_left own_frame own_shape = cc in
