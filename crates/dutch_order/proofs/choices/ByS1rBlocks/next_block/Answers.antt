@@ -1,4 +1,4 @@
-use Rattle.std.proofs.Common.{◌≡◌, ◌∷◌, None, sym, ap, subst, ◌∙◌, option_copied}
+use Rattle.std.proofs.Common.{◌≡◌, ◌∷◌, None, sym, ap, subst, refl, ◌∙◌, option_copied}
 use Rattle.std.specs.List.{AllByRecursion}
 use Rattle.dutch_order.specs.Levels.{HasS2r, if_own, in_s1r, s1r_blocks}
 use Rattle.dutch_order.proofs.Blocks.{block-comes, goes-whole, idle-s1r-blocks, taken}
@@ -12,14 +12,14 @@ returns-then-cuts-clause-answer g c =
     passes-all (AllByRecursion Idle) _
     (subst (AllByRecursion (AllByRecursion Idle)) c.self.view_is
     (idle-s1r-blocks Idle own.s1.items own.s2.items
-    (λ a at_s1 at_s2. c.cuts.ensures c.if-cuts.true a (c.deref.ensures.0 ∙ at_s1, goes-whole _ _ (c.deref-2.ensures.0 ∙ at_s2)))
+    (λ a at_s1 at_s2. c.cuts.ensures c.if-cuts.true a.s2 (goes-whole _ _ (c.deref.ensures.0 ∙ at_s2)) a at_s1 refl)
     (g.R.Rule.meets own.rule.now) own.remainder.items (option_copied own.resume) own.sets.coming))
 
 pub start-requires-clause-same : goal.start-requires-clause-same
 start-requires-clause-same g c =
     let own = c.self.inside in
-    taken (λ a. a.s1r) (HasS2r own.remainder.items) (λ a. a.s1r ≡ c.deref-7.result.now) (option_copied own.resume) _ c.deref-3.result.now
-    c.take_by_s1r-own.ensures.own c.self.invariant.1 (λ a has same. same ∙ c.deref-3.ensures.0 ∙ sym c.deref-7.ensures.0)
+    taken (λ a. a.s1r) (HasS2r own.remainder.items) (λ a. a.s1r ≡ c.deref-5.result.now) (option_copied own.resume) _ c.put_next.new.numbers.items
+    c.take_by_s1r-own.ensures.own c.self.invariant.1 (λ a has same. same ∙ sym c.deref-5.ensures.0)
 
 pub returns-clause-answer : goal.returns-clause-answer
 returns-clause-answer g c =
@@ -30,11 +30,11 @@ returns-clause-answer g c =
     let meets = g.R.Rule.meets own.rule.now in
     let made : c.start.new.self ≡ in_s1r meets own.s1.items own.s2.items own.remainder.items (if_own (λ a. a.s1r) at s1r) s1r =
     c.start.ensures
-    ∙ ap (λ s1. in_s1r meets s1 c.deref-5.result.now c.deref-6.result.now (option_copied c.take_by_s1r-own.result) c.deref-7.result.now) c.deref-4.ensures.0
-    ∙ ap (λ s2. in_s1r meets own.s1.items s2 c.deref-6.result.now (option_copied c.take_by_s1r-own.result) c.deref-7.result.now) c.deref-5.ensures.0
-    ∙ ap (λ remainder. in_s1r meets own.s1.items own.s2.items remainder (option_copied c.take_by_s1r-own.result) c.deref-7.result.now) c.deref-6.ensures.0
-    ∙ ap (in_s1r meets own.s1.items own.s2.items own.remainder.items (option_copied c.take_by_s1r-own.result)) c.deref-7.ensures.0
-    ∙ ap (λ taken. in_s1r meets own.s1.items own.s2.items own.remainder.items taken s1r) (c.take_by_s1r-own.ensures.own ∙ ap (if_own (λ a. a.s1r) at) c.deref-3.ensures.0) in
+    ∙ ap (λ s1. in_s1r meets s1 c.deref-3.result.now c.deref-4.result.now (option_copied c.take_by_s1r-own.result) c.deref-5.result.now) c.deref-2.ensures.0
+    ∙ ap (λ s2. in_s1r meets own.s1.items s2 c.deref-4.result.now (option_copied c.take_by_s1r-own.result) c.deref-5.result.now) c.deref-3.ensures.0
+    ∙ ap (λ remainder. in_s1r meets own.s1.items own.s2.items remainder (option_copied c.take_by_s1r-own.result) c.deref-5.result.now) c.deref-4.ensures.0
+    ∙ ap (in_s1r meets own.s1.items own.s2.items own.remainder.items (option_copied c.take_by_s1r-own.result)) c.deref-5.ensures.0
+    ∙ ap (λ taken. in_s1r meets own.s1.items own.s2.items own.remainder.items taken s1r) c.take_by_s1r-own.ensures.own in
     passes-none (AllByRecursion (g.C.Cuts.Idle c.args.cuts.now)) _ _
     (sym c.self.view_is
     ∙ block-comes (λ a. a.s1r) (in_s1r meets own.s1.items own.s2.items own.remainder.items) at s1r own.sets.coming later (drawn _ _ _ c.if-not-branch.false c.in_ok-put_next.ensures.answer)
