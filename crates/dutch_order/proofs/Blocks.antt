@@ -16,6 +16,11 @@ pub block-comes : (part : Arrangement → List ℕ) (block : Option Arrangement 
 block-comes part block None choice coming later comes = ap (map (block None)) comes
 block-comes part block (Some own) choice coming later comes = ap (blocks_from part block (Some own)) comes
 
+-- where no choice is left, no block is
+pub no-blocks : (part : Arrangement → List ℕ) (block : Option Arrangement → List ℕ → List Arrangement) (own : Option Arrangement) → blocks_from part block own [] ≡ []
+no-blocks part block None = refl
+no-blocks part block (Some own) = refl
+
 -- what holds of a cursor holds of it where a choice is its own, and it has that choice
 own-holds : (part : Arrangement → List ℕ) (P : Arrangement → Type 0) (own : Option Arrangement) (choice : List ℕ) → Of P own → Of (λ a. P a × (part a ≡ choice)) (if_own part own choice)
 own-holds part P None choice holds = tt {0}

@@ -3,7 +3,8 @@ use Rattle.std.proofs.Common.{◌≡◌, ℕ, zero, suc, ◌+◌, ◌-◌, ◌<�
 use Rattle.std.proofs.lemmas.Bool.{eq-eqb, ne_eqb, eqb-true, cases_Bool, and_parts, and_from, ltb-true, leb-true, lt-ltb, le-leb}
 use Rattle.dutch_order.specs.Trials.{ahead, hits, trials, lower, lowest}
 use Rattle.dutch_order.specs.Hints.{hinted}
-use Rattle.dutch_order.specs.Stages.{exchange_plan, set_of, stage_sets, stage_left, sets_of_stages, sets_of_sizes, trials_of_stages, trials_of_sizes, stages_of_sizes, least_difference, greatest_difference, most_exchanged, sets_ahead, trials_ahead, stages_ahead, is_next, following}
+use Rattle.dutch_order.specs.Stages.{exchange_plan, set_of, stage_sets, stage_left, sets_of_stages, sets_of_sizes, trials_of_stages, trials_of_sizes, stages_of_sizes, least_difference, greatest_difference, most_exchanged, sets_ahead, trials_ahead, stages_ahead, is_next, following, sets_from, trials_from}
+use Rattle.dutch_order.specs.declared.exchange.Place.{Place}
 
 pub lower-none : (o : Option ℕ) → lower o None ≡ o
 lower-none None = refl
@@ -236,3 +237,11 @@ module _ (pool : List ℕ) (k : ℕ) (hint : List ℕ) (size difference : ℕ) (
 
   pub trials-after : trials_of_stages pool k (greatest_difference pool k size - difference) size (suc difference) (lower beyond (lowest (ahead (hinted hint (exchange_plan pool k size difference)) path place))) ≡ trials_of_stages pool k (greatest_difference pool k size - difference) size (suc difference) (lower beyond' (lowest (ahead (hinted hint (exchange_plan pool k size difference)) path' place')))
   trials-after = ap (trials_of_stages pool k (greatest_difference pool k size - difference) size (suc difference)) next
+
+-- a stage that is entered anew
+module _ (pool : List ℕ) (k : ℕ) (place : Place) (size difference : ℕ) (is_size : place.size ≡ size) (is_difference : place.difference ≡ difference) (no_hint : place.hint.items ≡ []) (no_path : place.walk.path.items ≡ []) (no_number : place.walk.number ≡ 0) (no_beyond : place.walk.beyond ≡ None) where
+  pub sets-entered : sets_from pool k place ≡ sets_ahead pool k [] size difference [] 0 None
+  sets-entered = cc
+
+  pub trials-entered : trials_from pool k place ≡ trials_ahead pool k [] size difference [] 0 None
+  trials-entered = cc

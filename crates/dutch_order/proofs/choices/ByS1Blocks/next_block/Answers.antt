@@ -1,8 +1,8 @@
 use Rattle.std.proofs.Common.{◌≡◌, ◌∷◌, None, sym, ◌∙◌, ap, option_copied}
 use Rattle.std.specs.List.{AllByRecursion}
 use Rattle.dutch_order.specs.Levels.{HasS2, if_own, in_s1, joined, s1_blocks}
-use Rattle.dutch_order.proofs.Skipping.{passes-none, drawn}
-use Rattle.dutch_order.proofs.Blocks.{block-comes, taken}
+use Rattle.dutch_order.proofs.Skipping.{passes-none, drawn, drawn-stopped}
+use Rattle.dutch_order.proofs.Blocks.{block-comes, no-blocks, taken}
 use Rattle.dutch_order.proofs.choices.ByS1Blocks.next_block.Goals as goal
 
 pub start-requires-clause-same : goal.start-requires-clause-same
@@ -28,3 +28,22 @@ returns-clause-answer g c =
     ∙ block-comes (λ a. a.s1) (in_s1 meets own.k own.residents.items) at s1 own.sets.coming later (drawn _ _ _ c.if-not-branch.false c.in_ok-put_next.ensures.answer)
     ∙ ap (λ block. block ∷ s1_blocks meets own.k own.residents.items None later) (sym made)
     ∙ ap (λ resume. joined c.start.new.self ∷ s1_blocks meets own.k own.residents.items (option_copied resume) later) (sym c.take_by_s1-own.ensures.taken))
+
+pub returns-in_err-put_next-clause-answer : goal.returns-in_err-put_next-clause-answer
+returns-in_err-put_next-clause-answer g c =
+    let own = c.self.inside in
+    drawn-stopped _ _ _ _ c.from_residual.ensures.0 (
+      passes-none (AllByRecursion (g.C.Cuts.Idle c.args._cuts.now)) _ _
+          (sym c.self.view_is
+          ∙ ap (s1_blocks (g.R.Rule.meets own.rule.now) own.k own.residents.items (option_copied own.resume)) (sym c.in_err-put_next.ensures.answer.0)),
+      c.in_err-put_next.ensures.answer.1,
+    )
+
+pub returns-then-not-branch-clause-answer : goal.returns-then-not-branch-clause-answer
+returns-then-not-branch-clause-answer g c =
+    let own = c.self.inside in
+    let meets = g.R.Rule.meets own.rule.now in
+    passes-none (AllByRecursion (g.C.Cuts.Idle c.args._cuts.now)) _ _
+    (sym c.self.view_is
+    ∙ ap (s1_blocks meets own.k own.residents.items (option_copied own.resume)) (drawn _ _ _ c.if-not-branch.true c.in_ok-put_next.ensures.answer).0
+    ∙ no-blocks (λ a. a.s1) (in_s1 meets own.k own.residents.items) (option_copied own.resume))

@@ -1,8 +1,8 @@
 use Rattle.std.proofs.Common.{◌≡◌, ◌∷◌, None, sym, ap, subst, refl, ◌∙◌, option_copied}
 use Rattle.std.specs.List.{AllByRecursion}
 use Rattle.dutch_order.specs.Levels.{HasS2r, if_own, in_s1r, s1r_blocks}
-use Rattle.dutch_order.proofs.Blocks.{block-comes, goes-whole, idle-s1r-blocks, taken}
-use Rattle.dutch_order.proofs.Skipping.{passes-all, passes-none, drawn}
+use Rattle.dutch_order.proofs.Blocks.{block-comes, goes-whole, idle-s1r-blocks, no-blocks, taken}
+use Rattle.dutch_order.proofs.Skipping.{passes-all, passes-none, drawn, drawn-stopped}
 use Rattle.dutch_order.proofs.choices.ByS1rBlocks.next_block.Goals as goal
 
 pub returns-then-cuts-clause-answer : goal.returns-then-cuts-clause-answer
@@ -40,3 +40,22 @@ returns-clause-answer g c =
     ∙ block-comes (λ a. a.s1r) (in_s1r meets own.s1.items own.s2.items own.remainder.items) at s1r own.sets.coming later (drawn _ _ _ c.if-not-branch.false c.in_ok-put_next.ensures.answer)
     ∙ ap (λ block. block ∷ s1r_blocks meets own.s1.items own.s2.items own.remainder.items None later) (sym made)
     ∙ ap (λ resume. c.start.new.self ∷ s1r_blocks meets own.s1.items own.s2.items own.remainder.items (option_copied resume) later) (sym c.take_by_s1r-own.ensures.taken))
+
+pub returns-in_err-put_next-clause-answer : goal.returns-in_err-put_next-clause-answer
+returns-in_err-put_next-clause-answer g c =
+    let own = c.self.inside in
+    drawn-stopped _ _ _ _ c.from_residual.ensures.0 (
+      passes-none (AllByRecursion (g.C.Cuts.Idle c.args.cuts.now)) _ _
+          (sym c.self.view_is
+          ∙ ap (s1r_blocks (g.R.Rule.meets own.rule.now) own.s1.items own.s2.items own.remainder.items (option_copied own.resume)) (sym c.in_err-put_next.ensures.answer.0)),
+      c.in_err-put_next.ensures.answer.1,
+    )
+
+pub returns-then-not-branch-clause-answer : goal.returns-then-not-branch-clause-answer
+returns-then-not-branch-clause-answer g c =
+    let own = c.self.inside in
+    let meets = g.R.Rule.meets own.rule.now in
+    passes-none (AllByRecursion (g.C.Cuts.Idle c.args.cuts.now)) _ _
+    (sym c.self.view_is
+    ∙ ap (s1r_blocks meets own.s1.items own.s2.items own.remainder.items (option_copied own.resume)) (drawn _ _ _ c.if-not-branch.true c.in_ok-put_next.ensures.answer).0
+    ∙ no-blocks (λ a. a.s1r) (in_s1r meets own.s1.items own.s2.items own.remainder.items) (option_copied own.resume))
