@@ -22,10 +22,10 @@ dull-passed meets own_meets may_be_left own_left frame own_frame shape own_shape
 pub returns-in-Found : goal.returns-in-Found
 returns-in-Found g c = record {
   answer = (
-  dull-passed _ _ _ _ _ _ _ _ c.requires.meets c.requires.may_be_left c.requires.frame c.requires.shape (λ a. g.B.Bound.is_dull c.args.bound.now a ≡ true) _ _ c.go_on.ensures.candidates c.in-Found.ensures.answer.0,
-  c.in-Found.ensures.answer.1,
-  c.in-Found.ensures.answer.2,
-);
+    dull-passed _ _ _ _ _ _ _ _ c.requires.meets c.requires.may_be_left c.requires.frame c.requires.shape (λ a. g.B.Bound.is_dull c.args.bound.now a ≡ true) _ _ c.go_on.ensures.candidates c.in-Found.ensures.answer.0,
+    c.in-Found.ensures.answer.1,
+    c.in-Found.ensures.answer.2,
+  );
   hopeless = c.in-Found.ensures.hopeless;
   ended = c.in-Found.ensures.ended;
   after_end = c.in-Found.ensures.after_end;
@@ -38,10 +38,10 @@ returns-in-Found g c = record {
 pub returns-in-End : goal.returns-in-End
 returns-in-End g c = record {
   answer = (
-  dull-passed _ _ _ _ _ _ _ _ c.requires.meets c.requires.may_be_left c.requires.frame c.requires.shape (λ a. g.B.Bound.is_dull c.args.bound.now a ≡ true) _ _ c.go_on.ensures.candidates c.in-End.ensures.answer.0,
-  c.in-End.ensures.answer.1,
-  c.in-End.ensures.answer.2,
-);
+    dull-passed _ _ _ _ _ _ _ _ c.requires.meets c.requires.may_be_left c.requires.frame c.requires.shape (λ a. g.B.Bound.is_dull c.args.bound.now a ≡ true) _ _ c.go_on.ensures.candidates c.in-End.ensures.answer.0,
+    c.in-End.ensures.answer.1,
+    c.in-End.ensures.answer.2,
+  );
   hopeless = c.in-End.ensures.hopeless;
   ended = c.in-End.ensures.ended;
   after_end = c.in-End.ensures.after_end;
@@ -54,10 +54,10 @@ returns-in-End g c = record {
 pub returns-in-Undecided : goal.returns-in-Undecided
 returns-in-Undecided g c = record {
   answer = (
-  dull-passed _ _ _ _ _ _ _ _ c.requires.meets c.requires.may_be_left c.requires.frame c.requires.shape (λ a. g.B.Bound.is_dull c.args.bound.now a ≡ true) _ _ c.go_on.ensures.candidates c.in-Undecided.ensures.answer.0,
-  c.in-Undecided.ensures.answer.1,
-  c.in-Undecided.ensures.answer.2,
-);
+    dull-passed _ _ _ _ _ _ _ _ c.requires.meets c.requires.may_be_left c.requires.frame c.requires.shape (λ a. g.B.Bound.is_dull c.args.bound.now a ≡ true) _ _ c.go_on.ensures.candidates c.in-Undecided.ensures.answer.0,
+    c.in-Undecided.ensures.answer.1,
+    c.in-Undecided.ensures.answer.2,
+  );
   hopeless = c.in-Undecided.ensures.hopeless;
   ended = c.in-Undecided.ensures.ended;
   after_end = c.in-Undecided.ensures.after_end;
