@@ -1,6 +1,6 @@
 -- What stands behind a cursor: each level that begins at the cursor's list goes on with what stands behind it.
 use Rattle.std.proofs.Common.{◌≡◌, ℕ, Bool, true, false, ◌&&◌, cond, if◌then◌else◌, List, [], ◌∷◌, ◌++◌, map, length, Option, Some, None, refl, sym, ◌∙◌, ap, subst, inl, inr}
-use Rattle.std.specs.List.{AllByRecursion, filter, flat_map}
+use Rattle.std.specs.List.{filter, flat_map}
 use Rattle.std.proofs.lemmas.List.Elements.{filter-append}
 use Rattle.std.proofs.lemmas.Bool.{cases_Bool, true≢false, and_from, and_left}
 use Rattle.dutch_order.specs.declared.bracket.Shape.{Shape}
@@ -10,9 +10,10 @@ use Rattle.dutch_order.specs.Transposition.{tuple_key}
 use Rattle.dutch_order.specs.Exchange.{exchanges, exchange_key}
 use Rattle.dutch_order.specs.Limbo.{limbo_exchanges, limbo_key}
 use Rattle.dutch_order.specs.Arrangements.{Frame, Arrangement, residents_of, moved_down_scores, left_of, remainder_pairs, with_s2r, with_s1r, with_s2, arrangements, is_same_arrangement, behind, rest, is_legal, candidates}
-use Rattle.dutch_order.specs.Listings.{candidates_from}
+use Rattle.dutch_order.specs.Listings.{AreCandidates, candidates_from}
 use Rattle.dutch_order.specs.Levels.{joined, arranged, without_own, blocks_from, in_s1r, s1r_blocks, in_s2, s2_blocks, in_s1, s1_blocks, in_bracket, pairs_meet, may_leave, HasS2, Of}
-use Rattle.dutch_order.proofs.Skipping.{all-members}
+use Rattle.dutch_order.specs.Steps.{Passes}
+use Rattle.dutch_order.proofs.Skipping.{all-members, passes-keeps}
 use Rattle.dutch_order.proofs.FromOn.{is_same-refl, is_same-true, elsewhere}
 use Rattle.dutch_order.proofs.Lists.{filter-flat_map, flat_map-filter, flat_map-same, filter-same}
 use Rattle.dutch_order.proofs.Sets.{sorted-in}
@@ -228,6 +229,7 @@ module _ (frame : Frame) (shape : Shape) where
         ∙ ap (λ b. b && is_same x a.s2r) (is_same-refl a.s1r)
 
     s2r-behind : all_meet meets a.s1 a.s2 ≡ true → in_s1r meets a.s1 a.s2 (left_of (residents_of frame) a.s2) (Some a) a.s1r ≡ filter (pairs_meet meets) (behind a (with_s2r frame shape a.s1 a.s2 a.s1r))
+    unfolding in_s1r
     s2r-behind met =
         let pool = left_of (left_of (residents_of frame) a.s2) a.s1r in
         let arr : List ℕ → Arrangement = arranged a.s1 a.s2 a.s1r in
@@ -249,6 +251,7 @@ module _ (frame : Frame) (shape : Shape) where
         (ap (λ s. is_same s a.s1r) (chosen-s1r a.s1 a.s2 x b m) ∙ other)
 
     s1r-behind : all_meet meets a.s1 a.s2 ≡ true → in_s2 meets (remainder_pairs shape) a.s1 (residents_of frame) (Some a) a.s2 ≡ filter (pairs_meet meets) (behind a (with_s1r frame shape a.s1 a.s2))
+    unfolding in_s2
     s1r-behind met =
         let rem = left_of (residents_of frame) a.s2 in
         let sets = exchanges rem (remainder_pairs shape) in
@@ -298,6 +301,7 @@ module _ (frame : Frame) (shape : Shape) where
         ]
 
     s2-behind : in_s1 meets (remainder_pairs shape) (residents_of frame) (Some a) a.s1 ≡ filter (pairs_meet meets) (behind a (with_s2 frame shape a.s1))
+    unfolding in_s1
     s2-behind =
         let lists : List (List ℕ) = sorted tuple_key (tuples (residents_of frame) shape.mdps) in
         let block = with_s1r frame shape a.s1 in
@@ -317,6 +321,7 @@ module _ (frame : Frame) (shape : Shape) where
         (ap (λ s. is_same s a.s1) (chosen-s1 x b m) ∙ other)
 
     s1-behind : in_bracket meets frame shape (Some a) ≡ filter (pairs_meet meets) (behind a (arrangements frame shape))
+    unfolding in_bracket
     s1-behind =
         let sets = limbo_exchanges (moved_down_scores frame) shape.mdps in
         let block = with_s2 frame shape in
@@ -393,11 +398,28 @@ none-from frame shape meets may_be_left None none = none
 none-from frame shape meets may_be_left (Some a) none = none-behind meets may_be_left frame shape a none
 
 -- they are candidates
-pub candidates-all : (frame : Frame) (shape : Shape) (meets : ℕ → ℕ → Bool) (may_be_left : ℕ → Bool) (own : Option Arrangement) → AllByRecursion (λ a. IsIn a (candidates meets may_be_left frame shape)) (candidates_from meets may_be_left frame shape own)
+pub candidates-all : (frame : Frame) (shape : Shape) (meets : ℕ → ℕ → Bool) (may_be_left : ℕ → Bool) (own : Option Arrangement) → AreCandidates meets may_be_left frame shape (candidates_from meets may_be_left frame shape own)
+unfolding AreCandidates
 candidates-all frame shape meets may_be_left None =
     all-members (λ a. IsIn a (candidates meets may_be_left frame shape)) (candidates meets may_be_left frame shape) (λ a m. m)
 candidates-all frame shape meets may_be_left (Some own) =
     all-members (λ a. IsIn a (candidates meets may_be_left frame shape)) (rest meets may_be_left frame shape own) (λ a m. rest-in meets may_be_left frame shape own a m)
+
+pub no-candidates : (meets : ℕ → ℕ → Bool) (may_be_left : ℕ → Bool) (frame : Frame) (shape : Shape) → AreCandidates meets may_be_left frame shape []
+unfolding AreCandidates
+no-candidates meets may_be_left frame shape = tt {0}
+
+-- of candidates, those that are left once some are skipped are candidates
+pub still-candidates : (meets : ℕ → ℕ → Bool) (may_be_left : ℕ → Bool) (frame : Frame) (shape : Shape) (Idle : Arrangement → Type 0) (before after : List Arrangement) → Passes Idle before after → AreCandidates meets may_be_left frame shape before → AreCandidates meets may_be_left frame shape after
+unfolding AreCandidates
+still-candidates meets may_be_left frame shape Idle before after passes all =
+    passes-keeps Idle (λ a. IsIn a (candidates meets may_be_left frame shape)) before after passes all
+
+-- and so are those behind the first of these
+pub later-candidates : (meets : ℕ → ℕ → Bool) (may_be_left : ℕ → Bool) (frame : Frame) (shape : Shape) (Idle : Arrangement → Type 0) (before after : List Arrangement) (first : Arrangement) → Passes Idle before (first ∷ after) → AreCandidates meets may_be_left frame shape before → AreCandidates meets may_be_left frame shape after
+unfolding AreCandidates
+later-candidates meets may_be_left frame shape Idle before after first passes all =
+    (passes-keeps Idle (λ a. IsIn a (candidates meets may_be_left frame shape)) before (first ∷ after) passes all).1
 
 -- a cursor's lists are choices of the levels
 pub cursor-s1 : (frame : Frame) (shape : Shape) (meets : ℕ → ℕ → Bool) (a : Arrangement) → IsIn a (arrangements frame shape) → IsIn a.s1 (subsets (numbers_from 1 (length (moved_down_scores frame))) shape.mdps)

@@ -1,5 +1,5 @@
 -- One turn of a level that goes through its blocks: the choice that comes is the cursor's own, or any other.
-use Rattle.std.proofs.Common.{◌≡◌, ℕ, Bool, false, if◌then◌else◌, List, [], ◌∷◌, refl, map, sym, subst, inl, inr, append-nil, is_some, option_copied, Bor, Option, Some, None, ap, ◌∙◌}
+use Rattle.std.proofs.Common.{◌≡◌, ℕ, Bool, true, if◌then◌else◌, List, [], ◌∷◌, refl, map, sym, subst, inl, inr, append-nil, is_some, option_copied, Bor, Option, Some, None, ap, ◌∙◌}
 use Rattle.std.specs.List.{AllByRecursion}
 use Rattle.dutch_order.specs.Arrangements.{Arrangement, left_of}
 use Rattle.dutch_order.specs.Choices.{is_same}
@@ -7,14 +7,19 @@ use Rattle.dutch_order.specs.Levels.{Of, arranged, blocks_from, if_own, in_s1r, 
 use Rattle.dutch_order.specs.Exchange.{exchanges}
 use Rattle.dutch_order.specs.Prefixes.{GoesOn}
 use Rattle.dutch_order.specs.Steps.{Passes}
-use Rattle.std.proofs.lemmas.Bool.{cases_Bool, true≢false}
+use Rattle.std.proofs.lemmas.Bool.{cases_Bool}
 use Rattle.dutch_order.proofs.FromOn.{is_same-true}
-use Rattle.dutch_order.proofs.Skipping.{all-joined, passes-map}
+use Rattle.dutch_order.proofs.Skipping.{all-joined, passes-map, passes-none}
 
 -- the next choice is taken: its block stands before whole ones
 pub block-comes : (part : Arrangement → List ℕ) (block : Option Arrangement → List ℕ → List Arrangement) (own : Option Arrangement) (choice : List ℕ) (coming later : List (List ℕ)) → coming ≡ choice ∷ later → blocks_from part block own coming ≡ block (if_own part own choice) choice ∷ map (block None) later
 block-comes part block None choice coming later comes = ap (map (block None)) comes
 block-comes part block (Some own) choice coming later comes = ap (blocks_from part block (Some own)) comes
+
+-- where no choice is left, no block is
+pub no-blocks : (part : Arrangement → List ℕ) (block : Option Arrangement → List ℕ → List Arrangement) (own : Option Arrangement) → blocks_from part block own [] ≡ []
+no-blocks part block None = refl
+no-blocks part block (Some own) = refl
 
 -- what holds of a cursor holds of it where a choice is its own, and it has that choice
 own-holds : (part : Arrangement → List ℕ) (P : Arrangement → Type 0) (own : Option Arrangement) (choice : List ℕ) → Of P own → Of (λ a. P a × (part a ≡ choice)) (if_own part own choice)
@@ -34,11 +39,6 @@ pub taken : (part : Arrangement → List ℕ) (P Q : Arrangement → Type 0) (ow
 taken part P Q own result choice is holds from =
     subst (Of Q) (sym is) (of-both (λ a. P a × (part a ≡ choice)) Q (if_own part own choice) (λ a both. from a both.0 both.1) (own-holds part P own choice holds))
 
--- where there is none, none is lent
-pub none-lent : {T : Type 0} (own : Option (Bor T)) → is_some own ≡ false → option_copied own ≡ None
-none-lent None is = refl
-none-lent (Some own) is = absurd (true≢false is)
-
 -- what holds of each that a map makes
 all-made : {S T : Type 0} (P : T → Type 0) (f : S → T) (xs : List S) → ((x : S) → P (f x)) → AllByRecursion P (map f xs)
 all-made P f [] each = tt {0}
@@ -57,11 +57,13 @@ module _ (Idle : Arrangement → Type 0) (s1 s2 : List ℕ) (each : (a : Arrange
 
   -- the blocks for S1R are idle
   pub idle-s1r-blocks : (meets : ℕ → ℕ → Bool) (remainder : List ℕ) (own : Option Arrangement) (sets : List (List ℕ)) → AllByRecursion (AllByRecursion Idle) (s1r_blocks meets s1 s2 remainder own sets)
+  unfolding in_s1r
   idle-s1r-blocks meets remainder own sets =
       all-blocks (AllByRecursion Idle) (λ a. a.s1r) (in_s1r meets s1 s2 remainder) (λ own s1r. idle-arranged s1r _) own sets
 
   -- and so is all that is in them
   pub idle-in-s2 : (meets : ℕ → ℕ → Bool) (k : ℕ) (residents : List ℕ) → AllByRecursion Idle (in_s2 meets k s1 residents None s2)
+  unfolding in_s2
   idle-in-s2 meets k residents =
       all-joined Idle _ (idle-s1r-blocks meets (left_of residents s2) None (exchanges (left_of residents s2) k))
 
@@ -96,3 +98,26 @@ passes-s2 Idle meets k s1 chosen residents own at_s1 none xs ys passes =
     (passes-map (λ s2. (a : Arrangement) → chosen ≡ a.s1 → s2 ≡ a.s2 → Idle a) (AllByRecursion Idle) (in_s2 meets k s1 residents None) xs ys
     (λ s2 each. idle-in-s2 Idle s1 s2 (λ a first second. each a (at_s1 ∙ first) second) meets k residents)
     passes)
+
+-- whether there is one, lent or copied
+pub some-lent : {T : Type 0} (own : Option (Bor T)) → is_some (option_copied own) ≡ is_some own
+some-lent None = refl
+some-lent (Some own) = refl
+
+-- the next S2 comes: where a cursor is left, the very next one
+pub comes-s2 : (Idle : Arrangement → Type 0) (meets : ℕ → ℕ → Bool) (k : ℕ) (s1 residents : List ℕ) (own : Option Arrangement) (xs ys : List (List ℕ)) (s2 : List ℕ) → Passes (λ s2. (a : Arrangement) → s1 ≡ a.s1 → s2 ≡ a.s2 → Idle a) xs (s2 ∷ ys) → (is_some own ≡ true → xs ≡ s2 ∷ ys) → Passes (AllByRecursion Idle) (s2_blocks meets k s1 residents own xs) (in_s2 meets k s1 residents (if_own (λ a. a.s2) own s2) s2 ∷ s2_blocks meets k s1 residents None ys)
+comes-s2 Idle meets k s1 residents None xs ys s2 passes very = passes-s2 Idle meets k s1 s1 residents None refl refl xs (s2 ∷ ys) passes
+comes-s2 Idle meets k s1 residents (Some own) xs ys s2 passes very =
+    passes-none (AllByRecursion Idle) _ _ (block-comes (λ a. a.s2) (in_s2 meets k s1 residents) (Some own) s2 xs ys (very refl))
+
+-- none comes any more
+pub ends-s2 : (Idle : Arrangement → Type 0) (meets : ℕ → ℕ → Bool) (k : ℕ) (s1 residents : List ℕ) (own : Option Arrangement) (xs : List (List ℕ)) → Passes (λ s2. (a : Arrangement) → s1 ≡ a.s1 → s2 ≡ a.s2 → Idle a) xs [] → (is_some own ≡ true → xs ≡ []) → Passes (AllByRecursion Idle) (s2_blocks meets k s1 residents own xs) []
+ends-s2 Idle meets k s1 residents None xs passes very = passes-s2 Idle meets k s1 s1 residents None refl refl xs [] passes
+ends-s2 Idle meets k s1 residents (Some own) xs passes very =
+    passes-none (AllByRecursion Idle) _ _ (ap (s2_blocks meets k s1 residents (Some own)) (very refl))
+
+-- the search for one is stopped
+pub stops-s2 : (Idle : Arrangement → Type 0) (meets : ℕ → ℕ → Bool) (k : ℕ) (s1 residents : List ℕ) (own : Option Arrangement) (xs ys : List (List ℕ)) → Passes (λ s2. (a : Arrangement) → s1 ≡ a.s1 → s2 ≡ a.s2 → Idle a) xs ys → (is_some own ≡ true → ys ≡ xs) → Passes (AllByRecursion Idle) (s2_blocks meets k s1 residents own xs) (s2_blocks meets k s1 residents own ys)
+stops-s2 Idle meets k s1 residents None xs ys passes very = passes-s2 Idle meets k s1 s1 residents None refl refl xs ys passes
+stops-s2 Idle meets k s1 residents (Some own) xs ys passes very =
+    passes-none (AllByRecursion Idle) _ _ (ap (s2_blocks meets k s1 residents (Some own)) (sym (very refl)))

@@ -13,6 +13,7 @@ cond-below false x y bound p q = q
 
 -- where both counts are one, it bounds each number
 pub half_stop-one : (half count : ℕ) (path : List ℕ) → half_stop half count count path ≤ count
+unfolding half_stop
 half_stop-one half count path =
     cond-below (nat_lt (length path) half) (count - (half - 1 - length path)) (count - (half + half - 1 - length path)) count (omega arith) (omega arith)
 
@@ -104,6 +105,7 @@ get_or-last (y ∷ begun) x = get_or-last begun x
 
 -- after a number that does not end a half, the next one is tried
 pub start-on : (half : ℕ) (begun : List ℕ) (x : ℕ) → (suc (length begun) ≡ half → ⊥) → half_start half (begun ++ x ∷ []) ≡ suc x
+unfolding half_start
 start-on half begun x apart =
     let long : length (begun ++ x ∷ []) ≡ suc (length begun) = omega (arith, length-append begun (x ∷ [])) in
     ap (λ n. if (n == 0) || (n == half) then 0 else (get_or (begun ++ x ∷ []) (n - 1) 0 + 1)) long
@@ -115,14 +117,17 @@ start-on half begun x apart =
 
 -- the second half starts at 0
 pub start-second : (half : ℕ) (front : List ℕ) → length front ≡ half → half_start half front ≡ 0
+unfolding half_start
 start-second half front same =
     ap (λ b. if b then 0 else (get_or front (length front - 1) 0 + 1)) (or_right (length front == 0) (length front == half) (eq-eqb (length front) half same))
 
 pub stop-first : (half first_count second_count : ℕ) (path : List ℕ) → length path < half → half_stop half first_count second_count path ≡ first_count - (half - 1 - length path)
+unfolding half_stop
 stop-first half first_count second_count path h =
     ap (λ b. if b then (first_count - (half - 1 - length path)) else (second_count - (half + half - 1 - length path))) (lt-ltb (length path) half h)
 
 pub stop-second : (half first_count second_count : ℕ) (path : List ℕ) → half ≤ length path → half_stop half first_count second_count path ≡ second_count - (half + half - 1 - length path)
+unfolding half_stop
 stop-second half first_count second_count path h =
     ap (λ b. if b then (first_count - (half - 1 - length path)) else (second_count - (half + half - 1 - length path))) (le-ltb (length path) half h)
 
@@ -137,6 +142,7 @@ pub record Halved (fits : List ℕ → ℕ → Bool) (half first_count second_co
 
 module _ (half first_count second_count : ℕ) (fits : List ℕ → ℕ → Bool) (beyond : List ℕ → ℕ → Option ℕ) where
   pub halves-split : (path : List ℕ) → Admitted (two_halves half first_count second_count fits beyond) (half + half) [] path → (front : List ℕ) × (back : List ℕ) × (path ≡ front ++ back) × Halved fits half first_count second_count front back
+  unfolding half_start
   halves-split path admitted =
       let plan : Plan = two_halves half first_count second_count fits beyond in
       let parts = Admitted-split plan half half (half + half) [] path refl admitted in
@@ -156,6 +162,7 @@ module _ (half first_count second_count : ℕ) (fits : List ℕ → ℕ → Bool
       )
 
   pub halves-join : (front back : List ℕ) → Halved fits half first_count second_count front back → Admitted (two_halves half first_count second_count fits beyond) (half + half) [] (front ++ back)
+  unfolding half_start
   halves-join front back halved =
       let plan : Plan = two_halves half first_count second_count fits beyond in
       Admitted-join plan half half (half + half) [] front back refl

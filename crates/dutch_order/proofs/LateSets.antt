@@ -271,7 +271,7 @@ module _ (pool : List ℕ) (k : ℕ) (rises : IsStrictlyIncreasing pool) (enough
 
     -- a search that begins at a set finds those from it on
     pub exchanges-from : sets_ahead pool k hint size difference [] (first_hint hint) (Some (suc difference)) ≡ from_on set (exchanges pool k)
-    unfolding second_sets third_sets
+    unfolding second_sets third_sets sets_ahead
     exchanges-from =
         let ascend : Ascends key (exchanges pool k) = subst (Ascends key) (sizes-sorted pool k rises enough small) (sizes-ascend pool k rises enough small (suc (most_exchanged pool k)) 0) in
         ap (λ sets. sets ++ (sets_of_stages pool k (greatest_difference pool k size - difference) size (suc difference) (lower (Some (suc difference)) (lowest (ahead (hinted hint stage) [] (first_hint hint)))) ++ third_sets)) stage-from

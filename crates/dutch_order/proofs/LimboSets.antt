@@ -139,6 +139,7 @@ module _ (scores : List ℕ) (k : ℕ) (falls : IsNonAscending scores) where
 
   -- what is asked of a place of the second half
   mirrors-at : (before later set : List ℕ) (c place : ℕ) → length (before ++ c ∷ later) ≡ k → length set ≡ length before → mirrors scores k ((before ++ c ∷ later) ++ set) place ≡ ((sc place == sc c) && (sc (place + front_with scores (sc c) later) == sc c))
+  unfolding mirrors
   mirrors-at before later set c place whole same =
       let path : List ℕ = (before ++ c ∷ later) ++ set in
       let j : length path - k ≡ length before = omega (arith, length-append (before ++ c ∷ later) set) in
@@ -215,6 +216,7 @@ module _ (scores : List ℕ) (k : ℕ) (falls : IsNonAscending scores) where
       ]
 
   leads-from : (begun : List ℕ) (s a : ℕ) → half_start k begun ≡ s → s ≤ a → (s ≤ leader scores a s (a - s)) × (leader scores a s (a - s) ≤ a) × (sc (leader scores a s (a - s)) ≡ sc a) × (leads scores k begun (leader scores a s (a - s)) ≡ true)
+  unfolding leads
   leads-from begun s a start h =
       let c : ℕ = leader scores a s (a - s) in
       let is = leader-is (a - s) s a (omega arith) in (
@@ -251,6 +253,7 @@ module _ (scores : List ℕ) (k : ℕ) (falls : IsNonAscending scores) where
 
     -- a place that leads later has a lower score
     leads-lower : (begun : List ℕ) (s x y : ℕ) → half_start k begun ≡ s → s ≤ x → x < y → leads scores k begun y ≡ true → weight x < weight y
+    unfolding leads
     leads-lower begun s x y start low below leading =
         elim (or_cases ((y == half_start k begun) || (y == 0)) (not (sc (y - 1) == sc y)) leading) [
           | inl early ↦ elim (or_cases (y == half_start k begun) (y == 0) early) [
@@ -290,6 +293,7 @@ module _ (scores : List ℕ) (k : ℕ) (falls : IsNonAscending scores) where
     plan = limbo_plan scores k
 
     limbo-order : (p q : List ℕ) → IsIn p (found plan (k + k) []) → IsIn q (found plan (k + k) []) → is_before p q ≡ true → is_before (limbo_key scores (second_numbers k p)) (limbo_key scores (second_numbers k q)) ≡ true
+    unfolding half_start
     limbo-order p q m n h =
         let found_p = found-admitted plan (k + k) [] p m in
         let found_q = found-admitted plan (k + k) [] q n in
@@ -356,6 +360,7 @@ module _ (scores : List ℕ) (k : ℕ) (falls : IsNonAscending scores) where
 
     -- and a path that finds it
     path-found : (set : List ℕ) → IsIn set (subsets (numbers_from 1 (length scores)) k) → Admitted plan (k + k) [] (limbo_path scores set) × (second_numbers k (limbo_path scores set) ≡ set)
+    unfolding half_start
     path-found set m =
         let A : List ℕ = places_of set in
         let C : List ℕ = leaders scores 0 A in
@@ -382,6 +387,7 @@ module _ (scores : List ℕ) (k : ℕ) (falls : IsNonAscending scores) where
     sets_ascend = subsets-ascend 1 (length scores) k
 
     starts_at_none : (open_places : ℕ) → entry plan open_places [] ≡ 0
+    unfolding half_start
     starts_at_none zero = refl
     starts_at_none (suc open_places) = refl
 

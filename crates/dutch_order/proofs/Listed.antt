@@ -40,6 +40,7 @@ and-assoc false b c = refl
 module _ (meets : ℕ → ℕ → Bool) (frame : Frame) (shape : Shape) where
   -- with S1, S2 and S1R chosen
   pub s2r-listed : (s1 s2 s1r : List ℕ) → all_meet meets s1 s2 ≡ true → length s1r ≡ remainder_pairs shape → in_s1r meets s1 s2 (left_of (residents_of frame) s2) None s1r ≡ filter (pairs_meet meets) (with_s2r frame shape s1 s2 s1r)
+  unfolding in_s1r
   s2r-listed s1 s2 s1r met same =
       let pool = left_of (left_of (residents_of frame) s2) s1r in
       ap (λ k. map (arranged s1 s2 s1r) (filter (all_meet meets s1r) (sorted tuple_key (tuples pool k)))) same
@@ -63,6 +64,7 @@ module _ (meets : ℕ → ℕ → Bool) (frame : Frame) (shape : Shape) where
 
   -- with S1 and S2 chosen
   pub s1r-listed : (s1 s2 : List ℕ) → all_meet meets s1 s2 ≡ true → in_s2 meets (remainder_pairs shape) s1 (residents_of frame) None s2 ≡ filter (pairs_meet meets) (with_s1r frame shape s1 s2)
+  unfolding in_s2
   s1r-listed s1 s2 met =
       let pool = left_of (residents_of frame) s2 in
       let sets = exchanges pool (remainder_pairs shape) in
@@ -87,6 +89,7 @@ module _ (meets : ℕ → ℕ → Bool) (frame : Frame) (shape : Shape) where
 
   -- with S1 chosen
   pub s2-listed : (s1 : List ℕ) → length s1 ≡ shape.mdps → in_s1 meets (remainder_pairs shape) (residents_of frame) None s1 ≡ filter (pairs_meet meets) (with_s2 frame shape s1)
+  unfolding in_s1
   s2-listed s1 same =
       let block : List ℕ → List Arrangement = in_s2 meets (remainder_pairs shape) s1 (residents_of frame) None in
       let lists : List (List ℕ) = sorted tuple_key (tuples (residents_of frame) shape.mdps) in
@@ -103,6 +106,7 @@ module _ (meets : ℕ → ℕ → Bool) (frame : Frame) (shape : Shape) where
 
   -- all of them
   pub s1-listed : in_bracket meets frame shape None ≡ filter (pairs_meet meets) (arrangements frame shape)
+  unfolding in_bracket
   s1-listed =
       let block : List ℕ → List Arrangement = in_s1 meets (remainder_pairs shape) (residents_of frame) None in
       let sets = limbo_exchanges (moved_down_scores frame) shape.mdps in
@@ -112,6 +116,7 @@ module _ (meets : ℕ → ℕ → Bool) (frame : Frame) (shape : Shape) where
 
   -- who may meet and who may be left make what is legal
   pub legal-parts : (may_be_left : ℕ → Bool) (xs : List Arrangement) → filter (may_leave may_be_left frame) (filter (pairs_meet meets) xs) ≡ filter (is_legal meets may_be_left frame) xs
+  unfolding may_leave
   legal-parts may_be_left xs =
       filter-filter (may_leave may_be_left frame) (pairs_meet meets) xs
       ∙ filter-same (λ a. pairs_meet meets a && may_leave may_be_left frame a) (is_legal meets may_be_left frame) xs

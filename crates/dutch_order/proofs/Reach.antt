@@ -85,12 +85,14 @@ module _ (pool : List ℕ) (k : ℕ) (rises : IsStrictlyIncreasing pool) (enough
     fits = within_reach pool k size difference
 
     reached : (least greatest : ℕ) (path : List ℕ) (place : ℕ) → least_at pool k size path place ≡ least → greatest_at pool k size path place ≡ greatest → least ≤ difference → difference ≤ greatest → fits path place ≡ true
+    unfolding within_reach
     reached least greatest path place is_least is_greatest low high =
         and_from (nat_le (least_at pool k size path place) difference) (nat_le difference (greatest_at pool k size path place))
         (ap (λ n. nat_le n difference) is_least ∙ le-leb least difference low) (ap (λ n. nat_le difference n) is_greatest ∙ le-leb difference greatest high)
 
     -- the places moved out fit, where the difference is that of the whole
     pub outs-fit : (begun outs ins : List ℕ) (low : ℕ) → length begun + length outs ≡ size → length ins ≡ size → Climbs low k outs → Climbs 0 (length pool - k) ins → difference ≡ total inn ins - total out (begun ++ outs) → AllFit fits begun outs
+    unfolding least_at greatest_at
     outs-fit begun [] ins low whole same p q is = tt
     outs-fit begun (c ∷ outs) ins low whole same p q is =
         let short : nat_lt (length begun) size ≡ true = lt-ltb (length begun) size (omega arith) in
@@ -114,12 +116,14 @@ module _ (pool : List ℕ) (k : ℕ) (rises : IsStrictlyIncreasing pool) (enough
 
     module _ (outs : List ℕ) (out_size : length outs ≡ size) where
       least-second : (begun : List ℕ) (a : ℕ) → least_at pool k size (outs ++ begun) a ≡ (total inn begun + inn a + run pool k In (a + 1) (size + size - 1 - length (outs ++ begun))) - total out outs
+      unfolding least_at
       least-second begun a =
           ap (λ b. if b then (run pool k In 0 size - (total out (outs ++ begun) + out a + run pool k Out (a + 1) (size - 1 - length (outs ++ begun)))) else ((total inn (drop size (outs ++ begun)) + inn a + run pool k In (a + 1) (size + size - 1 - length (outs ++ begun))) - total out (take size (outs ++ begun)))) (le-ltb (length (outs ++ begun)) size (omega (arith, length-append outs begun)))
           ∙ ap (λ xs. (total inn xs + inn a + run pool k In (a + 1) (size + size - 1 - length (outs ++ begun))) - total out (take size (outs ++ begun))) (drop_front outs begun size out_size)
           ∙ ap (λ xs. (total inn begun + inn a + run pool k In (a + 1) (size + size - 1 - length (outs ++ begun))) - total out xs) (take_front_of outs begun size out_size)
 
       greatest-second : (begun : List ℕ) (a : ℕ) → greatest_at pool k size (outs ++ begun) a ≡ (total inn begun + inn a + run pool k In (length pool - k - (size + size - 1 - length (outs ++ begun))) (size + size - 1 - length (outs ++ begun))) - total out outs
+      unfolding greatest_at
       greatest-second begun a =
           ap (λ b. if b then (run pool k In (length pool - k - size) size - (total out (outs ++ begun) + out a + run pool k Out (k - (size - 1 - length (outs ++ begun))) (size - 1 - length (outs ++ begun)))) else ((total inn (drop size (outs ++ begun)) + inn a + run pool k In (length pool - k - (size + size - 1 - length (outs ++ begun))) (size + size - 1 - length (outs ++ begun))) - total out (take size (outs ++ begun)))) (le-ltb (length (outs ++ begun)) size (omega (arith, length-append outs begun)))
           ∙ ap (λ xs. (total inn xs + inn a + run pool k In (length pool - k - (size + size - 1 - length (outs ++ begun))) (size + size - 1 - length (outs ++ begun))) - total out (take size (outs ++ begun))) (drop_front outs begun size out_size)
@@ -145,6 +149,7 @@ module _ (pool : List ℕ) (k : ℕ) (rises : IsStrictlyIncreasing pool) (enough
 
       -- where all places fit, the difference is the wanted one
       pub ins-exact : (begun ins : List ℕ) → length begun + length ins ≡ size → 0 < length ins → AllFit fits (outs ++ begun) ins → total inn (begun ++ ins) - total out outs ≡ difference
+      unfolding within_reach
       ins-exact begun [] whole more fit = absurd (omega arith)
       ins-exact begun (a ∷ []) whole more fit =
           let n : ℕ = size + size - 1 - length (outs ++ begun) in

@@ -3,7 +3,8 @@ use Rattle.std.proofs.Common.{◌≡◌, ℕ, zero, suc, ◌+◌, ◌-◌, ◌<�
 use Rattle.std.proofs.lemmas.Bool.{eq-eqb, ne_eqb, eqb-true, cases_Bool, and_parts, and_from, ltb-true, leb-true, lt-ltb, le-leb}
 use Rattle.dutch_order.specs.Trials.{ahead, hits, trials, lower, lowest}
 use Rattle.dutch_order.specs.Hints.{hinted}
-use Rattle.dutch_order.specs.Stages.{exchange_plan, set_of, stage_sets, stage_left, sets_of_stages, sets_of_sizes, trials_of_stages, trials_of_sizes, stages_of_sizes, least_difference, greatest_difference, most_exchanged, sets_ahead, trials_ahead, stages_ahead, is_next, following}
+use Rattle.dutch_order.specs.Stages.{exchange_plan, set_of, stage_sets, stage_left, sets_of_stages, sets_of_sizes, trials_of_stages, trials_of_sizes, stages_of_sizes, least_difference, greatest_difference, most_exchanged, sets_ahead, trials_ahead, stages_ahead, is_next, following, sets_from, trials_from}
+use Rattle.dutch_order.specs.declared.exchange.Place.{Place}
 
 pub lower-none : (o : Option ℕ) → lower o None ≡ o
 lower-none None = refl
@@ -121,12 +122,13 @@ module _ (pool : List ℕ) (k : ℕ) (hint : List ℕ) (size difference : ℕ) (
   larger_sizes = sets_of_sizes pool k (most_exchanged pool k - size) (suc size)
 
   sets-spent : sets_ahead pool k hint size difference path place beyond ≡ sets_of_stages pool k (greatest_difference pool k size - difference) size (suc difference) beyond ++ larger_sizes
-  unfolding larger_sizes
+  unfolding larger_sizes sets_ahead
   sets-spent =
       ap (λ here. here ++ (sets_of_stages pool k (greatest_difference pool k size - difference) size (suc difference) (lower beyond (lowest (ahead (hinted hint (exchange_plan pool k size difference)) path place))) ++ larger_sizes)) none_here
       ∙ ap (λ next. sets_of_stages pool k (greatest_difference pool k size - difference) size (suc difference) next ++ larger_sizes) next_is
 
   trials-spent : trials_ahead pool k hint size difference path place beyond ≡ trials_of_stages pool k (greatest_difference pool k size - difference) size (suc difference) beyond + trials_of_sizes pool k (most_exchanged pool k - size) (suc size)
+  unfolding trials_ahead
   trials-spent =
       ap (λ n. n + (trials_of_stages pool k (greatest_difference pool k size - difference) size (suc difference) (lower beyond (lowest (ahead (hinted hint (exchange_plan pool k size difference)) path place))) + trials_of_sizes pool k (most_exchanged pool k - size) (suc size))) no_trials
       ∙ zero_plus _
@@ -143,7 +145,7 @@ module _ (pool : List ℕ) (k : ℕ) (hint : List ℕ) (size difference : ℕ) (
     counts = omega (arith, parts.1, parts.2)
 
     pub sets-next : sets_ahead pool k [] size n [] 0 None ≡ sets_ahead pool k hint size difference path place beyond
-    unfolding larger_sizes stage_left stage_sets
+    unfolding larger_sizes stage_left stage_sets sets_ahead
     sets-next =
         sym (append_assoc (stage_sets pool k size n [] 0) (sets_of_stages pool k (greatest_difference pool k size - n) size (suc n) (lowest (ahead (exchange_plan pool k size n) [] 0))) larger_sizes)
         ∙ sym
@@ -155,6 +157,7 @@ module _ (pool : List ℕ) (k : ℕ) (hint : List ℕ) (size difference : ℕ) (
         ∙ ap (λ d. (stage_sets pool k size d [] 0 ++ sets_of_stages pool k (greatest_difference pool k size - n) size (suc d) (lowest (ahead (exchange_plan pool k size d) [] 0))) ++ larger_sizes) above)
 
     pub trials-next : trials_ahead pool k [] size n [] 0 None ≡ trials_ahead pool k hint size difference path place beyond
+    unfolding trials_ahead
     trials-next =
         plus_assoc (trials (ahead (exchange_plan pool k size n) [] 0)) (trials_of_stages pool k (greatest_difference pool k size - n) size (suc n) (lowest (ahead (exchange_plan pool k size n) [] 0))) (trials_of_sizes pool k (most_exchanged pool k - size) (suc size))
         ∙ sym
@@ -183,7 +186,7 @@ module _ (pool : List ℕ) (k : ℕ) (hint : List ℕ) (size difference : ℕ) (
       size_more = omega arith
 
       pub sets-larger : sets_ahead pool k [] (suc size) (least_difference pool k (suc size)) [] 0 None ≡ sets_ahead pool k hint size difference path place beyond
-      unfolding sets_of_sizes stage_left stage_sets
+      unfolding sets_of_sizes stage_left stage_sets sets_ahead
       sets-larger =
           let L : ℕ = least_difference pool k (suc size) in
           let G : ℕ = greatest_difference pool k (suc size) in
@@ -193,7 +196,7 @@ module _ (pool : List ℕ) (k : ℕ) (hint : List ℕ) (size difference : ℕ) (
           ∙ sym sets_left
 
       pub trials-larger : trials_ahead pool k [] (suc size) (least_difference pool k (suc size)) [] 0 None ≡ trials_ahead pool k hint size difference path place beyond
-      unfolding trials_of_sizes
+      unfolding trials_of_sizes trials_ahead
       trials-larger =
           let L : ℕ = least_difference pool k (suc size) in
           let G : ℕ = greatest_difference pool k (suc size) in
@@ -207,6 +210,7 @@ module _ (pool : List ℕ) (k : ℕ) (hint : List ℕ) (size difference : ℕ) (
       stages_size_more = ap (λ count. stages_of_sizes pool k count (suc size)) size_more
 
       pub stages-larger : stages_ahead pool k (suc size) (least_difference pool k (suc size)) < stages_ahead pool k size difference
+      unfolding stages_ahead
       stages-larger = omega (arith, stages_size_more)
 
     module _ (largest : most_exchanged pool k ≤ size) where
@@ -220,16 +224,24 @@ module _ (pool : List ℕ) (k : ℕ) (hint : List ℕ) (size difference : ℕ) (
 
 module _ (pool : List ℕ) (k : ℕ) (hint : List ℕ) (size difference : ℕ) (path path' : List ℕ) (place place' : ℕ) (beyond beyond' : Option ℕ) (next : lower beyond (lowest (ahead (hinted hint (exchange_plan pool k size difference)) path place)) ≡ lower beyond' (lowest (ahead (hinted hint (exchange_plan pool k size difference)) path' place'))) where
   pub sets-by_hits : hits (ahead (hinted hint (exchange_plan pool k size difference)) path place) ≡ hits (ahead (hinted hint (exchange_plan pool k size difference)) path' place') → sets_ahead pool k hint size difference path place beyond ≡ sets_ahead pool k hint size difference path' place' beyond'
-  unfolding stage_left
+  unfolding stage_left sets_ahead
   sets-by_hits same =
       ap (λ paths. map (set_of pool k size) paths ++ (sets_of_stages pool k (greatest_difference pool k size - difference) size (suc difference) (lower beyond (lowest (ahead (hinted hint (exchange_plan pool k size difference)) path place))) ++ sets_of_sizes pool k (most_exchanged pool k - size) (suc size))) same
       ∙ ap (λ o. stage_left pool k hint size difference path' place' ++ (sets_of_stages pool k (greatest_difference pool k size - difference) size (suc difference) o ++ sets_of_sizes pool k (most_exchanged pool k - size) (suc size))) next
 
   pub sets-found : hits (ahead (hinted hint (exchange_plan pool k size difference)) path place) ≡ path' ∷ hits (ahead (hinted hint (exchange_plan pool k size difference)) path' place') → sets_ahead pool k hint size difference path place beyond ≡ set_of pool k size path' ∷ sets_ahead pool k hint size difference path' place' beyond'
-  unfolding stage_left
+  unfolding stage_left sets_ahead
   sets-found same =
       ap (λ paths. map (set_of pool k size) paths ++ (sets_of_stages pool k (greatest_difference pool k size - difference) size (suc difference) (lower beyond (lowest (ahead (hinted hint (exchange_plan pool k size difference)) path place))) ++ sets_of_sizes pool k (most_exchanged pool k - size) (suc size))) same
       ∙ ap (λ o. set_of pool k size path' ∷ (stage_left pool k hint size difference path' place' ++ (sets_of_stages pool k (greatest_difference pool k size - difference) size (suc difference) o ++ sets_of_sizes pool k (most_exchanged pool k - size) (suc size)))) next
 
   pub trials-after : trials_of_stages pool k (greatest_difference pool k size - difference) size (suc difference) (lower beyond (lowest (ahead (hinted hint (exchange_plan pool k size difference)) path place))) ≡ trials_of_stages pool k (greatest_difference pool k size - difference) size (suc difference) (lower beyond' (lowest (ahead (hinted hint (exchange_plan pool k size difference)) path' place')))
   trials-after = ap (trials_of_stages pool k (greatest_difference pool k size - difference) size (suc difference)) next
+
+-- a stage that is entered anew
+module _ (pool : List ℕ) (k : ℕ) (place : Place) (size difference : ℕ) (is_size : place.size ≡ size) (is_difference : place.difference ≡ difference) (no_hint : place.hint.items ≡ []) (no_path : place.walk.path.items ≡ []) (no_number : place.walk.number ≡ 0) (no_beyond : place.walk.beyond ≡ None) where
+  pub sets-entered : sets_from pool k place ≡ sets_ahead pool k [] size difference [] 0 None
+  sets-entered = cc
+
+  pub trials-entered : trials_from pool k place ≡ trials_ahead pool k [] size difference [] 0 None
+  trials-entered = cc

@@ -10,6 +10,7 @@ use Rattle.std.specs.List.{flat_map}
 use Rattle.dutch_order.specs.Choices.{subsets, numbers_from}
 use Rattle.dutch_order.specs.Keys.{is_before, IsIn, Ascends, higher_first}
 use Rattle.dutch_order.specs.Exchange.{exchange_key, exchanges}
+use Rattle.dutch_order.specs.Halves.{half_start}
 use Rattle.dutch_order.specs.Stages.{total, value_of, within_reach, beyond_reach, exchange_plan, kept_of, set_of, stage_sets, stage_left, sets_of_stages, sets_of_sizes, stages_of, least_difference, greatest_difference, most_exchanged, sets_ahead, is_next, least_at, greatest_at}
 use Rattle.dutch_order.proofs.HalfWalks.{Climbs, AllFit, Admitted, halves-split, halves-join, Climbs-room}
 use Rattle.dutch_order.proofs.Orders.{is_before-lower, is_before-equal, is_before-cases, is_before-irreflexive, IsIn-map, map-IsIn, IsIn-append, IsIn-front, IsIn-back, Ascends-append, member_has}
@@ -80,6 +81,7 @@ module _ (pool : List ℕ) (k : ℕ) (rises : IsStrictlyIncreasing pool) (enough
   out = value_of pool k Out
 
   starts_at_none : (size difference open_places : ℕ) → entry (exchange_plan pool k size difference) open_places [] ≡ 0
+  unfolding half_start
   starts_at_none size difference zero = refl
   starts_at_none size difference (suc open_places) = refl
 
@@ -238,7 +240,7 @@ module _ (pool : List ℕ) (k : ℕ) (rises : IsStrictlyIncreasing pool) (enough
 
     -- a path of a later stage is one of this stage too, or something lies beyond it here that is no more than the later difference
     noted : (open_places : ℕ) (begun path : List ℕ) → Admitted (exchange_plan pool k size difference) open_places begun path → Admitted now open_places begun path ⊎ AtMost difference (lowest (below now open_places begun (entry now open_places begun)))
-    unfolding below
+    unfolding below within_reach beyond_reach
     noted zero begun path admitted = inl admitted
     noted (suc open_places) begun [] admitted = absurd admitted
     noted (suc open_places) begun (i ∷ path) admitted =
@@ -272,6 +274,7 @@ module _ (pool : List ℕ) (k : ℕ) (rises : IsStrictlyIncreasing pool) (enough
   above_append first xs ys p q n is = above_lower first n (lowest xs) (lowest ys) p q (sym (lowest-append xs ys) ∙ is)
 
   pub beyond_above : (size first : ℕ) (path : List ℕ) (place n : ℕ) → beyond_reach pool k size first path place ≡ Some n → first < n
+  unfolding beyond_reach
   beyond_above size first path place n is =
       elim (cases_Bool (nat_lt first (least_at pool k size path place))) [
         | inl over ↦
@@ -480,7 +483,7 @@ module _ (pool : List ℕ) (k : ℕ) (rises : IsStrictlyIncreasing pool) (enough
 
   -- what a new search finds are all sets, by their keys
   pub exchanges-found : sets_ahead pool k [] 0 0 [] 0 None ≡ exchanges pool k
-  unfolding sets_of_sizes stage_left stage_sets
+  unfolding sets_of_sizes stage_left stage_sets sets_ahead
   exchanges-found =
       sym (append_assoc (stage_sets pool k 0 0 [] 0) (sets_of_stages pool k (greatest_difference pool k 0 - 0) 0 1 (lowest (ahead (exchange_plan pool k 0 0) [] 0))) (sets_of_sizes pool k (most_exchanged pool k - 0) 1))
       ∙ ap (λ count. (stage_sets pool k 0 0 [] 0 ++ sets_of_stages pool k (greatest_difference pool k 0 - 0) 0 1 (lowest (ahead (exchange_plan pool k 0 0) [] 0))) ++ sets_of_sizes pool k count 1) (let e : most_exchanged pool k - 0 ≡ most_exchanged pool k = omega arith in e)

@@ -3,12 +3,12 @@ use Rattle.std.specs.Prelude.{ℕ, ◌+◌, ◌-◌, Bool, ◌||◌, ◌==◌, n
 use Rattle.dutch_order.specs.Trials.{Plan}
 
 -- a half begins at 0, and goes on above the last number
-abbrev pub half_start : ℕ → List ℕ → ℕ
+unfoldable pub half_start : ℕ → List ℕ → ℕ
 half_start half path =
     if (length path == 0) || (length path == half) then 0 else slice_index path (length path - 1) + 1
 
 -- a number must leave room for those that follow it in its half
-abbrev pub half_stop : ℕ → ℕ → ℕ → List ℕ → ℕ
+unfoldable pub half_stop : ℕ → ℕ → ℕ → List ℕ → ℕ
 half_stop half first_count second_count path =
     if nat_lt (length path) half then first_count - (half - 1 - length path) else second_count - (half + half - 1 - length path)
 

@@ -46,7 +46,7 @@ blocks_from part block (Some own) (choice ∷ choices) = block (if_own part (Som
 
 module _ (meets : ℕ → ℕ → Bool) where
   -- where S1, S2 and S1R are chosen: an arrangement for each S2R whose players those of S1R may meet, all or those behind a cursor
-  abbrev pub in_s1r : List ℕ → List ℕ → List ℕ → Option Arrangement → List ℕ → List Arrangement
+  unfoldable pub in_s1r : List ℕ → List ℕ → List ℕ → Option Arrangement → List ℕ → List Arrangement
   in_s1r s1 s2 remainder own s1r =
       map (arranged s1 s2 s1r)
       (without_own own (filter (all_meet meets s1r) (choices_from (λ a. a.s2r) own (all_tuples (left_of remainder s1r) (length s1r)))))
@@ -56,7 +56,7 @@ module _ (meets : ℕ → ℕ → Bool) where
   s1r_blocks s1 s2 remainder = blocks_from (λ a. a.s1r) (in_s1r s1 s2 remainder)
 
   -- where S1 and S2 are chosen: the arrangements, all or those behind a cursor
-  abbrev pub in_s2 : ℕ → List ℕ → List ℕ → Option Arrangement → List ℕ → List Arrangement
+  unfoldable pub in_s2 : ℕ → List ℕ → List ℕ → Option Arrangement → List ℕ → List Arrangement
   in_s2 k s1 residents own s2 =
       joined (s1r_blocks s1 s2 (left_of residents s2) own (choices_from (λ a. a.s1r) own (exchanges (left_of residents s2) k)))
 
@@ -65,7 +65,7 @@ module _ (meets : ℕ → ℕ → Bool) where
   s2_blocks k s1 residents = blocks_from (λ a. a.s2) (in_s2 k s1 residents)
 
   -- where S1 is chosen: the arrangements, all or those behind a cursor
-  abbrev pub in_s1 : ℕ → List ℕ → Option Arrangement → List ℕ → List Arrangement
+  unfoldable pub in_s1 : ℕ → List ℕ → Option Arrangement → List ℕ → List Arrangement
   in_s1 k residents own s1 =
       joined (s2_blocks k s1 residents own (filter (all_meet meets s1) (choices_from (λ a. a.s2) own (all_tuples residents (length s1)))))
 
@@ -74,7 +74,7 @@ module _ (meets : ℕ → ℕ → Bool) where
   s1_blocks k residents = blocks_from (λ a. a.s1) (in_s1 k residents)
 
   -- the arrangements of a bracket and a shape whose pairs may meet, all or those behind a cursor
-  abbrev pub in_bracket : Frame → Shape → Option Arrangement → List Arrangement
+  unfoldable pub in_bracket : Frame → Shape → Option Arrangement → List Arrangement
   in_bracket frame shape own =
       joined (s1_blocks (remainder_pairs shape) (residents_of frame) own (choices_from (λ a. a.s1) own (limbo_exchanges (moved_down_scores frame) shape.mdps)))
 
@@ -100,5 +100,5 @@ abbrev pub pairs_meet : (ℕ → ℕ → Bool) → Arrangement → Bool
 pairs_meet meets a = all_meet meets a.s1 a.s2 && all_meet meets a.s1r a.s2r
 
 -- whether an arrangement leaves those over whom its bracket may leave
-abbrev pub may_leave : (ℕ → Bool) → Frame → Arrangement → Bool
+unfoldable pub may_leave : (ℕ → Bool) → Frame → Arrangement → Bool
 may_leave may_be_left frame a = not frame.last || leaves_one may_be_left (down frame a)

@@ -5,7 +5,7 @@ use Rattle.dutch_order.specs.Halves.{half_start, two_halves}
 
 -- how they are searched: first the places of the first set with the same scores, then those of the set. A place of the first set
 -- follows the last one, or is the first of its score
-abbrev pub leads : List ℕ → ℕ → List ℕ → ℕ → Bool
+unfoldable pub leads : List ℕ → ℕ → List ℕ → ℕ → Bool
 leads scores k path place = (place == half_start k path) || (place == 0) || not (slice_index scores (place - 1) == slice_index scores place)
 
 -- how many places at the front of a list have a score
@@ -19,7 +19,7 @@ abbrev pub same_ahead : List ℕ → ℕ → ℕ → List ℕ → ℕ
 same_ahead scores k score path = front_with scores score (slice_range path (length path - k + 1) k)
 
 -- a place of the set has the score of its place in the first set, and leaves as many of that score as must follow
-abbrev pub mirrors : List ℕ → ℕ → List ℕ → ℕ → Bool
+unfoldable pub mirrors : List ℕ → ℕ → List ℕ → ℕ → Bool
 mirrors scores k path place =
     (slice_index scores place == slice_index scores (slice_index path (length path - k)))
     && (slice_index scores (place + same_ahead scores k (slice_index scores (slice_index path (length path - k))) path)

@@ -1,5 +1,7 @@
 -- What a listing of candidates has still to give.
 use Rattle.std.specs.Prelude.{ℕ, Bool, true, false, List, [], ◌∷◌, Option, Some, None}
+use Rattle.std.specs.List.{AllByRecursion}
+use Rattle.dutch_order.specs.Keys.{IsIn}
 use Rattle.dutch_order.specs.declared.bracket.Shape.{Shape}
 use Rattle.dutch_order.specs.Arrangements.{Frame, Arrangement, candidates, rest}
 
@@ -32,3 +34,7 @@ still_coming false xs = xs
 abbrev pub candidates_from : (ℕ → ℕ → Bool) → (ℕ → Bool) → Frame → Shape → Option Arrangement → List Arrangement
 candidates_from meets may_be_left frame shape None = candidates meets may_be_left frame shape
 candidates_from meets may_be_left frame shape (Some own) = rest meets may_be_left frame shape own
+
+-- all of a list are candidates
+unfoldable pub AreCandidates : (ℕ → ℕ → Bool) → (ℕ → Bool) → Frame → Shape → List Arrangement → Type 0
+AreCandidates meets may_be_left frame shape list = AllByRecursion (λ a. IsIn a (candidates meets may_be_left frame shape)) list

@@ -37,26 +37,26 @@ module _ (pool : List ℕ) (k : ℕ) where
   run side first count = total (value_of side) (numbers_from first count)
 
   -- the least difference of the sums that an exchange of so many can have after a path and one place more
-  abbrev pub least_at : ℕ → List ℕ → ℕ → ℕ
+  unfoldable pub least_at : ℕ → List ℕ → ℕ → ℕ
   least_at size path place =
       if nat_lt (length path) size
       then run In 0 size - (total (value_of Out) path + value_of Out place + run Out (place + 1) (size - 1 - length path))
       else (total (value_of In) (drop size path) + value_of In place + run In (place + 1) (size + size - 1 - length path)) - total (value_of Out) (take size path)
 
   -- and the greatest
-  abbrev pub greatest_at : ℕ → List ℕ → ℕ → ℕ
+  unfoldable pub greatest_at : ℕ → List ℕ → ℕ → ℕ
   greatest_at size path place =
       if nat_lt (length path) size
       then run In (length pool - k - size) size - (total (value_of Out) path + value_of Out place + run Out (k - (size - 1 - length path)) (size - 1 - length path))
       else (total (value_of In) (drop size path) + value_of In place + run In (length pool - k - (size + size - 1 - length path)) (size + size - 1 - length path)) - total (value_of Out) (take size path)
 
   -- a place fits while the wanted difference lies between them
-  abbrev pub within_reach : ℕ → ℕ → List ℕ → ℕ → Bool
+  unfoldable pub within_reach : ℕ → ℕ → List ℕ → ℕ → Bool
   within_reach size difference path place =
       nat_le (least_at size path place) difference && nat_le difference (greatest_at size path place)
 
   -- what a place that cannot reach the wanted difference gives at least, where that is more
-  abbrev pub beyond_reach : ℕ → ℕ → List ℕ → ℕ → Option ℕ
+  unfoldable pub beyond_reach : ℕ → ℕ → List ℕ → ℕ → Option ℕ
   beyond_reach size difference path place =
       if nat_lt difference (least_at size path place) then Some (least_at size path place) else None
 
@@ -148,21 +148,21 @@ module _ (pool : List ℕ) (k : ℕ) where
   most_exchanged = min k (length pool - k)
 
   -- what is to come at a stage that began at a path, where it is known what lies beyond the trials made in it
-  abbrev pub sets_ahead : List ℕ → ℕ → ℕ → List ℕ → ℕ → Option ℕ → List (List ℕ)
+  unfoldable pub sets_ahead : List ℕ → ℕ → ℕ → List ℕ → ℕ → Option ℕ → List (List ℕ)
   sets_ahead hint size difference path place beyond =
       stage_left hint size difference path place
       ++ (sets_of_stages (greatest_difference size - difference) size (suc difference) (lower beyond (lowest (ahead (hinted hint (exchange_plan size difference)) path place)))
       ++ sets_of_sizes (most_exchanged - size) (suc size))
 
   -- how many trials are to be made from there on
-  abbrev pub trials_ahead : List ℕ → ℕ → ℕ → List ℕ → ℕ → Option ℕ → ℕ
+  unfoldable pub trials_ahead : List ℕ → ℕ → ℕ → List ℕ → ℕ → Option ℕ → ℕ
   trials_ahead hint size difference path place beyond =
       trials (ahead (hinted hint (exchange_plan size difference)) path place)
       + (trials_of_stages (greatest_difference size - difference) size (suc difference) (lower beyond (lowest (ahead (hinted hint (exchange_plan size difference)) path place)))
       + trials_of_sizes (most_exchanged - size) (suc size))
 
   -- how many stages follow
-  abbrev pub stages_ahead : ℕ → ℕ → ℕ
+  unfoldable pub stages_ahead : ℕ → ℕ → ℕ
   stages_ahead size difference =
       (greatest_difference size - difference) + stages_of_sizes (most_exchanged - size) (suc size)
 

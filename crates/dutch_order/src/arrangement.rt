@@ -3,7 +3,7 @@ ghost use Rattle.std.specs.Prelude.{◌≡◌, ◌∷◌, [], Some, None, cond, 
 ghost use Rattle.dutch_order.specs.Listings.{listed};
 
 use crate::cursor::Cursor;
-use crate::numbers::{Numbers, fill};
+use crate::numbers::{Numbers, refill};
 use arrayvec::ArrayVec;
 use std::marker::Model;
 
@@ -39,10 +39,10 @@ impl Arrangement {
     pub fn fill(&mut self, other: &Arrangement)
         ensures { self.new ≡ other.now }
     {
-        fill(&mut self.s1, &other.s1);
-        fill(&mut self.s2, &other.s2);
-        fill(&mut self.s1r, &other.s1r);
-        fill(&mut self.s2r, &other.s2r);
+        refill(&mut self.s1, &other.s1);
+        refill(&mut self.s2, &other.s2);
+        refill(&mut self.s1r, &other.s1r);
+        refill(&mut self.s2r, &other.s2r);
     }
 
     /// The same arrangement once more.

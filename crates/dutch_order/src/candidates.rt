@@ -3,12 +3,11 @@
 // Four levels list the arrangements whose pairs may meet. What is left here is the last question, whether those may be left over
 // whom an arrangement leaves: an arrangement that has been found is kept until that question is answered.
 ghost use Rattle.std.specs.Prelude.{◌≡◌, ◌≤◌, ◌++◌, ◌∷◌, [], Some, None, filter, length, not, ◌||◌, ◌&&◌, ◌-◌, ◌*◌, nat_lt, option_copied, true, false};
-ghost use Rattle.std.specs.List.{AllByRecursion};
 ghost use Rattle.dutch_order.specs.Arrangements.{Fits, arrangements, candidates, down, leaves_one, rest};
 ghost use Rattle.dutch_order.specs.Choices.{is_member};
 ghost use Rattle.dutch_order.specs.Keys.{IsIn};
 ghost use Rattle.dutch_order.specs.Levels.{Of, in_bracket, may_leave};
-ghost use Rattle.dutch_order.specs.Listings.{candidates_from, listed};
+ghost use Rattle.dutch_order.specs.Listings.{AreCandidates, candidates_from, listed};
 ghost use Rattle.dutch_order.specs.Steps.{MatchDrawn, MatchStep, Passes, Spends};
 
 use crate::arrangement::{Arrangement, Held};
@@ -190,11 +189,8 @@ pub struct Candidates<'a, R: Rule> {
 
 impl<'a, R: Rule> Model for Candidates<'a, R> {
     ghost use Rattle.std.specs.Prelude.{◌≡◌, ◌++◌, ◌&&◌, ◌-◌, ◌*◌, [], filter, length, nat_lt, true};
-    ghost use Rattle.std.specs.List.{AllByRecursion};
-    ghost use Rattle.dutch_order.specs.Arrangements.{candidates};
-    ghost use Rattle.dutch_order.specs.Keys.{IsIn};
     ghost use Rattle.dutch_order.specs.Levels.{may_leave};
-    ghost use Rattle.dutch_order.specs.Listings.{Listing, listed, only_if, still_coming};
+    ghost use Rattle.dutch_order.specs.Listings.{AreCandidates, Listing, listed, only_if, still_coming};
 
     ghost Value = { Listing R };
 
@@ -210,12 +206,13 @@ impl<'a, R: Rule> Model for Candidates<'a, R> {
     ghost invariant = { λ l.
         (l.hopeless ≡ (l.leave.bracket.now.last && nat_lt 1 (length l.leave.bracket.now.scores - 2 * l.shape.pairs)))
         × (l.hopeless ≡ true → filter (may_leave (R.may_be_left l.leave.rule.now) l.leave.bracket.now) (listed l.drawing.kept ++ l.drawing.level) ≡ [])
-        × AllByRecursion (λ a. IsIn a (candidates (R.meets l.leave.rule.now) (R.may_be_left l.leave.rule.now) l.leave.bracket.now l.shape))
+        × AreCandidates (R.meets l.leave.rule.now) (R.may_be_left l.leave.rule.now) l.leave.bracket.now l.shape
         (still_coming l.ended (filter (may_leave (R.may_be_left l.leave.rule.now) l.leave.bracket.now) (listed l.drawing.kept ++ l.drawing.level))) };
 }
 
 impl<'a, R: Rule> Candidates<'a, R> {
     /// A listing that has ended, with its places for lists. They are made once: a listing begins anew in them (`restart`).
+    #[tactic(auto, unfolding(crate::specs::Listings::AreCandidates))]
     pub fn ended(bracket: &'a Bracket, rule: &'a R) -> Candidates<'a, R>
         ensures coming { result.coming ≡ [] }
         ensures frame { result.frame ≡ bracket.now }
@@ -318,7 +315,7 @@ impl<'a, R: Rule> Candidates<'a, R> {
             × (candidate.new.down ≡ down self.old.frame candidate.new.lists) × (self.new.latest ≡ Some candidate.new.lists))
             (Passes (C.Idle cuts.now) self.old.coming [] × (self.new.coming ≡ []) × (self.new.latest ≡ self.old.latest))
             (Passes (C.Idle cuts.now) self.old.coming self.new.coming × (self.new.latest ≡ self.old.latest) × (budget.new.used ≡ budget.new.limit)) }
-        ensures candidates { AllByRecursion (λ a. IsIn a (candidates (R.meets self.old.rule) (R.may_be_left self.old.rule) self.old.frame self.old.shape)) self.old.coming }
+        ensures candidates { AreCandidates (R.meets self.old.rule) (R.may_be_left self.old.rule) self.old.frame self.old.shape self.old.coming }
         ensures hopeless { (self.old.frame.last && nat_lt 1 (length self.old.frame.scores - 2 * self.old.shape.pairs)) ≡ true
             → MatchStep result (λ _. ⊥) (budget.new.used ≡ budget.old.used) ⊥ }
         ensures ended { MatchStep result (λ _. self.new.ended ≡ self.old.ended) (self.new.ended ≡ true) (self.new.ended ≡ self.old.ended) }

@@ -3,7 +3,7 @@
 // Each level begins anew in place, for the choice that the level above it has made: it copies that choice into lists of its own, so
 // that no block makes a list. Behind a cursor only the first choice of each level can be the cursor's own: in it the level below
 // begins behind the cursor too, and in all later ones it begins at its first choice.
-ghost use Rattle.std.specs.Prelude.{◌≡◌, ◌+◌, ◌≤◌, ℕ, List, None, [], ◌∷◌, length, option_copied};
+ghost use Rattle.std.specs.Prelude.{◌≡◌, ◌+◌, ◌≤◌, ℕ, List, None, [], ◌∷◌, length, option_copied, true};
 ghost use Rattle.std.specs.List.{AllByRecursion};
 ghost use Rattle.std.specs.List.Sorted.{IsStrictlyIncreasing};
 ghost use Rattle.dutch_order.specs.declared.numbers.TheConstants.{LIMIT};
@@ -19,8 +19,7 @@ use crate::cuts::{Cuts, CutsTuples, OfS2, OfS2r};
 use crate::exchange::Exchanges;
 use crate::levels::{Arranges, Blocks, Level};
 use crate::limbo::LimboExchanges;
-use crate::numbers::{Numbers, fill, is_same, put_left_of};
-use crate::prefix::{Filling, Prefix};
+use crate::numbers::{Numbers, fill, is_same, put_left_of, refill};
 use crate::rules::Rule;
 use crate::steps::{Budget, Drawn};
 use crate::transposition::Transpositions;
@@ -65,6 +64,7 @@ impl<'a, R: Rule> ByS2r<'a, R> {
     }
 
     /// Begins anew with an S1, an S2 and an S1R out of the remainder.
+    #[tactic(auto, unfolding(crate::specs::Levels::in_s1r))]
     fn start(
         &mut self,
         s1: &[u16],
@@ -153,9 +153,9 @@ impl<'a, R: Rule> Arranges for ByS2r<'a, R> {
         )? {
             return Ok(false);
         }
-        fill(&mut lists.s1, &self.s1);
-        fill(&mut lists.s2, &self.s2);
-        fill(&mut lists.s1r, &self.s1r);
+        refill(&mut lists.s1, &self.s1);
+        refill(&mut lists.s2, &self.s2);
+        refill(&mut lists.s1r, &self.s1r);
         Ok(true)
     }
 }
@@ -204,6 +204,7 @@ impl<'a, R: Rule> ByS1r<'a, R> {
     }
 
     /// Begins anew with an S1 and an S2 out of the residents, where the remainder makes `k` pairs.
+    #[tactic(auto, unfolding(crate::specs::Levels::in_s2))]
     fn start(
         &mut self,
         k: usize,
@@ -234,8 +235,8 @@ impl<'a, R: Rule> ByS1r<'a, R> {
 }
 
 /// The cursor, if an S1R is its own.
-fn take_by_s1r<'a>(resume: &mut Option<&'a Cursor>, s1r: &[u16]) -> Option<&'a Cursor>
-    ensures own { option_copied result ≡ if_own (λ a. a.s1r) (option_copied resume.old) s1r.now }
+fn take_by_s1r<'a>(resume: &mut Option<&'a Cursor>, s1r: &Numbers) -> Option<&'a Cursor>
+    ensures own { option_copied result ≡ if_own (λ a. a.s1r) (option_copied resume.old) s1r.now.items }
     ensures taken { resume.new ≡ None }
 {
     let cursor = resume.take()?;
@@ -258,14 +259,8 @@ impl<'a, R: Rule> Blocks for ByS1r<'a, R> {
         block: &mut ByS2r<'a, R>,
         budget: &mut Budget,
     ) -> Drawn {
-        let prefix = Prefix {
-            filling: Filling::S2,
-            s1: &self.s1,
-            s2: &self.s2,
-            s1r: &[],
-            s2r: &[],
-        };
-        if cuts.cuts(&prefix, room) {
+        let tuples = OfS2 { cuts, s1: &self.s1 };
+        if tuples.cuts(&self.s2, room) {
             return Ok(false);
         }
         if !self.sets.put_next(&mut self.s1r, budget)? {
@@ -332,6 +327,7 @@ impl<'a, R: Rule> ByS2<'a, R> {
     }
 
     /// Begins anew with an S1, where the remainder makes `k` pairs.
+    #[tactic(auto, unfolding(crate::specs::Levels::in_s1))]
     fn start(
         &mut self,
         k: usize,
@@ -360,9 +356,36 @@ impl<'a, R: Rule> ByS2<'a, R> {
     }
 }
 
+/// Fills a list with the next one: the very next, or else one before which those may be skipped that the cuts know to be idle.
+fn put_next_list<R: Rule, C: CutsTuples>(
+    lists: &mut Transpositions<'_, R>,
+    very: bool,
+    cuts: &C,
+    room: &mut C::Room,
+    numbers: &mut Numbers,
+    budget: &mut Budget,
+) -> Drawn
+    requires { budget.old.used ≤ budget.old.limit }
+    ensures answer { MatchDrawn result
+        (Passes (C.Idle cuts.now) lists.old.coming (numbers.new.items ∷ lists.new.coming))
+        (Passes (C.Idle cuts.now) lists.old.coming [] × (lists.new.coming ≡ []))
+        (Passes (C.Idle cuts.now) lists.old.coming lists.new.coming × (budget.new.used ≡ budget.new.limit)) }
+    ensures very { very ≡ true → MatchDrawn result
+        (lists.old.coming ≡ numbers.new.items ∷ lists.new.coming)
+        (lists.old.coming ≡ [])
+        (lists.new.coming ≡ lists.old.coming) }
+    ensures spends { Spends budget.old budget.new }
+{
+    if very {
+        lists.put_next(numbers, budget)
+    } else {
+        lists.put_next_past(cuts, room, numbers, budget)
+    }
+}
+
 /// The cursor, if an S2 is its own.
-fn take_by_s2<'a>(resume: &mut Option<&'a Cursor>, s2: &[u16]) -> Option<&'a Cursor>
-    ensures own { option_copied result ≡ if_own (λ a. a.s2) (option_copied resume.old) s2.now }
+fn take_by_s2<'a>(resume: &mut Option<&'a Cursor>, s2: &Numbers) -> Option<&'a Cursor>
+    ensures own { option_copied result ≡ if_own (λ a. a.s2) (option_copied resume.old) s2.now.items }
     ensures taken { resume.new ≡ None }
 {
     let cursor = resume.take()?;
@@ -385,19 +408,15 @@ impl<'a, R: Rule> Blocks for ByS2<'a, R> {
         block: &mut Level<ByS1r<'a, R>>,
         budget: &mut Budget,
     ) -> Drawn {
-        if self.resume.is_none() {
-            let tuples = OfS2 { cuts, s1: &self.s1 };
-            if !self
-                .lists
-                .put_next_past(&tuples, room, &mut self.s2, budget)?
-            {
-                return Ok(false);
-            }
-            block.in_block = false;
-            block.blocks.start(self.k, &self.s1, &self.residents, &self.s2, None, self.rule);
-            return Ok(true);
-        }
-        if !self.lists.put_next(&mut self.s2, budget)? {
+        let tuples = OfS2 { cuts, s1: &self.s1 };
+        if !put_next_list(
+            &mut self.lists,
+            self.resume.is_some(),
+            &tuples,
+            room,
+            &mut self.s2,
+            budget,
+        )? {
             return Ok(false);
         }
         let own = take_by_s2(&mut self.resume, &self.s2);
@@ -453,6 +472,7 @@ impl<'a, R: Rule> ByS1<'a, R> {
     }
 
     /// Begins anew with a bracket and a shape for which it has room: all arrangements, or those that stand behind a cursor.
+    #[tactic(auto, unfolding(crate::specs::Levels::in_bracket))]
     pub fn start(&mut self, bracket: &Bracket, shape: Shape, own: Option<&'a Cursor>, rule: &'a R)
         requires fits { Fits bracket.now shape }
         requires given { Of (λ cursor. IsIn cursor (arrangements bracket.now shape)) (option_copied own) }
@@ -471,8 +491,8 @@ impl<'a, R: Rule> ByS1<'a, R> {
 }
 
 /// The cursor, if an S1 is its own.
-fn take_by_s1<'a>(resume: &mut Option<&'a Cursor>, s1: &[u16]) -> Option<&'a Cursor>
-    ensures own { option_copied result ≡ if_own (λ a. a.s1) (option_copied resume.old) s1.now }
+fn take_by_s1<'a>(resume: &mut Option<&'a Cursor>, s1: &Numbers) -> Option<&'a Cursor>
+    ensures own { option_copied result ≡ if_own (λ a. a.s1) (option_copied resume.old) s1.now.items }
     ensures taken { resume.new ≡ None }
 {
     let cursor = resume.take()?;

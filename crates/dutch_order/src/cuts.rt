@@ -6,6 +6,7 @@ ghost use Rattle.dutch_order.specs.Levels.{arranged};
 ghost use Rattle.dutch_order.specs.Prefixes.{Begins, GoesOn};
 
 use crate::bound::Bound;
+use crate::numbers::Numbers;
 use crate::prefix::{Filling, Prefix};
 
 /// Tells of beginnings of arrangements that all arrangements which begin so are idle.
@@ -70,13 +71,13 @@ impl<'b, B: Bound> Cuts for Within<'b, B> {
 #[derive(Drop)]
 pub struct OfS2<'c, C> {
     pub cuts: &'c C,
-    pub s1: &'c [u16],
+    pub s1: &'c Numbers,
 }
 
 impl<'c, C: Cuts> CutsTuples for OfS2<'c, C> {
     type Room = C::Room;
 
-    ghost Idle = { λ o s2. (a : Arrangement) → o.s1.now ≡ a.s1 → s2 ≡ a.s2 → C.Idle o.cuts.now a };
+    ghost Idle = { λ o s2. (a : Arrangement) → o.s1.now.items ≡ a.s1 → s2 ≡ a.s2 → C.Idle o.cuts.now a };
 
     fn cuts(&self, begun: &[u16], room: &mut Self::Room) -> bool {
         let prefix = Prefix {
@@ -94,15 +95,15 @@ impl<'c, C: Cuts> CutsTuples for OfS2<'c, C> {
 #[derive(Drop)]
 pub struct OfS2r<'c, C> {
     pub cuts: &'c C,
-    pub s1: &'c [u16],
-    pub s2: &'c [u16],
-    pub s1r: &'c [u16],
+    pub s1: &'c Numbers,
+    pub s2: &'c Numbers,
+    pub s1r: &'c Numbers,
 }
 
 impl<'c, C: Cuts> CutsTuples for OfS2r<'c, C> {
     type Room = C::Room;
 
-    ghost Idle = { λ o s2r. C.Idle o.cuts.now (arranged o.s1.now o.s2.now o.s1r.now s2r) };
+    ghost Idle = { λ o s2r. C.Idle o.cuts.now (arranged o.s1.now.items o.s2.now.items o.s1r.now.items s2r) };
 
     fn cuts(&self, begun: &[u16], room: &mut Self::Room) -> bool {
         let prefix = Prefix {

@@ -45,6 +45,7 @@ struct Reach {
 }
 
 /// What can still come where a place is tried for a number moved out.
+#[tactic(auto, unfolding(crate::specs::Stages::least_at, crate::specs::Stages::greatest_at))]
 fn reach_out(pool: &[u16], k: usize, size: usize, path: &[u16], place: usize) -> Reach
     requires few { length pool.now ≤ LIMIT }
     requires enough { k ≤ length pool.now }
@@ -69,6 +70,7 @@ fn reach_out(pool: &[u16], k: usize, size: usize, path: &[u16], place: usize) ->
 }
 
 /// What can still come where a place is tried for a number moved in.
+#[tactic(auto, unfolding(crate::specs::Stages::least_at, crate::specs::Stages::greatest_at))]
 fn reach_in(pool: &[u16], k: usize, size: usize, path: &[u16], place: usize) -> Reach
     requires few { length pool.now ≤ LIMIT }
     requires enough { k ≤ length pool.now }
@@ -108,6 +110,7 @@ struct Stage<'a> {
 }
 
 /// What can still come where a place is tried in a stage.
+#[tactic(auto, unfolding(crate::specs::Halves::half_stop))]
 fn reach_of(stage: &Stage<'_>, path: &[u16], place: usize) -> Reach
     requires opened { IsOpen (exchange_plan stage.now.pool.now stage.now.k stage.now.size stage.now.difference) path.now }
     requires tried { place < (exchange_plan stage.now.pool.now stage.now.k stage.now.size stage.now.difference).stop path.now }
@@ -122,13 +125,14 @@ fn reach_of(stage: &Stage<'_>, path: &[u16], place: usize) -> Reach
 }
 
 impl<'a> Tree for Stage<'a> {
+    ghost use Rattle.dutch_order.specs.Halves.{half_stop};
     ghost use Rattle.dutch_order.specs.Stages.{exchange_plan};
     ghost use Rattle.std.proofs.Common.{arith};
     ghost use Rattle.std.proofs.lemmas.Bool.Decides.{nat_tests};
 
     ghost plan = { λ t. exchange_plan t.pool.now t.k t.size t.difference };
 
-    ghost within = { λ t path. Prim.grind (arith, nat_tests) };
+    ghost within = { λ t path. unfold half_stop in Prim.grind (arith, nat_tests) };
 
     fn places(&self) -> usize {
         self.size + self.size
@@ -142,11 +146,13 @@ impl<'a> Tree for Stage<'a> {
         end_of_half(self.size, self.k, self.pool.len() - self.k, path)
     }
 
+    #[tactic(auto, unfolding(crate::specs::Stages::within_reach))]
     fn admits(&self, path: &[u16], place: u16) -> bool {
         let reach = reach_of(self, path, place as usize);
         reach.least <= self.difference && self.difference <= reach.greatest
     }
 
+    #[tactic(auto, unfolding(crate::specs::Stages::beyond_reach))]
     fn beyond(&self, path: &[u16], place: u16) -> Option<usize> {
         let reach = reach_of(self, path, place as usize);
         if self.difference < reach.least {
@@ -272,6 +278,7 @@ fn enter_at(pool: &[u16], k: usize, set: &[u16], place: &mut Place)
 }
 
 /// Goes on to the next stage, where there is one.
+#[tactic(auto, unfolding(crate::specs::Stages::stages_ahead))]
 fn next_stage(pool: &[u16], k: usize, place: &mut Place) -> bool
     requires few { length pool.now ≤ LIMIT }
     requires enough { k ≤ length pool.now }
@@ -300,6 +307,7 @@ fn next_stage(pool: &[u16], k: usize, place: &mut Place) -> bool
 }
 
 /// Goes on to the next set, whose path the walk then has, unless the budget or the search ends before it.
+#[tactic(auto, unfolding(crate::specs::Stages::trials_ahead))]
 fn next_set(pool: &[u16], k: usize, place: &mut Place, budget: &mut Budget) -> Drawn
     requires few { length pool.now ≤ LIMIT }
     requires enough { k ≤ length pool.now }

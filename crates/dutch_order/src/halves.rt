@@ -3,6 +3,7 @@ ghost use Rattle.std.specs.Prelude.{◌≡◌, ◌+◌, ◌<◌, ◌≤◌, ◌^
 ghost use Rattle.dutch_order.specs.Halves.{half_start, half_stop};
 
 /// The first number to try after a path: 0 at the beginning of a half, else one more than the last.
+#[tactic(auto, unfolding(crate::specs::Halves::half_start))]
 pub fn first_of_half(half: usize, path: &[u16]) -> usize
     ensures { result ≡ half_start half path.now }
 {
@@ -13,6 +14,7 @@ pub fn first_of_half(half: usize, path: &[u16]) -> usize
 }
 
 /// The end of the numbers to try after a path: it leaves room for the rest of its half.
+#[tactic(auto, unfolding(crate::specs::Halves::half_stop))]
 pub fn end_of_half(half: usize, first_count: usize, second_count: usize, path: &[u16]) -> usize
     requires few { half < 2 ^ 32 }
     requires opened { length path.now < half + half }

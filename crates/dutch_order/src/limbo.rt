@@ -33,6 +33,7 @@ fn front_with(scores: &[u16], score: u16, places: &[u16]) -> usize
 }
 
 /// Whether a place may be the next one of a first set: it follows the last one, or is the first of its score.
+#[tactic(auto, unfolding(crate::specs::LimboSearch::leads))]
 fn place_leads(scores: &[u16], k: usize, path: &[u16], place: usize) -> bool
     requires { place < length scores.now }
     ensures { result ≡ leads scores.now k path.now place }
@@ -42,6 +43,7 @@ fn place_leads(scores: &[u16], k: usize, path: &[u16], place: usize) -> bool
 
 /// Whether a place may be the next one of a set: it has the score of its place in the first set, and leaves as many of that score
 /// as must follow.
+#[tactic(auto, unfolding(crate::specs::LimboSearch::mirrors))]
 fn place_mirrors(scores: &[u16], k: usize, path: &[u16], place: usize) -> bool
     requires within { AllByRecursion (λ place. place < length scores.now) path.now }
     requires second { k ≤ length path.now }
@@ -121,13 +123,14 @@ struct Ranked<'a> {
 }
 
 impl<'a> Tree for Ranked<'a> {
+    ghost use Rattle.dutch_order.specs.Halves.{half_stop};
     ghost use Rattle.dutch_order.specs.LimboSearch.{limbo_plan};
     ghost use Rattle.std.proofs.Common.{arith};
     ghost use Rattle.std.proofs.lemmas.Bool.Decides.{nat_tests};
 
     ghost plan = { λ t. limbo_plan t.scores.now t.k };
 
-    ghost within = { λ t path. Prim.grind (arith, nat_tests) };
+    ghost within = { λ t path. unfold half_stop in Prim.grind (arith, nat_tests) };
 
     fn places(&self) -> usize {
         self.k + self.k
@@ -146,6 +149,7 @@ impl<'a> Tree for Ranked<'a> {
         None
     }
 
+    #[tactic(auto, unfolding(crate::specs::Halves::half_stop))]
     fn admits(&self, path: &[u16], place: u16) -> bool {
         if path.len() < self.k {
             place_leads(self.scores, self.k, path, place as usize)

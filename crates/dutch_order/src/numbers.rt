@@ -23,6 +23,13 @@ pub(crate) fn fill(list: &mut Numbers, numbers: &[u16])
     let _all = list.try_extend_from_slice(numbers);
 }
 
+/// Fills a list anew with the numbers of another.
+pub(crate) fn refill(list: &mut Numbers, other: &Numbers)
+    ensures { list.new.items ≡ other.now.items }
+{
+    fill(list, other);
+}
+
 /// Fills a list with so many numbers from a first one on.
 pub(crate) fn put_numbered(first: usize, count: usize, numbers: &mut Numbers)
     requires few { count ≤ LIMIT }

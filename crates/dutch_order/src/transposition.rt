@@ -58,15 +58,15 @@ fn put_places(pool: &[u16], numbers: &[u16], path: &mut Path)
 /// First players and the pool from which each gets an opponent.
 #[derive(Drop)]
 struct Opponents<'a, R> {
-    first: &'a [u16],
-    pool: &'a [u16],
+    first: &'a Numbers,
+    pool: &'a Numbers,
     rule: &'a R,
 }
 
 impl<'a, R: Rule> Tree for Opponents<'a, R> {
     ghost use Rattle.std.proofs.Common.{rules};
 
-    ghost plan = { λ t. transposition_plan (R.meets t.rule.now) t.first.now t.pool.now };
+    ghost plan = { λ t. transposition_plan (R.meets t.rule.now) t.first.now.items t.pool.now.items };
 
     ghost within = { λ t p. Prim.search rules };
 
@@ -97,7 +97,7 @@ impl<'a, R: Rule> Tree for Opponents<'a, R> {
 /// Tells of beginnings of paths whether they are cut, by the numbers at their places.
 #[derive(Drop)]
 struct CutsPlaces<'a, C> {
-    pool: &'a [u16],
+    pool: &'a Numbers,
     cuts: &'a C,
 }
 
@@ -109,9 +109,9 @@ impl<'a, C: CutsTuples> CutsPaths for CutsPlaces<'a, C> {
 
     type Room = C::Room;
 
-    ghost Idle = { λ t path. C.Idle t.cuts.now (numbers_at t.pool.now path) };
+    ghost Idle = { λ t path. C.Idle t.cuts.now (numbers_at t.pool.now.items path) };
 
-    ghost MayAsk = { λ t path. AllByRecursion (λ place. place < length t.pool.now) path × (length path ≤ LIMIT) };
+    ghost MayAsk = { λ t path. AllByRecursion (λ place. place < length t.pool.now.items) path × (length path ≤ LIMIT) };
 
     fn cuts(&self, begun: &[u16], numbers: &mut Numbers, room: &mut C::Room) -> bool {
         pick(self.pool, begun, numbers);

@@ -54,7 +54,7 @@ starts seats = map (λ seat. seat.start) seats
 module _ (sheet : Sheet) where
   seats_all_at : (P : ℕ → Type 0) (entry : Entry) (rest : List SeatFacts) (t : Bool) → absent sheet entry.start ≡ t → (absent sheet entry.start ≡ false → P entry.start)
       → AllByRecursion P (starts rest) → AllByRecursion P (starts (cond t rest (seat_of sheet entry ∷ rest)))
-  unfolding starts
+  unfolding starts seat_of
   seats_all_at P entry rest true e here all = all
   seats_all_at P entry rest false e here all = (here e, all)
 
@@ -71,7 +71,7 @@ module _ (sheet : Sheet) where
 
   seats_distinct_at : (entry : Entry) (rest : List SeatFacts) (t : Bool) → AllByRecursion (λ y. nat_eq entry.start y ≡ false) (starts rest) → IsDistinct nat_eq (starts rest)
       → IsDistinct nat_eq (starts (cond t rest (seat_of sheet entry ∷ rest)))
-  unfolding starts IsDistinct
+  unfolding starts IsDistinct seat_of
   seats_distinct_at entry rest true other distinct = distinct
   seats_distinct_at entry rest false other distinct = (other, distinct)
 
@@ -113,7 +113,7 @@ has_start all start = list_any (λ (other : ℕ). other == start) all
 
 present_seated_at : (sheet : Sheet) (entry : Entry) (rest : List SeatFacts) (start : ℕ) (t : Bool) → absent sheet entry.start ≡ t → absent sheet start ≡ false
     → (entry.start == start || has_start (starts rest) start) ≡ true → has_start (starts (cond t rest (seat_of sheet entry ∷ rest))) start ≡ true
-unfolding starts has_start
+unfolding starts has_start seat_of
 present_seated_at sheet entry rest start false is here h = h
 present_seated_at sheet entry rest start true is here h =
     elim (or_cases (entry.start == start) (has_start (starts rest) start) h) [
@@ -216,6 +216,7 @@ IsOwn sheet seat = seat.apart ≡ apart_from sheet seat.start
 
 own_at : (sheet : Sheet) (entry : Entry) (rest : List SeatFacts) (t : Bool) → AllByRecursion (IsOwn sheet) rest
     → AllByRecursion (IsOwn sheet) (cond t rest (seat_of sheet entry ∷ rest))
+unfolding seat_of
 own_at sheet entry rest true all = all
 own_at sheet entry rest false all = (refl, all)
 

@@ -66,7 +66,7 @@ IsRanked [] = Unit {0}
 IsRanked (seat ∷ rest) = NoneBefore seat rest × IsRanked rest
 
 -- what the rounds that were paired make of a player
-abbrev pub seat_of : Sheet → Entry → SeatFacts
+unfoldable pub seat_of : Sheet → Entry → SeatFacts
 seat_of sheet entry =
     let rounds = rounds_played sheet in
     let cells = take rounds entry.cells in

@@ -13,6 +13,7 @@ use std::alloc::{AllocError, Global};
 use trf16::{Player, Report, front};
 
 // What the rounds that were paired make of a player.
+#[tactic(auto, unfolding(crate::specs::Facts::seat_of))]
 fn seat_of(
     alloc: Global,
     report: &Report<'_>,

@@ -27,6 +27,7 @@ returns-in_err-draw_listed-clause-answer g c =
     drawn-stopped _ _ _ _ c.from_residual.ensures.0 (passes-more Idle _ _ _ c.loop-candidate.invariant.passes passed, c.in_err-draw_listed.ensures.answer.1)
 
 pub returns-in-Ok-true-clause-answer : goal.returns-in-Ok-true-clause-answer
+unfolding may_leave
 returns-in-Ok-true-clause-answer g c =
     let Idle = g.C.Cuts.Idle c.args.cuts.now in
     let may_be_left = g.R.Rule.may_be_left c.args.leave.now.rule.now in
@@ -52,6 +53,7 @@ returns-in-Err-clause-answer g c =
     )
 
 pub loop-candidate-preserved : goal.loop-candidate-preserved
+unfolding may_leave
 loop-candidate-preserved g c =
     let Idle = g.C.Cuts.Idle c.args.cuts.now in
     let may_be_left = g.R.Rule.may_be_left c.args.leave.now.rule.now in

@@ -1,6 +1,7 @@
 use Rattle.dutch_order.proofs.Skipping.{drawn, drawn-stopped}
 use Rattle.dutch_order.proofs.Spending.{spends-more}
 use Rattle.std.proofs.Common.{◌∙◌, ap, sym, arith}
+use Rattle.dutch_order.specs.Stages.{trials_ahead}
 use Rattle.dutch_order.specs.Trials.{hits}
 use Rattle.dutch_order.proofs.StageMoves.{sets-by_hits, sets-found, trials-after}
 use Rattle.dutch_order.proofs.exchange.next_set.Goals as goal
@@ -13,6 +14,7 @@ returns-then-branch-clause-answer c =
     (sym c.loop-place.invariant.sets ∙ came, found.1)
 
 pub returns-in_err-climb_on-clause-answer : goal.returns-in_err-climb_on-clause-answer
+unfolding trials_ahead
 returns-in_err-climb_on-clause-answer c =
     let p = c.loop-place.place in
     let same = sets-by_hits c.args.pool.now c.args.k p.hint.items p.size p.difference c.climb_on.new.walk.path.items p.walk.path.items c.climb_on.new.walk.number p.walk.number c.climb_on.new.walk.beyond p.walk.beyond c.climb_on.ensures.beyond c.in_err-climb_on.ensures.answer.0 in
@@ -28,6 +30,7 @@ returns-then-not-next_stage-clause-answer c =
     (sym c.loop-place.invariant.sets ∙ sym same ∙ sym c.next_stage.ensures.sets ∙ ended.0, ended.0, ended.1)
 
 pub loop-place-preserved : goal.loop-place-preserved
+unfolding trials_ahead
 loop-place-preserved c =
     let p = c.loop-place.place in
     let none = drawn _ _ _ c.if-branch.false c.in_ok-climb_on.ensures.answer in

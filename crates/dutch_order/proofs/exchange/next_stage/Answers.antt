@@ -1,6 +1,6 @@
 use Rattle.std.proofs.Common.{◌≡◌, ◌+◌, ◌<◌, ℕ, suc, ◌∙◌, ap, subst, sym, arith, rules}
 use Rattle.dutch_order.specs.Stages.{least_difference, stages_ahead}
-use Rattle.dutch_order.proofs.StageMoves.{sets-next, trials-next, sets-larger, trials-larger, stages-larger, sets-none, trials-none}
+use Rattle.dutch_order.proofs.StageMoves.{sets-entered, trials-entered, sets-next, trials-next, sets-larger, trials-larger, stages-larger, sets-none, trials-none}
 use Rattle.dutch_order.proofs.exchange.next_stage.Goals as goal
 
 one_up : (n : ℕ) → n + 1 ≡ suc n
@@ -9,28 +9,32 @@ one_up n = omega arith
 pub returns-in-Some-clause-sets : goal.returns-in-Some-clause-sets
 returns-in-Some-clause-sets c =
     let p = c.args.place.now in
-    let same = sets-next c.args.pool.now c.args.k p.hint.items p.size p.difference p.walk.path.items p.walk.number p.walk.beyond c.requires.spent c.in-Some.next (search rules) in
-    cc
+    let entered = c.enter.ensures in
+    sets-entered c.args.pool.now c.args.k c.enter.new.self p.size c.in-Some.next entered.size entered.difference entered.hint entered.path entered.number entered.beyond
+    ∙ sets-next c.args.pool.now c.args.k p.hint.items p.size p.difference p.walk.path.items p.walk.number p.walk.beyond c.requires.spent c.in-Some.next (search rules)
 
 pub returns-in-Some-clause-trials : goal.returns-in-Some-clause-trials
 returns-in-Some-clause-trials c =
     let p = c.args.place.now in
-    let same = trials-next c.args.pool.now c.args.k p.hint.items p.size p.difference p.walk.path.items p.walk.number p.walk.beyond c.requires.spent c.in-Some.next (search rules) in
-    cc
+    let entered = c.enter.ensures in
+    trials-entered c.args.pool.now c.args.k c.enter.new.self p.size c.in-Some.next entered.size entered.difference entered.hint entered.path entered.number entered.beyond
+    ∙ trials-next c.args.pool.now c.args.k p.hint.items p.size p.difference p.walk.path.items p.walk.number p.walk.beyond c.requires.spent c.in-Some.next (search rules)
 
 pub returns-then-place-min-clause-sets : goal.returns-then-place-min-clause-sets
 returns-then-place-min-clause-sets c =
     let p = c.args.place.now in
-    let up = one_up p.size in
-    let same = sets-larger c.args.pool.now c.args.k p.hint.items p.size p.difference p.walk.path.items p.walk.number p.walk.beyond c.requires.spent (search rules) (search rules) in
-    cc
+    let entered = c.enter-then-place-min.ensures in
+    sets-entered c.args.pool.now c.args.k c.enter-then-place-min.new.self (suc p.size) (least_difference c.args.pool.now c.args.k (suc p.size)) (entered.size ∙ one_up p.size)
+    (entered.difference ∙ c.least_of.ensures ∙ ap (least_difference c.args.pool.now c.args.k) (one_up p.size)) entered.hint entered.path entered.number entered.beyond
+    ∙ sets-larger c.args.pool.now c.args.k p.hint.items p.size p.difference p.walk.path.items p.walk.number p.walk.beyond c.requires.spent (search rules) (search rules)
 
 pub returns-then-place-min-clause-trials : goal.returns-then-place-min-clause-trials
 returns-then-place-min-clause-trials c =
     let p = c.args.place.now in
-    let up = one_up p.size in
-    let same = trials-larger c.args.pool.now c.args.k p.hint.items p.size p.difference p.walk.path.items p.walk.number p.walk.beyond c.requires.spent (search rules) (search rules) in
-    cc
+    let entered = c.enter-then-place-min.ensures in
+    trials-entered c.args.pool.now c.args.k c.enter-then-place-min.new.self (suc p.size) (least_difference c.args.pool.now c.args.k (suc p.size)) (entered.size ∙ one_up p.size)
+    (entered.difference ∙ c.least_of.ensures ∙ ap (least_difference c.args.pool.now c.args.k) (one_up p.size)) entered.hint entered.path entered.number entered.beyond
+    ∙ trials-larger c.args.pool.now c.args.k p.hint.items p.size p.difference p.walk.path.items p.walk.number p.walk.beyond c.requires.spent (search rules) (search rules)
 
 pub returns-then-place-min-clause-nearer : goal.returns-then-place-min-clause-nearer
 returns-then-place-min-clause-nearer c _ =

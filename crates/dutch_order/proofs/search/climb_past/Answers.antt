@@ -1,5 +1,6 @@
-use Rattle.dutch_order.proofs.Spending.{spends-step}
-use Rattle.std.proofs.Common.{◌∙◌, ◌∷◌, sym, ap, arith, rules, subst}
+use Rattle.dutch_order.proofs.Skipping.{passes-none}
+use Rattle.dutch_order.proofs.Spending.{spends-none, spends-step}
+use Rattle.std.proofs.Common.{◌∙◌, ◌∷◌, sym, ap, arith, refl, rules, subst}
 use Rattle.dutch_order.specs.Trials.{Tried, ahead, hits, trials, lower, lowest}
 use Rattle.dutch_order.specs.Walks.{Stands}
 use Rattle.dutch_order.proofs.LeftOut.{passes-more, passes-same}
@@ -77,3 +78,63 @@ loop-walk-preserved g c =
           ∙ c.loop-walk.invariant.beyond none;
       spends = c.loop-walk.invariant.spends;
     }
+
+pub loop-walk-init : goal.loop-walk-init
+loop-walk-init g c = record {
+  stands = subst (Stands (g.T.Tree.plan c.args.tree.now)) (sym c.leave_idle.ensures.path) c.requires.standing;
+  passes = passes-none (g.C.CutsPaths.Idle c.args.cuts.now) _ _ refl;
+  trials = λ none. refl;
+  beyond = λ none. refl;
+  spends = spends-none _ c.requires.within;
+}
+
+pub loop-walk-preserved-else-try_number : goal.loop-walk-preserved-else-try_number
+loop-walk-preserved-else-try_number g c =
+    let plan = g.T.Tree.plan c.args.tree.now in
+    let tried = c.try_number.ensures in
+    record {
+      stands = tried.stands;
+      passes = passes-same (g.C.CutsPaths.Idle c.args.cuts.now) _ _ _ c.loop-walk.invariant.passes (ap hits tried.goes_on);
+      trials = λ none. omega (arith, ap trials tried.goes_on, c.loop-walk.invariant.trials none);
+      beyond = λ none.
+          beyond-tried c.loop-walk.walk.beyond c.try_number.new.walk.beyond (plan.beyond c.loop-walk.walk.path.items c.loop-walk.walk.number)
+          (ahead plan c.loop-walk.walk.path.items c.loop-walk.walk.number) (ahead plan c.try_number.new.walk.path.items c.try_number.new.walk.number)
+          tried.beyond tried.goes_on
+          ∙ c.loop-walk.invariant.beyond none;
+      spends = spends-step c.loop-walk.invariant.spends c.if-budget.false;
+    }
+
+pub returns-then-budget-clause-steps : goal.returns-then-budget-clause-steps
+returns-then-budget-clause-steps g c = λ none.
+    let first = ahead-same (g.T.Tree.plan c.args.tree.now) _ _ _ _ c.leave_idle.ensures.path (c.leave_idle.ensures.number none) in
+    omega (arith, c.loop-walk.invariant.trials none, ap trials first)
+
+pub returns-then-budget-clause-beyond : goal.returns-then-budget-clause-beyond
+returns-then-budget-clause-beyond g c = λ none.
+    let plan = g.T.Tree.plan c.args.tree.now in
+    c.loop-walk.invariant.beyond none
+    ∙ beyond-same c.args.walk.now.beyond c.leave_idle.new.walk.beyond
+    (ahead plan c.args.walk.now.path.items c.args.walk.now.number) (ahead plan c.leave_idle.new.walk.path.items c.leave_idle.new.walk.number)
+    c.leave_idle.ensures.beyond (ahead-same plan _ _ _ _ c.leave_idle.ensures.path (c.leave_idle.ensures.number none))
+
+pub returns-then-not-go_back-clause-answer : goal.returns-then-not-go_back-clause-answer
+returns-then-not-go_back-clause-answer g c =
+    let Idle = g.C.CutsPaths.Idle c.args.cuts.now in
+    let ended = c.go_back.ensures.ended c.if-not-go_back.true in
+    (passes-more Idle _ _ _ c.leave_idle.ensures.passes (passes-same Idle _ _ _ c.loop-walk.invariant.passes (ap hits (sym c.go_back.ensures.same ∙ ended))), ended)
+
+pub returns-then-not-go_back-clause-steps : goal.returns-then-not-go_back-clause-steps
+returns-then-not-go_back-clause-steps g c = λ none.
+    let first = ahead-same (g.T.Tree.plan c.args.tree.now) _ _ _ _ c.leave_idle.ensures.path (c.leave_idle.ensures.number none) in
+    omega (arith, ap trials c.go_back.ensures.same, c.loop-walk.invariant.trials none, ap trials first)
+
+pub returns-then-not-go_back-clause-beyond : goal.returns-then-not-go_back-clause-beyond
+returns-then-not-go_back-clause-beyond g c = λ none.
+    let plan = g.T.Tree.plan c.args.tree.now in
+    beyond-same c.loop-walk.walk.beyond c.go_back.new.walk.beyond
+    (ahead plan c.loop-walk.walk.path.items c.loop-walk.walk.number) (ahead plan c.go_back.new.walk.path.items c.go_back.new.walk.number)
+    c.go_back.ensures.beyond c.go_back.ensures.same
+    ∙ c.loop-walk.invariant.beyond none
+    ∙ beyond-same c.args.walk.now.beyond c.leave_idle.new.walk.beyond
+    (ahead plan c.args.walk.now.path.items c.args.walk.now.number) (ahead plan c.leave_idle.new.walk.path.items c.leave_idle.new.walk.number)
+    c.leave_idle.ensures.beyond (ahead-same plan _ _ _ _ c.leave_idle.ensures.path (c.leave_idle.ensures.number none))

@@ -1,10 +1,9 @@
 use Rattle.std.proofs.Common.{◌∙◌, ◌++◌, filter, ap, sym, subst, length, ◌-◌, ◌*◌, nat_lt, option_copied}
-use Rattle.std.specs.List.{AllByRecursion}
 use Rattle.std.proofs.lemmas.Bool.{and_parts, ltb-true}
-use Rattle.dutch_order.specs.Arrangements.{Fits, arrangements, candidates}
+use Rattle.dutch_order.specs.Arrangements.{Fits, arrangements}
 use Rattle.dutch_order.specs.Keys.{IsIn}
 use Rattle.dutch_order.specs.Levels.{Of, may_leave}
-use Rattle.dutch_order.specs.Listings.{Listing, candidates_from, listed}
+use Rattle.dutch_order.specs.Listings.{AreCandidates, Listing, candidates_from, listed}
 use Rattle.dutch_order.proofs.Behind.{candidates-all, levels-begun, none-from}
 use Rattle.dutch_order.proofs.Hopeless.{none-legal}
 use Rattle.dutch_order.proofs.candidates.Candidates.begin.Goals as goal
@@ -28,7 +27,7 @@ invariant_of-self g c =
           coming
           ∙ none-from frame shape meets may_be_left own
           (none-legal frame shape meets may_be_left fits many.0 (ltb-true 1 (length frame.scores - 2 * shape.pairs) many.1)),
-      subst (AllByRecursion (λ a. IsIn a (candidates meets may_be_left frame shape))) (sym coming) (candidates-all frame shape meets may_be_left own),
+      subst (AreCandidates meets may_be_left frame shape) (sym coming) (candidates-all frame shape meets may_be_left own),
     )
 
 pub returns-clause-coming : goal.returns-clause-coming

@@ -1,12 +1,11 @@
-use Rattle.std.proofs.Common.{◌≡◌, ◌∙◌, ◌++◌, ap, sym, subst, refl, filter}
-use Rattle.std.specs.List.{AllByRecursion}
+use Rattle.std.proofs.Common.{◌≡◌, ◌∙◌, ◌++◌, ap, sym, subst, refl, filter, List}
 use Rattle.std.proofs.lemmas.Bool.{true≢false}
-use Rattle.dutch_order.specs.Arrangements.{Arrangement, candidates}
-use Rattle.dutch_order.specs.Keys.{IsIn}
+use Rattle.dutch_order.specs.Arrangements.{Arrangement}
 use Rattle.dutch_order.specs.Levels.{may_leave}
-use Rattle.dutch_order.specs.Listings.{Listing, listed, still_coming}
+use Rattle.dutch_order.specs.Listings.{AreCandidates, Listing, listed, still_coming}
 use Rattle.dutch_order.specs.Prefixes.{BeginsAt}
-use Rattle.dutch_order.proofs.Skipping.{passes-none, passes-all, all-of, passes-keeps, drawn}
+use Rattle.dutch_order.proofs.Behind.{no-candidates, still-candidates, later-candidates}
+use Rattle.dutch_order.proofs.Skipping.{passes-none, passes-all, all-of, drawn}
 use Rattle.dutch_order.proofs.candidates.Candidates.go_on.Goals as goal
 use Rattle.dutch_order.proofs.candidates.Candidates.go_on.Goals.{then-self-2-via-then-self-2, then-self-2-via-else-self-2+then-cuts}
 
@@ -31,30 +30,40 @@ returns-then-self-2-clause-answer g c =
 pub returns-then-self-2-clause-candidates : goal.returns-then-self-2-clause-candidates
 returns-then-self-2-clause-candidates g c = rw (← c.self.view_is) c.self.invariant.2
 
+pub invariant_of-self : goal.invariant_of-self
+invariant_of-self g c = (c.self.invariant.0, c.self.invariant.1, no-candidates _ _ _ _)
+
+pub invariant_of-self-in-Ok-false : goal.invariant_of-self-in-Ok-false
+invariant_of-self-in-Ok-false g c = (
+  c.self.invariant.0,
+  λ hopeless. absurd (true≢false (sym hopeless ∙ c.if-self-2.false)),
+  no-candidates _ _ _ _,
+)
+
 pub invariant_of-self-in-Ok-true : goal.invariant_of-self-in-Ok-true
 invariant_of-self-in-Ok-true g c =
     let own = c.self.inside in
     let may = may_leave (g.R.Rule.may_be_left own.leave.rule.now) own.leave.bracket.now in
-    let IsOne = λ (a : Arrangement). IsIn a (candidates (g.R.Rule.meets own.leave.rule.now) (g.R.Rule.may_be_left own.leave.rule.now) own.leave.bracket.now own.shape) in
+    let IsOne : List Arrangement → Type 0 = AreCandidates (g.R.Rule.meets own.leave.rule.now) (g.R.Rule.may_be_left own.leave.rule.now) own.leave.bracket.now own.shape in
     let before = filter may (listed own.drawing.kept ++ own.drawing.level) in
     let after = filter may (listed c.draw_legal.new.drawing.kept ++ c.draw_legal.new.drawing.level) in
-    let all = subst (λ told. AllByRecursion IsOne (still_coming told before)) c.if-self.false c.self.invariant.2 in (
+    let all = subst (λ told. IsOne (still_coming told before)) c.if-self.false c.self.invariant.2 in (
       c.self.invariant.0,
       λ hopeless. absurd (true≢false (sym hopeless ∙ c.if-self-2.false)),
-      subst (λ told. AllByRecursion IsOne (still_coming told after)) (sym c.if-self.false)
-          (passes-keeps (g.C.Cuts.Idle c.args.cuts.now) IsOne before _ (drawn _ _ _ c.in-Ok-true.field-0-test c.in-Ok-true.ensures.answer).0 all).1,
+      subst (λ told. IsOne (still_coming told after)) (sym c.if-self.false)
+          (later-candidates _ _ _ _ (g.C.Cuts.Idle c.args.cuts.now) before _ _ (drawn _ _ _ c.in-Ok-true.field-0-test c.in-Ok-true.ensures.answer).0 all),
     )
 
 pub invariant_of-self-in-Err : goal.invariant_of-self-in-Err
 invariant_of-self-in-Err g c =
     let own = c.self.inside in
     let may = may_leave (g.R.Rule.may_be_left own.leave.rule.now) own.leave.bracket.now in
-    let IsOne = λ (a : Arrangement). IsIn a (candidates (g.R.Rule.meets own.leave.rule.now) (g.R.Rule.may_be_left own.leave.rule.now) own.leave.bracket.now own.shape) in
+    let IsOne : List Arrangement → Type 0 = AreCandidates (g.R.Rule.meets own.leave.rule.now) (g.R.Rule.may_be_left own.leave.rule.now) own.leave.bracket.now own.shape in
     let before = filter may (listed own.drawing.kept ++ own.drawing.level) in
     let after = filter may (listed c.draw_legal.new.drawing.kept ++ c.draw_legal.new.drawing.level) in
-    let all = subst (λ told. AllByRecursion IsOne (still_coming told before)) c.if-self.false c.self.invariant.2 in (
+    let all = subst (λ told. IsOne (still_coming told before)) c.if-self.false c.self.invariant.2 in (
       c.self.invariant.0,
       λ hopeless. absurd (true≢false (sym hopeless ∙ c.if-self-2.false)),
-      subst (λ told. AllByRecursion IsOne (still_coming told after)) (sym c.if-self.false)
-          (passes-keeps (g.C.Cuts.Idle c.args.cuts.now) IsOne before after c.in-Err.ensures.answer.0 all),
+      subst (λ told. IsOne (still_coming told after)) (sym c.if-self.false)
+          (still-candidates _ _ _ _ (g.C.Cuts.Idle c.args.cuts.now) before after c.in-Err.ensures.answer.0 all),
     )

@@ -2,14 +2,38 @@ use Rattle.std.proofs.Common.{sym}
 use Rattle.dutch_order.proofs.Skipping.{none-passed}
 use Rattle.dutch_order.proofs.candidates.Candidates.put_next.Goals as goal
 
-pub returns-in-Found-clause-answer : goal.returns-in-Found-clause-answer
-returns-in-Found-clause-answer g c =
-    (none-passed _ _ c.in-Found.ensures.answer.0, c.in-Found.ensures.answer.1, c.in-Found.ensures.answer.2)
+pub returns-in-Found : goal.returns-in-Found
+returns-in-Found g c = record {
+  answer = (none-passed _ _ c.in-Found.ensures.answer.0, c.in-Found.ensures.answer.1, c.in-Found.ensures.answer.2);
+  hopeless = c.in-Found.ensures.hopeless;
+  ended = c.in-Found.ensures.ended;
+  after_end = c.in-Found.ensures.after_end;
+  frame = c.in-Found.ensures.frame;
+  shape = c.in-Found.ensures.shape;
+  rule = c.in-Found.ensures.rule;
+  spends = c.in-Found.ensures.spends;
+}
 
-pub returns-in-End-clause-answer : goal.returns-in-End-clause-answer
-returns-in-End-clause-answer g c =
-    (none-passed _ _ c.in-End.ensures.answer.0, c.in-End.ensures.answer.1, c.in-End.ensures.answer.2)
+pub returns-in-End : goal.returns-in-End
+returns-in-End g c = record {
+  answer = (none-passed _ _ c.in-End.ensures.answer.0, c.in-End.ensures.answer.1, c.in-End.ensures.answer.2);
+  hopeless = c.in-End.ensures.hopeless;
+  ended = c.in-End.ensures.ended;
+  after_end = c.in-End.ensures.after_end;
+  frame = c.in-End.ensures.frame;
+  shape = c.in-End.ensures.shape;
+  rule = c.in-End.ensures.rule;
+  spends = c.in-End.ensures.spends;
+}
 
-pub returns-in-Undecided-clause-answer : goal.returns-in-Undecided-clause-answer
-returns-in-Undecided-clause-answer g c =
-    (sym (none-passed _ _ c.in-Undecided.ensures.answer.0), c.in-Undecided.ensures.answer.1, c.in-Undecided.ensures.answer.2)
+pub returns-in-Undecided : goal.returns-in-Undecided
+returns-in-Undecided g c = record {
+  answer = (sym (none-passed _ _ c.in-Undecided.ensures.answer.0), c.in-Undecided.ensures.answer.1, c.in-Undecided.ensures.answer.2);
+  hopeless = c.in-Undecided.ensures.hopeless;
+  ended = c.in-Undecided.ensures.ended;
+  after_end = c.in-Undecided.ensures.after_end;
+  frame = c.in-Undecided.ensures.frame;
+  shape = c.in-Undecided.ensures.shape;
+  rule = c.in-Undecided.ensures.rule;
+  spends = c.in-Undecided.ensures.spends;
+}

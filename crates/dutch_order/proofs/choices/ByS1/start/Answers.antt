@@ -1,9 +1,9 @@
 use Rattle.std.proofs.Common.{◌≡◌, ◌∙◌, ap, sym, subst, length, take, arith, ◌-◌, ◌+◌, ◌≤◌, ℕ, List, option_copied}
 use Rattle.std.specs.List.{AllByRecursion}
-use Rattle.dutch_order.specs.Arrangements.{Arrangement, arrangements}
-use Rattle.dutch_order.specs.Choices.{subsets, numbers_from}
+use Rattle.dutch_order.specs.Arrangements.{Arrangement, arrangements, residents_of}
+use Rattle.dutch_order.specs.Choices.{from_on, subsets, numbers_from}
 use Rattle.dutch_order.specs.Keys.{IsIn}
-use Rattle.dutch_order.specs.Levels.{HasS2, Of}
+use Rattle.dutch_order.specs.Levels.{HasS2, Of, choices_from, in_bracket, joined, s1_blocks}
 use Rattle.dutch_order.specs.Limbo.{limbo_exchanges}
 use Rattle.dutch_order.specs.contracts.cursor.Cursor.{the_view}
 use Rattle.dutch_order.proofs.Behind.{cursor-s1, cursor-s2}
@@ -53,3 +53,38 @@ invariant_of-self-in-None g c =
       subst (λ residents. Of (HasS2 k residents) (option_copied c.args.own)) (sym c.put_residents.ensures.items)
           (cursor-s2 frame shape (g.R.Rule.meets c.args.rule.now) (option_copied c.args.own) c.requires.given),
     )
+
+pub returns-in-Some : goal.returns-in-Some
+unfolding in_bracket
+returns-in-Some g c =
+    let frame = c.args.bracket.now in
+    let shape = c.args.shape in
+    let k = shape.pairs - shape.mdps in
+    let meets = g.R.Rule.meets c.args.rule.now in
+    let at = option_copied c.args.own in
+    let own = c.in-Some.cursor.now in
+    let all = limbo_exchanges (take frame.mdps frame.scores) shape.mdps in
+    let scores : take frame.mdps frame.scores ≡ take c.mdps.result c.scores.result.now =
+    ap (λ n. take n frame.scores) (sym c.mdps.ensures) ∙ ap (take c.mdps.result) (sym c.scores.ensures.scores) in
+    let at_s1 = ap (λ i. (the_view i).s1) c.cursor-inside.view_is ∙ ap (λ (a : Arrangement). a.s1) c.cursor.view_is in
+    let sets : c.start_from.new.self.coming ≡ from_on own.s1 all =
+    c.start_from.ensures.coming
+    ∙ ap (λ s1. from_on s1 (limbo_exchanges (take c.mdps.result c.scores.result.now) shape.mdps)) (c.deref.ensures.0 ∙ at_s1)
+    ∙ ap (λ scores. from_on own.s1 (limbo_exchanges scores shape.mdps)) (sym scores) in
+    ap (λ residents. joined (s1_blocks meets k residents at c.start_from.new.self.coming)) c.put_residents.ensures.items
+    ∙ ap (λ sets. joined (s1_blocks meets k (residents_of frame) at sets)) (sets ∙ ap (λ other. choices_from (λ a. a.s1) other all) (sym (ap (λ lent. option_copied lent) c.in-Some.is)))
+
+pub returns-in-None : goal.returns-in-None
+unfolding in_bracket
+returns-in-None g c =
+    let frame = c.args.bracket.now in
+    let shape = c.args.shape in
+    let k = shape.pairs - shape.mdps in
+    let meets = g.R.Rule.meets c.args.rule.now in
+    let at = option_copied c.args.own in
+    let all = limbo_exchanges (take frame.mdps frame.scores) shape.mdps in
+    let scores : take frame.mdps frame.scores ≡ take c.mdps.result c.scores.result.now =
+    ap (λ n. take n frame.scores) (sym c.mdps.ensures) ∙ ap (take c.mdps.result) (sym c.scores.ensures.scores) in
+    let sets : c.start.new.self.coming ≡ all = c.start.ensures.coming ∙ ap (λ scores. limbo_exchanges scores shape.mdps) (sym scores) in
+    ap (λ residents. joined (s1_blocks meets k residents at c.start.new.self.coming)) c.put_residents.ensures.items
+    ∙ ap (λ sets. joined (s1_blocks meets k (residents_of frame) at sets)) (sets ∙ ap (λ other. choices_from (λ a. a.s1) other all) (sym (ap (λ lent. option_copied lent) c.in-None.is)))

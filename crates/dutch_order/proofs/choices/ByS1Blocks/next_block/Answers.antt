@@ -1,15 +1,15 @@
 use Rattle.std.proofs.Common.{◌≡◌, ◌∷◌, None, sym, ◌∙◌, ap, option_copied}
 use Rattle.std.specs.List.{AllByRecursion}
 use Rattle.dutch_order.specs.Levels.{HasS2, if_own, in_s1, joined, s1_blocks}
-use Rattle.dutch_order.proofs.Skipping.{passes-none, drawn}
-use Rattle.dutch_order.proofs.Blocks.{block-comes, taken}
+use Rattle.dutch_order.proofs.Skipping.{passes-none, drawn, drawn-stopped}
+use Rattle.dutch_order.proofs.Blocks.{block-comes, no-blocks, taken}
 use Rattle.dutch_order.proofs.choices.ByS1Blocks.next_block.Goals as goal
 
 pub start-requires-clause-same : goal.start-requires-clause-same
 start-requires-clause-same g c =
     let own = c.self.inside in
-    taken (λ a. a.s1) (HasS2 own.k own.residents.items) (λ a. a.s1 ≡ c.deref-3.result.now) (option_copied own.resume) _ c.deref.result.now
-    c.take_by_s1-own.ensures.own c.self.invariant.2 (λ a has same. same ∙ c.deref.ensures.0 ∙ sym c.deref-3.ensures.0)
+    taken (λ a. a.s1) (HasS2 own.k own.residents.items) (λ a. a.s1 ≡ c.deref-2.result.now) (option_copied own.resume) _ c.put_next.new.numbers.items
+    c.take_by_s1-own.ensures.own c.self.invariant.2 (λ a has same. same ∙ sym c.deref-2.ensures.0)
 
 pub returns-clause-answer : goal.returns-clause-answer
 returns-clause-answer g c =
@@ -20,11 +20,30 @@ returns-clause-answer g c =
     let meets = g.R.Rule.meets own.rule.now in
     let made : joined c.start.new.self ≡ in_s1 meets own.k own.residents.items (if_own (λ a. a.s1) at s1) s1 =
     c.start.ensures
-    ∙ ap (λ residents. in_s1 meets own.k residents (option_copied c.take_by_s1-own.result) c.deref-3.result.now) c.deref-2.ensures.0
-    ∙ ap (in_s1 meets own.k own.residents.items (option_copied c.take_by_s1-own.result)) c.deref-3.ensures.0
-    ∙ ap (λ taken. in_s1 meets own.k own.residents.items taken s1) (c.take_by_s1-own.ensures.own ∙ ap (if_own (λ a. a.s1) at) c.deref.ensures.0) in
+    ∙ ap (λ residents. in_s1 meets own.k residents (option_copied c.take_by_s1-own.result) c.deref-2.result.now) c.deref.ensures.0
+    ∙ ap (in_s1 meets own.k own.residents.items (option_copied c.take_by_s1-own.result)) c.deref-2.ensures.0
+    ∙ ap (λ taken. in_s1 meets own.k own.residents.items taken s1) c.take_by_s1-own.ensures.own in
     passes-none (AllByRecursion (g.C.Cuts.Idle c.args._cuts.now)) _ _
     (sym c.self.view_is
     ∙ block-comes (λ a. a.s1) (in_s1 meets own.k own.residents.items) at s1 own.sets.coming later (drawn _ _ _ c.if-not-branch.false c.in_ok-put_next.ensures.answer)
     ∙ ap (λ block. block ∷ s1_blocks meets own.k own.residents.items None later) (sym made)
     ∙ ap (λ resume. joined c.start.new.self ∷ s1_blocks meets own.k own.residents.items (option_copied resume) later) (sym c.take_by_s1-own.ensures.taken))
+
+pub returns-in_err-put_next-clause-answer : goal.returns-in_err-put_next-clause-answer
+returns-in_err-put_next-clause-answer g c =
+    let own = c.self.inside in
+    drawn-stopped _ _ _ _ c.from_residual.ensures.0 (
+      passes-none (AllByRecursion (g.C.Cuts.Idle c.args._cuts.now)) _ _
+          (sym c.self.view_is
+          ∙ ap (s1_blocks (g.R.Rule.meets own.rule.now) own.k own.residents.items (option_copied own.resume)) (sym c.in_err-put_next.ensures.answer.0)),
+      c.in_err-put_next.ensures.answer.1,
+    )
+
+pub returns-then-not-branch-clause-answer : goal.returns-then-not-branch-clause-answer
+returns-then-not-branch-clause-answer g c =
+    let own = c.self.inside in
+    let meets = g.R.Rule.meets own.rule.now in
+    passes-none (AllByRecursion (g.C.Cuts.Idle c.args._cuts.now)) _ _
+    (sym c.self.view_is
+    ∙ ap (s1_blocks meets own.k own.residents.items (option_copied own.resume)) (drawn _ _ _ c.if-not-branch.true c.in_ok-put_next.ensures.answer).0
+    ∙ no-blocks (λ a. a.s1) (in_s1 meets own.k own.residents.items) (option_copied own.resume))

@@ -1,8 +1,8 @@
-use Rattle.std.proofs.Common.{◌≡◌, ◌∷◌, None, sym, ap, subst, ◌∙◌, option_copied}
+use Rattle.std.proofs.Common.{◌≡◌, ◌∷◌, None, sym, ap, subst, refl, ◌∙◌, option_copied}
 use Rattle.std.specs.List.{AllByRecursion}
 use Rattle.dutch_order.specs.Levels.{HasS2r, if_own, in_s1r, s1r_blocks}
-use Rattle.dutch_order.proofs.Blocks.{block-comes, goes-whole, idle-s1r-blocks, taken}
-use Rattle.dutch_order.proofs.Skipping.{passes-all, passes-none, drawn}
+use Rattle.dutch_order.proofs.Blocks.{block-comes, goes-whole, idle-s1r-blocks, no-blocks, taken}
+use Rattle.dutch_order.proofs.Skipping.{passes-all, passes-none, drawn, drawn-stopped}
 use Rattle.dutch_order.proofs.choices.ByS1rBlocks.next_block.Goals as goal
 
 pub returns-then-cuts-clause-answer : goal.returns-then-cuts-clause-answer
@@ -12,14 +12,14 @@ returns-then-cuts-clause-answer g c =
     passes-all (AllByRecursion Idle) _
     (subst (AllByRecursion (AllByRecursion Idle)) c.self.view_is
     (idle-s1r-blocks Idle own.s1.items own.s2.items
-    (λ a at_s1 at_s2. c.cuts.ensures c.if-cuts.true a (c.deref.ensures.0 ∙ at_s1, goes-whole _ _ (c.deref-2.ensures.0 ∙ at_s2)))
+    (λ a at_s1 at_s2. c.cuts.ensures c.if-cuts.true a.s2 (goes-whole _ _ (c.deref.ensures.0 ∙ at_s2)) a at_s1 refl)
     (g.R.Rule.meets own.rule.now) own.remainder.items (option_copied own.resume) own.sets.coming))
 
 pub start-requires-clause-same : goal.start-requires-clause-same
 start-requires-clause-same g c =
     let own = c.self.inside in
-    taken (λ a. a.s1r) (HasS2r own.remainder.items) (λ a. a.s1r ≡ c.deref-7.result.now) (option_copied own.resume) _ c.deref-3.result.now
-    c.take_by_s1r-own.ensures.own c.self.invariant.1 (λ a has same. same ∙ c.deref-3.ensures.0 ∙ sym c.deref-7.ensures.0)
+    taken (λ a. a.s1r) (HasS2r own.remainder.items) (λ a. a.s1r ≡ c.deref-5.result.now) (option_copied own.resume) _ c.put_next.new.numbers.items
+    c.take_by_s1r-own.ensures.own c.self.invariant.1 (λ a has same. same ∙ sym c.deref-5.ensures.0)
 
 pub returns-clause-answer : goal.returns-clause-answer
 returns-clause-answer g c =
@@ -30,13 +30,32 @@ returns-clause-answer g c =
     let meets = g.R.Rule.meets own.rule.now in
     let made : c.start.new.self ≡ in_s1r meets own.s1.items own.s2.items own.remainder.items (if_own (λ a. a.s1r) at s1r) s1r =
     c.start.ensures
-    ∙ ap (λ s1. in_s1r meets s1 c.deref-5.result.now c.deref-6.result.now (option_copied c.take_by_s1r-own.result) c.deref-7.result.now) c.deref-4.ensures.0
-    ∙ ap (λ s2. in_s1r meets own.s1.items s2 c.deref-6.result.now (option_copied c.take_by_s1r-own.result) c.deref-7.result.now) c.deref-5.ensures.0
-    ∙ ap (λ remainder. in_s1r meets own.s1.items own.s2.items remainder (option_copied c.take_by_s1r-own.result) c.deref-7.result.now) c.deref-6.ensures.0
-    ∙ ap (in_s1r meets own.s1.items own.s2.items own.remainder.items (option_copied c.take_by_s1r-own.result)) c.deref-7.ensures.0
-    ∙ ap (λ taken. in_s1r meets own.s1.items own.s2.items own.remainder.items taken s1r) (c.take_by_s1r-own.ensures.own ∙ ap (if_own (λ a. a.s1r) at) c.deref-3.ensures.0) in
+    ∙ ap (λ s1. in_s1r meets s1 c.deref-3.result.now c.deref-4.result.now (option_copied c.take_by_s1r-own.result) c.deref-5.result.now) c.deref-2.ensures.0
+    ∙ ap (λ s2. in_s1r meets own.s1.items s2 c.deref-4.result.now (option_copied c.take_by_s1r-own.result) c.deref-5.result.now) c.deref-3.ensures.0
+    ∙ ap (λ remainder. in_s1r meets own.s1.items own.s2.items remainder (option_copied c.take_by_s1r-own.result) c.deref-5.result.now) c.deref-4.ensures.0
+    ∙ ap (in_s1r meets own.s1.items own.s2.items own.remainder.items (option_copied c.take_by_s1r-own.result)) c.deref-5.ensures.0
+    ∙ ap (λ taken. in_s1r meets own.s1.items own.s2.items own.remainder.items taken s1r) c.take_by_s1r-own.ensures.own in
     passes-none (AllByRecursion (g.C.Cuts.Idle c.args.cuts.now)) _ _
     (sym c.self.view_is
     ∙ block-comes (λ a. a.s1r) (in_s1r meets own.s1.items own.s2.items own.remainder.items) at s1r own.sets.coming later (drawn _ _ _ c.if-not-branch.false c.in_ok-put_next.ensures.answer)
     ∙ ap (λ block. block ∷ s1r_blocks meets own.s1.items own.s2.items own.remainder.items None later) (sym made)
     ∙ ap (λ resume. c.start.new.self ∷ s1r_blocks meets own.s1.items own.s2.items own.remainder.items (option_copied resume) later) (sym c.take_by_s1r-own.ensures.taken))
+
+pub returns-in_err-put_next-clause-answer : goal.returns-in_err-put_next-clause-answer
+returns-in_err-put_next-clause-answer g c =
+    let own = c.self.inside in
+    drawn-stopped _ _ _ _ c.from_residual.ensures.0 (
+      passes-none (AllByRecursion (g.C.Cuts.Idle c.args.cuts.now)) _ _
+          (sym c.self.view_is
+          ∙ ap (s1r_blocks (g.R.Rule.meets own.rule.now) own.s1.items own.s2.items own.remainder.items (option_copied own.resume)) (sym c.in_err-put_next.ensures.answer.0)),
+      c.in_err-put_next.ensures.answer.1,
+    )
+
+pub returns-then-not-branch-clause-answer : goal.returns-then-not-branch-clause-answer
+returns-then-not-branch-clause-answer g c =
+    let own = c.self.inside in
+    let meets = g.R.Rule.meets own.rule.now in
+    passes-none (AllByRecursion (g.C.Cuts.Idle c.args.cuts.now)) _ _
+    (sym c.self.view_is
+    ∙ ap (s1r_blocks meets own.s1.items own.s2.items own.remainder.items (option_copied own.resume)) (drawn _ _ _ c.if-not-branch.true c.in_ok-put_next.ensures.answer).0
+    ∙ no-blocks (λ a. a.s1r) (in_s1r meets own.s1.items own.s2.items own.remainder.items) (option_copied own.resume))

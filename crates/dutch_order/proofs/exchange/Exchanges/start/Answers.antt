@@ -9,7 +9,7 @@ returns-clause-coming c =
     let all = exchanges-found c.args.pool.now c.args.k c.requires.ascends c.requires.enough (λ i. omega (arith, c.type_inv.pool i)) in cc
 
 pub returns-clause-nothing : goal.returns-clause-nothing
-unfolding trials_of_stages trials_of_sizes
+unfolding trials_of_stages trials_of_sizes trials_ahead
 returns-clause-nothing c none =
     let here = trials-nothing (exchange_plan c.args.pool.now c.args.k 0 0) refl in
     let sizes : trials_of_sizes c.args.pool.now c.args.k (most_exchanged c.args.pool.now c.args.k - 0) 1 ≡ 0 =

@@ -9,41 +9,41 @@ use Rattle.dutch_order.proofs.transposition.Transpositions.put_next_past.Goals a
 
 pub climb_past-requires-clause-may_ask : goal.climb_past-requires-clause-may_ask
 climb_past-requires-clause-may_ask g c = λ path stands.
-    let in' = stands-within (g.R.Rule.meets c.self.inside.rule.now) c.self.inside.first.items c.deref.result.now c.self.inside.pool.items c.deref-2.result.now c.deref-3.result.now
-    c.self.inside.hint.items path c.deref.ensures.0 c.deref-2.ensures.0 c.deref-3.ensures.0 stands in
+    let in' = stands-within (g.R.Rule.meets c.self.inside.rule.now) c.self.inside.first.items c.self.inside.first.items c.self.inside.pool.items c.self.inside.pool.items c.self.inside.pool.items
+    c.self.inside.hint.items path refl refl refl stands in
     (in'.0, omega (arith, in'.1, c.self.invariant.0))
 
 pub pick-requires-clause-within : goal.pick-requires-clause-within
 pick-requires-clause-within g c =
-    let in' = stands-within (g.R.Rule.meets c.self.inside.rule.now) c.self.inside.first.items c.deref.result.now c.self.inside.pool.items c.deref-2.result.now c.deref-4.result.now
-    c.self.inside.hint.items c.climb_past.new.walk.path.items c.deref.ensures.0 c.deref-2.ensures.0 c.deref-4.ensures.0 c.climb_past.ensures.stands in
-    subst (AllByRecursion (λ place. place < length c.deref-4.result.now)) (sym c.deref-5.ensures.0) in'.0
+    let in' = stands-within (g.R.Rule.meets c.self.inside.rule.now) c.self.inside.first.items c.self.inside.first.items c.self.inside.pool.items c.self.inside.pool.items c.deref.result.now
+    c.self.inside.hint.items c.climb_past.new.walk.path.items refl refl c.deref.ensures.0 c.climb_past.ensures.stands in
+    subst (AllByRecursion (λ place. place < length c.deref.result.now)) (sym c.deref-2.ensures.0) in'.0
 
 pub returns-clause-answer : goal.returns-clause-answer
 returns-clause-answer g c =
     let Idle = g.C.CutsTuples.Idle c.args.cuts.now in
-    let at = plan-at (g.R.Rule.meets c.self.inside.rule.now) c.deref.result.now c.self.inside.first.items c.deref-2.result.now c.self.inside.pool.items c.self.inside.hint.items in
+    let at = plan-at (g.R.Rule.meets c.self.inside.rule.now) c.self.inside.first.items c.self.inside.first.items c.self.inside.pool.items c.self.inside.pool.items c.self.inside.hint.items in
     let path = c.climb_past.new.walk.path.items in
-    let picked : c.pick.new.numbers.items ≡ numbers_at c.self.inside.pool.items path = c.pick.ensures ∙ ap (λ pool. numbers_at pool c.deref-5.result.now) c.deref-4.ensures.0 ∙ ap (numbers_at c.self.inside.pool.items) c.deref-5.ensures.0 in
-    let passed = tuples-passed Idle c.self.inside.pool.items c.deref-3.result.now c.args.self.now.coming _ _ _ _ (ap (λ v. v.coming) c.self.view_is) c.deref-3.ensures.0
-    (at c.self.inside.walk.path.items c.self.inside.walk.number c.deref.ensures.0 c.deref-2.ensures.0)
-    (ap (λ paths. path ∷ paths) (at path c.climb_past.new.walk.number c.deref.ensures.0 c.deref-2.ensures.0))
+    let picked : c.pick.new.numbers.items ≡ numbers_at c.self.inside.pool.items path = c.pick.ensures ∙ ap (λ pool. numbers_at pool c.deref-2.result.now) c.deref.ensures.0 ∙ ap (numbers_at c.self.inside.pool.items) c.deref-2.ensures.0 in
+    let passed = tuples-passed Idle c.self.inside.pool.items c.self.inside.pool.items c.args.self.now.coming _ _ _ _ (ap (λ v. v.coming) c.self.view_is) refl
+    (at c.self.inside.walk.path.items c.self.inside.walk.number refl refl)
+    (ap (λ paths. path ∷ paths) (at path c.climb_past.new.walk.number refl refl))
     (drawn _ _ _ c.if-not-branch.false c.in_ok-climb_past.ensures.answer).0 in
     passes-same Idle c.args.self.now.coming (numbers_at c.self.inside.pool.items path ∷ _) (c.pick.new.numbers.items ∷ _) passed (ap (λ numbers. numbers ∷ map (numbers_at c.self.inside.pool.items) (hits (ahead (hinted c.self.inside.hint.items (transposition_plan (g.R.Rule.meets c.self.inside.rule.now) c.self.inside.first.items c.self.inside.pool.items)) path c.climb_past.new.walk.number))) (sym picked))
 
 pub returns-then-not-branch-clause-answer : goal.returns-then-not-branch-clause-answer
 returns-then-not-branch-clause-answer g c =
-    let at = plan-at (g.R.Rule.meets c.self.inside.rule.now) c.deref.result.now c.self.inside.first.items c.deref-2.result.now c.self.inside.pool.items c.self.inside.hint.items in
+    let at = plan-at (g.R.Rule.meets c.self.inside.rule.now) c.self.inside.first.items c.self.inside.first.items c.self.inside.pool.items c.self.inside.pool.items c.self.inside.hint.items in
     let none = drawn _ _ _ c.if-not-branch.true c.in_ok-climb_past.ensures.answer in (
-      tuples-passed (g.C.CutsTuples.Idle c.args.cuts.now) c.self.inside.pool.items c.deref-3.result.now c.args.self.now.coming _ _ _ _ (ap (λ v. v.coming) c.self.view_is) c.deref-3.ensures.0
-          (at c.self.inside.walk.path.items c.self.inside.walk.number c.deref.ensures.0 c.deref-2.ensures.0) refl none.0,
-      ap (map (numbers_at c.self.inside.pool.items)) (sym (at c.climb_past.new.walk.path.items c.climb_past.new.walk.number c.deref.ensures.0 c.deref-2.ensures.0) ∙ ap hits none.1),
+      tuples-passed (g.C.CutsTuples.Idle c.args.cuts.now) c.self.inside.pool.items c.self.inside.pool.items c.args.self.now.coming _ _ _ _ (ap (λ v. v.coming) c.self.view_is) refl
+          (at c.self.inside.walk.path.items c.self.inside.walk.number refl refl) refl none.0,
+      ap (map (numbers_at c.self.inside.pool.items)) (sym (at c.climb_past.new.walk.path.items c.climb_past.new.walk.number refl refl) ∙ ap hits none.1),
     )
 
 pub returns-in_err-climb_past-clause-answer : goal.returns-in_err-climb_past-clause-answer
 returns-in_err-climb_past-clause-answer g c =
-    let at = plan-at (g.R.Rule.meets c.self.inside.rule.now) c.deref.result.now c.self.inside.first.items c.deref-2.result.now c.self.inside.pool.items c.self.inside.hint.items in
-    let passed = tuples-passed (g.C.CutsTuples.Idle c.args.cuts.now) c.self.inside.pool.items c.deref-3.result.now c.args.self.now.coming _ _ _ _ (ap (λ v. v.coming) c.self.view_is) c.deref-3.ensures.0
-    (at c.self.inside.walk.path.items c.self.inside.walk.number c.deref.ensures.0 c.deref-2.ensures.0)
-    (at c.climb_past.new.walk.path.items c.climb_past.new.walk.number c.deref.ensures.0 c.deref-2.ensures.0) c.in_err-climb_past.ensures.answer.0 in
+    let at = plan-at (g.R.Rule.meets c.self.inside.rule.now) c.self.inside.first.items c.self.inside.first.items c.self.inside.pool.items c.self.inside.pool.items c.self.inside.hint.items in
+    let passed = tuples-passed (g.C.CutsTuples.Idle c.args.cuts.now) c.self.inside.pool.items c.self.inside.pool.items c.args.self.now.coming _ _ _ _ (ap (λ v. v.coming) c.self.view_is) refl
+    (at c.self.inside.walk.path.items c.self.inside.walk.number refl refl)
+    (at c.climb_past.new.walk.path.items c.climb_past.new.walk.number refl refl) c.in_err-climb_past.ensures.answer.0 in
     drawn-stopped _ _ _ _ c.from_residual.ensures.0 (passed, c.in_err-climb_past.ensures.answer.1)
