@@ -181,6 +181,7 @@ module _ (facts : Facts) (reached : Reached) (of' : IsOf facts reached) (flat : 
 
   meet_for : (i j : ℕ) → numbers_meet facts (next_bracket (downfloaters facts reached a) next) i j ≡ true
       → ghosts_meet facts reached.seats (length (downfloaters facts reached a)) next i j ≡ true
+  unfolding numbers_meet
   meet_for i j e =
       let floats : List ℕ = downfloaters facts reached a in
       let k = length floats in
@@ -199,6 +200,7 @@ module _ (facts : Facts) (reached : Reached) (of' : IsOf facts reached) (flat : 
 
   left_for : (i : ℕ) → number_may_be_left facts (next_bracket (downfloaters facts reached a) next) i ≡ true
       → ghost_may_be_left facts reached.seats (length (downfloaters facts reached a)) next i ≡ true
+  unfolding number_may_be_left
   left_for i e =
       let floats : List ℕ = downfloaters facts reached a in
       let k = length floats in

@@ -78,6 +78,7 @@ module _ (facts : Facts) (reached : Reached) (lower : List ℕ) (shape : Shape) 
   -- the value of a quality is that of the next bracket
   from_value : (a : Arrangement) (next value : NextValue) → value_at reached.kind a ≡ value → IsNotBetter value next.pairs next.psd
       → HasNoBetter (quality_of facts reached lower a) next
+  unfolding quality_of
   from_value a next value e h = not_better (value_at reached.kind a) next (subst (λ v. IsNotBetter v next.pairs next.psd) (sym e) h)
 
   ordinary_value : (a : Arrangement) → reached.kind ≡ Ordinary → value_at reached.kind a ≡ value_at Ordinary a

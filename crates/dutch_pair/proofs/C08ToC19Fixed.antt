@@ -109,6 +109,7 @@ module _ (facts : Facts) (reached : Reached) (known : List (ℕ × ℕ)) (gone :
 
 pub least_of_known : (facts : Facts) (reached : Reached) (lower : List ℕ) (known : List (ℕ × ℕ)) (gone : List ℕ) (a : Arrangement) → Beside known (all_pairs reached.seats a)
     → Beside gone (downfloaters facts reached a) → NotBelow facts (seated_so facts reached known gone) (quality_of facts reached lower a)
+unfolding quality_of
 least_of_known facts reached lower known gone a others left =
     let candidate : Candidate = record { lists = a; down = down (frame_of facts reached) a } in
     let all : List (ℕ × ℕ) = all_pairs reached.seats a in

@@ -229,6 +229,7 @@ same_but_end b a lacks =
 pub lonely_miss : (facts : Facts) (reached : Reached) (lower : List ℕ) (shape : Shape) (b a : Arrangement) → reached.mdps ≤ length reached.seats
     → IsIn a (candidates_of facts reached shape) → LacksEndOfS2r b a
     → count_in_pairs facts (misses Preference) (all_pairs reached.seats b) + lonely facts reached shape b ≤ (quality_of facts reached lower a).missed_preferences
+unfolding quality_of
 lonely_miss facts reached lower shape b a within m lacks =
     let P : Arrangement → Type 0 = λ c. count_in_pairs facts (misses Preference) (all_pairs reached.seats c) + lonely facts reached shape c
     ≤ count_in_pairs facts (misses Preference) (all_pairs reached.seats a) in

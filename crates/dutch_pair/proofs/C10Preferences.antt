@@ -88,6 +88,7 @@ module _ (facts : Facts) (reached : Reached) (shape : Shape) (known : List (ℕ 
 pub beginning_misses : (facts : Facts) (reached : Reached) (lower : List ℕ) (shape : Shape) (b a : Arrangement) → reached.mdps ≤ length reached.seats
     → IsIn a (arrangements (frame_of facts reached) shape) → HasPairsOf b a
     → count_in_pairs facts (misses Preference) (all_pairs reached.seats b) + more_missed facts reached shape b ≤ (quality_of facts reached lower a).missed_preferences
+unfolding quality_of
 beginning_misses facts reached lower shape b a within m begins =
     let least = more_miss facts reached shape (all_pairs reached.seats b) [] a within m (beside reached.seats b a begins) (none_known (downfloaters facts reached a)) in
     omega (arith, least)

@@ -155,6 +155,7 @@ pub beginning_misses_strongly : (facts : Facts) (reached : Reached) (lower : Lis
     → (quality_of facts reached lower a).wide_differences ≡ count_with_topscorers facts (misses Wide) (all_pairs reached.seats b)
     → (quality_of facts reached lower a).third_colours ≡ count_with_topscorers facts (misses Third) (all_pairs reached.seats b)
     → count_in_pairs facts (misses StrongPreference) (all_pairs reached.seats b) + more_missed_strong facts reached shape b ≤ (quality_of facts reached lower a).missed_strong
+unfolding quality_of
 beginning_misses_strongly facts reached lower shape b a within m begins no_wider no_third =
     let least = more_miss_strongly facts reached shape (all_pairs reached.seats b) [] a within m (beside reached.seats b a begins) (none_known (downfloaters facts reached a)) no_wider no_third in
     omega (arith, least)

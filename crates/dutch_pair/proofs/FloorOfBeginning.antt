@@ -93,6 +93,7 @@ missed_more : (basis : Basis) (lower : List ℕ) (b a : Arrangement) → basis.r
     → IsIn a (arrangements (frame_of basis.facts basis.reached) basis.shape) → HasPairsOf b a
     → count_in_pairs basis.facts (misses Preference) (all_pairs basis.reached.seats b) + more_in false basis.facts basis.reached basis.shape (fixed basis.facts basis.reached b)
     ≤ (quality_of basis.facts basis.reached lower a).missed_preferences
+unfolding quality_of
 missed_more basis lower b a within m begins =
     more_miss basis.facts basis.reached basis.shape (all_pairs basis.reached.seats b) [] a within m (beside basis.reached.seats b a begins)
     (none_known (downfloaters basis.facts basis.reached a))
@@ -119,6 +120,7 @@ pub floor_stands : (basis : Basis) (lower : List ℕ) (b : Beginning) (a : Arran
     → (has_s1 b.filling || is_uniform basis.facts basis.reached basis.shape) ≡ true
     → IsOutlook basis.facts basis.reached lower basis.shape basis.outlook
     → is_better (quality_of basis.facts basis.reached lower a) (floor_of basis b) ≡ false
+unfolding quality_of
 floor_stands basis lower b a of' m h known outlook =
     let legal = legal_of basis.facts basis.reached basis.shape a m in
     let within : basis.reached.mdps ≤ length basis.reached.seats = subst (λ n. basis.reached.mdps ≤ n) (length-map basis.reached.seats (score_at basis.facts)) of'.sound.within in

@@ -59,6 +59,7 @@ module _ (f q : Quality) (floor : IsFloor f q) where
       number_not q.missed_strong f.missed_strong _ (floor.strong wide third) (λ _. floats_not))))
 
   pub not_better : is_better q f ≡ false
+  unfolding is_better
   not_better =
       list_not q.psd f.psd _ floor.psd
       (number_not f.next_pairs q.next_pairs _ floor.next_pairs (λ pairs.

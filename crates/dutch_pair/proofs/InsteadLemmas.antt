@@ -43,6 +43,7 @@ any_kept test (a ∷ rest) = kept_at test a rest (test a) refl (any_kept test re
 
 module _ (facts : Facts) (reached : Reached) (lower : List ℕ) (shape : Shape) (wish : Wish) where
   none_at : (t : Bool) → has_member (filter (grants wish) (eligible facts reached lower shape)) ≡ t → best_wished facts reached lower (Some wish) shape ≡ None → t ≡ false
+  unfolding best_wished
   none_at true some none =
       absurd (best_of_some (is_better_in facts reached lower) (order_in facts reached lower) (filter (grants wish) (eligible facts reached lower shape)) some none)
   none_at false some none = refl

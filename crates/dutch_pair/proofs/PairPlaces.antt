@@ -18,6 +18,7 @@ use Rattle.dutch_pair.specs.PairFacts.{place_of, KnowsPairs, NotedUpto}
 use Rattle.dutch_pair.proofs.PairMisses.{pair_sym}
 
 numbers_sym : (facts : Facts) (reached : Reached) (a b : ℕ) → numbers_meet facts reached a b ≡ numbers_meet facts reached b a
+unfolding numbers_meet
 numbers_sym facts reached a b =
     let inside : (is_number reached a && is_number reached b) ≡ (is_number reached b && is_number reached a) = and_comm (is_number reached a) (is_number reached b) in
     let equal : (a == b) ≡ (b == a) = grind (arith, nat_tests) in

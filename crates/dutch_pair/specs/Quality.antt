@@ -207,5 +207,5 @@ compared =
     by_list (λ q. q.psd) (then_cmp (on (λ q. q.next_pairs) (flip_args nat_cmp)) (by_list (λ q. q.next_psd) compared_by_colours))
 
 -- one quality is better than another: at the first item that differs it stands in front
-abbrev pub is_better : Quality → Quality → Bool
+unfoldable pub is_better : Quality → Quality → Bool
 is_better a b = is_lt (compared a b)

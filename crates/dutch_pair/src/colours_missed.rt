@@ -11,7 +11,7 @@ use dutch_player::{Field, Strength};
 use trf16::Colour;
 
 /// What is wrong with the colour that a player gets.
-#[derive(Debug, Clone, Copy, PartialEq, Eq)]
+#[derive(Clone, Copy)]
 pub enum Miss {
     /// His colour difference gets over +2 or under -2 (C.8).
     Wide,

@@ -210,6 +210,7 @@ impl<'a> Context<'a> {
     }
 
     /// Whether two numbers may meet, and neither misses his preference. It says no of a number that is not the bracket's.
+    #[tactic(auto, unfolding(crate::specs::Reached::numbers_meet))]
     pub(crate) fn suits(&self, x: u16, y: u16) -> bool
         ensures { result ≡ suits self.now.facts self.now.reached x y }
     {

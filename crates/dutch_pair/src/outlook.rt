@@ -18,7 +18,7 @@ use crate::reached::BracketKind;
 use dutch_order::{Budget, Filling, Numbers, Shape, Stopped};
 
 /// What the next bracket can be at best.
-#[derive(Debug, Drop)]
+#[derive(Drop)]
 pub(crate) struct Outlook {
     /// Where the Limbo has the scores of the first one, if that is known.
     pub(crate) first: Option<NextValue>,

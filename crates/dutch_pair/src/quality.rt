@@ -77,6 +77,7 @@ pub struct Quality {
 
 impl Quality {
     /// Whether this quality is better than another one.
+    #[tactic(auto, unfolding(crate::specs::Quality::is_better))]
     pub fn is_better(&self, other: &Quality) -> bool
         ensures { result ≡ is_better (quality_in self.now) (quality_in other.now) }
     {
@@ -208,7 +209,7 @@ impl Quality {
 
 /// Where a quality is worked out, filled anew for each candidate and each beginning: its players by seats, its items, and those with
 /// whom S1R can still be paired, by number.
-#[derive(Debug, Default, Drop)]
+#[derive(Default, Drop)]
 pub(crate) struct Room {
     pub(crate) seated: Seated,
     pub(crate) quality: Quality,

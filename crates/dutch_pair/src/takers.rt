@@ -19,7 +19,7 @@ use crate::spending::step;
 use dutch_order::{Budget, Numbers, Rule, Stopped};
 
 /// How many downfloaters there are for the lower players, and whether one of these may be left out.
-#[derive(Debug, Clone, Copy)]
+#[derive(Clone, Copy)]
 struct Room {
     takers: usize,
     bye: bool,

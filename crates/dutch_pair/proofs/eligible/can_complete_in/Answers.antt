@@ -6,6 +6,7 @@ use Rattle.dutch_pair.proofs.TellLemmas.{told}
 use Rattle.dutch_pair.proofs.eligible.can_complete_in.Goals as goal
 
 pub returns-clause-answer : goal.returns-clause-answer
+unfolding Rattle.dutch_pair.specs.Round.completable
 returns-clause-answer c =
     let facts = c.args.field.now in
     let players = c.args.players.now in
