@@ -19,7 +19,7 @@ use Rattle.dutch_pair.specs.Seats.{seats_meet, seats_may_be_left}
 use Rattle.dutch_pair.specs.Reached.{Reached, frame_of, numbers_meet, number_may_be_left}
 use Rattle.dutch_pair.specs.Shapes.{down_from, fits, shapes_with, has_member, first_with}
 use Rattle.dutch_pair.specs.Round.{is_penultimate, completable, downfloaters, candidates_of, eligible}
-use Rattle.dutch_pair.specs.Takers.{takes_one, can_cover_but, meets_bracket, can_go_out}
+use Rattle.dutch_pair.specs.Takers.{takes_one, can_cover_but, meets_bracket, can_go_out, can_take_out}
 use Rattle.dutch_pair.proofs.GhostPairs.{down_count}
 use Rattle.dutch_pair.proofs.Covering.{IsPartner, partner_of, partner_serves}
 use Rattle.dutch_pair.proofs.DownLemmas.{down_numbers}
@@ -302,6 +302,7 @@ none_passes p (a ∷ xs) none =
 -- whoever has one of a bracket's numbers is among those of it who may meet a lower player
 numbers_meet_lower : (facts : Facts) (seats numbers : List ℕ) → AllNumbers seats numbers → (d : ℕ) → IsIn d (map (seat_of seats) numbers)
     → (b : ℕ) → seats_meet facts d b ≡ true → meets_bracket facts seats b ≡ true
+unfolding meets_bracket
 numbers_meet_lower facts seats [] all d m b may = absurd m
 numbers_meet_lower facts seats (x ∷ numbers) all d (inl same) b may =
     list_any_at (λ a. seats_meet facts a b) seats (x - 1) 0 (omega (arith, all.0.0, all.0.1)) (ap (λ a. seats_meet facts a b) (sym same) ∙ may)
@@ -315,7 +316,7 @@ module _ (facts : Facts) (reached : Reached) (lower : List ℕ) (penultimate : i
   CannotGoOut pairs = can_go_out facts reached.seats (length reached.seats - 2 * pairs) lower ≡ false
 
   none_of : (shape : Shape) → fits frame shape ≡ true → CannotGoOut shape.pairs → has_member (eligible facts reached lower shape) ≡ false
-  unfolding candidates_of completable eligible
+  unfolding candidates_of completable eligible can_go_out can_take_out
   none_of shape room cannot =
       let count : length frame.scores ≡ length reached.seats = length-map reached.seats (score_at facts) in
       let leaves : Arrangement → Bool = λ lists. completable facts (downfloaters facts reached lists ++ lower) in

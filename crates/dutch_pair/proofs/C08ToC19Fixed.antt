@@ -16,8 +16,8 @@ use Rattle.dutch_pair.specs.declared.seated.Floater.{Floater}
 use Rattle.dutch_pair.specs.declared.colours_missed.Miss.TheVariants.{Wide, Third}
 use Rattle.dutch_pair.specs.Beginnings.{HasPairsOf, fixed, seated_so}
 use Rattle.dutch_pair.specs.Floors.{NotBelow}
-use Rattle.dutch_pair.specs.NextBracket.{is_lower}
-use Rattle.dutch_pair.specs.Quality.{again, count_in, count_with_topscorers, differences, has_topscorer, highest_first, misses}
+use Rattle.dutch_pair.specs.NextBracket.{is_lower, quality}
+use Rattle.dutch_pair.specs.Quality.{again, count_in, count_with_topscorers, differences, has_topscorer, highest_first, misses, quality_with}
 use Rattle.dutch_pair.specs.Reached.{Reached, frame_of}
 use Rattle.dutch_pair.specs.Round.{downfloaters, quality_of}
 use Rattle.dutch_pair.specs.Seated.{Seated, all_pairs, by_seats, floats_down, goes_down, goes_up, going_down, going_up, is_uneven, seat_of}
@@ -109,7 +109,7 @@ module _ (facts : Facts) (reached : Reached) (known : List (ℕ × ℕ)) (gone :
 
 pub least_of_known : (facts : Facts) (reached : Reached) (lower : List ℕ) (known : List (ℕ × ℕ)) (gone : List ℕ) (a : Arrangement) → Beside known (all_pairs reached.seats a)
     → Beside gone (downfloaters facts reached a) → NotBelow facts (seated_so facts reached known gone) (quality_of facts reached lower a)
-unfolding quality_of
+unfolding quality_of quality quality_with
 least_of_known facts reached lower known gone a others left =
     let candidate : Candidate = record { lists = a; down = down (frame_of facts reached) a } in
     let all : List (ℕ × ℕ) = all_pairs reached.seats a in

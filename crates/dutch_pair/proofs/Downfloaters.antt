@@ -47,6 +47,7 @@ module _ (facts : Facts) (reached : Reached) (lower : List ℕ) where
 
 -- a seat does not meet itself
 pub meets_other : (facts : Facts) (s t : ℕ) → seats_meet facts s t ≡ true → s ≡ t → ⊥
+unfolding seats_meet
 meets_other facts s t h same =
     let first = and_parts (is_seat facts s && is_seat facts t && not (s == t)) (may_meet facts s t) h in
     let second = and_parts (is_seat facts s && is_seat facts t) (not (s == t)) first.0 in
@@ -80,7 +81,7 @@ module _ (facts : Facts) (number : ℕ) (kind : BracketKind) (md residents : Lis
       let from = IsIn-map (seat_of seats) s (down frame a) m in subst (λ t. IsIn t seats) (sym from.1) (seat_in facts number kind md residents twice from.0 (down_number a from.0 from.2))
 
   meet_numbers : (x y : ℕ) → IsNumber frame x → IsNumber frame y → seats_meet facts (seat_of seats x) (seat_of seats y) ≡ true → numbers_meet facts reached x y ≡ true
-  unfolding numbers_meet
+  unfolding numbers_meet seats_meet
   meet_numbers x y h g may =
       let s = seat_of seats x in
       let t = seat_of seats y in

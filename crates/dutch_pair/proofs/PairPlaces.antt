@@ -27,6 +27,7 @@ numbers_sym facts reached a b =
     cc
 
 pub suits_sym : (facts : Facts) (reached : Reached) (x y : ℕ) → suits facts reached x y ≡ suits facts reached y x
+unfolding suits numbers_meet
 suits_sym facts reached x y =
     ap (λ t. t && (count_in facts (misses Preference) (seat_of reached.seats x, seat_of reached.seats y) == 0)) (numbers_sym facts reached x y)
     ∙ ap (λ k. numbers_meet facts reached y x && (k == 0)) (pair_sym facts (seat_of reached.seats x) (seat_of reached.seats y))

@@ -21,6 +21,7 @@ equal_sym a b =
     same_tests (a == b) (b == a) (λ e n. eqb-false b a n (sym (eqb-true a b e))) (λ e n. eqb-false a b n (sym (eqb-true b a e)))
 
 pub seats_meet_sym : (facts : Facts) (a b : ℕ) → seats_meet facts a b ≡ seats_meet facts b a
+unfolding seats_meet
 seats_meet_sym facts a b =
     ap (λ t. t && not (a == b) && may_meet facts a b) (and_comm (is_seat facts a) (is_seat facts b))
     ∙ ap (λ t. is_seat facts b && is_seat facts a && not t && may_meet facts a b) (equal_sym a b)

@@ -99,6 +99,7 @@ pub(crate) fn misses(field: &Field, miss: Miss, seat: u16, colour: Colour) -> bo
 }
 
 /// How many of the two players of a pair miss so.
+#[tactic(auto, unfolding(crate::specs::Quality::count_in))]
 pub(crate) fn count_in(field: &Field, miss: Miss, pair: Pair) -> u16
     requires first { pair.0 < length field.now.seats }
     requires second { pair.1 < length field.now.seats }

@@ -132,7 +132,6 @@ fn look_for(alloc: Global, wished: &Wished<'_>, budget: &mut Budget) -> Result<I
 /// What would stand in a bracket in place of what is chosen there, were a wish granted: the best candidate of its shape that grants it and
 /// can be chosen (B.8, C.4), or why there is none. The wish names players by their numbers in the bracket; no candidate pairs a number that
 /// the bracket has not. The search has a budget of its own, of `limit` steps.
-#[tactic(auto, using(crate::proofs::InsteadLemmas::stage_fits))]
 pub fn best_instead(
     alloc: Global,
     field: &Field,

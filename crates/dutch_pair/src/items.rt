@@ -125,7 +125,7 @@ fn put_if(holds: bool, seat: u16, seats: &mut Seats)
 }
 
 /// Puts those of the players of a pair who miss so to their places.
-#[tactic(auto, using(crate::proofs::Places::placed_all_append))]
+#[tactic(auto, using(crate::proofs::Places::placed_all_append), unfolding(crate::specs::Items::those_in))]
 fn put_pair(field: &Field, miss: Miss, pair: Pair, seats: &mut Seats)
     requires first { pair.0 < length field.now.seats }
     requires second { pair.1 < length field.now.seats }

@@ -27,7 +27,7 @@ pub(crate) struct Outlook {
 }
 
 /// Whether an S1 leaves a Limbo with the scores of the first one of a shape.
-#[tactic(auto, using(crate::proofs::ArrangementParts::next_number))]
+#[tactic(auto, using(crate::proofs::ArrangementParts::next_number), unfolding(crate::specs::Outlooks::leaves_first))]
 fn leaves_first(context: &Context<'_>, shape: Shape, s1: &[u16]) -> bool
     requires { Fits (frame_of context.now.facts context.now.reached) shape }
     ensures { result ≡ leaves_first context.now.facts context.now.reached shape s1.now }

@@ -217,7 +217,7 @@ pub(crate) struct Room {
 }
 
 /// Fills a quality with the items of a candidate by seats, but for those of C.6, C.7, C.10 and C.11, which stay.
-#[tactic(auto, using(crate::proofs::Places::length_differences))]
+#[tactic(auto, using(crate::proofs::Places::length_differences), unfolding(crate::specs::Quality::quality_with, crate::specs::QualityIn::with_others))]
 pub(crate) fn fill_others(field: &Field, candidate: &Seated, quality: &mut Quality)
     requires { HasSeats field.now candidate.now }
     ensures { quality_in quality.new ≡ with_others field.now candidate.now (quality_in quality.old) }
@@ -235,6 +235,7 @@ pub(crate) fn fill_others(field: &Field, candidate: &Seated, quality: &mut Quali
 }
 
 /// Fills the quality of a candidate of a bracket with these seats, for the value of the next bracket that it has.
+#[tactic(auto, unfolding(crate::specs::Quality::quality_with, crate::specs::QualityIn::with_others))]
 pub(crate) fn fill_quality(field: &Field, seats: &[u16], candidate: &Candidate, room: &mut Room)
     requires bracket { AreSeats field.now seats.now }
     requires candidate { IsCandidate seats.now candidate.now }

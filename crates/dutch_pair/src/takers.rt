@@ -33,6 +33,7 @@ fn may_meet(context: &Context<'_>, one: u16, other: u16) -> bool
 }
 
 /// Whether some player of a bracket may meet a lower one.
+#[tactic(auto, unfolding(crate::specs::Takers::meets_bracket))]
 fn takes(context: &Context<'_>, lower: u16) -> bool
     ensures { result ≡ meets_bracket context.now.facts context.now.reached.seats lower }
 {
@@ -45,6 +46,7 @@ fn takes(context: &Context<'_>, lower: u16) -> bool
 }
 
 /// Whether so many downfloaters of a bracket can be paired out with all lower players (A.9), whoever they are.
+#[tactic(auto, unfolding(crate::specs::Takers::can_go_out))]
 pub(crate) fn can_go_out(
     context: &Context<'_>,
     takers: usize,
@@ -64,7 +66,7 @@ pub(crate) fn can_go_out(
 
 /// Whether lower players can be paired out, where there is room for some at downfloaters and for one who is left out.
 #[cycle(search)]
-#[tactic(auto, using(crate::proofs::TakersSearch::nobody_there, crate::proofs::TakersSearch::first_paired, crate::proofs::TakersSearch::first_taken, crate::proofs::TakersSearch::first_left))]
+#[tactic(auto, using(crate::proofs::TakersSearch::nobody_there, crate::proofs::TakersSearch::first_paired, crate::proofs::TakersSearch::first_taken, crate::proofs::TakersSearch::first_left), unfolding(crate::specs::Takers::can_take_out))]
 fn can_pair(
     context: &Context<'_>,
     players: &mut [u16],
