@@ -53,6 +53,7 @@ module _ (facts : Facts) (reached : Reached) (known : List (ℕ × ℕ)) (gone :
 
   -- of who goes down
   down_no_less : (f : List Floater → ℕ) → AddsUp f → f (going_down facts fewer) ≤ f (going_down facts all)
+  unfolding going_down
   down_no_less f adds =
       let of_pairs : List (ℕ × ℕ) → ℕ = λ pairs. f (map (goes_down facts) (filter (is_uneven facts) pairs)) in
       let of_gone : List ℕ → ℕ = λ seats. f (map (floats_down facts all.lowest) seats) in
@@ -69,6 +70,7 @@ module _ (facts : Facts) (reached : Reached) (known : List (ℕ × ℕ)) (gone :
 
   -- and of who goes up
   up_no_less : (f : List Floater → ℕ) → AddsUp f → f (going_up facts fewer) ≤ f (going_up facts all)
+  unfolding going_up
   up_no_less f adds =
       no_less (λ pairs. f (map (goes_up facts) (filter (is_uneven facts) pairs))) known all.pairs
       (filtered_add_up (λ pairs. f (map (goes_up facts) pairs)) (is_uneven facts) (mapped_add_up f (goes_up facts) adds)) others

@@ -13,7 +13,7 @@ use Rattle.dutch_player.specs.Facts.{Facts}
 use Rattle.dutch_pair.specs.declared.colours_missed.Miss.TheVariants.{Preference}
 use Rattle.dutch_pair.specs.Beginnings.{HasPairsOf, LacksEndOfS2r, fixed}
 use Rattle.dutch_pair.specs.ColourFloors.{residents_down}
-use Rattle.dutch_pair.specs.FloorOf.{Basis, IsBasis, fixed_lists, floor_of, has_s1, is_flat, is_known, is_of_shape, is_uniform, lists_by, more_by, more_in, psd_by, residents_score, s1_by, floor_by}
+use Rattle.dutch_pair.specs.FloorOf.{Basis, IsBasis, fixed_lists, floor_of, has_s1, is_flat, is_known, is_of_shape, is_uniform, lists_by, more_by, more_in, psd_by, residents_score, s1_by, floor_by, psd_over}
 use Rattle.dutch_pair.specs.Outlooks.{IsOutlook, awaited}
 use Rattle.dutch_pair.specs.NextBracket.{IsFlat, is_lower, quality}
 use Rattle.dutch_pair.specs.PsdFloors.{psd_with, repeated}
@@ -52,6 +52,7 @@ same_not_lower xs = more_copies xs xs (λ d. omega arith)
 
 known_not_lower : (facts : Facts) (reached : Reached) (shape : Shape) (s : ℕ) (s1 : List ℕ)
     → is_lower (psd_with facts reached shape s s1) (psd_with facts reached shape s s1) ≡ false
+unfolding psd_with
 known_not_lower facts reached shape s s1 =
     same_not_lower (map (λ i. score_at facts (seat_of reached.seats i) - s) s1
     ++ (map (λ i. (score_at facts (seat_of reached.seats i) - s) + 2) (left_of (numbers_from 1 reached.mdps) s1)
@@ -80,6 +81,7 @@ pub psd_holds : (basis : Basis) (lower : List ℕ) (filling : Filling) (lists a 
     → is_lower (quality_of basis.facts basis.reached lower a).psd (cond t
     (psd_with basis.facts basis.reached basis.shape (residents_score basis.facts basis.reached) (s1_by filling basis.shape (lists_by filling lists).s1))
     (psd basis.facts (fixed basis.facts basis.reached (lists_by filling lists)))) ≡ false
+unfolding psd
 psd_holds basis lower filling lists a of' m h known true flat =
     let same = psd_at basis lower filling lists a of' (flat_residents basis.facts basis.reached of' flat) m h known in
     ap (λ xs. is_lower xs (psd_with basis.facts basis.reached basis.shape (residents_score basis.facts basis.reached) (s1_by filling basis.shape (lists_by filling lists).s1))) same
@@ -121,7 +123,7 @@ pub floor_stands : (basis : Basis) (lower : List ℕ) (b : Beginning) (a : Arran
     → (has_s1 b.filling || is_uniform basis.facts basis.reached basis.shape) ≡ true
     → IsOutlook basis.facts basis.reached lower basis.shape basis.outlook
     → is_better (quality_of basis.facts basis.reached lower a) (floor_of basis b) ≡ false
-unfolding quality_of quality quality_with floor_of floor_over floor_by
+unfolding quality_of quality quality_with floor_of floor_over floor_by psd_over
 floor_stands basis lower b a of' m h known outlook =
     let legal = legal_of basis.facts basis.reached basis.shape a m in
     let within : basis.reached.mdps ≤ length basis.reached.seats = subst (λ n. basis.reached.mdps ≤ n) (length-map basis.reached.seats (score_at basis.facts)) of'.sound.within in

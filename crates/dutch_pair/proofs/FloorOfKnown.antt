@@ -112,7 +112,7 @@ module _ (basis : Basis) (lower : List ℕ) (filling : Filling) (lists a : Arran
     psd_stays false uneven = psd_of_known basis.facts basis.reached lower known gone a others left
 
     stays : is_better (quality_of basis.facts basis.reached lower a) (floor_by_seats filling basis s1 (seated_so basis.facts basis.reached known gone)) ≡ false
-    unfolding quality_of quality quality_with floor_by_seats floor_over
+    unfolding quality_of quality quality_with floor_by_seats floor_over psd_over
     stays =
         let legal = legal_of basis.facts basis.reached basis.shape a m in
         let within : basis.reached.mdps ≤ length basis.reached.seats = subst (λ n. basis.reached.mdps ≤ n) (length-map basis.reached.seats (score_at basis.facts)) of'.sound.within in

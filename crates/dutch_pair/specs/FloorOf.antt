@@ -59,7 +59,7 @@ is_uniform facts reached shape =
     (shape.mdps == 0) || ((shape.mdps == reached.mdps) || (score_at facts (seat_of reached.seats 1) == score_at facts (seat_of reached.seats reached.mdps)))
 
 -- C.6: what S1 tells where all residents have one score; else the differences of what is known
-abbrev pub psd_over : Filling → Basis → List ℕ → Seated → List ℕ
+unfoldable pub psd_over : Filling → Basis → List ℕ → Seated → List ℕ
 psd_over filling basis s1 known =
     if is_flat basis.facts basis.reached
     then psd_with basis.facts basis.reached basis.shape (residents_score basis.facts basis.reached) (s1_by filling basis.shape s1)

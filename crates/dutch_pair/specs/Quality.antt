@@ -72,7 +72,7 @@ abbrev pub highest_first : List ℕ → List ℕ
 highest_first numbers = placed_all [] numbers
 
 -- C.6: the PSD: the differences of all pairs and all downfloaters, the highest first
-abbrev pub psd : Facts → Seated → List ℕ
+unfoldable pub psd : Facts → Seated → List ℕ
 psd facts candidate =
     highest_first (map (difference facts) candidate.pairs ++ map (difference_down facts candidate.lowest) candidate.down)
 

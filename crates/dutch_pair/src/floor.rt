@@ -164,7 +164,7 @@ impl<'a> Floors<'a> {
     }
 
     /// Fills a list with the PSD (C.6).
-    #[tactic(auto, using(crate::proofs::FloorLemmas::first_numbers, crate::proofs::FloorLemmas::first_length))]
+    #[tactic(auto, using(crate::proofs::FloorLemmas::first_numbers, crate::proofs::FloorLemmas::first_length), unfolding(crate::specs::FloorOf::psd_over))]
     fn fill_psd(&self, filling: Filling, s1: &[u16], seated: &Seated, psd: &mut Numbers)
         requires inside { HasSeats self.now.facts seated.now }
         requires numbers { AllNumbers self.now.reached.seats s1.now }
