@@ -316,7 +316,7 @@ module _ (facts : Facts) (reached : Reached) (lower : List ℕ) (penultimate : i
   CannotGoOut pairs = can_go_out facts reached.seats (length reached.seats - 2 * pairs) lower ≡ false
 
   none_of : (shape : Shape) → fits frame shape ≡ true → CannotGoOut shape.pairs → has_member (eligible facts reached lower shape) ≡ false
-  unfolding candidates_of completable eligible can_go_out can_take_out
+  unfolding candidates_of completable eligible can_go_out
   none_of shape room cannot =
       let count : length frame.scores ≡ length reached.seats = length-map reached.seats (score_at facts) in
       let leaves : Arrangement → Bool = λ lists. completable facts (downfloaters facts reached lists ++ lower) in

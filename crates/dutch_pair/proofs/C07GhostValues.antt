@@ -45,7 +45,6 @@ module _ (facts : Facts) (reached : Reached) (of' : IsOf facts reached) (flat : 
   pub no_value_is_better_than_by_ghosts : reached.kind ≡ Ordinary → (next : List ℕ) → IsNext facts reached next
       → map (λ i. score_at facts (seat_of reached.seats i)) (left_of (numbers_from 1 reached.mdps) a.s1) ≡ first_limbo facts reached shape
       → IsNotBetter (value_in Ordinary facts (downfloaters facts reached a) next) (ghost_value facts reached shape next).pairs (ghost_value facts reached shape next).psd
-  unfolding shape_by_ghosts ghost_value
   no_value_is_better_than_by_ghosts ordinary next below same =
       by_shape (shape_by_ghosts facts reached.seats next (first_ghosts facts reached shape)) refl
     where

@@ -18,14 +18,12 @@ module _ (facts : Facts) (seats : List ℕ) (bye : Bool) (k : ℕ) where
 
   -- the three ways of the first player
   by_ways : (a : ℕ) (later : List ℕ) → can_take_out facts seats bye (length (a ∷ later)) k (a ∷ later) ≡ (paired a later || (taken a later || left a later))
-  unfolding can_take_out
   by_ways a [] = ap (λ t. taken a [] || t) (sym (and-true (left_over bye (seats_may_be_left facts) a)))
   by_ways a (b ∷ rest) =
       let e : length rest ≡ suc (length rest) - 1 = omega arith in
       ap (λ n. some_partner (seats_meet facts a) (can_take_out facts seats bye n k) [] (b ∷ rest) || (taken a (b ∷ rest) || left a (b ∷ rest))) e
 
   pub nobody_there : (players : List ℕ) → players ≡ [] → can_take_out facts seats bye (length players) k players ≡ true
-  unfolding can_take_out
   nobody_there players e = ap (λ (xs : List ℕ). can_take_out facts seats bye (length xs) k xs) e
 
   whole_is : (players : List ℕ) (a : ℕ) (later : List ℕ) → players ≡ a ∷ later

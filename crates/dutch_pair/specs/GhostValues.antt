@@ -21,7 +21,7 @@ abbrev pub first_ghosts : Facts → Reached → Shape → List ℕ
 first_ghosts facts reached shape = ghost_scores facts reached shape (first_limbo facts reached shape)
 
 -- the shape that ghosts with these scores find in the next bracket
-unfoldable pub shape_by_ghosts : Facts → List ℕ → List ℕ → List ℕ → Option Shape
+abbrev pub shape_by_ghosts : Facts → List ℕ → List ℕ → List ℕ → Option Shape
 shape_by_ghosts facts seats next ghosts =
     greatest_shape (candidates (ghosts_meet facts seats (length ghosts) next) (ghost_may_be_left facts seats (length ghosts) next) (ghost_frame facts ghosts next)) (ghost_frame facts ghosts next)
 
@@ -41,6 +41,6 @@ value_with_floor facts next ghosts (Some most) =
     record { pairs = most.pairs; psd = floor_held ghosts (score_at facts (slice_index next 0)) (length next) most.pairs }
 
 -- C.7: what no value of the next bracket is better than, where an arrangement of a shape leaves the Limbo of the first S1
-unfoldable pub ghost_value : Facts → Reached → Shape → List ℕ → NextValue
+abbrev pub ghost_value : Facts → Reached → Shape → List ℕ → NextValue
 ghost_value facts reached shape next =
     value_with_floor facts next (first_ghosts facts reached shape) (shape_by_ghosts facts reached.seats next (first_ghosts facts reached shape))

@@ -26,7 +26,7 @@ unfoldable pub meets_bracket : Facts → List ℕ → ℕ → Bool
 meets_bracket facts seats b = list_any (λ a. seats_meet facts a b) seats
 
 -- C.4: whether lower players can be paired out with k downfloaters of a bracket, where one may be left out (`bye`) or none
-unfoldable pub can_take_out : Facts → List ℕ → Bool → ℕ → ℕ → List ℕ → Bool
+abbrev pub can_take_out : Facts → List ℕ → Bool → ℕ → ℕ → List ℕ → Bool
 can_take_out facts seats bye n k lower =
     can_cover_but (seats_meet facts) (meets_bracket facts seats) (left_over bye (seats_may_be_left facts)) n k lower
 

@@ -133,7 +133,7 @@ fn floor_held(ghosts: &[u16], least: u16, residents: usize, pairs: usize) -> Num
 /// What no value of the next bracket is better than (C.7), where an arrangement of a shape of an ordinary bracket leaves the Limbo of
 /// the first S1. A step is a player of the bracket with one of the next scoregroup,
 /// or one number tried at one place in the ghosts' bracket.
-#[tactic(auto, using(crate::proofs::C07Outlook::below_ordinary), unfolding(crate::specs::GhostValues::ghost_value, crate::specs::GhostValues::shape_by_ghosts))]
+#[tactic(auto, using(crate::proofs::C07Outlook::below_ordinary))]
 pub(crate) fn ghost_value(
     context: &Context<'_>,
     shape: Shape,

@@ -66,7 +66,7 @@ pub(crate) fn can_go_out(
 
 /// Whether lower players can be paired out, where there is room for some at downfloaters and for one who is left out.
 #[cycle(search)]
-#[tactic(auto, using(crate::proofs::TakersSearch::nobody_there, crate::proofs::TakersSearch::first_paired, crate::proofs::TakersSearch::first_taken, crate::proofs::TakersSearch::first_left), unfolding(crate::specs::Takers::can_take_out))]
+#[tactic(auto, using(crate::proofs::TakersSearch::nobody_there, crate::proofs::TakersSearch::first_paired, crate::proofs::TakersSearch::first_taken, crate::proofs::TakersSearch::first_left))]
 fn can_pair(
     context: &Context<'_>,
     players: &mut [u16],
