@@ -19,7 +19,7 @@ use Rattle.dutch_pair.specs.Seats.{seats_meet, seats_may_be_left}
 use Rattle.dutch_pair.specs.Reached.{Reached, frame_of, numbers_meet, number_may_be_left}
 use Rattle.dutch_pair.specs.Shapes.{down_from, fits, shapes_with, has_member, first_with}
 use Rattle.dutch_pair.specs.Round.{is_penultimate, completable, downfloaters, candidates_of, eligible}
-use Rattle.dutch_pair.specs.Takers.{takes_one, can_cover_but, meets_bracket, can_go_out, can_take_out}
+use Rattle.dutch_pair.specs.Takers.{takes_one, can_cover_but, meets_bracket, can_go_out}
 use Rattle.dutch_pair.proofs.GhostPairs.{down_count}
 use Rattle.dutch_pair.proofs.Covering.{IsPartner, partner_of, partner_serves}
 use Rattle.dutch_pair.proofs.DownLemmas.{down_numbers}

@@ -1,15 +1,11 @@
 -- A table of pairs that is filled place by place.
 use Rattle.std.proofs.Common.{◌≡◌, ℕ, ◌+◌, ◌-◌, ◌*◌, ◌<◌, ◌≤◌, ◌==◌, Bool, true, false, ◌&&◌, nat_lt, List, length, inl, inr, sym, ap, ◌∙◌, subst, arith, mul_comm}
 use Rattle.std.proofs.Math.Nat.{mul-le-mul_right}
-use Rattle.std.proofs.Math.Bool.{and_comm}
 use Rattle.std.proofs.lemmas.Bool.{lt-ltb, le-ltb, cases_lt, cases_eq}
-use Rattle.std.proofs.lemmas.Bool.Decides.{nat_tests}
 use Rattle.dutch_player.specs.Facts.{Facts}
-use Rattle.dutch_player.specs.Meetings.{may_meet}
-use Rattle.dutch_player.proofs.LawLemmas.{meeting_sym}
 use Rattle.dutch_pair.specs.declared.colours_missed.Miss.TheVariants.{Preference}
 use Rattle.dutch_pair.specs.Quality.{misses, count_in}
-use Rattle.dutch_pair.specs.Reached.{Reached, is_number, numbers_meet}
+use Rattle.dutch_pair.specs.Reached.{Reached, numbers_meet}
 use Rattle.dutch_pair.specs.Seated.{seat_of}
 use Rattle.dutch_pair.specs.SeatLaws.{numbers_meet_sym}
 use Rattle.dutch_pair.specs.ColourFloors.{suits}
