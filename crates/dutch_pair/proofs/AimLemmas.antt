@@ -124,6 +124,7 @@ module _ (facts : Facts) (reached : Reached) (lower : List ℕ) where
 
   -- where nothing is wished, the best is that of all that can be chosen
   pub nothing_wished : (shape : Shape) → best_wished facts reached lower None shape ≡ best_of_shape facts reached lower shape
+  unfolding best_wished eligible best_of_shape
   nothing_wished shape = ap (best (is_better_in facts reached lower)) (filter-all (eligible facts reached lower shape))
 
   -- then a shape that is found has a best one
@@ -145,6 +146,7 @@ module _ (facts : Facts) (reached : Reached) (lower : List ℕ) where
     -- where a pass with an aim ends with a candidate, it is the best of all
     pub a_pass_serves : (aim : Option Quality) (shape : Shape) (c : Arrangement) → best_near facts reached lower wish aim shape ≡ Some c
         → best_wished facts reached lower wish shape ≡ Some c
+    unfolding best_near best_yet best_wished candidates_of eligible
     a_pass_serves aim shape c found =
         ap (best (is_better_in facts reached lower)) (sym (open_ones shape))
         ∙ an_aim_serves aim (is_open facts reached lower wish) (candidates_of facts reached shape) c found
@@ -158,12 +160,14 @@ module _ (facts : Facts) (reached : Reached) (lower : List ℕ) where
 
     -- without an aim a pass finds the best
     pub without_aim : (shape : Shape) → best_near facts reached lower wish None shape ≡ best_wished facts reached lower wish shape
+    unfolding best_near candidates_of best_wished eligible best_yet
     without_aim shape =
         ap (best (is_better_in facts reached lower)) (filter_always (is_open facts reached lower wish) (candidates_of facts reached shape) ∙ open_ones shape)
 
     beaten_passed : (aim : Option Quality) (kept : Option Best) (d : Arrangement) (rest : List Arrangement) → IsKept facts reached lower kept
         → not (wins (quality_of facts reached lower d) kept) ≡ true
         → best_yet facts reached lower wish aim kept (d ∷ rest) ≡ best_yet facts reached lower wish aim kept rest
+    unfolding best_yet
     beaten_passed aim None d rest h lost = absurd (true≢false (sym lost))
     beaten_passed aim (Some best) d rest h lost =
         worse_passed (is_better_in facts reached lower) (order_in facts reached lower) (is_sought facts reached lower wish aim) best.candidate.lists d rest
@@ -172,6 +176,7 @@ module _ (facts : Facts) (reached : Reached) (lower : List ℕ) where
     idle_at : (aim : Option Quality) (kept : Option Best) (d : Arrangement) (rest : List Arrangement) (t : Bool) → beats aim (quality_of facts reached lower d) ≡ t
         → IsKept facts reached lower kept → (t || not (wins (quality_of facts reached lower d) kept)) ≡ true
         → best_yet facts reached lower wish aim kept (d ∷ rest) ≡ best_yet facts reached lower wish aim kept rest
+    unfolding best_yet
     idle_at aim kept d rest true far h idle =
         unfit_passed (is_better_in facts reached lower) (order_in facts reached lower) (is_sought facts reached lower wish aim) (kept_lists kept) d rest
         (ap (λ t. is_open facts reached lower wish d && not t) far ∙ and_right (is_open facts reached lower wish d) false refl)
@@ -187,6 +192,7 @@ module _ (facts : Facts) (reached : Reached) (lower : List ℕ) where
     -- and one that does not grant the wish
     pub unwished_passed : (aim : Option Quality) (kept : Option Best) (d : Arrangement) (rest : List Arrangement) → is_wished wish d ≡ false
         → best_yet facts reached lower wish aim kept rest ≡ best_yet facts reached lower wish aim kept (d ∷ rest)
+    unfolding best_yet
     unwished_passed aim kept d rest unwished =
         sym (unfit_passed (is_better_in facts reached lower) (order_in facts reached lower) (is_sought facts reached lower wish aim) (kept_lists kept) d rest
         (and_left _ (is_near facts reached lower aim d) (and_right (can_be_chosen facts reached lower d) (is_wished wish d) unwished)))

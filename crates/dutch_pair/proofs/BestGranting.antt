@@ -161,6 +161,7 @@ module _ (facts : Facts) (reached : Reached) (lower : List ℕ) (shape : Shape) 
   can_be = eligible facts reached lower shape
 
   once : HasEachOnce (eligible facts reached lower shape)
+  unfolding candidates_of eligible
   once =
       filter-once (can_be_chosen facts reached lower) (candidates_of facts reached shape)
       (candidates-once (numbers_meet facts reached) (number_may_be_left facts reached) (frame_of facts reached) shape)
@@ -170,12 +171,14 @@ module _ (facts : Facts) (reached : Reached) (lower : List ℕ) (shape : Shape) 
     better = is_better_in facts reached lower
 
     among : IsIn a (granting facts reached lower shape wish)
+    unfolding eligible best_granting
     among = in_unbeaten better (granting facts reached lower shape wish) (granting facts reached lower shape wish) a found
 
     pub best_grants : (grants wish a ≡ true) × IsIn a (eligible facts reached lower shape)
     best_grants = let kept = IsIn-filter (grants wish) a can_be among in (kept.1, kept.0)
 
     unbeaten : is_unbeaten better (granting facts reached lower shape wish) a ≡ true
+    unfolding eligible best_granting
     unbeaten = is_one better (granting facts reached lower shape wish) (granting facts reached lower shape wish) a found
 
     pub best_unbeaten : (b : Arrangement) → IsIn b (eligible facts reached lower shape) → grants wish b ≡ true → is_better_in facts reached lower b a ≡ false
@@ -189,6 +192,7 @@ module _ (facts : Facts) (reached : Reached) (lower : List ℕ) (shape : Shape) 
         ∙ ap (λ t. filter (grants wish) before.front ++ cond t (b ∷ filter (grants wish) before.behind) (filter (grants wish) before.behind)) h
 
     loses : (b : Arrangement) → ComesBefore b a can_be → grants wish b ≡ true → is_unbeaten better (granting facts reached lower shape wish) b ≡ false
+    unfolding eligible best_granting
     loses b before h =
         beaten_before better (granting facts reached lower shape wish) (granting facts reached lower shape wish) a b (filter (grants wish) before.front)
         (filter (grants wish) before.behind) (filter-once (grants wish) can_be once) found (parted b before h)
@@ -211,6 +215,7 @@ module _ (facts : Facts) (reached : Reached) (lower : List ℕ) (shape : Shape) 
     here = (best_grants wish a found).1
 
     as_good : quality_of facts reached lower chosen ≡ quality_of facts reached lower a → Goal
+    unfolding eligible best_of_shape
     as_good same =
         let unbeaten_too : is_unbeaten (is_better_in facts reached lower) can_be a ≡ true =
         ap (λ (q : Quality). not (list_any (λ d. is_better (quality_of facts reached lower d) q) can_be)) (sym same)
@@ -219,6 +224,7 @@ module _ (facts : Facts) (reached : Reached) (lower : List ℕ) (shape : Shape) 
 
     chosen_at : (quality_of facts reached lower chosen ≡ quality_of facts reached lower a)
         ⊎ ((is_better_in facts reached lower chosen a ≡ true) ⊎ (is_better_in facts reached lower a chosen ≡ true)) → Goal
+    unfolding eligible best_of_shape
     chosen_at (inl same) = as_good same
     chosen_at (inr (inl wins)) = inl wins
     chosen_at (inr (inr loses')) =

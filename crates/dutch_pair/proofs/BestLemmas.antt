@@ -69,6 +69,7 @@ module _ (facts : Facts) (reached : Reached) (lower : List ℕ) where
         → best.candidate.lists ≡ lists → quality_in best.quality ≡ quality_of facts reached lower lists → is_idle aim kept (quality_in best.quality) ≡ false
         → is_open facts reached lower wish lists ≡ true
         → best_yet facts reached lower wish aim (Some best) coming ≡ best_yet facts reached lower wish aim kept (lists ∷ coming)
+    unfolding best_yet
     winner_kept aim None best lists coming h same e won fit =
         let near = near_of aim (quality_in best.quality) lists e (or_parts _ _ won).0 in
         ap (λ (c : Arrangement). best_with (is_better_in facts reached lower) (is_sought facts reached lower wish aim) (Some c) coming) same
@@ -84,12 +85,14 @@ module _ (facts : Facts) (reached : Reached) (lower : List ℕ) where
     -- and one that cannot be chosen is passed
     pub unfit_is_passed : (aim : Option Quality) (kept : Option Best) (lists : Arrangement) (coming : List Arrangement) → can_be_chosen facts reached lower lists ≡ false
         → best_yet facts reached lower wish aim kept coming ≡ best_yet facts reached lower wish aim kept (lists ∷ coming)
+    unfolding best_yet
     unfit_is_passed aim kept lists coming unfit =
         sym (unfit_passed (is_better_in facts reached lower) order_in (is_sought facts reached lower wish aim) (kept_lists kept) lists coming
         (and_left _ (is_near facts reached lower aim lists) (and_left _ (is_wished wish lists) unfit)))
 
     -- behind the last one the one that is kept is chosen
     pub best_last : (aim : Option Quality) (kept : Option Best) (all : Option Arrangement) → all ≡ best_yet facts reached lower wish aim kept [] → all ≡ kept_lists kept
+    unfolding best_yet
     best_last aim kept all h = h ∙ kept_at_end (is_better_in facts reached lower) order_in (is_sought facts reached lower wish aim) (kept_lists kept)
 
   -- what is handed out in the end
@@ -100,12 +103,14 @@ module _ (facts : Facts) (reached : Reached) (lower : List ℕ) where
 
   -- a shape that is found has a best candidate
   pub shape_has_best : (shape : Shape) → shape_of facts reached lower ≡ Some shape → best_of_shape facts reached lower shape ≡ None → ⊥
+  unfolding shape_of best_of_shape
   shape_has_best shape found none =
       best_of_some (is_better_in facts reached lower) order_in (eligible facts reached lower shape)
       (first_has (eligible facts reached lower) (fits (frame_of facts reached)) (shapes (frame_of facts reached)) shape found) none
 
   pub choice_is : (shape : Shape) (lists : Arrangement) → shape_of facts reached lower ≡ Some shape → best_of_shape facts reached lower shape ≡ Some lists
       → choice facts reached lower ≡ Some (record { shape = shape; lists = lists })
+  unfolding choice shape_of
   choice_is shape lists found h = ap (λ (o : Option Shape). o >>= shaped) found ∙ ap (with_shape shape) h
 
   -- a bracket that has a shape has a choice
@@ -122,6 +127,7 @@ module _ (facts : Facts) (reached : Reached) (lower : List ℕ) where
 
   chosen_from : (chosen : Choice) (shape : Shape) (o : Option Arrangement) → best_of_shape facts reached lower shape ≡ o → with_shape shape o ≡ Some chosen
       → IsShaped (Some shape) chosen
+  unfolding eligible best_of_shape
   chosen_from chosen shape None e h = let bad : None ≡ Some chosen = h in absurd (cc)
   chosen_from chosen shape (Some lists) e h =
       let same : (let made : Choice = record { shape = shape; lists = lists } in made) ≡ chosen = cc in
@@ -133,4 +139,5 @@ module _ (facts : Facts) (reached : Reached) (lower : List ℕ) where
 
   -- what is chosen is of the bracket's shape, and can be chosen
   pub chosen_is : (chosen : Choice) → choice facts reached lower ≡ Some chosen → IsShaped (shape_of facts reached lower) chosen
+  unfolding choice shape_of best_of_shape
   chosen_is chosen = chosen_at chosen (shape_of facts reached lower)

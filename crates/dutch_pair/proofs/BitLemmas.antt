@@ -8,6 +8,7 @@ use Rattle.std.specs.Int.{bit_at}
 use Rattle.dutch_pair.specs.BitTables.{has_bit}
 
 pub none_set : (n i : ℕ) → has_bit (replicate n 0) i ≡ false
+unfolding has_bit
 none_set n i =
     let word : slice_index (replicate n 0) (i / 64) ≡ 0 =
     elim (cases_lt (i / 64) n) [ inl lt ↦ get_or-replicate n (i / 64) 0 0 lt | inr le ↦ get_or_past (replicate n 0) (i / 64) 0 (omega (arith, length-replicate {A = ℕ} n 0)) ] in
@@ -18,11 +19,13 @@ abbrev with_bit : List ℕ → ℕ → List ℕ
 with_bit words place = set words (place / 64) (bit_or (slice_index words (place / 64)) (1 * 2 ^ (place % 64) % 18446744073709551616))
 
 pub bit_set : (words : List ℕ) (place : ℕ) → place / 64 < length words → has_bit (with_bit words place) place ≡ true
+unfolding has_bit
 bit_set words place lt =
     ap (λ w. bit_at w (place % 64) == 1) (get_or-set_same words (place / 64) (bit_or (slice_index words (place / 64)) (1 * 2 ^ (place % 64) % 18446744073709551616)) 0 lt)
     ∙ ap (λ b. b == 1) (bit_at_set_same w64 (slice_index words (place / 64)) (place % 64) (omega arith))
 
 same_word : (words : List ℕ) (place i : ℕ) → place / 64 < length words → i / 64 ≡ place / 64 → (i ≡ place → ⊥) → has_bit (with_bit words place) i ≡ has_bit words i
+unfolding has_bit
 same_word words place i lt same other =
     let apart : i % 64 ≡ place % 64 → ⊥ = λ e. other (omega (arith, e, same)) in
     ap (λ k. bit_at (slice_index (with_bit words place) k) (i % 64) == 1) same
@@ -31,6 +34,7 @@ same_word words place i lt same other =
     ∙ ap (λ k. bit_at (slice_index words k) (i % 64) == 1) (sym same)
 
 pub bit_kept : (words : List ℕ) (place i : ℕ) → place / 64 < length words → (i ≡ place → ⊥) → has_bit (with_bit words place) i ≡ has_bit words i
+unfolding has_bit
 bit_kept words place i lt other =
     elim (cases_eq (i / 64) (place / 64)) [
       | inl same ↦ same_word words place i lt same other

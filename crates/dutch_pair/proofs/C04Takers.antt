@@ -302,6 +302,7 @@ none_passes p (a ∷ xs) none =
 -- whoever has one of a bracket's numbers is among those of it who may meet a lower player
 numbers_meet_lower : (facts : Facts) (seats numbers : List ℕ) → AllNumbers seats numbers → (d : ℕ) → IsIn d (map (seat_of seats) numbers)
     → (b : ℕ) → seats_meet facts d b ≡ true → meets_bracket facts seats b ≡ true
+unfolding meets_bracket
 numbers_meet_lower facts seats [] all d m b may = absurd m
 numbers_meet_lower facts seats (x ∷ numbers) all d (inl same) b may =
     list_any_at (λ a. seats_meet facts a b) seats (x - 1) 0 (omega (arith, all.0.0, all.0.1)) (ap (λ a. seats_meet facts a b) (sym same) ∙ may)
@@ -315,6 +316,7 @@ module _ (facts : Facts) (reached : Reached) (lower : List ℕ) (penultimate : i
   CannotGoOut pairs = can_go_out facts reached.seats (length reached.seats - 2 * pairs) lower ≡ false
 
   none_of : (shape : Shape) → fits frame shape ≡ true → CannotGoOut shape.pairs → has_member (eligible facts reached lower shape) ≡ false
+  unfolding candidates_of completable eligible can_go_out
   none_of shape room cannot =
       let count : length frame.scores ≡ length reached.seats = length-map reached.seats (score_at facts) in
       let leaves : Arrangement → Bool = λ lists. completable facts (downfloaters facts reached lists ++ lower) in

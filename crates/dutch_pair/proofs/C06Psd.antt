@@ -19,9 +19,9 @@ use Rattle.dutch_order.proofs.Members.{climbs-filter, filter-climbs, filter-leng
 use Rattle.dutch_player.specs.Facts.{Facts}
 use Rattle.dutch_pair.specs.Beginnings.{HasPairsOf, seated_so}
 use Rattle.dutch_pair.specs.ColourFloors.{residents_down}
-use Rattle.dutch_pair.specs.NextBracket.{is_lower, IsFlat}
+use Rattle.dutch_pair.specs.NextBracket.{is_lower, IsFlat, quality}
 use Rattle.dutch_pair.specs.PsdFloors.{repeated, psd_with, IsUniform}
-use Rattle.dutch_pair.specs.Quality.{highest_first, psd}
+use Rattle.dutch_pair.specs.Quality.{highest_first, psd, quality_with}
 use Rattle.dutch_pair.specs.Reached.{Reached, frame_of, IsOf}
 use Rattle.dutch_pair.specs.Round.{downfloaters, quality_of}
 use Rattle.dutch_pair.specs.Seated.{seat_of, score_at, all_pairs, difference, difference_down, lowest}
@@ -37,6 +37,7 @@ use Rattle.dutch_order.proofs.ExchangeSets.{numbers-climb}
 -- the PSD is not lower than what is known of it
 pub psd_of_known : (facts : Facts) (reached : Reached) (lower : List ℕ) (known : List (ℕ × ℕ)) (gone : List ℕ) (a : Arrangement) → Beside known (all_pairs reached.seats a)
     → Beside gone (downfloaters facts reached a) → is_lower (quality_of facts reached lower a).psd (psd facts (seated_so facts reached known gone)) ≡ false
+unfolding quality_of quality quality_with psd
 psd_of_known facts reached lower known gone a others left =
     let by : List (ℕ × ℕ) → List ℕ = map (difference facts) in
     let floats : List ℕ → List ℕ = map (difference_down facts (lowest facts reached.seats)) in
@@ -50,6 +51,7 @@ psd_of_known facts reached lower known gone a others left =
 
 pub psd_of_beginning : (facts : Facts) (reached : Reached) (lower : List ℕ) (b a : Arrangement) → HasPairsOf b a
     → is_lower (quality_of facts reached lower a).psd (highest_first (map (difference facts) (all_pairs reached.seats b))) ≡ false
+unfolding quality_of quality quality_with psd
 psd_of_beginning facts reached lower b a begins =
     let by : List (ℕ × ℕ) → List ℕ = map (difference facts) in
     let floats : List ℕ = map (difference_down facts (lowest facts reached.seats)) (map (seat_of reached.seats) (down (frame_of facts reached) a)) in
@@ -75,6 +77,7 @@ same_copies xs ys same =
 pub psd_by_first : (facts : Facts) (reached : Reached) (lower : List ℕ) (shape : Shape) (a : Arrangement) → IsOf facts reached → IsFlat facts reached
     → IsIn a (arrangements (frame_of facts reached) shape)
     → (quality_of facts reached lower a).psd ≡ psd_with facts reached shape (score_at facts (seat_of reached.seats (reached.mdps + 1))) a.s1
+unfolding quality_of quality quality_with psd psd_with
 psd_by_first facts reached lower shape a of' flat member =
     let s : ℕ = score_at facts (seat_of reached.seats (reached.mdps + 1)) in
     let j = remainder_pairs shape in
@@ -135,6 +138,7 @@ module _ (facts : Facts) (reached : Reached) (shape : Shape) (s : ℕ) where
       → (s1 : List ℕ) → Climbs 1 (1 + reached.mdps) s1
       → psd_with facts reached shape s s1
       ≡ highest_first (repeated (by_one 1) (length s1) ++ (repeated (by_limbo 1) (reached.mdps - length s1) ++ others))
+  unfolding psd_with
   psd_of_count same s1 climbs =
       let q = reached.mdps in
       let limbo : List ℕ = left_of (numbers_from 1 q) s1 in

@@ -96,6 +96,7 @@ pub no_value_is_better_than_by_a_weaker_rule : (facts : Facts) (reached : Reache
     → ((i : ℕ) → number_may_be_left facts reached i ≡ true → left i ≡ true)
     → (most : Shape) → greatest_shape (candidates meets left (frame_of facts reached)) (frame_of facts reached) ≡ Some most
     → IsNotBetter (value_of facts reached) most.pairs (floor_psd facts reached (score_at facts (seat_of reached.seats (reached.mdps + 1))) most.pairs)
+unfolding value_of
 no_value_is_better_than_by_a_weaker_rule facts reached of' flat open' meets left more may most found =
     by_shape (greatest_shape (legal_in facts reached) (frame_of facts reached)) refl
   where
@@ -111,6 +112,7 @@ no_value_is_better_than_by_a_weaker_rule facts reached of' flat open' meets left
 
 -- without ghosts: half the players in pairs, and no PSD at all
 pub no_value_has_more_than_half_the_players_in_pairs : (facts : Facts) (reached : Reached) → IsNotBetter (value_of facts reached) (length reached.seats / 2) []
+unfolding value_of
 no_value_has_more_than_half_the_players_in_pairs facts reached = by_shape (greatest_shape (legal_in facts reached) (frame_of facts reached)) refl
   where
     not_more : (value : NextValue) → value.pairs ≤ length reached.seats / 2 → IsNotBetter value (length reached.seats / 2) []
@@ -181,6 +183,7 @@ module _ (facts : Facts) (reached : Reached) (of' : IsOf facts reached) (flat : 
 
   meet_for : (i j : ℕ) → numbers_meet facts (next_bracket (downfloaters facts reached a) next) i j ≡ true
       → ghosts_meet facts reached.seats (length (downfloaters facts reached a)) next i j ≡ true
+  unfolding numbers_meet ghosts_meet
   meet_for i j e =
       let floats : List ℕ = downfloaters facts reached a in
       let k = length floats in
@@ -199,6 +202,7 @@ module _ (facts : Facts) (reached : Reached) (of' : IsOf facts reached) (flat : 
 
   left_for : (i : ℕ) → number_may_be_left facts (next_bracket (downfloaters facts reached a) next) i ≡ true
       → ghost_may_be_left facts reached.seats (length (downfloaters facts reached a)) next i ≡ true
+  unfolding number_may_be_left ghost_may_be_left
   left_for i e =
       let floats : List ℕ = downfloaters facts reached a in
       let k = length floats in

@@ -16,9 +16,9 @@ use Rattle.dutch_pair.specs.declared.reached.BracketKind.TheVariants.{Ordinary, 
 use Rattle.dutch_pair.specs.FloorOf.{has_s1, is_flat, is_uniform, lists_by, residents_score}
 use Rattle.dutch_pair.specs.Ghosts.{IsNotBetter, pairs_by_counts}
 use Rattle.dutch_pair.specs.GhostValues.{first_limbo, ghost_value}
-use Rattle.dutch_pair.specs.NextBracket.{IsFlat, is_lower, next_bracket, no_value, value_in}
-use Rattle.dutch_pair.specs.Outlooks.{HasNoBetter, IsOutlook, awaited, known_by, leaves_first_by, limbo_scores}
-use Rattle.dutch_pair.specs.Quality.{NextValue}
+use Rattle.dutch_pair.specs.NextBracket.{IsFlat, is_lower, next_bracket, no_value, value_in, quality}
+use Rattle.dutch_pair.specs.Outlooks.{HasNoBetter, IsOutlook, awaited, known_by, leaves_first_by, limbo_scores, leaves_first}
+use Rattle.dutch_pair.specs.Quality.{NextValue, quality_with}
 use Rattle.dutch_pair.specs.Reached.{IsAbove, IsOf, Reached, frame_of}
 use Rattle.dutch_pair.specs.Round.{downfloaters, first_group, quality_of, scoregroups}
 use Rattle.dutch_pair.specs.Seated.{score_at, seat_of}
@@ -78,6 +78,7 @@ module _ (facts : Facts) (reached : Reached) (lower : List ℕ) (shape : Shape) 
   -- the value of a quality is that of the next bracket
   from_value : (a : Arrangement) (next value : NextValue) → value_at reached.kind a ≡ value → IsNotBetter value next.pairs next.psd
       → HasNoBetter (quality_of facts reached lower a) next
+  unfolding quality_of quality quality_with
   from_value a next value e h = not_better (value_at reached.kind a) next (subst (λ v. IsNotBetter v next.pairs next.psd) (sym e) h)
 
   ordinary_value : (a : Arrangement) → reached.kind ≡ Ordinary → value_at reached.kind a ≡ value_at Ordinary a
@@ -139,6 +140,7 @@ module _ (facts : Facts) (reached : Reached) (lower : List ℕ) (shape : Shape) 
   limbo_of : (filling : Filling) (lists a : Arrangement) → IsOf facts reached → IsFlat facts reached → IsIn a (arrangements (frame_of facts reached) shape)
       → BeginsAt filling lists a → (has_s1 filling || is_uniform facts reached shape) ≡ true
       → leaves_first_by filling facts reached shape (lists_by filling lists).s1 ≡ true → limbo_scores facts reached a.s1 ≡ first_limbo facts reached shape
+  unfolding leaves_first
   limbo_of S1 lists a of' flat m h known t = first_limbo_of_all facts reached of' flat shape a m (uniform_of facts reached shape of' known)
   limbo_of S2 lists a of' flat m h known t =
       ap (limbo_scores facts reached) (sym h.0) ∙ is_same-true (limbo_scores facts reached lists.s1) (first_limbo facts reached shape) t

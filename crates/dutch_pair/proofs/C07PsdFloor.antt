@@ -17,7 +17,7 @@ use Rattle.dutch_order.proofs.Members.{climbs-filter, filter-length, length-numb
 use Rattle.dutch_player.specs.Facts.{Facts}
 use Rattle.dutch_pair.specs.Seated.{seat_of, score_at, all_pairs, lowest, difference, difference_down}
 use Rattle.dutch_pair.specs.Reached.{Reached, IsOf, frame_of}
-use Rattle.dutch_pair.specs.Quality.{one_if, highest_first}
+use Rattle.dutch_pair.specs.Quality.{one_if, highest_first, psd}
 use Rattle.dutch_pair.specs.NextBracket.{IsFlat, is_lower, psd_in}
 use Rattle.dutch_pair.specs.PsdFloors.{repeated, floor_psd}
 use Rattle.dutch_pair.proofs.ArrangementParts.{parts_of, numbers_within}
@@ -101,6 +101,7 @@ module _ (facts : Facts) (reached : Reached) (of' : IsOf facts reached) (flat : 
   -- no arrangement with so many pairs has a lower PSD than the floor
   pub no_psd_is_below_the_floor : (shape : Shape) (a : Arrangement) → shape.mdps ≤ shape.pairs → IsIn a (arrangements (frame_of facts reached) shape)
       → is_lower (psd_in facts reached a) (floor_psd facts reached (score_at facts (seat_of reached.seats (reached.mdps + 1))) shape.pairs) ≡ false
+  unfolding psd
   no_psd_is_below_the_floor shape a within m =
       let s : ℕ = score_at facts (seat_of reached.seats (reached.mdps + 1)) in
       let q = reached.mdps in

@@ -16,8 +16,8 @@ use Rattle.dutch_pair.specs.declared.seated.Floater.{Floater}
 use Rattle.dutch_pair.specs.declared.colours_missed.Miss.TheVariants.{Wide, Third}
 use Rattle.dutch_pair.specs.Beginnings.{HasPairsOf, fixed, seated_so}
 use Rattle.dutch_pair.specs.Floors.{NotBelow}
-use Rattle.dutch_pair.specs.NextBracket.{is_lower}
-use Rattle.dutch_pair.specs.Quality.{again, count_in, count_with_topscorers, differences, has_topscorer, highest_first, misses}
+use Rattle.dutch_pair.specs.NextBracket.{is_lower, quality}
+use Rattle.dutch_pair.specs.Quality.{again, count_in, count_with_topscorers, differences, has_topscorer, highest_first, misses, quality_with}
 use Rattle.dutch_pair.specs.Reached.{Reached, frame_of}
 use Rattle.dutch_pair.specs.Round.{downfloaters, quality_of}
 use Rattle.dutch_pair.specs.Seated.{Seated, all_pairs, by_seats, floats_down, goes_down, goes_up, going_down, going_up, is_uneven, seat_of}
@@ -53,6 +53,7 @@ module _ (facts : Facts) (reached : Reached) (known : List (ℕ × ℕ)) (gone :
 
   -- of who goes down
   down_no_less : (f : List Floater → ℕ) → AddsUp f → f (going_down facts fewer) ≤ f (going_down facts all)
+  unfolding going_down
   down_no_less f adds =
       let of_pairs : List (ℕ × ℕ) → ℕ = λ pairs. f (map (goes_down facts) (filter (is_uneven facts) pairs)) in
       let of_gone : List ℕ → ℕ = λ seats. f (map (floats_down facts all.lowest) seats) in
@@ -69,6 +70,7 @@ module _ (facts : Facts) (reached : Reached) (known : List (ℕ × ℕ)) (gone :
 
   -- and of who goes up
   up_no_less : (f : List Floater → ℕ) → AddsUp f → f (going_up facts fewer) ≤ f (going_up facts all)
+  unfolding going_up
   up_no_less f adds =
       no_less (λ pairs. f (map (goes_up facts) (filter (is_uneven facts) pairs))) known all.pairs
       (filtered_add_up (λ pairs. f (map (goes_up facts) pairs)) (is_uneven facts) (mapped_add_up f (goes_up facts) adds)) others
@@ -109,6 +111,7 @@ module _ (facts : Facts) (reached : Reached) (known : List (ℕ × ℕ)) (gone :
 
 pub least_of_known : (facts : Facts) (reached : Reached) (lower : List ℕ) (known : List (ℕ × ℕ)) (gone : List ℕ) (a : Arrangement) → Beside known (all_pairs reached.seats a)
     → Beside gone (downfloaters facts reached a) → NotBelow facts (seated_so facts reached known gone) (quality_of facts reached lower a)
+unfolding quality_of quality quality_with
 least_of_known facts reached lower known gone a others left =
     let candidate : Candidate = record { lists = a; down = down (frame_of facts reached) a } in
     let all : List (ℕ × ℕ) = all_pairs reached.seats a in

@@ -18,9 +18,10 @@ use Rattle.dutch_pair.specs.declared.colours_missed.Miss.TheVariants.{Preference
 use Rattle.dutch_pair.specs.Seated.{seat_of, score_at, pairs_of, all_pairs}
 use Rattle.dutch_pair.specs.Reached.{Reached, frame_of, numbers_meet}
 use Rattle.dutch_pair.specs.Round.{candidates_of, quality_of}
-use Rattle.dutch_pair.specs.Quality.{one_if, misses, count_in, count_in_pairs}
+use Rattle.dutch_pair.specs.Quality.{one_if, misses, count_in, count_in_pairs, quality_with}
 use Rattle.dutch_pair.specs.Beginnings.{LacksEndOfS2r}
 use Rattle.dutch_pair.specs.ColourFloors.{beyond, suits, lonely, lonely_first, lonely_second, residents_down, more_missed}
+use Rattle.dutch_pair.specs.NextBracket.{quality}
 use Rattle.dutch_pair.proofs.ArrangementParts.{left_none, numbers_rise, lists_of, parts_of, left_cons, tuple_members, tuple_whole}
 use Rattle.dutch_pair.proofs.C10Preferences.{beginning_misses}
 use Rattle.dutch_pair.proofs.FixedPairs.{has_pairs, pairs_on}
@@ -98,6 +99,7 @@ module _ (facts : Facts) (reached : Reached) where
   unsuited_at false n e = absurd (cc)
 
   unsuited : (x y : ℕ) → numbers_meet facts reached x y ≡ true → one_if (not (suits facts reached x y)) ≤ missed_by x y
+  unfolding suits numbers_meet
   unsuited x y meet = unsuited_at (numbers_meet facts reached x y) (missed_by x y) meet
 
   -- 1 for a player who suits nobody of a list, as the first of a pair or as the second
@@ -185,6 +187,7 @@ module _ (facts : Facts) (reached : Reached) (shape : Shape) (a : Arrangement) (
       tuple_end open_pool (remainder_pairs shape) front rest (subst (λ t. IsIn t (tuples open_pool (remainder_pairs shape))) is lists.s2r)
 
   first_lonely : lonely_first facts reached (with_end a front) ≤ sum_by (missed_in facts reached) (pairs_of reached.seats waits rest)
+  unfolding lonely_first lonely
   first_lonely =
       let all : List ℕ = left_of open_pool front in
       omega (
@@ -195,6 +198,7 @@ module _ (facts : Facts) (reached : Reached) (shape : Shape) (a : Arrangement) (
       )
 
   second_lonely : lonely_second facts reached (with_end a front) ≤ sum_by (missed_in facts reached) (pairs_of reached.seats waits rest) + residents_down reached shape
+  unfolding lonely_second lonely
   second_lonely =
       let all : List ℕ = left_of open_pool front in
       let residents : List ℕ = residents_of (frame_of facts reached) in
@@ -217,6 +221,7 @@ module _ (facts : Facts) (reached : Reached) (shape : Shape) (a : Arrangement) (
 
   lonely_miss_at : count_in_pairs facts (misses Preference) (all_pairs reached.seats (with_end a front)) + lonely facts reached shape (with_end a front)
       ≤ count_in_pairs facts (misses Preference) (all_pairs reached.seats a)
+  unfolding lonely lonely_first lonely_second
   lonely_miss_at = omega (arith, first_lonely, second_lonely, with_others)
 
 -- the beginning is the arrangement but for its S2R
@@ -229,6 +234,7 @@ same_but_end b a lacks =
 pub lonely_miss : (facts : Facts) (reached : Reached) (lower : List ℕ) (shape : Shape) (b a : Arrangement) → reached.mdps ≤ length reached.seats
     → IsIn a (candidates_of facts reached shape) → LacksEndOfS2r b a
     → count_in_pairs facts (misses Preference) (all_pairs reached.seats b) + lonely facts reached shape b ≤ (quality_of facts reached lower a).missed_preferences
+unfolding quality_of quality quality_with
 lonely_miss facts reached lower shape b a within m lacks =
     let P : Arrangement → Type 0 = λ c. count_in_pairs facts (misses Preference) (all_pairs reached.seats c) + lonely facts reached shape c
     ≤ count_in_pairs facts (misses Preference) (all_pairs reached.seats a) in

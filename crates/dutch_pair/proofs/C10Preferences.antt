@@ -17,10 +17,11 @@ use Rattle.dutch_pair.specs.declared.colours_missed.Miss.TheVariants.{Preference
 use Rattle.dutch_pair.specs.Seated.{all_pairs}
 use Rattle.dutch_pair.specs.Reached.{Reached, frame_of}
 use Rattle.dutch_pair.specs.Round.{downfloaters, quality_of}
-use Rattle.dutch_pair.specs.Quality.{one_if, misses, count_of_both, count_in, count_in_pairs}
+use Rattle.dutch_pair.specs.Quality.{one_if, misses, count_of_both, count_in, count_in_pairs, quality_with}
 use Rattle.dutch_pair.specs.Beginnings.{HasPairsOf, in_both, seated_so}
 use Rattle.dutch_pair.specs.FloorOf.{more_in, surplus_in}
 use Rattle.dutch_pair.specs.ColourFloors.{wants, more_missed}
+use Rattle.dutch_pair.specs.NextBracket.{quality}
 use Rattle.dutch_pair.proofs.FixedPairs.{Beside, beside, none_known, sum_beside}
 use Rattle.dutch_pair.proofs.FreePlayers.{free_served}
 use Rattle.dutch_pair.proofs.GrantedColours.{at_most_one}
@@ -64,6 +65,7 @@ in_order facts c a b true = either_way facts c a b (colour_of_higher facts a b)
 in_order facts c a b false = omega (arith, either_way facts c b a (colour_of_higher facts b a))
 
 pub pair_misses : (facts : Facts) (c : Colour) (pair : ℕ × ℕ) → in_both (wants facts c) pair ≤ 1 + count_in facts (misses Preference) pair
+unfolding count_in
 pair_misses facts c pair = in_order facts c pair.0 pair.1 (nat_lt pair.0 pair.1)
 
 -- each pair of a list
@@ -88,6 +90,7 @@ module _ (facts : Facts) (reached : Reached) (shape : Shape) (known : List (ℕ 
 pub beginning_misses : (facts : Facts) (reached : Reached) (lower : List ℕ) (shape : Shape) (b a : Arrangement) → reached.mdps ≤ length reached.seats
     → IsIn a (arrangements (frame_of facts reached) shape) → HasPairsOf b a
     → count_in_pairs facts (misses Preference) (all_pairs reached.seats b) + more_missed facts reached shape b ≤ (quality_of facts reached lower a).missed_preferences
+unfolding quality_of quality quality_with
 beginning_misses facts reached lower shape b a within m begins =
     let least = more_miss facts reached shape (all_pairs reached.seats b) [] a within m (beside reached.seats b a begins) (none_known (downfloaters facts reached a)) in
     omega (arith, least)

@@ -20,10 +20,11 @@ use Rattle.dutch_pair.specs.declared.colours_missed.Miss.TheVariants.{Wide, Thir
 use Rattle.dutch_pair.specs.Seated.{all_pairs}
 use Rattle.dutch_pair.specs.Reached.{Reached}
 use Rattle.dutch_pair.specs.Round.{candidates_of, downfloaters, quality_of}
-use Rattle.dutch_pair.specs.Quality.{misses, count_of_both, count_in, has_topscorer, count_in_pairs, count_with_topscorers}
+use Rattle.dutch_pair.specs.Quality.{misses, count_of_both, count_in, has_topscorer, count_in_pairs, count_with_topscorers, quality_with}
 use Rattle.dutch_pair.specs.Beginnings.{HasPairsOf, in_both, seated_so}
 use Rattle.dutch_pair.specs.FloorOf.{more_in, surplus_in}
 use Rattle.dutch_pair.specs.ColourFloors.{is_firm, wants_firmly, adds_top, more_missed_strong}
+use Rattle.dutch_pair.specs.NextBracket.{quality}
 use Rattle.dutch_pair.proofs.FixedPairs.{Beside, beside, none_known, sum_beside}
 use Rattle.dutch_pair.proofs.FreePlayers.{free_served}
 use Rattle.dutch_pair.proofs.GrantedColours.{at_most_one, adds, firm_served}
@@ -76,6 +77,7 @@ added facts pair false = refl
 
 pub pair_misses_firmly : (facts : Facts) (c : Colour) (a b : ℕ) → may_meet facts a b ≡ true
     → wants_firmly facts c a + wants_firmly facts c b ≤ 1 + count_in facts (misses StrongPreference) (a, b) + adds_top facts (a, b)
+unfolding count_in
 pair_misses_firmly facts c a b meet =
     let both = and_parts (not (have_met (seat_at facts a) (seat_at facts b) || are_apart (seat_at facts a) (seat_at facts b))) (colours_allow facts (seat_at facts a) (seat_at facts b)) meet in
     omega (arith, in_order facts c a b (has_topscorer facts (a, b)) (nat_lt a b) both.1, added facts (a, b) (has_topscorer facts (a, b)))
@@ -155,6 +157,7 @@ pub beginning_misses_strongly : (facts : Facts) (reached : Reached) (lower : Lis
     → (quality_of facts reached lower a).wide_differences ≡ count_with_topscorers facts (misses Wide) (all_pairs reached.seats b)
     → (quality_of facts reached lower a).third_colours ≡ count_with_topscorers facts (misses Third) (all_pairs reached.seats b)
     → count_in_pairs facts (misses StrongPreference) (all_pairs reached.seats b) + more_missed_strong facts reached shape b ≤ (quality_of facts reached lower a).missed_strong
+unfolding quality_of quality quality_with
 beginning_misses_strongly facts reached lower shape b a within m begins no_wider no_third =
     let least = more_miss_strongly facts reached shape (all_pairs reached.seats b) [] a within m (beside reached.seats b a begins) (none_known (downfloaters facts reached a)) no_wider no_third in
     omega (arith, least)

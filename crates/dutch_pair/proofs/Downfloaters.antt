@@ -33,6 +33,7 @@ use Rattle.dutch_pair.proofs.BestLemmas.{chosen_is}
 module _ (facts : Facts) (reached : Reached) (lower : List ℕ) where
   -- elsewhere than in the penultimate bracket all candidates can be chosen
   pub eligible_all : (shape : Shape) → is_penultimate reached.kind ≡ false → eligible facts reached lower shape ≡ candidates_of facts reached shape
+  unfolding eligible candidates_of
   eligible_all shape e =
       ap (λ t. filter (λ lists. not t || completable facts (downfloaters facts reached lists ++ lower)) (candidates_of facts reached shape)) e
       ∙ filter-all (candidates_of facts reached shape)
@@ -40,11 +41,13 @@ module _ (facts : Facts) (reached : Reached) (lower : List ℕ) where
   -- in it those that leave players who can be paired out with the lower ones
   pub eligible_some : (shape : Shape) → is_penultimate reached.kind ≡ true
       → eligible facts reached lower shape ≡ filter (λ lists. completable facts (downfloaters facts reached lists ++ lower)) (candidates_of facts reached shape)
+  unfolding eligible candidates_of
   eligible_some shape e =
       ap (λ t. filter (λ lists. not t || completable facts (downfloaters facts reached lists ++ lower)) (candidates_of facts reached shape)) e
 
 -- a seat does not meet itself
 pub meets_other : (facts : Facts) (s t : ℕ) → seats_meet facts s t ≡ true → s ≡ t → ⊥
+unfolding seats_meet
 meets_other facts s t h same =
     let first = and_parts (is_seat facts s && is_seat facts t && not (s == t)) (may_meet facts s t) h in
     let second = and_parts (is_seat facts s && is_seat facts t) (not (s == t)) first.0 in
@@ -78,6 +81,7 @@ module _ (facts : Facts) (number : ℕ) (kind : BracketKind) (md residents : Lis
       let from = IsIn-map (seat_of seats) s (down frame a) m in subst (λ t. IsIn t seats) (sym from.1) (seat_in facts number kind md residents twice from.0 (down_number a from.0 from.2))
 
   meet_numbers : (x y : ℕ) → IsNumber frame x → IsNumber frame y → seats_meet facts (seat_of seats x) (seat_of seats y) ≡ true → numbers_meet facts reached x y ≡ true
+  unfolding numbers_meet seats_meet
   meet_numbers x y h g may =
       let s = seat_of seats x in
       let t = seat_of seats y in
@@ -108,6 +112,7 @@ module _ (facts : Facts) (number : ℕ) (kind : BracketKind) (md residents : Lis
     of_candidates = of_candidates_at (is_penultimate kind) refl
 
     pub more_of : (x y : ℕ) → IsIn x (down frame chosen.lists) → IsIn y (down frame chosen.lists) → x < y → seats_meet facts (seat_of seats x) (seat_of seats y) ≡ true → More x y
+    unfolding candidates_of
     more_of x y m n rises may =
         let legal = IsIn-filter (is_legal (numbers_meet facts reached) (number_may_be_left facts reached) frame) chosen.lists (arrangements frame chosen.shape) of_candidates in
         let h = down_number chosen.lists x m in
@@ -122,6 +127,7 @@ module _ (facts : Facts) (number : ℕ) (kind : BracketKind) (md residents : Lis
 
     -- it is a candidate
     pub more_candidate : (x y : ℕ) (more : More x y) → IsIn more.lists (candidates_of facts reached more.larger)
+    unfolding candidates_of
     more_candidate x y more = filter-IsIn (is_legal (numbers_meet facts reached) (number_may_be_left facts reached) frame) more.lists (arrangements frame more.larger) more.arranged more.legal
 
     -- where no two downfloaters in the order of their numbers may meet, no two may at all
@@ -141,6 +147,7 @@ module _ (facts : Facts) (number : ℕ) (kind : BracketKind) (md residents : Lis
 
     -- C.5: no two downfloaters of a bracket that is not paired again may meet
     pub down_strangers : is_penultimate kind ≡ false → Strangers (downfloaters facts reached chosen.lists)
+    unfolding candidates_of
     down_strangers first =
         ordered_strangers (λ x y m n rises may.
         let more = more_of x y m n rises may in

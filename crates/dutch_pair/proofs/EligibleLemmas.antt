@@ -11,6 +11,7 @@ use Rattle.dutch_pair.specs.Eligible.{can_be_chosen}
 -- those that can be chosen, by the test of each
 pub eligible_is : (facts : Facts) (reached : Reached) (lower : List ℕ) (shape : Shape)
     → eligible facts reached lower shape ≡ filter (can_be_chosen facts reached lower) (candidates_of facts reached shape)
+unfolding candidates_of eligible
 eligible_is facts reached lower shape = refl
 
 module _ (p : Arrangement → Bool) where

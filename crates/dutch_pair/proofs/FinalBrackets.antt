@@ -134,6 +134,7 @@ module _ (facts : Facts) (number : ℕ) (kind : BracketKind) (md residents : Lis
     }
 
     met : (x : ℕ) → IsNumber frame x → (number_mate x ≡ x → ⊥) → numbers_meet facts reached x (number_mate x) ≡ true
+    unfolding numbers_meet seats_meet
     met x h ne =
         let s = seat_of seats x in
         let may : seats_meet facts s (mate s) ≡ true = are.met s (seat_in x h) (λ e. ne (alone_number x h e)) in
@@ -144,6 +145,7 @@ module _ (facts : Facts) (number : ℕ) (kind : BracketKind) (md residents : Lis
         (ap (may_meet facts s) (mate_seat x h) ∙ last.1))
 
     may : (x : ℕ) → IsNumber frame x → number_mate x ≡ x → number_may_be_left facts reached x ≡ true
+    unfolding number_may_be_left seats_may_be_left
     may x h e =
         let s = seat_of seats x in
         let left : seats_may_be_left facts s ≡ true = are.left s (seat_in x h) (alone_seat x h e) in
@@ -161,6 +163,7 @@ module _ (facts : Facts) (number : ℕ) (kind : BracketKind) (md residents : Lis
     final_fits = mates_fit frame number_mate within number_mates
 
     pub final_candidate : has_member (candidates_of facts reached final_shape) ≡ true
+    unfolding candidates_of
     final_candidate =
         mates_candidate frame number_mate within number_mates (numbers_meet facts reached) (number_may_be_left facts reached) met one may
 

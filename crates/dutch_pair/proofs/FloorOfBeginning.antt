@@ -13,14 +13,15 @@ use Rattle.dutch_player.specs.Facts.{Facts}
 use Rattle.dutch_pair.specs.declared.colours_missed.Miss.TheVariants.{Preference}
 use Rattle.dutch_pair.specs.Beginnings.{HasPairsOf, LacksEndOfS2r, fixed}
 use Rattle.dutch_pair.specs.ColourFloors.{residents_down}
-use Rattle.dutch_pair.specs.FloorOf.{Basis, IsBasis, fixed_lists, floor_of, has_s1, is_flat, is_known, is_of_shape, is_uniform, lists_by, more_by, more_in, psd_by, residents_score, s1_by}
+use Rattle.dutch_pair.specs.FloorOf.{Basis, IsBasis, fixed_lists, floor_of, has_s1, is_flat, is_known, is_of_shape, is_uniform, lists_by, more_by, more_in, psd_by, residents_score, s1_by, floor_by, psd_over}
 use Rattle.dutch_pair.specs.Outlooks.{IsOutlook, awaited}
-use Rattle.dutch_pair.specs.NextBracket.{IsFlat, is_lower}
+use Rattle.dutch_pair.specs.NextBracket.{IsFlat, is_lower, quality}
 use Rattle.dutch_pair.specs.PsdFloors.{psd_with, repeated}
-use Rattle.dutch_pair.specs.Quality.{Quality, count_in_pairs, highest_first, is_better, misses, psd}
+use Rattle.dutch_pair.specs.Quality.{Quality, count_in_pairs, highest_first, is_better, misses, psd, quality_with}
 use Rattle.dutch_pair.specs.Reached.{IsOf, Reached, frame_of}
 use Rattle.dutch_pair.specs.Round.{candidates_of, downfloaters, quality_of}
 use Rattle.dutch_pair.specs.Seated.{all_pairs, difference, score_at, seat_of}
+use Rattle.dutch_pair.specs.Floors.{floor_over}
 use Rattle.dutch_pair.proofs.C06Psd.{psd_by_first, psd_of_all, psd_of_beginning}
 use Rattle.dutch_pair.proofs.C07Outlook.{awaited_holds, flat_residents, uniform_of}
 use Rattle.std.proofs.lemmas.List.{length-map}
@@ -51,6 +52,7 @@ same_not_lower xs = more_copies xs xs (λ d. omega arith)
 
 known_not_lower : (facts : Facts) (reached : Reached) (shape : Shape) (s : ℕ) (s1 : List ℕ)
     → is_lower (psd_with facts reached shape s s1) (psd_with facts reached shape s s1) ≡ false
+unfolding psd_with
 known_not_lower facts reached shape s s1 =
     same_not_lower (map (λ i. score_at facts (seat_of reached.seats i) - s) s1
     ++ (map (λ i. (score_at facts (seat_of reached.seats i) - s) + 2) (left_of (numbers_from 1 reached.mdps) s1)
@@ -79,6 +81,7 @@ pub psd_holds : (basis : Basis) (lower : List ℕ) (filling : Filling) (lists a 
     → is_lower (quality_of basis.facts basis.reached lower a).psd (cond t
     (psd_with basis.facts basis.reached basis.shape (residents_score basis.facts basis.reached) (s1_by filling basis.shape (lists_by filling lists).s1))
     (psd basis.facts (fixed basis.facts basis.reached (lists_by filling lists)))) ≡ false
+unfolding psd
 psd_holds basis lower filling lists a of' m h known true flat =
     let same = psd_at basis lower filling lists a of' (flat_residents basis.facts basis.reached of' flat) m h known in
     ap (λ xs. is_lower xs (psd_with basis.facts basis.reached basis.shape (residents_score basis.facts basis.reached) (s1_by filling basis.shape (lists_by filling lists).s1))) same
@@ -93,6 +96,7 @@ missed_more : (basis : Basis) (lower : List ℕ) (b a : Arrangement) → basis.r
     → IsIn a (arrangements (frame_of basis.facts basis.reached) basis.shape) → HasPairsOf b a
     → count_in_pairs basis.facts (misses Preference) (all_pairs basis.reached.seats b) + more_in false basis.facts basis.reached basis.shape (fixed basis.facts basis.reached b)
     ≤ (quality_of basis.facts basis.reached lower a).missed_preferences
+unfolding quality_of quality quality_with
 missed_more basis lower b a within m begins =
     more_miss basis.facts basis.reached basis.shape (all_pairs basis.reached.seats b) [] a within m (beside basis.reached.seats b a begins)
     (none_known (downfloaters basis.facts basis.reached a))
@@ -119,6 +123,7 @@ pub floor_stands : (basis : Basis) (lower : List ℕ) (b : Beginning) (a : Arran
     → (has_s1 b.filling || is_uniform basis.facts basis.reached basis.shape) ≡ true
     → IsOutlook basis.facts basis.reached lower basis.shape basis.outlook
     → is_better (quality_of basis.facts basis.reached lower a) (floor_of basis b) ≡ false
+unfolding quality_of quality quality_with floor_of floor_over floor_by psd_over
 floor_stands basis lower b a of' m h known outlook =
     let legal = legal_of basis.facts basis.reached basis.shape a m in
     let within : basis.reached.mdps ≤ length basis.reached.seats = subst (λ n. basis.reached.mdps ≤ n) (length-map basis.reached.seats (score_at basis.facts)) of'.sound.within in

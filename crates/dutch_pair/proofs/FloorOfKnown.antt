@@ -16,13 +16,14 @@ use Rattle.dutch_pair.specs.declared.known.Known.TheVariants.{Down, Meet}
 use Rattle.dutch_pair.specs.Beginnings.{seated_so}
 use Rattle.dutch_pair.specs.FloorOf.{Basis, IsBasis, floor_by_seats, floor_knowing, has_s1, is_flat, is_known, is_uniform, lists_by, more_in, psd_over, residents_score, s1_by}
 use Rattle.dutch_pair.specs.KnownBeside.{Holds, known_by, with_pair}
-use Rattle.dutch_pair.specs.NextBracket.{is_lower}
+use Rattle.dutch_pair.specs.NextBracket.{is_lower, quality}
 use Rattle.dutch_pair.specs.Outlooks.{IsOutlook, awaited}
 use Rattle.dutch_pair.specs.PsdFloors.{psd_with}
-use Rattle.dutch_pair.specs.Quality.{Quality, is_better, psd}
+use Rattle.dutch_pair.specs.Quality.{Quality, is_better, psd, quality_with}
 use Rattle.dutch_pair.specs.Reached.{IsOf, Reached}
 use Rattle.dutch_pair.specs.Round.{candidates_of, downfloaters, quality_of}
 use Rattle.dutch_pair.specs.Seated.{all_pairs, score_at}
+use Rattle.dutch_pair.specs.Floors.{floor_over}
 use Rattle.dutch_pair.proofs.C06Psd.{psd_of_known}
 use Rattle.dutch_pair.proofs.C07Outlook.{awaited_holds}
 use Rattle.dutch_pair.proofs.C10Preferences.{more_miss}
@@ -111,6 +112,7 @@ module _ (basis : Basis) (lower : List ℕ) (filling : Filling) (lists a : Arran
     psd_stays false uneven = psd_of_known basis.facts basis.reached lower known gone a others left
 
     stays : is_better (quality_of basis.facts basis.reached lower a) (floor_by_seats filling basis s1 (seated_so basis.facts basis.reached known gone)) ≡ false
+    unfolding quality_of quality quality_with floor_by_seats floor_over psd_over
     stays =
         let legal = legal_of basis.facts basis.reached basis.shape a m in
         let within : basis.reached.mdps ≤ length basis.reached.seats = subst (λ n. basis.reached.mdps ≤ n) (length-map basis.reached.seats (score_at basis.facts)) of'.sound.within in
@@ -135,6 +137,7 @@ module _ (basis : Basis) (lower : List ℕ) (filling : Filling) (lists a : Arran
 pub none_better : (facts : Facts) (reached : Reached) (lower : List ℕ) (shape : Shape) (basis : Basis) (known : Known) (b : Beginning) (floor : Quality)
     → IsBasis facts reached lower shape basis → IsOf facts reached → is_known basis b ≡ true → floor ≡ floor_knowing basis known b
     → (a : Arrangement) → IsIn a (candidates_of facts reached shape) → Begins b a → Holds facts reached known a → is_better (quality_of facts reached lower a) floor ≡ false
+unfolding floor_knowing floor_by_seats
 none_better facts reached lower shape basis known b floor is of' there' e a m h holds =
     from_basis facts reached lower shape basis is
     (λ fs st sh. IsOf fs st → IsOutlook fs st lower sh basis.outlook → IsIn a (candidates_of fs st sh) → Holds fs st known a → is_better (quality_of fs st lower a) floor ≡ false)

@@ -13,7 +13,7 @@ use Rattle.dutch_pair.specs.declared.colours_missed.Miss.TheVariants.{Wide, Thir
 use Rattle.dutch_pair.specs.Beginnings.{HasPairsOf, seated_so}
 use Rattle.dutch_pair.specs.Floors.{IsFloor, floor_over, floor_with}
 use Rattle.dutch_pair.specs.NextBracket.{is_lower}
-use Rattle.dutch_pair.specs.Quality.{Quality, NextValue, misses, count_in_pairs, count_with_topscorers, compared_by_colours, compared_by_floats, compared_by_differences, is_better}
+use Rattle.dutch_pair.specs.Quality.{Quality, NextValue, misses, count_in_pairs, count_with_topscorers, compared_by_colours, compared_by_floats, compared_by_differences, is_better, quality_with}
 use Rattle.dutch_pair.specs.Reached.{Reached}
 use Rattle.dutch_pair.specs.Round.{downfloaters, quality_of}
 use Rattle.dutch_pair.specs.Seated.{all_pairs}
@@ -59,6 +59,7 @@ module _ (f q : Quality) (floor : IsFloor f q) where
       number_not q.missed_strong f.missed_strong _ (floor.strong wide third) (λ _. floats_not))))
 
   pub not_better : is_better q f ≡ false
+  unfolding is_better
   not_better =
       list_not q.psd f.psd _ floor.psd
       (number_not f.next_pairs q.next_pairs _ floor.next_pairs (λ pairs.
@@ -76,6 +77,7 @@ pub floor_stays : (facts : Facts) (reached : Reached) (lower psd : List ℕ) (ne
     → (quality_of facts reached lower a).third_colours ≡ count_with_topscorers facts (misses Third) known
     → count_in_pairs facts (misses StrongPreference) known + more_missed_strong ≤ (quality_of facts reached lower a).missed_strong)
     → is_better (quality_of facts reached lower a) (floor_over facts psd next more_missed more_missed_strong (seated_so facts reached known gone)) ≡ false
+unfolding floor_over quality_with
 floor_stays facts reached lower psd next more_missed more_missed_strong known gone a others left by_psd by_pairs by_next_psd by_missed by_strong =
     let least = least_of_known facts reached lower known gone a others left in
     not_better (floor_over facts psd next more_missed more_missed_strong (seated_so facts reached known gone)) (quality_of facts reached lower a) (record {

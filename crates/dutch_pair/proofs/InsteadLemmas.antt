@@ -1,5 +1,5 @@
 -- Why no candidate that can be chosen grants a wish (C.04.3 C.4, C.5), and which shape a stage has room for.
-use Rattle.std.proofs.Common.{◌≡◌, ℕ, Bool, true, false, not, ◌||◌, cond, List, [], ◌∷◌, ◌++◌, filter, Some, None, refl, sym, ap, ◌∙◌}
+use Rattle.std.proofs.Common.{◌≡◌, ℕ, Bool, true, false, not, ◌||◌, cond, List, [], ◌∷◌, ◌++◌, filter, Some, None, refl, sym, ap, ◌∙◌, subst}
 use Rattle.std.specs.List.{list_any, AllByRecursion}
 use Rattle.std.proofs.lemmas.Bool.{not-true}
 use Rattle.dutch_order.specs.declared.bracket.Shape.{Shape}
@@ -43,6 +43,7 @@ any_kept test (a ∷ rest) = kept_at test a rest (test a) refl (any_kept test re
 
 module _ (facts : Facts) (reached : Reached) (lower : List ℕ) (shape : Shape) (wish : Wish) where
   none_at : (t : Bool) → has_member (filter (grants wish) (eligible facts reached lower shape)) ≡ t → best_wished facts reached lower (Some wish) shape ≡ None → t ≡ false
+  unfolding best_wished
   none_at true some none =
       absurd (best_of_some (is_better_in facts reached lower) (order_in facts reached lower) (filter (grants wish) (eligible facts reached lower shape)) some none)
   none_at false some none = refl
@@ -57,6 +58,14 @@ module _ (facts : Facts) (reached : Reached) (lower : List ℕ) (shape : Shape) 
   none_legal elsewhere none = ap (list_any (grants wish)) (sym (eligible_all facts reached lower shape elsewhere)) ∙ none
 
 -- a stage has room for its shape
-pub stage_fits : (facts : Facts) (stage : Stage) → IsStage facts stage → Fits (frame_of facts stage.reached) stage.shape
+stage_fits : (facts : Facts) (stage : Stage) → IsStage facts stage → Fits (frame_of facts stage.reached) stage.shape
 stage_fits facts stage h =
     has_room facts stage.reached (lower_of facts stage.reached) stage.shape (chosen_is facts stage.reached (lower_of facts stage.reached) (choice_of stage) h.choice).0
+
+-- and so has a bracket that was read as the stage's
+pub read_fits : (facts : Facts) (stage : Stage) {own : Facts} {reached : Reached} {shape : Shape} → own ≡ facts → reached ≡ stage.reached → shape ≡ stage.shape
+    → IsStage facts stage → Fits (frame_of own reached) shape
+read_fits facts stage {own = own} {reached = reached} field bracket is h =
+    subst (λ s. Fits (frame_of own reached) s) (sym is)
+    (subst (λ r. Fits (frame_of own r) stage.shape) (sym bracket)
+    (subst (λ f. Fits (frame_of f stage.reached) stage.shape) (sym field) (stage_fits facts stage h)))

@@ -242,6 +242,7 @@ map_some None P Q f h = absurd h
 map_some (Some item) P Q f h = f item h
 
 pub better_in_front : (a b : Quality) → (is_better a b ≡ true) ↔ IsSomeAnd (first_difference a b) (λ item. IsInFrontIn item a b)
+unfolding is_better
 better_in_front a b = (
   λ h. map_some (first_difference a b) (λ item. is_lt (compared_in item a b) ≡ true) (λ item. IsInFrontIn item a b) (in_front a b)
       (first_decides a b all_items (sym (ap is_lt (compared_in_turn a b)) ∙ h)),

@@ -21,7 +21,7 @@ use Rattle.dutch_pair.specs.declared.colours_missed.Miss.TheVariants.{Wide, Thir
 use Rattle.dutch_pair.specs.declared.seated.Floater.{Floater}
 use Rattle.dutch_pair.specs.Items.{by_rank, counted, only_if, players_counted, seats_of, those_in, those_in_pairs, those_of_both, those_with_topscorers, who_counts}
 use Rattle.dutch_pair.specs.NextBracket.{IsOfBracket, quality}
-use Rattle.dutch_pair.specs.Quality.{again, count_in, count_in_pairs, count_of_both, float_of, has_topscorer, highest_first, is_float, misses, one_if, placed_all}
+use Rattle.dutch_pair.specs.Quality.{again, count_in, count_in_pairs, count_of_both, float_of, has_topscorer, highest_first, is_float, misses, one_if, placed_all, quality_with}
 use Rattle.dutch_pair.specs.Reached.{Reached, IsOf, frame_of}
 use Rattle.dutch_pair.specs.Seated.{Seated, all_pairs, by_seats, pairs_of}
 use Rattle.dutch_pair.proofs.ArrangementParts.{parts_of}
@@ -99,6 +99,7 @@ module _ (facts : Facts) (holds : SeatFacts → Colour → Bool) where
       omega (arith, length-append (only_if white both.0) (only_if black both.1), only_one white both.0, only_one black both.1)
 
   as_many_in : (pair : ℕ × ℕ) → length (those_in facts holds pair) ≡ count_in facts holds pair
+  unfolding those_in count_in
   as_many_in pair = as_many_of_both (colours facts pair.0 pair.1)
 
   as_many_in_pairs : (pairs : List (ℕ × ℕ)) → length (those_in_pairs facts holds pairs) ≡ count_in_pairs facts holds pairs
@@ -115,6 +116,7 @@ length_seats floaters = length-map floaters (λ floater. floater.seat)
 
 pub as_many_count : (facts : Facts) (reached : Reached) (next : List ℕ) (candidate : Candidate) (item : Item)
     → length (who_counts facts reached candidate item) ≡ players_counted item (quality facts reached next candidate)
+unfolding quality quality_with
 as_many_count facts reached next candidate item = length_by_rank (counted facts (by_seats facts reached.seats candidate) item) ∙ as_many item where
   as_many : (item : Item) → length (counted facts (by_seats facts reached.seats candidate) item) ≡ players_counted item (quality facts reached next candidate)
   as_many Psd = refl

@@ -22,7 +22,7 @@ pub use Rattle.dutch_order.proofs.Once.{kept-is_in as in_filter}
 use Rattle.dutch_player.specs.Facts.{Facts}
 use Rattle.dutch_pair.specs.Seated.{seat_of, score_at, all_pairs, lowest, difference, difference_down}
 use Rattle.dutch_pair.specs.Reached.{Reached, frame_of, numbers_meet, number_may_be_left}
-use Rattle.dutch_pair.specs.Quality.{one_if}
+use Rattle.dutch_pair.specs.Quality.{one_if, psd}
 use Rattle.dutch_pair.specs.NextBracket.{is_lower, lowest_list_upto, lowest_list, legal_in, psd_in}
 use Rattle.dutch_pair.proofs.Copies.{copies, Falls, Lower, highest_first_falls, highest_first_copies, not_lower, lower_copies, more_first, same_first}
 use Rattle.dutch_pair.proofs.ArrangementParts.{Parts, parts_of}
@@ -196,6 +196,7 @@ module _ (facts : Facts) (reached : Reached) (s : ℕ) (one : OneScore facts rea
   psd_lower : (m j : ℕ) (a b : Arrangement) → Parts reached.mdps (length (frame_of facts reached).scores) m j a → Parts reached.mdps (length (frame_of facts reached).scores) m j b
       → (b.s1 ≡ a.s1) ⊎ (is_before (limbo_key (moved_down_scores (frame_of facts reached)) a.s1) (limbo_key (moved_down_scores (frame_of facts reached)) b.s1) ≡ true)
       → is_lower (psd_in facts reached b) (psd_in facts reached a) ≡ false
+  unfolding psd
   psd_lower m j a b pa pb order =
       let q = reached.mdps in
       let score : ℕ → ℕ = λ i. score_at facts (seat_of reached.seats i) in

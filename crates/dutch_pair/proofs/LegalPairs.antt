@@ -31,6 +31,7 @@ pub record IsArranged (facts : Facts) (reached : Reached) (shape : Shape) (a : A
   pub residents : all_meet (numbers_meet facts reached) a.s1r a.s2r ≡ true
 
 pub legal_of : (facts : Facts) (reached : Reached) (shape : Shape) (a : Arrangement) → IsIn a (candidates_of facts reached shape) → IsArranged facts reached shape a
+unfolding candidates_of
 legal_of facts reached shape a m =
     let test : Arrangement → Bool = is_legal (numbers_meet facts reached) (number_may_be_left facts reached) (frame_of facts reached) in
     let first = and_parts (all_meet (numbers_meet facts reached) a.s1 a.s2) _ (in_passes test a (arrangements (frame_of facts reached) shape) m) in
@@ -43,6 +44,7 @@ MayMeet facts pair = may_meet facts pair.0 pair.1 ≡ true
 
 pairs_meet : (facts : Facts) (reached : Reached) (firsts seconds : List ℕ) → all_meet (numbers_meet facts reached) firsts seconds ≡ true
     → AllByRecursion (MayMeet facts) (pairs_of reached.seats firsts seconds)
+unfolding numbers_meet
 pairs_meet facts reached [] seconds meet = tt
 pairs_meet facts reached (a ∷ firsts) [] meet = tt
 pairs_meet facts reached (a ∷ firsts) (b ∷ seconds) meet =

@@ -82,7 +82,7 @@ module _ (facts : Facts) where
 
   named_pairs : (w : ℕ → ℕ) (pairs : List (ℕ × ℕ)) → CountFromOne facts → AllByRecursion (IsPair facts) pairs
       → total w (named_by (map (board_of facts) pairs)) ≡ pairs_total (λ seat. w (start_of seat)) pairs
-  unfolding start_of
+  unfolding start_of board_of
   named_pairs w [] from all = refl
   named_pairs w (pair ∷ pairs) from all =
       let seats : ℕ × ℕ = colours facts pair.0 pair.1 in

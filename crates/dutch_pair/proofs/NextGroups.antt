@@ -87,6 +87,7 @@ module _ (facts : Facts) where
   pub quality_at : (reached : Reached) (lower next : List ℕ) (candidate : Candidate) (found : Quality) → next ≡ first_group facts (scoregroups facts lower)
       → candidate.down ≡ down (frame_of facts reached) candidate.lists → found ≡ quality facts reached next candidate
       → found ≡ quality_of facts reached lower candidate.lists
+  unfolding quality_of
   quality_at reached lower next candidate found e left h =
       h ∙ ap (λ group. quality facts reached group candidate) e
       ∙ ap (λ down. quality facts reached (first_group facts (scoregroups facts lower)) (record { lists = candidate.lists; down = down })) left

@@ -56,6 +56,7 @@ module _ (facts : Facts) where
   mates_of = complete_mates (seats_meet facts) (seats_meet_sym facts) (seats_may_be_left facts)
 
   by_test : (players : List ℕ) → Completable (seats_meet facts) (seats_may_be_left facts) players ↔ (completable facts players ≡ true)
+  unfolding completable
   by_test = completable_by_test (seats_meet facts) (seats_may_be_left facts)
 
   some_more : (f : Pairing → Pairing) (o : Option Pairing) → is_some o ≡ true → is_some (option_map f o) ≡ true
@@ -126,6 +127,7 @@ module _ (facts : Facts) where
     empty_legal = pairs_legal (numbers_meet facts here) (number_may_be_left facts here) (frame_of facts here) not_last nobody_paired tt
 
     empty_candidate : IsIn nobody_paired (candidates_of facts here no_pairs)
+    unfolding candidates_of
     empty_candidate =
         filter-IsIn (is_legal (numbers_meet facts here) (number_may_be_left facts here) (frame_of facts here)) nobody_paired (arrangements (frame_of facts here) no_pairs) empty_in empty_legal
 
@@ -294,6 +296,7 @@ module _ (facts : Facts) where
     first_twice = twice-front (md ++ residents) lower first_all
 
     first_has : HasCandidate facts first lower
+    unfolding candidates_of
     first_has = record {
       shape = no_pairs;
       room = empty_fits number Ordinary md residents lower first_twice refl;

@@ -29,7 +29,7 @@ module _ (facts : Facts) (reached : Reached) where
   legal a = is_legal (numbers_meet facts reached) (number_may_be_left facts reached) (frame_of facts reached) a
 
   legal_of : (lower : List ℕ) (shape : Shape) (a : Arrangement) → IsIn a (eligible facts reached lower shape) → legal a ≡ true
-  unfolding legal
+  unfolding legal candidates_of eligible
   legal_of lower shape a m =
       in_passes (λ c. legal c) a (arrangements (frame_of facts reached) shape)
       (in_filter (can_be_chosen facts reached lower) a (candidates_of facts reached shape) m)

@@ -69,6 +69,7 @@ either_misses facts a b true = higher_misses facts a b
 either_misses facts a b false = higher_misses facts b a ∙ ap one_if (collide_sym (wish facts b) (wish facts a))
 
 pub pair_misses : (facts : Facts) (a b : ℕ) → count_in facts (misses Preference) (a, b) ≡ one_if (collide (wish facts a) (wish facts b))
+unfolding count_in
 pair_misses facts a b = either_misses facts a b (nat_lt a b)
 
 pub pair_sym : (facts : Facts) (a b : ℕ) → count_in facts (misses Preference) (a, b) ≡ count_in facts (misses Preference) (b, a)
@@ -93,6 +94,7 @@ strong_in_both facts both =
 
 pub no_strong_miss : (facts : Facts) (pair : ℕ × ℕ) (test : Bool) → count_in facts (misses Preference) pair ≡ one_if test → test ≡ false
     → 0 ≡ count_in facts (misses StrongPreference) pair
+unfolding count_in
 no_strong_miss facts pair test e h =
     let less = strong_in_both facts (colours facts pair.0 pair.1) in
     let none : count_in facts (misses Preference) pair ≡ 0 = e ∙ ap one_if h in

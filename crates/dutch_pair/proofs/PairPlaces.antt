@@ -1,33 +1,23 @@
 -- A table of pairs that is filled place by place.
 use Rattle.std.proofs.Common.{◌≡◌, ℕ, ◌+◌, ◌-◌, ◌*◌, ◌<◌, ◌≤◌, ◌==◌, Bool, true, false, ◌&&◌, nat_lt, List, length, inl, inr, sym, ap, ◌∙◌, subst, arith, mul_comm}
 use Rattle.std.proofs.Math.Nat.{mul-le-mul_right}
-use Rattle.std.proofs.Math.Bool.{and_comm}
 use Rattle.std.proofs.lemmas.Bool.{lt-ltb, le-ltb, cases_lt, cases_eq}
-use Rattle.std.proofs.lemmas.Bool.Decides.{nat_tests}
 use Rattle.dutch_player.specs.Facts.{Facts}
-use Rattle.dutch_player.specs.Meetings.{may_meet}
-use Rattle.dutch_player.proofs.LawLemmas.{meeting_sym}
 use Rattle.dutch_pair.specs.declared.colours_missed.Miss.TheVariants.{Preference}
 use Rattle.dutch_pair.specs.Quality.{misses, count_in}
-use Rattle.dutch_pair.specs.Reached.{Reached, is_number, numbers_meet}
+use Rattle.dutch_pair.specs.Reached.{Reached, numbers_meet}
 use Rattle.dutch_pair.specs.Seated.{seat_of}
+use Rattle.dutch_pair.specs.SeatLaws.{numbers_meet_sym}
 use Rattle.dutch_pair.specs.ColourFloors.{suits}
 use Rattle.dutch_pair.specs.BitTables.{has_bit}
 use Rattle.dutch_pair.specs.Context.{Context}
 use Rattle.dutch_pair.specs.PairFacts.{place_of, KnowsPairs, NotedUpto}
 use Rattle.dutch_pair.proofs.PairMisses.{pair_sym}
 
-numbers_sym : (facts : Facts) (reached : Reached) (a b : ℕ) → numbers_meet facts reached a b ≡ numbers_meet facts reached b a
-numbers_sym facts reached a b =
-    let inside : (is_number reached a && is_number reached b) ≡ (is_number reached b && is_number reached a) = and_comm (is_number reached a) (is_number reached b) in
-    let equal : (a == b) ≡ (b == a) = grind (arith, nat_tests) in
-    let free : may_meet facts (seat_of reached.seats a) (seat_of reached.seats b) ≡ may_meet facts (seat_of reached.seats b) (seat_of reached.seats a)
-    = meeting_sym facts (seat_of reached.seats a) (seat_of reached.seats b) in
-    cc
-
 pub suits_sym : (facts : Facts) (reached : Reached) (x y : ℕ) → suits facts reached x y ≡ suits facts reached y x
+unfolding suits
 suits_sym facts reached x y =
-    ap (λ t. t && (count_in facts (misses Preference) (seat_of reached.seats x, seat_of reached.seats y) == 0)) (numbers_sym facts reached x y)
+    ap (λ t. t && (count_in facts (misses Preference) (seat_of reached.seats x, seat_of reached.seats y) == 0)) (numbers_meet_sym facts reached x y)
     ∙ ap (λ k. numbers_meet facts reached y x && (k == 0)) (pair_sym facts (seat_of reached.seats x) (seat_of reached.seats y))
 
 row : (n r s : ℕ) → r < s → r * n + n ≤ s * n

@@ -116,12 +116,15 @@ less Equal e = absurd (cc)
 less Greater e = absurd (cc)
 
 pub irreflexive : (a : Quality) → is_better a a ≡ false
+unfolding is_better
 irreflexive a = ap is_lt (tied_itself compared_total a)
 
 pub transitive : (a b c : Quality) → is_better a b ≡ true → is_better b c ≡ true → is_better a c ≡ true
+unfolding is_better
 transitive a b c p q = ap is_lt (compared_total.trans a b c (less (compared a b) p) (less (compared b c) q))
 
 sorted_out : (a b : Quality) (o : Ordering) → compared a b ≡ o → (a ≡ b) ⊎ ((is_better a b ≡ true) ⊎ (is_better b a ≡ true))
+unfolding is_better
 sorted_out a b Less e = inr (inl (ap is_lt e))
 sorted_out a b Equal e = inl (same_items a b e)
 sorted_out a b Greater e = inr (inr (ap is_lt (compared_total.antisymm b a ∙ ap ordering_reverse e)))

@@ -173,6 +173,7 @@ module _ (facts : Facts) (reached : Reached) (lower : List ℕ) where
   counts_here t h has' = and_from (room_here t) (has_member (eligible facts reached lower t)) (test_by_fits (frame_of facts reached) t h) has'
 
   known : (o : Option Shape) → shape_of facts reached lower ≡ o → IsGreatestOf (eligible facts reached lower) room_here (AtMost (eligible facts reached lower) room_here most_here) o
+  unfolding shape_of
   known o e =
       subst (IsGreatestOf (eligible facts reached lower) room_here (AtMost (eligible facts reached lower) room_here most_here)) e
       (greatest_pairs (eligible facts reached lower) room_here most_here)

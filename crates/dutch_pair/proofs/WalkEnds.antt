@@ -28,6 +28,7 @@ use Rattle.dutch_order.specs.declared.numbers.TheConstants.{LIMIT}
 
 module _ (facts : Facts) where
   in_eligible : (reached : Reached) (lower : List ℕ) (shape : Shape) (a : Arrangement) → IsIn a (eligible facts reached lower shape) → IsIn a (arrangements (frame_of facts reached) shape)
+  unfolding candidates_of eligible
   in_eligible reached lower shape a m =
       in_filter (is_legal (numbers_meet facts reached) (number_may_be_left facts reached) (frame_of facts reached)) a (arrangements (frame_of facts reached) shape)
       (in_filter (can_be_chosen facts reached lower) a (candidates_of facts reached shape) m)
@@ -41,6 +42,7 @@ module _ (facts : Facts) where
   -- and so is each candidate
   pub candidate_of_bracket : (reached : Reached) (shape : Shape) (candidate : Candidate) → IsIn candidate.lists (candidates_of facts reached shape) → candidate.down ≡ down (frame_of facts reached) candidate.lists
       → IsOfBracket facts reached candidate
+  unfolding candidates_of
   candidate_of_bracket reached shape candidate m left = record {
     lists = (shape, in_filter (is_legal (numbers_meet facts reached) (number_may_be_left facts reached) (frame_of facts reached)) candidate.lists (arrangements (frame_of facts reached) shape) m);
     down = left;

@@ -47,13 +47,13 @@ module _ (facts : Facts) (reached : Reached) (lower : List ℕ) (wish : Option W
   is_sought aim c = is_open c && is_near facts reached lower aim c
 
   -- the best for a pass of the candidate that is kept and of those to come
-  abbrev pub best_yet : Option Quality → Option Best → List Arrangement → Option Arrangement
+  unfoldable pub best_yet : Option Quality → Option Best → List Arrangement → Option Arrangement
   best_yet aim kept coming = best_with (is_better_in facts reached lower) (is_sought aim) (kept_lists kept) coming
 
   -- the best for a pass of a shape
-  abbrev pub best_near : Option Quality → Shape → Option Arrangement
+  unfoldable pub best_near : Option Quality → Shape → Option Arrangement
   best_near aim shape = best_yet aim None (candidates_of facts reached shape)
 
   -- B.8: of the candidates of a shape that can be chosen and grant the wish the first that none of them is better than
-  abbrev pub best_wished : Shape → Option Arrangement
+  unfoldable pub best_wished : Shape → Option Arrangement
   best_wished shape = best (is_better_in facts reached lower) (filter (is_wished wish) (eligible facts reached lower shape))

@@ -3,5 +3,5 @@ use Rattle.std.specs.Prelude.{ℕ, Bool, ◌==◌, ◌/◌, ◌%◌, List, slice
 use Rattle.std.specs.Int.{bit_at}
 
 -- the bit at a place is set
-abbrev pub has_bit : List ℕ → ℕ → Bool
+unfoldable pub has_bit : List ℕ → ℕ → Bool
 has_bit words place = bit_at (slice_index words (place / 64)) (place % 64) == 1

@@ -59,7 +59,7 @@ beyond (y ∷ part) [] = []
 beyond (y ∷ part) (x ∷ xs) = beyond part xs
 
 -- two numbers may meet, and neither misses a preference
-abbrev pub suits : Facts → Reached → ℕ → ℕ → Bool
+unfoldable pub suits : Facts → Reached → ℕ → ℕ → Bool
 suits facts reached x y =
     numbers_meet facts reached x y && (count_in facts (misses Preference) (seat_of reached.seats x, seat_of reached.seats y) == 0)
 
@@ -72,11 +72,11 @@ abbrev pub pool : Facts → Reached → Arrangement → List ℕ
 pool facts reached b = left_of (left_of (left_of (residents_of (frame_of facts reached)) b.s2) b.s1r) b.s2r
 
 -- of those who wait how many suit nobody of the pool
-abbrev pub lonely_first : Facts → Reached → Arrangement → ℕ
+unfoldable pub lonely_first : Facts → Reached → Arrangement → ℕ
 lonely_first facts reached b = length (filter (λ x. not (list_any (suits facts reached x) (pool facts reached b))) (waiting b))
 
 -- of the pool how many suit nobody who waits
-abbrev pub lonely_second : Facts → Reached → Arrangement → ℕ
+unfoldable pub lonely_second : Facts → Reached → Arrangement → ℕ
 lonely_second facts reached b = length (filter (λ y. not (list_any (λ x. suits facts reached x y) (waiting b))) (pool facts reached b))
 
 -- the residents who go down with a shape
@@ -84,5 +84,5 @@ abbrev pub residents_down : Reached → Shape → ℕ
 residents_down reached shape = (length reached.seats - reached.mdps - shape.mdps) - 2 * remainder_pairs shape
 
 -- C.10: lonely players miss, but for residents of the pool who go down
-abbrev pub lonely : Facts → Reached → Shape → Arrangement → ℕ
+unfoldable pub lonely : Facts → Reached → Shape → Arrangement → ℕ
 lonely facts reached shape b = max (lonely_first facts reached b) (lonely_second facts reached b - residents_down reached shape)

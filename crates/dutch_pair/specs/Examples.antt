@@ -7,13 +7,17 @@ use Rattle.dutch_player.specs.declared.float.Float.TheVariants.{Up, Down}
 use Rattle.dutch_player.specs.Facts.{SeatFacts, Facts}
 use Rattle.dutch_order.specs.Arrangements.{Arrangement}
 use Rattle.dutch_pair.specs.declared.reached.BracketKind.TheVariants.{Ordinary}
-use Rattle.dutch_pair.specs.Reached.{Reached}
-use Rattle.dutch_pair.specs.Quality.{Quality}
-use Rattle.dutch_pair.specs.Round.{bracket, round}
-use Rattle.dutch_pair.specs.Boards.{boards}
+use Rattle.dutch_pair.specs.NextBracket.{quality, value_of}
+use Rattle.dutch_pair.specs.Reached.{Reached, numbers_meet, number_may_be_left}
+use Rattle.dutch_pair.specs.Quality.{Quality, count_in, is_better, psd, quality_with}
+use Rattle.dutch_pair.specs.Round.{best_of_shape, bracket, candidates_of, choice, completable, eligible, quality_of, round, shape_of}
+use Rattle.dutch_pair.specs.Seats.{seats_meet, seats_may_be_left}
+use Rattle.dutch_pair.specs.Boards.{board_of, boards, goes_before, goes_before_by_sum}
+use Rattle.dutch_pair.specs.Seated.{going_down, going_up}
 
--- the boards of a round, if it has a pairing
-abbrev pub boards_of : Facts → Option (List (ℕ × ℕ))
+-- the boards of a round, if it has a pairing; who unfolds this unfolds all that a round is worked out with
+unfoldable pub boards_of : Facts → Option (List (ℕ × ℕ))
+unfolding completable candidates_of eligible quality_of best_of_shape shape_of choice numbers_meet number_may_be_left seats_meet seats_may_be_left is_better count_in quality_with quality value_of board_of goes_before goes_before_by_sum psd going_down going_up
 boards_of facts = option_map (boards facts) (round facts).pairing
 
 -- the numbers of pairs in the brackets that a round reaches

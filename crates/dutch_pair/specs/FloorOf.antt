@@ -59,7 +59,7 @@ is_uniform facts reached shape =
     (shape.mdps == 0) || ((shape.mdps == reached.mdps) || (score_at facts (seat_of reached.seats 1) == score_at facts (seat_of reached.seats reached.mdps)))
 
 -- C.6: what S1 tells where all residents have one score; else the differences of what is known
-abbrev pub psd_over : Filling → Basis → List ℕ → Seated → List ℕ
+unfoldable pub psd_over : Filling → Basis → List ℕ → Seated → List ℕ
 psd_over filling basis s1 known =
     if is_flat basis.facts basis.reached
     then psd_with basis.facts basis.reached basis.shape (residents_score basis.facts basis.reached) (s1_by filling basis.shape s1)
@@ -94,26 +94,26 @@ more_by S2r basis lists =
     max (more_in false basis.facts basis.reached basis.shape (fixed basis.facts basis.reached lists)) (lonely basis.facts basis.reached basis.shape lists)
 
 -- the floor by the list that is being filled and those that are fixed
-abbrev pub floor_by : Filling → Basis → Arrangement → Quality
+unfoldable pub floor_by : Filling → Basis → Arrangement → Quality
 floor_by filling basis lists =
     floor_with basis.facts basis.reached (psd_by filling basis lists)
     (awaited basis.facts basis.reached basis.shape basis.outlook filling lists.s1) (more_by filling basis lists)
     (more_in true basis.facts basis.reached basis.shape (fixed basis.facts basis.reached lists)) lists
 
 -- the floor by what is known, of seats and of S1
-abbrev pub floor_by_seats : Filling → Basis → List ℕ → Seated → Quality
+unfoldable pub floor_by_seats : Filling → Basis → List ℕ → Seated → Quality
 floor_by_seats filling basis s1 known =
     floor_over basis.facts (psd_over filling basis s1 known) (awaited basis.facts basis.reached basis.shape basis.outlook filling s1)
     (more_in false basis.facts basis.reached basis.shape known) (more_in true basis.facts basis.reached basis.shape known) known
 
 -- the floor of a beginning of which something more is known
-abbrev pub floor_knowing : Basis → Known → Beginning → Quality
+unfoldable pub floor_knowing : Basis → Known → Beginning → Quality
 floor_knowing basis known b =
     let lists = fixed_lists b in
     floor_by_seats b.filling basis lists.s1 (known_by basis.facts basis.reached known (all_pairs basis.reached.seats lists))
 
 -- the floor of a beginning
-abbrev pub floor_of : Basis → Beginning → Quality
+unfoldable pub floor_of : Basis → Beginning → Quality
 floor_of basis b = floor_by b.filling basis (fixed_lists b)
 
 -- all are numbers of a bracket

@@ -44,7 +44,7 @@ pub record IsFloor (f q : Quality) : Type 0 where
 
 -- what no candidate is better than of which this is known: a PSD and a value of the next bracket, the items of what is known, and so many
 -- more who miss a preference, or a strong one
-abbrev pub floor_over : Facts → List ℕ → NextValue → ℕ → ℕ → Seated → Quality
+unfoldable pub floor_over : Facts → List ℕ → NextValue → ℕ → ℕ → Seated → Quality
 floor_over facts psd next more_missed more_missed_strong known =
     let k = quality_with facts known next in
     record k { psd = psd; missed_preferences = k.missed_preferences + more_missed; missed_strong = k.missed_strong + more_missed_strong }

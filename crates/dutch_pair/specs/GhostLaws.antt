@@ -54,6 +54,7 @@ module _ (facts : Facts) (bracket lower : List ℕ) (k : ℕ) where
 
   -- whom a ghost meets meets it
   pub ghosts_meet_sym : (i j : ℕ) → ghosts_meet facts bracket k lower i j ≡ ghosts_meet facts bracket k lower j i
+  unfolding ghosts_meet
   ghosts_meet_sym i j =
       let n = k + length lower in
       let equal : (i == j) ≡ (j == i) = grind (arith, nat_tests) in

@@ -28,7 +28,7 @@ ghost_pair facts seats k lower i j =
     then (nat_le j k || some_meets facts seats (seat_of lower (j - k)))
     else (if nat_le j k then some_meets facts seats (seat_of lower (i - k)) else may_meet facts (seat_of lower (i - k)) (seat_of lower (j - k)))
 
-abbrev pub ghosts_meet : Facts → List ℕ → ℕ → List ℕ → ℕ → ℕ → Bool
+unfoldable pub ghosts_meet : Facts → List ℕ → ℕ → List ℕ → ℕ → ℕ → Bool
 ghosts_meet facts seats k lower i j =
     (is_upto (k + length lower) i && is_upto (k + length lower) j) && (not (i == j) && ghost_pair facts seats k lower i j)
 
@@ -37,7 +37,7 @@ abbrev pub may_bye : Facts → ℕ → Bool
 may_bye facts a = (seat_at facts a).may_bye
 
 -- a ghost may have the bye if some player of the bracket may
-abbrev pub ghost_may_be_left : Facts → List ℕ → ℕ → List ℕ → ℕ → Bool
+unfoldable pub ghost_may_be_left : Facts → List ℕ → ℕ → List ℕ → ℕ → Bool
 ghost_may_be_left facts seats k lower i =
     is_upto (k + length lower) i && (if nat_le i k then list_any (may_bye facts) seats else may_bye facts (seat_of lower (i - k)))
 

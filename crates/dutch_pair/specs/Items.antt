@@ -129,7 +129,7 @@ abbrev pub those_of_both : Facts → (SeatFacts → Colour → Bool) → ℕ × 
 those_of_both facts holds both = only_if (holds (seat_at facts both.0) White) both.0 ++ only_if (holds (seat_at facts both.1) Black) both.1
 
 -- the players of a pair of whom something holds, with the colour that each gets (E)
-abbrev pub those_in : Facts → (SeatFacts → Colour → Bool) → ℕ × ℕ → List ℕ
+unfoldable pub those_in : Facts → (SeatFacts → Colour → Bool) → ℕ × ℕ → List ℕ
 those_in facts holds pair = those_of_both facts holds (colours facts pair.0 pair.1)
 
 -- the players in pairs of whom something holds

@@ -54,7 +54,7 @@ value_of_shape facts reached (Some shape) =
     record { pairs = shape.pairs; psd = lowest_list (map (psd_in facts reached) (legal_in facts reached shape)) }
 
 -- C.7: what a bracket can be: the most pairs, for them the most moved-down players, and then the least PSD
-abbrev pub value_of : Facts → Reached → NextValue
+unfoldable pub value_of : Facts → Reached → NextValue
 value_of facts reached = value_of_shape facts reached (greatest_shape (legal_in facts reached) (frame_of facts reached))
 
 -- C.7 counts in ordinary brackets alone
@@ -65,7 +65,7 @@ value_in Penultimate facts moved_down next = no_value
 value_in Collapsed facts moved_down next = no_value
 
 -- C.6 to C.19: the quality of a candidate of a bracket above a next lower scoregroup
-abbrev pub quality : Facts → Reached → List ℕ → Candidate → Quality
+unfoldable pub quality : Facts → Reached → List ℕ → Candidate → Quality
 quality facts reached next candidate =
     quality_with facts (by_seats facts reached.seats candidate) (value_in reached.kind facts (map (seat_of reached.seats) candidate.down) next)
 

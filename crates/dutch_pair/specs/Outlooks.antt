@@ -20,7 +20,7 @@ abbrev pub limbo_scores : Facts → Reached → List ℕ → List ℕ
 limbo_scores facts reached s1 = map (λ i. score_at facts (seat_of reached.seats i)) (left_of (numbers_from 1 reached.mdps) s1)
 
 -- an S1 leaves a Limbo with the scores of the first one
-abbrev pub leaves_first : Facts → Reached → Shape → List ℕ → Bool
+unfoldable pub leaves_first : Facts → Reached → Shape → List ℕ → Bool
 leaves_first facts reached shape s1 = is_same (limbo_scores facts reached s1) (first_limbo facts reached shape)
 
 -- and so does every S1, where a floor is known before one is chosen

@@ -16,7 +16,7 @@ repeated x (suc n) = x ∷ repeated x n
 
 -- the PSD of an arrangement of a bracket whose residents have the score s, by its S1: the differences of those in S1, of the
 -- moved-down players who are not in it, of the pairs of residents, and of the residents who are left over
-abbrev pub psd_with : Facts → Reached → Shape → ℕ → List ℕ → List ℕ
+unfoldable pub psd_with : Facts → Reached → Shape → ℕ → List ℕ → List ℕ
 psd_with facts reached shape s s1 =
     highest_first (map (λ i. score_at facts (seat_of reached.seats i) - s) s1
     ++ (map (λ i. (score_at facts (seat_of reached.seats i) - s) + 2) (left_of (numbers_from 1 reached.mdps) s1)

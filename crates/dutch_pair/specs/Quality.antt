@@ -72,7 +72,7 @@ abbrev pub highest_first : List ℕ → List ℕ
 highest_first numbers = placed_all [] numbers
 
 -- C.6: the PSD: the differences of all pairs and all downfloaters, the highest first
-abbrev pub psd : Facts → Seated → List ℕ
+unfoldable pub psd : Facts → Seated → List ℕ
 psd facts candidate =
     highest_first (map (difference facts) candidate.pairs ++ map (difference_down facts candidate.lowest) candidate.down)
 
@@ -116,7 +116,7 @@ abbrev pub count_of_both : Facts → (SeatFacts → Colour → Bool) → ℕ × 
 count_of_both facts holds both = one_if (holds (seat_at facts both.0) White) + one_if (holds (seat_at facts both.1) Black)
 
 -- how many players of a pair something holds of, with the colour that each gets (E)
-abbrev pub count_in : Facts → (SeatFacts → Colour → Bool) → ℕ × ℕ → ℕ
+unfoldable pub count_in : Facts → (SeatFacts → Colour → Bool) → ℕ × ℕ → ℕ
 count_in facts holds pair = count_of_both facts holds (colours facts pair.0 pair.1)
 
 -- A.7: one or both of a pair are topscorers
@@ -159,7 +159,7 @@ abbrev pub differences : List Floater → List ℕ
 differences floaters = highest_first (map (λ floater. floater.by) floaters)
 
 -- C.6 to C.19: the quality of a candidate, for a value of the next bracket
-abbrev pub quality_with : Facts → Seated → NextValue → Quality
+unfoldable pub quality_with : Facts → Seated → NextValue → Quality
 quality_with facts candidate next = record {
   psd = psd facts candidate;
   next_pairs = next.pairs;
@@ -207,5 +207,5 @@ compared =
     by_list (λ q. q.psd) (then_cmp (on (λ q. q.next_pairs) (flip_args nat_cmp)) (by_list (λ q. q.next_psd) compared_by_colours))
 
 -- one quality is better than another: at the first item that differs it stands in front
-abbrev pub is_better : Quality → Quality → Bool
+unfoldable pub is_better : Quality → Quality → Bool
 is_better a b = is_lt (compared a b)

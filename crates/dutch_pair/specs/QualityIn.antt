@@ -34,7 +34,7 @@ with_next next q = record q { next_pairs = next.pairs; next_psd = next.psd }
 
 -- a quality with the items of a candidate by seats, but for what it says of the differences, of the next bracket, and of missed
 -- preferences: C.6, C.7, C.10, C.11
-abbrev pub with_others : Facts → Seated → Quality → Quality
+unfoldable pub with_others : Facts → Seated → Quality → Quality
 with_others facts candidate q =
     let k = quality_with facts candidate (next_in q) in
     record k { psd = q.psd; missed_preferences = q.missed_preferences; missed_strong = q.missed_strong }

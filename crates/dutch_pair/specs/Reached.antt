@@ -36,12 +36,12 @@ abbrev pub is_number : Reached → ℕ → Bool
 is_number reached a = nat_le 1 a && nat_le a (length reached.seats)
 
 -- C.1 and C.3 by numbers of the bracket
-abbrev pub numbers_meet : Facts → Reached → ℕ → ℕ → Bool
+unfoldable pub numbers_meet : Facts → Reached → ℕ → ℕ → Bool
 numbers_meet facts reached a b =
     (is_number reached a && is_number reached b) && (not (a == b) && may_meet facts (seat_of reached.seats a) (seat_of reached.seats b))
 
 -- C.2 by number
-abbrev pub number_may_be_left : Facts → Reached → ℕ → Bool
+unfoldable pub number_may_be_left : Facts → Reached → ℕ → Bool
 number_may_be_left facts reached a = is_number reached a && (seat_at facts (seat_of reached.seats a)).may_bye
 
 -- a bracket is one of a field: its seats are the field's, and their scores are those of a bracket

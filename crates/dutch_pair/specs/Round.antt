@@ -78,7 +78,7 @@ module _ (facts : Facts) where
   everybody = numbers_from 0 (length facts.seats)
 
   -- A.9: whether seats can be paired out
-  abbrev pub completable : List ℕ → Bool
+  unfoldable pub completable : List ℕ → Bool
   completable seats = can_complete (seats_meet facts) (seats_may_be_left facts) seats
 
   -- the downfloaters of an arrangement, by seat
@@ -86,7 +86,7 @@ module _ (facts : Facts) where
   downfloaters reached lists = map (seat_of reached.seats) (down (frame_of facts reached) lists)
 
   -- C.1 to C.3: the candidates of a bracket
-  abbrev pub candidates_of : Reached → Shape → List Arrangement
+  unfoldable pub candidates_of : Reached → Shape → List Arrangement
   candidates_of reached shape = candidates (numbers_meet facts reached) (number_may_be_left facts reached) (frame_of facts reached) shape
 
   -- C.4: whether a candidate can be chosen: in the penultimate bracket only if it leaves players who can be paired out with all lower
@@ -95,11 +95,11 @@ module _ (facts : Facts) where
   can_be_chosen reached lower lists = not (is_penultimate reached.kind) || completable (downfloaters reached lists ++ lower)
 
   -- C.4: the candidates that can be chosen
-  abbrev pub eligible : Reached → List ℕ → Shape → List Arrangement
+  unfoldable pub eligible : Reached → List ℕ → Shape → List Arrangement
   eligible reached lower shape = filter (can_be_chosen reached lower) (candidates_of reached shape)
 
   -- C.6 to C.19: the quality of a candidate above all lower seats, of which the first scoregroup is the next bracket's
-  abbrev pub quality_of : Reached → List ℕ → Arrangement → Quality
+  unfoldable pub quality_of : Reached → List ℕ → Arrangement → Quality
   quality_of reached lower lists =
       quality facts reached (first_group (scoregroups lower)) (record { lists = lists; down = down (frame_of facts reached) lists })
 
@@ -108,15 +108,15 @@ module _ (facts : Facts) where
   is_better_in reached lower c d = is_better (quality_of reached lower c) (quality_of reached lower d)
 
   -- B.8: of the candidates of a shape that can be chosen the first that none is better than
-  abbrev pub best_of_shape : Reached → List ℕ → Shape → Option Arrangement
+  unfoldable pub best_of_shape : Reached → List ℕ → Shape → Option Arrangement
   best_of_shape reached lower shape = best (is_better_in reached lower) (eligible reached lower shape)
 
   -- C.5: the shape of a bracket
-  abbrev pub shape_of : Reached → List ℕ → Option Shape
+  unfoldable pub shape_of : Reached → List ℕ → Option Shape
   shape_of reached lower = greatest_shape (eligible reached lower) (frame_of facts reached)
 
   -- the choice in a bracket above all lower seats: its shape, and the best of it; none where no shape has a candidate
-  abbrev pub choice : Reached → List ℕ → Option Choice
+  unfoldable pub choice : Reached → List ℕ → Option Choice
   choice reached lower = do
     shape ← shape_of reached lower
     lists ← best_of_shape reached lower shape

@@ -84,12 +84,12 @@ abbrev pub floats_down : Facts → ℕ → ℕ → Floater
 floats_down facts least seat = record { seat = seat; by = difference_down facts least seat }
 
 -- all who go down
-abbrev pub going_down : Facts → Seated → List Floater
+unfoldable pub going_down : Facts → Seated → List Floater
 going_down facts candidate =
     map (goes_down facts) (filter (is_uneven facts) candidate.pairs) ++ map (floats_down facts candidate.lowest) candidate.down
 
 -- all who go up
-abbrev pub going_up : Facts → Seated → List Floater
+unfoldable pub going_up : Facts → Seated → List Floater
 going_up facts candidate = map (goes_up facts) (filter (is_uneven facts) candidate.pairs)
 
 -- all of these are seats of the field

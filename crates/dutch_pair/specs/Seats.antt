@@ -8,9 +8,9 @@ abbrev pub is_seat : Facts → ℕ → Bool
 is_seat facts a = nat_lt a (length facts.seats)
 
 -- C.1 and C.3: two seats that differ, whose players may meet
-abbrev pub seats_meet : Facts → ℕ → ℕ → Bool
+unfoldable pub seats_meet : Facts → ℕ → ℕ → Bool
 seats_meet facts a b = is_seat facts a && is_seat facts b && not (a == b) && may_meet facts a b
 
 -- C.2: a seat whose player may have the bye
-abbrev pub seats_may_be_left : Facts → ℕ → Bool
+unfoldable pub seats_may_be_left : Facts → ℕ → Bool
 seats_may_be_left facts a = is_seat facts a && (seat_at facts a).may_bye

@@ -22,7 +22,7 @@ can_cover_but meets may_go may_be_left (suc (suc n)) k (a ∷ later) =
     || (takes_one (may_go a) (λ j. can_cover_but meets may_go may_be_left (suc n) j later) k || (may_be_left a && can_cover_but meets may_go nobody (suc n) k later))
 
 -- a lower player may be paired with a downfloater of a bracket if some player of it may meet him
-abbrev pub meets_bracket : Facts → List ℕ → ℕ → Bool
+unfoldable pub meets_bracket : Facts → List ℕ → ℕ → Bool
 meets_bracket facts seats b = list_any (λ a. seats_meet facts a b) seats
 
 -- C.4: whether lower players can be paired out with k downfloaters of a bracket, where one may be left out (`bye`) or none
@@ -31,5 +31,5 @@ can_take_out facts seats bye n k lower =
     can_cover_but (seats_meet facts) (meets_bracket facts seats) (left_over bye (seats_may_be_left facts)) n k lower
 
 -- C.4: the same of all lower players; one is left out of an odd number of players
-abbrev pub can_go_out : Facts → List ℕ → ℕ → List ℕ → Bool
+unfoldable pub can_go_out : Facts → List ℕ → ℕ → List ℕ → Bool
 can_go_out facts seats k lower = can_take_out facts seats ((k + length lower) % 2 == 1) (length lower) k lower

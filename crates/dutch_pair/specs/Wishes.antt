@@ -36,7 +36,7 @@ abbrev pub granting : Facts → Reached → List ℕ → Shape → Wish → List
 granting facts reached lower shape wish = filter (grants wish) (eligible facts reached lower shape)
 
 -- B.8: of these the first that none of them is better than
-abbrev pub best_granting : Facts → Reached → List ℕ → Shape → Wish → Option Arrangement
+unfoldable pub best_granting : Facts → Reached → List ℕ → Shape → Wish → Option Arrangement
 best_granting facts reached lower shape wish = best (is_better_in facts reached lower) (granting facts reached lower shape wish)
 
 -- what is told of a wish, for a bracket above lower seats and its shape: the best candidate that grants it, with its downfloaters and its

@@ -6,6 +6,7 @@ ghost use Rattle.dutch_pair.specs.BitTables.{has_bit};
 pub(crate) const WORD: usize = 64;
 
 /// Whether the bit at a place is set.
+#[tactic(auto, unfolding(crate::specs::BitTables::has_bit))]
 pub(crate) fn has_bit(words: &[u64], place: usize) -> bool
     requires { place < 64 * length words.now }
     ensures { result ≡ has_bit words.now place }

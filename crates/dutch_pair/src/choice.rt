@@ -45,7 +45,7 @@ pub enum Choice {
 }
 
 /// The best candidate so far, with its quality.
-#[derive(Debug, Drop)]
+#[derive(Drop)]
 pub(crate) struct Best {
     pub(crate) candidate: Candidate,
     pub(crate) quality: Quality,

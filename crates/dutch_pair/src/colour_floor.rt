@@ -14,7 +14,7 @@ use dutch_order::Shape;
 use trf16::Colour;
 
 /// Whose preferences are counted: those for a colour, or only the firm ones for it.
-#[derive(Debug, Clone, Copy)]
+#[derive(Clone, Copy)]
 struct Want {
     colour: Colour,
     firm: bool,

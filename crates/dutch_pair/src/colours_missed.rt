@@ -11,7 +11,7 @@ use dutch_player::{Field, Strength};
 use trf16::Colour;
 
 /// What is wrong with the colour that a player gets.
-#[derive(Debug, Clone, Copy, PartialEq, Eq)]
+#[derive(Clone, Copy)]
 pub enum Miss {
     /// His colour difference gets over +2 or under -2 (C.8).
     Wide,
@@ -99,6 +99,7 @@ pub(crate) fn misses(field: &Field, miss: Miss, seat: u16, colour: Colour) -> bo
 }
 
 /// How many of the two players of a pair miss so.
+#[tactic(auto, unfolding(crate::specs::Quality::count_in))]
 pub(crate) fn count_in(field: &Field, miss: Miss, pair: Pair) -> u16
     requires first { pair.0 < length field.now.seats }
     requires second { pair.1 < length field.now.seats }

@@ -201,6 +201,7 @@ impl<'a> Context<'a> {
     }
 
     /// Whether one of a pair misses his preference (C.10): both never do.
+    #[tactic(auto, unfolding(crate::specs::Quality::count_in))]
     pub(crate) fn has_miss(&self, pair: Pair) -> bool
         requires first { pair.0 < length self.now.facts.seats }
         requires second { pair.1 < length self.now.facts.seats }
@@ -210,6 +211,7 @@ impl<'a> Context<'a> {
     }
 
     /// Whether two numbers may meet, and neither misses his preference. It says no of a number that is not the bracket's.
+    #[tactic(auto, unfolding(crate::specs::Reached::numbers_meet, crate::specs::ColourFloors::suits))]
     pub(crate) fn suits(&self, x: u16, y: u16) -> bool
         ensures { result ≡ suits self.now.facts self.now.reached x y }
     {

@@ -6,6 +6,7 @@ ghost use Rattle.dutch_pair.specs.Examples.{boards_of, pairs_reached, five_playe
 ghost use Rattle.dutch_pair.specs.Examples.{leader_above_two, leader_meets, leader_quality};
 
 /// The boards of a few rounds, white before black, and 0 for the bye.
+#[tactic(auto, unfolding(crate::specs::Examples::boards_of))]
 pub fn rounds_by_hand()
     ensures five_players { boards_of five_players ≡ Some ((1, 3) ∷ (4, 2) ∷ (5, 0) ∷ []) }
     ensures leader_moves_down { boards_of leader_moves_down ≡ Some ((2, 1) ∷ (3, 4) ∷ []) }
@@ -17,6 +18,7 @@ pub fn rounds_by_hand()
 {}
 
 /// How many pairs their brackets make: the first of the two that give up a pair is paired again, and then all in one bracket.
+#[tactic(auto, unfolding(crate::specs::Examples::boards_of))]
 pub fn brackets_by_hand()
     ensures one_bracket { pairs_reached five_players ≡ 2 ∷ [] }
     ensures moves_down { pairs_reached leader_moves_down ≡ 0 ∷ 1 ∷ 1 ∷ [] }
@@ -26,6 +28,7 @@ pub fn brackets_by_hand()
 
 /// The two candidates of the bracket into which the leader moves down, and their qualities item by item: the second misses one
 /// preference, a strong one.
+#[tactic(auto, unfolding(crate::specs::Examples::boards_of))]
 pub fn qualities_by_hand()
     ensures candidates { candidates_of leader_moves_down leader_above_two (record { pairs = 1; mdps = 1 }) ≡ leader_meets 2 ∷ leader_meets 3 ∷ [] }
     ensures first { quality_of leader_moves_down leader_above_two (3 ∷ []) (leader_meets 2) ≡ leader_quality 0 }

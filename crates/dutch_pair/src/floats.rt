@@ -56,7 +56,7 @@ fn put_down(field: &Field, least: u16, back: u8, down: &[u16], by: &mut Numbers)
 
 /// Fills a list with the differences of those who go down and had a downfloat in the last round (1) or in the one before it (2), the
 /// highest first.
-#[tactic(auto, using(crate::proofs::Places::placed_again))]
+#[tactic(auto, using(crate::proofs::Places::placed_again), unfolding(crate::specs::Seated::going_down))]
 pub(crate) fn fill_down_again(field: &Field, candidate: &Seated, back: u8, by: &mut Numbers)
     requires inside { HasSeats field.now candidate.now }
     requires one { 1 ≤ back }
@@ -69,6 +69,7 @@ pub(crate) fn fill_down_again(field: &Field, candidate: &Seated, back: u8, by: &
 }
 
 /// The same of those who go up and had an upfloat.
+#[tactic(auto, unfolding(crate::specs::Seated::going_up))]
 pub(crate) fn fill_up_again(field: &Field, candidate: &Seated, back: u8, by: &mut Numbers)
     requires inside { HasSeats field.now candidate.now }
     requires one { 1 ≤ back }

@@ -164,7 +164,7 @@ impl<'a> Floors<'a> {
     }
 
     /// Fills a list with the PSD (C.6).
-    #[tactic(auto, using(crate::proofs::FloorLemmas::first_numbers, crate::proofs::FloorLemmas::first_length))]
+    #[tactic(auto, using(crate::proofs::FloorLemmas::first_numbers, crate::proofs::FloorLemmas::first_length), unfolding(crate::specs::FloorOf::psd_over))]
     fn fill_psd(&self, filling: Filling, s1: &[u16], seated: &Seated, psd: &mut Numbers)
         requires inside { HasSeats self.now.facts seated.now }
         requires numbers { AllNumbers self.now.reached.seats s1.now }
@@ -182,6 +182,7 @@ impl<'a> Floors<'a> {
     }
 
     /// Fills the floor by what is known by seats, where so many more miss (C.10).
+    #[tactic(auto, unfolding(crate::specs::Floors::floor_over, crate::specs::Quality::quality_with, crate::specs::QualityIn::with_others))]
     fn fill_over(&self, filling: Filling, s1: &[u16], more: usize, room: &mut Room)
         requires inside { HasSeats self.now.facts room.old.seated }
         requires numbers { AllNumbers self.now.reached.seats s1.now }
@@ -204,6 +205,7 @@ impl<'a> Floors<'a> {
     }
 
     /// Fills the floor by the list that is being filled and those that are fixed.
+    #[tactic(auto, unfolding(crate::specs::FloorOf::floor_by))]
     fn fill_floor(&self, filling: Filling, begun: &Begun<'_>, room: &mut Room)
         requires numbers { HasNumbers self.now.reached begun.now }
         requires few { length begun.now.s1 ≤ self.now.shape.mdps }
@@ -215,6 +217,7 @@ impl<'a> Floors<'a> {
     }
 
     /// The same with what is known beside them. It says no where there is no room for a pair more.
+    #[tactic(auto, unfolding(crate::specs::FloorOf::floor_by_seats))]
     fn fill_floor_knowing(
         &self,
         filling: Filling,
@@ -250,7 +253,7 @@ impl<'a> Floors<'a> {
     }
 
     /// Fills the floor of a beginning, where one is known.
-    #[tactic(auto, using(crate::proofs::FloorLemmas::known_numbers, crate::proofs::FloorLemmas::known_few))]
+    #[tactic(auto, using(crate::proofs::FloorLemmas::known_numbers, crate::proofs::FloorLemmas::known_few), unfolding(crate::specs::FloorOf::floor_of))]
     pub(crate) fn floor(&self, prefix: &Prefix<'_>, room: &mut Room) -> bool
         ensures known { result ≡ is_known self.now prefix.now }
         ensures value { result ≡ true → quality_in room.new.quality ≡ floor_of self.now prefix.now }
@@ -264,7 +267,7 @@ impl<'a> Floors<'a> {
     }
 
     /// Fills the floor of a beginning of which something more is known, where one is known.
-    #[tactic(auto, using(crate::proofs::FloorLemmas::known_numbers, crate::proofs::FloorLemmas::known_few))]
+    #[tactic(auto, using(crate::proofs::FloorLemmas::known_numbers, crate::proofs::FloorLemmas::known_few), unfolding(crate::specs::FloorOf::floor_knowing))]
     pub(crate) fn floor_knowing(&self, known: Known, prefix: &Prefix<'_>, room: &mut Room) -> bool
         requires { AreKnown self.now.facts known }
         ensures known { result ≡ true → is_known self.now prefix.now ≡ true }

@@ -184,6 +184,7 @@ impl<'a> Rule for GhostRule<'a> {
 
     ghost symmetric = { λ r a b la lb. ghosts_meet_sym r.ghosts.now.facts r.ghosts.now.seats r.ghosts.now.lower r.count a b };
 
+    #[tactic(auto, unfolding(crate::specs::Ghosts::ghosts_meet))]
     fn may_meet(&self, a: u16, b: u16) -> bool {
         if !self.has(a) || !self.has(b) || a == b {
             return false;
@@ -199,6 +200,7 @@ impl<'a> Rule for GhostRule<'a> {
         }
     }
 
+    #[tactic(auto, unfolding(crate::specs::Ghosts::ghost_may_be_left))]
     fn may_be_left(&self, a: u16) -> bool {
         if !self.has(a) {
             return false;

@@ -66,13 +66,14 @@ impl<'a> Bound for Wished<'a> {
 
     ghost is_dull = { λ w a. not (grants w.wish a) };
 
+    #[tactic(auto, unfolding(crate::specs::Round::candidates_of))]
     fn cannot_win(&self, prefix: &Prefix<'_>, _room: &mut ()) -> bool {
         rules_out(self.context, self.shape, self.wish, prefix)
     }
 }
 
 /// Whether some candidate grants a wish, whether it can be chosen or not.
-#[tactic(auto, using(crate::proofs::InsteadLemmas::skipped_same))]
+#[tactic(auto, using(crate::proofs::InsteadLemmas::skipped_same), unfolding(crate::specs::Round::candidates_of))]
 fn is_granted(wished: &Wished<'_>, budget: &mut Budget) -> Result<bool, Stopped>
     requires within { budget.old.used ≤ budget.old.limit }
     ensures answer { Decides result (list_any (grants wished.now.wish) (candidates_of wished.now.context.now.facts wished.now.context.now.reached wished.now.shape))
@@ -112,7 +113,7 @@ fn why_none(wished: &Wished<'_>, budget: &mut Budget) -> Instead
 }
 
 /// The best candidate that grants a wish, or why there is none.
-#[tactic(auto, using(crate::proofs::InsteadLemmas::none_granting))]
+#[tactic(auto, using(crate::proofs::InsteadLemmas::none_granting), unfolding(crate::specs::Aims::best_wished, crate::specs::Wishes::best_granting))]
 fn look_for(alloc: Global, wished: &Wished<'_>, budget: &mut Budget) -> Result<Instead, PairFault>
     requires within { budget.old.used ≤ budget.old.limit }
     ensures { IfOk result (IsInstead wished.now.context.now.facts wished.now.context.now.reached wished.now.context.now.lower wished.now.shape wished.now.wish budget.old.limit) }
@@ -131,7 +132,6 @@ fn look_for(alloc: Global, wished: &Wished<'_>, budget: &mut Budget) -> Result<I
 /// What would stand in a bracket in place of what is chosen there, were a wish granted: the best candidate of its shape that grants it and
 /// can be chosen (B.8, C.4), or why there is none. The wish names players by their numbers in the bracket; no candidate pairs a number that
 /// the bracket has not. The search has a budget of its own, of `limit` steps.
-#[tactic(auto, using(crate::proofs::InsteadLemmas::stage_fits))]
 pub fn best_instead(
     alloc: Global,
     field: &Field,

@@ -125,7 +125,7 @@ fn put_if(holds: bool, seat: u16, seats: &mut Seats)
 }
 
 /// Puts those of the players of a pair who miss so to their places.
-#[tactic(auto, using(crate::proofs::Places::placed_all_append))]
+#[tactic(auto, using(crate::proofs::Places::placed_all_append), unfolding(crate::specs::Items::those_in))]
 fn put_pair(field: &Field, miss: Miss, pair: Pair, seats: &mut Seats)
     requires first { pair.0 < length field.now.seats }
     requires second { pair.1 < length field.now.seats }
@@ -210,7 +210,7 @@ fn put_down_again(field: &Field, least: u16, back: u8, down: &[u16], seats: &mut
 }
 
 /// Fills a list with those who go down and had a downfloat in the last round (1) or in the one before it (2).
-#[tactic(auto, using(crate::proofs::ItemSeats::seats_again))]
+#[tactic(auto, using(crate::proofs::ItemSeats::seats_again), unfolding(crate::specs::Seated::going_down))]
 fn fill_going_down(field: &Field, back: u8, candidate: &Seated, seats: &mut Seats)
     requires inside { HasSeats field.now candidate.now }
     requires one { 1 ≤ back }
@@ -223,6 +223,7 @@ fn fill_going_down(field: &Field, back: u8, candidate: &Seated, seats: &mut Seat
 }
 
 /// Fills a list with those of a candidate whom an item counts, the highest number first.
+#[tactic(auto, unfolding(crate::specs::Seated::going_up, crate::specs::Seated::going_down))]
 fn fill_counted(field: &Field, candidate: &Seated, item: Item, seats: &mut Seats)
     requires inside { HasSeats field.now candidate.now }
     requires few { 2 * length candidate.now.pairs ≤ LIMIT }

@@ -16,7 +16,7 @@ use arrayvec::ArrayVec;
 use dutch_order::LIMIT;
 
 /// What is known of an arrangement, by seats.
-#[derive(Debug, Clone, Copy, PartialEq, Eq)]
+#[derive(Clone, Copy)]
 pub(crate) enum Known {
     /// These two are a pair, in this order.
     Meet(u16, u16),

@@ -111,6 +111,7 @@ fn is_suited(pairs: &PairFacts<'_>, y: u16, others: &[u16]) -> bool
 }
 
 /// How many of those who wait suit nobody of the pool.
+#[tactic(auto, unfolding(crate::specs::ColourFloors::lonely_first))]
 fn lonely_first(pairs: &PairFacts<'_>, waiting: &[u16], pool: &[u16]) -> usize
     requires waiting { AllNumbers pairs.now.reached.seats waiting.now }
     requires pool { AllNumbers pairs.now.reached.seats pool.now }
@@ -127,6 +128,7 @@ fn lonely_first(pairs: &PairFacts<'_>, waiting: &[u16], pool: &[u16]) -> usize
 }
 
 /// How many of the pool suit nobody who waits.
+#[tactic(auto, unfolding(crate::specs::ColourFloors::lonely_second))]
 fn lonely_second(pairs: &PairFacts<'_>, waiting: &[u16], pool: &[u16]) -> usize
     requires waiting { AllNumbers pairs.now.reached.seats waiting.now }
     requires pool { AllNumbers pairs.now.reached.seats pool.now }
@@ -153,6 +155,7 @@ fn more_lonely(first: usize, second: usize, down: usize) -> usize
 }
 
 /// How many miss at least for want of an opponent who suits. The list is filled anew with those with whom S1R can still be paired.
+#[tactic(auto, unfolding(crate::specs::ColourFloors::lonely))]
 pub(crate) fn lonely(
     pairs: &PairFacts<'_>,
     shape: Shape,

@@ -28,6 +28,7 @@ fn are_small(scores: &[u16])
 
 /// What a bracket can be (C.7). (Apart from its caller, as a lister is large.)
 #[inline(never)]
+#[tactic(auto, unfolding(crate::specs::NextBracket::value_of))]
 pub(crate) fn value_of(
     field: &Field,
     reached: &Reached,
@@ -125,6 +126,7 @@ fn next_value(
 
 /// The quality of a candidate of a bracket above a next lower scoregroup (C.6 to C.19): none where the budget's limit was reached
 /// first. A step is one number tried at one place in the next bracket. It takes no memory.
+#[tactic(auto, unfolding(crate::specs::NextBracket::quality, crate::specs::Quality::quality_with))]
 pub fn quality(
     field: &Field,
     reached: &Reached,

@@ -18,7 +18,7 @@ use crate::reached::BracketKind;
 use dutch_order::{Budget, Filling, Numbers, Shape, Stopped};
 
 /// What the next bracket can be at best.
-#[derive(Debug, Drop)]
+#[derive(Drop)]
 pub(crate) struct Outlook {
     /// Where the Limbo has the scores of the first one, if that is known.
     pub(crate) first: Option<NextValue>,
@@ -27,7 +27,7 @@ pub(crate) struct Outlook {
 }
 
 /// Whether an S1 leaves a Limbo with the scores of the first one of a shape.
-#[tactic(auto, using(crate::proofs::ArrangementParts::next_number))]
+#[tactic(auto, using(crate::proofs::ArrangementParts::next_number), unfolding(crate::specs::Outlooks::leaves_first))]
 fn leaves_first(context: &Context<'_>, shape: Shape, s1: &[u16]) -> bool
     requires { Fits (frame_of context.now.facts context.now.reached) shape }
     ensures { result ≡ leaves_first context.now.facts context.now.reached shape s1.now }

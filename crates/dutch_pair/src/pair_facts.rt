@@ -99,6 +99,7 @@ fn note_all(context: &Context<'_>, table: &mut [u64])
 }
 
 /// A table in which nothing is noted yet.
+#[tactic(auto, using(crate::proofs::BitLemmas::none_set))]
 fn empty(alloc: Global, context: &Context<'_>) -> Result<Vec<u64>, AllocError>
     ensures none { IfOk result (λ table. NotedUpto context.now table.items 0) }
     ensures room { IfOk result (λ table. HasRoom context.now table.items) }

@@ -42,7 +42,7 @@ fn put_limbo(context: &Context<'_>, score: u16, s1: &[u16], psd: &mut Numbers)
 }
 
 /// Fills a list with the PSD of each arrangement of a shape with an S1, where all residents have a score.
-#[tactic(auto, using(crate::proofs::Places::placed_all_append))]
+#[tactic(auto, using(crate::proofs::Places::placed_all_append), unfolding(crate::specs::PsdFloors::psd_with))]
 pub(crate) fn fill_psd_with(
     context: &Context<'_>,
     shape: Shape,

@@ -77,6 +77,7 @@ pub struct Quality {
 
 impl Quality {
     /// Whether this quality is better than another one.
+    #[tactic(auto, unfolding(crate::specs::Quality::is_better))]
     pub fn is_better(&self, other: &Quality) -> bool
         ensures { result ≡ is_better (quality_in self.now) (quality_in other.now) }
     {
@@ -208,7 +209,7 @@ impl Quality {
 
 /// Where a quality is worked out, filled anew for each candidate and each beginning: its players by seats, its items, and those with
 /// whom S1R can still be paired, by number.
-#[derive(Debug, Default, Drop)]
+#[derive(Default, Drop)]
 pub(crate) struct Room {
     pub(crate) seated: Seated,
     pub(crate) quality: Quality,
@@ -216,7 +217,7 @@ pub(crate) struct Room {
 }
 
 /// Fills a quality with the items of a candidate by seats, but for those of C.6, C.7, C.10 and C.11, which stay.
-#[tactic(auto, using(crate::proofs::Places::length_differences))]
+#[tactic(auto, using(crate::proofs::Places::length_differences), unfolding(crate::specs::Quality::quality_with, crate::specs::QualityIn::with_others))]
 pub(crate) fn fill_others(field: &Field, candidate: &Seated, quality: &mut Quality)
     requires { HasSeats field.now candidate.now }
     ensures { quality_in quality.new ≡ with_others field.now candidate.now (quality_in quality.old) }
@@ -234,6 +235,7 @@ pub(crate) fn fill_others(field: &Field, candidate: &Seated, quality: &mut Quali
 }
 
 /// Fills the quality of a candidate of a bracket with these seats, for the value of the next bracket that it has.
+#[tactic(auto, unfolding(crate::specs::Quality::quality_with, crate::specs::QualityIn::with_others))]
 pub(crate) fn fill_quality(field: &Field, seats: &[u16], candidate: &Candidate, room: &mut Room)
     requires bracket { AreSeats field.now seats.now }
     requires candidate { IsCandidate seats.now candidate.now }

@@ -204,26 +204,15 @@ pub struct ByNumber<'a> {
 
 impl<'a> Rule for ByNumber<'a> {
     ghost use Rattle.dutch_pair.specs.Reached.{numbers_meet, number_may_be_left};
-    ghost use Rattle.std.specs.Prelude.{◌≡◌, ◌==◌, ◌&&◌, not};
-    ghost use Rattle.std.proofs.Common.{ap, arith, ◌∙◌};
-    ghost use Rattle.std.proofs.Math.Bool.{and_comm};
-    ghost use Rattle.std.proofs.lemmas.Bool.Decides.{nat_tests};
-    ghost use Rattle.dutch_player.proofs.LawLemmas.{meeting_sym};
-    ghost use Rattle.dutch_pair.specs.Reached.{is_number};
-    ghost use Rattle.dutch_pair.specs.Seated.{seat_of};
-    ghost use Rattle.dutch_player.specs.Meetings.{may_meet};
+    ghost use Rattle.dutch_pair.specs.SeatLaws.{numbers_meet_sym};
 
     ghost meets = { λ r. numbers_meet r.field.now r.reached.now };
 
     ghost may_be_left = { λ r. number_may_be_left r.field.now r.reached.now };
 
-    ghost symmetric = { λ r a b la lb.
-        let inside : (is_number r.reached.now a && is_number r.reached.now b) ≡ (is_number r.reached.now b && is_number r.reached.now a) = and_comm (is_number r.reached.now a) (is_number r.reached.now b) in
-        let equal : (a == b) ≡ (b == a) = Prim.grind (arith, nat_tests) in
-        let free : may_meet r.field.now (seat_of r.reached.now.seats a) (seat_of r.reached.now.seats b)
-        ≡ may_meet r.field.now (seat_of r.reached.now.seats b) (seat_of r.reached.now.seats a) = meeting_sym r.field.now (seat_of r.reached.now.seats a) (seat_of r.reached.now.seats b) in
-        Prim.cc };
+    ghost symmetric = { λ r a b la lb. numbers_meet_sym r.field.now r.reached.now a b };
 
+    #[tactic(auto, unfolding(crate::specs::Reached::numbers_meet))]
     fn may_meet(&self, a: u16, b: u16) -> bool {
         if !self.reached.has(a) || !self.reached.has(b) || a == b {
             return false;
@@ -232,6 +221,7 @@ impl<'a> Rule for ByNumber<'a> {
             .may_meet(self.reached.seat(a), self.reached.seat(b))
     }
 
+    #[tactic(auto, unfolding(crate::specs::Reached::number_may_be_left))]
     fn may_be_left(&self, a: u16) -> bool {
         self.reached.has(a) && self.field.may_bye(self.reached.seat(a))
     }

@@ -202,7 +202,7 @@ impl<'a> LookAhead<'a> {
     }
 
     /// Fills the quality of a candidate of the bracket.
-    #[tactic(auto, using(crate::proofs::NextBrackets::left_by_candidate))]
+    #[tactic(auto, using(crate::proofs::NextBrackets::left_by_candidate), unfolding(crate::specs::NextBracket::quality, crate::specs::Quality::quality_with))]
     fn fill_quality(
         &mut self,
         candidate: &Candidate,
@@ -263,7 +263,7 @@ pub(crate) struct Judge<'a> {
 }
 
 /// Fills the quality of a candidate above all lower seats, by the look-ahead of its bracket.
-#[tactic(auto, using(crate::proofs::NextGroups::is_next, crate::proofs::NextGroups::quality_at))]
+#[tactic(auto, using(crate::proofs::NextGroups::is_next, crate::proofs::NextGroups::quality_at), unfolding(crate::specs::NextBracket::quality, crate::specs::Quality::quality_with))]
 pub(crate) fn judge_candidate(
     context: &Context<'_>,
     candidate: &Candidate,

@@ -9,7 +9,7 @@ use dutch_player::{Field, Float};
 use std::marker::Model;
 
 /// A player who goes down or up, and by how much.
-#[derive(Debug, Clone, Copy, Default, PartialEq, Eq)]
+#[derive(Clone, Copy)]
 pub struct Floater {
     pub seat: u16,
     pub by: u16,
@@ -19,7 +19,7 @@ pub struct Floater {
 pub type Pair = (u16, u16);
 
 /// A candidate by seats.
-#[derive(Debug, Default, Drop)]
+#[derive(Default, Drop)]
 pub struct Seated {
     pub(crate) pairs: ArrayVec<Pair, LIMIT>,
     pub(crate) down: Numbers,

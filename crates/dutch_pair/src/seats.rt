@@ -46,10 +46,12 @@ impl<'a> Rule for BySeat<'a> {
 
     ghost may_be_left = { seats_may_be_left };
 
+    #[tactic(auto, unfolding(crate::specs::Seats::seats_meet))]
     fn may_meet(&self, a: u16, b: u16) -> bool {
         self.has(a) && self.has(b) && a != b && self.field.may_meet(a, b)
     }
 
+    #[tactic(auto, unfolding(crate::specs::Seats::seats_may_be_left))]
     fn may_be_left(&self, a: u16) -> bool {
         self.has(a) && self.field.may_bye(a)
     }

@@ -59,6 +59,7 @@ impl<'a, 'b> Shapes<ByNumber<'b>> for Context<'a> {
 /// The shape of a bracket of a field above all lower seats by rank: of the shapes that have a candidate, the one with the most pairs,
 /// and for them with the most moved-down players. None is answered where none has one.
 #[inline(never)]
+#[tactic(auto, unfolding(crate::specs::Round::shape_of))]
 pub(crate) fn shape_of(context: &Context<'_>, budget: &mut Budget) -> Result<Option<Shape>, Stopped>
     requires within { budget.old.used ≤ budget.old.limit }
     ensures answer { MatchFound result

@@ -224,7 +224,7 @@ impl<'a, 'k> Bound for Skipper<'a, 'k> {
 
     ghost is_dull = { λ s. is_dull s.pass.now.context.now.facts s.pass.now.context.now.reached s.pass.now.context.now.lower s.pass.now.wish (aim_in s.pass.now.aim) s.kept.now };
 
-    #[tactic(auto, using(crate::proofs::AimLemmas::unwished_is_dull, crate::proofs::AimLemmas::idle_is_dull))]
+    #[tactic(auto, using(crate::proofs::AimLemmas::unwished_is_dull, crate::proofs::AimLemmas::idle_is_dull), unfolding(crate::specs::Round::candidates_of))]
     fn cannot_win(&self, prefix: &Prefix<'_>, room: &mut Room) -> bool {
         if is_barred(self.pass, prefix) {
             return true;

@@ -19,7 +19,7 @@ use crate::spending::step;
 use dutch_order::{Budget, Numbers, Rule, Stopped};
 
 /// How many downfloaters there are for the lower players, and whether one of these may be left out.
-#[derive(Debug, Clone, Copy)]
+#[derive(Clone, Copy)]
 struct Room {
     takers: usize,
     bye: bool,
@@ -33,6 +33,7 @@ fn may_meet(context: &Context<'_>, one: u16, other: u16) -> bool
 }
 
 /// Whether some player of a bracket may meet a lower one.
+#[tactic(auto, unfolding(crate::specs::Takers::meets_bracket))]
 fn takes(context: &Context<'_>, lower: u16) -> bool
     ensures { result ≡ meets_bracket context.now.facts context.now.reached.seats lower }
 {
@@ -45,6 +46,7 @@ fn takes(context: &Context<'_>, lower: u16) -> bool
 }
 
 /// Whether so many downfloaters of a bracket can be paired out with all lower players (A.9), whoever they are.
+#[tactic(auto, unfolding(crate::specs::Takers::can_go_out))]
 pub(crate) fn can_go_out(
     context: &Context<'_>,
     takers: usize,

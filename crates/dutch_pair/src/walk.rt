@@ -35,7 +35,7 @@ pub(crate) fn everybody(field: &Field) -> Seats
 }
 
 /// What comes next in a walk.
-#[derive(Debug, Drop)]
+#[derive(Drop)]
 pub(crate) enum Next {
     /// A bracket.
     Bracket(Reached),
@@ -68,7 +68,7 @@ impl<'a> Model for Walk<'a> {
 }
 
 /// What comes of a walk's next bracket.
-#[derive(Debug, Drop)]
+#[derive(Drop)]
 pub(crate) enum Turn {
     /// It is settled, and the walk stands behind it.
     Settled(Stage),

@@ -15,6 +15,7 @@ use Rattle.dutch_order.proofs.Spending.{spends-none, spends-more}
 use Rattle.dutch_pair.proofs.choice.best_near.Goals as goal
 
 pub loop-lister-init : goal.loop-lister-init
+unfolding candidates_of best_near best_yet
 loop-lister-init c =
     let pass = c.args.pass.now in
     let facts = pass.context.now.facts in
@@ -39,6 +40,7 @@ loop-lister-init c =
     }
 
 pub consider-requires-clause-candidate : goal.consider-requires-clause-candidate
+unfolding candidates_of
 consider-requires-clause-candidate c =
     let pass = c.args.pass.now in
     let facts = pass.context.now.facts in

@@ -2,10 +2,12 @@
 use Rattle.std.proofs.Common.{◌≡◌, length, true, subst}
 use Rattle.dutch_pair.specs.Completion.{Completable, MatchAnswer, IsStopped, most}
 use Rattle.dutch_pair.specs.Seats.{seats_meet, seats_may_be_left}
+use Rattle.dutch_pair.specs.Round.{completable}
 use Rattle.dutch_pair.proofs.TellLemmas.{told}
 use Rattle.dutch_pair.proofs.eligible.can_complete_in.Goals as goal
 
 pub returns-clause-answer : goal.returns-clause-answer
+unfolding completable
 returns-clause-answer c =
     let facts = c.args.field.now in
     let players = c.args.players.now in

@@ -9,6 +9,7 @@ use Rattle.dutch_order.proofs.Spending.{spends-none}
 use Rattle.dutch_pair.proofs.eligible.first_eligible.Goals as goal
 
 pub loop-left-init : goal.loop-left-init
+unfolding candidates_of
 loop-left-init c =
     let facts = c.args.context.now.facts in
     let reached = c.args.context.now.reached in

@@ -1,11 +1,12 @@
 -- The two counts are those of the definition.
 use Rattle.std.proofs.Common.{◌≡◌, ◌∙◌, ◌-◌, ℕ, List, max, not, filter, length, ap}
 use Rattle.std.specs.List.{list_any}
-use Rattle.dutch_pair.specs.ColourFloors.{suits, pool, lonely_first, lonely_second, residents_down}
+use Rattle.dutch_pair.specs.ColourFloors.{suits, pool, lonely_first, lonely_second, residents_down, lonely}
 use Rattle.dutch_pair.specs.Context.{Context}
 use Rattle.dutch_pair.proofs.lonely.lonely.Goals as goal
 
 pub returns-clause-value : goal.returns-clause-value
+unfolding lonely_first lonely_second lonely
 returns-clause-value c =
     let facts = c.args.pairs.now.facts in
     let reached = c.args.pairs.now.reached in

@@ -5,7 +5,7 @@ use Rattle.std.proofs.lemmas.Option.{MatchOption-at_some}
 use Rattle.dutch_order.specs.Arrangements.{Frame}
 use Rattle.dutch_pair.specs.Seated.{IsCandidate, Seated, by_seats}
 use Rattle.dutch_pair.specs.Quality.{psd}
-use Rattle.dutch_pair.specs.NextBracket.{value_of_shape}
+use Rattle.dutch_pair.specs.NextBracket.{value_of_shape, value_of}
 use Rattle.dutch_pair.proofs.FlatBrackets.{candidate_of, greatest_as, in_legal, value_found}
 use Rattle.dutch_pair.proofs.lookahead.value_of.Goals as goal
 
@@ -21,6 +21,7 @@ by_seats-first-requires-clause-candidate c =
     (candidate_of facts reached shape first c.requires.of (in_legal facts reached shape first.lists known.1.others known.1.first) known.1.down)
 
 pub returns-clause-answer : goal.returns-clause-answer
+unfolding value_of
 returns-clause-answer c =
     let facts = c.args.field.now in
     let reached = c.args.reached.now in
