@@ -57,9 +57,8 @@ impl fmt::Display for Fault {
     fn fmt<W: fmt::Write>(&self, f: &mut fmt::Formatter<W>) -> fmt::Result {
         let what = self.what();
         match *self {
-            Fault::BadNumber { line } | Fault::Duplicate { line } | Fault::BadExtension { line } => {
-                write!(f, "line {line}: {what}")
-            }
+            Fault::BadNumber { line } | Fault::Duplicate { line } | Fault::BadExtension { line } =>
+                { write!(f, "line {line}: {what}") }
             Fault::Misaligned { line, column } => {
                 write!(f, "line {line}: column {column} {what}")
             }

@@ -7,9 +7,9 @@ ghost use Rattle.trf16.specs.Outcomes.{Gives};
 ghost use Rattle.trf16.specs.Sheet.{entry_of, known};
 ghost use Rattle.trf16.specs.Notes.{is_marked, first_noted, Tells};
 ghost use Rattle.trf16.specs.Summed.{verdict_unsummed};
-ghost use Rattle.trf16.specs.Verdict.{blank_at, start_number_at, start_at, points_at, round_at, rounds_at, is_blank_cell, cells_at, player_at, is_player, is_too_long, player_onto, rounds_onto, colour_onto, start_ranks_onto, line_onto, lines_onto, has_too_many_rounds, without_players, sized, laid_out, verdict};
+ghost use Rattle.trf16.specs.Verdict.{blank_at, start_number_at, start_at, points_at, round_at, rounds_at, is_blank_cell, cells_at, player_at, is_player, is_too_long, player_onto, rounds_onto, colour_onto, start_ranks_onto, line_onto, lines_onto, has_too_many_rounds, names_too_many_rounds, without_players, sized, laid_out, verdict};
 ghost use Rattle.trf16.specs.declared.cell.Cell.TheVariants.{Blank};
-ghost use Rattle.trf16.specs.declared.limits.TheConstants.{MOST_ROUNDS, LAST_COLUMN};
+ghost use Rattle.trf16.specs.declared.limits.TheConstants.{MOST_PLAYERS, MOST_ROUNDS, LAST_COLUMN};
 
 use crate::answering::{all_cells_fit, players_fit};
 use crate::cell::Cell;
@@ -292,8 +292,27 @@ fn is_utf8(bytes: &[u8]) -> bool
     str::from_utf8(bytes).is_ok()
 }
 
-// The report, where it is not too large and has players.
+// Whether the report is not too large and has players.
 #[tactic(auto, unfolding(crate::specs::Verdict::sized))]
+fn has_size(draft: &Draft<'_>, too_long: bool) -> Result<(), Fault>
+    ensures given { Gives (λ _. draft.now) result (sized draft.now too_long) }
+    ensures few_players { IfOk result (λ _. length draft.now.players ≤ MOST_PLAYERS) }
+    ensures few_rounds { IfOk result (λ _. names_too_many_rounds draft.now ≡ false) }
+{
+    let count = draft.count();
+    if MOST_PLAYERS < count {
+        return Err(Fault::TooMany(Excess::Players));
+    }
+    if too_long || draft.names_too_many_rounds() {
+        return Err(Fault::TooMany(Excess::Rounds));
+    }
+    if count == 0 {
+        return Err(Fault::NoPlayers);
+    }
+    Ok(())
+}
+
+// The report, where it is so.
 fn sized<'a>(
     alloc: Global,
     draft: Draft<'a>,
@@ -303,17 +322,7 @@ fn sized<'a>(
     requires { Tells notes draft }
     ensures { Gives (λ r. r) result (sized draft.entry too_long) }
 {
-    let count = draft.count();
-    if MOST_PLAYERS < count {
-        return Err(Fault::TooMany(Excess::Players));
-    }
-    let names_too_many = draft.names_too_many_rounds();
-    if too_long || names_too_many {
-        return Err(Fault::TooMany(Excess::Rounds));
-    }
-    if count == 0 {
-        return Err(Fault::NoPlayers);
-    }
+    has_size(&draft, too_long)?;
     let apart = draft.apart(alloc, &notes)?;
     Ok(draft.into_report(notes, apart))
 }
