@@ -1,6 +1,7 @@
 use Rattle.std.proofs.Common.{◌≡◌, ℕ, ◌≤◌, List, map, length, nat_eq, refl, subst, sym, ap, ◌∙◌, arith}
 use Rattle.std.proofs.lemmas.List.{length-map}
 use Rattle.std.specs.List.{IsDistinct}
+use Rattle.std.proofs.lemmas.Result.{err_from_is_err_and}
 use Rattle.trf16.specs.declared.player.Player.{Player}
 use Rattle.trf16.specs.Lines.{lines}
 use Rattle.trf16.specs.Verdict.{carried_line, without_players}
@@ -73,3 +74,18 @@ returns c =
     let same = turned-end turned c.loop-player.players.entries (map entry_of c.loop-player.player-iterator) all
     (ap (map entry_of) c.in-None.ensures.steps.0) c.loop-player.invariant in
     ap made same ∙ ap (λ (sheet : Sheet). record sheet { players = map turned all }) c.self.view_is
+
+pub returns-in_err-notes : goal.returns-in_err-notes
+returns-in_err-notes c = let p = err_from_is_err_and c.from_residual.result c.from_residual.ensures.1 in rw p.1 tt
+
+pub returns-in_err-apart : goal.returns-in_err-apart
+returns-in_err-apart c = let p = err_from_is_err_and c.from_residual-in_err-apart.result c.from_residual-in_err-apart.ensures.1 in rw p.1 tt
+
+pub returns-in_err-players : goal.returns-in_err-players
+returns-in_err-players c = let p = err_from_is_err_and c.from_residual-in_err-players.result c.from_residual-in_err-players.ensures.1 in rw p.1 tt
+
+pub returns-in_err-turned : goal.returns-in_err-turned
+returns-in_err-turned c = let p = err_from_is_err_and c.from_residual-in_err-turned.result c.from_residual-in_err-turned.ensures.1 in rw p.1 tt
+
+pub returns-in_err-insert : goal.returns-in_err-insert
+returns-in_err-insert c = let p = err_from_is_err_and c.from_residual-in_err-insert.result c.from_residual-in_err-insert.ensures.1 in rw p.1 tt
