@@ -11,7 +11,7 @@ use Rattle.trf16.specs.declared.fault.Fault.TheVariants.{BadNumber, Duplicate, M
 use Rattle.trf16.specs.Verdict.{round_at, rounds_at, player_at, is_player, player_onto, rounds_onto, colour_onto, start_ranks_onto, line_onto, lines_onto, has_too_many_rounds, without_players, sized, laid_out}
 use Rattle.trf16.specs.Sheet.{Sheet, with_player}
 use Rattle.trf16.specs.Lines.{columns, lines, without_marks}
-use Rattle.trf16.specs.Outcomes.{◌>>=◌, Fails}
+use Rattle.trf16.specs.Outcomes.{◌>>=◌, Fails, Gives}
 use Rattle.trf16.specs.declared.limits.TheConstants.{MOST_BYTES, MOST_ROUNDS}
 
 -- what was read before, and what is still read
@@ -180,3 +180,10 @@ pub laid-fails : (bytes text : List ℕ) (utf8 : Bool) (bye : ℕ) (fault : Faul
     → utf8 ≡ is_utf8 text → lines_onto (without_players utf8 (lines text) bye) 1 (lines text) ≡ Err fault → laid_out bytes bye ≡ Err fault
 unfolding laid_out
 laid-fails bytes text utf8 bye fault few same columns_are read = rw (few, ← same, ← columns_are, read) refl
+
+-- a report whose players are judged behind it
+pub accepted-gives : (sheet : Sheet) (fits given : Result (Unit {0}) Fault) (answer whole : Result Sheet Fault)
+    → MatchResult fits (λ _. answer ≡ Ok sheet) (λ fault. answer ≡ Err fault) → Gives (λ x. x) fits given → whole ≡ (given >>= λ _. Ok sheet) → Gives (λ r. r) answer whole
+accepted-gives sheet (Ok x) given answer whole is fit e = rw is (e ∙ ap (λ (g : Result (Unit {0}) Fault). g >>= λ _. Ok sheet) fit)
+accepted-gives sheet (Err fault) given answer whole is fit e =
+    rw is (Fails-on fault given whole (λ f g. e ∙ ap (λ (r : Result (Unit {0}) Fault). r >>= λ _. Ok sheet) g) fit)

@@ -1,5 +1,5 @@
 // Reading a report from its text, line by line, with the first rule that it breaks.
-ghost use Rattle.std.specs.Prelude.{◌≡◌, ℕ, ◌+◌, ◌<◌, ◌≤◌, ◌&&◌, ◌-◌, ◌++◌, false, replicate, IfOk, None, length, take, vec_len};
+ghost use Rattle.std.specs.Prelude.{◌≡◌, ℕ, ◌+◌, ◌<◌, ◌≤◌, ◌&&◌, ◌-◌, ◌++◌, false, replicate, Err, IfOk, MatchResult, None, Ok, length, take, vec_len};
 ghost use Rattle.std.specs.Str.{is_utf8};
 ghost use Rattle.trf16.specs.Lines.{lines, columns};
 ghost use Rattle.trf16.specs.Fields.{without_last};
@@ -343,6 +343,16 @@ fn laid_out<'a>(alloc: Global, bytes: &'a [u8], bye: u16) -> Result<Report<'a>, 
     sized(alloc, draft, notes, too_long)
 }
 
+// A report, unless its players break a rule.
+fn accepted<'a>(report: Report<'a>, fits: Result<(), Fault>) -> Result<Report<'a>, Fault>
+    ensures { MatchResult fits (λ _. result ≡ Ok report.entry) (λ fault. result ≡ Err fault) }
+{
+    match fits {
+        Ok(()) => Ok(report),
+        Err(fault) => Err(fault),
+    }
+}
+
 /// Reads a report in which the pairing-allocated bye gives 2 half points, as `read_with` does.
 ///
 /// # Errors
@@ -361,26 +371,24 @@ pub fn read<'a>(alloc: Global, bytes: &'a [u8]) -> Result<Report<'a>, Fault>
 /// Too many bytes goes before all; then what is wrong with a line, in the order of the lines; then too many players, too many
 /// rounds, and no players; then for each player in the order of the lines what does not fit in his rounds, and then his points.
 /// Want of memory may come at any growth.
-#[tactic(auto, unfolding(crate::specs::Verdict::verdict))]
 pub fn read_with<'a>(alloc: Global, bytes: &'a [u8], bye: u16) -> Result<Report<'a>, Fault>
     requires { bye ≤ 2 }
     ensures { Gives (λ report. report) result (verdict bytes.now bye) }
 {
     let report = laid_out(alloc, bytes, bye)?;
-    players_fit(&report)?;
-    Ok(report)
+    let fits = players_fit(&report);
+    accepted(report, fits)
 }
 
 /// Reads a report as `read_with` does, but for the last rule: the points fields are read, and not compared with any sum.
 ///
 /// # Errors
 /// Those of `read_with`, in the same order, but that a points field is no sum.
-#[tactic(auto, unfolding(crate::specs::Summed::verdict_unsummed))]
 pub fn read_unsummed<'a>(alloc: Global, bytes: &'a [u8], bye: u16) -> Result<Report<'a>, Fault>
     requires { bye ≤ 2 }
     ensures { Gives (λ report. report) result (verdict_unsummed bytes.now bye) }
 {
     let report = laid_out(alloc, bytes, bye)?;
-    all_cells_fit(&report)?;
-    Ok(report)
+    let fits = all_cells_fit(&report);
+    accepted(report, fits)
 }
