@@ -1,6 +1,7 @@
 -- How a field falls into words, step by step, and what digits spell.
-use Rattle.std.proofs.Common.{◌≡◌, ◌≢◌, ℕ, zero, suc, ◌+◌, ◌-◌, ◌<◌, ◌≤◌, Bool, true, false, ◌&&◌, ◌==◌, cond, get_or, List, [], ◌∷◌, ◌++◌, length, take, drop, refl, sym, ap, ◌∙◌, arith, inl, inr, add-zero, subst}
+use Rattle.std.proofs.Common.{◌≡◌, ◌≢◌, ℕ, zero, suc, ◌+◌, ◌-◌, ◌^◌, ◌<◌, ◌≤◌, Bool, true, false, ◌&&◌, ◌==◌, cond, get_or, List, [], ◌∷◌, ◌++◌, length, take, drop, refl, sym, ap, ◌∙◌, arith, inl, inr, add-zero, subst}
 use Rattle.std.specs.List.{list_all}
+use Rattle.std.proofs.Math.Nat.{pow-le-pow_right}
 use Rattle.std.proofs.lemmas.List.{take_more, drop_more, get_or-drop, length-drop}
 use Rattle.std.proofs.lemmas.Bool.Decides.{eqb_tells}
 use Rattle.std.proofs.lemmas.List.Folds.{list_all-append}
@@ -69,3 +70,9 @@ without_last-push test (y ∷ xs) x =
 pub without_last-more : {X : Type 0} (test : X → Bool) (xs : List X) (i : ℕ) (d : X) → i < length xs
     → without_last test (take (i + 1) xs) ≡ cond (test (get_or xs i d)) (without_last test (take i xs)) (take (i + 1) xs)
 without_last-more test xs i d lt = rw (take_more xs i d lt) (without_last-push test (take i xs) (get_or xs i d))
+
+-- a number of few digits is small
+pub below-power : (whole i most : ℕ) → whole + 1 ≤ 10 ^ i → i ≤ most → whole + 1 ≤ 10 ^ most
+below-power whole i most digits few =
+    let more : 10 ^ i ≤ 10 ^ most = pow-le-pow_right (omega arith) few in
+    omega (arith, digits, more)

@@ -1,5 +1,5 @@
 -- Reading one thing after the other, as a loop does.
-use Rattle.std.proofs.Common.{◌≡◌, ℕ, Bool, true, false, cond, ◌||◌, suc, ◌-◌, ◌+◌, ◌<◌, List, [], ◌∷◌, ◌++◌, length, Result, Ok, Err, refl, sym, ap, ◌∙◌, append_assoc, arith}
+use Rattle.std.proofs.Common.{◌≡◌, ℕ, Bool, true, false, nat_lt, cond, ◌||◌, suc, ◌-◌, ◌+◌, ◌<◌, List, [], ◌∷◌, ◌++◌, length, Result, Ok, Err, refl, sym, ap, ◌∙◌, append_assoc, arith}
 use Rattle.std.specs.Prelude.{MatchResult, is_ok, is_some, codes, Some}
 use Rattle.std.specs.Option.{ok_or}
 use Rattle.trf16.specs.Extensions.{is_kind, words_of, rounds_in, colour_in, are_start_ranks}
@@ -8,11 +8,11 @@ use Rattle.std.proofs.lemmas.Str.{is_utf8-from_IsUtf8, IsUtf8-from_is_utf8}
 use Rattle.trf16.specs.declared.cell.Cell.{Cell}
 use Rattle.trf16.specs.declared.fault.Fault.{Fault}
 use Rattle.trf16.specs.declared.fault.Fault.TheVariants.{BadNumber, Duplicate, Misaligned, BadCell, BadExtension, TooMany, NoPlayers, NoSuchOpponent, SelfOpponent, NotMutual, Colours, Results, Points, OutOfMemory}
-use Rattle.trf16.specs.Verdict.{round_at, rounds_at, player_at, is_player, player_onto, rounds_onto, colour_onto, start_ranks_onto, line_onto, lines_onto}
+use Rattle.trf16.specs.Verdict.{round_at, rounds_at, player_at, is_player, player_onto, rounds_onto, colour_onto, start_ranks_onto, line_onto, lines_onto, has_too_many_rounds, without_players, sized, laid_out}
 use Rattle.trf16.specs.Sheet.{Sheet, with_player}
-use Rattle.trf16.specs.Lines.{columns}
-use Rattle.trf16.specs.Outcomes.{◌>>=◌, Fails}
-use Rattle.trf16.specs.declared.limits.TheConstants.{MOST_ROUNDS}
+use Rattle.trf16.specs.Lines.{columns, lines, without_marks}
+use Rattle.trf16.specs.Outcomes.{◌>>=◌, Fails, Gives}
+use Rattle.trf16.specs.declared.limits.TheConstants.{MOST_BYTES, MOST_ROUNDS}
 
 -- what was read before, and what is still read
 abbrev pub behind : List Cell → Result (List Cell) Fault → Result (List Cell) Fault
@@ -168,3 +168,22 @@ is_utf8_is A B bytes (Err e) h = by (is_utf8 bytes) refl
     by : (b : Bool) → is_utf8 bytes ≡ b → false ≡ b
     by true passes = absurd (h.0 (IsUtf8-from_is_utf8 bytes passes))
     by false fails = refl
+
+-- a text that is not too long, of which all lines are read, or one of them breaks a rule
+pub laid-goes_on : (bytes text : List ℕ) (utf8 : Bool) (bye : ℕ) (sheet : Sheet) (long : Bool) → nat_lt MOST_BYTES (length bytes) ≡ false → text ≡ without_marks bytes
+    → utf8 ≡ is_utf8 text → lines_onto (without_players utf8 (lines text) bye) 1 (lines text) ≡ Ok sheet → long ≡ has_too_many_rounds utf8 (lines text)
+    → laid_out bytes bye ≡ sized sheet long
+unfolding laid_out
+laid-goes_on bytes text utf8 bye sheet long few same columns_are read is_long = rw (few, ← same, ← columns_are, read, is_long) refl
+
+pub laid-fails : (bytes text : List ℕ) (utf8 : Bool) (bye : ℕ) (fault : Fault) → nat_lt MOST_BYTES (length bytes) ≡ false → text ≡ without_marks bytes
+    → utf8 ≡ is_utf8 text → lines_onto (without_players utf8 (lines text) bye) 1 (lines text) ≡ Err fault → laid_out bytes bye ≡ Err fault
+unfolding laid_out
+laid-fails bytes text utf8 bye fault few same columns_are read = rw (few, ← same, ← columns_are, read) refl
+
+-- a report whose players are judged behind it
+pub accepted-gives : (sheet : Sheet) (fits given : Result (Unit {0}) Fault) (answer whole : Result Sheet Fault)
+    → MatchResult fits (λ _. answer ≡ Ok sheet) (λ fault. answer ≡ Err fault) → Gives (λ x. x) fits given → whole ≡ (given >>= λ _. Ok sheet) → Gives (λ r. r) answer whole
+accepted-gives sheet (Ok x) given answer whole is fit e = rw is (e ∙ ap (λ (g : Result (Unit {0}) Fault). g >>= λ _. Ok sheet) fit)
+accepted-gives sheet (Err fault) given answer whole is fit e =
+    rw is (Fails-on fault given whole (λ f g. e ∙ ap (λ (r : Result (Unit {0}) Fault). r >>= λ _. Ok sheet) g) fit)

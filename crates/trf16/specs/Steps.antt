@@ -6,6 +6,8 @@ use Rattle.std.specs.Str.{byte}
 use Rattle.trf16.specs.Sheet.{Entry, Sheet, known}
 use Rattle.trf16.specs.Absence.{absent}
 use Rattle.trf16.specs.Written.{player_text}
+use Rattle.trf16.specs.Round.{entry_with}
+use Rattle.trf16.specs.Summed.{entry_summed}
 
 -- what stands behind the end of a line that ends in front
 abbrev pub behind_end : List ℕ → List ℕ
@@ -44,3 +46,8 @@ is_free sheet others start = known sheet start && (not (absent sheet start) && n
 abbrev pub are_free : Sheet → List ℕ → Bool
 are_free sheet [] = true
 are_free sheet (start ∷ rest) = is_free sheet rest start && are_free sheet rest
+
+-- a player with his cell of the next round and his points, where there are boards, or else with his points summed over so many rounds
+abbrev pub entry_turned : Option (List (ℕ × ℕ)) → ℕ → ℕ → Entry → Entry
+entry_turned (Some boards) bye rounds entry = entry_with bye boards rounds entry
+entry_turned None bye rounds entry = entry_summed bye rounds entry

@@ -3,6 +3,7 @@ ghost use Rattle.std.specs.Prelude.{◌≡◌};
 ghost use Rattle.trf16.specs.declared.fault.Fault.TheVariants.{OutOfMemory};
 
 use std::alloc::{AllocError, AllocFailed};
+use std::fmt;
 use thiserror::Error;
 
 /// What a report has too much of.
@@ -23,47 +24,79 @@ pub enum Excess {
 #[derive(Debug, Clone, Copy, PartialEq, Eq, Error)]
 pub enum Fault {
     /// A start rank or a points field that is no number of its kind.
-    #[error("line {line}: bad number")]
     BadNumber { line: usize },
     /// A start rank that an earlier line has.
-    #[error("line {line}: duplicate")]
     Duplicate { line: usize },
     /// A column that must be blank is not.
-    #[error("line {line}: column {column} must be blank")]
     Misaligned { line: usize, column: usize },
     /// Opponent, colour and result of a round that do not fit together.
-    #[error("line {line}: round {round}: bad cell")]
     BadCell { line: usize, round: usize },
     /// A line `XXR`, `XXC`, `XXZ` or `XXP` whose words are not those of its kind.
-    #[error("line {line}: bad extension")]
     BadExtension { line: usize },
     /// The report is larger than this program reads.
-    #[error("too many {0}")]
     TooMany(Excess),
     /// No line of the kind `001`.
-    #[error("no players")]
     NoPlayers,
     /// A player's opponent in a round is no player of the report.
-    #[error("player {player} round {round}: no such opponent")]
     NoSuchOpponent { player: u16, round: usize },
     /// A player is his own opponent.
-    #[error("player {player} round {round}: own opponent")]
     SelfOpponent { player: u16, round: usize },
     /// A player's opponent does not name him in that round.
-    #[error("player {player} round {round}: not mutual")]
     NotMutual { player: u16, round: usize },
     /// Two who meet do not have opposite colours.
-    #[error("player {player} round {round}: colours")]
     Colours { player: u16, round: usize },
     /// The results of two who meet do not fit together.
-    #[error("player {player} round {round}: results")]
     Results { player: u16, round: usize },
     /// A points field is not the sum of the player's points.
-    #[error("player {player}: points")]
     Points { player: u16 },
     /// Memory was refused.
-    #[error("out of memory")]
     OutOfMemory,
+}
+
+impl fmt::Display for Fault {
+    fn fmt<W: fmt::Write>(&self, f: &mut fmt::Formatter<W>) -> fmt::Result {
+        let what = self.what();
+        match *self {
+            Fault::BadNumber { line } | Fault::Duplicate { line } | Fault::BadExtension { line } =>
+                { write!(f, "line {line}: {what}") }
+            Fault::Misaligned { line, column } => {
+                write!(f, "line {line}: column {column} {what}")
+            }
+            Fault::BadCell { line, round } => write!(f, "line {line}: round {round}: {what}"),
+            Fault::TooMany(excess) => write!(f, "{what} {excess}"),
+            Fault::NoSuchOpponent { player, round }
+            | Fault::SelfOpponent { player, round }
+            | Fault::NotMutual { player, round }
+            | Fault::Colours { player, round }
+            | Fault::Results { player, round } => {
+                write!(f, "player {player} round {round}: {what}")
+            }
+            Fault::Points { player } => write!(f, "player {player}: {what}"),
+            Fault::NoPlayers | Fault::OutOfMemory => f.write_str(what),
+        }
+    }
+}
+
+impl Fault {
+    // What is wrong, without its place.
+    fn what(&self) -> &'static str {
+        match self {
+            Fault::BadNumber { .. } => "bad number",
+            Fault::Duplicate { .. } => "duplicate",
+            Fault::Misaligned { .. } => "must be blank",
+            Fault::BadCell { .. } => "bad cell",
+            Fault::BadExtension { .. } => "bad extension",
+            Fault::TooMany(_) => "too many",
+            Fault::NoPlayers => "no players",
+            Fault::NoSuchOpponent { .. } => "no such opponent",
+            Fault::SelfOpponent { .. } => "own opponent",
+            Fault::NotMutual { .. } => "not mutual",
+            Fault::Colours { .. } => "colours",
+            Fault::Results { .. } => "results",
+            Fault::Points { .. } => "points",
+            Fault::OutOfMemory => "out of memory",
+        }
+    }
 }
 
 impl From<AllocError> for Fault {

@@ -1,5 +1,5 @@
 // Reading a report from its text, line by line, with the first rule that it breaks.
-ghost use Rattle.std.specs.Prelude.{◌≡◌, ℕ, ◌+◌, ◌<◌, ◌≤◌, ◌&&◌, ◌-◌, ◌++◌, false, replicate, IfOk, None, length, take, vec_len};
+ghost use Rattle.std.specs.Prelude.{◌≡◌, ℕ, ◌+◌, ◌<◌, ◌≤◌, ◌&&◌, ◌-◌, ◌++◌, false, replicate, Err, IfOk, MatchResult, None, Ok, length, take, vec_len};
 ghost use Rattle.std.specs.Str.{is_utf8};
 ghost use Rattle.trf16.specs.Lines.{lines, columns};
 ghost use Rattle.trf16.specs.Fields.{without_last};
@@ -7,9 +7,9 @@ ghost use Rattle.trf16.specs.Outcomes.{Gives};
 ghost use Rattle.trf16.specs.Sheet.{entry_of, known};
 ghost use Rattle.trf16.specs.Notes.{is_marked, first_noted, Tells};
 ghost use Rattle.trf16.specs.Summed.{verdict_unsummed};
-ghost use Rattle.trf16.specs.Verdict.{blank_at, start_number_at, start_at, points_at, round_at, rounds_at, is_blank_cell, cells_at, player_at, is_player, is_too_long, player_onto, rounds_onto, colour_onto, start_ranks_onto, line_onto, lines_onto, has_too_many_rounds, without_players, sized, laid_out, verdict};
+ghost use Rattle.trf16.specs.Verdict.{blank_at, start_number_at, start_at, points_at, round_at, rounds_at, is_blank_cell, cells_at, player_at, is_player, is_too_long, player_onto, rounds_onto, colour_onto, start_ranks_onto, line_onto, lines_onto, has_too_many_rounds, names_too_many_rounds, without_players, sized, laid_out, verdict};
 ghost use Rattle.trf16.specs.declared.cell.Cell.TheVariants.{Blank};
-ghost use Rattle.trf16.specs.declared.limits.TheConstants.{MOST_ROUNDS, LAST_COLUMN};
+ghost use Rattle.trf16.specs.declared.limits.TheConstants.{MOST_PLAYERS, MOST_ROUNDS, LAST_COLUMN};
 
 use crate::answering::{all_cells_fit, players_fit};
 use crate::cell::Cell;
@@ -292,8 +292,27 @@ fn is_utf8(bytes: &[u8]) -> bool
     str::from_utf8(bytes).is_ok()
 }
 
-// The report, where it is not too large and has players.
+// Whether the report is not too large and has players.
 #[tactic(auto, unfolding(crate::specs::Verdict::sized))]
+fn has_size(draft: &Draft<'_>, too_long: bool) -> Result<(), Fault>
+    ensures given { Gives (λ _. draft.now) result (sized draft.now too_long) }
+    ensures few_players { IfOk result (λ _. length draft.now.players ≤ MOST_PLAYERS) }
+    ensures few_rounds { IfOk result (λ _. names_too_many_rounds draft.now ≡ false) }
+{
+    let count = draft.count();
+    if MOST_PLAYERS < count {
+        return Err(Fault::TooMany(Excess::Players));
+    }
+    if too_long || draft.names_too_many_rounds() {
+        return Err(Fault::TooMany(Excess::Rounds));
+    }
+    if count == 0 {
+        return Err(Fault::NoPlayers);
+    }
+    Ok(())
+}
+
+// The report, where it is so.
 fn sized<'a>(
     alloc: Global,
     draft: Draft<'a>,
@@ -303,17 +322,7 @@ fn sized<'a>(
     requires { Tells notes draft }
     ensures { Gives (λ r. r) result (sized draft.entry too_long) }
 {
-    let count = draft.count();
-    if MOST_PLAYERS < count {
-        return Err(Fault::TooMany(Excess::Players));
-    }
-    let names_too_many = draft.names_too_many_rounds();
-    if too_long || names_too_many {
-        return Err(Fault::TooMany(Excess::Rounds));
-    }
-    if count == 0 {
-        return Err(Fault::NoPlayers);
-    }
+    has_size(&draft, too_long)?;
     let apart = draft.apart(alloc, &notes)?;
     Ok(draft.into_report(notes, apart))
 }
@@ -334,6 +343,16 @@ fn laid_out<'a>(alloc: Global, bytes: &'a [u8], bye: u16) -> Result<Report<'a>, 
     sized(alloc, draft, notes, too_long)
 }
 
+// A report, unless its players break a rule.
+fn accepted<'a>(report: Report<'a>, fits: Result<(), Fault>) -> Result<Report<'a>, Fault>
+    ensures { MatchResult fits (λ _. result ≡ Ok report.entry) (λ fault. result ≡ Err fault) }
+{
+    match fits {
+        Ok(()) => Ok(report),
+        Err(fault) => Err(fault),
+    }
+}
+
 /// Reads a report in which the pairing-allocated bye gives 2 half points, as `read_with` does.
 ///
 /// # Errors
@@ -352,26 +371,24 @@ pub fn read<'a>(alloc: Global, bytes: &'a [u8]) -> Result<Report<'a>, Fault>
 /// Too many bytes goes before all; then what is wrong with a line, in the order of the lines; then too many players, too many
 /// rounds, and no players; then for each player in the order of the lines what does not fit in his rounds, and then his points.
 /// Want of memory may come at any growth.
-#[tactic(auto, unfolding(crate::specs::Verdict::verdict))]
 pub fn read_with<'a>(alloc: Global, bytes: &'a [u8], bye: u16) -> Result<Report<'a>, Fault>
     requires { bye ≤ 2 }
     ensures { Gives (λ report. report) result (verdict bytes.now bye) }
 {
     let report = laid_out(alloc, bytes, bye)?;
-    players_fit(&report)?;
-    Ok(report)
+    let fits = players_fit(&report);
+    accepted(report, fits)
 }
 
 /// Reads a report as `read_with` does, but for the last rule: the points fields are read, and not compared with any sum.
 ///
 /// # Errors
 /// Those of `read_with`, in the same order, but that a points field is no sum.
-#[tactic(auto, unfolding(crate::specs::Summed::verdict_unsummed))]
 pub fn read_unsummed<'a>(alloc: Global, bytes: &'a [u8], bye: u16) -> Result<Report<'a>, Fault>
     requires { bye ≤ 2 }
     ensures { Gives (λ report. report) result (verdict_unsummed bytes.now bye) }
 {
     let report = laid_out(alloc, bytes, bye)?;
-    all_cells_fit(&report)?;
-    Ok(report)
+    let fits = all_cells_fit(&report);
+    accepted(report, fits)
 }

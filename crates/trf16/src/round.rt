@@ -1,8 +1,8 @@
 // Pairing the next round of a report: who meets whom in it, and the points so far.
-ghost use Rattle.std.specs.Prelude.{◌≡◌, ◌+◌, ◌<◌, ◌≤◌, ◌&&◌, ◌↔◌, ◌∷◌, [], nat_eq, IfOk, IsTrue, length, map, option_map, sum_by, take};
+ghost use Rattle.std.specs.Prelude.{◌≡◌, ◌+◌, ◌<◌, ◌≤◌, ◌&&◌, ◌↔◌, ◌∷◌, [], nat_eq, IfOk, IfSome, IsTrue, length, map, option_copied, option_map, sum_by, take};
 ghost use Rattle.std.specs.List.{list_any};
 ghost use Rattle.trf16.specs.Sheet.{entry_of, half_points, rounds_played};
-ghost use Rattle.trf16.specs.Steps.{is_free, are_free};
+ghost use Rattle.trf16.specs.Steps.{is_free, are_free, entry_turned};
 ghost use Rattle.trf16.specs.Round.{CanBePaired, named_by, cell_on, cell_by, with_cell, cells_with, entry_with, with_round};
 ghost use Rattle.trf16.specs.declared.limits.TheConstants.{MOST_ROUNDS};
 
@@ -163,6 +163,54 @@ impl<'a> Report<'a> {
         })
     }
 
+    // A player with his cell of the next round and his points, or else with his points summed.
+    fn player_turned(
+        &self,
+        alloc: Global,
+        boards: Option<&[(u16, u16)]>,
+        rounds: u8,
+        player: &Player<'a>,
+    ) -> Result<Player<'a>, AllocError>
+        requires { IfSome (option_copied boards) (λ _. rounds < MOST_ROUNDS) }
+        ensures { IfOk result (λ turned. entry_of turned ≡ entry_turned (option_copied boards.entry) self.now.bye rounds (entry_of player.now)) }
+    {
+        match boards {
+            Some(boards) => self.player_with(alloc, boards, rounds, player),
+            None => self.player_summed(alloc, rounds, player),
+        }
+    }
+
+    // The report with each of its players turned so.
+    pub(crate) fn turned(
+        &self,
+        alloc: Global,
+        boards: Option<&[(u16, u16)]>,
+        rounds: u8,
+    ) -> Result<Report<'a>, AllocError>
+        requires { IfSome (option_copied boards) (λ _. rounds < MOST_ROUNDS) }
+        ensures { IfOk result (λ report. report ≡ record self.now { players = map (entry_turned (option_copied boards.entry) self.now.bye rounds) self.now.players }) }
+    {
+        let notes = self.notes.copy(alloc)?;
+        let apart = self.apart.copy(alloc)?;
+        let mut players = IndexMap::with_capacity(alloc, self.players.len())?;
+        for player in self.players() {
+            let turned = self.player_turned(alloc, boards, rounds, player)?;
+            players.insert(player.start, turned)?;
+        }
+        let last = last_round_of(&players);
+        Ok(Report {
+            utf8: self.utf8,
+            text: self.text,
+            players,
+            total: self.total,
+            initial: self.initial,
+            rounds: last,
+            notes,
+            bye: self.bye,
+            apart,
+        })
+    }
+
     /// Whether some boards can be the next round: whoever they name is a player of the report, is present, and is named once; and no
     /// round comes behind the last that there can be.
     pub fn can_be_paired(&self, boards: &[(u16, u16)]) -> bool
@@ -188,25 +236,6 @@ impl<'a> Report<'a> {
         requires { CanBePaired boards.now self.now }
         ensures { IfOk result (λ report. report ≡ with_round boards.now self.now) }
     {
-        let before = self.rounds_played();
-        let notes = self.notes.copy(alloc)?;
-        let apart = self.apart.copy(alloc)?;
-        let mut players = IndexMap::with_capacity(alloc, self.players.len())?;
-        for player in self.players() {
-            let paired = self.player_with(alloc, boards, before, player)?;
-            players.insert(player.start, paired)?;
-        }
-        let rounds = last_round_of(&players);
-        Ok(Report {
-            utf8: self.utf8,
-            text: self.text,
-            players,
-            total: self.total,
-            initial: self.initial,
-            rounds,
-            notes,
-            bye: self.bye,
-            apart,
-        })
+        self.turned(alloc, Some(boards), self.rounds_played())
     }
 }

@@ -1,4 +1,4 @@
-use Rattle.std.proofs.Common.{◌≡◌, ℕ, List, [], ◌∷◌, subst, ◌&&◌, ◌+◌, ◌||◌, Bool, ap, sym, ◌∙◌, arith}
+use Rattle.std.proofs.Common.{◌≡◌, ℕ, List, [], ◌∷◌, subst, ◌&&◌, ◌+◌, ◌||◌, Bool, ap, sym, ◌∙◌, arith, refl}
 use Rattle.std.proofs.lemmas.Bool.{eqb-true}
 use Rattle.std.proofs.lemmas.Result.{err_from_is_err_and}
 use Rattle.std.specs.Prelude.{codes}
@@ -9,7 +9,7 @@ use Rattle.trf16.specs.Extensions.{is_kind, names_absent}
 use Rattle.trf16.specs.Absence.{is_of}
 use Rattle.trf16.specs.declared.kind.LineKind.{LineKind}
 use Rattle.trf16.specs.Notes.{is_marked, first_noted, noted_first}
-use Rattle.trf16.proofs.NoteLemmas.{AreNoted, noted-more}
+use Rattle.trf16.proofs.NoteLemmas.{AreNoted, noted-none, noted-more, noted-all, or_false}
 use Rattle.trf16.proofs.reading.lines_onto.Goals as goal
 use Rattle.trf16.proofs.reading.lines_onto.Goals.{then-long, else-long}
 
@@ -58,3 +58,37 @@ pub returns-clause-given : goal.returns-clause-given
 returns-clause-given c =
     let nothing : c.loop-rest.rest.now ≡ [] = nil_from_length c.loop-rest.rest.now (eqb-true _ _ (sym c.loop-rest-test.ensures)) in
     sym c.loop-rest.invariant.0 ∙ ap (λ (bytes : List ℕ). lines_onto c.loop-rest.draft c.loop-rest.n (lines bytes)) nothing ∙ lines-end c.loop-rest.draft c.loop-rest.n
+
+pub loop-rest-init : goal.loop-rest-init
+loop-rest-init c = (
+  refl,
+  refl,
+  (refl, refl),
+  omega arith,
+  noted-none c.args.notes.now c.args.draft.now.utf8 (lines c.args.text.now) c.requires.absent c.requires.firsts c.requires.together,
+)
+
+pub returns-in_err-too_long-clause-long : goal.returns-in_err-too_long-clause-long
+returns-in_err-too_long-clause-long c = let p = err_from_is_err_and c.from_residual.result c.from_residual.ensures.1 in rw p.1 tt
+
+pub returns-in_err-too_long-clause-same : goal.returns-in_err-too_long-clause-same
+returns-in_err-too_long-clause-same c = let p = err_from_is_err_and c.from_residual.result c.from_residual.ensures.1 in rw p.1 tt
+
+pub returns-in_err-too_long-clause-noted : goal.returns-in_err-too_long-clause-noted
+returns-in_err-too_long-clause-noted c = let p = err_from_is_err_and c.from_residual.result c.from_residual.ensures.1 in rw p.1 tt
+
+pub returns-clause-long : goal.returns-clause-long
+returns-clause-long c =
+    let nothing : c.loop-rest.rest.now ≡ [] = nil_from_length c.loop-rest.rest.now (eqb-true _ _ (sym c.loop-rest-test.ensures)) in
+    sym (or_false c.loop-rest.long) ∙ ap (λ (bytes : List ℕ). c.loop-rest.long || has_too_many_rounds c.args.draft.now.utf8 (lines bytes)) (sym nothing) ∙ c.loop-rest.invariant.1
+
+pub returns-clause-same : goal.returns-clause-same
+returns-clause-same c = c.loop-rest.invariant.2
+
+pub returns-clause-noted : goal.returns-clause-noted
+returns-clause-noted c =
+    let utf8 = c.args.draft.now.utf8 in
+    let all = lines c.args.text.now in
+    let nothing : c.loop-rest.rest.now ≡ [] = nil_from_length c.loop-rest.rest.now (eqb-true _ _ (sym c.loop-rest-test.ensures)) in
+    noted-all c.loop-rest.notes utf8 c.loop-rest.n all c.args.draft.now.bye
+    (subst (λ (bytes : List ℕ). AreNoted c.loop-rest.notes utf8 c.loop-rest.n (lines bytes) all) nothing c.loop-rest.invariant.4)

@@ -2,6 +2,7 @@ use Rattle.std.proofs.Common.{arith, ◌≡◌, ◌<◌, ℕ, Bool, true, false,
 use Rattle.std.proofs.lemmas.Grind.{get_or_default_zero}
 use Rattle.std.specs.List.{AllByRecursion}
 use Rattle.std.specs.Prelude.{vec_len}
+use Rattle.std.proofs.lemmas.Result.{err_from_is_err_and}
 use Rattle.trf16.specs.Notes.{has_start, is_place, start_at}
 use Rattle.trf16.proofs.MarkLemmas.{place_added, place_passed, within_added}
 use Rattle.trf16.proofs.apart.Apart.places_of.Goals.{then-has+in_ok-push, else-has}
@@ -28,3 +29,9 @@ loop-place-preserved c =
             subst (AllByRecursion (λ p. p < n)) (sym same) c.loop-place.invariant.1,
           )
     ]
+
+pub returns-in_err-push-clause-named : goal.returns-in_err-push-clause-named
+returns-in_err-push-clause-named c = let p = err_from_is_err_and c.from_residual.result c.from_residual.ensures.1 in rw p.1 tt
+
+pub returns-in_err-push-clause-inside : goal.returns-in_err-push-clause-inside
+returns-in_err-push-clause-inside c = let p = err_from_is_err_and c.from_residual.result c.from_residual.ensures.1 in rw p.1 tt

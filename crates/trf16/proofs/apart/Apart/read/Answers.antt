@@ -1,5 +1,6 @@
 use Rattle.std.proofs.Common.{◌≡◌, ℕ, ◌<◌, ◌||◌, List, ap, sym, refl, ◌∙◌, subst}
 use Rattle.std.specs.Prelude.{slice_index_or, vec_len}
+use Rattle.std.proofs.lemmas.Result.{err_from_is_err_and}
 use Rattle.trf16.specs.Lines.{columns, lines}
 use Rattle.trf16.specs.Extensions.{names_both}
 use Rattle.trf16.specs.Notes.{are_marked, start_at}
@@ -29,3 +30,15 @@ loop-rest-preserved c =
       same ∙ c.loop-rest.invariant.1,
       c.in_ok-mark_line.ensures.room,
     )
+
+pub returns-in_err-apart-clause-both : goal.returns-in_err-apart-clause-both
+returns-in_err-apart-clause-both c = let p = err_from_is_err_and c.from_residual.result c.from_residual.ensures.1 in rw p.1 tt
+
+pub returns-in_err-apart-clause-same : goal.returns-in_err-apart-clause-same
+returns-in_err-apart-clause-same c = let p = err_from_is_err_and c.from_residual.result c.from_residual.ensures.1 in rw p.1 tt
+
+pub returns-in_err-mark_line-clause-both : goal.returns-in_err-mark_line-clause-both
+returns-in_err-mark_line-clause-both c = let p = err_from_is_err_and c.from_residual-in_err-mark_line.result c.from_residual-in_err-mark_line.ensures.1 in rw p.1 tt
+
+pub returns-in_err-mark_line-clause-same : goal.returns-in_err-mark_line-clause-same
+returns-in_err-mark_line-clause-same c = let p = err_from_is_err_and c.from_residual-in_err-mark_line.result c.from_residual-in_err-mark_line.ensures.1 in rw p.1 tt

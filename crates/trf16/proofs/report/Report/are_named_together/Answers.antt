@@ -1,8 +1,10 @@
-use Rattle.std.proofs.Common.{true, false, ap, sym, ◌∙◌}
+use Rattle.std.proofs.Common.{◌≡◌, ℕ, List, [], true, false, ap, refl, sym, ◌∙◌}
+use Rattle.std.proofs.lemmas.Bool.{eqb-true}
 use Rattle.trf16.specs.Lines.{columns, lines}
 use Rattle.trf16.specs.Extensions.{names_both}
 use Rattle.trf16.specs.Absence.{some_carried}
 use Rattle.trf16.proofs.AnsweringLemmas.{some_of, some_of-cons, not_together}
+use Rattle.trf16.proofs.ReadingLemmas.{nil_from_length}
 use Rattle.trf16.proofs.report.Report.are_named_together.Goals as goal
 
 pub returns-then-names_both : goal.returns-then-names_both
@@ -20,3 +22,12 @@ loop-rest-preserved c =
     let test = names_both c.args.a c.args.b in
     sym (some_of-cons test utf8 line (lines c.next_line.result.1.now) false (not_together c.args.a c.args.b (columns utf8 line)) (sym c.if-names_both.ensures))
     ∙ ap (some_of test utf8) (sym c.next_line.ensures.first) ∙ c.loop-rest.invariant
+
+pub loop-rest-init : goal.loop-rest-init
+loop-rest-init c = refl
+
+pub returns : goal.returns
+returns c =
+    let test = names_both c.args.a c.args.b in
+    let nothing : c.loop-rest.rest.now ≡ [] = nil_from_length c.loop-rest.rest.now (eqb-true _ _ (sym c.loop-rest-test.ensures)) in
+    ap (λ (bytes : List ℕ). some_of test c.self.inside.utf8 (lines bytes)) (sym nothing) ∙ c.loop-rest.invariant ∙ ap (some_carried test) c.self.view_is
