@@ -9,6 +9,7 @@ use std::alloc::Global;
 use trf16::MOST_ROUNDS;
 
 /// `--bracket K`.
+#[tactic(auto, unfolding(crate::specs::CommandLine::bracket_rule))]
 pub fn bracket<'a>(alloc: Global) -> Arg<'a>
     ensures rule { rule_of result ≡ bracket_rule }
     ensures local { result.global ≡ false }
@@ -20,6 +21,7 @@ pub fn bracket<'a>(alloc: Global) -> Arg<'a>
 }
 
 /// `--from CURSOR`.
+#[tactic(auto, unfolding(crate::specs::CommandLine::from_rule))]
 pub fn from<'a>(alloc: Global) -> Arg<'a>
     ensures rule { rule_of result ≡ from_rule }
     ensures local { result.global ≡ false }
@@ -30,6 +32,7 @@ pub fn from<'a>(alloc: Global) -> Arg<'a>
 }
 
 /// `--count N`.
+#[tactic(auto, unfolding(crate::specs::CommandLine::count_rule))]
 pub fn count<'a>(alloc: Global) -> Arg<'a>
     ensures rule { rule_of result ≡ count_rule }
     ensures local { result.global ≡ false }
@@ -40,6 +43,7 @@ pub fn count<'a>(alloc: Global) -> Arg<'a>
 }
 
 /// `--player P`.
+#[tactic(auto, unfolding(crate::specs::CommandLine::player_rule))]
 pub fn player<'a>(alloc: Global) -> Arg<'a>
     ensures rule { rule_of result ≡ player_rule }
     ensures local { result.global ≡ false }
@@ -50,6 +54,7 @@ pub fn player<'a>(alloc: Global) -> Arg<'a>
 }
 
 /// `--instead Q`.
+#[tactic(auto, unfolding(crate::specs::CommandLine::instead_rule))]
 pub fn instead<'a>(alloc: Global) -> Arg<'a>
     ensures rule { rule_of result ≡ instead_rule }
     ensures local { result.global ≡ false }
@@ -60,6 +65,7 @@ pub fn instead<'a>(alloc: Global) -> Arg<'a>
 }
 
 /// `--rounds N`.
+#[tactic(auto, unfolding(crate::specs::CommandLine::rounds_rule))]
 pub fn rounds<'a>(alloc: Global) -> Arg<'a>
     ensures rule { rule_of result ≡ rounds_rule }
     ensures local { result.global ≡ false }
@@ -70,6 +76,7 @@ pub fn rounds<'a>(alloc: Global) -> Arg<'a>
 }
 
 /// `--initial COLOUR`.
+#[tactic(auto, unfolding(crate::specs::CommandLine::initial_rule))]
 pub fn initial<'a>(alloc: Global) -> Arg<'a>
     ensures rule { rule_of result ≡ initial_rule }
     ensures local { result.global ≡ false }
@@ -80,6 +87,7 @@ pub fn initial<'a>(alloc: Global) -> Arg<'a>
 }
 
 /// `--steps N`.
+#[tactic(auto, unfolding(crate::specs::CommandLine::steps_rule))]
 pub fn steps<'a>(alloc: Global) -> Arg<'a>
     ensures rule { rule_of result ≡ steps_rule }
     ensures local { result.global ≡ false }
@@ -90,6 +98,7 @@ pub fn steps<'a>(alloc: Global) -> Arg<'a>
 }
 
 /// `--report`.
+#[tactic(auto, unfolding(crate::specs::CommandLine::report_rule))]
 pub fn report<'a>(alloc: Global) -> Arg<'a>
     ensures rule { rule_of result ≡ report_rule }
     ensures local { result.global ≡ false }
@@ -101,6 +110,7 @@ pub fn report<'a>(alloc: Global) -> Arg<'a>
 }
 
 /// `--points`.
+#[tactic(auto, unfolding(crate::specs::CommandLine::points_rule))]
 pub fn points<'a>(alloc: Global) -> Arg<'a>
     ensures rule { rule_of result ≡ points_rule }
     ensures local { result.global ≡ false }
@@ -114,6 +124,7 @@ pub fn points<'a>(alloc: Global) -> Arg<'a>
 }
 
 /// `--names`, with what it does to the output.
+#[tactic(auto, unfolding(crate::specs::CommandLine::names_rule))]
 pub fn names<'a>(alloc: Global, help: &'a str) -> Arg<'a>
     ensures rule { rule_of result ≡ names_rule }
     ensures local { result.global ≡ false }
@@ -125,6 +136,7 @@ pub fn names<'a>(alloc: Global, help: &'a str) -> Arg<'a>
 }
 
 /// `--by LIST`.
+#[tactic(auto, unfolding(crate::specs::CommandLine::by_rule))]
 pub fn by<'a>(alloc: Global) -> Arg<'a>
     ensures rule { rule_of result ≡ by_rule }
     ensures local { result.global ≡ false }
@@ -135,6 +147,7 @@ pub fn by<'a>(alloc: Global) -> Arg<'a>
 }
 
 /// `--bye N`.
+#[tactic(auto, unfolding(crate::specs::CommandLine::bye_rule))]
 pub fn bye<'a>(alloc: Global) -> Arg<'a>
     ensures rule { rule_of result ≡ bye_rule }
     ensures local { result.global ≡ false }
