@@ -78,6 +78,7 @@ fn row_lines(alloc: Global, keys: &[Key], rows: &[Row]) -> Result<String, AllocE
 }
 
 // Puts the line of a player.
+#[tactic(auto, unfolding(crate::specs::StandingsTexts::row_text))]
 fn put_row(
     alloc: Global,
     text: &mut String,

@@ -146,6 +146,7 @@ fn kind(kind: BracketKind) -> &'static str
 }
 
 /// The bracket of a number: its kind, how many pairs it makes, and how many moved-down players are in them.
+#[tactic(auto, unfolding(crate::specs::CandidateTexts::bracket_text))]
 pub fn bracket(
     alloc: Global,
     number: u16,
@@ -185,6 +186,7 @@ pub fn has_no_standings(alloc: Global, fault: TieFault) -> Result<String, AllocE
 }
 
 /// Half points as points with one decimal.
+#[tactic(auto, unfolding(crate::specs::Texts::halves_text))]
 pub fn halves(alloc: Global, halves: u32) -> Result<String, AllocError>
     ensures { IfOk result (λ text. string_bytes text ≡ halves_text halves) }
 {

@@ -49,6 +49,7 @@ pub fn standings(
 }
 
 // A board: its number, white, and black or the bye.
+#[tactic(auto, unfolding(crate::specs::WallTexts::board_labels))]
 fn board_line(
     alloc: Global,
     report: &Report<'_>,
@@ -83,6 +84,7 @@ fn push_paired(
 }
 
 // Puts a player: his start rank, his name, or a dash where it is blank, and his score.
+#[tactic(auto, unfolding(crate::specs::WallTexts::player_labels))]
 fn push_player(
     alloc: Global,
     line: &mut Line,
@@ -106,6 +108,7 @@ fn shown(name: &[u8]) -> &[u8]
 }
 
 // A row of the standings: place, player, and the values of the keys.
+#[tactic(auto, unfolding(crate::specs::WallTexts::row_labels))]
 fn row_line(
     alloc: Global,
     report: &Report<'_>,
