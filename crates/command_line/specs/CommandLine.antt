@@ -17,6 +17,10 @@ option_rule name = record (new_rule name) { long = Some name; value_names = 1 }
 abbrev pub number_rule : Text → ValueParser → Rule
 number_rule name parser = record (option_rule name) { parser = Some parser }
 
+-- an option without a value
+abbrev pub flag_rule : Text → Rule
+flag_rule name = record (new_rule name) { long = Some name; action = Some SetTrue }
+
 -- `--bracket K`: 1 to 1000, which must be given
 unfoldable pub bracket_rule : Rule
 bracket_rule = record (number_rule (codes "bracket") (Signed (pos 1) (pos 1000))) { required = true }
@@ -51,15 +55,15 @@ steps_rule = number_rule (codes "steps") (Unsigned 0 1000000000)
 
 -- `--report`
 unfoldable pub report_rule : Rule
-report_rule = record (new_rule (codes "report")) { long = Some (codes "report"); action = Some SetTrue }
+report_rule = flag_rule (codes "report")
 
 -- `--points`
 unfoldable pub points_rule : Rule
-points_rule = record (new_rule (codes "points")) { long = Some (codes "points"); action = Some SetTrue }
+points_rule = flag_rule (codes "points")
 
 -- `--names`
 unfoldable pub names_rule : Rule
-names_rule = record (new_rule (codes "names")) { long = Some (codes "names"); action = Some SetTrue }
+names_rule = flag_rule (codes "names")
 
 -- `--by LIST`
 unfoldable pub by_rule : Rule

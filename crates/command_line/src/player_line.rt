@@ -73,10 +73,10 @@ fn put_score(alloc: Global, text: &mut String, field: &Field, seat: u16) -> Resu
     ensures { OnOk result (string_bytes text.new ≡ string_bytes text.old ++ score_text (seat_at field.now seat)) }
 {
     let start = field.start_rank(seat);
-    let front = format!(in alloc; "player {start} score ")?;
-    text.push_str(front.as_str())?;
     let score = halves(alloc, u32::from(field.score(seat)))?;
-    text.push_str(score.as_str())
+    let score = score.as_str();
+    let front = format!(in alloc; "player {start} score {score}")?;
+    text.push_str(front.as_str())
 }
 
 // The colour of a game that was played.

@@ -89,10 +89,10 @@ fn put_row(
     ensures { OnOk result (string_bytes text.new ≡ string_bytes text.old ++ row_text keys.now place row.now) }
 {
     let start = row.start();
-    let front = format!(in alloc; "{place} {start} ")?;
-    text.push_str(front.as_str())?;
     let score = halves(alloc, u32::from(row.score()))?;
-    text.push_str(score.as_str())?;
+    let score = score.as_str();
+    let front = format!(in alloc; "{place} {start} {score}")?;
+    text.push_str(front.as_str())?;
     put_values(alloc, text, keys, row.values())?;
     text.push_str("\n")
 }
