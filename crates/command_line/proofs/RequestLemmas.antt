@@ -10,6 +10,7 @@ use Rattle.clap.specs.Takes.{is_given}
 use Rattle.clap.specs.Walk.{Held, Names, answers_to, finished, nothing_held, rows_after, settled, stop_after, walk, walk_from}
 use Rattle.clap.specs.Words.{App, Kinds, Row, Shape, Text, built, fault_of, subcommand_of}
 use Rattle.command_line.specs.Words.{arbiter_app, task_by, task_of}
+use Rattle.command_line.proofs.WordLemmas.{commands_on_literals}
 
 -- each of these commands makes a task, or one with a fault
 abbrev pub AreNamed : List Shape → Type 0
@@ -70,11 +71,13 @@ task_made app words named required accepted none = go (entered (built app) stop)
 
 -- the program's commands, in their order
 commands_named : AreNamed (built arbiter_app).subs
+unfolding commands_on_literals
 commands_named = (λ rows. refl, (λ rows. refl, (λ rows. refl, (λ rows. refl, (λ rows. refl, (λ rows. refl, tt))))))
 
 -- no words that clap's rules accept make no task
 pub no_words_without : (app : App) (words : List Text) (made : Option (Text × List Row)) → app ≡ arbiter_app → fault_of app words ≡ []
     → made ≡ subcommand_of app words → None ≡ task_by made → ⊥
+unfolding commands_on_literals
 no_words_without app words made same accepted rows e =
     task_made arbiter_app words commands_named refl (ap (λ a. fault_of a words) (sym same) ∙ accepted)
     (e ∙ ap task_by (rows ∙ ap (λ a. subcommand_of a words) same))

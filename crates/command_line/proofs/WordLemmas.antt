@@ -3,7 +3,7 @@ use Rattle.std.proofs.Common.{Result, Ok, Err, Option, None, Some, Bor, ◌≡�
 use Rattle.std.specs.List.{list_any}
 use Rattle.clap.specs.Words.{App, Row, Text, fault_of, subcommand_of, is_simple_and_free, Kinds, IsAmong, HasKind, kind_of}
 use Rattle.clap.specs.declared.error.kind.ErrorKind.{ErrorKind}
-use Rattle.std.specs.Prelude.{option_map}
+use Rattle.std.specs.Prelude.{⊤, option_map}
 use Rattle.std.specs.Box.{box_value}
 use Rattle.clap.specs.Words.{found_of, rows_of, subcommand_name_of, subcommand_rows, subcommand_rows_of}
 use Rattle.clap.specs.declared.Error.{Error}
@@ -11,14 +11,26 @@ use Rattle.clap.specs.declared.parser.matches.ArgMatches.{ArgMatches}
 use Rattle.clap.specs.declared.parser.matches.ArgMatches.TheViews.{out-ArgMatches, out-SubCommand}
 use Rattle.command_line.specs.Options.{rows_in}
 use Rattle.clap.proofs.OnLiterals.{clap_on_literals}
-use Rattle.command_line.specs.Words.{ComesTo, FitsKind, arbiter_app, asked_by, is_mistake, is_shown, task_by}
+use Rattle.command_line.specs.CommandLine.{bracket_rule, by_rule, bye_rule, count_rule, from_rule, initial_rule, instead_rule, names_rule, player_rule, points_rule, report_rule, rounds_rule, steps_rule}
+use Rattle.command_line.specs.CommandLine.{candidates_app, explain_app, pair_app, standings_app, with_round_rules}
+use Rattle.command_line.specs.Words.{ComesTo, FitsKind, arbiter_app, asked_by, check_app, format_app, is_mistake, is_shown, settled, task_by, versioned, with_engine, with_next_round}
 use Rattle.command_line.specs.declared.options.WordFault.{WordFault}
 use Rattle.command_line.specs.declared.words.Task.{Task}
 use Rattle.command_line.specs.declared.words.Asked.{Asked}
 use Rattle.command_line.specs.declared.words.Asked.TheVariants.{Command, Help, Mistake, Refused}
 
+-- what a proof unfolds to see the options of a command
+unfoldable pub options_on_literals : ⊤
+unfolding bracket_rule by_rule bye_rule count_rule from_rule initial_rule instead_rule names_rule player_rule points_rule report_rule rounds_rule steps_rule
+options_on_literals = tt
+
+-- what a proof unfolds to see the commands of the program
+unfoldable pub commands_on_literals : ⊤
+unfolding arbiter_app with_engine with_next_round settled versioned check_app format_app pair_app candidates_app explain_app standings_app with_round_rules
+commands_on_literals = tt
+
 pub simple_and_free : is_simple_and_free arbiter_app ≡ true
-unfolding clap_on_literals
+unfolding clap_on_literals options_on_literals commands_on_literals
 simple_and_free = refl
 
 -- words that clap's rules accept come to what their command and options make

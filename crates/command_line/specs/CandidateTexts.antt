@@ -20,7 +20,7 @@ kind_text Penultimate = codes "penultimate"
 kind_text Collapsed = codes "collapsed"
 
 -- the bracket of a number: its kind, how many pairs it makes, and how many moved-down players are in them
-abbrev pub bracket_text : ℕ → BracketKind → Shape → List ℕ
+unfoldable pub bracket_text : ℕ → BracketKind → Shape → List ℕ
 bracket_text number kind shape =
     codes "bracket " ++ (decimal number ++ (codes " " ++ (kind_text kind ++ (codes " pairs " ++ (decimal shape.pairs ++ (codes " mdps " ++ (decimal shape.mdps ++ codes "\n")))))))
 
@@ -49,7 +49,7 @@ module _ (facts : Facts) (reached : Reached) where
   down_text (number ∷ numbers) = codes " down" ++ flat_map (λ n. codes " " ++ decimal (start_of n)) (number ∷ numbers)
 
   -- a candidate with those whom it leaves over
-  abbrev pub candidate_text : Candidate → List ℕ
+  unfoldable pub candidate_text : Candidate → List ℕ
   candidate_text candidate =
       cursor_text candidate.lists ++ (pairs_text candidate.lists.s1 candidate.lists.s2 ++ (pairs_text candidate.lists.s1r candidate.lists.s2r ++ (down_text candidate.down ++ codes "\n")))
 

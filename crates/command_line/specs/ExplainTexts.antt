@@ -48,7 +48,7 @@ module _ (facts : Facts) where
 
   -- the round: its number and the total of rounds, how many players are present and how many absent, how many boards there are (half of
   -- those present who have no bye), and who has the bye
-  abbrev pub round_text : Sheet → List ℕ → List ℕ
+  unfoldable pub round_text : Sheet → List ℕ → List ℕ
   round_text sheet bye =
       codes "round " ++ (decimal facts.round ++ (codes " of " ++ (decimal facts.total
       ++ (codes " present " ++ (decimal (length facts.seats) ++ (codes " absent " ++ (decimal (length sheet.players - length facts.seats)
@@ -57,17 +57,17 @@ module _ (facts : Facts) where
   -- ---- a bracket
 
   -- a player and his score
-  abbrev pub scored_text : ℕ → List ℕ
+  unfoldable pub scored_text : ℕ → List ℕ
   scored_text seat = codes " " ++ (rank_text facts seat ++ (codes " (" ++ (halves_text (score_at facts seat) ++ codes ")")))
 
   -- the players of a bracket: those who were moved down, then the residents
-  abbrev pub players_text : Reached → List ℕ
+  unfoldable pub players_text : Reached → List ℕ
   players_text reached =
       codes "players" ++ (flat_map scored_text (take reached.mdps reached.seats) ++ (bar_text reached.mdps
       ++ (flat_map scored_text (drop reached.mdps reached.seats) ++ codes "\n")))
 
   -- a pair: who has white, who has black, and the rule that decided
-  abbrev pub colours_text : ℕ × ℕ → List ℕ
+  unfoldable pub colours_text : ℕ × ℕ → List ℕ
   colours_text pair =
       codes "board " ++ (rank_text facts (colours facts pair.0 pair.1).0 ++ (codes " " ++ (rank_text facts (colours facts pair.0 pair.1).1
       ++ (codes " " ++ (rule_text (colour_rule facts pair.0 pair.1) ++ codes "\n")))))
@@ -104,7 +104,7 @@ module _ (facts : Facts) where
     choice_text stage = if stage.again then codes "again C.4\n" else chosen_text stage
 
     -- a bracket
-    abbrev pub stage_text : Stage → List ℕ
+    unfoldable pub stage_text : Stage → List ℕ
     stage_text stage = bracket_text stage.reached.number stage.reached.kind stage.shape ++ (players_text stage.reached ++ choice_text stage)
 
     -- the brackets of which it is told, in the order in which the round reaches them

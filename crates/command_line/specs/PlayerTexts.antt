@@ -76,23 +76,23 @@ yes_text true = codes "yes"
 yes_text false = codes "no"
 
 -- who a player is, and his score (A.2)
-abbrev pub score_text : SeatFacts → List ℕ
+unfoldable pub score_text : SeatFacts → List ℕ
 score_text seat = codes "player " ++ (decimal seat.start ++ (codes " score " ++ halves_text seat.score))
 
 -- A.6: what a player's colours come to
-abbrev pub wish_text : SeatFacts → List ℕ
+unfoldable pub wish_text : SeatFacts → List ℕ
 wish_text seat = codes " difference " ++ (difference_text (difference seat.played) ++ (codes " prefers " ++ preference_text (preference seat.played)))
 
 -- A.4: the floats of the last round and of the one before it
-abbrev pub floats_text : SeatFacts → List ℕ
+unfoldable pub floats_text : SeatFacts → List ℕ
 floats_text seat = codes " floats " ++ (float_text seat.latest ++ (codes " " ++ float_text seat.earlier))
 
 -- A.7, C.2: whether a player is a topscorer, and whether he may have the bye
-abbrev pub rights_text : Facts → SeatFacts → List ℕ
+unfoldable pub rights_text : Facts → SeatFacts → List ℕ
 rights_text facts seat = codes " topscorer " ++ (yes_text (is_topscorer facts seat) ++ (codes " bye " ++ (yes_text seat.may_bye ++ codes "\n")))
 
 -- a player's score, and his colours in a report
-abbrev pub history_text : Sheet → SeatFacts → List ℕ
+unfoldable pub history_text : Sheet → SeatFacts → List ℕ
 history_text sheet seat = score_text seat ++ (codes " colours" ++ (colours_text sheet seat.start (rounds_played sheet) ++ wish_text seat))
 
 -- the line of one of the present players
@@ -100,7 +100,7 @@ abbrev pub seat_text : Sheet → Facts → SeatFacts → List ℕ
 seat_text sheet facts seat = history_text sheet seat ++ (floats_text seat ++ (codes " met" ++ (met_text seat.opponents ++ rights_text facts seat)))
 
 -- the same of a seat
-abbrev pub player_text : Sheet → Facts → ℕ → List ℕ
+unfoldable pub player_text : Sheet → Facts → ℕ → List ℕ
 player_text sheet facts seat = seat_text sheet facts (seat_at facts seat)
 
 -- the line of a player who is absent

@@ -28,7 +28,7 @@ values_text (key ∷ keys) [] = []
 values_text (key ∷ keys) (value ∷ values) = codes " " ++ (value_text key value ++ values_text keys values)
 
 -- the line of a player: place, start rank, score, and the values of the keys
-abbrev pub row_text : List Key → ℕ → RowFacts → List ℕ
+unfoldable pub row_text : List Key → ℕ → RowFacts → List ℕ
 row_text keys place row =
     decimal place ++ (codes " " ++ (decimal row.start ++ (codes " " ++ (halves_text row.score ++ (values_text keys row.values ++ codes "\n")))))
 

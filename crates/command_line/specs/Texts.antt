@@ -91,7 +91,7 @@ abbrev pub not_of_bracket_text : ℕ → List ℕ
 not_of_bracket_text number = codes "words: cursor is not of bracket " ++ (decimal number ++ codes "\n")
 
 -- half points as points with one decimal
-abbrev pub halves_text : ℕ → List ℕ
+unfoldable pub halves_text : ℕ → List ℕ
 halves_text halves = decimal (halves / 2) ++ (if halves % 2 == 0 then codes ".0" else codes ".5")
 
 -- why a report has no standings

@@ -15,7 +15,7 @@ shown [] = codes "-"
 shown (first ∷ rest) = first ∷ rest
 
 -- a player: his start rank, his name and his score
-abbrev pub player_labels : Sheet → ℕ → ℕ → List LabelFacts
+unfoldable pub player_labels : Sheet → ℕ → ℕ → List LabelFacts
 player_labels sheet start score = right (decimal start) ∷ left (shown (name_in sheet start)) ∷ right (halves_text score) ∷ []
 
 -- ---- boards
@@ -29,7 +29,7 @@ abbrev pub opponent_labels : Sheet → ℕ → List LabelFacts
 opponent_labels sheet black = if black == 0 then right (codes "bye") ∷ [] else paired_labels sheet black
 
 -- a board: its number, white and black
-abbrev pub board_labels : Sheet → ℕ → ℕ × ℕ → List LabelFacts
+unfoldable pub board_labels : Sheet → ℕ → ℕ × ℕ → List LabelFacts
 board_labels sheet number board = right (decimal number) ∷ [] ++ paired_labels sheet board.0 ++ opponent_labels sheet board.1
 
 -- boards from a number on
@@ -50,7 +50,7 @@ values_labels (key ∷ keys) [] = []
 values_labels (key ∷ keys) (value ∷ values) = right (value_text key value) ∷ values_labels keys values
 
 -- a player's row: place, player, and the values of the keys
-abbrev pub row_labels : Sheet → List Key → ℕ → RowFacts → List LabelFacts
+unfoldable pub row_labels : Sheet → List Key → ℕ → RowFacts → List LabelFacts
 row_labels sheet keys place row = right (decimal place) ∷ [] ++ player_labels sheet row.start row.score ++ values_labels keys row.values
 
 -- rows from a place on

@@ -17,19 +17,19 @@ use Rattle.command_line.specs.declared.words.Asked.TheVariants.{Command, Help, M
 use Rattle.command_line.specs.declared.options.WordFault.{WordFault}
 
 -- `check`
-abbrev pub check_app : App
+unfoldable pub check_app : App
 check_app = with_rule (new_app (codes "check")) bye_rule
 
 -- `format`
-abbrev pub format_app : App
+unfoldable pub format_app : App
 format_app = with_rule (with_rule (new_app (codes "format")) points_rule) bye_rule
 
 -- a command with a version
-abbrev pub versioned : App → App
+unfoldable pub versioned : App → App
 versioned = on_top (λ top. record top { has_version = true })
 
 -- a command that takes all words as its arguments, has no command `help`, and wants a command
-abbrev pub settled : App → App
+unfoldable pub settled : App → App
 settled = on_top (λ top. record top {
   no_binary_name = true;
   disable_help_subcommand = true;
@@ -38,15 +38,15 @@ settled = on_top (λ top. record top {
 })
 
 -- a command with those on the next round: `pair`, `candidates` and `explain`
-abbrev pub with_next_round : App → App
+unfoldable pub with_next_round : App → App
 with_next_round app = with_subcommand (with_subcommand (with_subcommand app pair_app.top) candidates_app.top) explain_app.top
 
 -- the same, and with `standings`
-abbrev pub with_engine : App → App
+unfoldable pub with_engine : App → App
 with_engine app = with_subcommand (with_next_round app) standings_app.top
 
 -- the program's command line
-abbrev pub arbiter_app : App
+unfoldable pub arbiter_app : App
 arbiter_app = with_engine (with_subcommand (with_subcommand (settled (versioned (new_app (codes "arbiter")))) check_app.top) format_app.top)
 
 -- the request of `pair`

@@ -18,6 +18,7 @@ use std::alloc::{AllocError, Global};
 use trf16::Report;
 
 /// The line of the round: its number, the total of rounds, who is there, how many boards, and who has the bye.
+#[tactic(auto, unfolding(crate::specs::ExplainTexts::round_text))]
 pub fn round_line(
     alloc: Global,
     report: &Report<'_>,
@@ -96,6 +97,7 @@ fn is_bracket_told(reached: &Reached, whose: Option<u16>) -> bool
 }
 
 // Puts a bracket.
+#[tactic(auto, unfolding(crate::specs::ExplainTexts::stage_text))]
 fn put_stage(
     alloc: Global,
     text: &mut String,
@@ -136,6 +138,7 @@ fn put_chosen(
 }
 
 // Puts the players of a bracket.
+#[tactic(auto, unfolding(crate::specs::ExplainTexts::players_text))]
 fn put_players(
     alloc: Global,
     text: &mut String,
@@ -161,6 +164,7 @@ fn bar(mdps: usize) -> &'static str
 }
 
 // Puts players with their scores.
+#[tactic(auto, unfolding(crate::specs::ExplainTexts::scored_text))]
 fn put_scored(
     alloc: Global,
     text: &mut String,
@@ -218,7 +222,7 @@ fn put_boards(
 }
 
 // Puts the board of a pair: who has white, who has black, and the rule that decided.
-#[tactic(auto, using(dutch_pair::proofs::BoardLemmas::colours_pair))]
+#[tactic(auto, using(dutch_pair::proofs::BoardLemmas::colours_pair), unfolding(crate::specs::ExplainTexts::colours_text))]
 fn put_board(alloc: Global, text: &mut String, field: &Field, pair: Board) -> Result<(), AllocError>
     requires { IsPair field.now pair }
     ensures { OnOk result (string_bytes text.new ≡ string_bytes text.old ++ colours_text field.now pair) }

@@ -1,6 +1,6 @@
 // The command `format`: a report in canonical columns.
 ghost use Rattle.std.specs.Prelude.{◌≡◌, ◌≤◌, IfOk, Ok, false, true};
-ghost use Rattle.trf16.specs.Summed.{verdict_unsummed};
+ghost use Rattle.trf16.specs.Summed.{summed, verdict_unsummed};
 ghost use Rattle.trf16.specs.Verdict.{verdict};
 ghost use Rattle.trf16.specs.Written.{written};
 ghost use Rattle.command_line.specs.Commands.{format_answer, format_verdict};
@@ -48,10 +48,17 @@ fn with_sums(alloc: Global, bytes: &[u8], bye: u16) -> Result<Reply, AllocError>
     ensures { IfOk result (λ reply. answer_of reply ≡ format_answer true (verdict_unsummed bytes.now bye)) }
 {
     match trf16::read_unsummed(alloc, bytes, bye) {
-        Ok(report) => rewritten(alloc, &report.summed(alloc)?),
+        Ok(report) => with_its_sums(alloc, &report),
         Err(Fault::OutOfMemory) => Err(AllocError),
         Err(fault) => refused(alloc, fault),
     }
+}
+
+// The same of a report that was read.
+fn with_its_sums(alloc: Global, report: &Report<'_>) -> Result<Reply, AllocError>
+    ensures { IfOk result (λ reply. answer_of reply ≡ done (written (summed report.now))) }
+{
+    rewritten(alloc, &report.summed(alloc)?)
 }
 
 /// A report in canonical columns, made whole before the first byte is written.

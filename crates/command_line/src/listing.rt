@@ -83,6 +83,7 @@ pub fn lines<R: Rule>(
 }
 
 /// Puts the line of a candidate: its cursor, its pairs, and its downfloaters.
+#[tactic(auto, unfolding(crate::specs::CandidateTexts::candidate_text))]
 pub fn put_line(
     alloc: Global,
     text: &mut String,

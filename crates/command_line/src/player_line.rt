@@ -19,6 +19,7 @@ use trf16::{Colour, Report};
 ///
 /// # Errors
 /// Memory was refused.
+#[tactic(auto, unfolding(crate::specs::PlayerTexts::player_text))]
 pub fn put_player(
     alloc: Global,
     text: &mut String,
@@ -37,6 +38,7 @@ pub fn put_player(
 }
 
 // Puts a player's score and his colours.
+#[tactic(auto, unfolding(crate::specs::PlayerTexts::history_text))]
 fn put_history(
     alloc: Global,
     text: &mut String,
@@ -65,15 +67,16 @@ pub fn put_absent(alloc: Global, text: &mut String, start: u16) -> Result<(), Al
 }
 
 // Puts who a player is, and his score.
+#[tactic(auto, unfolding(crate::specs::PlayerTexts::score_text))]
 fn put_score(alloc: Global, text: &mut String, field: &Field, seat: u16) -> Result<(), AllocError>
     requires { seat < length field.now.seats }
     ensures { OnOk result (string_bytes text.new ≡ string_bytes text.old ++ score_text (seat_at field.now seat)) }
 {
     let start = field.start_rank(seat);
-    let front = format!(in alloc; "player {start} score ")?;
-    text.push_str(front.as_str())?;
     let score = halves(alloc, u32::from(field.score(seat)))?;
-    text.push_str(score.as_str())
+    let score = score.as_str();
+    let front = format!(in alloc; "player {start} score {score}")?;
+    text.push_str(front.as_str())
 }
 
 // The colour of a game that was played.
@@ -171,6 +174,7 @@ fn put_difference(
 }
 
 // Puts what a player's colours come to.
+#[tactic(auto, unfolding(crate::specs::PlayerTexts::wish_text))]
 fn put_wish(alloc: Global, text: &mut String, field: &Field, seat: u16) -> Result<(), AllocError>
     requires { seat < length field.now.seats }
     ensures { OnOk result (string_bytes text.new ≡ string_bytes text.old ++ wish_text (seat_at field.now seat)) }
@@ -192,6 +196,7 @@ fn float(float: Option<Float>) -> &'static str
 }
 
 // Puts a player's floats in the last two rounds.
+#[tactic(auto, unfolding(crate::specs::PlayerTexts::floats_text))]
 fn put_floats(text: &mut String, field: &Field, seat: u16) -> Result<(), AllocError>
     requires { seat < length field.now.seats }
     ensures { OnOk result (string_bytes text.new ≡ string_bytes text.old ++ floats_text (seat_at field.now seat)) }
@@ -263,6 +268,7 @@ fn yes(holds: bool) -> &'static str
 }
 
 // Puts whether a player is a topscorer, and whether he may have the bye.
+#[tactic(auto, unfolding(crate::specs::PlayerTexts::rights_text))]
 fn put_rights(text: &mut String, field: &Field, seat: u16) -> Result<(), AllocError>
     requires { seat < length field.now.seats }
     ensures { OnOk result (string_bytes text.new ≡ string_bytes text.old ++ rights_text field.now (seat_at field.now seat)) }

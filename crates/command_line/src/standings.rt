@@ -78,6 +78,7 @@ fn row_lines(alloc: Global, keys: &[Key], rows: &[Row]) -> Result<String, AllocE
 }
 
 // Puts the line of a player.
+#[tactic(auto, unfolding(crate::specs::StandingsTexts::row_text))]
 fn put_row(
     alloc: Global,
     text: &mut String,
@@ -88,10 +89,10 @@ fn put_row(
     ensures { OnOk result (string_bytes text.new ≡ string_bytes text.old ++ row_text keys.now place row.now) }
 {
     let start = row.start();
-    let front = format!(in alloc; "{place} {start} ")?;
-    text.push_str(front.as_str())?;
     let score = halves(alloc, u32::from(row.score()))?;
-    text.push_str(score.as_str())?;
+    let score = score.as_str();
+    let front = format!(in alloc; "{place} {start} {score}")?;
+    text.push_str(front.as_str())?;
     put_values(alloc, text, keys, row.values())?;
     text.push_str("\n")
 }

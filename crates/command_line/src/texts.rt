@@ -1,8 +1,9 @@
 // The texts of the program, apart from clap's.
-ghost use Rattle.std.specs.Prelude.{◌≡◌, IfOk, string_bytes};
+ghost use Rattle.std.specs.Prelude.{◌≡◌, ◌++◌, IfOk, codes, string_bytes};
+ghost use Rattle.std.specs.Fmt.{decimal};
 ghost use Rattle.command_line.specs.CandidateAnswers.{ending_text};
 ghost use Rattle.command_line.specs.CandidateTexts.{bracket_text, kind_text};
-ghost use Rattle.command_line.specs.Texts.{accepted_text, excess_text, fault_text, field_text, halves_text, not_of_bracket_text, not_reached_text, question_text, tie_text, undecided_text, word_text};
+ghost use Rattle.command_line.specs.Texts.{accepted_text, excess_text, fault_text, field_text, halves_text, not_of_bracket_text, not_reached_text, question_text, round_text, tie_text, undecided_text, word_text};
 
 use crate::listing::Ending;
 use crate::options::WordFault;
@@ -54,34 +55,42 @@ pub fn refused(alloc: Global, fault: Fault) -> Result<String, AllocError>
 {
     match fault {
         Fault::BadNumber { line } => format!(in alloc; "refused: line {line}: bad number\n"),
-        Fault::Duplicate { line } => format!(in alloc; "refused: line {line}: duplicate\n"),
+        Fault::Duplicate { line } => of_line(alloc, line, ": duplicate\n"),
         Fault::Misaligned { line, column } => {
             format!(in alloc; "refused: line {line}: column {column} must be blank\n")
         }
         Fault::BadCell { line, round } => {
             format!(in alloc; "refused: line {line}: round {round}: bad cell\n")
         }
-        Fault::BadExtension { line } => format!(in alloc; "refused: line {line}: bad extension\n"),
+        Fault::BadExtension { line } => of_line(alloc, line, ": bad extension\n"),
         Fault::TooMany(excess) => too_many(alloc, excess),
         Fault::NoPlayers => String::from_str(alloc, "refused: no players\n"),
         Fault::NoSuchOpponent { player, round } => {
-            format!(in alloc; "refused: player {player} round {round}: no such opponent\n")
+            of_round(alloc, player, round, ": no such opponent\n")
         }
         Fault::SelfOpponent { player, round } => {
-            format!(in alloc; "refused: player {player} round {round}: own opponent\n")
+            of_round(alloc, player, round, ": own opponent\n")
         }
-        Fault::NotMutual { player, round } => {
-            format!(in alloc; "refused: player {player} round {round}: not mutual\n")
-        }
-        Fault::Colours { player, round } => {
-            format!(in alloc; "refused: player {player} round {round}: colours\n")
-        }
-        Fault::Results { player, round } => {
-            format!(in alloc; "refused: player {player} round {round}: results\n")
-        }
+        Fault::NotMutual { player, round } => { of_round(alloc, player, round, ": not mutual\n") }
+        Fault::Colours { player, round } => { of_round(alloc, player, round, ": colours\n") }
+        Fault::Results { player, round } => { of_round(alloc, player, round, ": results\n") }
         Fault::Points { player } => format!(in alloc; "refused: player {player}: points\n"),
         Fault::OutOfMemory => String::from_str(alloc, "memory: refused\n"),
     }
+}
+
+// What is wrong with a line of a report.
+fn of_line(alloc: Global, line: usize, what: &str) -> Result<String, AllocError>
+    ensures { IfOk result (λ text. string_bytes text ≡ codes "refused: line " ++ (decimal line ++ what.now)) }
+{
+    format!(in alloc; "refused: line {line}{what}")
+}
+
+// What does not fit in a round of a player.
+fn of_round(alloc: Global, player: u16, round: usize, what: &str) -> Result<String, AllocError>
+    ensures { IfOk result (λ text. string_bytes text ≡ round_text player round what.now) }
+{
+    format!(in alloc; "refused: player {player} round {round}{what}")
 }
 
 fn too_many(alloc: Global, excess: Excess) -> Result<String, AllocError>
@@ -101,11 +110,9 @@ pub fn cannot_be_paired(alloc: Global, fault: FieldFault) -> Result<String, Allo
 {
     match fault {
         FieldFault::Unfinished { player, round } => {
-            format!(in alloc; "refused: player {player} round {round}: unfinished\n")
+            of_round(alloc, player, round, ": unfinished\n")
         }
-        FieldFault::Unsupported { line } => {
-            format!(in alloc; "refused: line {line}: unsupported\n")
-        }
+        FieldFault::Unsupported { line } => of_line(alloc, line, ": unsupported\n"),
         FieldFault::RoundsUnknown => String::from_str(alloc, "refused: rounds unknown\n"),
         FieldFault::RoundsOver => String::from_str(alloc, "refused: all rounds are played\n"),
         FieldFault::OutOfMemory => String::from_str(alloc, "memory: refused\n"),
@@ -146,6 +153,7 @@ fn kind(kind: BracketKind) -> &'static str
 }
 
 /// The bracket of a number: its kind, how many pairs it makes, and how many moved-down players are in them.
+#[tactic(auto, unfolding(crate::specs::CandidateTexts::bracket_text))]
 pub fn bracket(
     alloc: Global,
     number: u16,
@@ -175,16 +183,15 @@ pub fn has_no_standings(alloc: Global, fault: TieFault) -> Result<String, AllocE
 {
     match fault {
         TieFault::Unfinished { player, round } => {
-            format!(in alloc; "refused: player {player} round {round}: unfinished\n")
+            of_round(alloc, player, round, ": unfinished\n")
         }
-        TieFault::Unsupported { line } => {
-            format!(in alloc; "refused: line {line}: unsupported\n")
-        }
+        TieFault::Unsupported { line } => of_line(alloc, line, ": unsupported\n"),
         TieFault::OutOfMemory => String::from_str(alloc, "memory: refused\n"),
     }
 }
 
 /// Half points as points with one decimal.
+#[tactic(auto, unfolding(crate::specs::Texts::halves_text))]
 pub fn halves(alloc: Global, halves: u32) -> Result<String, AllocError>
     ensures { IfOk result (λ text. string_bytes text ≡ halves_text halves) }
 {

@@ -1,5 +1,5 @@
 // The boards and the standings for the wall: with names, in columns.
-ghost use Rattle.std.specs.Prelude.{◌≡◌, ◌≢◌, ◌++◌, ◌∷◌, [], IfOk, OnOk, length, string_bytes};
+ghost use Rattle.std.specs.Prelude.{◌≡◌, ◌≢◌, ◌++◌, ◌∷◌, [], IfOk, OnOk, is_ok, length, string_bytes, true};
 ghost use Rattle.command_line.specs.Replies.{answer_of};
 ghost use Rattle.command_line.specs.Statuses.{done};
 ghost use Rattle.command_line.specs.Tables.{left, right};
@@ -49,6 +49,7 @@ pub fn standings(
 }
 
 // A board: its number, white, and black or the bye.
+#[tactic(auto, unfolding(crate::specs::WallTexts::board_labels))]
 fn board_line(
     alloc: Global,
     report: &Report<'_>,
@@ -59,14 +60,33 @@ fn board_line(
 {
     let (white, black) = board;
     let mut line = Line::new(alloc);
-    line.push(Label::right(format!(in alloc; "{number}")?))?;
+    push_text(&mut line, format!(in alloc; "{number}"))?;
     push_paired(alloc, &mut line, report, white)?;
-    if black == 0 {
-        line.push(Label::right(String::from_str(alloc, "bye")?))?;
-    } else {
-        push_paired(alloc, &mut line, report, black)?;
-    }
+    push_opponent(alloc, &mut line, report, black)?;
     Ok(line)
+}
+
+// Puts a text at the right, if memory was not refused for it.
+fn push_text(line: &mut Line, text: Result<String, AllocError>) -> Result<(), AllocError>
+    ensures line { OnOk result (IfOk text (λ made. line.new ≡ line.old ++ right (string_bytes made) ∷ [])) }
+    ensures made { OnOk result (is_ok text ≡ true) }
+{
+    line.push(Label::right(text?))
+}
+
+// Puts who meets white: black, or where black is 0 that white has the bye.
+fn push_opponent(
+    alloc: Global,
+    line: &mut Line,
+    report: &Report<'_>,
+    black: u16,
+) -> Result<(), AllocError>
+    ensures { OnOk result (line.new ≡ line.old ++ opponent_labels report.now black) }
+{
+    if black == 0 {
+        return push_text(line, String::from_str(alloc, "bye"));
+    }
+    push_paired(alloc, line, report, black)
 }
 
 // Puts a player of the next round, with his score so far.
@@ -83,6 +103,7 @@ fn push_paired(
 }
 
 // Puts a player: his start rank, his name, or a dash where it is blank, and his score.
+#[tactic(auto, unfolding(crate::specs::WallTexts::player_labels))]
 fn push_player(
     alloc: Global,
     line: &mut Line,
@@ -93,9 +114,9 @@ fn push_player(
     ensures { OnOk result (line.new ≡ line.old ++ player_labels report.now start score) }
 {
     let name = shown(report.name(start));
-    line.push(Label::right(format!(in alloc; "{start}")?))?;
+    push_text(line, format!(in alloc; "{start}"))?;
     line.push(Label::left(alloc, name)?)?;
-    line.push(Label::right(halves(alloc, u32::from(score))?))
+    push_text(line, halves(alloc, u32::from(score)))
 }
 
 // A name, or a dash where it is blank.
@@ -106,6 +127,7 @@ fn shown(name: &[u8]) -> &[u8]
 }
 
 // A row of the standings: place, player, and the values of the keys.
+#[tactic(auto, unfolding(crate::specs::WallTexts::row_labels))]
 fn row_line(
     alloc: Global,
     report: &Report<'_>,
@@ -116,7 +138,7 @@ fn row_line(
     ensures { IfOk result (λ line. line ≡ row_labels report.now keys.now place row.now) }
 {
     let mut line = Line::new(alloc);
-    line.push(Label::right(format!(in alloc; "{place}")?))?;
+    push_text(&mut line, format!(in alloc; "{place}"))?;
     push_player(alloc, &mut line, report, row.start(), row.score())?;
     push_values(alloc, &mut line, keys, row.values())?;
     Ok(line)
@@ -136,7 +158,7 @@ fn push_values(
         if values.len() <= i {
             return Ok(());
         }
-        line.push(Label::right(value_of(alloc, *key, values[i])?))?;
+        push_text(line, value_of(alloc, *key, values[i]))?;
     }
     Ok(())
 }

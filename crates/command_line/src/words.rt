@@ -1,15 +1,17 @@
 // The words of the command line: which command they ask for, or what help or refusal they get.
 ghost use Rattle.std.specs.Prelude.{◌≡◌, IfOk, map, false, codes};
 ghost use Rattle.clap.specs.declared.Command.{out-Command as fields_of};
-ghost use Rattle.clap.specs.Words.{app_of, kind_of, new_app, subcommand_rows_of};
+ghost use Rattle.clap.specs.Words.{App, app_of, kind_of, new_app, subcommand_rows_of, with_subcommand};
 ghost use Rattle.dutch_order.specs.Cursors.{has_syntax};
+ghost use Rattle.command_line.specs.CommandLine.{IsSeenAs};
 ghost use Rattle.command_line.specs.Options.{rows_in};
 ghost use Rattle.command_line.specs.Words.{ComesTo, FitsKind, asked_by, candidates_request, explain_request, pair_request, request_of, standings_request, task_by, task_of, with_bye, with_engine, with_next_round};
 ghost use Rattle.command_line.specs.Words.{arbiter_app, check_app, format_app, settled, versioned};
 
 use crate::arguments;
 use crate::commands::{
-    candidates_command, explain_command, pair_command, standings_command, with_worth,
+    Made, candidates_command, described, explain_command, pair_command, standings_command,
+    with_option, with_worth,
 };
 use crate::options::{
     CandidatesOptions, CursorSyntax, ExplainOptions, FormatOptions, PairOptions, StandingsOptions,
@@ -188,50 +190,53 @@ fn arbiter_command<'a>(alloc: Global) -> Result<Command<'a>, AllocError>
     ensures app { IfOk result (λ command. app_of command ≡ arbiter_app) }
     ensures local { IfOk result (λ command. (fields_of command).has_globals ≡ false) }
 {
-    let command = with_settings(named(alloc)?)
-        .subcommand(check_command(alloc)?)?
-        .subcommand(format_command(alloc)?)?;
+    let command = with_settings(named(alloc)?);
+    let command = with_command(Ok(command), check_command(alloc));
+    let command = with_command(command, format_command(alloc));
     with_engine(alloc, command)
 }
 
 // A program with the commands that ask the engine.
-fn with_engine<'a>(alloc: Global, command: Command<'a>) -> Result<Command<'a>, AllocError>
-    requires { (fields_of command).has_globals ≡ false }
-    ensures app { IfOk result (λ more. app_of more ≡ with_engine (app_of command.entry)) }
-    ensures local { IfOk result (λ more. (fields_of more).has_globals ≡ false) }
+fn with_engine<'a>(alloc: Global, command: Made<'a>) -> Made<'a>
+    ensures { (app : App) → IfOk command.entry (IsSeenAs app) → IfOk result (IsSeenAs (with_engine app)) }
 {
-    with_next_round(alloc, command)?.subcommand(standings_command(alloc)?)
+    with_command(with_next_round(alloc, command), standings_command(alloc))
 }
 
 // A program with the commands on the next round.
-fn with_next_round<'a>(alloc: Global, command: Command<'a>) -> Result<Command<'a>, AllocError>
-    requires { (fields_of command).has_globals ≡ false }
-    ensures app { IfOk result (λ more. app_of more ≡ with_next_round (app_of command.entry)) }
-    ensures local { IfOk result (λ more. (fields_of more).has_globals ≡ false) }
+fn with_next_round<'a>(alloc: Global, command: Made<'a>) -> Made<'a>
+    ensures { (app : App) → IfOk command.entry (IsSeenAs app) → IfOk result (IsSeenAs (with_next_round app)) }
 {
-    command
-        .subcommand(pair_command(alloc)?)?
-        .subcommand(candidates_command(alloc)?)?
-        .subcommand(explain_command(alloc)?)
+    let command = with_command(command, pair_command(alloc));
+    let command = with_command(command, candidates_command(alloc));
+    with_command(command, explain_command(alloc))
+}
+
+// A program with one more command.
+fn with_command<'a>(command: Made<'a>, more: Made<'a>) -> Made<'a>
+    ensures { (app below : App) → IfOk command.entry (IsSeenAs app) → IfOk more.entry (IsSeenAs below) → IfOk result (IsSeenAs (with_subcommand app below.top)) }
+{
+    command?.subcommand(more?)
 }
 
 // The name and the texts of the program.
+#[tactic(auto, unfolding(crate::specs::Words::versioned))]
 fn named<'a>(alloc: Global) -> Result<Command<'a>, AllocError>
     ensures app { IfOk result (λ command. app_of command ≡ versioned (new_app (codes "arbiter"))) }
     ensures local { IfOk result (λ command. (fields_of command).has_globals ≡ false) }
 {
-    Command::new(alloc, "arbiter")
-        .about(
-            "Pairs, explains, checks, rewrites and ranks a chess tournament whose report, in TRF16 columns, is read from standard input",
-        )
-        .after_help(
-            "The exit status is 0 where all is done, 1 where the report is refused, 2 where the words are, 3 where there is no pairing, 4 where the steps ended first, and 5 where a device failed or memory was refused.\n\nExample: arbiter pair < report.trf",
-        )
-        .version("1.1 (FIDE C.04.3, 2017; TRF16)")
-        .bin_name("arbiter")
+    described(
+        alloc,
+        "arbiter",
+        "Pairs, explains, checks, rewrites and ranks a chess tournament whose report, in TRF16 columns, is read from standard input",
+        "The exit status is 0 where all is done, 1 where the report is refused, 2 where the words are, 3 where there is no pairing, 4 where the steps ended first, and 5 where a device failed or memory was refused.\n\nExample: arbiter pair < report.trf",
+    )
+    .version("1.1 (FIDE C.04.3, 2017; TRF16)")
+    .bin_name("arbiter")
 }
 
 // A command that takes all words as arguments, and wants a command among them.
+#[tactic(auto, unfolding(crate::specs::Words::settled))]
 fn with_settings<'a>(command: Command<'a>) -> Command<'a>
     ensures app { app_of result ≡ settled (app_of command.entry) }
     ensures local { (fields_of result).has_globals ≡ (fields_of command.entry).has_globals }
@@ -248,12 +253,13 @@ fn check_command<'a>(alloc: Global) -> Result<Command<'a>, AllocError>
     ensures app { IfOk result (λ command. app_of command ≡ check_app) }
     ensures local { IfOk result (λ command. (fields_of command).has_globals ≡ false) }
 {
-    let command = Command::new(alloc, "check")
-        .about("Tells how many players and rounds the report has, or why it is refused")
-        .after_help(
-            "The report is read from standard input. Printed are the numbers of its players and of the rounds that were paired; why it is refused goes to standard error.\n\nExample: arbiter check < report.trf",
-        );
-    with_worth(alloc, command)
+    let command = described(
+        alloc,
+        "check",
+        "Tells how many players and rounds the report has, or why it is refused",
+        "The report is read from standard input. Printed are the numbers of its players and of the rounds that were paired; why it is refused goes to standard error.\n\nExample: arbiter check < report.trf",
+    );
+    with_worth(alloc, Ok(command))
 }
 
 // The command `format`.
@@ -261,11 +267,12 @@ fn format_command<'a>(alloc: Global) -> Result<Command<'a>, AllocError>
     ensures app { IfOk result (λ command. app_of command ≡ format_app) }
     ensures local { IfOk result (λ command. (fields_of command).has_globals ≡ false) }
 {
-    let command = Command::new(alloc, "format")
-        .about("Writes the report in canonical columns, or tells why it is refused")
-        .after_help(
-            "The report is read from standard input. Printed is each player's line in TRF16's columns, and each other line as it stands.\n\nExample: arbiter format < report.trf > canonical.trf",
-        )
-        .arg(arguments::points(alloc))?;
+    let command = described(
+        alloc,
+        "format",
+        "Writes the report in canonical columns, or tells why it is refused",
+        "The report is read from standard input. Printed is each player's line in TRF16's columns, and each other line as it stands.\n\nExample: arbiter format < report.trf > canonical.trf",
+    );
+    let command = with_option(Ok(command), arguments::points(alloc));
     with_worth(alloc, command)
 }

@@ -1,9 +1,10 @@
-use Rattle.std.proofs.Common.{◌∙◌}
-use Rattle.std.proofs.lemmas.Result.{IfOk-weaker}
-use Rattle.command_line.proofs.CommandLemmas.{keeps_local}
+use Rattle.clap.specs.Words.{App, with_rule}
+use Rattle.command_line.specs.CommandLine.{instead_rule, player_rule}
+use Rattle.command_line.proofs.CommandLemmas.{with_rule_of}
 use Rattle.command_line.proofs.commands.with_question.Goals as goal
 
-pub returns-clause-local : goal.returns-clause-local
-returns-clause-local c =
-    let first = keeps_local _ _ _ c.in_ok-arg.ensures c.player.ensures.local in
-    IfOk-weaker c.arg-2.result _ _ (λ more added. keeps_local _ _ _ added c.instead.ensures.local ∙ first) c.arg-2.ensures
+pub returns : goal.returns
+returns c app made =
+    let made-1 = with_rule_of app c.with_option-command.result c.player.result player_rule c.player.ensures.rule (c.with_option-command.ensures app made) in
+    let app-1 : App = with_rule app player_rule in
+    with_rule_of app-1 c.with_option.result c.instead.result instead_rule c.instead.ensures.rule (c.with_option.ensures app-1 made-1)

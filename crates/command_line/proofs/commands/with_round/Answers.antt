@@ -1,10 +1,13 @@
-use Rattle.std.proofs.Common.{◌∙◌}
-use Rattle.std.proofs.lemmas.Result.{IfOk-weaker}
-use Rattle.command_line.proofs.CommandLemmas.{keeps_local}
+use Rattle.clap.specs.Words.{App, with_rule}
+use Rattle.command_line.specs.CommandLine.{initial_rule, rounds_rule, steps_rule, with_round_rules}
+use Rattle.command_line.proofs.CommandLemmas.{with_rule_of}
 use Rattle.command_line.proofs.commands.with_round.Goals as goal
 
-pub returns-clause-local : goal.returns-clause-local
-returns-clause-local c =
-    let first = keeps_local _ _ _ c.in_ok-arg.ensures c.rounds.ensures.local in
-    let second = keeps_local _ _ _ c.in_ok-arg-2.ensures c.initial.ensures.local in
-    IfOk-weaker c.arg-3.result _ _ (λ more added. keeps_local _ _ _ added c.steps.ensures.local ∙ (second ∙ first)) c.arg-3.ensures
+pub returns : goal.returns
+unfolding with_round_rules
+returns c app made =
+    let made-1 = with_rule_of app c.with_option-command.result c.rounds.result rounds_rule c.rounds.ensures.rule (c.with_option-command.ensures app made) in
+    let app-1 : App = with_rule app rounds_rule in
+    let made-2 = with_rule_of app-1 c.with_option-command-2.result c.initial.result initial_rule c.initial.ensures.rule (c.with_option-command-2.ensures app-1 made-1) in
+    let app-2 : App = with_rule app-1 initial_rule in
+    with_rule_of app-2 c.with_option.result c.steps.result steps_rule c.steps.ensures.rule (c.with_option.ensures app-2 made-2)

@@ -1,6 +1,6 @@
-use Rattle.std.proofs.lemmas.Result.{IfOk-weaker}
-use Rattle.command_line.proofs.CommandLemmas.{keeps_local}
+use Rattle.command_line.specs.CommandLine.{bye_rule}
+use Rattle.command_line.proofs.CommandLemmas.{with_rule_of}
 use Rattle.command_line.proofs.commands.with_worth.Goals as goal
 
-pub returns-clause-local : goal.returns-clause-local
-returns-clause-local c = IfOk-weaker c.arg.result _ _ (λ more added. keeps_local _ _ _ added c.bye.ensures.local) c.arg.ensures
+pub returns : goal.returns
+returns c app made = with_rule_of app c.with_option.result c.bye.result bye_rule c.bye.ensures.rule (c.with_option.ensures app made)
