@@ -27,6 +27,7 @@ const ONE_MOVES_DOWN: [Line<'static>; 4] = [
 ];
 
 // The qualities of all candidates of a bracket in their order.
+#[tactic(auto, unfolding(dutch_pair::specs::Round::candidates_of))]
 fn qualities(
     alloc: Global,
     field: &Field,
