@@ -61,16 +61,8 @@ fn of_field(
 ) -> Result<Reply, AllocError>
     ensures { IfOk result (λ reply. InField options.now (Ok field.now) (answer_of reply)) }
 {
-    let found = find(alloc, field, options.steps, options.bracket)?;
-    tell(alloc, options, field, &found)
-}
-
-// The bracket of a number, or why there is none.
-fn find(alloc: Global, field: &Field, steps: u64, number: u16) -> Result<BracketAt, AllocError>
-    ensures { IfOk result (IsBracketAt field.now steps number) }
-{
-    match bracket_at(alloc, field, steps, number) {
-        Ok(found) => Ok(found),
+    match bracket_at(alloc, field, options.steps, options.bracket) {
+        Ok(found) => tell(alloc, options, field, &found),
         Err(PairFault::OutOfMemory) => Err(AllocError),
     }
 }
