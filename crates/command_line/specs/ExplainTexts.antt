@@ -73,7 +73,7 @@ module _ (facts : Facts) where
       ++ (codes " " ++ (rule_text (colour_rule facts pair.0 pair.1) ++ codes "\n")))))
 
   -- one who is left over where the round ends
-  abbrev pub over_text : ℕ → List ℕ
+  unfoldable pub over_text : ℕ → List ℕ
   over_text seat = codes "bye " ++ (rank_text facts seat ++ codes "\n")
 
   -- ---- what of a bracket is told

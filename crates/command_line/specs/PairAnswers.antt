@@ -18,7 +18,7 @@ use Rattle.command_line.specs.declared.options.Shown.{Shown}
 use Rattle.command_line.specs.declared.options.Shown.TheVariants.{Boards, Names, Report}
 
 -- a board: the start ranks of white and black; of a player who has the bye, and 0
-abbrev pub board_text : ℕ × ℕ → List ℕ
+unfoldable pub board_text : ℕ × ℕ → List ℕ
 board_text board = decimal board.0 ++ (codes " " ++ (decimal board.1 ++ codes "\n"))
 
 -- how many boards there are, and each of them

@@ -5,7 +5,7 @@ ghost use Rattle.dutch_pair.specs.Boards.{IsPair};
 ghost use Rattle.dutch_pair.specs.Outcomes.{IsStage};
 ghost use Rattle.dutch_pair.specs.Reached.{IsOf};
 ghost use Rattle.dutch_pair.specs.Seated.{AreSeats};
-ghost use Rattle.command_line.specs.ExplainTexts.{bar_text, boards_text, bye_text, byes_text, chosen_text, colours_text, is_bracket_told, is_told, pairs_text};
+ghost use Rattle.command_line.specs.ExplainTexts.{bar_text, boards_text, bye_text, byes_text, chosen_text, colours_text, is_bracket_told, is_told, over_text, pairs_text};
 ghost use Rattle.command_line.specs.ExplainTexts.{left_text, players_text, round_text, rule_text, scored_text, stage_text, stages_text};
 
 use crate::item_lines::put_items;
@@ -265,10 +265,19 @@ fn put_byes(
     for number in stage.candidate().down() {
         let seat = reached.seat(*number);
         if is_told(seat, whose) {
-            let start = field.start_rank(seat);
-            let left = format!(in alloc; "bye {start}\n")?;
-            text.push_str(left.as_str())?;
+            put_over(alloc, text, field, seat)?;
         }
     }
     Ok(())
+}
+
+// Puts one who is left over.
+#[tactic(auto, unfolding(crate::specs::ExplainTexts::over_text))]
+fn put_over(alloc: Global, text: &mut String, field: &Field, seat: u16) -> Result<(), AllocError>
+    requires { seat < length field.now.seats }
+    ensures { OnOk result (string_bytes text.new ≡ string_bytes text.old ++ over_text field.now seat) }
+{
+    let start = field.start_rank(seat);
+    let left = format!(in alloc; "bye {start}\n")?;
+    text.push_str(left.as_str())
 }

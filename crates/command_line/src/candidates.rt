@@ -1,20 +1,21 @@
 // The command `candidates`: a bracket, its shape, and the candidates of that shape in the order of article D.
-ghost use Rattle.std.specs.Prelude.{◌≡◌, ◌≤◌, IfOk, Ok, option_map};
+ghost use Rattle.std.specs.Prelude.{◌≡◌, ◌≤◌, ◌++◌, IfOk, Ok, option_map, string_bytes};
 ghost use Rattle.trf16.specs.Verdict.{verdict};
 ghost use Rattle.dutch_order.specs.Arrangements.{Fits};
 ghost use Rattle.dutch_pair.specs.Outcomes.{IsBracketAt};
 ghost use Rattle.dutch_pair.specs.Reached.{IsOf, frame_of};
-ghost use Rattle.command_line.specs.CandidateAnswers.{AnswersCandidates, InField, Lists, AnswersFound, coming_of};
+ghost use Rattle.command_line.specs.CandidateAnswers.{AnswersCandidates, InField, Lists, AnswersFound, coming_of, ending_text};
+ghost use Rattle.command_line.specs.CandidateTexts.{bracket_text};
 ghost use Rattle.command_line.specs.Replies.{answer_of};
 ghost use Rattle.command_line.specs.Statuses.{not_of_bracket, not_reached};
 
-use crate::listing::lines;
+use crate::listing::{Listed, lines};
 use crate::options::CandidatesOptions;
 use crate::refusal::{cannot_be_paired, no_pairing, refused, undecided};
 use crate::reply::{Reply, Status, Text};
 use crate::texts;
 use dutch_order::{Candidates, Cursor, Rule, Shape};
-use dutch_pair::{BracketAt, PairFault, Reached, bracket_at};
+use dutch_pair::{BracketAt, BracketKind, PairFault, Reached, bracket_at};
 use dutch_player::{Field, FieldFault};
 use std::alloc::{AllocError, Global};
 use trf16::{Fault, Report};
@@ -60,16 +61,8 @@ fn of_field(
 ) -> Result<Reply, AllocError>
     ensures { IfOk result (λ reply. InField options.now (Ok field.now) (answer_of reply)) }
 {
-    let found = find(alloc, field, options.steps, options.bracket)?;
-    tell(alloc, options, field, &found)
-}
-
-// The bracket of a number, or why there is none.
-fn find(alloc: Global, field: &Field, steps: u64, number: u16) -> Result<BracketAt, AllocError>
-    ensures { IfOk result (IsBracketAt field.now steps number) }
-{
-    match bracket_at(alloc, field, steps, number) {
-        Ok(found) => Ok(found),
+    match bracket_at(alloc, field, options.steps, options.bracket) {
+        Ok(found) => tell(alloc, options, field, &found),
         Err(PairFault::OutOfMemory) => Err(AllocError),
     }
 }
@@ -139,15 +132,30 @@ fn list_coming<R: Rule>(
     ensures { IfOk result (λ reply. Lists options.now field.now reached.now shape
         (coming_of field.now reached.now shape options.now.from) (answer_of reply)) }
 {
-    let mut text = texts::bracket(alloc, options.bracket, reached.kind(), shape)?;
     let listed = lines(alloc, field, reached, coming, options.count, options.steps)?;
-    text.push_str(listed.text.as_str())?;
-    let last = texts::ending(alloc, options.bracket, listed.ending)?;
-    text.push_str(last.as_str())?;
+    let text = listing(alloc, options.bracket, reached.kind(), shape, &listed)?;
     Ok(Reply {
         status: listed.ending.status(),
         text: Text::Made(text),
     })
+}
+
+// A bracket, the lines of its candidates, and how they ended.
+fn listing(
+    alloc: Global,
+    number: u16,
+    kind: BracketKind,
+    shape: Shape,
+    listed: &Listed,
+) -> Result<String, AllocError>
+    ensures { IfOk result (λ text. string_bytes text
+        ≡ bracket_text number kind shape ++ (string_bytes listed.now.text ++ ending_text number listed.now.ending)) }
+{
+    let mut text = texts::bracket(alloc, number, kind, shape)?;
+    text.push_str(listed.text.as_str())?;
+    let last = texts::ending(alloc, number, listed.ending)?;
+    text.push_str(last.as_str())?;
+    Ok(text)
 }
 
 // The round ends before the bracket that is asked for.

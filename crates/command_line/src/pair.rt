@@ -137,9 +137,17 @@ fn board_lines(alloc: Global, boards: &[Board]) -> Result<String, AllocError>
     let count = boards.len();
     let mut text = format!(in alloc; "{count}\n")?;
     for board in boards {
-        let (white, black) = *board;
-        let line = format!(in alloc; "{white} {black}\n")?;
-        text.push_str(line.as_str())?;
+        put_board(alloc, &mut text, *board)?;
     }
     Ok(text)
+}
+
+// Puts the line of a board.
+#[tactic(auto, unfolding(crate::specs::PairAnswers::board_text))]
+fn put_board(alloc: Global, text: &mut String, board: Board) -> Result<(), AllocError>
+    ensures { OnOk result (string_bytes text.new ≡ string_bytes text.old ++ board_text board) }
+{
+    let (white, black) = board;
+    let line = format!(in alloc; "{white} {black}\n")?;
+    text.push_str(line.as_str())
 }

@@ -17,11 +17,18 @@ fn put_more(alloc: Global, text: &mut String, differences: &[u16]) -> Result<(),
     ensures { OnOk result (string_bytes text.new ≡ string_bytes text.old ++ flat_map (λ more. codes "," ++ halves_text more) differences.now) }
 {
     for difference in differences {
-        text.push_str(",")?;
-        let points = halves(alloc, u32::from(*difference))?;
-        text.push_str(points.as_str())?;
+        put_one(alloc, text, *difference)?;
     }
     Ok(())
+}
+
+// Puts one with a comma before it.
+fn put_one(alloc: Global, text: &mut String, difference: u16) -> Result<(), AllocError>
+    ensures { OnOk result (string_bytes text.new ≡ string_bytes text.old ++ (codes "," ++ halves_text difference)) }
+{
+    text.push_str(",")?;
+    let points = halves(alloc, u32::from(difference))?;
+    text.push_str(points.as_str())
 }
 
 // Differences as points, with commas between them.

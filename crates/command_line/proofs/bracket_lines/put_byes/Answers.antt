@@ -9,7 +9,7 @@ seat-seat-requires c =
     left_is_number c.args.field.now c.args.stage.now c.reached-reached.result.now c.down-number-items.result.now c.loop-number.number-index
     c.requires c.reached-reached.ensures (c.down-number-items.ensures ∙ ap (λ (d : Candidate). d.down) c.candidate.ensures) c.loop-number-test.true
 
-pub start_rank-start-requires : goal.start_rank-start-requires
-start_rank-start-requires c =
+pub put_over-requires : goal.put_over-requires
+put_over-requires c =
     left_is_seat c.args.field.now c.args.stage.now c.reached-reached.result.now c.down-number-items.result.now c.loop-number.number-index c.seat-seat.result
     c.requires c.reached-reached.ensures (c.down-number-items.ensures ∙ ap (λ (d : Candidate). d.down) c.candidate.ensures) c.loop-number-test.true c.seat-seat.ensures
