@@ -71,9 +71,9 @@ pub fn refused(alloc: Global, fault: Fault) -> Result<String, AllocError>
         Fault::SelfOpponent { player, round } => {
             of_round(alloc, player, round, ": own opponent\n")
         }
-        Fault::NotMutual { player, round } => { of_round(alloc, player, round, ": not mutual\n") }
-        Fault::Colours { player, round } => { of_round(alloc, player, round, ": colours\n") }
-        Fault::Results { player, round } => { of_round(alloc, player, round, ": results\n") }
+        Fault::NotMutual { player, round } => of_round(alloc, player, round, ": not mutual\n"),
+        Fault::Colours { player, round } => of_round(alloc, player, round, ": colours\n"),
+        Fault::Results { player, round } => of_round(alloc, player, round, ": results\n"),
         Fault::Points { player } => format!(in alloc; "refused: player {player}: points\n"),
         Fault::OutOfMemory => String::from_str(alloc, "memory: refused\n"),
     }
