@@ -11,7 +11,7 @@ _arbiter() {
         *)
             case ${COMP_CWORD},${COMP_WORDS[1]} in
                 1,*) words="check format pair candidates explain standings --help --version" ;;
-                *,check) words="--bye --help" ;;
+                *,check) words="--notes --bye --help" ;;
                 *,format) words="--points --bye --help" ;;
                 *,pair) words="--rounds --initial --steps --report --names --bye --help" ;;
                 *,candidates) words="--bracket --from --count --rounds --initial --steps --bye --help" ;;

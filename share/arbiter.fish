@@ -21,3 +21,4 @@ complete -c arbiter -n '__fish_seen_subcommand_from standings' -l by -x -a 'dire
 complete -c arbiter -n '__fish_seen_subcommand_from check format pair candidates explain standings' -l bye -x -a '0 1 2' -d 'Half points of the bye of the pairing'
 complete -c arbiter -n '__fish_seen_subcommand_from pair standings' -l names -d 'With names, in columns for the wall'
 complete -c arbiter -n '__fish_seen_subcommand_from format' -l points -d 'Write each points field as the sum'
+complete -c arbiter -n '__fish_seen_subcommand_from check' -l notes -d 'Tell too what looks like a mistake'

@@ -4,7 +4,11 @@
 ghost use Rattle.std.specs.Prelude.{◌≡◌, ◌≢◌};
 ghost use Rattle.std.specs.IoError.{error_kind};
 
+mod pipe;
+
 use command_line::{Status, run};
+use pipe::{Noting, Silenced};
+use std::cell::Cell;
 use std::io::ErrorKind;
 use std::process::ExitCode;
 use std::{env, io};
@@ -27,8 +31,9 @@ fn run_on(rt: &HostRuntime) -> io::Result<Status> {
         words.push(word.as_str())?;
     }
     let mut reader = Counted::new(rt.stdin());
-    let mut out = Counted::new(rt.stdout());
-    let mut err = Counted::new(rt.stderr());
+    let is_gone = Cell::new(false);
+    let mut out = Counted::new(Noting::new(rt.stdout(), &is_gone));
+    let mut err = Counted::new(Silenced::new(rt.stderr(), &is_gone));
     Ok(run(alloc, words.as_slice(), &mut reader, &mut out, &mut err))
 }
 

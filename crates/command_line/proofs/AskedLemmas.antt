@@ -9,7 +9,7 @@ use Rattle.clap.specs.Words.{Row, Text, one_of, subcommand_of}
 use Rattle.dutch_order.specs.Cursors.{has_syntax}
 use Rattle.trf16.specs.declared.cell.Colour.{Colour}
 use Rattle.command_line.specs.Known.{CanBeAnswered, HasFewRounds}
-use Rattle.command_line.specs.Options.{◌>>=◌, bye_in, candidates_options, explain_options, flag_in, format_options, initial_in, number_in, number_of, pair_options, rounds_in, shown_by, standings_options, steps_in}
+use Rattle.command_line.specs.Options.{◌>>=◌, bye_in, candidates_options, check_options, explain_options, flag_in, format_options, initial_in, number_in, number_of, pair_options, rounds_in, shown_by, standings_options, steps_in}
 use Rattle.command_line.specs.Words.{AsksFor, arbiter_app, candidates_request, explain_request, pair_request, request_of, standings_request, task_by, with_bye}
 use Rattle.command_line.specs.declared.options.PairOptions.{PairOptions}
 use Rattle.command_line.specs.declared.options.Shown.{Shown}
@@ -87,9 +87,9 @@ some_ok : (x y : Result Request WordFault) → Some x ≡ Some y → x ≡ y
 some_ok x y e = cc
 
 asked_at : (rows : List Row) (request : Request) (check format pair candidates explain standings : Bool)
-    → cond check (Some (Ok Check)) (cond format (Some (Ok (Format (format_options rows)))) (cond pair (Some (pair_request rows))
+    → cond check (Some (Ok (Check (check_options rows)))) (cond format (Some (Ok (Format (format_options rows)))) (cond pair (Some (pair_request rows))
     (cond candidates (Some (candidates_request rows)) (cond explain (Some (explain_request rows)) (cond standings (Some (standings_request rows)) None))))) ≡ Some (Ok request) → CanBeAnswered request
-asked_at rows request true format pair candidates explain standings e = subst CanBeAnswered (same_ok Check request (some_ok (Ok Check) (Ok request) e)) tt
+asked_at rows request true format pair candidates explain standings e = subst CanBeAnswered (same_ok (Check (check_options rows)) request (some_ok (Ok (Check (check_options rows))) (Ok request) e)) tt
 asked_at rows request false true pair candidates explain standings e = subst CanBeAnswered (same_ok (Format (format_options rows)) request (some_ok (Ok (Format (format_options rows))) (Ok request) e)) tt
 asked_at rows request false false true candidates explain standings e = pair_asked rows request (some_ok (pair_request rows) (Ok request) e)
 asked_at rows request false false false true explain standings e = candidates_asked rows request (some_ok (candidates_request rows) (Ok request) e)

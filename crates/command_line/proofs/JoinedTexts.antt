@@ -19,7 +19,7 @@ pub joined : (old a b middle new : List ℕ) {E : Type 0} (r : Result (Unit {0})
 joined old a b middle new (Ok x) first second = second ∙ (ap (λ text. text ++ b) first ∙ append_assoc old a b)
 joined old a b middle new (Err error) first second = second
 
--- the line of a present player, and his brackets
+-- the line of a present player, and their brackets
 pub present_joined : (given round : PairedRound) (seat : ℕ) (old middle new : List ℕ) {E : Type 0} (r : Result (Unit {0}) E) → given ≡ round
     → middle ≡ old ++ player_text given.sheet given.facts seat → OnOk r (new ≡ middle ++ stages_text given.facts (Some seat) given.stages)
     → OnOk r (new ≡ old ++ present_text round seat)

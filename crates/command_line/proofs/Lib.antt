@@ -12,8 +12,11 @@ pub mod AskedLemmas
 pub mod PairLemmas
 pub mod StageLemmas
 pub mod JoinedTexts
+pub mod NoteLemmas
 pub mod PlayerLemmas
 pub mod ObstacleLemmas
 pub mod ObstacleTruth
 pub mod InsteadLemmas
 pub mod DecidedLemmas
+pub mod ReasonLemmas
+pub mod ControlLemmas

@@ -5,6 +5,7 @@ use Rattle.std.proofs.lemmas.Bool.{cases_lt}
 use Rattle.std.proofs.lemmas.Bool.Decides.{nat_tests}
 use Rattle.trf16.specs.Verdict.{laid_out, verdict}
 use Rattle.trf16.specs.declared.fault.Excess.TheVariants.{Bytes}
+use Rattle.trf16.specs.declared.fault.Fault.{Fault}
 use Rattle.trf16.specs.declared.fault.Fault.TheVariants.{TooMany}
 use Rattle.trf16.specs.Summed.{verdict_unsummed}
 use Rattle.command_line.specs.Commands.{Answers, AnswersReport, format_verdict, verdict_for}
@@ -35,31 +36,51 @@ format-long false bytes bye h = verdict-long bytes bye h
 format-long true bytes bye h = unsummed-long bytes bye h
 
 verdict_for-long : (request : Request) (bytes : List ℕ) (bye : ℕ) → most_read ≤ length bytes → verdict_for request bytes bye ≡ Err (TooMany Bytes)
-verdict_for-long Check bytes bye h = verdict-long bytes bye h
+verdict_for-long (Check options) bytes bye h = verdict-long bytes bye h
 verdict_for-long (Format options) bytes bye h = format-long options.points bytes bye h
 verdict_for-long (Pair options) bytes bye h = verdict-long bytes bye h
 verdict_for-long (Candidates options) bytes bye h = verdict-long bytes bye h
 verdict_for-long (Explain options) bytes bye h = verdict-long bytes bye h
 verdict_for-long (Standings options) bytes bye h = verdict-long bytes bye h
 
--- what is read of some bytes has their verdict
-verdict-read : (request : Request) (input rest : List ℕ) (bye : ℕ) → (length input < most_read → rest ≡ []) → verdict_for request (input ++ rest) bye ≡ verdict_for request input bye
-verdict-read request input rest bye whole = elim (cases_lt (length input) most_read) [
-  | inl short ↦ ap (λ xs. verdict_for request (input ++ xs) bye) (whole short) ∙ ap (λ xs. verdict_for request xs bye) (append-nil input)
-  | inr long ↦ verdict_for-long request (input ++ rest) bye (omega (arith, length-append input rest)) ∙ sym (verdict_for-long request input bye long)
+-- where a report is refused, an answer is one over any other input
+refused_alike : (request : Request) (a b : List ℕ) (fault : Fault) (answer : Answer) → AnswersReport request a (Err fault) answer
+    → AnswersReport request b (Err fault) answer
+refused_alike (Check options) a b fault answer h = h
+refused_alike (Format options) a b fault answer h = h
+refused_alike (Pair options) a b fault answer h = h
+refused_alike (Candidates options) a b fault answer h = h
+refused_alike (Explain options) a b fault answer h = h
+refused_alike (Standings options) a b fault answer h = h
+
+-- an answer over an input, by its verdict
+abbrev AnswersOver : Request → ℕ → Answer → List ℕ → Type 0
+AnswersOver request bye answer input = AnswersReport request input (verdict_for request input bye) answer
+
+-- an answer over what is read of some bytes is one over them
+answers_whole : (request : Request) (input rest : List ℕ) (bye : ℕ) (answer : Answer) → (length input < most_read → rest ≡ [])
+    → AnswersOver request bye answer input → AnswersOver request bye answer (input ++ rest)
+answers_whole request input rest bye answer whole h = elim (cases_lt (length input) most_read) [
+  | inl short ↦ subst (AnswersOver request bye answer) (sym (ap (λ xs. input ++ xs) (whole short) ∙ append-nil input)) h
+  | inr long ↦
+      let here = verdict_for-long request input bye long in
+      let there = verdict_for-long request (input ++ rest) bye (omega (arith, length-append input rest)) in
+      subst (λ report. AnswersReport request (input ++ rest) report answer) (sym there)
+      (refused_alike request input (input ++ rest) (TooMany Bytes) answer (subst (λ report. AnswersReport request input report answer) here h))
 ]
 
 -- the bytes that a source had
-whole_input : (request : Request) (before after : Option (List ℕ)) (input : List ℕ) (bye : ℕ) → Consumes before after input → (length input < most_read → IsAtEnd after)
-    → (bytes : List ℕ) × IsInput before bytes × (verdict_for request bytes bye ≡ verdict_for request input bye)
-whole_input request None after input bye given whole = (input, tt, refl)
-whole_input request (Some bytes) None input bye given whole = absurd given
-whole_input request (Some bytes) (Some rest) input bye given whole =
-    (bytes, refl, ap (λ xs. verdict_for request xs bye) given ∙ verdict-read request input rest bye whole)
+whole_input : (request : Request) (before after : Option (List ℕ)) (input : List ℕ) (bye : ℕ) (answer : Answer) → Consumes before after input
+    → (length input < most_read → IsAtEnd after) → AnswersOver request bye answer input
+    → (bytes : List ℕ) × IsInput before bytes × AnswersOver request bye answer bytes
+whole_input request None after input bye answer given whole h = (input, tt, h)
+whole_input request (Some bytes) None input bye answer given whole h = absurd given
+whole_input request (Some bytes) (Some rest) input bye answer given whole h =
+    (bytes, refl, subst (AnswersOver request bye answer) (sym given) (answers_whole request input rest bye answer whole h))
 
 -- an answer over what was read is one over all bytes of the source
 pub answered : (task : Task) (source : Reading) (input : List ℕ) (answer : Answer) → IsRead source.device input → Answers task input answer
     → IsAnswered task source answer
 answered task source input answer read h =
-    let all = whole_input task.request source.device.before source.device.after input task.bye read.given read.whole in
-    record { input = all.0; read = all.1; sound = read.sound; answers = subst (λ report. AnswersReport task.request report answer) (sym all.2) h }
+    let all = whole_input task.request source.device.before source.device.after input task.bye answer read.given read.whole h in
+    record { input = all.0; read = all.1; sound = read.sound; answers = all.2 }

@@ -11,7 +11,7 @@ use Rattle.clap.specs.declared.parser.matches.ArgMatches.{ArgMatches}
 use Rattle.clap.specs.declared.parser.matches.ArgMatches.TheViews.{out-ArgMatches, out-SubCommand}
 use Rattle.command_line.specs.Options.{rows_in}
 use Rattle.clap.proofs.OnLiterals.{clap_on_literals}
-use Rattle.command_line.specs.CommandLine.{bracket_rule, by_rule, bye_rule, count_rule, from_rule, initial_rule, instead_rule, names_rule, player_rule, points_rule, report_rule, rounds_rule, steps_rule}
+use Rattle.command_line.specs.CommandLine.{bracket_rule, by_rule, bye_rule, count_rule, from_rule, initial_rule, instead_rule, names_rule, notes_rule, player_rule, points_rule, report_rule, rounds_rule, steps_rule}
 use Rattle.command_line.specs.CommandLine.{candidates_app, explain_app, pair_app, standings_app, with_round_rules}
 use Rattle.command_line.specs.Words.{ComesTo, FitsKind, arbiter_app, asked_by, check_app, format_app, is_mistake, is_shown, settled, task_by, versioned, with_engine, with_next_round}
 use Rattle.command_line.specs.declared.options.WordFault.{WordFault}
@@ -21,7 +21,7 @@ use Rattle.command_line.specs.declared.words.Asked.TheVariants.{Command, Help, M
 
 -- what a proof unfolds to see the options of a command
 unfoldable pub options_on_literals : ⊤
-unfolding bracket_rule by_rule bye_rule count_rule from_rule initial_rule instead_rule names_rule player_rule points_rule report_rule rounds_rule steps_rule
+unfolding bracket_rule by_rule bye_rule count_rule from_rule initial_rule instead_rule names_rule notes_rule player_rule points_rule report_rule rounds_rule steps_rule
 options_on_literals = tt
 
 -- what a proof unfolds to see the commands of the program

@@ -57,6 +57,10 @@ steps_rule = number_rule (codes "steps") (Unsigned 0 1000000000)
 unfoldable pub report_rule : Rule
 report_rule = flag_rule (codes "report")
 
+-- `--notes`
+unfoldable pub notes_rule : Rule
+notes_rule = flag_rule (codes "notes")
+
 -- `--points`
 unfoldable pub points_rule : Rule
 points_rule = flag_rule (codes "points")

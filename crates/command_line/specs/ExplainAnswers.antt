@@ -35,11 +35,11 @@ question_fault sheet (Some question) =
 abbrev pub first_text : PairedRound → List ℕ
 first_text round = round_text round.facts round.sheet round.bye
 
--- what is told of a present player: his line, and the brackets in which he stands
+-- what is told of a present player: their line, and the brackets in which they stand
 abbrev pub present_text : PairedRound → ℕ → List ℕ
 present_text round seat = player_text round.sheet round.facts seat ++ stages_text round.facts (Some seat) round.stages
 
--- what is told of a player, by his start rank and his seat; without a seat he is absent
+-- what is told of a player, by their start rank and their seat; without a seat they are absent
 abbrev pub about_text : PairedRound → ℕ → Option ℕ → List ℕ
 about_text round player None = absent_text player
 about_text round player (Some seat) = present_text round seat
@@ -48,7 +48,7 @@ about_text round player (Some seat) = present_text round seat
 abbrev pub front_text : PairedRound → ℕ → List ℕ
 front_text round player = first_text round ++ about_text round player (seat_with round.facts player)
 
--- behind that it is told why he does not meet another one, or does not have the bye
+-- behind that it is told why they do not meet another one, or do not have the bye
 pub record IsToldBehind (round : PairedRound) (steps player number : ℕ) (answer : Answer) : Type 0 where
   pub line : Answer
   pub is : AnswersInstead round player number steps line

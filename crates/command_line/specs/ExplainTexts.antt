@@ -56,7 +56,7 @@ module _ (facts : Facts) where
 
   -- ---- a bracket
 
-  -- a player and his score
+  -- a player and their score
   unfoldable pub scored_text : ℕ → List ℕ
   scored_text seat = codes " " ++ (rank_text facts seat ++ (codes " (" ++ (halves_text (score_at facts seat) ++ codes ")")))
 
@@ -78,7 +78,7 @@ module _ (facts : Facts) where
 
   -- ---- what of a bracket is told
   module _ (whose : Option ℕ) where
-    -- pairs, of one player's his own
+    -- pairs: all of them, or that of one player
     abbrev pub boards_text : List (ℕ × ℕ) → List ℕ
     boards_text pairs = flat_map (λ pair. if is_told whose pair.0 || is_told whose pair.1 then colours_text pair else []) pairs
 

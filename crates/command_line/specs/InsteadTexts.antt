@@ -8,7 +8,7 @@ use Rattle.dutch_pair.specs.Items.{first_difference}
 use Rattle.dutch_pair.specs.Quality.{Quality}
 use Rattle.dutch_pair.specs.QualityIn.{quality_in}
 use Rattle.dutch_pair.specs.declared.instead.Instead.{Instead}
-use Rattle.dutch_pair.specs.declared.instead.Instead.TheVariants.{Best, NoneEligible, NoneLegal, Undecided}
+use Rattle.dutch_pair.specs.declared.instead.Instead.TheVariants.{Best, FewerMovedDown, NoneEligible, NoneLegal, Undecided}
 use Rattle.dutch_pair.specs.declared.items.Item.{Item}
 use Rattle.dutch_pair.specs.declared.items.Item.TheVariants.{Psd, NextBracket, WideDifferences, ThirdColours, MissedPreferences, MissedStrong, DownAgain, UpAgain, DownAgainBefore, UpAgainBefore, DownAgainBy, UpAgainBy, DownAgainBeforeBy, UpAgainBeforeBy}
 use Rattle.dutch_pair.specs.declared.stage.Stage.{Stage}
@@ -75,11 +75,12 @@ candidate_text lists mine chosen = cursor_text lists ++ against_text mine chosen
 abbrev pub in_bracket : ℕ → Stage → List ℕ → List ℕ
 in_bracket number stage what = instead_text number (codes "bracket " ++ (decimal stage.reached.number ++ (codes " " ++ what)))
 
--- what a search in a bracket found for a wish: the best candidate that grants it; that no candidate of the shape does (C.5), or none
--- that can be chosen (C.4); or that its steps reached the limit
+-- what a search in a bracket found for a wish: the best candidate that grants it; that none that can be chosen does (C.4), none with as
+-- many moved-down players in as many pairs (B.1), or none with as many pairs (C.5); or that its steps reached the limit
 abbrev pub search_answer : ℕ → Stage → Instead → Answer
 search_answer number stage (Best candidate quality) =
     done (in_bracket number stage (candidate_text candidate.lists (quality_in quality) (quality_in stage.quality)))
 search_answer number stage NoneEligible = done (in_bracket number stage (codes "none C.4"))
+search_answer number stage FewerMovedDown = done (in_bracket number stage (codes "none B.1"))
 search_answer number stage NoneLegal = done (in_bracket number stage (codes "none C.5"))
 search_answer number stage (Undecided used) = undecided stage.reached.number used

@@ -16,7 +16,7 @@ HasFewRounds options = IfSome options.rounds (λ rounds. rounds ≤ MOST_ROUNDS)
 
 -- the same of a request, if it asks to pair
 abbrev pub CanBeAnswered : Request → Type 0
-CanBeAnswered Check = Unit {0}
+CanBeAnswered (Check options) = Unit {0}
 CanBeAnswered (Format options) = Unit {0}
 CanBeAnswered (Pair options) = HasFewRounds options
 CanBeAnswered (Candidates options) = Unit {0}

@@ -3,6 +3,7 @@ pub mod Devices
 pub mod Input
 pub mod Words
 pub mod Texts
+pub mod NoteTexts
 pub mod Commands
 pub mod Run
 pub mod Replies
@@ -19,6 +20,7 @@ pub mod ExplainTexts
 pub mod ExplainAnswers
 pub mod StandingsTexts
 pub mod Known
+pub mod Controls
 pub mod Tables
 pub mod WallTexts
 pub mod StandingsAnswers

@@ -13,6 +13,7 @@ use Rattle.tiebreak.specs.declared.key.Key.{Key}
 use Rattle.command_line.specs.declared.options.WordFault.{WordFault}
 use Rattle.command_line.specs.declared.options.WordFault.TheVariants.{BadColour, BadKeys, BadCursor, NamesAndReport, InsteadAlone}
 use Rattle.command_line.specs.declared.options.CandidatesOptions.{CandidatesOptions}
+use Rattle.command_line.specs.declared.options.CheckOptions.{CheckOptions}
 use Rattle.command_line.specs.declared.options.ExplainOptions.{ExplainOptions}
 use Rattle.command_line.specs.declared.options.FormatOptions.{FormatOptions}
 use Rattle.command_line.specs.declared.options.PairOptions.{PairOptions}
@@ -55,7 +56,7 @@ read_by read fault (Some text) = option_map_or (λ value. Ok (Some value)) (read
 abbrev pub colour_named : Text → Option Colour
 colour_named text = if bytes_eq text (codes "white") then Some White else (if bytes_eq text (codes "black") then Some Black else None)
 
--- `--initial`: the colour of the higher-ranked of two players where nothing else decides and his start rank is odd (C.04.3 E.5)
+-- `--initial`: the colour of the higher-ranked of two players if nothing else decides and that player's start rank is odd (C.04.3 E.5)
 abbrev pub initial_in : List Row → Result (Option Colour) WordFault
 initial_in rows = read_by colour_named BadColour (first_of (codes "initial") rows)
 
@@ -79,7 +80,7 @@ bracket_in rows = unwrap_or (number_in 65535 (codes "bracket") rows) 1
 abbrev pub player_in : List Row → Option ℕ
 player_in rows = number_in 65535 (codes "player") rows
 
--- `--instead`: whom he might have met, 0 for the bye (clap lets no words pass with one above 9999)
+-- `--instead`: whom the player might have met, 0 for the bye (clap lets no words pass with one above 9999)
 abbrev pub instead_in : List Row → Option ℕ
 instead_in rows = number_in 65535 (codes "instead") rows
 
@@ -110,6 +111,10 @@ shown_by true false = Ok Report
 shown_by true true = Err NamesAndReport
 
 -- ---- the options of a command
+
+-- `check`
+abbrev pub check_options : List Row → CheckOptions
+check_options rows = record { notes = flag_in (codes "notes") rows }
 
 -- `format`
 abbrev pub format_options : List Row → FormatOptions

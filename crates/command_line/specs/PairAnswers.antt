@@ -11,7 +11,7 @@ use Rattle.trf16.specs.Round.{with_round}
 use Rattle.trf16.specs.Sheet.{Sheet}
 use Rattle.trf16.specs.Written.{written}
 use Rattle.trf16.specs.declared.fault.Fault.{Fault}
-use Rattle.command_line.specs.Statuses.{Answer, done, field_refusal, no_pairing, refusal, undecided}
+use Rattle.command_line.specs.Statuses.{Answer, done, field_refusal, no_pairing, refusal, report_answer, undecided}
 use Rattle.command_line.specs.WallTexts.{named_boards_text}
 use Rattle.command_line.specs.declared.options.PairOptions.{PairOptions}
 use Rattle.command_line.specs.declared.options.Shown.{Shown}
@@ -25,9 +25,9 @@ board_text board = decimal board.0 ++ (codes " " ++ (decimal board.1 ++ codes "\
 abbrev pub boards_text : List (ℕ × ℕ) → List ℕ
 boards_text boards = decimal (length boards) ++ (codes "\n" ++ flat_map board_text boards)
 
--- the report whose next round some boards are
+-- the report whose next round some boards are, unless it is too long
 abbrev pub TellsReport : Sheet → List (ℕ × ℕ) → Answer → Type 0
-TellsReport sheet boards answer = answer ≡ done (written (with_round boards sheet))
+TellsReport sheet boards answer = answer ≡ report_answer (written (with_round boards sheet))
 
 -- the boards, the boards with names and scores, or the report with them
 abbrev pub TellsBoards : Shown → Sheet → List (ℕ × ℕ) → Answer → Type 0

@@ -1,4 +1,4 @@
--- The line of a player: what the next round finds of him.
+-- The line of a player: what they bring to the next round.
 use Rattle.std.specs.Prelude.{ℕ, zero, suc, ◌+◌, Bool, true, false, ◌==◌, nat_lt, if◌then◌else◌, List, [], ◌∷◌, ◌++◌, Option, Some, None, codes, ℤ, pos, int_lt}
 use Rattle.std.specs.List.{flat_map}
 use Rattle.std.specs.Fmt.{decimal, signed_decimal}
@@ -66,7 +66,7 @@ float_text (Some Up) = codes "up"
 float_text (Some Down) = codes "down"
 float_text None = codes "none"
 
--- C.1: those whom a player has met, by start rank; a dash where he has met nobody
+-- C.1: those whom a player has met, by start rank; a dash if they have met nobody
 abbrev pub met_text : List ℕ → List ℕ
 met_text [] = codes " -"
 met_text (start ∷ starts) = flat_map (λ other. codes " " ++ decimal other) (ascending (start ∷ starts))
@@ -75,7 +75,7 @@ abbrev pub yes_text : Bool → List ℕ
 yes_text true = codes "yes"
 yes_text false = codes "no"
 
--- who a player is, and his score (A.2)
+-- who a player is, and their score (A.2)
 unfoldable pub score_text : SeatFacts → List ℕ
 score_text seat = codes "player " ++ (decimal seat.start ++ (codes " score " ++ halves_text seat.score))
 
@@ -87,11 +87,11 @@ wish_text seat = codes " difference " ++ (difference_text (difference seat.playe
 unfoldable pub floats_text : SeatFacts → List ℕ
 floats_text seat = codes " floats " ++ (float_text seat.latest ++ (codes " " ++ float_text seat.earlier))
 
--- A.7, C.2: whether a player is a topscorer, and whether he may have the bye
+-- A.7, C.2: whether a player is a topscorer, and whether they may have the bye
 unfoldable pub rights_text : Facts → SeatFacts → List ℕ
 rights_text facts seat = codes " topscorer " ++ (yes_text (is_topscorer facts seat) ++ (codes " bye " ++ (yes_text seat.may_bye ++ codes "\n")))
 
--- a player's score, and his colours in a report
+-- a player's score, and their colours in a report
 unfoldable pub history_text : Sheet → SeatFacts → List ℕ
 history_text sheet seat = score_text seat ++ (codes " colours" ++ (colours_text sheet seat.start (rounds_played sheet) ++ wish_text seat))
 

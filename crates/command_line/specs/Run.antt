@@ -6,7 +6,7 @@ use Rattle.command_line.specs.Commands.{Answers}
 use Rattle.command_line.specs.Statuses.{Answer, is_output, out_of_memory, read_fault}
 use Rattle.command_line.specs.Input.{most_read}
 use Rattle.command_line.specs.Texts.{word_text, write_text}
-use Rattle.command_line.specs.Words.{AsksFor, AsksForHelp, AsksWrongly, IsMistaken}
+use Rattle.command_line.specs.Words.{AsksFor, AsksForHelp, AsksWrongly, IsMistaken, meant}
 use Rattle.command_line.specs.declared.options.WordFault.{WordFault}
 use Rattle.command_line.specs.declared.reply.Status.{Status}
 use Rattle.command_line.specs.declared.reply.Status.TheVariants.{Done, BadWords, Trouble}
@@ -108,6 +108,6 @@ IsWritten answer out err status = IsWrittenTo (is_output answer.status) answer o
 -- a run answers the words and what the source gives, and writes that answer
 pub record IsRun (words : List (List ℕ)) (source : Reading) (out err : Use) (status : Status) : Type 0 where
   pub answer : Answer
-  pub answers : IsAnswer words source answer
+  pub answers : IsAnswer (meant words) source answer
   pub written : IsWritten answer out err status
   pub bounded : source.calls_after ≤ source.calls_before + most_read

@@ -5,22 +5,23 @@ use Rattle.tiebreak.specs.Keys.{RowFacts}
 use Rattle.tiebreak.specs.declared.key.Key.{Key}
 use Rattle.trf16.specs.Names.{name_in}
 use Rattle.trf16.specs.Sheet.{Sheet, points_upto, rounds_played}
+use Rattle.command_line.specs.Controls.{without_controls}
 use Rattle.command_line.specs.StandingsTexts.{value_text}
 use Rattle.command_line.specs.Tables.{LabelFacts, left, right, table_text}
 use Rattle.command_line.specs.Texts.{halves_text}
 
--- a name as it is shown: a dash where it is blank
+-- a name as it is shown: a question mark in place of each control character, and a dash where it is blank
 abbrev pub shown : List ℕ → List ℕ
 shown [] = codes "-"
-shown (first ∷ rest) = first ∷ rest
+shown (first ∷ rest) = without_controls (first ∷ rest)
 
--- a player: his start rank, his name and his score
+-- a player: start rank, name and score
 unfoldable pub player_labels : Sheet → ℕ → ℕ → List LabelFacts
 player_labels sheet start score = right (decimal start) ∷ left (shown (name_in sheet start)) ∷ right (halves_text score) ∷ []
 
 -- ---- boards
 
--- a player of the next round, with his score so far
+-- a player of the next round, with the score so far
 abbrev pub paired_labels : Sheet → ℕ → List LabelFacts
 paired_labels sheet start = player_labels sheet start (points_upto sheet start (rounds_played sheet))
 

@@ -1,5 +1,5 @@
 -- What the words of a command line ask for, by clap's rules at the program's command.
-use Rattle.std.specs.Prelude.{◌≡◌, ℕ, Bool, true, false, List, [], Option, Some, None, Result, Ok, Err, option_and_then, option_map, codes, if◌then◌else◌}
+use Rattle.std.specs.Prelude.{◌≡◌, ℕ, Bool, true, false, List, [], ◌∷◌, ◌++◌, Option, Some, None, Result, Ok, Err, option_and_then, option_map, codes, if◌then◌else◌}
 use Rattle.std.specs.List.{list_any}
 use Rattle.std.specs.Str.{bytes_eq}
 use Rattle.clap.specs.Words.{App, Row, Text, new_app, subcommand_of, with_rule, with_subcommand, fault_of}
@@ -10,15 +10,15 @@ use Rattle.dutch_order.specs.Cursors.{has_syntax}
 use Rattle.command_line.specs.declared.words.Task.{Task}
 use Rattle.command_line.specs.declared.words.Request.{Request}
 use Rattle.command_line.specs.declared.words.Request.TheVariants.{Check, Format, Pair, Candidates, Explain, Standings}
-use Rattle.command_line.specs.CommandLine.{bye_rule, candidates_app, explain_app, pair_app, points_rule, standings_app}
-use Rattle.command_line.specs.Options.{◌>>=◌, bye_in, candidates_options, explain_options, format_options, pair_options, standings_options}
+use Rattle.command_line.specs.CommandLine.{bye_rule, candidates_app, explain_app, notes_rule, pair_app, points_rule, standings_app}
+use Rattle.command_line.specs.Options.{◌>>=◌, bye_in, candidates_options, check_options, explain_options, format_options, pair_options, standings_options}
 use Rattle.command_line.specs.declared.words.Asked.{Asked}
 use Rattle.command_line.specs.declared.words.Asked.TheVariants.{Command, Help, Mistake, Refused}
 use Rattle.command_line.specs.declared.options.WordFault.{WordFault}
 
 -- `check`
 unfoldable pub check_app : App
-check_app = with_rule (new_app (codes "check")) bye_rule
+check_app = with_rule (with_rule (new_app (codes "check")) notes_rule) bye_rule
 
 -- `format`
 unfoldable pub format_app : App
@@ -76,7 +76,7 @@ standings_request rows = do
 -- the request that a command and its options make, or what is wrong with them; none where there is no such command
 abbrev pub request_of : Text → List Row → Option (Result Request WordFault)
 request_of name rows =
-    if bytes_eq name (codes "check") then Some (Ok Check)
+    if bytes_eq name (codes "check") then Some (Ok (Check (check_options rows)))
     else (if bytes_eq name (codes "format") then Some (Ok (Format (format_options rows)))
     else (if bytes_eq name (codes "pair") then Some (pair_request rows)
     else (if bytes_eq name (codes "candidates") then Some (candidates_request rows)
@@ -100,6 +100,11 @@ task_by = option_and_then (λ command. task_of command.0 command.1)
 abbrev pub asked_by : Result Task WordFault → Asked
 asked_by (Ok task) = Command task
 asked_by (Err fault) = Refused fault
+
+-- the words as clap reads them: `help` in front of some words stands for `--help` behind them
+abbrev pub meant : List Text → List Text
+meant [] = []
+meant (first ∷ rest) = if bytes_eq first (codes "help") then rest ++ codes "--help" ∷ [] else first ∷ rest
 
 -- an error of clap's that shows what was asked for: help, or the version
 abbrev pub is_shown : ErrorKind → Bool

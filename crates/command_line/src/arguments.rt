@@ -1,7 +1,7 @@
 // The options of the commands, as clap is told of them.
 ghost use Rattle.std.specs.Prelude.{◌≡◌, false};
 ghost use Rattle.clap.specs.Words.{rule_of};
-ghost use Rattle.command_line.specs.CommandLine.{bracket_rule, by_rule, bye_rule, count_rule, flag_rule, from_rule, initial_rule, instead_rule, names_rule};
+ghost use Rattle.command_line.specs.CommandLine.{bracket_rule, by_rule, bye_rule, count_rule, flag_rule, from_rule, initial_rule, instead_rule, names_rule, notes_rule};
 ghost use Rattle.command_line.specs.CommandLine.{option_rule, player_rule, points_rule, report_rule, rounds_rule, steps_rule};
 
 use clap::{Arg, ArgAction, value_parser};
@@ -137,6 +137,19 @@ pub fn report<'a>(alloc: Global) -> Arg<'a>
         alloc,
         "report",
         "Prints the report with the new round in place of the boards",
+    )
+}
+
+/// `--notes`.
+#[tactic(auto, unfolding(crate::specs::CommandLine::notes_rule))]
+pub fn notes<'a>(alloc: Global) -> Arg<'a>
+    ensures rule { rule_of result ≡ notes_rule }
+    ensures local { result.global ≡ false }
+{
+    flag(
+        alloc,
+        "notes",
+        "Prints a line too for each thing of an accepted report that looks like a mistake",
     )
 }
 

@@ -57,7 +57,7 @@ fn put_with_bye(
     Ok(())
 }
 
-/// Puts the brackets, in the order in which the round reaches them: all of them, or those of one seat and what of them is his.
+/// Puts the brackets, in the order in which the round reaches them: all of them, or those of one seat and what in them is that seat's own.
 pub fn put_stages(
     alloc: Global,
     text: &mut String,

@@ -69,7 +69,7 @@ fn of_field(
     }
 }
 
-// The same where nothing is wrong with the question.
+// The same if nothing is wrong with the question.
 fn of_round(
     alloc: Global,
     options: ExplainOptions,
@@ -133,7 +133,7 @@ fn tell_paired(
     }
 }
 
-// Puts what is told of a player: his line and his brackets, or that he is absent.
+// Puts what is told of a player: their line and their brackets, or that they are absent.
 fn put_about(
     alloc: Global,
     text: &mut String,
@@ -149,7 +149,7 @@ fn put_about(
     }
 }
 
-// Puts the line of a present player and his brackets.
+// Puts the line of a present player and their brackets.
 fn put_present(
     alloc: Global,
     text: &mut String,

@@ -5,13 +5,13 @@ ghost use Rattle.trf16.specs.Verdict.{verdict};
 ghost use Rattle.trf16.specs.Written.{written};
 ghost use Rattle.command_line.specs.Commands.{format_answer, format_verdict};
 ghost use Rattle.command_line.specs.Replies.{answer_of};
-ghost use Rattle.command_line.specs.Statuses.{done};
+ghost use Rattle.command_line.specs.Statuses.{report_answer};
 
 use crate::options::FormatOptions;
 use crate::refusal::refused;
 use crate::reply::{Reply, Status, Text};
 use std::alloc::{AllocError, Global};
-use trf16::{Counted, Failed, Fault, Report};
+use trf16::{Counted, Excess, Failed, Fault, MOST_BYTES, Report};
 
 /// What `format` says of the bytes of a report in which the pairing-allocated bye gives `bye` half points.
 pub fn format(
@@ -56,21 +56,32 @@ fn with_sums(alloc: Global, bytes: &[u8], bye: u16) -> Result<Reply, AllocError>
 
 // The same of a report that was read.
 fn with_its_sums(alloc: Global, report: &Report<'_>) -> Result<Reply, AllocError>
-    ensures { IfOk result (λ reply. answer_of reply ≡ done (written (summed report.now))) }
+    ensures { IfOk result (λ reply. answer_of reply ≡ report_answer (written (summed report.now))) }
 {
     rewritten(alloc, &report.summed(alloc)?)
 }
 
-/// A report in canonical columns, made whole before the first byte is written.
+/// A report in canonical columns, made whole before the first byte is written; or why that text is refused.
 pub fn rewritten(alloc: Global, report: &Report<'_>) -> Result<Reply, AllocError>
-    ensures { IfOk result (λ reply. answer_of reply ≡ done (written report.now)) }
+    ensures { IfOk result (λ reply. answer_of reply ≡ report_answer (written report.now)) }
 {
     let mut text = Counted::new(Vec::new(alloc));
     match trf16::write(report, &mut text) {
-        Ok(()) => Ok(Reply {
-            status: Status::Done,
-            text: Text::Bytes(text.into_inner()),
-        }),
+        Ok(()) => of_text(alloc, text.into_inner()),
         Err(Failed) => Err(AllocError),
     }
+}
+
+// The text of a report, or that it is longer than a report may be.
+#[tactic(auto, unfolding(crate::specs::Statuses::report_answer))]
+fn of_text(alloc: Global, text: Vec<u8>) -> Result<Reply, AllocError>
+    ensures { IfOk result (λ reply. answer_of reply ≡ report_answer text.items) }
+{
+    if MOST_BYTES < text.len() {
+        return refused(alloc, Fault::TooMany(Excess::Bytes));
+    }
+    Ok(Reply {
+        status: Status::Done,
+        text: Text::Bytes(text),
+    })
 }

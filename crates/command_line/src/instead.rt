@@ -23,7 +23,7 @@ use trf16::Report;
 /// Whom a player asks for instead.
 #[derive(Debug, Clone, Copy, PartialEq, Eq)]
 pub enum Rival {
-    /// Nobody: he asks for the bye.
+    /// Nobody: the player asks for the bye.
     Bye,
     /// The player of a seat.
     Seat(u16),
@@ -46,10 +46,10 @@ impl<'a> Model for Paired<'a> {
     ghost view = { λ r. record { sheet = r.report.now; facts = r.field.now; stages = r.stages.now; bye = r.bye.now } };
 }
 
-/// What is answered to a player, by his start rank, who asks for another one instead, or for the bye by 0: the first of these that stands
+/// What is answered to a player, by their start rank, who asks for another one instead, or for the bye by 0: the first of these that stands
 /// against it: one of the two is absent; C.1; a line `XXP`; C.3; for the bye C.2, or that nobody has it; then what is chosen in the first
-/// bracket behind which one of them does not stand, and the best of its candidates that would grant it, which is searched for in at most
-/// `steps` steps of their own.
+/// bracket behind which one of them does not stand, and the best of its candidates that would grant it. The search for that candidate
+/// may take at most `steps` steps of its own.
 ///
 /// # Errors
 /// Memory was refused.
@@ -81,7 +81,7 @@ pub fn instead(
     by_brackets(alloc, round.field, round.stages, asked)
 }
 
-// What is asked: by whom, by his seat, and for whom, and in how many steps a candidate may be searched for.
+// What is asked: by whom (a seat), for whom, and in how many steps a candidate may be searched for.
 #[derive(Clone, Copy)]
 struct Asked {
     // of who is asked for, as it is told
@@ -91,7 +91,7 @@ struct Asked {
     steps: u64,
 }
 
-// The bye for 0; else the seat of a start rank.
+// The bye for 0; otherwise the seat of a start rank.
 fn rival_of(field: &Field, number: u16) -> Option<Rival>
     ensures value { result ≡ rival_of field.now number }
     ensures within { IfSome result (IsRival field.now) }
@@ -174,7 +174,7 @@ fn goes_on(stages: &[Stage], rival: Rival) -> bool
     }
 }
 
-// The number of a seat among those of a bracket, from 1; 0 where it does not stand there.
+// The number of a seat among those of a bracket, from 1; 0 if it does not stand there.
 #[tactic(auto, using(crate::proofs::InsteadLemmas::passed, crate::proofs::InsteadLemmas::found, crate::proofs::InsteadLemmas::none))]
 fn number_among(seats: &[u16], seat: u16) -> u16
     requires { length seats.now ≤ LIMIT }
@@ -197,8 +197,8 @@ fn number_in(field: &Field, stage: &Stage, seat: u16) -> u16
     number_among(stage.reached().seats(), seat)
 }
 
-// What is wished in a bracket behind which one of the two does not stand: that they meet, where it is the last bracket of both; else that
-// the one who was paired in it is left over.
+// What is wished in a bracket behind which one of the two does not stand: that they meet, if it is the last bracket of both; otherwise
+// that the one who was paired in it is left over.
 fn wish_in(field: &Field, behind: &[Stage], stage: &Stage, asked: Asked) -> Wish
     requires { IsStage field.now stage.now }
     ensures { result ≡ wish_in behind.now stage.now asked.player asked.rival }
@@ -241,6 +241,7 @@ fn tell(alloc: Global, number: u16, stage: &Stage, found: &Instead) -> Result<Re
             in_bracket(alloc, number, stage, what.as_str())
         }
         Instead::NoneEligible => in_bracket(alloc, number, stage, "none C.4"),
+        Instead::FewerMovedDown => in_bracket(alloc, number, stage, "none B.1"),
         Instead::NoneLegal => in_bracket(alloc, number, stage, "none C.5"),
         Instead::Undecided { used } => undecided(alloc, stage.reached().number(), *used),
     }

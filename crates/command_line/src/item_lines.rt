@@ -115,7 +115,7 @@ fn put_psd(
     text.push_str("\n")
 }
 
-// Puts a list of differences, where there are some.
+// Puts a list of differences, if there are some.
 fn put_list(
     alloc: Global,
     text: &mut String,
@@ -204,7 +204,7 @@ fn put_many(alloc: Global, text: &mut String, item: Item, count: usize) -> Resul
     text.push_str(players.as_str())
 }
 
-// Puts a count, where it is not 0, and who counts.
+// Puts a count, if it is not 0, and who counts.
 #[tactic(auto, unfolding(crate::specs::ItemTexts::counted_text))]
 fn put_counted(
     alloc: Global,

@@ -29,7 +29,7 @@ impl Model for Keys {
 }
 
 impl Keys {
-    /// The keys where `--by` is left out: `direct,buchholz,sb`.
+    /// The keys if `--by` is left out: `direct,buchholz,sb`.
     pub fn usual() -> Keys
         ensures { result ≡ usual_keys }
     {

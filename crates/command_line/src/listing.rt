@@ -43,7 +43,7 @@ pub struct Listed {
     pub ending: Ending,
 }
 
-/// The lines of the next `count` candidates, or of fewer where none is left, or where all steps are used up before.
+/// The lines of the next `count` candidates, or of fewer if no more are left or all steps are used up before.
 #[tactic(auto, using(crate::proofs::ListingLemmas::underway_none, crate::proofs::ListingLemmas::underway_line, crate::proofs::ListingLemmas::underway_end, crate::proofs::ListingLemmas::underway_stopped, crate::proofs::ListingLemmas::underway_count))]
 pub fn lines<R: Rule>(
     alloc: Global,

@@ -16,7 +16,7 @@ pub enum Obstacle {
     Apart,
     /// Both have absolute preferences for one colour, and neither is a topscorer (C.3).
     Colours,
-    /// He may not have the bye (C.2).
+    /// The player may not have the bye (C.2).
     HadBye,
     /// Nobody has the bye.
     Even,
@@ -67,7 +67,7 @@ pub fn against_meeting(report: &Report<'_>, field: &Field, one: u16, other: u16)
     }
 }
 
-/// What stands first against the bye of a seat, where these have it: C.2, or that nobody has it.
+/// What stands first against the bye of a seat, if these have it: C.2, or that nobody has it.
 pub fn against_bye(field: &Field, bye: &[u16], seat: u16) -> Option<Obstacle>
     requires { seat < length field.now.seats }
     ensures { result ≡ against_bye field.now bye.now seat }

@@ -1,7 +1,7 @@
 // The options of the commands, from what clap makes of the words.
 ghost use Rattle.std.specs.Prelude.{◌≡◌, ℕ, List, Bool, option_map, codes, if◌then◌else◌};
 ghost use Rattle.clap.specs.Words.{first_of};
-ghost use Rattle.command_line.specs.Options.{bracket_in, bye_in, candidates_options, count_in, explain_options, flag_in, format_options, from_in, initial_in};
+ghost use Rattle.command_line.specs.Options.{bracket_in, bye_in, candidates_options, check_options, count_in, explain_options, flag_in, format_options, from_in, initial_in};
 ghost use Rattle.command_line.specs.Options.{instead_in, keys_by, pair_options, player_in, question_by, rounds_in, rows_in, shown_by, standings_options, steps_in};
 
 use crate::keys::{Keys, keys_in};
@@ -22,6 +22,13 @@ pub enum WordFault {
     NamesAndReport,
     /// `--instead` is there without `--player`.
     InsteadAlone,
+}
+
+/// What is asked of `check`.
+#[derive(Debug, Clone, Copy, PartialEq, Eq)]
+pub struct CheckOptions {
+    /// Whether it is told too what looks like a mistake.
+    pub notes: bool,
 }
 
 /// What is asked of `format`.
@@ -71,9 +78,9 @@ pub struct ExplainOptions {
 /// What is asked of one player.
 #[derive(Debug, Clone, Copy, PartialEq, Eq)]
 pub struct Question {
-    /// His start rank.
+    /// The player's start rank.
     pub player: u16,
-    /// The start rank of the one whom he might have met instead, or 0 for the bye.
+    /// The start rank of the one whom they might have met instead, or 0 for the bye.
     pub instead: Option<u16>,
 }
 
@@ -133,6 +140,15 @@ pub trait CursorSyntax {
     /// Whether a text is a cursor.
     fn is_cursor(text: &str) -> bool
         ensures { result ≡ is_cursor text.now };
+}
+
+/// The options of `check`.
+pub fn check_options(matches: &ArgMatches<'_>) -> CheckOptions
+    ensures { result ≡ check_options (rows_in matches.now) }
+{
+    CheckOptions {
+        notes: flag_in(matches, "notes"),
+    }
 }
 
 /// The options of `format`.
@@ -213,7 +229,7 @@ pub fn bye_in(matches: &ArgMatches<'_>) -> u16
         .unwrap_or(2)
 }
 
-// `--initial`: the colour of the higher-ranked of two players where nothing else decides and his start rank is odd (C.04.3 E.5).
+// `--initial`: the colour of the higher-ranked of two players if nothing else decides and that player's start rank is odd (C.04.3 E.5).
 fn initial_in(matches: &ArgMatches<'_>) -> Result<Option<Colour>, WordFault>
     ensures { result ≡ initial_in (rows_in matches.now) }
 {
@@ -281,7 +297,7 @@ fn player_in(matches: &ArgMatches<'_>) -> Option<u16>
     matches.get_one::<u16>("player")
 }
 
-// `--instead`: whom he might have met, 0 for the bye.
+// `--instead`: whom the player might have met, 0 for the bye.
 fn instead_in(matches: &ArgMatches<'_>) -> Option<u16>
     ensures { result ≡ instead_in (rows_in matches.now) }
 {

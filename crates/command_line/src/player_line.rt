@@ -1,4 +1,4 @@
-// The line of a player: what the next round finds of him.
+// The line of a player: what they bring to the next round.
 ghost use Rattle.std.specs.Prelude.{◌≡◌, ◌<◌, ◌++◌, IfOk, OnOk, codes, length, string_bytes};
 ghost use Rattle.std.specs.List.{flat_map};
 ghost use Rattle.std.specs.Fmt.{decimal};
@@ -13,9 +13,9 @@ use dutch_player::{Field, Float, Pref, Strength, colour_played};
 use std::alloc::{AllocError, Global};
 use trf16::{Colour, Report};
 
-/// Puts the line of a present player of a report: his score, the colours of his games round by round, what they come to (A.6), his
-/// floats in the last round and in the one before it (A.4), whom he has met (C.1), and whether he is a topscorer (A.7) and may have the
-/// bye (C.2).
+/// Puts the line of a present player of a report: their score, the colours of their games round by round, what these come to (A.6), their
+/// floats in the last round and in the one before it (A.4), whom they have met (C.1), and whether they are a topscorer (A.7) and may have
+/// the bye (C.2).
 ///
 /// # Errors
 /// Memory was refused.
@@ -37,7 +37,7 @@ pub fn put_player(
     put_rights(text, field, seat)
 }
 
-// Puts a player's score and his colours.
+// Puts a player's score and colours.
 #[tactic(auto, unfolding(crate::specs::PlayerTexts::history_text))]
 fn put_history(
     alloc: Global,
@@ -66,7 +66,7 @@ pub fn put_absent(alloc: Global, text: &mut String, start: u16) -> Result<(), Al
     text.push_str(line.as_str())
 }
 
-// Puts who a player is, and his score.
+// Puts who a player is, and their score.
 #[tactic(auto, unfolding(crate::specs::PlayerTexts::score_text))]
 fn put_score(alloc: Global, text: &mut String, field: &Field, seat: u16) -> Result<(), AllocError>
     requires { seat < length field.now.seats }
@@ -267,7 +267,7 @@ fn yes(holds: bool) -> &'static str
     if holds { "yes" } else { "no" }
 }
 
-// Puts whether a player is a topscorer, and whether he may have the bye.
+// Puts whether a player is a topscorer, and whether they may have the bye.
 #[tactic(auto, unfolding(crate::specs::PlayerTexts::rights_text))]
 fn put_rights(text: &mut String, field: &Field, seat: u16) -> Result<(), AllocError>
     requires { seat < length field.now.seats }

@@ -10,7 +10,7 @@ use trf16::Report;
 pub enum QuestionFault {
     /// No player of the report has this start rank.
     NotKnown { player: u16 },
-    /// This player is to be met by himself.
+    /// It is asked why this player does not meet themselves.
     NamedTwice { player: u16 },
 }
 

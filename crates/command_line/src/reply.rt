@@ -91,7 +91,7 @@ impl Reply {
         })
     }
 
-    /// Writes the text where the status says, and answers with which status the run ends: if
+    /// Writes the text where its status says, and answers with the status of the run: if
     /// standard output fails, that is told on standard error. A failure of standard error changes
     /// nothing.
     pub fn write<O: Sink, E: Sink>(&self, out: &mut O, err: &mut E) -> Status

@@ -8,6 +8,7 @@ ghost use Rattle.trf16.specs.Output.{use_of};
 ghost use Rattle.command_line.specs.Input.{most_read};
 ghost use Rattle.command_line.specs.Replies.{answer_of};
 ghost use Rattle.command_line.specs.Run.{IsAnswer, IsOutOfMemory, IsReplyTo, IsRun};
+ghost use Rattle.command_line.specs.Words.{meant};
 
 use crate::candidates::candidates;
 use crate::check::check;
@@ -18,7 +19,7 @@ use crate::pair::pair;
 use crate::reply::{Reply, Status, Text};
 use crate::standings::standings;
 use crate::texts;
-use crate::words::{Asked, Request, Task, read_words};
+use crate::words::{Asked, Request, Task, meant, read_words};
 use std::alloc::{AllocError, Global};
 use trf16::{Sink, Source};
 
@@ -38,7 +39,19 @@ pub fn run<'a, R: Source, O: Sink, E: Sink>(
         (use_of O.held O.failures out.old out.new)
         (use_of E.held E.failures err.old err.new) result }
 {
-    reply_to(alloc, words, reader).write(out, err)
+    reply(alloc, words, reader).write(out, err)
+}
+
+// What is answered to the words, as they are meant, and to what the source gives.
+fn reply<'a, R: Source>(alloc: Global, words: &'a [&'a str], reader: &mut R) -> Reply
+    ensures answers { IsAnswer (meant (map (λ word. word.now) words.now))
+        (reading_of R.left R.failures R.calls reader.old reader.new) (answer_of result) }
+    ensures bounded { R.calls reader.new ≤ R.calls reader.old + most_read }
+{
+    match meant(alloc, words) {
+        Ok(all) => reply_to(alloc, all.as_slice(), reader),
+        Err(AllocError) => out_of_memory(),
+    }
 }
 
 // What is answered to the words and to what the source gives.
@@ -92,7 +105,7 @@ fn answer(alloc: Global, task: Task<'_>, input: &[u8]) -> Result<Reply, AllocErr
 {
     let Task { request, bye } = task;
     match request {
-        Request::Check => check(alloc, input, bye),
+        Request::Check(options) => check(alloc, options, input, bye),
         Request::Format(options) => format(alloc, options, input, bye),
         Request::Candidates(options) => candidates(alloc, &options, input, bye),
         Request::Explain(options) => explain(alloc, options, input, bye),

@@ -118,7 +118,7 @@ fn put_values(
     Ok(())
 }
 
-/// The value of a key; a dash where it tells nothing.
+/// The value of a key; a dash if it tells nothing.
 pub fn value_of(alloc: Global, key: Key, value: Option<u32>) -> Result<String, AllocError>
     ensures { IfOk result (λ text. string_bytes text ≡ value_text key value) }
 {

@@ -31,13 +31,13 @@ impl Model for Label {
 
 impl Label {
     /// A text at the left of its column.
-    pub fn left(alloc: Global, text: &[u8]) -> Result<Label, AllocError>
-        ensures { IfOk result (λ label. label ≡ left text.now) }
+    pub fn left(text: Vec<u8>) -> Label
+        ensures { result ≡ left text.items }
     {
-        Ok(Label {
+        Label {
             side: Side::Left,
-            text: Vec::from_slice(alloc, text)?,
-        })
+            text,
+        }
     }
 
     /// A text at the right of its column.

@@ -49,7 +49,7 @@ fn count(alloc: Global, count: usize) -> Result<String, AllocError>
     format!(in alloc; "{count}")
 }
 
-// The pairs of the next bracket; where the other quality has as many, their PSD.
+// The pairs of the next bracket; if the other quality has as many, their PSD.
 fn next(alloc: Global, mine: &Quality, theirs: &Quality) -> Result<String, AllocError>
     ensures { IfOk result (λ text. string_bytes text ≡ next_text (quality_in mine.now) (quality_in theirs.now)) }
 {

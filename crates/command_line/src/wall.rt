@@ -5,6 +5,7 @@ ghost use Rattle.command_line.specs.Statuses.{done};
 ghost use Rattle.command_line.specs.Tables.{left, right};
 ghost use Rattle.command_line.specs.WallTexts.{board_labels, boards_labels, named_boards_text, named_rows_text, opponent_labels, paired_labels, player_labels, row_labels, rows_labels, shown, values_labels};
 
+use crate::controls::without_controls;
 use crate::reply::{Reply, Status, Text};
 use crate::standings::value_of;
 use crate::table::{Label, Line, table};
@@ -28,7 +29,7 @@ pub fn boards(alloc: Global, report: &Report<'_>, boards: &[Board]) -> Result<Re
     })
 }
 
-/// The standings with names: for each player his place, name, score and the values of the keys.
+/// The standings with names: for each player the place, name, score and the values of the keys.
 pub fn standings(
     alloc: Global,
     report: &Report<'_>,
@@ -74,7 +75,7 @@ fn push_text(line: &mut Line, text: Result<String, AllocError>) -> Result<(), Al
     line.push(Label::right(text?))
 }
 
-// Puts who meets white: black, or where black is 0 that white has the bye.
+// Puts who meets white: black, or if black is 0, that white has the bye.
 fn push_opponent(
     alloc: Global,
     line: &mut Line,
@@ -89,7 +90,7 @@ fn push_opponent(
     push_paired(alloc, line, report, black)
 }
 
-// Puts a player of the next round, with his score so far.
+// Puts a player of the next round, with the score so far.
 fn push_paired(
     alloc: Global,
     line: &mut Line,
@@ -102,7 +103,7 @@ fn push_paired(
     push_player(alloc, line, report, start, score)
 }
 
-// Puts a player: his start rank, his name, or a dash where it is blank, and his score.
+// Puts a player: start rank, name and score.
 #[tactic(auto, unfolding(crate::specs::WallTexts::player_labels))]
 fn push_player(
     alloc: Global,
@@ -113,17 +114,20 @@ fn push_player(
 ) -> Result<(), AllocError>
     ensures { OnOk result (line.new ≡ line.old ++ player_labels report.now start score) }
 {
-    let name = shown(report.name(start));
+    let name = shown(alloc, report.name(start))?;
     push_text(line, format!(in alloc; "{start}"))?;
-    line.push(Label::left(alloc, name)?)?;
+    line.push(Label::left(name))?;
     push_text(line, halves(alloc, u32::from(score)))
 }
 
-// A name, or a dash where it is blank.
-fn shown(name: &[u8]) -> &[u8]
-    ensures { result.now ≡ shown name.now }
+// A name with a question mark in place of each control character, or a dash where it is blank.
+fn shown(alloc: Global, name: &[u8]) -> Result<Vec<u8>, AllocError>
+    ensures { IfOk result (λ text. text.items ≡ shown name.now) }
 {
-    if name.is_empty() { b"-" } else { name }
+    if name.is_empty() {
+        return Vec::from_slice(alloc, b"-");
+    }
+    without_controls(alloc, name)
 }
 
 // A row of the standings: place, player, and the values of the keys.

@@ -1,11 +1,11 @@
 // The words of the command line: which command they ask for, or what help or refusal they get.
-ghost use Rattle.std.specs.Prelude.{◌≡◌, IfOk, map, false, codes};
+ghost use Rattle.std.specs.Prelude.{◌≡◌, ◌++◌, ◌∷◌, [], IfOk, map, false, codes};
 ghost use Rattle.clap.specs.declared.Command.{out-Command as fields_of};
 ghost use Rattle.clap.specs.Words.{App, app_of, kind_of, new_app, subcommand_rows_of, with_subcommand};
 ghost use Rattle.dutch_order.specs.Cursors.{has_syntax};
 ghost use Rattle.command_line.specs.CommandLine.{IsSeenAs};
 ghost use Rattle.command_line.specs.Options.{rows_in};
-ghost use Rattle.command_line.specs.Words.{ComesTo, FitsKind, asked_by, candidates_request, explain_request, pair_request, request_of, standings_request, task_by, task_of, with_bye, with_engine, with_next_round};
+ghost use Rattle.command_line.specs.Words.{ComesTo, FitsKind, asked_by, candidates_request, explain_request, meant, pair_request, request_of, standings_request, task_by, task_of, with_bye, with_engine, with_next_round};
 ghost use Rattle.command_line.specs.Words.{arbiter_app, check_app, format_app, settled, versioned};
 
 use crate::arguments;
@@ -14,9 +14,9 @@ use crate::commands::{
     with_option, with_worth,
 };
 use crate::options::{
-    CandidatesOptions, CursorSyntax, ExplainOptions, FormatOptions, PairOptions, StandingsOptions,
-    WordFault, bye_in, candidates_options, explain_options, format_options, pair_options,
-    standings_options,
+    CandidatesOptions, CheckOptions, CursorSyntax, ExplainOptions, FormatOptions, PairOptions,
+    StandingsOptions, WordFault, bye_in, candidates_options, check_options, explain_options,
+    format_options, pair_options, standings_options,
 };
 use clap::error::ErrorKind;
 use clap::{ArgMatches, Command, Error};
@@ -27,7 +27,7 @@ use std::alloc::{AllocError, Global};
 #[derive(Debug, Drop)]
 pub enum Request<'a> {
     /// Tells whether a report is accepted.
-    Check,
+    Check(CheckOptions),
     /// Writes a report in canonical columns.
     Format(FormatOptions),
     /// Pairs the next round.
@@ -62,6 +62,31 @@ pub enum Asked<'a> {
     Refused(WordFault),
 }
 
+/// The words as `read_words` reads them: `help` in front of some words stands for `--help` behind them.
+///
+/// # Errors
+/// Memory was refused.
+pub fn meant<'a>(alloc: Global, words: &'a [&'a str]) -> Result<Vec<&'a str>, AllocError>
+    ensures { IfOk result (λ all. map (λ word. word.now) all.items ≡ meant (map (λ word. word.now) words.now)) }
+{
+    let Some((first, rest)) = words.split_first() else {
+        return Ok(Vec::new(alloc));
+    };
+    match *first {
+        "help" => with_help(alloc, rest),
+        _ => Vec::from_slice(alloc, words),
+    }
+}
+
+// Some words with `--help` behind them.
+fn with_help<'a>(alloc: Global, words: &'a [&'a str]) -> Result<Vec<&'a str>, AllocError>
+    ensures { IfOk result (λ all. map (λ word. word.now) all.items ≡ map (λ word. word.now) words.now ++ codes "--help" ∷ []) }
+{
+    let mut all = Vec::from_slice(alloc, words)?;
+    all.push("--help")?;
+    Ok(all)
+}
+
 /// Reads the words after the program's name.
 pub fn read_words<'a>(alloc: Global, words: &'a [&'a str]) -> Result<Asked<'a>, AllocError>
     ensures { IfOk result (ComesTo (map (λ word. word.now) words.now)) }
@@ -87,7 +112,7 @@ fn task_in<'a>(matches: &ArgMatches<'a>) -> Option<Result<Task<'a>, WordFault>>
     }
 }
 
-// The task that a command and its options make, or what is wrong with them; none where there is no such command.
+// The task that a command and its options make, or what is wrong with them; none if there is no such command.
 fn task_of<'a>(name: &str, options: &ArgMatches<'a>) -> Option<Result<Task<'a>, WordFault>>
     ensures { result ≡ task_of name.now (rows_in options.now) }
 {
@@ -107,12 +132,12 @@ fn with_bye<'a>(bye: u16, request: Result<Request<'a>, WordFault>) -> Result<Tas
     }
 }
 
-// The request that a command and its options make, or what is wrong with them; none where there is no such command.
+// The request that a command and its options make, or what is wrong with them; none if there is no such command.
 fn request_of<'a>(name: &str, options: &ArgMatches<'a>) -> Option<Result<Request<'a>, WordFault>>
     ensures { result ≡ request_of name.now (rows_in options.now) }
 {
     match name {
-        "check" => Some(Ok(Request::Check)),
+        "check" => Some(Ok(Request::Check(check_options(options)))),
         "format" => Some(Ok(Request::Format(format_options(options)))),
         "pair" => Some(pair_request(options)),
         "candidates" => Some(candidates_request(options)),
@@ -259,7 +284,8 @@ fn check_command<'a>(alloc: Global) -> Result<Command<'a>, AllocError>
         "Tells how many players and rounds the report has, or why it is refused",
         "The report is read from standard input. Printed are the numbers of its players and of the rounds that were paired; why it is refused goes to standard error.\n\nExample: arbiter check < report.trf",
     );
-    with_worth(alloc, Ok(command))
+    let command = with_option(Ok(command), arguments::notes(alloc));
+    with_worth(alloc, command)
 }
 
 // The command `format`.

@@ -5,10 +5,9 @@ use Rattle.std.proofs.lemmas.List.Elements.{filter-append}
 use Rattle.std.proofs.lemmas.Bool.{cases_Bool, true≢false, and_from, and_left}
 use Rattle.dutch_order.specs.declared.bracket.Shape.{Shape}
 use Rattle.dutch_order.specs.Choices.{tuples, subsets, all_meet, is_same, from_on, numbers_from}
-use Rattle.dutch_order.specs.Keys.{IsIn, sorted}
-use Rattle.dutch_order.specs.Transposition.{tuple_key}
-use Rattle.dutch_order.specs.Exchange.{exchanges, exchange_key}
-use Rattle.dutch_order.specs.Limbo.{limbo_exchanges, limbo_key}
+use Rattle.dutch_order.specs.Keys.{IsIn, sorted, lower_first}
+use Rattle.dutch_order.specs.Exchange.{exchanges, exchange_cmp}
+use Rattle.dutch_order.specs.Limbo.{limbo_exchanges, limbo_cmp}
 use Rattle.dutch_order.specs.Arrangements.{Frame, Arrangement, residents_of, moved_down_scores, left_of, remainder_pairs, with_s2r, with_s1r, with_s2, arrangements, is_same_arrangement, behind, rest, is_legal, candidates}
 use Rattle.dutch_order.specs.Listings.{AreCandidates, candidates_from}
 use Rattle.dutch_order.specs.Levels.{joined, arranged, without_own, blocks_from, in_s1r, s1r_blocks, in_s2, s2_blocks, in_s1, s1_blocks, in_bracket, pairs_meet, may_leave, HasS2, Of}
@@ -174,50 +173,50 @@ module _ (frame : Frame) (shape : Shape) where
   -- the lists of a block's arrangements are those that were chosen
   pub chosen-s1r : (s1 s2 s1r : List ℕ) (b : Arrangement) → IsIn b (with_s2r frame shape s1 s2 s1r) → b.s1r ≡ s1r
   chosen-s1r s1 s2 s1r b m =
-      ap (λ c. c.s1r) (IsIn-map (arranged s1 s2 s1r) b (sorted tuple_key (tuples (left_of (left_of (residents_of frame) s2) s1r) (remainder_pairs shape))) m).1
+      ap (λ c. c.s1r) (IsIn-map (arranged s1 s2 s1r) b (sorted lower_first (tuples (left_of (left_of (residents_of frame) s2) s1r) (remainder_pairs shape))) m).1
 
   pub chosen-s2 : (s1 s2 : List ℕ) (b : Arrangement) → IsIn b (with_s1r frame shape s1 s2) → b.s2 ≡ s2
   chosen-s2 s1 s2 b m =
       let by = IsIn-flat_map (with_s2r frame shape s1 s2) b (exchanges (left_of (residents_of frame) s2) (remainder_pairs shape)) m in
-      ap (λ c. c.s2) (IsIn-map (arranged s1 s2 by.0) b (sorted tuple_key (tuples (left_of (left_of (residents_of frame) s2) by.0) (remainder_pairs shape))) by.2).1
+      ap (λ c. c.s2) (IsIn-map (arranged s1 s2 by.0) b (sorted lower_first (tuples (left_of (left_of (residents_of frame) s2) by.0) (remainder_pairs shape))) by.2).1
 
   pub chosen-s1 : (s1 : List ℕ) (b : Arrangement) → IsIn b (with_s2 frame shape s1) → b.s1 ≡ s1
   chosen-s1 s1 b m =
-      let by = IsIn-flat_map (with_s1r frame shape s1) b (sorted tuple_key (tuples (residents_of frame) shape.mdps)) m in
+      let by = IsIn-flat_map (with_s1r frame shape s1) b (sorted lower_first (tuples (residents_of frame) shape.mdps)) m in
       let by' = IsIn-flat_map (with_s2r frame shape s1 by.0) b (exchanges (left_of (residents_of frame) by.0) (remainder_pairs shape)) by.2 in
-      ap (λ c. c.s1) (IsIn-map (arranged s1 by.0 by'.0) b (sorted tuple_key (tuples (left_of (left_of (residents_of frame) by.0) by'.0) (remainder_pairs shape))) by'.2).1
+      ap (λ c. c.s1) (IsIn-map (arranged s1 by.0 by'.0) b (sorted lower_first (tuples (left_of (left_of (residents_of frame) by.0) by'.0) (remainder_pairs shape))) by'.2).1
 
   -- where an arrangement stands
   pub record Standing (a : Arrangement) : Type 0 where
     pub has_s1 : IsIn a.s1 (limbo_exchanges (moved_down_scores frame) shape.mdps)
     pub under_s1 : IsIn a (with_s2 frame shape a.s1)
-    pub has_s2 : IsIn a.s2 (sorted tuple_key (tuples (residents_of frame) shape.mdps))
+    pub has_s2 : IsIn a.s2 (sorted lower_first (tuples (residents_of frame) shape.mdps))
     pub under_s2 : IsIn a (with_s1r frame shape a.s1 a.s2)
     pub has_s1r : IsIn a.s1r (exchanges (left_of (residents_of frame) a.s2) (remainder_pairs shape))
     pub under_s1r : IsIn a (with_s2r frame shape a.s1 a.s2 a.s1r)
-    pub has_s2r : IsIn a.s2r (sorted tuple_key (tuples (left_of (left_of (residents_of frame) a.s2) a.s1r) (remainder_pairs shape)))
+    pub has_s2r : IsIn a.s2r (sorted lower_first (tuples (left_of (left_of (residents_of frame) a.s2) a.s1r) (remainder_pairs shape)))
 
   pub stands : (a : Arrangement) → IsIn a (arrangements frame shape) → Standing a
   stands a m =
       let by1 = IsIn-flat_map (with_s2 frame shape) a (limbo_exchanges (moved_down_scores frame) shape.mdps) m in
       let e1 : by1.0 ≡ a.s1 = sym (chosen-s1 by1.0 a by1.2) in
       let under1 : IsIn a (with_s2 frame shape a.s1) = subst (λ s. IsIn a (with_s2 frame shape s)) e1 by1.2 in
-      let by2 = IsIn-flat_map (with_s1r frame shape a.s1) a (sorted tuple_key (tuples (residents_of frame) shape.mdps)) under1 in
+      let by2 = IsIn-flat_map (with_s1r frame shape a.s1) a (sorted lower_first (tuples (residents_of frame) shape.mdps)) under1 in
       let e2 : by2.0 ≡ a.s2 = sym (chosen-s2 a.s1 by2.0 a by2.2) in
       let under2 : IsIn a (with_s1r frame shape a.s1 a.s2) = subst (λ s. IsIn a (with_s1r frame shape a.s1 s)) e2 by2.2 in
       let by3 = IsIn-flat_map (with_s2r frame shape a.s1 a.s2) a (exchanges (left_of (residents_of frame) a.s2) (remainder_pairs shape)) under2 in
       let e3 : by3.0 ≡ a.s1r = sym (chosen-s1r a.s1 a.s2 by3.0 a by3.2) in
       let under3 : IsIn a (with_s2r frame shape a.s1 a.s2 a.s1r) = subst (λ s. IsIn a (with_s2r frame shape a.s1 a.s2 s)) e3 by3.2 in
-      let by4 = IsIn-map (arranged a.s1 a.s2 a.s1r) a (sorted tuple_key (tuples (left_of (left_of (residents_of frame) a.s2) a.s1r) (remainder_pairs shape))) under3 in
+      let by4 = IsIn-map (arranged a.s1 a.s2 a.s1r) a (sorted lower_first (tuples (left_of (left_of (residents_of frame) a.s2) a.s1r) (remainder_pairs shape))) under3 in
       let e4 : by4.0 ≡ a.s2r = sym (ap (λ c. c.s2r) by4.1) in
       record {
         has_s1 = subst (λ s. IsIn s (limbo_exchanges (moved_down_scores frame) shape.mdps)) e1 by1.1;
         under_s1 = under1;
-        has_s2 = subst (λ s. IsIn s (sorted tuple_key (tuples (residents_of frame) shape.mdps))) e2 by2.1;
+        has_s2 = subst (λ s. IsIn s (sorted lower_first (tuples (residents_of frame) shape.mdps))) e2 by2.1;
         under_s2 = under2;
         has_s1r = subst (λ s. IsIn s (exchanges (left_of (residents_of frame) a.s2) (remainder_pairs shape))) e3 by3.1;
         under_s1r = under3;
-        has_s2r = subst (λ s. IsIn s (sorted tuple_key (tuples (left_of (left_of (residents_of frame) a.s2) a.s1r) (remainder_pairs shape)))) e4 by4.2;
+        has_s2r = subst (λ s. IsIn s (sorted lower_first (tuples (left_of (left_of (residents_of frame) a.s2) a.s1r) (remainder_pairs shape)))) e4 by4.2;
       }
 
   module _ (meets : ℕ → ℕ → Bool) (a : Arrangement) (standing : Standing a) where
@@ -233,9 +232,9 @@ module _ (frame : Frame) (shape : Shape) where
     s2r-behind met =
         let pool = left_of (left_of (residents_of frame) a.s2) a.s1r in
         let arr : List ℕ → Arrangement = arranged a.s1 a.s2 a.s1r in
-        let lists : List (List ℕ) = sorted tuple_key (tuples pool (remainder_pairs shape)) in
+        let lists : List (List ℕ) = sorted lower_first (tuples pool (remainder_pairs shape)) in
         let split = behind-map arr a a.s2r lists s2r-same standing.has_s2r in
-        ap (λ k. map arr (without_own (Some a) (filter (all_meet meets a.s1r) (from_on a.s2r (sorted tuple_key (tuples pool k)))))) (exchange-length meets frame shape a.s2 a.s1r standing.has_s1r)
+        ap (λ k. map arr (without_own (Some a) (filter (all_meet meets a.s1r) (from_on a.s2r (sorted lower_first (tuples pool k)))))) (exchange-length meets frame shape a.s2 a.s1r standing.has_s1r)
         ∙ ap (λ from. map arr (without_own (Some a) (filter (all_meet meets a.s1r) from))) split.1
         ∙ ap (map arr) (own-dropped (all_meet meets a.s1r) a split.0)
         ∙ ap (map arr)
@@ -303,10 +302,10 @@ module _ (frame : Frame) (shape : Shape) where
     s2-behind : in_s1 meets (remainder_pairs shape) (residents_of frame) (Some a) a.s1 ≡ filter (pairs_meet meets) (behind a (with_s2 frame shape a.s1))
     unfolding in_s1
     s2-behind =
-        let lists : List (List ℕ) = sorted tuple_key (tuples (residents_of frame) shape.mdps) in
+        let lists : List (List ℕ) = sorted lower_first (tuples (residents_of frame) shape.mdps) in
         let block = with_s1r frame shape a.s1 in
         let split = behind-flat_map block a a.s2 lists s2-apart standing.under_s2 standing.has_s2 in
-        ap (λ m. joined (s2_blocks meets (remainder_pairs shape) a.s1 (residents_of frame) (Some a) (filter (all_meet meets a.s1) (from_on a.s2 (sorted tuple_key (tuples (residents_of frame) m))))))
+        ap (λ m. joined (s2_blocks meets (remainder_pairs shape) a.s1 (residents_of frame) (Some a) (filter (all_meet meets a.s1) (from_on a.s2 (sorted lower_first (tuples (residents_of frame) m))))))
         (limbo-length meets frame shape a.s1 standing.has_s1)
         ∙ ap (λ from. joined (s2_blocks meets (remainder_pairs shape) a.s1 (residents_of frame) (Some a) (filter (all_meet meets a.s1) from))) split.1
         ∙ s2-front split.0
@@ -345,17 +344,17 @@ module _ (frame : Frame) (shape : Shape) where
     -- the cursor's lists are choices of the levels
     pub has-s1 : IsIn a.s1 (subsets (numbers_from 1 (length (moved_down_scores frame))) shape.mdps)
     has-s1 =
-        sorted-in (limbo_key (moved_down_scores frame)) a.s1 (subsets (numbers_from 1 (length (moved_down_scores frame))) shape.mdps) standing.has_s1
+        sorted-in (limbo_cmp (moved_down_scores frame)) a.s1 (subsets (numbers_from 1 (length (moved_down_scores frame))) shape.mdps) standing.has_s1
 
     pub has-s2 : HasS2 (remainder_pairs shape) (residents_of frame) a
     has-s2 =
         let rem = left_of (residents_of frame) a.s2 in
         let pool = left_of rem a.s1r in
-        let in_s2 : IsIn a.s2 (tuples (residents_of frame) shape.mdps) = sorted-in tuple_key a.s2 (tuples (residents_of frame) shape.mdps) standing.has_s2 in
-        let in_s2r : IsIn a.s2r (tuples pool (remainder_pairs shape)) = sorted-in tuple_key a.s2r (tuples pool (remainder_pairs shape)) standing.has_s2r in (
+        let in_s2 : IsIn a.s2 (tuples (residents_of frame) shape.mdps) = sorted-in lower_first a.s2 (tuples (residents_of frame) shape.mdps) standing.has_s2 in
+        let in_s2r : IsIn a.s2r (tuples pool (remainder_pairs shape)) = sorted-in lower_first a.s2r (tuples pool (remainder_pairs shape)) standing.has_s2r in (
           subst (λ n. IsIn a.s2 (tuples (residents_of frame) n)) (sym (limbo-length meets frame shape a.s1 standing.has_s1)) in_s2,
           (
-            sorted-in (exchange_key rem (remainder_pairs shape)) a.s1r (subsets rem (remainder_pairs shape)) standing.has_s1r,
+            sorted-in (exchange_cmp rem (remainder_pairs shape)) a.s1r (subsets rem (remainder_pairs shape)) standing.has_s1r,
             subst (λ n. IsIn a.s2r (tuples pool n)) (sym (exchange-length meets frame shape a.s2 a.s1r standing.has_s1r)) in_s2r,
           ),
         )

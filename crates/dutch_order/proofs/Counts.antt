@@ -4,9 +4,9 @@ use Rattle.std.specs.List.{filter, AllByRecursion}
 use Rattle.std.specs.List.Sorted.{IsStrictlyIncreasing}
 use Rattle.std.proofs.lemmas.Bool.{eqb-true, ne_eqb, cases_Bool}
 use Rattle.dutch_order.specs.Choices.{subsets, tuples, is_member, is_same, without, all_meet, from_on, numbers_from}
-use Rattle.dutch_order.specs.Keys.{IsIn, sorted}
-use Rattle.dutch_order.specs.Transposition.{tuple_key, transpositions}
-use Rattle.dutch_order.specs.Limbo.{limbo_exchanges, limbo_key}
+use Rattle.dutch_order.specs.Keys.{IsIn, sorted, lower_first}
+use Rattle.dutch_order.specs.Transposition.{transpositions}
+use Rattle.dutch_order.specs.Limbo.{limbo_exchanges, limbo_cmp}
 use Rattle.dutch_order.specs.Arrangements.{left_of}
 use Rattle.dutch_order.proofs.Orders.{all_members, IsIn-append, IsIn-map, IsIn-flat_map, Rises, Rises-from}
 use Rattle.dutch_order.proofs.Sets.{sorted-in}
@@ -95,21 +95,21 @@ from_on-all P c (x ∷ xs) all =
     ]
 
 -- opponents of S1 leave residents enough for the remainder
-tuples-leave : (s1 residents : List ℕ) (k : ℕ) → IsStrictlyIncreasing residents → length s1 + k ≤ length residents → AllByRecursion (λ s2. k ≤ length (left_of residents s2)) (sorted tuple_key (tuples residents (length s1)))
+tuples-leave : (s1 residents : List ℕ) (k : ℕ) → IsStrictlyIncreasing residents → length s1 + k ≤ length residents → AllByRecursion (λ s2. k ≤ length (left_of residents s2)) (sorted lower_first (tuples residents (length s1)))
 tuples-leave s1 residents k rises enough =
-    all_members (λ s2. k ≤ length (left_of residents s2)) (sorted tuple_key (tuples residents (length s1)))
+    all_members (λ s2. k ≤ length (left_of residents s2)) (sorted lower_first (tuples residents (length s1)))
     (λ s2 m.
-    omega (arith, enough, tuples-length residents (length s1) s2 (sorted-in tuple_key s2 (tuples residents (length s1)) m), left-length residents s2 rises))
+    omega (arith, enough, tuples-length residents (length s1) s2 (sorted-in lower_first s2 (tuples residents (length s1)) m), left-length residents s2 rises))
 
 pub opponents-leave : (meets : ℕ → ℕ → Bool) (s1 residents : List ℕ) (k : ℕ) → IsStrictlyIncreasing residents → length s1 + k ≤ length residents → AllByRecursion (λ s2. k ≤ length (left_of residents s2)) (transpositions meets s1 residents)
 opponents-leave meets s1 residents k rises enough =
-    all-filter (λ s2. k ≤ length (left_of residents s2)) (all_meet meets s1) (sorted tuple_key (tuples residents (length s1)))
+    all-filter (λ s2. k ≤ length (left_of residents s2)) (all_meet meets s1) (sorted lower_first (tuples residents (length s1)))
     (tuples-leave s1 residents k rises enough)
 
-pub opponents-leave-from : (meets : ℕ → ℕ → Bool) (s1 residents s2 : List ℕ) (k : ℕ) → IsStrictlyIncreasing residents → length s1 + k ≤ length residents → AllByRecursion (λ s2. k ≤ length (left_of residents s2)) (filter (all_meet meets s1) (from_on s2 (sorted tuple_key (tuples residents (length s1)))))
+pub opponents-leave-from : (meets : ℕ → ℕ → Bool) (s1 residents s2 : List ℕ) (k : ℕ) → IsStrictlyIncreasing residents → length s1 + k ≤ length residents → AllByRecursion (λ s2. k ≤ length (left_of residents s2)) (filter (all_meet meets s1) (from_on s2 (sorted lower_first (tuples residents (length s1)))))
 opponents-leave-from meets s1 residents s2 k rises enough =
-    all-filter (λ s2. k ≤ length (left_of residents s2)) (all_meet meets s1) (from_on s2 (sorted tuple_key (tuples residents (length s1))))
-    (from_on-all (λ s2. k ≤ length (left_of residents s2)) s2 (sorted tuple_key (tuples residents (length s1)))
+    all-filter (λ s2. k ≤ length (left_of residents s2)) (all_meet meets s1) (from_on s2 (sorted lower_first (tuples residents (length s1))))
+    (from_on-all (λ s2. k ≤ length (left_of residents s2)) s2 (sorted lower_first (tuples residents (length s1)))
     (tuples-leave s1 residents k rises enough))
 
 -- a set of moved-down players has as many as are wanted
@@ -117,7 +117,7 @@ pub sets-fit : (scores : List ℕ) (mdps k room : ℕ) → mdps + k ≤ room →
 sets-fit scores mdps k room enough =
     all_members (λ s1. length s1 + k ≤ room) (limbo_exchanges scores mdps)
     (λ s1 m.
-    omega (arith, enough, subsets-length (numbers_from 1 (length scores)) mdps s1 (sorted-in (limbo_key scores) s1 (subsets (numbers_from 1 (length scores)) mdps) m)))
+    omega (arith, enough, subsets-length (numbers_from 1 (length scores)) mdps s1 (sorted-in (limbo_cmp scores) s1 (subsets (numbers_from 1 (length scores)) mdps) m)))
 
 -- numbers one after another rise
 numbers-read : (first count i : ℕ) → i < count → slice_index (numbers_from first count) i ≡ first + i

@@ -10,14 +10,15 @@ use Rattle.std.proofs.lemmas.Simd.{map-map}
 use Rattle.std.proofs.lemmas.Bool.{cases_order, eq-eqb, ne_eqb, or_from, or_left, or_right}
 use Rattle.dutch_order.specs.declared.exchange.Side.TheVariants.{Out, In}
 use Rattle.dutch_order.specs.Choices.{is_member, subsets, numbers_from}
-use Rattle.dutch_order.specs.Keys.{IsIn, higher_first}
-use Rattle.dutch_order.specs.Exchange.{moved_out, moved_in, exchange_key, sum_of}
+use Rattle.dutch_order.specs.Keys.{IsIn}
+use Rattle.dutch_order.specs.Exchange.{moved_out, moved_in, sum_of}
 use Rattle.dutch_order.specs.Stages.{total, value_of, kept_of, out_places, in_places}
 use Rattle.dutch_order.proofs.Lists.{map-numbers_from}
 use Rattle.dutch_order.proofs.HalfWalks.{Climbs}
 use Rattle.dutch_order.proofs.Orders.{IsIn-map, map-IsIn}
 use Rattle.dutch_order.proofs.Sets.{Climbs-lower, subsets-climb, climbs-subset, subsets-map}
 use Rattle.dutch_order.proofs.Members.{member-none, member-filter, filter-climbs, filter-numbers, climbs-filter, filter-length, length-numbers, numbers-append, numbers-shift, filter-map, mirror-filter}
+use Rattle.dutch_order.proofs.ByKeys.{turned, exchange_key}
 
 pub Climbs-append : (low middle bound : ℕ) (xs ys : List ℕ) → low ≤ middle → middle ≤ bound → Climbs low middle xs → Climbs middle bound ys → Climbs low bound (xs ++ ys)
 Climbs-append low middle bound [] ys h h' p q = Climbs-lower low middle bound ys h q
@@ -208,15 +209,15 @@ module _ (pool : List ℕ) (k : ℕ) (rises : IsStrictlyIncreasing pool) (enough
         ∙ map-map v (λ place. k + place) ins
 
     -- the key of an exchange's set
-    pub exchange_key-is : exchange_key pool k set ≡ length outs ∷ (total (value_of pool k In) ins - total (value_of pool k Out) outs) ∷ (map higher_first (map (value_of pool k Out) outs) ++ map (value_of pool k In) ins)
+    pub exchange_key-is : exchange_key pool k set ≡ length outs ∷ (total (value_of pool k In) ins - total (value_of pool k Out) outs) ∷ (map turned (map (value_of pool k Out) outs) ++ map (value_of pool k In) ins)
     exchange_key-is =
         let out : List ℕ = map (value_of pool k Out) outs in
-        ap (λ a. length a ∷ (sum_of (moved_in pool k set) - sum_of a) ∷ (map higher_first (reverse a) ++ moved_in pool k set)) moved_out-is
-        ∙ ap (λ b. length (reverse out) ∷ (sum_of b - sum_of (reverse out)) ∷ (map higher_first (reverse (reverse out)) ++ b)) moved_in-is
-        ∙ ap (λ n. n ∷ (sum_of (map (value_of pool k In) ins) - sum_of (reverse out)) ∷ (map higher_first (reverse (reverse out)) ++ map (value_of pool k In) ins)) (length-reverse out ∙ length-map outs (value_of pool k Out))
-        ∙ ap (λ n. length outs ∷ (n - sum_of (reverse out)) ∷ (map higher_first (reverse (reverse out)) ++ map (value_of pool k In) ins)) (sum_of-map (value_of pool k In) ins)
-        ∙ ap (λ n. length outs ∷ (total (value_of pool k In) ins - n) ∷ (map higher_first (reverse (reverse out)) ++ map (value_of pool k In) ins)) (sum_of-reverse out ∙ sum_of-map (value_of pool k Out) outs)
-        ∙ ap (λ xs. length outs ∷ (total (value_of pool k In) ins - total (value_of pool k Out) outs) ∷ (map higher_first xs ++ map (value_of pool k In) ins)) (reverse-reverse out)
+        ap (λ a. length a ∷ (sum_of (moved_in pool k set) - sum_of a) ∷ (map turned (reverse a) ++ moved_in pool k set)) moved_out-is
+        ∙ ap (λ b. length (reverse out) ∷ (sum_of b - sum_of (reverse out)) ∷ (map turned (reverse (reverse out)) ++ b)) moved_in-is
+        ∙ ap (λ n. n ∷ (sum_of (map (value_of pool k In) ins) - sum_of (reverse out)) ∷ (map turned (reverse (reverse out)) ++ map (value_of pool k In) ins)) (length-reverse out ∙ length-map outs (value_of pool k Out))
+        ∙ ap (λ n. length outs ∷ (n - sum_of (reverse out)) ∷ (map turned (reverse (reverse out)) ++ map (value_of pool k In) ins)) (sum_of-map (value_of pool k In) ins)
+        ∙ ap (λ n. length outs ∷ (total (value_of pool k In) ins - n) ∷ (map turned (reverse (reverse out)) ++ map (value_of pool k In) ins)) (sum_of-reverse out ∙ sum_of-map (value_of pool k Out) outs)
+        ∙ ap (λ xs. length outs ∷ (total (value_of pool k In) ins - total (value_of pool k Out) outs) ∷ (map turned xs ++ map (value_of pool k In) ins)) (reverse-reverse out)
 
   -- the exchange of a set
   pub exchange-of : (set : List ℕ) → IsIn set (subsets pool k) → (outs : List ℕ) × (ins : List ℕ) × Climbs 0 k outs × Climbs 0 (length pool - k) ins × (length outs ≡ length ins) × (set ≡ kept_of pool k outs ++ map (value_of pool k In) ins)

@@ -5,10 +5,11 @@ use Rattle.std.proofs.lemmas.List.{append-nil}
 use Rattle.std.proofs.lemmas.Bool.{cases_eq}
 use Rattle.dutch_order.specs.Choices.{numbers_from}
 use Rattle.dutch_order.specs.Trials.{Plan}
-use Rattle.dutch_order.specs.Keys.{is_before, IsIn, Ascends}
+use Rattle.dutch_order.specs.Keys.{IsIn}
 use Rattle.dutch_order.proofs.HalfWalks.{Admitted}
 use Rattle.dutch_order.proofs.Found.{found, found-zero, found-suc}
 use Rattle.dutch_order.proofs.Orders.{IsIn-flat_map, flat_map-IsIn, Ascends-append, is_before-lower, is_before-equal}
+use Rattle.dutch_order.proofs.ByKeys.{is_before, Ascends}
 
 numbers-in : (x first count : ℕ) → IsIn x (numbers_from first count) → (first ≤ x) × (x < first + count)
 numbers-in x first zero m = absurd m

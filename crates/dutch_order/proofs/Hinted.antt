@@ -6,11 +6,12 @@ use Rattle.std.proofs.lemmas.Bool.{cases_order, eq-eqb, ne_eqb, true≢false, no
 use Rattle.dutch_order.specs.Trials.{Plan, entry, below, ahead, hits}
 use Rattle.dutch_order.specs.Hints.{hint_after, number_or, hinted, first_hint}
 use Rattle.dutch_order.specs.Walks.{Walked}
-use Rattle.dutch_order.specs.Keys.{is_before, IsIn}
+use Rattle.dutch_order.specs.Keys.{IsIn}
 use Rattle.dutch_order.proofs.HalfWalks.{Admitted}
 use Rattle.dutch_order.proofs.Found.{found, ahead-new}
 use Rattle.dutch_order.proofs.FoundPaths.{found-admitted, admitted-found, found-ascends}
 use Rattle.dutch_order.proofs.Orders.{is_before-lower, is_before-equal, is_before-asymmetric, Ascends-filter, Ascends-unique, IsIn-filter, filter-IsIn}
+use Rattle.dutch_order.proofs.ByKeys.{is_before}
 
 -- the number after a beginning of the path
 pub hint-on : (begun : List ℕ) (x : ℕ) (rest : List ℕ) → hint_after (begun ++ x ∷ rest) begun ≡ Some x

@@ -1,10 +1,9 @@
--- Where a last bracket leaves two or more over, no arrangement is legal.
+-- If a last bracket leaves two or more over, no arrangement is legal.
 use Rattle.std.proofs.Common.{◌≡◌, ℕ, ◌+◌, ◌-◌, ◌*◌, ◌<◌, Bool, true, false, not, ◌&&◌, ◌||◌, cond, List, [], ◌∷◌, ◌++◌, length, length-append, refl, ◌∙◌, ap, arith, inl, inr}
 use Rattle.std.specs.List.{filter}
 use Rattle.dutch_order.specs.declared.bracket.Shape.{Shape}
 use Rattle.dutch_order.specs.Choices.{tuples, all_meet}
-use Rattle.dutch_order.specs.Keys.{IsIn, sorted}
-use Rattle.dutch_order.specs.Transposition.{tuple_key}
+use Rattle.dutch_order.specs.Keys.{IsIn, sorted, lower_first}
 use Rattle.dutch_order.specs.Exchange.{exchanges}
 use Rattle.dutch_order.specs.Limbo.{limbo_exchanges}
 use Rattle.dutch_order.specs.Arrangements.{Frame, Arrangement, Fits, players_of, residents_of, moved_down_scores, left_of, remainder_pairs, with_s2r, with_s1r, with_s2, arrangements, paired, down, leaves_one, is_legal, candidates}
@@ -37,17 +36,17 @@ module _ (frame : Frame) (shape : Shape) where
       let k = remainder_pairs shape in
       let by1 = IsIn-flat_map (with_s2 frame shape) a (limbo_exchanges (moved_down_scores frame) shape.mdps) m in
       let s1 = by1.0 in
-      let by2 = IsIn-flat_map (with_s1r frame shape s1) a (sorted tuple_key (tuples (residents_of frame) shape.mdps)) by1.2 in
+      let by2 = IsIn-flat_map (with_s1r frame shape s1) a (sorted lower_first (tuples (residents_of frame) shape.mdps)) by1.2 in
       let s2 = by2.0 in
       let by3 = IsIn-flat_map (with_s2r frame shape s1 s2) a (exchanges (left_of (residents_of frame) s2) k) by2.2 in
       let s1r = by3.0 in
       let pool = left_of (left_of (residents_of frame) s2) s1r in
-      let by4 = IsIn-map (arranged s1 s2 s1r) a (sorted tuple_key (tuples pool k)) by3.2 in
+      let by4 = IsIn-map (arranged s1 s2 s1r) a (sorted lower_first (tuples pool k)) by3.2 in
       let s2r = by4.0 in
       let e1 : length s1 ≡ shape.mdps = limbo-length (λ a b. true) frame shape s1 by1.1 in
-      let e2 : length s2 ≡ shape.mdps = tuples-length (residents_of frame) shape.mdps s2 (sorted-in tuple_key s2 (tuples (residents_of frame) shape.mdps) by2.1) in
+      let e2 : length s2 ≡ shape.mdps = tuples-length (residents_of frame) shape.mdps s2 (sorted-in lower_first s2 (tuples (residents_of frame) shape.mdps) by2.1) in
       let e3 : length s1r ≡ k = exchange-length (λ a b. true) frame shape s2 s1r by3.1 in
-      let e4 : length s2r ≡ k = tuples-length pool k s2r (sorted-in tuple_key s2r (tuples pool k) by4.2) in
+      let e4 : length s2r ≡ k = tuples-length pool k s2r (sorted-in lower_first s2r (tuples pool k) by4.2) in
       ap (λ b. length (paired b)) by4.1
       ∙ omega (arith, e1, e2, e3, e4, length-append s1 (s2 ++ (s1r ++ s2r)), length-append s2 (s1r ++ s2r), length-append s1r s2r)
 

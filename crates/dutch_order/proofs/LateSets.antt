@@ -7,8 +7,8 @@ use Rattle.dutch_order.specs.Trials.{Plan, entry, ahead, lower, lowest}
 use Rattle.std.specs.List.{filter}
 use Rattle.dutch_order.specs.Choices.{subsets, from_on}
 use Rattle.dutch_order.specs.Hints.{hinted, first_hint}
-use Rattle.dutch_order.specs.Keys.{is_before, IsIn, Ascends, higher_first}
-use Rattle.dutch_order.specs.Exchange.{exchange_key, exchanges}
+use Rattle.dutch_order.specs.Keys.{IsIn}
+use Rattle.dutch_order.specs.Exchange.{exchanges, exchange_cmp}
 use Rattle.dutch_order.specs.Stages.{total, value_of, exchange_plan, kept_of, set_of, stage_left, sets_of_stages, sets_of_sizes, stages_of, least_difference, greatest_difference, most_exchanged, sets_ahead, out_places, in_places, exchange_path, exchange_difference}
 use Rattle.dutch_order.proofs.HalfWalks.{Climbs, Admitted}
 use Rattle.dutch_order.proofs.Orders.{is_before-lower, is_before-equal, IsIn-map, map-IsIn, IsIn-append, IsIn-front, IsIn-back, IsIn-filter, filter-IsIn, Ascends-append, Ascends-filter, Ascends-unique, is_before-asymmetric}
@@ -20,6 +20,7 @@ use Rattle.dutch_order.proofs.FromOn.{is_late, from_on-filter, order-same, admit
 use Rattle.dutch_order.proofs.ExchangeSets.{set-in_pool, exchange-of, places-of_exchange}
 use Rattle.dutch_order.proofs.Reach.{difference-least, difference-greatest}
 use Rattle.dutch_order.proofs.StageSets.{Climbs-length, Exchange, path-set, no_difference, path-exchange, stage-exchange, exchange-admitted, key-at, stage-order, beyond_above, below_above, stages-in, in-stages, stages-ascend, in-sizes, size-exchange, sizes-ascend, sizes-sorted}
+use Rattle.dutch_order.proofs.ByKeys.{is_before, Ascends, turned, exchange_key}
 
 module _ (pool : List ℕ) (k : ℕ) (rises : IsStrictlyIncreasing pool) (enough : k ≤ length pool) (small : (i : ℕ) → slice_index pool i ≤ 65535) where
   abbrev key : List ℕ → List ℕ
@@ -55,20 +56,20 @@ module _ (pool : List ℕ) (k : ℕ) (rises : IsStrictlyIncreasing pool) (enough
 
   exchange-sorted : (size difference : ℕ) (set outs ins : List ℕ) → Exchange pool k size difference set outs ins → IsIn set (exchanges pool k)
   exchange-sorted size difference set outs ins e =
-      in-sorted key set (subsets pool k)
+      in-sorted (exchange_cmp pool k) set (subsets pool k)
       (subst (λ s. IsIn s (subsets pool k)) (sym e.is_set) (set-in_pool pool k rises enough outs ins e.outs_climb e.ins_climb (e.outs_size ∙ sym e.ins_size)))
 
   -- fewer exchanged are before more, and then a smaller difference before a larger one
   before-larger : (size size' difference difference' : ℕ) (x y outs ins outs' ins' : List ℕ) → size < size' → Exchange pool k size difference x outs ins → Exchange pool k size' difference' y outs' ins' → is_before (key x) (key y) ≡ true
   before-larger size size' difference difference' x y outs ins outs' ins' less e e' =
       subst (λ z. is_before z (key y) ≡ true) (sym (key-at pool k rises enough small size difference x outs ins e))
-      (subst (λ z. is_before (size ∷ difference ∷ (map (λ i. higher_first (out i)) outs ++ map inn ins)) z ≡ true) (sym (key-at pool k rises enough small size' difference' y outs' ins' e'))
-      (is_before-lower size size' (difference ∷ (map (λ i. higher_first (out i)) outs ++ map inn ins)) (difference' ∷ (map (λ i. higher_first (out i)) outs' ++ map inn ins')) less))
+      (subst (λ z. is_before (size ∷ difference ∷ (map (λ i. turned (out i)) outs ++ map inn ins)) z ≡ true) (sym (key-at pool k rises enough small size' difference' y outs' ins' e'))
+      (is_before-lower size size' (difference ∷ (map (λ i. turned (out i)) outs ++ map inn ins)) (difference' ∷ (map (λ i. turned (out i)) outs' ++ map inn ins')) less))
 
   before-wider : (size difference difference' : ℕ) (x y outs ins outs' ins' : List ℕ) → difference < difference' → Exchange pool k size difference x outs ins → Exchange pool k size difference' y outs' ins' → is_before (key x) (key y) ≡ true
   before-wider size difference difference' x y outs ins outs' ins' less e e' =
-      let one : List ℕ = map (λ i. higher_first (out i)) outs ++ map inn ins in
-      let two : List ℕ = map (λ i. higher_first (out i)) outs' ++ map inn ins' in
+      let one : List ℕ = map (λ i. turned (out i)) outs ++ map inn ins in
+      let two : List ℕ = map (λ i. turned (out i)) outs' ++ map inn ins' in
       subst (λ z. is_before z (key y) ≡ true) (sym (key-at pool k rises enough small size difference x outs ins e))
       (subst (λ z. is_before (size ∷ difference ∷ one) z ≡ true) (sym (key-at pool k rises enough small size difference' y outs' ins' e'))
       (is_before-equal size (difference ∷ one) (difference' ∷ two) ∙ is_before-lower difference difference' one two less))
@@ -254,7 +255,7 @@ module _ (pool : List ℕ) (k : ℕ) (rises : IsStrictlyIncreasing pool) (enough
         let ins' : List ℕ = in_places pool k x in
         let size' : ℕ = length outs' in
         let difference' : ℕ = exchange_difference pool k x in
-        let e' : Exchange pool k size' difference' x outs' ins' = exchange-is x (sorted-in key x (subsets pool k) kept.0) in
+        let e' : Exchange pool k size' difference' x outs' ins' = exchange-is x (sorted-in (exchange_cmp pool k) x (subsets pool k) kept.0) in
         elim (cases_order size size') [
           | inl same_size ↦
               let here' : Exchange pool k size difference' x outs' ins' = subst (λ s. Exchange pool k s difference' x outs' ins') (sym same_size) e' in
@@ -277,4 +278,4 @@ module _ (pool : List ℕ) (k : ℕ) (rises : IsStrictlyIncreasing pool) (enough
         ap (λ sets. sets ++ (sets_of_stages pool k (greatest_difference pool k size - difference) size (suc difference) (lower (Some (suc difference)) (lowest (ahead (hinted hint stage) [] (first_hint hint)))) ++ third_sets)) stage-from
         ∙ ap (λ next. first_sets ++ (sets_of_stages pool k (greatest_difference pool k size - difference) size (suc difference) next ++ third_sets)) next-from
         ∙ Ascends-unique key (first_sets ++ (second_sets ++ third_sets)) (filter late (exchanges pool k)) parts-ascend (Ascends-filter key late (exchanges pool k) ascend) parts-late late-parts
-        ∙ sym (from_on-filter key set (exchanges pool k) ascend (in-sorted key set (subsets pool k) given))
+        ∙ sym (from_on-filter key set (exchanges pool k) ascend (in-sorted (exchange_cmp pool k) set (subsets pool k) given))

@@ -1,4 +1,4 @@
--- What a search leaves out: all below a beginning goes on from it, so it is idle where all that begins so is.
+-- What a search leaves out: all below a beginning goes on from it, so it is idle if all that begins so is.
 use Rattle.std.proofs.Common.{◌≡◌, ℕ, zero, suc, ◌-◌, Bool, true, false, cond, List, [], ◌∷◌, ◌++◌, length, map, Option, Result, Ok, Err, refl, sym, ◌∙◌, ap, append_assoc, subst}
 use Rattle.std.specs.List.{flat_map, AllByRecursion}
 use Rattle.std.proofs.lemmas.List.{append-nil, map-append}

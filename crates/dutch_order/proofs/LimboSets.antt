@@ -8,9 +8,9 @@ use Rattle.std.specs.List.{filter}
 use Rattle.dutch_order.specs.Trials.{Plan, entry, ahead, hits, trials}
 use Rattle.dutch_order.specs.Hints.{hinted, first_hint}
 use Rattle.dutch_order.specs.Choices.{subsets, from_on, numbers_from}
-use Rattle.dutch_order.specs.Keys.{is_before, IsIn, Ascends, higher_first}
+use Rattle.dutch_order.specs.Keys.{IsIn}
 use Rattle.dutch_order.specs.Halves.{half_start}
-use Rattle.dutch_order.specs.Limbo.{limbo_key, limbo_exchanges, score_of, IsNonAscending}
+use Rattle.dutch_order.specs.Limbo.{limbo_exchanges, score_of, IsNonAscending, limbo_cmp}
 use Rattle.dutch_order.specs.LimboSearch.{limbo_plan, leads, mirrors, front_with, numbers_of, second_numbers, leader, leaders, places_of, limbo_path}
 use Rattle.dutch_order.proofs.Lists.{map-same}
 use Rattle.dutch_order.proofs.HalfWalks.{Climbs, AllFit, Admitted, Halved, halves-split, halves-join, start-on}
@@ -20,6 +20,8 @@ use Rattle.dutch_order.proofs.FoundPaths.{found-admitted, admitted-found, found-
 use Rattle.dutch_order.proofs.Sets.{subsets-climb, climbs-subset, subsets-map, subsets-ascend, ascending-sorted, in-sorted, Ascends-map}
 use Rattle.dutch_order.proofs.FromOn.{is_late, from_on-filter, map-late, order-same, admitted-length, admitted-reaches}
 use Rattle.dutch_order.proofs.Hinted.{hinted-hits}
+use Rattle.dutch_order.proofs.ByKeys.{is_before, Ascends, turned, limbo_key, turned_in, limbo_key_in}
+use Rattle.dutch_order.proofs.Comparing.{limbo_cmp-is}
 
 -- two lists of one length, with something behind each
 pub is_before-split : (xs ys us vs : List ℕ) → length xs ≡ length ys → is_before (xs ++ us) (ys ++ vs) ≡ true → ((xs ≡ ys) × (is_before us vs ≡ true)) ⊎ (is_before xs ys ≡ true)
@@ -73,12 +75,12 @@ drop_front [] ys n e = ap (λ n. drop n ys) (sym e)
 drop_front (x ∷ xs) ys n e = ap (λ n. drop n (x ∷ (xs ++ ys))) (sym e) ∙ drop_front xs ys (length xs) refl
 
 -- sets of one size with one key are one set
-pub limbo_key-apart : (scores : List ℕ) (x y : List ℕ) → length x ≡ length y → limbo_key scores x ≡ limbo_key scores y → x ≡ y
-limbo_key-apart scores x y same equal =
-    let front : List ℕ → List ℕ = λ set. map (λ number. higher_first (score_of scores number)) set in
-    sym (drop_front (front x) x (length x) (length-map x (λ number. higher_first (score_of scores number))))
+pub limbo_key-apart : (bound : ℕ) (scores : List ℕ) (x y : List ℕ) → length x ≡ length y → limbo_key_in bound scores x ≡ limbo_key_in bound scores y → x ≡ y
+limbo_key-apart bound scores x y same equal =
+    let front : List ℕ → List ℕ = λ set. map (λ number. turned_in bound (score_of scores number)) set in
+    sym (drop_front (front x) x (length x) (length-map x (λ number. turned_in bound (score_of scores number))))
     ∙ ap (drop (length x)) equal
-    ∙ drop_front (front y) y (length x) (length-map y (λ number. higher_first (score_of scores number)) ∙ sym same)
+    ∙ drop_front (front y) y (length x) (length-map y (λ number. turned_in bound (score_of scores number)) ∙ sym same)
 
 module _ (scores : List ℕ) (k : ℕ) (falls : IsNonAscending scores) where
   abbrev pub sc : ℕ → ℕ
@@ -249,7 +251,7 @@ module _ (scores : List ℕ) (k : ℕ) (falls : IsNonAscending scores) where
 
   module _ (small : (i : ℕ) → sc i ≤ 65535) where
     abbrev weight : ℕ → ℕ
-    weight place = higher_first (sc place)
+    weight place = turned (sc place)
 
     -- a place that leads later has a lower score
     leads-lower : (begun : List ℕ) (s x y : ℕ) → half_start k begun ≡ s → s ≤ x → x < y → leads scores k begun y ≡ true → weight x < weight y
@@ -284,10 +286,10 @@ module _ (scores : List ℕ) (k : ℕ) (falls : IsNonAscending scores) where
         ]
 
     -- the front of the key of a set
-    front_of : (places : List ℕ) → map (λ number. higher_first (score_of scores number)) (numbers_of places) ≡ map weight places
+    front_of : (places : List ℕ) → map (λ number. turned (score_of scores number)) (numbers_of places) ≡ map weight places
     front_of places =
-        map-map (λ number. higher_first (score_of scores number)) (λ place. place + 1) places
-        ∙ map-same (λ place. higher_first (score_of scores (place + 1))) weight places (λ place. ap (λ n. higher_first (slice_index scores n)) (let e : place + 1 - 1 ≡ place = omega arith in e))
+        map-map (λ number. turned (score_of scores number)) (λ place. place + 1) places
+        ∙ map-same (λ place. turned (score_of scores (place + 1))) weight places (λ place. ap (λ n. turned (slice_index scores n)) (let e : place + 1 - 1 ≡ place = omega arith in e))
 
     abbrev plan : Plan
     plan = limbo_plan scores k
@@ -307,8 +309,8 @@ module _ (scores : List ℕ) (k : ℕ) (falls : IsNonAscending scores) where
         let set_q : second_numbers k q ≡ numbers_of B = ap (second_numbers k) q_is ∙ ap numbers_of (drop_front D B k halves_q.3.front_length) in
         let scored_p : map sc A ≡ map sc C = second-scores [] C [] A halves_p.3.front_length refl (omega (arith, halves_p.3.front_length, halves_p.3.back_length)) (subst (λ c. AllFit fits c A) (sym (append-nil C)) halves_p.3.back_fits) in
         let scored_q : map sc B ≡ map sc D = second-scores [] D [] B halves_q.3.front_length refl (omega (arith, halves_q.3.front_length, halves_q.3.back_length)) (subst (λ c. AllFit fits c B) (sym (append-nil D)) halves_q.3.back_fits) in
-        let weigh_p : map weight A ≡ map weight C = sym (map-map higher_first sc A) ∙ ap (map higher_first) scored_p ∙ map-map higher_first sc C in
-        let weigh_q : map weight B ≡ map weight D = sym (map-map higher_first sc B) ∙ ap (map higher_first) scored_q ∙ map-map higher_first sc D in
+        let weigh_p : map weight A ≡ map weight C = sym (map-map turned sc A) ∙ ap (map turned) scored_p ∙ map-map turned sc C in
+        let weigh_q : map weight B ≡ map weight D = sym (map-map turned sc B) ∙ ap (map turned) scored_q ∙ map-map turned sc D in
         let key_p : limbo_key scores (second_numbers k p) ≡ map weight C ++ numbers_of A = ap (limbo_key scores) set_p ∙ ap (λ front. front ++ numbers_of A) (front_of A ∙ weigh_p) in
         let key_q : limbo_key scores (second_numbers k q) ≡ map weight D ++ numbers_of B = ap (limbo_key scores) set_q ∙ ap (λ front. front ++ numbers_of B) (front_of B ∙ weigh_q) in
         let same : length C ≡ length D = halves_p.3.front_length ∙ sym halves_q.3.front_length in
@@ -396,10 +398,11 @@ module _ (scores : List ℕ) (k : ℕ) (falls : IsNonAscending scores) where
 
     found-all : map (second_numbers k) (found plan (k + k) []) ≡ limbo_exchanges scores k
     found-all =
-        ascending-sorted (limbo_key scores) (map (second_numbers k) (found plan (k + k) [])) (subsets (numbers_from 1 (length scores)) k)
+        ascending-sorted (limbo_key scores) (limbo_cmp scores) (map (second_numbers k) (found plan (k + k) [])) (subsets (numbers_from 1 (length scores)) k)
+        (λ x y m n. limbo_cmp-is 65535 scores small x y ((subsets-climb 1 (length scores) k x m).1 ∙ sym (subsets-climb 1 (length scores) k y n).1))
         found-ascend
         sets_ascend
-        (λ x y m n. limbo_key-apart scores x y ((subsets-climb 1 (length scores) k x m).1 ∙ sym (subsets-climb 1 (length scores) k y n).1))
+        (λ x y m n. limbo_key-apart 65535 scores x y ((subsets-climb 1 (length scores) k x m).1 ∙ sym (subsets-climb 1 (length scores) k y n).1))
         found-set set-found
 
     -- what a new search finds are all sets, by their keys
@@ -421,7 +424,7 @@ module _ (scores : List ℕ) (k : ℕ) (falls : IsNonAscending scores) where
         ∙ ap (filter (is_late (limbo_key scores) set)) found-all
         ∙ sym
         (from_on-filter (limbo_key scores) set (limbo_exchanges scores k) (subst (Ascends (limbo_key scores)) found-all found-ascend)
-        (in-sorted (limbo_key scores) set (subsets (numbers_from 1 (length scores)) k) m))
+        (in-sorted (limbo_cmp scores) set (subsets (numbers_from 1 (length scores)) k) m))
 
 -- what is to come, at the lists and numbers that the code has
 pub limbo-at : (scores scores' : List ℕ) (k : ℕ) (hint hint' path : List ℕ) (number number' : ℕ) → scores ≡ scores' → hint ≡ hint' → path ≡ [] → number ≡ number' → map (second_numbers k) (hits (ahead (hinted hint (limbo_plan scores k)) path number)) ≡ map (second_numbers k) (hits (ahead (hinted hint' (limbo_plan scores' k)) [] number'))

@@ -4,10 +4,9 @@ use Rattle.std.specs.List.{filter, flat_map}
 use Rattle.std.proofs.lemmas.Bool.{cases_Bool}
 use Rattle.dutch_order.specs.declared.bracket.Shape.{Shape}
 use Rattle.dutch_order.specs.Choices.{subsets, tuples, all_meet, numbers_from}
-use Rattle.dutch_order.specs.Keys.{IsIn, sorted}
-use Rattle.dutch_order.specs.Transposition.{tuple_key}
-use Rattle.dutch_order.specs.Exchange.{exchanges, exchange_key}
-use Rattle.dutch_order.specs.Limbo.{limbo_exchanges, limbo_key}
+use Rattle.dutch_order.specs.Keys.{IsIn, sorted, lower_first}
+use Rattle.dutch_order.specs.Exchange.{exchanges, exchange_cmp}
+use Rattle.dutch_order.specs.Limbo.{limbo_exchanges, limbo_cmp}
 use Rattle.dutch_order.specs.Arrangements.{Frame, Arrangement, residents_of, moved_down_scores, left_of, remainder_pairs, with_s2r, with_s1r, with_s2, arrangements, is_legal, candidates}
 use Rattle.dutch_order.specs.Levels.{joined, arranged, in_s1r, in_s2, in_s1, in_bracket, pairs_meet, may_leave}
 use Rattle.dutch_order.proofs.Lists.{filter-flat_map, flat_map-filter, flat_map-same, filter-same, filter-filter}
@@ -43,24 +42,24 @@ module _ (meets : ℕ → ℕ → Bool) (frame : Frame) (shape : Shape) where
   unfolding in_s1r
   s2r-listed s1 s2 s1r met same =
       let pool = left_of (left_of (residents_of frame) s2) s1r in
-      ap (λ k. map (arranged s1 s2 s1r) (filter (all_meet meets s1r) (sorted tuple_key (tuples pool k)))) same
+      ap (λ k. map (arranged s1 s2 s1r) (filter (all_meet meets s1r) (sorted lower_first (tuples pool k)))) same
       ∙ ap (map (arranged s1 s2 s1r))
-      (filter-same (all_meet meets s1r) (λ s2r. all_meet meets s1 s2 && all_meet meets s1r s2r) (sorted tuple_key (tuples pool (remainder_pairs shape)))
+      (filter-same (all_meet meets s1r) (λ s2r. all_meet meets s1 s2 && all_meet meets s1r s2r) (sorted lower_first (tuples pool (remainder_pairs shape)))
       (λ s2r. ap (λ b. b && all_meet meets s1r s2r) (sym met)))
-      ∙ sym (filter-map (pairs_meet meets) (arranged s1 s2 s1r) (sorted tuple_key (tuples pool (remainder_pairs shape))))
+      ∙ sym (filter-map (pairs_meet meets) (arranged s1 s2 s1r) (sorted lower_first (tuples pool (remainder_pairs shape))))
 
   s2r-barred : (s1 s2 s1r : List ℕ) → all_meet meets s1 s2 ≡ false → filter (pairs_meet meets) (with_s2r frame shape s1 s2 s1r) ≡ []
   s2r-barred s1 s2 s1r barred =
       let pool = left_of (left_of (residents_of frame) s2) s1r in
-      filter-map (pairs_meet meets) (arranged s1 s2 s1r) (sorted tuple_key (tuples pool (remainder_pairs shape)))
+      filter-map (pairs_meet meets) (arranged s1 s2 s1r) (sorted lower_first (tuples pool (remainder_pairs shape)))
       ∙ ap (map (arranged s1 s2 s1r))
-      (filter-none (λ s2r. all_meet meets s1 s2 && all_meet meets s1r s2r) (sorted tuple_key (tuples pool (remainder_pairs shape)))
+      (filter-none (λ s2r. all_meet meets s1 s2 && all_meet meets s1r s2r) (sorted lower_first (tuples pool (remainder_pairs shape)))
       (λ s2r. ap (λ b. b && all_meet meets s1r s2r) barred))
 
   pub exchange-length : (s2 s1r : List ℕ) → IsIn s1r (exchanges (left_of (residents_of frame) s2) (remainder_pairs shape)) → length s1r ≡ remainder_pairs shape
   exchange-length s2 s1r m =
       let pool = left_of (residents_of frame) s2 in
-      subsets-length pool (remainder_pairs shape) s1r (sorted-in (exchange_key pool (remainder_pairs shape)) s1r (subsets pool (remainder_pairs shape)) m)
+      subsets-length pool (remainder_pairs shape) s1r (sorted-in (exchange_cmp pool (remainder_pairs shape)) s1r (subsets pool (remainder_pairs shape)) m)
 
   -- with S1 and S2 chosen
   pub s1r-listed : (s1 s2 : List ℕ) → all_meet meets s1 s2 ≡ true → in_s2 meets (remainder_pairs shape) s1 (residents_of frame) None s2 ≡ filter (pairs_meet meets) (with_s1r frame shape s1 s2)
@@ -92,8 +91,8 @@ module _ (meets : ℕ → ℕ → Bool) (frame : Frame) (shape : Shape) where
   unfolding in_s1
   s2-listed s1 same =
       let block : List ℕ → List Arrangement = in_s2 meets (remainder_pairs shape) s1 (residents_of frame) None in
-      let lists : List (List ℕ) = sorted tuple_key (tuples (residents_of frame) shape.mdps) in
-      ap (λ n. joined (map block (filter (all_meet meets s1) (sorted tuple_key (tuples (residents_of frame) n))))) same
+      let lists : List (List ℕ) = sorted lower_first (tuples (residents_of frame) shape.mdps) in
+      ap (λ n. joined (map block (filter (all_meet meets s1) (sorted lower_first (tuples (residents_of frame) n))))) same
       ∙ joined-map block (filter (all_meet meets s1) lists)
       ∙ flat_map-filter block (all_meet meets s1) lists
       ∙ flat_map-same (λ s2. cond (all_meet meets s1 s2) (block s2) []) (λ s2. filter (pairs_meet meets) (with_s1r frame shape s1 s2)) lists (λ s2. s1r-either s1 s2)
@@ -102,7 +101,7 @@ module _ (meets : ℕ → ℕ → Bool) (frame : Frame) (shape : Shape) where
   pub limbo-length : (s1 : List ℕ) → IsIn s1 (limbo_exchanges (moved_down_scores frame) shape.mdps) → length s1 ≡ shape.mdps
   limbo-length s1 m =
       let numbers = numbers_from 1 (length (moved_down_scores frame)) in
-      subsets-length numbers shape.mdps s1 (sorted-in (limbo_key (moved_down_scores frame)) s1 (subsets numbers shape.mdps) m)
+      subsets-length numbers shape.mdps s1 (sorted-in (limbo_cmp (moved_down_scores frame)) s1 (subsets numbers shape.mdps) m)
 
   -- all of them
   pub s1-listed : in_bracket meets frame shape None ≡ filter (pairs_meet meets) (arrangements frame shape)

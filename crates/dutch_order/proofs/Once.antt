@@ -5,10 +5,12 @@ use Rattle.std.specs.List.{filter, flat_map}
 use Rattle.std.proofs.lemmas.Bool.{cases_Bool, true≢false, and_parts}
 use Rattle.dutch_order.specs.declared.bracket.Shape.{Shape}
 use Rattle.dutch_order.specs.Choices.{subsets, tuples, is_same, numbers_from, is_member}
-use Rattle.dutch_order.specs.Keys.{is_before, put, sorted, IsIn, HasEachOnce, Ascends}
-use Rattle.dutch_order.specs.Transposition.{tuple_key, all_tuples}
-use Rattle.dutch_order.specs.Exchange.{exchanges, exchange_key}
-use Rattle.dutch_order.specs.Limbo.{limbo_exchanges, limbo_key}
+use Rattle.std.specs.declared.cmp.Ordering.{Ordering}
+use Rattle.std.specs.Ordering.{is_lt}
+use Rattle.dutch_order.specs.Keys.{put, sorted, IsIn, HasEachOnce, lower_first}
+use Rattle.dutch_order.specs.Transposition.{all_tuples}
+use Rattle.dutch_order.specs.Exchange.{exchanges, exchange_cmp}
+use Rattle.dutch_order.specs.Limbo.{limbo_exchanges, limbo_cmp}
 use Rattle.dutch_order.specs.Arrangements.{Frame, Arrangement, residents_of, moved_down_scores, left_of, remainder_pairs, with_s2r, with_s1r, with_s2, arrangements, is_same_arrangement, behind, rest, is_legal, candidates}
 use Rattle.dutch_order.specs.Levels.{arranged}
 use Rattle.dutch_order.proofs.FromOn.{is_same-true}
@@ -18,6 +20,7 @@ use Rattle.dutch_order.proofs.CursorSets.{subset-to}
 use Rattle.dutch_order.proofs.CursorArrangements.{rises-numbers, pool-rises}
 use Rattle.dutch_order.proofs.TupleSearch.{tuples-ascend}
 use Rattle.dutch_order.proofs.Behind.{chosen-s1, chosen-s2, chosen-s1r}
+use Rattle.dutch_order.proofs.ByKeys.{is_before, Ascends}
 
 pub suffix-once : {X : Type 0} (xs ys : List X) → HasEachOnce (xs ++ ys) → HasEachOnce ys
 suffix-once [] ys once = once
@@ -59,20 +62,20 @@ filter-once p (x ∷ xs) once =
 
 -- ---- choices
 
-put-once : (key : List ℕ → List ℕ) (x : List ℕ) (xs : List (List ℕ)) → (IsIn x xs → ⊥) → HasEachOnce xs → HasEachOnce (put key x xs)
-put-once key x [] new once = ((λ m. m), tt)
-put-once key x (y ∷ ys) new once =
-    elim (is_before (key y) (key x)) as (λ b. HasEachOnce (cond b (y ∷ put key x ys) (x ∷ y ∷ ys))) [
+put-once : (order : List ℕ → List ℕ → Ordering) (x : List ℕ) (xs : List (List ℕ)) → (IsIn x xs → ⊥) → HasEachOnce xs → HasEachOnce (put order x xs)
+put-once order x [] new once = ((λ m. m), tt)
+put-once order x (y ∷ ys) new once =
+    elim (is_lt (order y x)) as (λ b. HasEachOnce (cond b (y ∷ put order x ys) (x ∷ y ∷ ys))) [
       | true ↦ (
-        (λ m. elim (put-in key y x ys m) [ inl same ↦ new (inl (sym same)) | inr n ↦ once.0 n ]),
-        put-once key x ys (λ m. new (inr m)) once.1,
+        (λ m. elim (put-in order y x ys m) [ inl same ↦ new (inl (sym same)) | inr n ↦ once.0 n ]),
+        put-once order x ys (λ m. new (inr m)) once.1,
       )
       | false ↦ (new, once)
     ]
 
-sorted-once : (key : List ℕ → List ℕ) (xs : List (List ℕ)) → HasEachOnce xs → HasEachOnce (sorted key xs)
-sorted-once key [] once = tt
-sorted-once key (x ∷ xs) once = put-once key x (sorted key xs) (λ m. once.0 (sorted-in key x xs m)) (sorted-once key xs once.1)
+sorted-once : (order : List ℕ → List ℕ → Ordering) (xs : List (List ℕ)) → HasEachOnce xs → HasEachOnce (sorted order xs)
+sorted-once order [] once = tt
+sorted-once order (x ∷ xs) once = put-once order x (sorted order xs) (λ m. once.0 (sorted-in order x xs m)) (sorted-once order xs once.1)
 
 ascending-once : (key : List ℕ → List ℕ) (xs : List (List ℕ)) → Ascends key xs → HasEachOnce xs
 ascending-once key [] ascends = tt
@@ -98,7 +101,7 @@ subsets-once (x ∷ pool) (suc k) rises =
     omega (arith, above))
 
 all_tuples-once : (pool : List ℕ) (k : ℕ) → Rises pool → HasEachOnce (all_tuples pool k)
-all_tuples-once pool k rises = sorted-once tuple_key (tuples pool k) (ascending-once tuple_key (tuples pool k) (tuples-ascend k pool rises))
+all_tuples-once pool k rises = sorted-once lower_first (tuples pool k) (ascending-once (λ tuple. tuple) (tuples pool k) (tuples-ascend k pool rises))
 
 -- ---- arrangements
 
@@ -113,7 +116,7 @@ module _ (frame : Frame) (shape : Shape) where
   s1r-once s1 s2 =
       let rem = left_of (residents_of frame) s2 in
       flat_map-once (with_s2r frame shape s1 s2) (λ a. a.s1r) (exchanges rem (remainder_pairs shape)) (chosen-s1r frame shape s1 s2) (s2r-once s1 s2)
-      (sorted-once (exchange_key rem (remainder_pairs shape)) (subsets rem (remainder_pairs shape)) (subsets-once rem (remainder_pairs shape) (pool-rises frame s2)))
+      (sorted-once (exchange_cmp rem (remainder_pairs shape)) (subsets rem (remainder_pairs shape)) (subsets-once rem (remainder_pairs shape) (pool-rises frame s2)))
 
   s2-once : (s1 : List ℕ) → HasEachOnce (with_s2 frame shape s1)
   s2-once s1 =
@@ -125,7 +128,7 @@ module _ (frame : Frame) (shape : Shape) where
       let scores = moved_down_scores frame in
       let numbers = numbers_from 1 (length scores) in
       flat_map-once (with_s2 frame shape) (λ a. a.s1) (limbo_exchanges scores shape.mdps) (chosen-s1 frame shape) s2-once
-      (sorted-once (limbo_key scores) (subsets numbers shape.mdps) (subsets-once numbers shape.mdps (rises-numbers 1 (length scores))))
+      (sorted-once (limbo_cmp scores) (subsets numbers shape.mdps) (subsets-once numbers shape.mdps (rises-numbers 1 (length scores))))
 
 -- ---- what stands behind an arrangement
 

@@ -5,7 +5,10 @@ use Rattle.std.specs.List.Sorted.{IsStrictlyIncreasing}
 use Rattle.std.proofs.lemmas.List.Kept.{AllPairs-from_increasing}
 use Rattle.std.proofs.lemmas.List.Elements.{recursion_from_All}
 use Rattle.std.proofs.lemmas.Bool.{ltb-true, lt-ltb, le-ltb, eq-eqb, eqb-true, or_cases, and_parts, or_left, cases_order, true≢false, cases_Bool}
-use Rattle.dutch_order.specs.Keys.{is_before, put, sorted, IsIn, Ascends}
+use Rattle.std.specs.declared.cmp.Ordering.{Ordering}
+use Rattle.std.specs.Ordering.{is_lt}
+use Rattle.dutch_order.specs.Keys.{put, sorted, IsIn}
+use Rattle.dutch_order.proofs.ByKeys.{is_before, Ascends}
 use Rattle.dutch_order.proofs.Skipping.{all-filter}
 pub use Rattle.dutch_order.proofs.Skipping.{all-members as all_members}
 
@@ -129,15 +132,21 @@ Ascends-append key (x ∷ xs) ys p q across = (
   Ascends-append key xs ys p.1 q (λ y z m n. across y z (inr m) n),
 )
 
--- a list that ascends is sorted
-put-first : (key : List ℕ → List ℕ) (x : List ℕ) (xs : List (List ℕ)) → AllByRecursion (λ other. is_before (key x) (key other) ≡ true) xs → put key x xs ≡ x ∷ xs
-put-first key x [] p = refl
-put-first key x (y ∷ ys) p =
-    ap (λ b. cond b (y ∷ put key x ys) (x ∷ y ∷ ys)) (is_before-asymmetric (key x) (key y) p.0)
+-- an order is that of the keys on some choices
+abbrev pub IsByKey : (List ℕ → List ℕ) → (List ℕ → List ℕ → Ordering) → List (List ℕ) → Type 0
+IsByKey key order xs = (x y : List ℕ) → IsIn x xs → IsIn y xs → is_lt (order x y) ≡ is_before (key x) (key y)
 
-pub sorted-ascending : (key : List ℕ → List ℕ) (xs : List (List ℕ)) → Ascends key xs → sorted key xs ≡ xs
-sorted-ascending key [] p = refl
-sorted-ascending key (x ∷ xs) p = ap (put key x) (sorted-ascending key xs p.1) ∙ put-first key x xs p.0
+-- a list that ascends is sorted
+put-first : (key : List ℕ → List ℕ) (order : List ℕ → List ℕ → Ordering) (x : List ℕ) (xs : List (List ℕ)) → IsByKey key order (x ∷ xs)
+    → AllByRecursion (λ other. is_before (key x) (key other) ≡ true) xs → put order x xs ≡ x ∷ xs
+put-first key order x [] same p = refl
+put-first key order x (y ∷ ys) same p =
+    ap (λ b. cond b (y ∷ put order x ys) (x ∷ y ∷ ys)) (same y x (inr (inl refl)) (inl refl) ∙ is_before-asymmetric (key x) (key y) p.0)
+
+pub sorted-ascending : (key : List ℕ → List ℕ) (order : List ℕ → List ℕ → Ordering) (xs : List (List ℕ)) → IsByKey key order xs → Ascends key xs → sorted order xs ≡ xs
+sorted-ascending key order [] same p = refl
+sorted-ascending key order (x ∷ xs) same p =
+    ap (put order x) (sorted-ascending key order xs (λ y z m n. same y z (inr m) (inr n)) p.1) ∙ put-first key order x xs same p.0
 
 first_same : (key : List ℕ → List ℕ) (x y : List ℕ) (xs ys : List (List ℕ)) → AllByRecursion (λ other. is_before (key x) (key other) ≡ true) xs → AllByRecursion (λ other. is_before (key y) (key other) ≡ true) ys → IsIn x (y ∷ ys) → IsIn y (x ∷ xs) → x ≡ y
 first_same key x y xs ys p q (inl same) n = same

@@ -4,9 +4,12 @@ use Rattle.std.proofs.lemmas.List.{map-append}
 use Rattle.std.proofs.lemmas.Simd.{map-map}
 use Rattle.std.proofs.lemmas.Bool.{cases_eq, true≢false, cases_Bool}
 use Rattle.dutch_order.specs.Choices.{subsets, numbers_from}
-use Rattle.dutch_order.specs.Keys.{is_before, put, sorted, IsIn, Ascends}
+use Rattle.std.specs.declared.cmp.Ordering.{Ordering}
+use Rattle.std.specs.Ordering.{is_lt}
+use Rattle.dutch_order.specs.Keys.{put, sorted, IsIn}
+use Rattle.dutch_order.proofs.ByKeys.{is_before, Ascends}
 use Rattle.dutch_order.proofs.HalfWalks.{Climbs}
-use Rattle.dutch_order.proofs.Orders.{all_members, member_has, IsIn-append, IsIn-front, IsIn-back, IsIn-map, map-IsIn, Ascends-append, Ascends-head, Ascends-unique, is_before-total, is_before-transitive, is_before-irreflexive, is_before-lower}
+use Rattle.dutch_order.proofs.Orders.{IsByKey, all_members, member_has, IsIn-append, IsIn-front, IsIn-back, IsIn-map, map-IsIn, Ascends-append, Ascends-head, Ascends-unique, is_before-total, is_before-transitive, is_before-irreflexive, is_before-lower}
 
 pub Climbs-lower : (low low' bound : ℕ) (xs : List ℕ) → low ≤ low' → Climbs low' bound xs → Climbs low bound xs
 Climbs-lower low low' bound [] h climbs = tt
@@ -79,85 +82,88 @@ subsets-ascend first (suc count) (suc k) =
     (subsets-ascend (suc first) count (suc k))
     (λ a b m n. subsets-across first count k a b m n)
 
--- a list sorted by a key
+-- a sorted list
 put-in-later : (c x y : List ℕ) (others ys : List (List ℕ)) → (IsIn c others → (c ≡ x) ⊎ IsIn c ys) → IsIn c (y ∷ others) → (c ≡ x) ⊎ IsIn c (y ∷ ys)
 put-in-later c x y others ys later (inl same) = inr (inl same)
 put-in-later c x y others ys later (inr m) = elim (later m) [ inl same ↦ inl same | inr n ↦ inr (inr n) ]
 
-pub put-in : (key : List ℕ → List ℕ) (c x : List ℕ) (xs : List (List ℕ)) → IsIn c (put key x xs) → (c ≡ x) ⊎ IsIn c xs
-put-in key c x [] = λ m. m
-put-in key c x (y ∷ ys) =
-    elim (is_before (key y) (key x)) as (λ b. IsIn c (cond b (y ∷ put key x ys) (x ∷ y ∷ ys)) → (c ≡ x) ⊎ IsIn c (y ∷ ys)) [
-      | true ↦ put-in-later c x y (put key x ys) ys (put-in key c x ys)
+pub put-in : (order : List ℕ → List ℕ → Ordering) (c x : List ℕ) (xs : List (List ℕ)) → IsIn c (put order x xs) → (c ≡ x) ⊎ IsIn c xs
+put-in order c x [] = λ m. m
+put-in order c x (y ∷ ys) =
+    elim (is_lt (order y x)) as (λ b. IsIn c (cond b (y ∷ put order x ys) (x ∷ y ∷ ys)) → (c ≡ x) ⊎ IsIn c (y ∷ ys)) [
+      | true ↦ put-in-later c x y (put order x ys) ys (put-in order c x ys)
       | false ↦ (λ m. m)
     ]
 
-in-put : (key : List ℕ → List ℕ) (c x : List ℕ) (xs : List (List ℕ)) → (c ≡ x) ⊎ IsIn c xs → IsIn c (put key x xs)
-in-put key c x [] m = m
-in-put key c x (y ∷ ys) m =
-    elim (is_before (key y) (key x)) as (λ b. IsIn c (cond b (y ∷ put key x ys) (x ∷ y ∷ ys))) [
-      | true ↦ elim m [ inl same ↦ inr (in-put key c x ys (inl same)) | inr n ↦ elim n [ inl same ↦ inl same | inr later ↦ inr (in-put key c x ys (inr later)) ] ]
+in-put : (order : List ℕ → List ℕ → Ordering) (c x : List ℕ) (xs : List (List ℕ)) → (c ≡ x) ⊎ IsIn c xs → IsIn c (put order x xs)
+in-put order c x [] m = m
+in-put order c x (y ∷ ys) m =
+    elim (is_lt (order y x)) as (λ b. IsIn c (cond b (y ∷ put order x ys) (x ∷ y ∷ ys))) [
+      | true ↦ elim m [ inl same ↦ inr (in-put order c x ys (inl same)) | inr n ↦ elim n [ inl same ↦ inl same | inr later ↦ inr (in-put order c x ys (inr later)) ] ]
       | false ↦ m
     ]
 
-pub sorted-in : (key : List ℕ → List ℕ) (c : List ℕ) (xs : List (List ℕ)) → IsIn c (sorted key xs) → IsIn c xs
-sorted-in key c [] m = m
-sorted-in key c (x ∷ xs) m =
-    elim (put-in key c x (sorted key xs) m) [ inl same ↦ inl same | inr n ↦ inr (sorted-in key c xs n) ]
+pub sorted-in : (order : List ℕ → List ℕ → Ordering) (c : List ℕ) (xs : List (List ℕ)) → IsIn c (sorted order xs) → IsIn c xs
+sorted-in order c [] m = m
+sorted-in order c (x ∷ xs) m =
+    elim (put-in order c x (sorted order xs) m) [ inl same ↦ inl same | inr n ↦ inr (sorted-in order c xs n) ]
 
-pub in-sorted : (key : List ℕ → List ℕ) (c : List ℕ) (xs : List (List ℕ)) → IsIn c xs → IsIn c (sorted key xs)
-in-sorted key c [] m = m
-in-sorted key c (x ∷ xs) (inl same) = in-put key c x (sorted key xs) (inl same)
-in-sorted key c (x ∷ xs) (inr m) = in-put key c x (sorted key xs) (inr (in-sorted key c xs m))
+pub in-sorted : (order : List ℕ → List ℕ → Ordering) (c : List ℕ) (xs : List (List ℕ)) → IsIn c xs → IsIn c (sorted order xs)
+in-sorted order c [] m = m
+in-sorted order c (x ∷ xs) (inl same) = in-put order c x (sorted order xs) (inl same)
+in-sorted order c (x ∷ xs) (inr m) = in-put order c x (sorted order xs) (inr (in-sorted order c xs m))
 
-before_or : (key : List ℕ → List ℕ) (x y : List ℕ) → (key x ≡ key y → ⊥) → is_before (key y) (key x) ≡ false → is_before (key x) (key y) ≡ true
-before_or key x y apart after =
-    elim (is_before-total (key x) (key y)) [
-      | inl same ↦ absurd (apart same)
-      | inr (inl first) ↦ first
-      | inr (inr second) ↦ absurd (true≢false (sym second ∙ after))
-    ]
+module _ (key : List ℕ → List ℕ) (order : List ℕ → List ℕ → Ordering) where
+  before_or : (x y : List ℕ) → (key x ≡ key y → ⊥) → is_before (key y) (key x) ≡ false → is_before (key x) (key y) ≡ true
+  before_or x y apart after =
+      elim (is_before-total (key x) (key y)) [
+        | inl same ↦ absurd (apart same)
+        | inr (inl first) ↦ first
+        | inr (inr second) ↦ absurd (true≢false (sym second ∙ after))
+      ]
 
-put-ascends : (key : List ℕ → List ℕ) (x : List ℕ) (xs : List (List ℕ)) → Ascends key xs → ((y : List ℕ) → IsIn y xs → key x ≡ key y → ⊥) → Ascends key (put key x xs)
-put-ascends key x [] p apart = (tt, tt)
-put-ascends key x (y ∷ ys) p apart =
-    elim (cases_Bool (is_before (key y) (key x))) [
-      | inl before ↦
-          subst (λ b. Ascends key (cond b (y ∷ put key x ys) (x ∷ y ∷ ys))) (sym before) (
-            all_members (λ z. is_before (key y) (key z) ≡ true) (put key x ys)
-                (λ z m. elim (put-in key z x ys m) [
-                  | inl same ↦ subst (λ w. is_before (key y) (key w) ≡ true) (sym same) before
-                  | inr n ↦ member_has (λ z. is_before (key y) (key z) ≡ true) ys p.0 z n
-                ]),
-            put-ascends key x ys p.1 (λ z m. apart z (inr m)),
-          )
-      | inr after ↦
-          let first : is_before (key x) (key y) ≡ true = before_or key x y (apart y (inl refl)) after in
-          subst (λ b. Ascends key (cond b (y ∷ put key x ys) (x ∷ y ∷ ys))) (sym after) (
-            all_members (λ z. is_before (key x) (key z) ≡ true) (y ∷ ys)
-                (λ z m. elim m [
-                  | inl same ↦ subst (λ w. is_before (key x) (key w) ≡ true) (sym same) first
-                  | inr n ↦ is_before-transitive (key x) (key y) (key z) first (member_has (λ z. is_before (key y) (key z) ≡ true) ys p.0 z n)
-                ]),
-            p,
-          )
-    ]
+  put-ascends : (x : List ℕ) (xs : List (List ℕ)) → ((y : List ℕ) → IsIn y xs → is_lt (order y x) ≡ is_before (key y) (key x))
+      → Ascends key xs → ((y : List ℕ) → IsIn y xs → key x ≡ key y → ⊥) → Ascends key (put order x xs)
+  put-ascends x [] same p apart = (tt, tt)
+  put-ascends x (y ∷ ys) same p apart =
+      elim (cases_Bool (is_before (key y) (key x))) [
+        | inl before ↦
+            subst (λ b. Ascends key (cond b (y ∷ put order x ys) (x ∷ y ∷ ys))) (sym (same y (inl refl) ∙ before)) (
+              all_members (λ z. is_before (key y) (key z) ≡ true) (put order x ys)
+                  (λ z m. elim (put-in order z x ys m) [
+                    | inl equal ↦ subst (λ w. is_before (key y) (key w) ≡ true) (sym equal) before
+                    | inr n ↦ member_has (λ z. is_before (key y) (key z) ≡ true) ys p.0 z n
+                  ]),
+              put-ascends x ys (λ z m. same z (inr m)) p.1 (λ z m. apart z (inr m)),
+            )
+        | inr after ↦
+            let first : is_before (key x) (key y) ≡ true = before_or x y (apart y (inl refl)) after in
+            subst (λ b. Ascends key (cond b (y ∷ put order x ys) (x ∷ y ∷ ys))) (sym (same y (inl refl) ∙ after)) (
+              all_members (λ z. is_before (key x) (key z) ≡ true) (y ∷ ys)
+                  (λ z m. elim m [
+                    | inl equal ↦ subst (λ w. is_before (key x) (key w) ≡ true) (sym equal) first
+                    | inr n ↦ is_before-transitive (key x) (key y) (key z) first (member_has (λ z. is_before (key y) (key z) ≡ true) ys p.0 z n)
+                  ]),
+              p,
+            )
+      ]
 
--- sorting a list of different choices with different keys makes it ascend
-pub sorted-ascends : (key : List ℕ → List ℕ) (xs : List (List ℕ)) → Ascends (λ x. x) xs → ((x y : List ℕ) → IsIn x xs → IsIn y xs → key x ≡ key y → x ≡ y) → Ascends key (sorted key xs)
-sorted-ascends key [] p apart = tt
-sorted-ascends key (x ∷ xs) p apart =
-    put-ascends key x (sorted key xs) (sorted-ascends key xs p.1 (λ y z m n. apart y z (inr m) (inr n)))
-    (λ y m same.
-    let in_xs : IsIn y xs = sorted-in key y xs m in
-    let equal : x ≡ y = apart x y (inl refl) (inr in_xs) same in
-    true≢false (sym (member_has (λ z. is_before x z ≡ true) xs p.0 y in_xs) ∙ sym (ap (λ z. is_before x z) equal) ∙ is_before-irreflexive x))
+  -- sorting a list of different choices with different keys makes it ascend
+  pub sorted-ascends : (xs : List (List ℕ)) → IsByKey key order xs → Ascends (λ x. x) xs → ((x y : List ℕ) → IsIn x xs → IsIn y xs → key x ≡ key y → x ≡ y) → Ascends key (sorted order xs)
+  sorted-ascends [] same p apart = tt
+  sorted-ascends (x ∷ xs) same p apart =
+      put-ascends x (sorted order xs) (λ y m. same y x (inr (sorted-in order y xs m)) (inl refl))
+      (sorted-ascends xs (λ y z m n. same y z (inr m) (inr n)) p.1 (λ y z m n. apart y z (inr m) (inr n)))
+      (λ y m alike.
+      let in_xs : IsIn y xs = sorted-in order y xs m in
+      let equal : x ≡ y = apart x y (inl refl) (inr in_xs) alike in
+      true≢false (sym (member_has (λ z. is_before x z ≡ true) xs p.0 y in_xs) ∙ sym (ap (λ z. is_before x z) equal) ∙ is_before-irreflexive x))
 
--- a list that ascends by a key and has the members of another, whose keys differ, is that other one, sorted
-pub ascending-sorted : (key : List ℕ → List ℕ) (ys xs : List (List ℕ)) → Ascends key ys → Ascends (λ x. x) xs → ((x y : List ℕ) → IsIn x xs → IsIn y xs → key x ≡ key y → x ≡ y) → ((c : List ℕ) → IsIn c ys → IsIn c xs) → ((c : List ℕ) → IsIn c xs → IsIn c ys) → ys ≡ sorted key xs
-ascending-sorted key ys xs p q apart there back =
-    Ascends-unique key ys (sorted key xs) p (sorted-ascends key xs q apart)
-    (λ c m. in-sorted key c xs (there c m)) (λ c m. back c (sorted-in key c xs m))
+  -- a list that ascends by a key and has the members of another, whose keys differ, is that other one, sorted
+  pub ascending-sorted : (ys xs : List (List ℕ)) → IsByKey key order xs → Ascends key ys → Ascends (λ x. x) xs → ((x y : List ℕ) → IsIn x xs → IsIn y xs → key x ≡ key y → x ≡ y) → ((c : List ℕ) → IsIn c ys → IsIn c xs) → ((c : List ℕ) → IsIn c xs → IsIn c ys) → ys ≡ sorted order xs
+  ascending-sorted ys xs same p q apart there back =
+      Ascends-unique key ys (sorted order xs) p (sorted-ascends xs same q apart)
+      (λ c m. in-sorted order c xs (there c m)) (λ c m. back c (sorted-in order c xs m))
 
 -- a map that keeps the order of its members
 pub Ascends-map : (key : List ℕ → List ℕ) (f : List ℕ → List ℕ) (xs : List (List ℕ)) → Ascends (λ x. x) xs → ((x y : List ℕ) → IsIn x xs → IsIn y xs → is_before x y ≡ true → is_before (key (f x)) (key (f y)) ≡ true) → Ascends key (map f xs)

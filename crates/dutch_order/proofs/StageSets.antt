@@ -8,8 +8,8 @@ use Rattle.dutch_order.specs.declared.exchange.Side.TheVariants.{Out, In}
 use Rattle.dutch_order.specs.Trials.{Plan, Event, Tried, Hit, entry, below, ahead, hits, lower, lowest}
 use Rattle.std.specs.List.{flat_map}
 use Rattle.dutch_order.specs.Choices.{subsets, numbers_from}
-use Rattle.dutch_order.specs.Keys.{is_before, IsIn, Ascends, higher_first}
-use Rattle.dutch_order.specs.Exchange.{exchange_key, exchanges}
+use Rattle.dutch_order.specs.Keys.{IsIn}
+use Rattle.dutch_order.specs.Exchange.{exchanges, exchange_cmp}
 use Rattle.dutch_order.specs.Halves.{half_start}
 use Rattle.dutch_order.specs.Stages.{total, value_of, within_reach, beyond_reach, exchange_plan, kept_of, set_of, stage_sets, stage_left, sets_of_stages, sets_of_sizes, stages_of, least_difference, greatest_difference, most_exchanged, sets_ahead, is_next, least_at, greatest_at}
 use Rattle.dutch_order.proofs.HalfWalks.{Climbs, AllFit, Admitted, halves-split, halves-join, Climbs-room}
@@ -22,6 +22,8 @@ use Rattle.dutch_order.proofs.ExchangeSets.{v, v-raises, pool-is, set-is, set-in
 use Rattle.dutch_order.proofs.Moves.{lower-assoc}
 use Rattle.dutch_order.proofs.StageMoves.{sets-first}
 use Rattle.dutch_order.proofs.Reach.{out-falls, inn-raises, difference-least, difference-greatest, outs-fit, ins-fit, ins-exact, take_front_of}
+use Rattle.dutch_order.proofs.ByKeys.{is_before, Ascends, turned, exchange_key}
+use Rattle.dutch_order.proofs.Comparing.{exchange_cmp-is}
 
 -- a map that raises the numbers below a bound keeps the order of lists of them
 pub is_before-map_below : (f : ℕ → ℕ) (bound low : ℕ) → ((x y : ℕ) → x < y → y < bound → f x < f y) → (xs ys : List ℕ) → Climbs low bound ys → is_before xs ys ≡ true → is_before (map f xs) (map f ys) ≡ true
@@ -154,13 +156,13 @@ module _ (pool : List ℕ) (k : ℕ) (rises : IsStrictlyIncreasing pool) (enough
       (map-IsIn (set_of pool k size) (outs ++ ins) (found (exchange_plan pool k size difference) (size + size) [])
       (admitted-found (exchange_plan pool k size difference) (size + size) [] (outs ++ ins) (exchange-admitted size difference set outs ins e))))
 
-  pub key-at : (size difference : ℕ) (set outs ins : List ℕ) → Exchange pool k size difference set outs ins → key set ≡ size ∷ difference ∷ (map (λ i. higher_first (out i)) outs ++ map inn ins)
+  pub key-at : (size difference : ℕ) (set outs ins : List ℕ) → Exchange pool k size difference set outs ins → key set ≡ size ∷ difference ∷ (map (λ i. turned (out i)) outs ++ map inn ins)
   key-at size difference set outs ins e =
       ap key (e.is_set ∙ set-is pool k rises enough outs ins)
       ∙ exchange_key-is pool k rises enough outs ins e.outs_climb e.ins_climb
-      ∙ ap (λ n. n ∷ (total inn ins - total out outs) ∷ (map higher_first (map out outs) ++ map inn ins)) e.outs_size
-      ∙ ap (λ n. size ∷ n ∷ (map higher_first (map out outs) ++ map inn ins)) e.differs
-      ∙ ap (λ xs. size ∷ difference ∷ (xs ++ map inn ins)) (map-map higher_first out outs)
+      ∙ ap (λ n. n ∷ (total inn ins - total out outs) ∷ (map turned (map out outs) ++ map inn ins)) e.outs_size
+      ∙ ap (λ n. size ∷ n ∷ (map turned (map out outs) ++ map inn ins)) e.differs
+      ∙ ap (λ xs. size ∷ difference ∷ (xs ++ map inn ins)) (map-map turned out outs)
 
   -- within a stage, earlier paths have earlier keys
   pub stage-order : (size difference : ℕ) → (size ≡ 0 → difference ≡ 0) → (p q : List ℕ) → IsIn p (found (exchange_plan pool k size difference) (size + size) []) → IsIn q (found (exchange_plan pool k size difference) (size + size) []) → is_before p q ≡ true → is_before (key (set_of pool k size p)) (key (set_of pool k size q)) ≡ true
@@ -171,7 +173,7 @@ module _ (pool : List ℕ) (k : ℕ) (rises : IsStrictlyIncreasing pool) (enough
       let key_p = key-at size difference (set_of pool k size p) C A one.3 in
       let key_q = key-at size difference (set_of pool k size q) D B two.3 in
       let same : length C ≡ length D = one.3.outs_size ∙ sym two.3.outs_size in
-      let weight : ℕ → ℕ = λ i. higher_first (out i) in
+      let weight : ℕ → ℕ = λ i. turned (out i) in
       let cases = is_before-split C D A B same (subst (λ z. is_before (C ++ A) z ≡ true) two.2 (subst (λ z. is_before z q ≡ true) one.2 h)) in
       let tails : is_before (map weight C ++ map inn A) (map weight D ++ map inn B) ≡ true =
       elim cases [
@@ -330,7 +332,7 @@ module _ (pool : List ℕ) (k : ℕ) (rises : IsStrictlyIncreasing pool) (enough
             (subst (λ s. IsIn s (map (set_of pool k size) (found (exchange_plan pool k size first) (size + size) []))) (path-set size outs ins e.outs_size ∙ sym e.is_set)
             (map-IsIn (set_of pool k size) (outs ++ ins) (found (exchange_plan pool k size first) (size + size) []) (admitted-found (exchange_plan pool k size first) (size + size) [] (outs ++ ins) here))) in
             let other = stage-exchange size first none set there in
-            let keys : size ∷ first ∷ (map (λ i. higher_first (out i)) other.0 ++ map inn other.1) ≡ size ∷ difference ∷ (map (λ i. higher_first (out i)) outs ++ map inn ins) =
+            let keys : size ∷ first ∷ (map (λ i. turned (out i)) other.0 ++ map inn other.1) ≡ size ∷ difference ∷ (map (λ i. turned (out i)) outs ++ map inn ins) =
             sym (key-at size first set other.0 other.1 other.2) ∙ key-at size difference set outs ins e in
             let same : first ≡ difference = cc in
             absurd (omega (arith, less, same))
@@ -385,8 +387,8 @@ module _ (pool : List ℕ) (k : ℕ) (rises : IsStrictlyIncreasing pool) (enough
       let here = stage-exchange size first (none first (omega arith) (omega arith)) x m in
       let later = stages-in count size (suc first) found_next y n in
       let there = stage-exchange size later.0 (none later.0 (omega (arith, later.1)) (omega (arith, later.2))) y later.3 in
-      let one : List ℕ = map (λ i. higher_first (out i)) here.0 ++ map inn here.1 in
-      let two : List ℕ = map (λ i. higher_first (out i)) there.0 ++ map inn there.1 in
+      let one : List ℕ = map (λ i. turned (out i)) here.0 ++ map inn here.1 in
+      let two : List ℕ = map (λ i. turned (out i)) there.0 ++ map inn there.1 in
       subst (λ z. is_before z (key y) ≡ true) (sym (key-at size first x here.0 here.1 here.2))
       (subst (λ z. is_before (size ∷ first ∷ one) z ≡ true) (sym (key-at size later.0 y there.0 there.1 there.2))
       (is_before-equal size (first ∷ one) (later.0 ∷ two) ∙ is_before-lower first later.0 one two (omega (arith, later.1))))))
@@ -434,8 +436,8 @@ module _ (pool : List ℕ) (k : ℕ) (rises : IsStrictlyIncreasing pool) (enough
       let here = stage-exchange first stage.0 (none_at first stage.0 stage.1 stage.2) x stage.3 in
       let there = size-exchange count (suc first) y n in
       subst (λ z. is_before z (key y) ≡ true) (sym (key-at first stage.0 x here.0 here.1 here.2))
-      (subst (λ z. is_before (first ∷ stage.0 ∷ (map (λ i. higher_first (out i)) here.0 ++ map inn here.1)) z ≡ true) (sym (key-at there.0 there.1 y there.2 there.3 there.5))
-      (is_before-lower first there.0 (stage.0 ∷ (map (λ i. higher_first (out i)) here.0 ++ map inn here.1)) (there.1 ∷ (map (λ i. higher_first (out i)) there.2 ++ map inn there.3)) (omega (arith, there.4)))))
+      (subst (λ z. is_before (first ∷ stage.0 ∷ (map (λ i. turned (out i)) here.0 ++ map inn here.1)) z ≡ true) (sym (key-at there.0 there.1 y there.2 there.3 there.5))
+      (is_before-lower first there.0 (stage.0 ∷ (map (λ i. turned (out i)) here.0 ++ map inn here.1)) (there.1 ∷ (map (λ i. turned (out i)) there.2 ++ map inn there.3)) (omega (arith, there.4)))))
 
   found-set : (set : List ℕ) → IsIn set (sets_of_sizes pool k (suc (most_exchanged pool k)) 0) → IsIn set (subsets pool k)
   found-set set m =
@@ -477,7 +479,7 @@ module _ (pool : List ℕ) (k : ℕ) (rises : IsStrictlyIncreasing pool) (enough
   pub sizes-sorted : sets_of_sizes pool k (suc (most_exchanged pool k)) 0 ≡ exchanges pool k
   sizes-sorted =
       let ascend = sizes-ascend (suc (most_exchanged pool k)) 0 in
-      ascending-sorted key (sets_of_sizes pool k (suc (most_exchanged pool k)) 0) (subsets pool k) ascend pool-ascend
+      ascending-sorted key (exchange_cmp pool k) (sets_of_sizes pool k (suc (most_exchanged pool k)) 0) (subsets pool k) (λ x y m n. exchange_cmp-is pool k small x y) ascend pool-ascend
       exchange_key-apart
       found-set set-found
 

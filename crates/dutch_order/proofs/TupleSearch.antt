@@ -19,13 +19,15 @@ use Rattle.dutch_order.specs.Walks.{Stands}
 use Rattle.dutch_order.proofs.LeftOut.{passes-none, passes-more, passes-same, passes-map}
 use Rattle.dutch_order.proofs.Moves.{Walked-below}
 use Rattle.dutch_order.proofs.Lists.{map-flat_map, filter-flat_map, flat_map-filter, flat_map-below, map-numbers_from, map-same, filter-same, filter-filter, filter-all}
-use Rattle.dutch_order.specs.Keys.{is_before, sorted, IsIn, Ascends}
+use Rattle.dutch_order.specs.Keys.{sorted, IsIn, lower_first}
 use Rattle.dutch_order.proofs.HalfWalks.{Admitted}
 use Rattle.dutch_order.proofs.FoundPaths.{found-admitted}
 use Rattle.dutch_order.proofs.FromOn.{is_late, from_on-filter, map-late}
 use Rattle.dutch_order.proofs.Hinted.{Reaches, hinted-hits}
 use Rattle.dutch_order.proofs.Found.{found, found-zero, found-suc, ahead-new, short_paths, trials-short}
 use Rattle.dutch_order.proofs.Orders.{Rises, Rises-from, Rises-filter, Ascends-append, Ascends-head, IsIn-map, IsIn-flat_map, member_has, is_before-lower, sorted-ascending}
+use Rattle.dutch_order.proofs.ByKeys.{is_before, Ascends}
+use Rattle.dutch_order.proofs.Comparing.{lower_first-is}
 
 -- a test of a tuple with one more number at its head
 filter-head : (meets : ℕ → ℕ → Bool) (first : ℕ) (firsts : List ℕ) (x : ℕ) (tuples' : List (List ℕ)) → filter (all_meet meets (first ∷ firsts)) (map (λ tuple. x ∷ tuple) tuples') ≡ cond (meets first x) (map (λ tuple. x ∷ tuple) (filter (all_meet meets firsts) tuples')) []
@@ -165,8 +167,8 @@ module _ (meets : ℕ → ℕ → Bool) (first pool : List ℕ) (rises : IsStric
       ∙ ap (λ l. map (λ tuple. tuple) (filter (all_meet meets (take open_places first)) (tuples l open_places))) (filter-all pool)
       ∙ map-self (filter (all_meet meets (take open_places first)) (tuples pool open_places))
 
-  sorted-tuples : sorted (λ tuple. tuple) (tuples pool (length first)) ≡ tuples pool (length first)
-  sorted-tuples = sorted-ascending (λ tuple. tuple) (tuples pool (length first)) (tuples-ascend (length first) pool (Rises-from pool rises))
+  sorted-tuples : sorted lower_first (tuples pool (length first)) ≡ tuples pool (length first)
+  sorted-tuples = sorted-ascending (λ tuple. tuple) lower_first (tuples pool (length first)) (λ x y m n. lower_first-is x y) (tuples-ascend (length first) pool (Rises-from pool rises))
 
   found-all : map (numbers_at pool) (found plan (length first) []) ≡ transpositions meets first pool
   found-all =
@@ -267,13 +269,13 @@ module _ (meets : ℕ → ℕ → Bool) (first pool : List ℕ) (rises : IsStric
   and_turned false false = refl
 
   -- a search that begins at a tuple finds those from it on, of which the players may meet
-  pub transpositions-from : (tuple : List ℕ) → IsIn tuple (tuples pool (length first)) → map (numbers_at pool) (hits (ahead (hinted (places_in pool tuple) plan) [] (first_hint (places_in pool tuple)))) ≡ filter (all_meet meets first) (from_on tuple (sorted (λ tuple. tuple) (tuples pool (length first))))
+  pub transpositions-from : (tuple : List ℕ) → IsIn tuple (tuples pool (length first)) → map (numbers_at pool) (hits (ahead (hinted (places_in pool tuple) plan) [] (first_hint (places_in pool tuple)))) ≡ filter (all_meet meets first) (from_on tuple (sorted lower_first (tuples pool (length first))))
   transpositions-from tuple m =
       let hint : List ℕ = places_in pool tuple in
       let known = tuple-members (length first) pool tuple m in
       let back = places-back tuple known.1 in
       let whole : length first ≡ length hint = sym (length-map tuple (place_in pool) ∙ known.0) in
-      let all : List (List ℕ) = sorted (λ tuple. tuple) (tuples pool (length first)) in
+      let all : List (List ℕ) = sorted lower_first (tuples pool (length first)) in
       let late : List ℕ → List ℕ → Bool = is_late (λ tuple. tuple) in
       ap (map (numbers_at pool)) (hinted-hits plan hint whole (reaches-all [] hint))
       ∙ map-late (λ tuple. tuple) (numbers_at pool) hint (found plan (length first) [])

@@ -57,17 +57,17 @@ pub record IsBracket (scores : List ℕ) (mdps : ℕ) : Type 0 where
   pub above : (i j : ℕ) → i < mdps → mdps ≤ j → j < length scores → slice_index scores j < slice_index scores i
 
 module _ (frame : Frame) (shape : Shape) where
-  -- D.1: where all but S2R is chosen, the tuples of those who are left then
+  -- D.1: once all but S2R is chosen, the tuples of those who are left
   abbrev pub with_s2r : List ℕ → List ℕ → List ℕ → List Arrangement
   with_s2r s1 s2 s1r =
       map (λ s2r. record { s1 = s1; s2 = s2; s1r = s1r; s2r = s2r })
       (all_tuples (left_of (left_of (residents_of frame) s2) s1r) (remainder_pairs shape))
 
-  -- D.2: where S1 and S2 are chosen, the sets of residents of the remainder
+  -- D.2: once S1 and S2 are chosen, the sets of residents of the remainder
   abbrev pub with_s1r : List ℕ → List ℕ → List Arrangement
   with_s1r s1 s2 = flat_map (with_s2r s1 s2) (exchanges (left_of (residents_of frame) s2) (remainder_pairs shape))
 
-  -- D.1: where S1 is chosen, the tuples of residents whom its players meet
+  -- D.1: once S1 is chosen, the tuples of residents whom its players meet
   abbrev pub with_s2 : List ℕ → List Arrangement
   with_s2 s1 = flat_map (with_s1r s1) (all_tuples (residents_of frame) shape.mdps)
 
@@ -83,7 +83,7 @@ paired a = a.s1 ++ (a.s2 ++ (a.s1r ++ a.s2r))
 abbrev pub down : Frame → Arrangement → List ℕ
 down frame a = left_of (players_of frame) (paired a)
 
--- C.2: at most one player is left, and that one may be
+-- C.2: at most one player is left over, and one who may be
 abbrev pub leaves_one : (ℕ → Bool) → List ℕ → Bool
 leaves_one may_be_left [] = true
 leaves_one may_be_left (player ∷ []) = may_be_left player

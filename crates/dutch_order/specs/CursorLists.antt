@@ -4,7 +4,7 @@ use Rattle.std.specs.Prelude.{ℕ, ◌<◌, ◌&&◌, Bool, nat_le, List, length
 use Rattle.dutch_order.specs.Arrangements.{Arrangement}
 use Rattle.dutch_order.specs.declared.numbers.TheConstants.{LIMIT}
 
--- where there is a list, it has more than LIMIT numbers
+-- if there is a list, it has more than LIMIT numbers
 abbrev pub IsLong : Option (List ℕ) → Type 0
 IsLong list = IfSome list (λ numbers. LIMIT < length numbers)
 

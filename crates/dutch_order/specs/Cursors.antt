@@ -11,7 +11,7 @@ use Rattle.dutch_order.specs.declared.cursor.CursorFault.{CursorFault}
 use Rattle.dutch_order.specs.declared.cursor.CursorFault.TheVariants.{Syntax, NotOfBracket}
 use Rattle.dutch_order.specs.declared.numbers.TheConstants.{LIMIT}
 
--- a list: its numbers with commas between them, or 0 alone where it has none
+-- a list: its numbers with commas between them, or 0 alone if it has none
 abbrev pub list_text : List ℕ → List ℕ
 list_text [] = codes "0"
 list_text (x ∷ xs) = decimal x ++ flat_map (λ y. codes "," ++ decimal y) xs
@@ -44,13 +44,13 @@ is_numeral (first ∷ rest) = not (first == byte "0") && (nat_le (length rest) 3
 abbrev pub number_of : List ℕ → Option ℕ
 number_of word = if is_numeral word && nat_le (number_after 0 word) LIMIT then Some (number_after 0 word) else None
 
--- what comes of a value, where there is one
+-- what comes of a value, if there is one
 infixl 10 ◌>>=◌
 abbrev pub ◌>>=◌ : {X Y : Type 0} → Option X → (X → Option Y) → Option Y
 None >>= next = None
 (Some x) >>= next = next x
 
--- the numbers that some parts spell, where each spells one
+-- the numbers that some parts spell, if each spells one
 abbrev pub numbers_of : List (List ℕ) → Option (List ℕ)
 numbers_of [] = Some []
 numbers_of (word ∷ others) = do
@@ -119,7 +119,7 @@ is_among moved_down residents shape a =
 abbrev pub is_of : Frame → Shape → Arrangement → Bool
 is_of frame shape a = is_among (moved_down_of frame) (residents_of frame) shape a
 
--- an arrangement where it is of the bracket and shape
+-- an arrangement, if it is of the bracket and shape
 abbrev pub of_bracket : Frame → Shape → Option Arrangement → Result Arrangement CursorFault
 of_bracket frame shape None = Err Syntax
 of_bracket frame shape (Some a) = if is_of frame shape a then Ok a else Err NotOfBracket

@@ -8,7 +8,7 @@ hint_after [] path = None
 hint_after (x ∷ hint) [] = Some x
 hint_after (x ∷ hint) (y ∷ path) = if x == y then hint_after hint path else None
 
--- a number, where there is one, and else another
+-- a number if there is one, and otherwise another
 abbrev pub number_or : Option ℕ → ℕ → ℕ
 number_or None other = other
 number_or (Some number) other = number

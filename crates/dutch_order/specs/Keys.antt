@@ -1,23 +1,26 @@
--- The order of choices (C.04.3 D): each has a key, a list of numbers, and the one with the lower number at the first difference is
--- first.
-use Rattle.std.specs.Prelude.{◌≡◌, ℕ, ◌-◌, Bool, true, false, ◌&&◌, ◌||◌, eqb, ltb, List, [], ◌∷◌, ◌⊎◌, cond}
+-- The order of choices (C.04.3 D): two choices are compared by one key after another, and the first key in which they differ decides.
+use Rattle.std.specs.Prelude.{◌≡◌, ℕ, List, [], ◌∷◌, ◌⊎◌, cond}
+use Rattle.std.specs.declared.cmp.Ordering.{Ordering}
+use Rattle.std.specs.declared.cmp.Ordering.TheVariants.{Less}
+use Rattle.std.specs.Ordering.{nat_cmp, flip_args, is_lt}
+use Rattle.std.specs.Cmp.Lexicographic.{slice_cmp}
 use Rattle.std.specs.List.{AllByRecursion}
 
--- whether a key is before another: at the first difference its number is lower, or it has ended
-abbrev pub is_before : List ℕ → List ℕ → Bool
-is_before [] [] = false
-is_before [] (y ∷ ys) = true
-is_before (x ∷ xs) [] = false
-is_before (x ∷ xs) (y ∷ ys) = ltb x y || (eqb x y && is_before xs ys)
+-- of two lists the one with the lower number at the first difference goes first, or the one that has ended there
+abbrev pub lower_first : List ℕ → List ℕ → Ordering
+lower_first = slice_cmp nat_cmp
 
-module _ (key : List ℕ → List ℕ) where
-  -- a choice put before the first one whose key is not before its own
+-- of two lists the one with the higher number at the first difference goes first, or the one that has ended there
+abbrev pub higher_first : List ℕ → List ℕ → Ordering
+higher_first = slice_cmp (flip_args nat_cmp)
+
+module _ (order : List ℕ → List ℕ → Ordering) where
+  -- a choice put before the first one that does not go before it
   abbrev pub put : List ℕ → List (List ℕ) → List (List ℕ)
   put choice [] = choice ∷ []
-  put choice (other ∷ others) =
-      cond (is_before (key other) (key choice)) (other ∷ put choice others) (choice ∷ other ∷ others)
+  put choice (other ∷ others) = cond (is_lt (order other choice)) (other ∷ put choice others) (choice ∷ other ∷ others)
 
-  -- choices sorted by their keys
+  -- choices sorted by an order
   abbrev pub sorted : List (List ℕ) → List (List ℕ)
   sorted [] = []
   sorted (choice ∷ others) = put choice (sorted others)
@@ -32,12 +35,7 @@ abbrev pub HasEachOnce : {X : Type 0} → List X → Type 0
 HasEachOnce [] = Unit {0}
 HasEachOnce (x ∷ xs) = (¬ IsIn x xs) × HasEachOnce xs
 
--- choices ascend by a key: the key of each is before the keys of all later ones
-abbrev pub Ascends : (List ℕ → List ℕ) → List (List ℕ) → Type 0
-Ascends key [] = Unit {0}
-Ascends key (choice ∷ others) =
-    AllByRecursion (λ other. is_before (key choice) (key other) ≡ true) others × Ascends key others
-
--- a number as it counts in a key where the higher one is first; every number is below 65536
-abbrev pub higher_first : ℕ → ℕ
-higher_first number = 65535 - number
+-- choices ascend in an order: each goes before all later ones
+abbrev pub Ascends : (List ℕ → List ℕ → Ordering) → List (List ℕ) → Type 0
+Ascends order [] = Unit {0}
+Ascends order (choice ∷ others) = AllByRecursion (λ other. order choice other ≡ Less) others × Ascends order others

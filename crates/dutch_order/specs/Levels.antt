@@ -8,7 +8,7 @@ use Rattle.dutch_order.specs.Exchange.{exchanges}
 use Rattle.dutch_order.specs.Limbo.{limbo_exchanges}
 use Rattle.dutch_order.specs.declared.bracket.Shape.{Shape}
 
--- what is left in a block, where a level stands in it
+-- what is left in a block, if a level stands in it
 abbrev pub within : {X : Type 0} → Bool → List X → List X
 within true coming = coming
 within false coming = []
@@ -22,18 +22,18 @@ joined (block ∷ blocks) = block ++ joined blocks
 abbrev pub arranged : List ℕ → List ℕ → List ℕ → List ℕ → Arrangement
 arranged s1 s2 s1r s2r = record { s1 = s1; s2 = s2; s1r = s1r; s2r = s2r }
 
--- lists S2R to come behind a cursor: without its own one, where that comes first
+-- lists S2R to come behind a cursor: without the cursor's own, if that one comes first
 abbrev pub without_own : Option Arrangement → List (List ℕ) → List (List ℕ)
 without_own None lists = lists
 without_own (Some own) [] = []
 without_own (Some own) (list ∷ lists) = if is_same list own.s2r then lists else list ∷ lists
 
--- choices from a cursor's own one on, or all where there is no cursor
+-- choices from a cursor's own on, or all if there is no cursor
 abbrev pub choices_from : (Arrangement → List ℕ) → Option Arrangement → List (List ℕ) → List (List ℕ)
 choices_from part None choices = choices
 choices_from part (Some own) choices = from_on (part own) choices
 
--- a cursor, where a choice is its own
+-- a cursor, if a choice is its own
 abbrev pub if_own : (Arrangement → List ℕ) → Option Arrangement → List ℕ → Option Arrangement
 if_own part None choice = None
 if_own part (Some own) choice = if is_same choice (part own) then Some own else None
@@ -45,7 +45,7 @@ blocks_from part block (Some own) [] = []
 blocks_from part block (Some own) (choice ∷ choices) = block (if_own part (Some own) choice) choice ∷ map (block None) choices
 
 module _ (meets : ℕ → ℕ → Bool) where
-  -- where S1, S2 and S1R are chosen: an arrangement for each S2R whose players those of S1R may meet, all or those behind a cursor
+  -- once S1, S2 and S1R are chosen: an arrangement for each S2R whose players those of S1R may meet, all or those behind a cursor
   unfoldable pub in_s1r : List ℕ → List ℕ → List ℕ → Option Arrangement → List ℕ → List Arrangement
   in_s1r s1 s2 remainder own s1r =
       map (arranged s1 s2 s1r)
@@ -55,7 +55,7 @@ module _ (meets : ℕ → ℕ → Bool) where
   abbrev pub s1r_blocks : List ℕ → List ℕ → List ℕ → Option Arrangement → List (List ℕ) → List (List Arrangement)
   s1r_blocks s1 s2 remainder = blocks_from (λ a. a.s1r) (in_s1r s1 s2 remainder)
 
-  -- where S1 and S2 are chosen: the arrangements, all or those behind a cursor
+  -- once S1 and S2 are chosen: the arrangements, all or those behind a cursor
   unfoldable pub in_s2 : ℕ → List ℕ → List ℕ → Option Arrangement → List ℕ → List Arrangement
   in_s2 k s1 residents own s2 =
       joined (s1r_blocks s1 s2 (left_of residents s2) own (choices_from (λ a. a.s1r) own (exchanges (left_of residents s2) k)))
@@ -64,7 +64,7 @@ module _ (meets : ℕ → ℕ → Bool) where
   abbrev pub s2_blocks : ℕ → List ℕ → List ℕ → Option Arrangement → List (List ℕ) → List (List Arrangement)
   s2_blocks k s1 residents = blocks_from (λ a. a.s2) (in_s2 k s1 residents)
 
-  -- where S1 is chosen: the arrangements, all or those behind a cursor
+  -- once S1 is chosen: the arrangements, all or those behind a cursor
   unfoldable pub in_s1 : ℕ → List ℕ → Option Arrangement → List ℕ → List Arrangement
   in_s1 k residents own s1 =
       joined (s2_blocks k s1 residents own (filter (all_meet meets s1) (choices_from (λ a. a.s2) own (all_tuples residents (length s1)))))
@@ -90,7 +90,7 @@ HasS1r k remainder own = IsIn own.s1r (subsets remainder k) × HasS2r remainder 
 abbrev pub HasS2 : ℕ → List ℕ → Arrangement → Type 0
 HasS2 k residents own = IsIn own.s2 (tuples residents (length own.s1)) × HasS1r k (left_of residents own.s2) own
 
--- what holds of a cursor, where there is one
+-- what is true of a cursor, if there is one
 abbrev pub Of : (Arrangement → Type 0) → Option Arrangement → Type 0
 Of holds None = Unit {0}
 Of holds (Some own) = holds own
@@ -99,6 +99,6 @@ Of holds (Some own) = holds own
 abbrev pub pairs_meet : (ℕ → ℕ → Bool) → Arrangement → Bool
 pairs_meet meets a = all_meet meets a.s1 a.s2 && all_meet meets a.s1r a.s2r
 
--- whether an arrangement leaves those over whom its bracket may leave
+-- whether an arrangement leaves over only those whom its bracket may leave over
 unfoldable pub may_leave : (ℕ → Bool) → Frame → Arrangement → Bool
 may_leave may_be_left frame a = not frame.last || leaves_one may_be_left (down frame a)

@@ -5,8 +5,8 @@ use Rattle.dutch_order.specs.Keys.{IsIn}
 use Rattle.dutch_order.specs.declared.bracket.Shape.{Shape}
 use Rattle.dutch_order.specs.Arrangements.{Frame, Arrangement, candidates, rest}
 
--- the bracket, the shape and the rule whose candidates are listed, those still to come, the arrangement behind which they stand, if
--- there is one: the candidate handed out last, or else the one from which the listing began; and whether the end was told
+-- the bracket, the shape and the rule whose candidates are listed; those still to come; the arrangement behind which they stand, if
+-- there is one (the candidate handed out last, or before that, the one from which the listing began); and whether the end was told
 pub record Listing (R : Type 0) : Type 0 where
   pub frame : Frame
   pub shape : Shape
@@ -30,7 +30,7 @@ abbrev pub still_coming : {T : Type 0} → Bool → List T → List T
 still_coming true xs = []
 still_coming false xs = xs
 
--- the candidates behind a cursor, or all where there is none
+-- the candidates behind a cursor, or all if there is none
 abbrev pub candidates_from : (ℕ → ℕ → Bool) → (ℕ → Bool) → Frame → Shape → Option Arrangement → List Arrangement
 candidates_from meets may_be_left frame shape None = candidates meets may_be_left frame shape
 candidates_from meets may_be_left frame shape (Some own) = rest meets may_be_left frame shape own

@@ -10,7 +10,7 @@ use Rattle.dutch_order.specs.Halves.{two_halves}
 use Rattle.dutch_order.specs.Hints.{hinted}
 use Rattle.dutch_order.specs.Walks.{Stands}
 
--- the sum of what a function gives over a list
+-- the sum of what a function gives for the members of a list
 abbrev pub total : (ℕ → ℕ) → List ℕ → ℕ
 total f [] = 0
 total f (x ∷ xs) = f x + total f xs
@@ -55,7 +55,7 @@ module _ (pool : List ℕ) (k : ℕ) where
   within_reach size difference path place =
       nat_le (least_at size path place) difference && nat_le difference (greatest_at size path place)
 
-  -- what a place that cannot reach the wanted difference gives at least, where that is more
+  -- what a place that cannot reach the wanted difference gives at least, if that is more
   unfoldable pub beyond_reach : ℕ → ℕ → List ℕ → ℕ → Option ℕ
   beyond_reach size difference path place =
       if nat_lt difference (least_at size path place) then Some (least_at size path place) else None
@@ -77,7 +77,7 @@ module _ (pool : List ℕ) (k : ℕ) where
   stage_sets size difference path place =
       map (set_of size) (hits (ahead (exchange_plan size difference) path place))
 
-  -- the same where the stage begins at a path
+  -- the same if the stage begins at a path
   unfoldable pub stage_left : List ℕ → ℕ → ℕ → List ℕ → ℕ → List (List ℕ)
   stage_left hint size difference path place =
       map (set_of size) (hits (ahead (hinted hint (exchange_plan size difference)) path place))
@@ -106,7 +106,7 @@ module _ (pool : List ℕ) (k : ℕ) where
   abbrev pub greatest_difference : ℕ → ℕ
   greatest_difference size = run In (length pool - k - size) size - run Out (k - size) size
 
-  -- the sets of so many stages of a size, from a difference on, where the next stage that finds any is known
+  -- the sets of so many stages of a size, from a difference on, if the next stage that finds any is known
   unfoldable pub sets_of_stages : ℕ → ℕ → ℕ → Option ℕ → List (List ℕ)
   sets_of_stages zero size difference next = []
   sets_of_stages (suc count) size difference next =
@@ -147,7 +147,7 @@ module _ (pool : List ℕ) (k : ℕ) where
   abbrev pub most_exchanged : ℕ
   most_exchanged = min k (length pool - k)
 
-  -- what is to come at a stage that began at a path, where it is known what lies beyond the trials made in it
+  -- what is to come at a stage that began at a path, if it is known what lies beyond the trials made in it
   unfoldable pub sets_ahead : List ℕ → ℕ → ℕ → List ℕ → ℕ → Option ℕ → List (List ℕ)
   sets_ahead hint size difference path place beyond =
       stage_left hint size difference path place

@@ -18,7 +18,7 @@ MatchStep (Found x) found ended undecided = found x
 MatchStep End found ended undecided = ended
 MatchStep Undecided found ended undecided = undecided
 
--- a fact for each answer of a call that is stopped at a limit, or else says what it found
+-- a fact for each answer of a call that is stopped at a limit, or says what it found
 abbrev pub MatchFound : {T E : Type 0} → Result (Option T) E → (T → Type 0) → Type 0 → Type 0 → Type 0
 MatchFound answer found none stopped = MatchResult answer (λ o. MatchOption o none found) (λ _. stopped)
 
@@ -28,7 +28,7 @@ MatchDrawn (Ok true) drawn none stopped = drawn
 MatchDrawn (Ok false) drawn none stopped = none
 MatchDrawn (Err e) drawn none stopped = stopped
 
--- a list that goes on as another, once some of its beginning is skipped of which each is idle
+-- a list goes on as another one does, once some of its beginning is skipped, each member of which is idle
 abbrev pub Passes : {T : Type 0} → (T → Type 0) → List T → List T → Type 0
 Passes {T} Idle before after = (skipped : List T) × (before ≡ skipped ++ after) × AllByRecursion Idle skipped
 

@@ -1,18 +1,14 @@
 -- Transpositions (C.04.3 D.1): tuples in the order of their numbers.
 use Rattle.std.specs.Prelude.{ℕ, zero, suc, Bool, List, [], ◌++◌, filter, length, take}
 use Rattle.dutch_order.specs.Choices.{tuples, all_meet}
-use Rattle.dutch_order.specs.Keys.{sorted}
+use Rattle.dutch_order.specs.Keys.{sorted, lower_first}
 
--- the key of a tuple is the tuple itself
-abbrev pub tuple_key : List ℕ → List ℕ
-tuple_key tuple = tuple
-
--- D.1: all tuples of k numbers of the pool, sorted by their numbers
+-- D.1: all tuples of k numbers of the pool, the one first that has the lower number at the first difference
 abbrev pub all_tuples : List ℕ → ℕ → List (List ℕ)
-all_tuples pool k = sorted tuple_key (tuples pool k)
+all_tuples pool k = sorted lower_first (tuples pool k)
 
--- the tuples of the pool that are as long as the first list, sorted by their numbers, whose players may meet those of the first
--- list place by place
+-- the tuples of the pool that are as long as the first list, in this order, whose players may meet those of the first list place by
+-- place
 abbrev pub transpositions : (ℕ → ℕ → Bool) → List ℕ → List ℕ → List (List ℕ)
 transpositions meets first pool = filter (all_meet meets first) (all_tuples pool (length first))
 

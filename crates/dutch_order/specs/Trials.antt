@@ -4,7 +4,7 @@ use Rattle.std.specs.Prelude.{ℕ, zero, suc, ◌+◌, ◌-◌, min, Bool, cond,
 pub use Rattle.dutch_order.specs.Choices.{numbers_from}
 
 -- what a search fills: how many places, below which number all its numbers are, from which to which number it tries at the place
--- after a beginning, whether a number fits there, and what a number that does not fit would have given at least, where that is known
+-- after a beginning, whether a number fits there, and what a number that does not fit would have given at least, if that is known
 pub record Plan : Type 0 where
   pub places : ℕ
   pub width : ℕ
@@ -30,7 +30,7 @@ trials [] = 0
 trials (Tried beyond ∷ events) = trials events + 1
 trials (Hit path ∷ events) = trials events
 
--- the lower of two numbers, of which there may be none
+-- the lower of two numbers, either of which may be missing
 abbrev pub lower : Option ℕ → Option ℕ → Option ℕ
 lower None other = other
 lower (Some x) None = Some x
@@ -43,12 +43,12 @@ lowest (Tried beyond ∷ events) = lower beyond (lowest events)
 lowest (Hit path ∷ events) = lowest events
 
 module _ (plan : Plan) where
-  -- the first number to try after a beginning, where so many places are open
+  -- the first number to try after a beginning, if so many places are open
   abbrev pub entry : ℕ → List ℕ → ℕ
   entry zero path = 0
   entry (suc open_places) path = plan.start path
 
-  -- the events after a beginning, where so many places are open, from a number on
+  -- the events after a beginning, if so many places are open, from a number on
   unfoldable pub below : ℕ → List ℕ → ℕ → List Event
   below zero path zero = Hit path ∷ []
   below zero path (suc number) = []
@@ -64,6 +64,6 @@ module _ (plan : Plan) where
   after (suc open_places) begun (number ∷ path) =
       after open_places (begun ++ number ∷ []) path ++ below (suc open_places) begun (suc number)
 
-  -- the events to come where a path is taken and a number is the next to be tried at its end
+  -- the events to come if a path is taken and a number is the next to be tried at its end
   unfoldable pub ahead : List ℕ → ℕ → List Event
   ahead path number = below (plan.places - length path) path number ++ after plan.places [] path

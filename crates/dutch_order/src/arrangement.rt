@@ -25,7 +25,7 @@ impl Model for Arrangement {
 }
 
 impl Arrangement {
-    /// An arrangement of nobody.
+    /// A place for an arrangement. No clause says what stands in it before one is written into it.
     pub fn empty() -> Arrangement {
         Arrangement {
             s1: ArrayVec::new(),
@@ -90,7 +90,7 @@ impl Held {
         self.is_held = false;
     }
 
-    /// Puts the arrangement of a cursor there, or empties it where there is none.
+    /// Puts the arrangement of a cursor there, or empties the place if there is no cursor.
     pub fn put(&mut self, cursor: Option<&Cursor>)
         ensures { self.new ≡ option_copied cursor.entry }
     {

@@ -1,4 +1,4 @@
-// What can tell that no candidate with a beginning is of interest, so that a listing may leave them all out.
+// What can tell that no candidate with a given beginning is of interest. Then a listing may leave them all out.
 ghost use Rattle.std.specs.Prelude.{◌≡◌, ℕ, Bool, true};
 ghost use Rattle.dutch_order.specs.Arrangements.{Arrangement, Frame, candidates};
 ghost use Rattle.dutch_order.specs.Keys.{IsIn};
@@ -7,9 +7,9 @@ ghost use Rattle.dutch_order.specs.declared.bracket.Shape.{Shape};
 
 use crate::prefix::Prefix;
 
-/// Which candidates of a bracket and a shape are without interest, told by how they begin. It answers for all beginnings.
+/// Tells by how candidates of a bracket and a shape begin that they are without interest. It answers for all beginnings.
 pub trait Bound {
-    /// What it works a question out in. It is lent for each question, so that none makes it anew.
+    /// Room in which it works a question out. It is lent for each question, so that no question makes it anew.
     type Room;
 
     /// The bracket whose candidates it knows.
@@ -27,7 +27,7 @@ pub trait Bound {
     /// A candidate is without interest.
     ghost is_dull: { Self → Arrangement → Bool };
 
-    /// Whether it knows that every candidate with a beginning is without interest.
+    /// Whether it knows that every candidate with this beginning is without interest. A no says nothing.
     fn cannot_win(&self, prefix: &Prefix<'_>, room: &mut Self::Room) -> bool
         ensures { result ≡ true → (a : Arrangement) → IsIn a (candidates (meets self.now) (may_be_left self.now) (frame self.now) (shape self.now))
             → Begins prefix.now a → is_dull self.now a ≡ true };

@@ -19,7 +19,7 @@ pub struct Shape {
 }
 
 /// A bracket (C.04.3 A.3): its players by rank, the moved-down players before the residents. A player's number in the bracket is
-/// his place, from 1.
+/// their place, from 1.
 #[derive(Debug, Drop)]
 pub struct Bracket {
     // in half points, by number

@@ -23,7 +23,7 @@ impl Model for Candidate {
 }
 
 impl Candidate {
-    /// A place for a candidate, which has nobody in it yet.
+    /// A place for a candidate, into which calls as `put_next` write one. No clause says what stands in it before.
     pub fn empty() -> Candidate {
         Candidate {
             lists: Arrangement::empty(),

@@ -1,7 +1,7 @@
 // The candidates of a bracket and a shape in the order of article D, specified by the list of the legal arrangements to come.
 //
-// Four levels list the arrangements whose pairs may meet. What is left here is the last question, whether those may be left over
-// whom an arrangement leaves: an arrangement that has been found is kept until that question is answered.
+// Four levels list the arrangements whose pairs may meet. What is left to do here is the last question, whether those whom an
+// arrangement leaves over may be left over. An arrangement that was found is kept until that question is answered.
 ghost use Rattle.std.specs.Prelude.{◌≡◌, ◌≤◌, ◌++◌, ◌∷◌, [], Some, None, filter, length, not, ◌||◌, ◌&&◌, ◌-◌, ◌*◌, nat_lt, option_copied, true, false};
 ghost use Rattle.dutch_order.specs.Arrangements.{Fits, arrangements, candidates, down, leaves_one, rest};
 ghost use Rattle.dutch_order.specs.Choices.{is_member};
@@ -61,7 +61,7 @@ struct Drawing<L> {
     level: L,
 }
 
-/// Whether these may be left over (C.04.3 C.2). In a bracket that leaves at most one, the one is asked about in a step.
+/// Whether these may be left over (C.04.3 C.2). In a bracket that leaves at most one player, asking about that player takes a step.
 fn ask_leave<R: Rule>(rule: &R, last: bool, down: &[u16], budget: &mut Budget) -> Drawn
     requires { budget.old.used ≤ budget.old.limit }
     ensures answer { MatchDrawn result
@@ -86,7 +86,7 @@ fn ask_leave<R: Rule>(rule: &R, last: bool, down: &[u16], budget: &mut Budget) -
     }
 }
 
-/// Whether every arrangement leaves over more than its bracket may leave: two or more where it is at most one.
+/// Whether every arrangement leaves over more than its bracket may leave: two or more, while the bracket may leave at most one.
 fn leaves_too_many(bracket: &Bracket, shape: Shape) -> bool
     requires { Fits bracket.now shape }
     ensures { result ≡ (bracket.now.last && nat_lt 1 (length bracket.now.scores - 2 * shape.pairs)) }
@@ -113,7 +113,7 @@ fn draw_listed<L: Arranges, C: Cuts>(
     Ok(drawing.kept.take(lists) || drawing.level.next(cuts, room, lists, budget)?)
 }
 
-/// Draws the next arrangement that leaves over whom its bracket may leave, where those may be skipped of which `cuts` tells.
+/// Draws the next arrangement that leaves over whom its bracket may leave. It may skip those that `cuts` knows to be idle.
 fn draw_legal<R: Rule, L: Arranges, C: Cuts>(
     leave: &Leave<'_, R>,
     drawing: &mut Drawing<L>,
@@ -178,12 +178,12 @@ fn start_drawing<'a, R: Rule>(
 pub struct Candidates<'a, R: Rule> {
     shape: Shape,
     leave: Leave<'a, R>,
-    // nothing can be legal, which is known without a step
+    // no arrangement can be legal, and this is known without a step
     hopeless: bool,
     // `End` was answered
     ended: bool,
     drawing: Drawing<Levels<'a, R>>,
-    // what was handed out last, or else where the listing began
+    // what was handed out last, or before that, where the listing began
     latest: Held,
 }
 
@@ -211,7 +211,7 @@ impl<'a, R: Rule> Model for Candidates<'a, R> {
 }
 
 impl<'a, R: Rule> Candidates<'a, R> {
-    /// A listing that has ended, with its places for lists. They are made once: a listing begins anew in them (`restart`).
+    /// A listing that has ended, with room for its lists. The room is made once: `restart` begins a listing anew in it.
     #[tactic(auto, unfolding(crate::specs::Listings::AreCandidates))]
     pub fn ended(bracket: &'a Bracket, rule: &'a R) -> Candidates<'a, R>
         ensures coming { result.coming ≡ [] }
@@ -301,7 +301,7 @@ impl<'a, R: Rule> Candidates<'a, R> {
         self.begin(shape, None);
     }
 
-    // The next candidate, where those may be skipped of which `cuts` tells.
+    // The next candidate. Those that `cuts` knows to be idle may be skipped.
     fn go_on<C: Cuts>(
         &mut self,
         cuts: &C,
@@ -375,10 +375,9 @@ impl<'a, R: Rule> Candidates<'a, R> {
         }
     }
 
-    /// The next candidate. `Found` gives the first of those to come, `End` is answered where none is left, and `Undecided` where the
-    /// budget is used up before the next one is found: what is to come is then as it was. Where the bracket may leave over at most
-    /// one player and the shape leaves more, `End` is answered without a step. After `End` every further call answers `End` without
-    /// a step.
+    /// The next candidate. `Found` gives the first of those to come. `End` says that none is left. `Undecided` says that the budget was
+    /// used up before the next one was found; then what is to come stays as it was. If the bracket may leave over at most one player and
+    /// the shape leaves more, the answer is `End`, without a step. After `End` every further call answers `End` without a step.
     pub fn next(&mut self, budget: &mut Budget) -> Step<Candidate>
         requires { budget.old.used ≤ budget.old.limit }
         ensures answer { MatchStep result
@@ -402,12 +401,12 @@ impl<'a, R: Rule> Candidates<'a, R> {
         }
     }
 
-    /// Fills `candidate` with the next one, where those may be left out of which the bound knows that they are without interest. It is asked about
+    /// Fills `candidate` with the next one, and may leave out those that the bound knows to be without interest. The bound is asked about
     /// beginnings of arrangements, which takes no step: about the empty one at each call, and about others while a list is filled.
-    /// `Found` says that it has one before which all that were to come are without interest, and those behind it are still to come.
-    /// `End` is answered where all that were to come are without interest, and then none is to come. After `Undecided`, where the
-    /// budget is used up first, a part of what was to come is without interest and the rest is still to come. After `End` every
-    /// further call answers `End` without a step.
+    /// `Found` says that `candidate` has one; all that were to come before it are without interest, and those behind it are still to
+    /// come. `End` says that all that were to come are without interest; then none is to come. `Undecided` says that the budget was used
+    /// up first; then a part of what was to come is without interest, and the rest is still to come. After `End` every further call
+    /// answers `End` without a step.
     pub fn put_next_within<B: Bound>(
         &mut self,
         bound: &B,
@@ -474,7 +473,7 @@ impl<'a, R: Rule> Candidates<'a, R> {
         }
     }
 
-    /// The candidate handed out last, or the one behind which the listing began: a later listing can go on behind it.
+    /// The candidate handed out last, or before that, the one behind which the listing began. A later listing can go on behind it.
     pub fn cursor(&self) -> Option<Cursor>
         ensures { result ≡ self.now.latest }
     {

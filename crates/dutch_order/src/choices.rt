@@ -1,8 +1,8 @@
 // The levels of a bracket's arrangements, innermost first: the choice of S2R, of S1R, of S2, and of S1 (C.04.3 B.6, B.7).
 //
 // Each level begins anew in place, for the choice that the level above it has made: it copies that choice into lists of its own, so
-// that no block makes a list. Behind a cursor only the first choice of each level can be the cursor's own: in it the level below
-// begins behind the cursor too, and in all later ones it begins at its first choice.
+// that no block makes a list. Behind a cursor only the first choice of each level can be the cursor's own. In that choice the level
+// below begins behind the cursor too; in all later ones it begins at its first choice.
 ghost use Rattle.std.specs.Prelude.{◌≡◌, ◌+◌, ◌≤◌, ℕ, List, None, [], ◌∷◌, length, option_copied, true};
 ghost use Rattle.std.specs.List.{AllByRecursion};
 ghost use Rattle.std.specs.List.Sorted.{IsStrictlyIncreasing};
@@ -97,7 +97,7 @@ impl<'a, R: Rule> ByS2r<'a, R> {
     }
 }
 
-/// Fills a list with the next one but for a cursor's own, which may come first. None is skipped before the first one has come.
+/// Fills a list with the next one, except a cursor's own, which may come first. None is skipped before the first one has come.
 fn put_next_other<R: Rule, C: CutsTuples>(
     lists: &mut Transpositions<'_, R>,
     resume: &mut Option<&Cursor>,
@@ -203,7 +203,7 @@ impl<'a, R: Rule> ByS1r<'a, R> {
         }
     }
 
-    /// Begins anew with an S1 and an S2 out of the residents, where the remainder makes `k` pairs.
+    /// Begins anew with an S1 and an S2 out of the residents; the remainder makes `k` pairs.
     #[tactic(auto, unfolding(crate::specs::Levels::in_s2))]
     fn start(
         &mut self,
@@ -326,7 +326,7 @@ impl<'a, R: Rule> ByS2<'a, R> {
         }
     }
 
-    /// Begins anew with an S1, where the remainder makes `k` pairs.
+    /// Begins anew with an S1; the remainder makes `k` pairs.
     #[tactic(auto, unfolding(crate::specs::Levels::in_s1))]
     fn start(
         &mut self,
@@ -356,7 +356,7 @@ impl<'a, R: Rule> ByS2<'a, R> {
     }
 }
 
-/// Fills a list with the next one: the very next, or else one before which those may be skipped that the cuts know to be idle.
+/// Fills a list with the next one: the very next, or one before which only such were skipped as the cuts know to be idle.
 fn put_next_list<R: Rule, C: CutsTuples>(
     lists: &mut Transpositions<'_, R>,
     very: bool,

@@ -32,7 +32,7 @@ impl Model for Cursor {
 /// Why a text is no cursor of a bracket and shape.
 #[derive(Debug, Clone, Copy, PartialEq, Eq, Error)]
 pub enum CursorFault {
-    /// The text has not the form of a cursor, or a number in it is over `LIMIT`.
+    /// The text does not have the form of a cursor, or a number in it is over `LIMIT`.
     #[error("bad cursor")]
     Syntax,
     /// The lists are no arrangement of the bracket and shape.
@@ -295,7 +295,7 @@ fn push_others(text: &mut CursorText, others: &[u16])
     }
 }
 
-// Appends a list to a text. It leaves room for a slash of what six bytes a number and `LIMIT` numbers take.
+// Appends a list to a text. Of the room for `LIMIT` numbers of six bytes each it leaves enough for a slash.
 fn push_list(text: &mut CursorText, numbers: &[u16])
     requires few { length numbers.now ≤ LIMIT }
     requires room { array_string_len text.old + 6 * LIMIT ≤ TEXT_LIMIT }
@@ -322,7 +322,7 @@ impl Cursor {
     }
 
     /// Whether a text has the form of a cursor, of whatever bracket: four lists joined by `/`, each of them numbers from 1 to `LIMIT`
-    /// joined by `,`, or `0` alone where it is empty.
+    /// joined by `,`, or `0` alone if it is empty.
     pub fn syntax(text: &str) -> bool
         ensures { result ≡ has_syntax text.now }
     {
@@ -356,9 +356,9 @@ impl Cursor {
             && self.has_remainder(residents, shape.pairs.saturating_sub(shape.mdps))
     }
 
-    /// The cursor that a text is: its players are numbers in the bracket, which count from 1. `Syntax` is answered exactly where
-    /// `syntax` answers false, and `NotOfBracket` where the lists are no arrangement of the bracket and shape: lengths other than
-    /// the shape's, a number not in its place's pool, a repeated number, or S1 or S1R not ascending.
+    /// The cursor that a text is: its players are numbers in the bracket, which count from 1. The fault is `Syntax` exactly if
+    /// `syntax` answers false, and `NotOfBracket` if the lists are no arrangement of the bracket and shape: lengths other than the
+    /// shape's, a number not in its place's pool, a repeated number, or S1 or S1R not ascending.
     pub fn read(text: &str, bracket: &Bracket, shape: Shape) -> Result<Cursor, CursorFault>
         ensures { result ≡ cursor_of bracket.now shape text.now }
     {
@@ -377,7 +377,7 @@ impl Cursor {
         Ok(cursor)
     }
 
-    /// The text of this cursor: what `read` reads back as it.
+    /// The text of this cursor, which `read` reads back as the same cursor.
     pub fn print(&self) -> CursorText
         ensures { result.bytes ≡ cursor_text self.now }
     {

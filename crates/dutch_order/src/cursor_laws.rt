@@ -6,19 +6,19 @@ ghost use Rattle.dutch_order.specs.Cursors.{cursor_text, has_syntax, is_of, curs
 ghost use Rattle.dutch_order.specs.declared.cursor.CursorFault.TheVariants.{Syntax};
 ghost use Rattle.dutch_order.specs.declared.bracket.Shape.{Shape};
 
-/// The arrangements that are of a bracket and shape by their lists are those that article D puts in order.
+/// The arrangements whose lists are of a bracket and shape are those that article D puts in order.
 pub fn arrangements_are_of()
     ensures { (frame : Frame) (shape : Shape) (a : Arrangement) → IsBracket frame.scores frame.mdps
         → is_of frame shape a ≡ true ↔ IsIn a (arrangements frame shape) }
 {}
 
-/// A text is read as an arrangement exactly where it is one of the bracket and shape and the text is what printing gives of it.
+/// A text is read as an arrangement exactly if this is one of the bracket and shape and the text is what printing gives of it.
 pub fn read_is_print()
     ensures { (frame : Frame) (shape : Shape) (bytes : List ℕ) (a : Arrangement) → IsBracket frame.scores frame.mdps
         → cursor_of frame shape bytes ≡ Ok a ↔ (IsIn a (arrangements frame shape) × (bytes ≡ cursor_text a)) }
 {}
 
-/// `Syntax` is answered exactly of the texts that have not the form of a cursor, of whatever bracket.
+/// `Syntax` is answered of exactly the texts that do not have the form of a cursor, of whatever bracket.
 pub fn syntax_is_told()
     ensures { (frame : Frame) (shape : Shape) (bytes : List ℕ) → cursor_of frame shape bytes ≡ Err Syntax ↔ has_syntax bytes ≡ false }
 {}

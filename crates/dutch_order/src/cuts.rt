@@ -9,7 +9,7 @@ use crate::bound::Bound;
 use crate::numbers::Numbers;
 use crate::prefix::{Filling, Prefix};
 
-/// Tells of beginnings of arrangements that all arrangements which begin so are idle.
+/// Tells of a beginning of arrangements whether all arrangements that begin so are idle.
 pub trait Cuts {
     /// What a question is worked out in.
     type Room;
@@ -22,7 +22,7 @@ pub trait Cuts {
         ensures { result ≡ true → (a : Arrangement) → Begins prefix.now a → Idle self.now a };
 }
 
-/// Tells of beginnings of tuples that all tuples which begin so are idle.
+/// Tells of a beginning of tuples whether all tuples that begin so are idle.
 pub trait CutsTuples {
     /// What a question is worked out in.
     type Room;
@@ -49,7 +49,7 @@ impl Cuts for NoCuts {
     }
 }
 
-/// What a bound tells: an arrangement is idle if, where it is a candidate, it is without interest.
+/// What a bound tells: an arrangement is idle if it is no candidate, or one without interest.
 #[derive(Drop)]
 pub struct Within<'b, B> {
     pub bound: &'b B,
@@ -67,7 +67,7 @@ impl<'b, B: Bound> Cuts for Within<'b, B> {
     }
 }
 
-/// Where S1 is chosen, what is told of arrangements, told of their S2.
+/// What is told of arrangements, told of their S2, once S1 is chosen.
 #[derive(Drop)]
 pub struct OfS2<'c, C> {
     pub cuts: &'c C,
@@ -91,7 +91,7 @@ impl<'c, C: Cuts> CutsTuples for OfS2<'c, C> {
     }
 }
 
-/// Where S1, S2 and S1R are chosen, what is told of arrangements, told of their S2R.
+/// What is told of arrangements, told of their S2R, once S1, S2 and S1R are chosen.
 #[derive(Drop)]
 pub struct OfS2r<'c, C> {
     pub cuts: &'c C,

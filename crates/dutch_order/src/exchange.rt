@@ -2,9 +2,9 @@
 //
 // The sets are searched in stages, one for each number of exchanged players and each difference of the sums. A stage fills the
 // places of the numbers moved out, highest first, and then those of the numbers moved in, lowest first, and goes on from a place only
-// while the wanted difference lies between the least and the greatest that can still come. So a stage never scans all sets. Where
-// the least is more than what is wanted, it is noted: the lowest one noted is the difference of the next stage, so no stage is
-// searched that has no set, however far apart the numbers of the pool are.
+// while the wanted difference lies between the least and the greatest that can still come. So a stage never scans all sets. If
+// the least is more than what is wanted, it is noted. The lowest one noted is the difference of the next stage. So no stage without a
+// set is searched, however far apart the numbers of the pool are.
 //
 // A search that begins at a set begins in that set's stage, at the set's own path, and then tries the very next difference, since
 // what lies beyond the paths before the set was not seen.
@@ -44,7 +44,7 @@ struct Reach {
     greatest: usize,
 }
 
-/// What can still come where a place is tried for a number moved out.
+/// What can still come if a place is tried for a number moved out.
 #[tactic(auto, unfolding(crate::specs::Stages::least_at, crate::specs::Stages::greatest_at))]
 fn reach_out(pool: &[u16], k: usize, size: usize, path: &[u16], place: usize) -> Reach
     requires few { length pool.now ≤ LIMIT }
@@ -69,7 +69,7 @@ fn reach_out(pool: &[u16], k: usize, size: usize, path: &[u16], place: usize) ->
     }
 }
 
-/// What can still come where a place is tried for a number moved in.
+/// What can still come if a place is tried for a number moved in.
 #[tactic(auto, unfolding(crate::specs::Stages::least_at, crate::specs::Stages::greatest_at))]
 fn reach_in(pool: &[u16], k: usize, size: usize, path: &[u16], place: usize) -> Reach
     requires few { length pool.now ≤ LIMIT }
@@ -109,7 +109,7 @@ struct Stage<'a> {
     ghost ins: { size ≤ length pool.now - k },
 }
 
-/// What can still come where a place is tried in a stage.
+/// What can still come if a place is tried in a stage.
 #[tactic(auto, unfolding(crate::specs::Halves::half_stop))]
 fn reach_of(stage: &Stage<'_>, path: &[u16], place: usize) -> Reach
     requires opened { IsOpen (exchange_plan stage.now.pool.now stage.now.k stage.now.size stage.now.difference) path.now }
@@ -277,7 +277,7 @@ fn enter_at(pool: &[u16], k: usize, set: &[u16], place: &mut Place)
     place.walk.beyond = Some(place.difference + 1);
 }
 
-/// Goes on to the next stage, where there is one.
+/// Goes on to the next stage, if there is one.
 #[tactic(auto, unfolding(crate::specs::Stages::stages_ahead))]
 fn next_stage(pool: &[u16], k: usize, place: &mut Place) -> bool
     requires few { length pool.now ≤ LIMIT }
@@ -481,8 +481,8 @@ impl Exchanges {
         enter_at(pool, k, set, &mut self.place);
     }
 
-    /// The next set, in ascending order. `Found` gives the first of those to come, `End` is answered where none is left, and
-    /// `Undecided` where the budget is used up before the next one is found: what is to come is then as it was.
+    /// The next set, in ascending order. `Found` gives the first of those to come. `End` says that none is left. `Undecided` says that the
+    /// budget was used up before the next one was found; then what is to come stays as it was.
     pub fn next(&mut self, budget: &mut Budget) -> Step<Numbers>
         requires { budget.old.used ≤ budget.old.limit }
         ensures answer { MatchStep result

@@ -1,8 +1,8 @@
 // Levels of a listing: each goes through blocks of arrangements, one for each choice, and a block is a level in its turn. Specified
 // by the list of what is still to come.
 //
-// A level stands in a block, or between two of them. Each turn of its loop draws from the block, and where that has ended asks for the
-// next one: where either is stopped, what is left stands as it stood.
+// A level stands in a block, or between two of them. Each turn of its loop draws from the block, and asks for the next block if that one
+// has ended. If either call is stopped, what is left stays as it was.
 ghost use Rattle.std.specs.Prelude.{◌≡◌, ◌≤◌, ℕ, List, [], ◌∷◌};
 ghost use Rattle.std.specs.List.{AllByRecursion};
 ghost use Rattle.dutch_order.specs.Arrangements.{Arrangement};
@@ -19,8 +19,8 @@ pub trait Arranges {
     /// The arrangements to come.
     ghost coming: { Self → List Arrangement };
 
-    /// Fills `lists` with the next arrangement, where those may be skipped of which `cuts` tells. Where there is none, all to come
-    /// are idle: what is to come after it is nowhere said.
+    /// Fills `lists` with the next arrangement. Those that `cuts` knows to be idle may be skipped. If there is none, all that were to come
+    /// are idle; what is to come after that is nowhere said.
     fn next<C: Cuts>(
         &mut self,
         cuts: &C,
@@ -43,7 +43,7 @@ pub trait Blocks {
     /// The blocks to come, each with the arrangements in it.
     ghost blocks: { Self → List (List Arrangement) };
 
-    /// Begins the next block in place, where those may be skipped in which all are idle.
+    /// Begins the next block in place. Blocks in which all are idle may be skipped.
     fn next_block<C: Cuts>(
         &mut self,
         cuts: &C,
@@ -91,7 +91,8 @@ impl<B: Blocks> Level<B> {
     }
 }
 
-/// Fills `lists` with the next arrangement of the block in which a level stands; where it stands in none, that has ended.
+/// Fills `lists` with the next arrangement of the block in which a level stands. A level that stands in none is treated as if its block
+/// had ended.
 fn draw<T: Arranges, C: Cuts>(
     in_block: bool,
     block: &mut T,

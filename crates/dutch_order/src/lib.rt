@@ -1,11 +1,11 @@
-//! Arrangements of numbers in the order of the Handbook's article D, specified by lists that are sorted by a key.
+//! Arrangements of numbers in the order of the Handbook's article D, specified by sorted lists.
 //!
 //! `Candidates` lists the legal arrangements of a bracket and a shape, each once, in the order of article D; `Transpositions`,
 //! `Exchanges` and `LimboExchanges` list the choices of D.1, D.2 and D.3. A call answers the first of what is still to come, the end
-//! where nothing is, or that its limit was reached, and then what is to come is as it was. A `Cursor` says where a listing stands.
+//! if nothing is, or that its limit was reached; then what is to come stays as it was. A `Cursor` says where a listing stands.
 //!
 //! Nothing here knows chess: a `Rule` of the caller says, by numbers, who may meet and who may be left over. A `Budget` counts steps,
-//! each a number tried at a place, and no call goes beyond its limit. How many steps lie between two candidates is bounded by no proof.
+//! each a number tried at a place, and no call goes beyond its limit. No proof bounds how many steps lie between two candidates.
 //!
 //! Nothing takes memory: every list is an array with room for `LIMIT` numbers, 1,024. So generators and candidates are large values, of
 //! some KiB, and are cleared where they are made: keep one, and lend one candidate to be filled (`put_next_within`).

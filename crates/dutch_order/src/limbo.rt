@@ -41,8 +41,8 @@ fn place_leads(scores: &[u16], k: usize, path: &[u16], place: usize) -> bool
     place == first_of_half(k, path) || place == 0 || scores[place - 1] != scores[place]
 }
 
-/// Whether a place may be the next one of a set: it has the score of its place in the first set, and leaves as many of that score
-/// as must follow.
+/// Whether a place may be the next one of a set: it has the score that its place has in the first set, and it leaves enough places
+/// with that score for those that must follow.
 #[tactic(auto, unfolding(crate::specs::LimboSearch::mirrors))]
 fn place_mirrors(scores: &[u16], k: usize, path: &[u16], place: usize) -> bool
     requires within { AllByRecursion (λ place. place < length scores.now) path.now }
@@ -260,8 +260,8 @@ impl LimboExchanges {
         self.walk.restart(first_hint(&self.hint));
     }
 
-    /// The next set, in ascending order. `Found` gives the first of those to come, `End` is answered where none is left, and
-    /// `Undecided` where the budget is used up before the next one is found: what is to come is then as it was.
+    /// The next set, in ascending order. `Found` gives the first of those to come. `End` says that none is left. `Undecided` says that the
+    /// budget was used up before the next one was found; then what is to come stays as it was.
     pub fn next(&mut self, budget: &mut Budget) -> Step<Numbers>
         requires { budget.old.used ≤ budget.old.limit }
         ensures answer { MatchStep result

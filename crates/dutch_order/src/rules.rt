@@ -17,6 +17,6 @@ pub trait Rule {
     fn may_be_left(&self, a: u16) -> bool
         ensures { result ≡ may_be_left self.now a };
 
-    /// Who meets is met.
+    /// If `a` may meet `b`, then `b` may meet `a`.
     ghost symmetric: { (rule : Self) (a b : ℕ) → a < 2 ^ 16 → b < 2 ^ 16 → meets rule a b ≡ meets rule b a };
 }

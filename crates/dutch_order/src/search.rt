@@ -1,9 +1,9 @@
 // The one search of all generators: a path of numbers that is filled place by place, goes back where no number fits, and can be
 // stopped before each trial.
 //
-// A beginning that leads to nothing of interest is left: all that lies below it is passed over where the caller knows that every whole
-// path which begins so is idle. So only idle paths are ever passed over, and it costs no step. Mind, when changing it: a path is left
-// only by setting its next number past all that its place tries, and where nothing is idle each trial is still made and counted.
+// A beginning that leads to nothing of interest is left: if the caller knows that every whole path which begins so is idle, all of them
+// are passed over. So only idle paths are ever passed over, and it costs no step. When you change it, keep this: a path is left only by
+// setting its next number past all that its place tries, and if nothing is idle, each trial is still made and counted.
 ghost use Rattle.std.specs.Prelude.{◌≡◌, ◌+◌, ◌-◌, ◌<◌, ◌≤◌, ℕ, List, None, [], ◌∷◌, ◌++◌, length, true, false};
 ghost use Rattle.dutch_order.specs.Trials.{Plan, Tried, entry, below, ahead, hits, trials, lower, lowest};
 ghost use Rattle.dutch_order.specs.Hints.{hint_after, first_hint};
@@ -45,7 +45,7 @@ pub trait Tree {
         requires tried { number < (plan self.now).stop path.now }
         ensures { result ≡ (plan self.now).fits path.now number };
 
-    /// What a number that does not fit would have given at least, where that is known.
+    /// What a number that does not fit would have given at least, if that is known.
     fn beyond(&self, path: &[u16], number: u16) -> Option<usize>
         requires opened { IsOpen (plan self.now) path.now }
         requires tried { number < (plan self.now).stop path.now }
@@ -55,7 +55,7 @@ pub trait Tree {
     ghost within: { (tree : Self) (path : _) → (plan tree).stop path ≤ (plan tree).width };
 }
 
-/// Tells of beginnings of paths that all whole paths which begin so are idle.
+/// Tells of a beginning of paths whether all whole paths that begin so are idle.
 pub trait CutsPaths {
     /// What a question is worked out in.
     type Room;
@@ -196,7 +196,7 @@ impl Walk {
     }
 }
 
-/// The first number to try after a path, 0 where the path is whole.
+/// The first number to try after a path; 0 if the path is whole.
 fn first_number<T: Tree>(tree: &T, path: &[u16]) -> usize
     requires { Stands (T.plan tree.now) path.now }
     ensures { result ≡ entry (T.plan tree.now) ((T.plan tree.now).places - length path.now) path.now }
@@ -208,7 +208,7 @@ fn first_number<T: Tree>(tree: &T, path: &[u16]) -> usize
     }
 }
 
-/// The lower of two numbers, of which there may be none.
+/// The lower of two numbers, either of which may be missing.
 fn lower_of(one: Option<usize>, other: Option<usize>) -> Option<usize>
     ensures { result ≡ lower one other }
 {
@@ -219,7 +219,7 @@ fn lower_of(one: Option<usize>, other: Option<usize>) -> Option<usize>
     }
 }
 
-/// The end of the numbers to try after a path, 1 where the path is whole.
+/// The end of the numbers to try after a path; 1 if the path is whole.
 fn end_number<T: Tree>(tree: &T, path: &[u16]) -> usize
     requires { Stands (T.plan tree.now) path.now }
     ensures { IsSpent (T.plan tree.now) path.now result }
@@ -231,7 +231,7 @@ fn end_number<T: Tree>(tree: &T, path: &[u16]) -> usize
     }
 }
 
-/// Leaves out all that is still to come below a path, where all of it is known to be idle.
+/// Leaves out all that is still to come below a path, if all of it is known to be idle.
 fn leave_idle<T: Tree, C: CutsPaths>(tree: &T, cuts: &C, room: &mut C::Room, walk: &mut Walk)
     requires standing { Stands (T.plan tree.now) walk.old.path.items }
     requires may_ask { (path : List ℕ) → Stands (T.plan tree.now) path → C.MayAsk cuts.now path }
@@ -247,7 +247,7 @@ fn leave_idle<T: Tree, C: CutsPaths>(tree: &T, cuts: &C, room: &mut C::Room, wal
     }
 }
 
-/// Makes one trial: takes the number if it fits, and else goes on to the next one. Whether it was taken.
+/// Makes one trial: takes the number if it fits, and otherwise goes on to the next one. The answer is whether it was taken.
 fn try_number<T: Tree>(tree: &T, walk: &mut Walk) -> bool
     requires opened { IsOpen (T.plan tree.now) walk.old.path.items }
     requires tried { walk.old.number < (T.plan tree.now).stop walk.old.path.items }
@@ -272,7 +272,7 @@ fn try_number<T: Tree>(tree: &T, walk: &mut Walk) -> bool
     }
 }
 
-/// Takes the last number from a path below which nothing is left, and goes on to the next one; false where the path is empty.
+/// Takes the last number from a path below which nothing is left, and goes on to the next one; false if the path is empty.
 fn go_back<T: Tree>(tree: &T, walk: &mut Walk) -> bool
     requires standing { Stands (T.plan tree.now) walk.old.path.items }
     requires spent { IsSpent (T.plan tree.now) walk.old.path.items walk.old.number }

@@ -1,4 +1,4 @@
-// How far a call may go, and what it answers where it may be stopped.
+// How far a call may go, and what it answers if it is stopped.
 ghost use Rattle.std.specs.Prelude.{◌≡◌, Ok, Some, None};
 ghost use Rattle.std.specs.Result.{IsErr};
 ghost use Rattle.dutch_order.specs.Steps.{MatchStep};
@@ -27,11 +27,11 @@ pub enum Step<T> {
 #[derive(Debug, Clone, Copy)]
 pub struct Stopped;
 
-/// Yes or no, mostly whether there was a next one, where the limit was not reached first.
+/// Yes or no, mostly whether there was a next one, unless the limit was reached first.
 pub(crate) type Drawn = Result<bool, Stopped>;
 
 impl<T: Drop> Step<T> {
-    /// What was found, and none at the end, to be passed on by `?` where the limit was reached first.
+    /// What was found, or none at the end. If the limit was reached first, `?` passes that on.
     pub fn found(self) -> Result<Option<T>, Stopped>
         ensures { MatchStep self (λ x. result ≡ Ok (Some x)) (result ≡ Ok None) (IsErr result) }
     {

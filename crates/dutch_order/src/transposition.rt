@@ -120,7 +120,7 @@ impl<'a, C: CutsTuples> CutsPaths for CutsPlaces<'a, C> {
 }
 
 /// The lists of opponents that the pool has for the first players, one by one, in the order of their numbers (C.04.3 D.1): tuples
-/// of the pool whose players the rule lets meet the first ones, place by place. It takes no memory. A step is one member of the
+/// of the pool whose players may meet the first ones by the rule, place by place. It takes no memory. A step is one member of the
 /// pool tried at one place.
 #[derive(Drop)]
 pub struct Transpositions<'a, R: Rule> {
@@ -223,8 +223,8 @@ impl<'a, R: Rule> Transpositions<'a, R> {
         self.walk.restart(first_hint(&self.hint));
     }
 
-    /// The next list. `Found` gives the first of those to come, `End` is answered where none is left, and `Undecided` where the
-    /// budget is used up before the next one is found: what is to come is then as it was.
+    /// The next list. `Found` gives the first of those to come. `End` says that none is left. `Undecided` says that the budget was used
+    /// up before the next one was found; then what is to come stays as it was.
     pub fn next(&mut self, budget: &mut Budget) -> Step<Numbers>
         requires { budget.old.used ≤ budget.old.limit }
         ensures answer { MatchStep result

@@ -1,5 +1,5 @@
--- What an aim and what is kept tell of candidates: of those that are near an aim one is chosen as of all, and a candidate that is of no
--- interest changes nothing.
+-- What an aim and the kept candidate tell of candidates: the choice among those that are near an aim is the choice of all, and a candidate
+-- of no interest changes nothing.
 use Rattle.std.proofs.Common.{◌≡◌, ℕ, Bool, true, false, not, ◌&&◌, ◌||◌, cond, List, [], ◌∷◌, ◌++◌, filter, Option, Some, None, Result, Ok, Err, refl, sym, ap, ◌∙◌}
 use Rattle.std.specs.List.{list_any, AllByRecursion}
 use Rattle.std.proofs.lemmas.Bool.{true≢false, not-true, not-false, or_left, or_right, and_left, and_right}

@@ -1,4 +1,4 @@
--- Where a shape pairs all moved-down players, or all residents, none of them is left over (C.04.3 B.1, B.3).
+-- If a shape pairs all moved-down players, or all residents, none of them is left over (C.04.3 B.1, B.3).
 use Rattle.std.proofs.Common.{◌≡◌, ℕ, ◌+◌, ◌-◌, ◌*◌, ◌<◌, ◌≤◌, true, false, List, [], ◌∷◌, ◌++◌, length, sym, ◌∙◌, arith}
 use Rattle.std.specs.Prelude.{nat_eq}
 use Rattle.std.proofs.lemmas.Bool.Decides.{nat_tests}

@@ -6,10 +6,9 @@ use Rattle.std.proofs.lemmas.Bool.Decides.{nat_tests}
 use Rattle.std.proofs.lemmas.List.{length-take-le}
 use Rattle.dutch_order.specs.declared.bracket.Shape.{Shape}
 use Rattle.dutch_order.specs.Choices.{numbers_from, subsets, tuples, is_member, without}
-use Rattle.dutch_order.specs.Keys.{IsIn, sorted}
-use Rattle.dutch_order.specs.Transposition.{tuple_key}
-use Rattle.dutch_order.specs.Exchange.{exchanges, exchange_key}
-use Rattle.dutch_order.specs.Limbo.{limbo_exchanges, limbo_key}
+use Rattle.dutch_order.specs.Keys.{IsIn, sorted, lower_first}
+use Rattle.dutch_order.specs.Exchange.{exchanges, exchange_cmp}
+use Rattle.dutch_order.specs.Limbo.{limbo_exchanges, limbo_cmp}
 use Rattle.dutch_order.specs.Arrangements.{Frame, Arrangement, left_of, residents_of, moved_down_scores, remainder_pairs, with_s2r, with_s1r, with_s2, arrangements}
 use Rattle.dutch_order.proofs.HalfWalks.{Climbs}
 use Rattle.dutch_order.proofs.Lists.{filter-all, filter-same}
@@ -158,16 +157,16 @@ lists_of frame shape a inside m =
     let j = remainder_pairs shape in
     let pool : List ℕ = residents_of frame in
     let one = IsIn-flat_map (with_s2 frame shape) a (limbo_exchanges (moved_down_scores frame) shape.mdps) m in
-    let two = IsIn-flat_map (with_s1r frame shape one.0) a (sorted tuple_key (tuples pool shape.mdps)) one.2 in
+    let two = IsIn-flat_map (with_s1r frame shape one.0) a (sorted lower_first (tuples pool shape.mdps)) one.2 in
     let rest : List ℕ = left_of pool two.0 in
     let three = IsIn-flat_map (with_s2r frame shape one.0 two.0) a (exchanges rest j) two.2 in
-    let four = IsIn-map (λ s2r. record { s1 = one.0; s2 = two.0; s1r = three.0; s2r = s2r }) a (sorted tuple_key (tuples (left_of rest three.0) j)) three.2 in
+    let four = IsIn-map (λ s2r. record { s1 = one.0; s2 = two.0; s1r = three.0; s2r = s2r }) a (sorted lower_first (tuples (left_of rest three.0) j)) three.2 in
     let made : FourLists frame shape (record { s1 = one.0; s2 = two.0; s1r = three.0; s2r = four.0 }) = record {
       s1 = subst (λ q. IsIn one.0 (subsets (numbers_from 1 q) shape.mdps)) (length-take-le frame.mdps frame.scores inside)
-          (sorted-in (limbo_key (moved_down_scores frame)) one.0 (subsets (numbers_from 1 (length (moved_down_scores frame))) shape.mdps) one.1);
-      s2 = sorted-in tuple_key two.0 (tuples pool shape.mdps) two.1;
-      s1r = sorted-in (exchange_key rest j) three.0 (subsets rest j) three.1;
-      s2r = sorted-in tuple_key four.0 (tuples (left_of rest three.0) j) four.2;
+          (sorted-in (limbo_cmp (moved_down_scores frame)) one.0 (subsets (numbers_from 1 (length (moved_down_scores frame))) shape.mdps) one.1);
+      s2 = sorted-in lower_first two.0 (tuples pool shape.mdps) two.1;
+      s1r = sorted-in (exchange_cmp rest j) three.0 (subsets rest j) three.1;
+      s2r = sorted-in lower_first four.0 (tuples (left_of rest three.0) j) four.2;
     } in
     subst (FourLists frame shape) (sym four.1) made
 

@@ -22,23 +22,12 @@ use Rattle.dutch_pair.specs.Quality.{Quality, is_better}
 use Rattle.dutch_pair.specs.Reached.{Reached, frame_of, number_may_be_left, numbers_meet}
 use Rattle.dutch_pair.specs.Round.{best_of_shape, candidates_of, eligible, is_better_in, quality_of}
 use Rattle.dutch_pair.specs.Wishes.{ComesBefore, IsAsGoodBefore, are_these, best_granting, grants, granting}
+use Rattle.dutch_pair.proofs.AnyLemmas.{any_in}
+pub use Rattle.dutch_pair.proofs.AnyLemmas.{found_in}
 use Rattle.dutch_pair.proofs.BestLemmas.{in_unbeaten, order_in}
 use Rattle.dutch_pair.proofs.QualityOrder.{total}
 
 -- ---- when a wish is granted
-
-any_in : {X : Type 0} (test : X → Bool) (x : X) (xs : List X) → IsIn x xs → test x ≡ true → list_any test xs ≡ true
-any_in test x [] m h = absurd m
-any_in test x (y ∷ xs) (inl same) h = or_left (test y) (list_any test xs) (ap test (sym same) ∙ h)
-any_in test x (y ∷ xs) (inr m) h = or_right (test y) (list_any test xs) (any_in test x xs m h)
-
-pub found_in : {X : Type 0} (test : X → Bool) (xs : List X) → list_any test xs ≡ true → (x : X) × IsIn x xs × (test x ≡ true)
-found_in test [] h = absurd (true≢false (sym h))
-found_in test (x ∷ xs) h =
-    elim (or_cases (test x) (list_any test xs) h) [
-      | inl here ↦ (x, inl refl, here)
-      | inr later ↦ let found = found_in test xs later in (found.0, inr found.1, found.2)
-    ]
 
 same_pair : (p q : ℕ) (pair : ℕ × ℕ) → pair.0 ≡ p → pair.1 ≡ q → pair ≡ (p, q)
 same_pair p q pair h g = ap (λ (x : ℕ). (x, pair.1)) h ∙ ap (λ (y : ℕ). (p, y)) g

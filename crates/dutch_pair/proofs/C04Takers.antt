@@ -1,9 +1,9 @@
--- Where so many downfloaters, whoever they are, cannot be paired out with the lower players, a penultimate bracket has no candidate that
--- leaves so many (C.04.3 A.9, C.4).
+-- If so many downfloaters cannot be paired out with the lower players, whoever they are, then no candidate that leaves so many can be chosen
+-- in a penultimate bracket (C.04.3 A.9, C.4).
 --
--- With a number of pairs each candidate leaves equally many downfloaters. Of a list of pairs that serves for them with the lower players,
--- take away the downfloaters one after another: whom one of them meets is a lower player whom some player of the bracket may meet, so he
--- may be put back among the others, where one downfloater more is there; two downfloaters who meet leave the lower players as they are.
+-- All candidates with the same number of pairs leave equally many downfloaters. Take a list of pairs that pairs them out with the lower
+-- players, and take away the downfloaters one after another. Whoever met one of them is a lower player whom some player of the bracket may
+-- meet, and goes back among the others, with one downfloater more to be counted. If two downfloaters met, the lower players stay as they are.
 use Rattle.std.proofs.Common.{◌≡◌, ℕ, zero, suc, ◌+◌, ◌-◌, ◌*◌, ◌%◌, ◌≤◌, Bool, true, false, not, ◌&&◌, ◌||◌, cond, ◌⊎◌, inl, inr, List, [], ◌∷◌, ◌++◌, map, filter, length, refl, sym, ap, ◌∙◌, arith, subst, length-append, append_assoc}
 use Rattle.std.specs.Prelude.{◌==◌, None}
 use Rattle.std.proofs.lemmas.List.{length-map}
@@ -13,7 +13,7 @@ use Rattle.dutch_order.specs.declared.bracket.Shape.{Shape}
 use Rattle.dutch_order.specs.Keys.{IsIn}
 use Rattle.dutch_order.specs.Arrangements.{Frame, Arrangement, arrangements, is_legal, down}
 use Rattle.dutch_player.specs.Facts.{Facts}
-use Rattle.dutch_pair.specs.Completion.{some_partner, nobody, left_over, can_cover}
+use Rattle.dutch_pair.specs.CompletionSearch.{some_partner, nobody, left_over, can_cover}
 use Rattle.dutch_pair.specs.Seated.{seat_of, score_at, AllNumbers}
 use Rattle.dutch_pair.specs.Seats.{seats_meet, seats_may_be_left}
 use Rattle.dutch_pair.specs.Reached.{Reached, frame_of, numbers_meet, number_may_be_left}
@@ -21,7 +21,8 @@ use Rattle.dutch_pair.specs.Shapes.{down_from, fits, shapes_with, has_member, fi
 use Rattle.dutch_pair.specs.Round.{is_penultimate, completable, downfloaters, candidates_of, eligible}
 use Rattle.dutch_pair.specs.Takers.{takes_one, can_cover_but, meets_bracket, can_go_out}
 use Rattle.dutch_pair.proofs.GhostPairs.{down_count}
-use Rattle.dutch_pair.proofs.Covering.{IsPartner, partner_of, partner_serves}
+use Rattle.dutch_pair.proofs.AllPairings.{complete_by_search}
+use Rattle.dutch_pair.proofs.Partners.{IsPartner, partner_of, partner_serves}
 use Rattle.dutch_pair.proofs.DownLemmas.{down_numbers}
 use Rattle.dutch_pair.proofs.LeastPsd.{in_filter}
 use Rattle.dutch_pair.proofs.Mates.{in-middle}
@@ -328,7 +329,8 @@ module _ (facts : Facts) (reached : Reached) (lower : List ℕ) (penultimate : i
       length-map (down frame a) (seat_of reached.seats) ∙ (let e : length (down frame a) ≡ length reached.seats - 2 * shape.pairs = omega (arith, left, count) in e) in
       let can : can_go_out facts reached.seats (length (downfloaters facts reached a)) lower ≡ true =
       downfloaters_taken_away (seats_meet facts) (meets_bracket facts reached.seats) (seats_may_be_left facts) (downfloaters facts reached a) lower
-      (numbers_meet_lower facts reached.seats (down frame a) (down_numbers facts reached a)) yes in
+      (numbers_meet_lower facts reached.seats (down frame a) (down_numbers facts reached a))
+      ((complete_by_search (seats_meet facts) (seats_may_be_left facts) (downfloaters facts reached a ++ lower)).0 yes) in
       let bad : true ≡ false = sym can ∙ ap (λ k. can_go_out facts reached.seats k lower) many ∙ cannot in cc)
 
   -- a shape there is no room for, or with no candidate

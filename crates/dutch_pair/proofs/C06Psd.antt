@@ -1,7 +1,7 @@
 -- The PSD of an arrangement with a beginning (C.04.3 C.6). In every bracket it is not lower than the differences of the beginning's
--- pairs: other pairs and downfloaters only add differences. Where all residents have one score, it is known by S1 alone: each
--- moved-down player meets a resident with that score or goes down, each pair of residents is even, and how many residents go down the
--- shape tells.
+-- pairs: other pairs and downfloaters only add differences. If all residents have one score, it is known by S1 alone: each
+-- moved-down player meets a resident with that score or goes down, each pair of residents is even, and the shape tells how many residents
+-- go down.
 use Rattle.std.proofs.Common.{◌≡◌, ℕ, suc, ◌+◌, ◌-◌, ◌<◌, ◌≤◌, true, false, List, [], ◌∷◌, ◌++◌, map, length, inl, inr, refl, sym, ap, ◌∙◌, arith}
 use Rattle.std.specs.declared.cmp.Ordering.{Ordering}
 use Rattle.std.specs.declared.cmp.Ordering.TheVariants.{Less, Equal, Greater}

@@ -1,5 +1,5 @@
--- No arrangement that leaves the Limbo of the first S1 has a better value of the next bracket than ghosts find (C.04.3 C.7); and in a
--- bracket where all S1 leave the same scores, all arrangements do.
+-- No arrangement that leaves the Limbo of the first S1 has a better value of the next bracket than ghosts find (C.04.3 C.7). If all
+-- S1 of a bracket leave the same scores, that is true of all arrangements.
 use Rattle.std.proofs.Common.{◌≡◌, ℕ, ◌+◌, ◌-◌, ◌<◌, ◌≤◌, not, nat_lt, cond, List, [], map, filter, length, inl, inr, Option, Some, None, refl, sym, ap, ◌∙◌, arith, subst}
 use Rattle.std.proofs.lemmas.Bool.{cases_Bool}
 use Rattle.std.specs.Prelude.{slice_index}

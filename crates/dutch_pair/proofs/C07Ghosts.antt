@@ -1,8 +1,8 @@
 -- What a bracket leaves for the next one is not better than what ghosts find there (C.04.3 C.7).
 --
--- First for one bracket and a weaker rule: it finds as many pairs or more, and where as many, no PSD is below the floor. Then for the next
+-- First for one bracket and a weaker rule: it finds as many pairs or more, and with as many, no PSD is below the floor. Then for the next
 -- bracket: ghosts with the scores of the downfloaters make the same bracket by scores, and whoever meets a downfloater meets the ghost in
--- his place.
+-- that place.
 use Rattle.std.proofs.Common.{◌≡◌, ℕ, ◌+◌, ◌-◌, ◌*◌, ◌/◌, ◌<◌, ◌≤◌, Bool, true, false, not, ◌&&◌, nat_le, cond, List, [], ◌∷◌, ◌++◌, map, length, get_or, ◌⊎◌, inl, inr, Option, Some, None, refl, sym, ap, ◌∙◌, arith, subst, length-append}
 use Rattle.std.proofs.lemmas.Bool.{and_parts, and_from}
 use Rattle.std.specs.Prelude.{◌==◌, slice_index, if◌then◌else◌}

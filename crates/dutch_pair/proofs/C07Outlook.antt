@@ -1,5 +1,5 @@
--- What the next bracket can be at best, whatever arrangement is chosen (C.04.3 C.7): no more pairs than half of its players are, and no
--- better value than ghosts find, where the arrangement leaves the Limbo that they stand for.
+-- What the next bracket can be at best, whatever arrangement is chosen (C.04.3 C.7): no more pairs than half its number of players, and no
+-- better value than ghosts find, if the arrangement leaves the Limbo that they stand for.
 use Rattle.std.proofs.Common.{◌≡◌, ℕ, ◌+◌, ◌-◌, ◌*◌, ◌/◌, ◌<◌, ◌≤◌, Bool, true, false, ◌||◌, ◌==◌, nat_lt, List, [], ◌++◌, length, Option, Some, None, refl, sym, ap, subst, ◌∙◌, inl, inr, arith}
 use Rattle.std.proofs.lemmas.Bool.{and_parts, eqb-true, ltb-true, or_cases}
 use Rattle.std.proofs.lemmas.List.{length-map, length-append}

@@ -1,6 +1,6 @@
 -- What the pairs of a beginning make is the least that an arrangement with it makes (C.04.3 C.8, C.9, C.12 to C.19): the pairs that
--- it adds and its downfloaters only add to it. So at C.8, C.9 and C.12 to C.15 there are no fewer players, and in the lists of C.16 to
--- C.19 no difference stands less often, and of such lists, the highest first, the one with more stands behind.
+-- it adds and its downfloaters only add to it. So C.8, C.9 and C.12 to C.15 count no fewer players. In the lists of C.16 to
+-- C.19 no difference stands less often; of two such lists, the highest first, the one with more members stands behind.
 use Rattle.std.proofs.Common.{◌≡◌, ℕ, ◌≤◌, Bool, false, List, [], map, filter, length, ap, ◌∙◌, arith, length-append}
 use Rattle.std.specs.Prelude.{sum_by}
 use Rattle.std.proofs.lemmas.List.{map-append}

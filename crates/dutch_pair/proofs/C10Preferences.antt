@@ -1,6 +1,6 @@
--- C.04.3 C.10: how many players miss their preference at least. Of a pair who both want one colour somebody misses it, since one has
--- white and the other black. So where more free players want a colour than there are pairs to make and downfloaters, who need no
--- colour, each one more misses it, whatever pairs are made.
+-- C.04.3 C.10: how many players miss their preference at least. If both players of a pair want the same colour, one misses it, since one
+-- has white and the other black. There are so many pairs to make, and so many downfloaters, who need no colour. If more free players than
+-- these together want a colour, each further one misses it, whatever pairs are made.
 use Rattle.std.proofs.Common.{ℕ, ◌+◌, ◌≤◌, Bool, true, false, not, nat_lt, if◌then◌else◌, List, [], ◌∷◌, length, Option, Some, None, sum_by, arith}
 use Rattle.std.specs.List.{AllByRecursion}
 use Rattle.std.specs.Option.{option_map_or}

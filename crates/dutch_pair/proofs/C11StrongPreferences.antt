@@ -1,6 +1,6 @@
--- C.04.3 C.11: how many players miss a strong preference at least, where C.8 and C.9 are those of the beginning. Of a pair who may
--- meet and both have a firm preference for one colour somebody misses a strong one, or the pair counts for C.8 or C.9. So where more
--- free players have a firm preference for a colour than there are pairs to make and downfloaters, each one more misses a strong one.
+-- C.04.3 C.11: how many players miss a strong preference at least, if C.8 and C.9 are those of the beginning. If the players of a pair may
+-- meet and both have a firm preference for the same colour, one misses a strong one, or the pair counts for C.8 or C.9. If more free
+-- players have a firm preference for a colour than there are pairs to make and downfloaters, each further one misses a strong one.
 use Rattle.std.proofs.Common.{◌≡◌, ℕ, ◌+◌, ◌≤◌, Bool, true, false, not, ◌&&◌, ◌||◌, nat_lt, cond, if◌then◌else◌, List, [], ◌∷◌, length, filter, Option, sum_by, refl, ap, ◌∙◌, arith}
 use Rattle.std.specs.List.{AllByRecursion}
 use Rattle.std.specs.Option.{option_map_or}

@@ -1,38 +1,13 @@
--- The test of completable players tells of a list of pairs that leaves out at most one.
-use Rattle.std.proofs.Common.{◌≡◌, ℕ, zero, suc, Bool, true, ◌&&◌, ◌↔◌, inl, inr, List, [], ◌∷◌, ◌++◌, length, refl, sym, ◌∙◌, ap, subst, arith, append_assoc}
+-- The search of completable players tells of a list of pairs that leaves out at most one, and so does the test over all ways.
+use Rattle.std.proofs.Common.{◌≡◌, ℕ, zero, suc, Bool, true, ◌&&◌, ◌↔◌, inl, inr, List, [], ◌∷◌, ◌++◌, length, refl, sym, ◌∙◌, ap, subst, arith}
 use Rattle.std.proofs.lemmas.Bool.{or_cases, and_parts, and_from, or_left, or_right}
 use Rattle.std.proofs.lemmas.List.{length-append}
 use Rattle.dutch_pair.specs.declared.completion.Answer.{Answer}
 use Rattle.dutch_pair.specs.declared.completion.Answer.TheVariants.{Yes, No, Undecided}
-use Rattle.dutch_pair.specs.Completion.{Covers, MayBeLeftOut, Completable, some_partner, nobody, can_cover, can_complete, MatchAnswer, Tells}
-
--- what a partner that serves is found by
-pub record IsPartner (meets : ℕ → Bool) (holds : List ℕ → Bool) (players : List ℕ) : Type 0 where
-  pub partner : ℕ
-  pub front : List ℕ
-  pub behind : List ℕ
-  pub players_are : players ≡ front ++ partner ∷ behind
-  pub may_meet : meets partner ≡ true
-  pub others_hold : holds (front ++ behind) ≡ true
-
-pub partner_of : (meets : ℕ → Bool) (holds : List ℕ → Bool) (between later : List ℕ) → some_partner meets holds between later ≡ true → IsPartner meets holds (between ++ later)
-partner_of meets holds between [] e = absurd (cc)
-partner_of meets holds between (b ∷ behind) e =
-    elim (or_cases (meets b && holds (between ++ behind)) (some_partner meets holds (between ++ b ∷ []) behind) e) [
-      | inl here ↦
-          (let both = and_parts (meets b) (holds (between ++ behind)) here in
-          record { partner = b; front = between; behind = behind; players_are = refl; may_meet = both.0; others_hold = both.1 })
-      | inr further ↦
-          subst (IsPartner meets holds) (append_assoc between (b ∷ []) behind) (partner_of meets holds (between ++ b ∷ []) behind further)
-    ]
-
-pub partner_serves : (meets : ℕ → Bool) (holds : List ℕ → Bool) (between front : List ℕ) (b : ℕ) (behind : List ℕ) → meets b ≡ true → holds (between ++ (front ++ behind)) ≡ true
-    → some_partner meets holds between (front ++ b ∷ behind) ≡ true
-partner_serves meets holds between [] b behind may hold =
-    or_left (meets b && holds (between ++ behind)) (some_partner meets holds (between ++ b ∷ []) behind) (and_from (meets b) (holds (between ++ behind)) may hold)
-partner_serves meets holds between (x ∷ front) b behind may hold =
-    or_right (meets x && holds (between ++ (front ++ b ∷ behind))) (some_partner meets holds (between ++ x ∷ []) (front ++ b ∷ behind))
-    (partner_serves meets holds (between ++ x ∷ []) front b behind may (ap holds (append_assoc between (x ∷ []) (front ++ behind)) ∙ hold))
+use Rattle.dutch_pair.specs.Completion.{Covers, MayBeLeftOut, Completable, can_complete, MatchAnswer, Tells}
+use Rattle.dutch_pair.specs.CompletionSearch.{some_partner, nobody, can_cover}
+use Rattle.dutch_pair.proofs.AllPairings.{complete_by_search}
+use Rattle.dutch_pair.proofs.Partners.{partner_of, partner_serves}
 
 none_left : (out : List ℕ) → MayBeLeftOut nobody out → out ≡ []
 none_left [] left = refl
@@ -157,18 +132,25 @@ module _ (meets : ℕ → ℕ → Bool) where
       passes_first n may_be_left (test_of_list n may_be_left) (test_of_list (suc n) nobody) a later e pair pairs out
       c.skipped c.between c.behind c.later c.players_are c.may_meet c.out_are c.covered left
 
-pub completable_by_test : (meets : ℕ → ℕ → Bool) (may_be_left : ℕ → Bool) (players : List ℕ)
-    → Completable meets may_be_left players ↔ (can_complete meets may_be_left players ≡ true)
-completable_by_test meets may_be_left players = (
+pub completable_by_search : (meets : ℕ → ℕ → Bool) (may_be_left : ℕ → Bool) (players : List ℕ)
+    → Completable meets may_be_left players ↔ (can_cover meets may_be_left (length players) players ≡ true)
+completable_by_search meets may_be_left players = (
   λ whole. test_of_list meets (length players) may_be_left players refl whole.pairs whole.out whole.covered whole.left_out,
   λ t. list_of_test meets (length players) may_be_left players refl t,
 )
 
--- an answer by the test is an answer
-pub answer_by_test : (meets : ℕ → ℕ → Bool) (may_be_left : ℕ → Bool) (players : List ℕ) (answer : Answer) (stopped : Type 0)
-    → Tells answer (can_complete meets may_be_left players) stopped
+pub completable_by_test : (meets : ℕ → ℕ → Bool) (may_be_left : ℕ → Bool) (players : List ℕ)
+    → Completable meets may_be_left players ↔ (can_complete meets may_be_left players ≡ true)
+completable_by_test meets may_be_left players =
+    let list = completable_by_search meets may_be_left players in
+    let test = complete_by_search meets may_be_left players in
+    (λ whole. test.1 (list.0 whole), λ t. list.1 (test.0 t))
+
+-- an answer by the search is an answer
+pub answer_by_search : (meets : ℕ → ℕ → Bool) (may_be_left : ℕ → Bool) (players : List ℕ) (answer : Answer) (stopped : Type 0)
+    → Tells answer (can_cover meets may_be_left (length players) players) stopped
     → MatchAnswer answer (Completable meets may_be_left players) (¬ Completable meets may_be_left players) stopped
-answer_by_test meets may_be_left players Yes stopped told = (completable_by_test meets may_be_left players).1 told
-answer_by_test meets may_be_left players No stopped told =
-    λ whole. let yes : can_complete meets may_be_left players ≡ true = (completable_by_test meets may_be_left players).0 whole in absurd (cc (told, yes))
-answer_by_test meets may_be_left players Undecided stopped told = told
+answer_by_search meets may_be_left players Yes stopped told = (completable_by_search meets may_be_left players).1 told
+answer_by_search meets may_be_left players No stopped told =
+    λ whole. let yes : can_cover meets may_be_left (length players) players ≡ true = (completable_by_search meets may_be_left players).0 whole in absurd (cc (told, yes))
+answer_by_search meets may_be_left players Undecided stopped told = told

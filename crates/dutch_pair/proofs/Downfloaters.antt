@@ -1,5 +1,5 @@
 -- What is chosen in a bracket leaves over seats of the bracket, each once; two of them who may meet, not both moved down, would make
--- one pair more, so there are no such two where the choice has the most pairs (C.04.3 C.5).
+-- one pair more, so there are no such two if the choice has the most pairs (C.04.3 C.5).
 use Rattle.std.proofs.Common.{◌≡◌, ℕ, ◌<◌, Bool, true, false, not, ◌&&◌, ◌||◌, ◌==◌, List, ◌++◌, length, refl, sym, ap, ◌∙◌, arith, subst, inl, inr, Some}
 use Rattle.std.specs.List.{filter}
 use Rattle.std.proofs.lemmas.Bool.{cases_lt, cases_order, eq-eqb, ne_eqb, and_parts, and_from, not_from_false, not-true, true≢false}

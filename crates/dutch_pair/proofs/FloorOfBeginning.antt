@@ -1,5 +1,5 @@
--- The floor of a beginning is beaten by no candidate that begins so (C.04.3 C.6 to C.19): what S1 tells of the PSD, or else the pairs
--- that are fixed; the best that the next bracket can be; the items of the fixed pairs, and how many more must miss their colours.
+-- No candidate that begins so beats the floor of a beginning (C.04.3 C.6 to C.19). The floor is what S1 tells of the PSD, or else the PSD of
+-- the fixed pairs; the best that the next bracket can be; the items of the fixed pairs, and how many more must miss their colours.
 use Rattle.std.proofs.Common.{◌≡◌, ℕ, ◌+◌, ◌-◌, ◌≤◌, Bool, true, false, ◌||◌, List, [], ◌++◌, map, length, refl, sym, ap, subst, ◌∙◌, inl, inr, cond, append-nil, arith}
 use Rattle.std.proofs.lemmas.Bool.{and_parts}
 use Rattle.dutch_order.specs.declared.bracket.Shape.{Shape}

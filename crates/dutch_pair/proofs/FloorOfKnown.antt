@@ -1,5 +1,5 @@
--- The floor of a beginning of which something more is known, a pair or one who goes down, is beaten by no candidate of which that holds
--- (C.04.3 C.6 to C.19): it is made of pairs and downfloaters that each of these has.
+-- The floor of a beginning of which something more is known, a pair or one who goes down: no candidate that begins so and has it beats this
+-- floor (C.04.3 C.6 to C.19), since it is made of pairs and downfloaters that each of them has.
 use Rattle.std.proofs.Common.{◌≡◌, ℕ, ◌+◌, ◌≤◌, Bool, true, false, ◌&&◌, ◌||◌, ◌==◌, cond, List, [], ◌∷◌, ◌++◌, length, inl, inr, refl, sym, ap, ◌∙◌, subst, arith}
 use Rattle.std.specs.List.{list_any}
 use Rattle.std.proofs.lemmas.Bool.{and_from, or_left, or_right, true≢false, eq-eqb}

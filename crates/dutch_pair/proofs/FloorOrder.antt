@@ -1,7 +1,7 @@
 -- A floor is not beaten: a quality that is nowhere in front of another is not better than it (C.04.3 C.6 to C.19). Two qualities are
 -- compared item by item, and the first item that differs decides. There the quality stands behind its floor, since it is in front of
--- it nowhere; at C.11 it may be in front where C.8 or C.9 differs, and then C.8 or C.9 has decided before.
-use Rattle.std.proofs.Common.{◌≡◌, ℕ, ◌+◌, ◌<◌, ◌≤◌, false, List, [], refl, sym, ap, arith}
+-- it nowhere; at C.11 it may be in front if C.8 or C.9 differs, and then C.8 or C.9 has decided before.
+use Rattle.std.proofs.Common.{◌≡◌, ℕ, ◌+◌, ◌<◌, ◌≤◌, false, List, [], refl, sym, ◌∙◌, ap, arith}
 use Rattle.std.specs.declared.cmp.Ordering.{Ordering}
 use Rattle.std.specs.declared.cmp.Ordering.TheVariants.{Less, Equal, Greater}
 use Rattle.std.specs.Ordering.{nat_cmp, is_lt, ordering_then}
@@ -13,12 +13,13 @@ use Rattle.dutch_pair.specs.declared.colours_missed.Miss.TheVariants.{Wide, Thir
 use Rattle.dutch_pair.specs.Beginnings.{HasPairsOf, seated_so}
 use Rattle.dutch_pair.specs.Floors.{IsFloor, floor_over, floor_with}
 use Rattle.dutch_pair.specs.NextBracket.{is_lower}
-use Rattle.dutch_pair.specs.Quality.{Quality, NextValue, misses, count_in_pairs, count_with_topscorers, compared_by_colours, compared_by_floats, compared_by_differences, is_better, quality_with}
+use Rattle.dutch_pair.specs.Quality.{Quality, NextValue, misses, count_in_pairs, count_with_topscorers, is_better, quality_with}
 use Rattle.dutch_pair.specs.Reached.{Reached}
 use Rattle.dutch_pair.specs.Round.{downfloaters, quality_of}
 use Rattle.dutch_pair.specs.Seated.{all_pairs}
 use Rattle.dutch_pair.proofs.C08ToC19Fixed.{least_of_known}
 use Rattle.dutch_pair.proofs.FixedPairs.{Beside, beside, none_known}
+use Rattle.dutch_pair.proofs.InTurn.{better_in_turn, compared_by_colours, compared_by_floats, compared_by_differences}
 
 then_not : (o others : Ordering) → is_lt o ≡ false → is_lt others ≡ false → is_lt (ordering_then o others) ≡ false
 then_not Less others first later = first
@@ -59,9 +60,9 @@ module _ (f q : Quality) (floor : IsFloor f q) where
       number_not q.missed_strong f.missed_strong _ (floor.strong wide third) (λ _. floats_not))))
 
   pub not_better : is_better q f ≡ false
-  unfolding is_better
   not_better =
-      list_not q.psd f.psd _ floor.psd
+      better_in_turn q f
+      ∙ list_not q.psd f.psd _ floor.psd
       (number_not f.next_pairs q.next_pairs _ floor.next_pairs (λ pairs.
       list_not q.next_psd f.next_psd _ (floor.next_psd (sym pairs)) colours_not))
 

@@ -1,5 +1,5 @@
--- Who of the players in no pair of a beginning can be served at most: where each pair to make serves one of them, and beyond that
--- only at a price, and each downfloater is served, more of them than there are pairs to make and downfloaters cost so much.
+-- How many of the players in no pair of a beginning can be served. Each pair to make serves one of them, and a second one only at a price;
+-- each downfloater is served. So those beyond the number of pairs to make and of downfloaters cost that price.
 use Rattle.std.proofs.Common.{◌≡◌, ℕ, ◌+◌, ◌-◌, ◌*◌, ◌≤◌, List, [], ◌∷◌, length, sum_by, refl, sym, ◌∙◌, arith, length-append}
 use Rattle.std.specs.List.{AllByRecursion}
 use Rattle.std.proofs.lemmas.List.{length-map}

@@ -1,4 +1,5 @@
--- Whoever meets a player of a bracket meets the ghost that stands for him, and a ghost may have the bye if he may (C.04.3 C.7).
+-- Whoever meets a player of a bracket meets the ghost that stands for that player, and a ghost may have the bye if its player may
+-- (C.04.3 C.7).
 use Rattle.std.proofs.Common.{◌≡◌, ℕ, zero, suc, ◌+◌, ◌-◌, ◌*◌, ◌<◌, ◌≤◌, Bool, true, false, nat_le, cond, inl, inr, List, [], ◌∷◌, map, filter, length, get_or, refl, sym, ap, ◌∙◌, arith, length-append}
 use Rattle.std.specs.Prelude.{if◌then◌else◌}
 use Rattle.std.specs.List.{list_any}

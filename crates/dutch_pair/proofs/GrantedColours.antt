@@ -1,5 +1,6 @@
--- Who of two with firm preferences for one colour gets the other colour, and what he then misses (C.04.3 A.6, C.3, C.8, C.9, C.11, E.2).
--- One of them gets the other colour. If his preference is strong, that is a strong one missed. If it is absolute, the other one's is
+-- Which of two players with firm preferences for the same colour gets the other colour, and what they then miss (C.04.3 A.6, C.3, C.8,
+-- C.9, C.11, E.2).
+-- One of them gets the other colour. If their preference is strong, that is a strong one missed. If it is absolute, the other one's is
 -- too, since the stronger is granted first; so by C.3 one of the two is a topscorer, and the colour is one for C.8 or C.9.
 use Rattle.std.proofs.Common.{◌≡◌, ℕ, ◌+◌, ◌≤◌, ◌<◌, ◌⊎◌, Bool, true, false, not, ◌&&◌, ◌||◌, nat_lt, cond, if◌then◌else◌, List, [], ◌∷◌, Option, Some, None, inl, inr, refl, sym, ap, ◌∙◌, subst, arith}
 use Rattle.std.specs.Option.{option_map_or}

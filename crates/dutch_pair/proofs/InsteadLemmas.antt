@@ -1,9 +1,9 @@
--- Why no candidate that can be chosen grants a wish (C.04.3 C.4, C.5), and which shape a stage has room for.
-use Rattle.std.proofs.Common.{◌≡◌, ℕ, Bool, true, false, not, ◌||◌, cond, List, [], ◌∷◌, ◌++◌, filter, Some, None, refl, sym, ap, ◌∙◌, subst}
+-- Why no candidate that can be chosen grants a wish (C.04.3 B.1, C.4, C.5), and which shape a stage has.
+use Rattle.std.proofs.Common.{◌≡◌, ◌≤◌, ◌<◌, ◌+◌, ◌-◌, ◌⊎◌, ℕ, suc, Bool, true, false, not, ◌&&◌, ◌||◌, cond, List, [], ◌∷◌, ◌++◌, filter, length, Some, None, inl, inr, refl, sym, ap, ◌∙◌, subst, arith}
 use Rattle.std.specs.List.{list_any, AllByRecursion}
-use Rattle.std.proofs.lemmas.Bool.{not-true}
+use Rattle.std.proofs.lemmas.Bool.{and_parts, cases_lt, not-true, true≢false}
 use Rattle.dutch_order.specs.declared.bracket.Shape.{Shape}
-use Rattle.dutch_order.specs.Arrangements.{Arrangement, Fits}
+use Rattle.dutch_order.specs.Arrangements.{Arrangement, Fits, Frame}
 use Rattle.dutch_order.specs.Steps.{Passes}
 use Rattle.dutch_player.specs.Facts.{Facts}
 use Rattle.dutch_pair.specs.declared.stage.Stage.{Stage}
@@ -12,13 +12,14 @@ use Rattle.dutch_pair.specs.Aims.{best_wished}
 use Rattle.dutch_pair.specs.Lower.{lower_of}
 use Rattle.dutch_pair.specs.Outcomes.{IsStage}
 use Rattle.dutch_pair.specs.Reached.{Reached, frame_of}
-use Rattle.dutch_pair.specs.Round.{candidates_of, eligible, is_better_in, is_penultimate}
-use Rattle.dutch_pair.specs.Shapes.{has_member}
+use Rattle.dutch_pair.specs.Round.{candidates_of, eligible, is_better_in, is_penultimate, shape_of}
+use Rattle.dutch_pair.specs.Shapes.{fits, has_member}
 use Rattle.dutch_pair.specs.Stages.{choice_of}
-use Rattle.dutch_pair.specs.Wishes.{grants}
+use Rattle.dutch_pair.specs.Wishes.{NoneGrants, grants, some_grants, with_mdps}
 use Rattle.dutch_pair.proofs.BestLemmas.{best_of_some, chosen_is, order_in}
 use Rattle.dutch_pair.proofs.Downfloaters.{eligible_all}
-use Rattle.dutch_pair.proofs.ShapeLaws.{has_room}
+use Rattle.dutch_pair.proofs.ShapeLaws.{has_room, none_is_greater}
+use Rattle.dutch_pair.proofs.ShapeSearch.{fits_by_test}
 
 -- of those that are skipped none grants the wish
 front_passed : (wish : Wish) (skipped rest : List Arrangement) → AllByRecursion (λ a. not (grants wish a) ≡ true) skipped
@@ -57,10 +58,94 @@ module _ (facts : Facts) (reached : Reached) (lower : List ℕ) (shape : Shape) 
       → list_any (grants wish) (candidates_of facts reached shape) ≡ false
   none_legal elsewhere none = ap (list_any (grants wish)) (sym (eligible_all facts reached lower shape elsewhere)) ∙ none
 
+-- a bracket with room for a shape has as many players as it has pairs
+pub few_pairs : (frame : Frame) (shape : Shape) → Fits frame shape → shape.pairs ≤ length frame.scores
+few_pairs frame shape h = omega (arith, h.within_pairs, h.within_moved_down, h.residents_enough)
+
+and_false : (t : Bool) → (t && false) ≡ false
+and_false true = refl
+and_false false = refl
+
+any_there : (test : Arrangement → Bool) (all : List Arrangement) → list_any test all ≡ true → has_member all ≡ true
+any_there test [] h = absurd (true≢false (sym h))
+any_there test (a ∷ rest) h = refl
+
+-- ---- which legal candidates with as many pairs as a shape grant a wish
+
+module _ (facts : Facts) (reached : Reached) (wish : Wish) (shape : Shape) where
+  abbrev grants_with : ℕ → Bool
+  grants_with mdps = some_grants facts reached wish (with_mdps shape mdps)
+
+  abbrev NoneFrom : ℕ → ℕ → Type 0
+  NoneFrom from to = NoneGrants facts reached wish shape from to
+
+  pub none_yet : (to : ℕ) → NoneFrom to to
+  none_yet to = λ mdps least below. absurd (omega (arith, least, below))
+
+  none_there : (n to mdps : ℕ) → grants_with n ≡ false → NoneFrom (n + 1) to → n ≤ mdps → mdps < to → (n < mdps) ⊎ (mdps ≤ n) → grants_with mdps ≡ false
+  none_there n to mdps one others least below (inl more) = others mdps (omega (arith, more)) below
+  none_there n to mdps one others least below (inr fewer) =
+      let same : n ≡ mdps = omega (arith, least, fewer) in ap grants_with (sym same) ∙ one
+
+  -- one number of moved-down players less
+  pub one_less : (n to : ℕ) → grants_with n ≡ false → NoneFrom (n + 1) to → NoneFrom n to
+  one_less n to one others = λ mdps least below. none_there n to mdps one others least below (cases_lt n mdps)
+
+  pub none_from : (n from to : ℕ) → n ≤ from → NoneFrom n to → NoneFrom from to
+  none_from n from to le none = λ mdps least below. none mdps (omega (arith, le, least)) below
+
+  -- the shape itself
+  own : list_any (grants wish) (candidates_of facts reached shape) ≡ false → grants_with shape.mdps ≡ false
+  own none = ap (λ t. fits (frame_of facts reached) shape && t) none ∙ and_false (fits (frame_of facts reached) shape)
+
+  upto_at : (mdps : ℕ) → grants_with shape.mdps ≡ false → NoneFrom 0 shape.mdps → mdps < shape.mdps + 1 → (mdps < shape.mdps) ⊎ (shape.mdps ≤ mdps) → grants_with mdps ≡ false
+  upto_at mdps one fewer below (inl less) = fewer mdps (omega arith) less
+  upto_at mdps one fewer below (inr least) =
+      let same : shape.mdps ≡ mdps = omega (arith, below, least) in ap grants_with (sym same) ∙ one
+
+  -- as many moved-down players as the shape has, or fewer
+  pub none_upto : list_any (grants wish) (candidates_of facts reached shape) ≡ false → NoneFrom 0 shape.mdps → NoneFrom 0 (shape.mdps + 1)
+  none_upto none fewer = λ mdps least below. upto_at mdps (own none) fewer below (cases_lt mdps shape.mdps)
+
+  -- more moved-down players than pairs
+  too_many : (mdps : ℕ) (t : Bool) → fits (frame_of facts reached) (with_mdps shape mdps) ≡ t → shape.pairs < mdps → grants_with mdps ≡ false
+  too_many mdps true e more =
+      let room = fits_by_test (frame_of facts reached) (with_mdps shape mdps) e in
+      let few : mdps ≤ shape.pairs = room.within_pairs in absurd (omega (arith, few, more))
+  too_many mdps false e more = ap (λ t. t && list_any (grants wish) (candidates_of facts reached (with_mdps shape mdps))) e
+
+  all_at : (mdps : ℕ) → NoneFrom 0 (shape.mdps + 1) → NoneFrom (shape.mdps + 1) (shape.pairs + 1) → (shape.mdps < mdps) ⊎ (mdps ≤ shape.mdps) → (shape.pairs < mdps) ⊎ (mdps ≤ shape.pairs)
+      → grants_with mdps ≡ false
+  all_at mdps few many (inr fewer) pairs = few mdps (omega arith) (omega (arith, fewer))
+  all_at mdps few many (inl more) (inl all) = too_many mdps (fits (frame_of facts reached) (with_mdps shape mdps)) refl all
+  all_at mdps few many (inl more) (inr within) = many mdps (omega (arith, more)) (omega (arith, within))
+
+  pub none_at_all : list_any (grants wish) (candidates_of facts reached shape) ≡ false → NoneFrom 0 shape.mdps → NoneFrom (shape.mdps + 1) (shape.pairs + 1)
+      → (mdps : ℕ) → grants_with mdps ≡ false
+  none_at_all none fewer more mdps = all_at mdps (none_upto none fewer) more (cases_lt shape.mdps mdps) (cases_lt shape.pairs mdps)
+
+  module _ (lower : List ℕ) where
+    more_at : (mdps : ℕ) (t : Bool) → grants_with mdps ≡ t → is_penultimate reached.kind ≡ false → shape_of facts reached lower ≡ Some shape → shape.mdps < mdps → t ≡ false
+    more_at mdps false e elsewhere is more = refl
+    more_at mdps true e elsewhere is more =
+        let wider = with_mdps shape mdps in
+        let both = and_parts (fits (frame_of facts reached) wider) _ e in
+        let there = any_there (grants wish) (candidates_of facts reached wider) both.1 in
+        absurd (none_is_greater facts reached lower shape wider is (fits_by_test (frame_of facts reached) wider both.0)
+        (ap has_member (eligible_all facts reached lower wider elsewhere) ∙ there) (inr (refl, more)))
+
+    -- where all legal candidates can be chosen, none with as many pairs has more moved-down players in them
+    pub none_more : is_penultimate reached.kind ≡ false → shape_of facts reached lower ≡ Some shape → NoneFrom (shape.mdps + 1) (shape.pairs + 1)
+    none_more elsewhere is = λ mdps least below. more_at mdps (grants_with mdps) refl elsewhere is (omega (arith, least))
+
+-- a stage's shape is its bracket's
+pub stage_shape : (facts : Facts) (stage : Stage) → IsStage facts stage → shape_of facts stage.reached (lower_of facts stage.reached) ≡ Some stage.shape
+stage_shape facts stage h = (chosen_is facts stage.reached (lower_of facts stage.reached) (choice_of stage) h.choice).0
+
 -- a stage has room for its shape
 stage_fits : (facts : Facts) (stage : Stage) → IsStage facts stage → Fits (frame_of facts stage.reached) stage.shape
 stage_fits facts stage h =
-    has_room facts stage.reached (lower_of facts stage.reached) stage.shape (chosen_is facts stage.reached (lower_of facts stage.reached) (choice_of stage) h.choice).0
+    has_room facts stage.reached (lower_of facts stage.reached) stage.shape (stage_shape facts stage h)
 
 -- and so has a bracket that was read as the stage's
 pub read_fits : (facts : Facts) (stage : Stage) {own : Facts} {reached : Reached} {shape : Shape} → own ≡ facts → reached ≡ stage.reached → shape ≡ stage.shape
@@ -69,3 +154,10 @@ read_fits facts stage {own = own} {reached = reached} field bracket is h =
     subst (λ s. Fits (frame_of own reached) s) (sym is)
     (subst (λ r. Fits (frame_of own r) stage.shape) (sym bracket)
     (subst (λ f. Fits (frame_of f stage.reached) stage.shape) (sym field) (stage_fits facts stage h)))
+
+-- and it is the bracket's shape
+pub read_shape : (facts : Facts) (stage : Stage) {own : Facts} {reached : Reached} {lower : List ℕ} {shape : Shape} → own ≡ facts → reached ≡ stage.reached
+    → lower ≡ lower_of facts stage.reached → shape ≡ stage.shape → IsStage facts stage → shape_of own reached lower ≡ Some shape
+read_shape facts stage {reached = reached} {lower = lower} field bracket below is h =
+    ap (λ f. shape_of f reached lower) field ∙ ap (λ r. shape_of facts r lower) bracket ∙ ap (shape_of facts stage.reached) below
+    ∙ stage_shape facts stage h ∙ ap (λ s. Some s) (sym is)

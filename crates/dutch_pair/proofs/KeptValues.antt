@@ -14,7 +14,7 @@ use Rattle.dutch_pair.specs.Reached.{Reached}
 use Rattle.dutch_pair.specs.Quality.{NextValue}
 use Rattle.dutch_pair.specs.declared.remembered.Look.{Look}
 use Rattle.dutch_pair.specs.declared.remembered.Look.TheVariants.{Value, Undecided}
-use Rattle.dutch_pair.specs.Remembered.{Remembered, AreValues, IsLook, IsKeptAfter, value_below, is_kept, others, with_used, after_use, lists_kept, is_key}
+use Rattle.dutch_pair.specs.Remembered.{Remembered, AreValues, IsLook, IsKeptAfter, value_below, is_kept, others, with_used, after_use, after_refusal, lists_kept, is_key}
 
 -- an entry of the cache
 abbrev Kept : Type 0
@@ -38,7 +38,7 @@ look_stopped v w stopped owed Undecided h e owes = owes h
 
 -- and what is kept with it
 pub kept_is : (v : NextValue) (down : List ℕ) (old new : Remembered) (look : Look) → IsLook v ⊥ look
-    → (new ≡ after_use down old) ⊎ ((is_kept down old.kept ≡ false) × (new ≡ old)) → IsKeptAfter down old new look
+    → (new ≡ after_use down old) ⊎ ((is_kept down old.kept ≡ false) × (new ≡ after_refusal old)) → IsKeptAfter down old new look
 kept_is v down old new (Value pairs psd) h kept = kept
 kept_is v down old new Undecided h kept = absurd h
 

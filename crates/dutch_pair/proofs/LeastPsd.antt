@@ -1,17 +1,16 @@
 -- In a bracket whose residents have one score the first legal arrangement of a shape has the least PSD.
-use Rattle.std.proofs.Common.{◌≡◌, ℕ, zero, suc, ◌+◌, ◌-◌, ◌<◌, ◌≤◌, Bool, true, false, cond, eqb, List, [], ◌∷◌, ◌++◌, map, length, ◌⊎◌, inl, inr, refl, sym, ap, ◌∙◌, subst, arith}
+use Rattle.std.proofs.Common.{◌≡◌, ℕ, zero, suc, ◌+◌, ◌-◌, ◌<◌, ◌≤◌, Bool, true, false, cond, eqb, List, [], ◌∷◌, ◌++◌, map, length, slice_index, ◌⊎◌, inl, inr, refl, sym, ap, ◌∙◌, subst, arith}
 use Rattle.std.specs.List.{AllByRecursion}
 use Rattle.std.specs.Prelude.{filter, flat_map}
-use Rattle.std.proofs.lemmas.Bool.{ne_eqb}
+use Rattle.std.proofs.lemmas.Bool.{cases_lt, ne_eqb}
 use Rattle.std.proofs.lemmas.Bool.Decides.{nat_tests}
-use Rattle.std.proofs.lemmas.List.{length-map, get_or-map, get_or-take}
+use Rattle.std.proofs.lemmas.List.{length-map, length-take, get_or-map, get_or-take, get_or_past}
 use Rattle.std.proofs.lemmas.List.Elements.{filter-append}
 use Rattle.dutch_order.specs.declared.bracket.Shape.{Shape}
 use Rattle.dutch_order.specs.Choices.{numbers_from, subsets, tuples, is_member}
-use Rattle.dutch_order.specs.Keys.{is_before, higher_first, IsIn, Ascends, sorted}
-use Rattle.dutch_order.specs.Transposition.{tuple_key}
+use Rattle.dutch_order.specs.Keys.{IsIn, sorted, lower_first}
 use Rattle.dutch_order.specs.Exchange.{exchanges, sum_of}
-use Rattle.dutch_order.specs.Limbo.{limbo_exchanges, limbo_key, score_of}
+use Rattle.dutch_order.specs.Limbo.{limbo_exchanges, score_of, limbo_cmp}
 use Rattle.dutch_order.specs.Arrangements.{Frame, Arrangement, left_of, residents_of, moved_down_scores, remainder_pairs, with_s2r, with_s1r, with_s2, arrangements, is_legal, down}
 use Rattle.dutch_order.proofs.HalfWalks.{Climbs}
 use Rattle.dutch_order.proofs.Orders.{member_has, IsIn-append, IsIn-map, IsIn-flat_map, is_before-cases}
@@ -28,6 +27,8 @@ use Rattle.dutch_pair.proofs.Copies.{copies, Falls, Lower, highest_first_falls, 
 use Rattle.dutch_pair.proofs.ArrangementParts.{Parts, parts_of}
 use Rattle.dutch_pair.specs.PsdFloors.{repeated}
 use Rattle.dutch_pair.proofs.PsdParts.{OneScore, psd_copies, copies_shared}
+use Rattle.dutch_order.proofs.ByKeys.{is_before, turned, Ascends, limbo_key}
+use Rattle.dutch_order.proofs.Comparing.{limbo_cmp-is}
 
 -- two counts that agree from a number on agree wherever the sums that they make agree above d
 same_above : (ha hb ca cb la lb t k : ℕ → ℕ) (bound d : ℕ)
@@ -91,7 +92,7 @@ module _ (score : ℕ → ℕ) (s q : ℕ) (falling : (i j : ℕ) → 0 < i → 
       → AllByRecursion (λ i. (sc i ≡ score i) × (s < score i) × (score i ≤ 65535)) xs
       → AllByRecursion (λ i. (sc i ≡ score i) × (s < score i) × (score i ≤ 65535)) ys
       → length xs ≡ length ys
-      → is_before (map (λ i. higher_first (sc i)) xs ++ p) (map (λ i. higher_first (sc i)) ys ++ p') ≡ true
+      → is_before (map (λ i. turned (sc i)) xs ++ p) (map (λ i. turned (sc i)) ys ++ p') ≡ true
       → is_lower (map (λ i. (score i - s) + 2) xs) (map (λ i. (score i - s) + 2) ys) ≡ false
   key_lower sc [] [] p p' f g equal before = refl
   key_lower sc [] (y ∷ ys) p p' f g equal before = absurd (omega arith)
@@ -100,7 +101,7 @@ module _ (score : ℕ → ℕ) (s q : ℕ) (falling : (i j : ℕ) → 0 < i → 
       let by : ℕ → ℕ = λ i. (score i - s) + 2 in
       let one = f.0 in
       let two = g.0 in
-      elim (is_before-cases (higher_first (sc x)) (higher_first (sc y)) (map (λ i. higher_first (sc i)) xs ++ p) (map (λ i. higher_first (sc i)) ys ++ p') before) [
+      elim (is_before-cases (turned (sc x)) (turned (sc y)) (map (λ i. turned (sc i)) xs ++ p) (map (λ i. turned (sc i)) ys ++ p') before) [
         | inl less ↦ more_first (by x) (by y) (map by xs) (map by ys) (omega (arith, less, one.0, one.1, one.2, two.0, two.1, two.2))
         | inr same ↦
             same_first (by x) (by y) (map by xs) (map by ys) (omega (arith, same.0, one.0, one.1, one.2, two.0, two.1, two.2))
@@ -110,10 +111,10 @@ module _ (score : ℕ → ℕ) (s q : ℕ) (falling : (i j : ℕ) → 0 < i → 
 -- an arrangement has the S1 for which it is listed
 s1_of : (frame : Frame) (shape : Shape) (s1 : List ℕ) (a : Arrangement) → IsIn a (with_s2 frame shape s1) → a.s1 ≡ s1
 s1_of frame shape s1 a m =
-    let two = IsIn-flat_map (with_s1r frame shape s1) a (sorted tuple_key (tuples (residents_of frame) shape.mdps)) m in
+    let two = IsIn-flat_map (with_s1r frame shape s1) a (sorted lower_first (tuples (residents_of frame) shape.mdps)) m in
     let three = IsIn-flat_map (with_s2r frame shape s1 two.0) a (exchanges (left_of (residents_of frame) two.0) (remainder_pairs shape)) two.2 in
     let four = IsIn-map (λ s2r. record { s1 = s1; s2 = two.0; s1r = three.0; s2r = s2r }) a
-    (sorted tuple_key (tuples (left_of (left_of (residents_of frame) two.0) three.0) (remainder_pairs shape))) three.2 in
+    (sorted lower_first (tuples (left_of (left_of (residents_of frame) two.0) three.0) (remainder_pairs shape))) three.2 in
     ap (λ (c : Arrangement). c.s1) four.1
 
 module _ (p : Arrangement → Bool) (f : List ℕ → List Arrangement) (key : List ℕ → List ℕ) (own : (s : List ℕ) (a : Arrangement) → IsIn a (f s) → a.s1 ≡ s) where
@@ -141,10 +142,13 @@ module _ (p : Arrangement → Bool) (f : List ℕ → List Arrangement) (key : L
   first_of_all (s ∷ sets) ascends first rest whole b m =
       first_in s sets (filter p (f s)) refl ascends.0 (first_of_all sets ascends.1) first rest (sym (filter-append p (f s) (flat_map f sets)) ∙ whole) b m
 
-pub limbo_ascends : (scores : List ℕ) (k : ℕ) → Ascends (limbo_key scores) (limbo_exchanges scores k)
-limbo_ascends scores k =
-    sorted-ascends (limbo_key scores) (subsets (numbers_from 1 (length scores)) k) (subsets-ascend 1 (length scores) k)
-    (λ a b m n same. limbo_key-apart scores a b ((subsets-climb 1 (length scores) k a m).1 ∙ sym (subsets-climb 1 (length scores) k b n).1) same)
+limbo_ascends : (scores : List ℕ) (k : ℕ) → ((i : ℕ) → slice_index scores i ≤ 65535) → Ascends (limbo_key scores) (limbo_exchanges scores k)
+limbo_ascends scores k small =
+    let sets : List (List ℕ) = subsets (numbers_from 1 (length scores)) k in
+    let long : (a b : List ℕ) → IsIn a sets → IsIn b sets → length a ≡ length b =
+    λ a b m n. (subsets-climb 1 (length scores) k a m).1 ∙ sym (subsets-climb 1 (length scores) k b n).1 in
+    sorted-ascends (limbo_key scores) (limbo_cmp scores) sets (λ a b m n. limbo_cmp-is 65535 scores small a b (long a b m n)) (subsets-ascend 1 (length scores) k)
+    (λ a b m n same. limbo_key-apart 65535 scores a b (long a b m n) same)
 
 all_climb : (P : ℕ → Type 0) (q low : ℕ) (xs : List ℕ) → 0 < low → ((i : ℕ) → 0 < i → i ≤ q → P i) → Climbs low (1 + q) xs → AllByRecursion P xs
 all_climb P q low [] p each climbs = tt
@@ -166,6 +170,19 @@ module _ (facts : Facts) (reached : Reached) (s : ℕ) (one : OneScore facts rea
   as_scores i p h =
       get_or-take reached.mdps (map (score_at facts) reached.seats) (i - 1) 0 (omega arith)
       ∙ get_or-map (score_at facts) reached.seats (i - 1) 0 0 (omega (arith, one.within))
+
+  scores_small : (i : ℕ) → slice_index (moved_down_scores (frame_of facts reached)) i ≤ 65535
+  scores_small i =
+      let scores : List ℕ = moved_down_scores (frame_of facts reached) in
+      elim (cases_lt i reached.mdps) [
+        | inl inside ↦
+            let here : slice_index scores i ≡ score_of scores (i + 1) = ap (slice_index scores) (omega arith) in
+            let is : score_of scores (i + 1) ≡ score_at facts (seat_of reached.seats (i + 1)) = as_scores (i + 1) (omega arith) (omega (arith, inside)) in
+            omega (arith, here, is, down'.small (i + 1) (omega arith) (omega (arith, inside)))
+        | inr past ↦
+            let none : slice_index scores i ≡ 0 = get_or_past scores i 0 (omega (arith, past, length-take reached.mdps (frame_of facts reached).scores)) in
+            omega (arith, none)
+      ]
 
   shared : (m j : ℕ) (a : Arrangement) (d : ℕ) → Parts reached.mdps (length (frame_of facts reached).scores) m j a
       → copies d (map (λ i. (score_at facts (seat_of reached.seats i) - s) + 2) (left_of (numbers_from 1 reached.mdps) a.s1))
@@ -237,6 +254,6 @@ module _ (facts : Facts) (reached : Reached) (s : ℕ) (one : OneScore facts rea
       let parts : (c : Arrangement) → IsIn c (first ∷ rest) → Parts reached.mdps (length frame.scores) shape.mdps (remainder_pairs shape) c =
       λ c m. parts_of frame shape c inside (in_filter legal c (arrangements frame shape) (subst (IsIn c) (sym e) m)) in
       let order = first_of_all legal (with_s2 frame shape) (limbo_key (moved_down_scores frame)) (s1_of frame shape)
-      (limbo_exchanges (moved_down_scores frame) shape.mdps) (limbo_ascends (moved_down_scores frame) shape.mdps) first rest e in
+      (limbo_exchanges (moved_down_scores frame) shape.mdps) (limbo_ascends (moved_down_scores frame) shape.mdps scores_small) first rest e in
       ap (λ all. lowest_list (map (psd_in facts reached) all)) e
       ∙ none_lower first rest (λ b m. psd_lower shape.mdps (remainder_pairs shape) first b (parts first (inl refl)) (parts b (inr m)) (order b m))

@@ -26,6 +26,9 @@ pub mod C10Preferences
 pub mod ChoiceLemmas
 pub mod ColourSeats
 pub mod Copies
+pub mod AnyLemmas
+pub mod Partners
+pub mod AllPairings
 pub mod Covering
 pub mod Descents
 pub mod DownLemmas
@@ -47,6 +50,7 @@ pub mod TakersSearch
 pub mod Turned
 pub mod Places
 pub mod PsdParts
+pub mod InTurn
 pub mod QualityOrder
 pub mod ItemOrder
 pub mod ItemSeats
@@ -58,6 +62,7 @@ pub mod WalkLemmas
 pub mod FixedPairs
 pub mod FloorLemmas
 pub mod WalkEnds
+pub mod RoundBy
 pub mod WalkSteps
 pub mod GroupWalk
 pub mod RoundEnds
@@ -85,3 +90,4 @@ pub mod FinalBrackets
 pub mod OnePairMore
 pub mod Downfloaters
 pub mod NoDeadEnd
+pub mod DeadEndLaws

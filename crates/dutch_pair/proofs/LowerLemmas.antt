@@ -109,7 +109,7 @@ module _ (facts : Facts) where
   some_in (x ∷ xs) h = (x, inl refl)
 
   module _ (descends : Descends facts) (md residents lower : List ℕ) (goes : Goes facts md (residents ++ lower)) (above : AreAbove facts residents lower) where
-    -- each player in front is above a resident, and each resident reaches himself
+    -- each player in front is above a resident, and each resident reaches their own place
     front_reached : (y : ℕ) → 0 < length residents → IsIn y goes.front ⊎ IsIn y residents → (a : ℕ) × IsIn a (md ++ residents) × (score_at facts a ≤ score_at facts y)
     front_reached y some (inl m) =
         let one = some_in residents some in

@@ -1,4 +1,4 @@
--- Who is paired out with whom, as a map of each player to his mate; whoever is left out is his own mate.
+-- Who is paired out with whom, as a map of each player to a mate; whoever is left out is their own mate.
 use Rattle.std.proofs.Common.{◌≡◌, ℕ, zero, suc, ◌≤◌, Bool, true, ◌==◌, cond, List, [], ◌∷◌, ◌++◌, length, refl, sym, ap, ◌∙◌, arith, subst, inl, inr, ◌⊎◌}
 use Rattle.std.proofs.lemmas.List.{length-append}
 use Rattle.std.proofs.lemmas.Bool.{cases_eq, eq-eqb, ne_eqb}
@@ -6,7 +6,8 @@ use Rattle.dutch_order.specs.Keys.{IsIn}
 use Rattle.dutch_order.specs.Forms.{NoneTwice}
 use Rattle.dutch_order.proofs.Orders.{IsIn-append, IsIn-front, IsIn-back}
 use Rattle.dutch_order.proofs.NoneTwice.{twice-back, twice-apart}
-use Rattle.dutch_pair.specs.Completion.{Covers, MayBeLeftOut, Completable, nobody}
+use Rattle.dutch_pair.specs.Completion.{Covers, MayBeLeftOut, Completable}
+use Rattle.dutch_pair.specs.CompletionSearch.{nobody}
 use Rattle.dutch_pair.proofs.Covering.{with_left, with_pair}
 
 -- ---- a member among others
@@ -44,7 +45,8 @@ stands z (x ∷ zs) (inr m) = let later = stands z zs m in record { front = x �
 -- ---- mates
 
 module _ (meets : ℕ → ℕ → Bool) where
-  -- each of some players has a mate among them, whose mate he is, and meets him; at most one is his own mate, and may be left out
+  -- each of some players has a mate among them, is the mate of that one, and may meet them; at most one is their own mate, and may be
+  -- left out
   pub record AreMates (may_be_left : ℕ → Bool) (players : List ℕ) (mate : ℕ → ℕ) : Type 0 where
     pub inside : (a : ℕ) → IsIn a players → IsIn (mate a) players
     pub back : (a : ℕ) → IsIn a players → mate (mate a) ≡ a
@@ -63,7 +65,7 @@ module _ (meets : ℕ → ℕ → Bool) where
     left = left;
   }
 
-  -- the first of some players is his own mate
+  -- the first of some players is their own mate
   first_left : (may_be_left : ℕ → Bool) (mate : ℕ → ℕ) (a : ℕ) (later : List ℕ) → NoneTwice (a ∷ later) → AreMates may_be_left (a ∷ later) mate → mate a ≡ a → AreMates nobody later mate
   first_left may_be_left mate a later twice are alone =
       fewer_mates may_be_left nobody (a ∷ later) later mate are (λ b m. inr m)
@@ -74,7 +76,7 @@ module _ (meets : ℕ → ℕ → Bool) where
       ])
       (λ b m same. let own : b ≡ a = are.one b a (inr m) (inl refl) same alone in absurd (twice.0 (subst (λ c. IsIn c later) own m)))
 
-  -- the first of some players has a mate behind him
+  -- the first of some players has a mate further back
   first_paired : (may_be_left : ℕ → Bool) (mate : ℕ → ℕ) (a : ℕ) (front behind : List ℕ) → NoneTwice (a ∷ (front ++ mate a ∷ behind)) → AreMates may_be_left (a ∷ (front ++ mate a ∷ behind)) mate
       → AreMates may_be_left (front ++ behind) mate
   first_paired may_be_left mate a front behind twice are =
@@ -267,14 +269,50 @@ module _ (meets : ℕ → ℕ → Bool) where
     one_out may_be_left (x ∷ []) left a (inr none) = absurd none
     one_out may_be_left (x ∷ y ∷ rest) left a m = absurd left
 
-    pub record FoundMates (may_be_left : ℕ → Bool) (players : List ℕ) : Type 0 where
+    -- each of the pairs is of two mates, who are not one player
+    mates_told : (pairs : List (ℕ × ℕ)) (players out : List ℕ) (twice : NoneTwice players) (c : Covers meets players pairs out) (a b : ℕ) → IsIn (a, b) pairs
+        → IsIn a players × ((mates_of_covers pairs players out twice c).mate a ≡ b) × (a ≡ b → ⊥)
+    unfolding mates_of_covers
+    mates_told [] players out twice c a b m = absurd m
+    mates_told (pair ∷ pairs) players out twice c a b m =
+        let skipped = c.skipped in
+        let between = c.between in
+        let behind = c.behind in
+        let u = pair.0 in
+        let v = pair.1 in
+        let tail = between ++ v ∷ behind in
+        let twice' : NoneTwice (skipped ++ u ∷ tail) = subst NoneTwice c.players_are twice in
+        let back : NoneTwice (u ∷ tail) = twice-back skipped (u ∷ tail) twice' in
+        let off_v = twice-middle v between behind back.1 in
+        let less = mates_of_covers pairs (between ++ behind) c.later off_v.1 c.covered in
+        let tail_in : (z : ℕ) → IsIn z (between ++ behind) → IsIn z tail = λ z n. in-middle z v between behind (inr n) in
+        let all_in : (z : ℕ) → IsIn z (u ∷ tail) → IsIn z players = λ z n. subst (IsIn z) (sym c.players_are) (IsIn-back z skipped (u ∷ tail) n) in
+        elim m [
+          | inl same ↦
+              let first : a ≡ u = ap (λ (p : ℕ × ℕ). p.0) same in
+              let second : b ≡ v = ap (λ (p : ℕ × ℕ). p.1) same in (
+                all_in a (inl first),
+                ap (swapped u v less.mate) first ∙ swapped_first u v less.mate ∙ sym second,
+                λ e. back.0 (subst (λ w. IsIn w tail) (sym second ∙ sym e ∙ first) (in-middle v v between behind (inl refl))),
+              )
+          | inr later ↦
+              let told = mates_told pairs (between ++ behind) c.later off_v.1 c.covered a b later in (
+                all_in a (inr (tail_in a told.0)),
+                swapped_other u v less.mate a (λ e. back.0 (subst (λ w. IsIn w tail) e (tail_in a told.0))) (λ e. off_v.0 (subst (λ w. IsIn w (between ++ behind)) e told.0)) ∙ told.1,
+                told.2,
+              )
+        ]
+
+    -- the mates of players whom a list of pairs pairs out
+    pub record PairMates (may_be_left : ℕ → Bool) (players : List ℕ) (pairs : List (ℕ × ℕ)) : Type 0 where
       pub mate : ℕ → ℕ
       pub are : AreMates may_be_left players mate
+      pub tells : (a b : ℕ) → IsIn (a, b) pairs → (mate a ≡ b) × (a ≡ b → ⊥)
 
-    -- players who can be paired out have mates
-    pub complete_mates : (may_be_left : ℕ → Bool) (players : List ℕ) → NoneTwice players → Completable meets may_be_left players → FoundMates may_be_left players
-    complete_mates may_be_left players twice whole =
-        let found = mates_of_covers whole.pairs players whole.out twice whole.covered in
+    pub pairs_mates : (may_be_left : ℕ → Bool) (players : List ℕ) (pairs : List (ℕ × ℕ)) (out : List ℕ) → NoneTwice players → Covers meets players pairs out → MayBeLeftOut may_be_left out
+        → PairMates may_be_left players pairs
+    pairs_mates may_be_left players pairs out twice covered left_out =
+        let found = mates_of_covers pairs players out twice covered in
         let mated = found.mated in
         record {
           mate = found.mate;
@@ -282,7 +320,18 @@ module _ (meets : ℕ → ℕ → Bool) where
             inside = mated.inside;
             back = λ a m. mated.back a;
             met = λ a m. mated.met a;
-            one = λ a b m n e f. (one_out may_be_left whole.out whole.left_out a (mated.alone a m e)).1 b (mated.alone b n f);
-            left = λ a m e. (one_out may_be_left whole.out whole.left_out a (mated.alone a m e)).0;
+            one = λ a b m n e f. (one_out may_be_left out left_out a (mated.alone a m e)).1 b (mated.alone b n f);
+            left = λ a m e. (one_out may_be_left out left_out a (mated.alone a m e)).0;
           };
+          tells = λ a b m. let told = mates_told pairs players out twice covered a b m in (told.1, told.2);
         }
+
+    pub record FoundMates (may_be_left : ℕ → Bool) (players : List ℕ) : Type 0 where
+      pub mate : ℕ → ℕ
+      pub are : AreMates may_be_left players mate
+
+    -- players who can be paired out have mates
+    pub complete_mates : (may_be_left : ℕ → Bool) (players : List ℕ) → NoneTwice players → Completable meets may_be_left players → FoundMates may_be_left players
+    complete_mates may_be_left players twice whole =
+        let found = pairs_mates may_be_left players whole.pairs whole.out twice whole.covered whole.left_out in
+        record { mate = found.mate; are = found.are }

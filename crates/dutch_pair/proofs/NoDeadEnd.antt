@@ -1,4 +1,4 @@
--- No dead end (C.04.3 A.9, C.5): where all players can be paired out, each bracket that the round reaches has a candidate that can be
+-- No dead end (C.04.3 A.9, C.5): if all players can be paired out, each bracket that the round reaches has a candidate that can be
 -- chosen, so the round is paired.
 use Rattle.std.proofs.Common.{◌≡◌, ℕ, zero, suc, ◌+◌, ◌-◌, ◌<◌, Bool, true, false, cond, List, [], ◌∷◌, ◌++◌, map, length, get_or, is_some, refl, sym, ap, ◌∙◌, arith, subst, inl, inr, Option, Some, None, append_assoc}
 use Rattle.std.specs.Prelude.{option_map, ◌↔◌}
@@ -22,7 +22,8 @@ use Rattle.dutch_pair.specs.Outcomes.{visit_of}
 use Rattle.dutch_pair.specs.declared.reached.BracketKind.{BracketKind}
 use Rattle.dutch_pair.specs.declared.reached.BracketKind.TheVariants.{Ordinary, Last, Penultimate, Collapsed}
 use Rattle.dutch_pair.specs.Reached.{Reached, ends_round, frame_of, numbers_meet, number_may_be_left}
-use Rattle.dutch_pair.specs.Round.{Choice, Pairing, Round, bracket, brackets, candidates_of, shape_of, choice, completable, downfloaters, eligible, everybody, final_bracket, final_by, is_penultimate, no_pairing, ordinary_bracket, ordinary_by, pairing_in, passing, penultimate_bracket, penultimate_by, round, scoregroups}
+use Rattle.dutch_pair.specs.Round.{Choice, Pairing, Round, bracket, brackets, candidates_of, shape_of, choice, completable, downfloaters, eligible, everybody, final_bracket, is_penultimate, no_pairing, ordinary_bracket, pairing_in, passing, penultimate_bracket, round, scoregroups, paired_again}
+use Rattle.dutch_pair.proofs.RoundBy.{final_by, ordinary_by, penultimate_by}
 use Rattle.dutch_pair.specs.SeatLaws.{seats_meet_sym}
 use Rattle.dutch_pair.specs.Seated.{seat_of, all_pairs}
 use Rattle.dutch_pair.specs.Seats.{seats_meet, seats_may_be_left}
@@ -162,7 +163,7 @@ module _ (facts : Facts) where
     own_twice : NoneTwice seats
     own_twice = twice-front seats lower all_twice
 
-    left_twice : (a : Arrangement) → NoneTwice (downfloaters facts reached a ++ lower)
+    pub left_twice : (a : Arrangement) → NoneTwice (downfloaters facts reached a ++ lower)
     left_twice = all_down number Penultimate md residents lower own_twice refl all_twice
 
     empty_complete : complete_below nobody_paired ≡ true
@@ -254,7 +255,7 @@ module _ (facts : Facts) where
             ∙ has_kept complete_below more.lists (candidates_of facts reached more.larger)
             (more_candidate facts number Penultimate md residents own_twice lower chosen is' refl goes.strangers x y more) complete)
 
-        no_mates : (s : ℕ) → IsIn s left → IsIn (mate s) left → mate s ≡ s
+        pub no_mates : (s : ℕ) → IsIn s left → IsIn (mate s) left → mate s ≡ s
         no_mates s m n =
             let one = IsIn-map (seat_of seats) s (down frame lists) m in
             let two = IsIn-map (seat_of seats) (mate s) (down frame lists) n in
@@ -280,7 +281,7 @@ module _ (facts : Facts) where
         (more_paired reached found.chosen (final_bracket facts collapsed)
         (final_is collapsed (has_choice collapsed [] (collapsed_has found.chosen found.is (number + 1)))))
 
-  penultimate_goes : (number : ℕ) (md residents lower : List ℕ) → GoesOut facts md (residents ++ lower) → IsPaired (penultimate_bracket facts (bracket number Ordinary md residents) lower)
+  penultimate_goes : (number : ℕ) (md residents lower : List ℕ) → GoesOut facts md (residents ++ lower) → IsPaired (penultimate_bracket facts (paired_again (bracket number Ordinary md residents)) lower)
   penultimate_goes number md residents lower goes = again_goes (number + 1) md residents lower goes
 
   -- ---- an ordinary bracket
@@ -306,7 +307,7 @@ module _ (facts : Facts) where
     }
 
     -- those whom it leaves over go out with the lower seats where they can be paired out with them
-    first_out : (chosen : Choice) → choice facts first lower ≡ Some chosen → completable facts (downfloaters facts first chosen.lists ++ lower) ≡ true
+    pub first_out : (chosen : Choice) → choice facts first lower ≡ Some chosen → completable facts (downfloaters facts first chosen.lists ++ lower) ≡ true
         → GoesOut facts (downfloaters facts first chosen.lists) lower
     first_out chosen is' e = record {
       twice = all_down number Ordinary md residents lower first_twice refl first_all chosen.lists;
@@ -316,7 +317,7 @@ module _ (facts : Facts) where
 
     module _ (goes_on : List ℕ → Round) (later : (left : List ℕ) → GoesOut facts left lower → IsPaired (goes_on left)) where
       kept_on : (chosen : Choice) → choice facts first lower ≡ Some chosen → (t : Bool) → completable facts (downfloaters facts first chosen.lists ++ lower) ≡ t
-          → IsPaired (cond t (pairing_in facts first chosen (goes_on (downfloaters facts first chosen.lists))) (passing facts first chosen (penultimate_bracket facts first lower)))
+          → IsPaired (cond t (pairing_in facts first chosen (goes_on (downfloaters facts first chosen.lists))) (passing facts first chosen (penultimate_bracket facts (paired_again first) lower)))
       kept_on chosen is' true e =
           let left = downfloaters facts first chosen.lists in
           more_paired first chosen (goes_on left) (later left (first_out chosen is' e))

@@ -11,7 +11,8 @@ use Rattle.dutch_order.specs.Arrangements.{Frame, Arrangement, arrangements, dow
 use Rattle.dutch_player.specs.Facts.{Facts}
 use Rattle.dutch_pair.specs.declared.reached.BracketKind.TheVariants.{Ordinary, Last, Collapsed}
 use Rattle.dutch_pair.specs.Reached.{Reached, ends_round, frame_of, numbers_meet, number_may_be_left}
-use Rattle.dutch_pair.specs.Round.{Round, Pairing, Choice, bracket, candidates_of, choice, completable, downfloaters, eligible, everybody, can_be_chosen, scoregroups, pairing_in, passing, no_pairing, final_by, final_bracket, penultimate_by, penultimate_bracket, paired_again, ordinary_by, brackets, round}
+use Rattle.dutch_pair.specs.Round.{Round, Pairing, Choice, bracket, candidates_of, choice, completable, downfloaters, eligible, everybody, can_be_chosen, scoregroups, pairing_in, passing, no_pairing, final_bracket, penultimate_bracket, paired_again, brackets, round}
+use Rattle.dutch_pair.proofs.RoundBy.{final_by, penultimate_by, ordinary_by}
 use Rattle.dutch_pair.specs.Seated.{all_pairs, seat_of}
 use Rattle.dutch_pair.proofs.LeastPsd.{in_filter}
 use Rattle.dutch_pair.proofs.LegalPairs.{in_passes}
@@ -71,11 +72,11 @@ module _ (facts : Facts) where
       let last : Reached = bracket (reached.number + 1) Collapsed (downfloaters facts reached made.lists) lower in
       bye_stays reached made (final_bracket facts last).pairing (final_bye last refl)
 
-  penultimate_bye : (reached : Reached) (lower : List ℕ) → HasOneBye (penultimate_bracket facts reached lower).pairing
+  penultimate_bye : (reached : Reached) (lower : List ℕ) → HasOneBye (penultimate_bracket facts (paired_again reached) lower).pairing
   penultimate_bye reached lower = penultimate_at (paired_again reached) lower (choice facts (paired_again reached) lower)
 
   kept_at : (reached : Reached) (lower : List ℕ) (goes_on : List ℕ → Round) (made : Choice) (t : Bool) → ((left : List ℕ) → HasOneBye (goes_on left).pairing)
-      → HasOneBye (cond t (pairing_in facts reached made (goes_on (downfloaters facts reached made.lists))) (passing facts reached made (penultimate_bracket facts reached lower))).pairing
+      → HasOneBye (cond t (pairing_in facts reached made (goes_on (downfloaters facts reached made.lists))) (passing facts reached made (penultimate_bracket facts (paired_again reached) lower))).pairing
   kept_at reached lower goes_on made true later =
       bye_stays reached made (goes_on (downfloaters facts reached made.lists)).pairing (later (downfloaters facts reached made.lists))
   kept_at reached lower goes_on made false later = penultimate_bye reached lower

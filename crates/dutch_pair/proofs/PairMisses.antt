@@ -1,4 +1,4 @@
--- Of a pair one misses his preference where both want one colour, and else nobody.
+-- If both players of a pair want the same colour, one of them misses their preference; otherwise neither does.
 use Rattle.std.proofs.Common.{◌≡◌, ℕ, ◌+◌, Bool, true, false, not, ◌&&◌, ◌≤◌, if◌then◌else◌, nat_lt, Option, Some, None, refl, sym, ap, ◌∙◌, arith}
 use Rattle.std.specs.Option.{option_map_or}
 use Rattle.trf16.specs.declared.cell.Colour.{Colour}

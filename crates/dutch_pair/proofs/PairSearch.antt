@@ -7,7 +7,8 @@ use Rattle.std.proofs.lemmas.List.{drop_more, drop_all, take_more}
 use Rattle.dutch_order.specs.declared.steps.Budget.{Budget}
 use Rattle.dutch_pair.specs.declared.completion.Answer.{Answer}
 use Rattle.dutch_pair.specs.declared.completion.Answer.TheVariants.{Yes, No, Undecided}
-use Rattle.dutch_pair.specs.Completion.{some_partner, nobody, left_over, can_cover, most, Spends, IsStopped, Takes, Tells}
+use Rattle.dutch_pair.specs.Completion.{most, Spends, IsStopped, Takes, Tells}
+use Rattle.dutch_pair.specs.CompletionSearch.{some_partner, nobody, left_over, can_cover}
 
 tells_same : (answer : Answer) (test same : Bool) (stopped kept : Type 0) → test ≡ same → (stopped → kept) → Tells answer test stopped → Tells answer same kept
 tells_same Yes test same stopped kept e f told = sym e ∙ told

@@ -1,4 +1,4 @@
--- Of which differences the PSD of an arrangement is made, where all residents of the bracket have one score.
+-- The differences of which the PSD of an arrangement is made, if all residents of the bracket have one score.
 use Rattle.std.proofs.Common.{◌≡◌, ℕ, suc, ◌+◌, ◌-◌, ◌<◌, ◌≤◌, Bool, true, false, cond, not, ◌||◌, eqb, List, [], ◌∷◌, ◌++◌, map, length, refl, sym, ap, ◌∙◌, arith}
 use Rattle.std.specs.List.{AllByRecursion}
 use Rattle.std.specs.Prelude.{filter}
@@ -33,7 +33,7 @@ copies_shared d f p (x ∷ xs) =
 
 -- numbers by their scores, where those above q have the score s and those up to q have a higher one
 module _ (score : ℕ → ℕ) (s q n : ℕ) (higher : (i : ℕ) → 0 < i → i ≤ q → s < score i) (same : (i : ℕ) → q < i → i ≤ n → score i ≡ s) where
-  -- what a moved-down player makes where he is paired, and where he is not
+  -- what a moved-down player adds if they are paired, and if they are not
   abbrev pub paired_by : ℕ → ℕ
   paired_by i = score i - s
 

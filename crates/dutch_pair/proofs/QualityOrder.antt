@@ -5,13 +5,15 @@ use Rattle.std.specs.declared.cmp.Ordering.TheVariants.{Less, Equal, Greater}
 use Rattle.std.specs.Ordering.{nat_cmp, is_lt, ordering_then, ordering_reverse}
 use Rattle.std.specs.Cmp.{IsTotalOrder}
 use Rattle.std.specs.Cmp.Lexicographic.{slice_cmp}
-use Rattle.std.proofs.lemmas.Cmp.{then_total, on_total, back_total, nat_cmp_total, nat_list_cmp_total, tied_itself, ranked, by_ranked}
-use Rattle.dutch_pair.specs.Quality.{Quality, by_number, by_list, compared, compared_by_colours, compared_by_floats, compared_by_differences, is_better}
+use Rattle.std.proofs.lemmas.Cmp.{then_total, on_total, back_total, nat_cmp_total, nat_list_cmp_total, tied_itself}
+pub use Rattle.dutch_order.proofs.Comparing.{both_tied, numbers_tied, lists_tied}
+use Rattle.dutch_pair.specs.Quality.{Quality, is_better}
+use Rattle.dutch_pair.proofs.InTurn.{better_in_turn, number_then, list_then, compared, compared_by_colours, compared_by_floats, compared_by_differences}
 
-number_total : (item : Quality → ℕ) {others : Quality → Quality → Ordering} → IsTotalOrder others → IsTotalOrder (by_number item others)
+number_total : (item : Quality → ℕ) {others : Quality → Quality → Ordering} → IsTotalOrder others → IsTotalOrder (number_then item others)
 number_total item total = then_total (on_total item nat_cmp_total) total
 
-list_total : (item : Quality → List ℕ) {others : Quality → Quality → Ordering} → IsTotalOrder others → IsTotalOrder (by_list item others)
+list_total : (item : Quality → List ℕ) {others : Quality → Quality → Ordering} → IsTotalOrder others → IsTotalOrder (list_then item others)
 list_total item total = then_total (on_total item nat_list_cmp_total) total
 
 differences_total : IsTotalOrder compared_by_differences
@@ -31,24 +33,6 @@ compared_total =
     list_total (λ q. q.psd) (then_total (on_total (λ (q : Quality). q.next_pairs) (back_total nat_cmp_total)) (list_total (λ q. q.next_psd) colours_total))
 
 -- what is not told apart is the same, item by item
-pub both_tied : (o p : Ordering) → ordering_then o p ≡ Equal → (o ≡ Equal) × (p ≡ Equal)
-both_tied Less p e = absurd (cc)
-both_tied Equal p e = (refl, e)
-both_tied Greater p e = absurd (cc)
-
-pub numbers_tied : (x y : ℕ) → nat_cmp x y ≡ Equal → x ≡ y
-numbers_tied x y e = by_ranked (x < y) (x ≡ y) (y < x) (nat_cmp x y) (ranked x y (nat_cmp x y) refl) (λ f _. absurd (cc (e, f))) (λ _ f. f) (λ f _. absurd (cc (e, f)))
-
-pub lists_tied : (xs ys : List ℕ) → slice_cmp nat_cmp xs ys ≡ Equal → xs ≡ ys
-lists_tied [] [] e = refl
-lists_tied [] (y ∷ ys) e = absurd (cc)
-lists_tied (x ∷ xs) [] e = absurd (cc)
-lists_tied (x ∷ xs) (y ∷ ys) e =
-    let both = both_tied (nat_cmp x y) (slice_cmp nat_cmp xs ys) e in
-    let head : x ≡ y = numbers_tied x y both.0 in
-    let tail : xs ≡ ys = lists_tied xs ys both.1 in
-    cc
-
 differences_tied : (a b : Quality) → compared_by_differences a b ≡ Equal
     → (a.down_again_by ≡ b.down_again_by) × (a.up_again_by ≡ b.up_again_by)
     × (a.down_again_before_by ≡ b.down_again_before_by) × (a.up_again_before_by ≡ b.up_again_before_by)
@@ -110,24 +94,23 @@ same_items a b e =
       up_again_before_by = by.3 i;
     }
 
-less : (o : Ordering) → is_lt o ≡ true → o ≡ Less
+pub less : (o : Ordering) → is_lt o ≡ true → o ≡ Less
 less Less e = refl
 less Equal e = absurd (cc)
 less Greater e = absurd (cc)
 
 pub irreflexive : (a : Quality) → is_better a a ≡ false
-unfolding is_better
-irreflexive a = ap is_lt (tied_itself compared_total a)
+irreflexive a = better_in_turn a a ∙ ap is_lt (tied_itself compared_total a)
 
 pub transitive : (a b c : Quality) → is_better a b ≡ true → is_better b c ≡ true → is_better a c ≡ true
-unfolding is_better
-transitive a b c p q = ap is_lt (compared_total.trans a b c (less (compared a b) p) (less (compared b c) q))
+transitive a b c p q =
+    better_in_turn a c
+    ∙ ap is_lt (compared_total.trans a b c (less (compared a b) (sym (better_in_turn a b) ∙ p)) (less (compared b c) (sym (better_in_turn b c) ∙ q)))
 
 sorted_out : (a b : Quality) (o : Ordering) → compared a b ≡ o → (a ≡ b) ⊎ ((is_better a b ≡ true) ⊎ (is_better b a ≡ true))
-unfolding is_better
-sorted_out a b Less e = inr (inl (ap is_lt e))
+sorted_out a b Less e = inr (inl (better_in_turn a b ∙ ap is_lt e))
 sorted_out a b Equal e = inl (same_items a b e)
-sorted_out a b Greater e = inr (inr (ap is_lt (compared_total.antisymm b a ∙ ap ordering_reverse e)))
+sorted_out a b Greater e = inr (inr (better_in_turn b a ∙ ap is_lt (compared_total.antisymm b a ∙ ap ordering_reverse e)))
 
 pub total : (a b : Quality) → (a ≡ b) ⊎ ((is_better a b ≡ true) ⊎ (is_better b a ≡ true))
 total a b = sorted_out a b (compared a b) refl

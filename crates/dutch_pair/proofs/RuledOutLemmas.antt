@@ -157,7 +157,7 @@ module _ (frame : Frame) (shape : Shape) (a : Arrangement) (within : frame.mdps 
         | inr second ↦ s2r_high pair.1 (place_of pair a.s1r a.s2r second).1
       ]
 
-  -- the first is in S1 if he was moved down
+  -- the first is in S1 if they were moved down
   first_low : (pair : ℕ × ℕ) → IsIn pair (pairs_by_number a) → pair.0 ≤ frame.mdps → IsIn pair.0 a.s1
   first_low pair m low =
       elim (IsIn-append pair (by_place a.s1 a.s2) (by_place a.s1r a.s2r) m) [

@@ -11,7 +11,8 @@ use Rattle.dutch_pair.specs.Reached.{Reached, IsAbove}
 use Rattle.dutch_pair.specs.Walk.{AreAbove, Goes}
 use Rattle.dutch_pair.specs.Lower.{lower_of}
 use Rattle.dutch_pair.specs.Outcomes.{shown, visit_at, visit_of}
-use Rattle.dutch_pair.specs.Round.{Round, Visit, Choice, bracket, choice, completable, downfloaters, everybody, first_group, scoregroups, shape_of, no_pairing, passing, pairing_in, final_by, final_bracket, penultimate_by, penultimate_bracket, paired_again, ordinary_by, brackets, round}
+use Rattle.dutch_pair.specs.Round.{Round, Visit, Choice, bracket, choice, completable, downfloaters, everybody, first_group, scoregroups, shape_of, no_pairing, passing, pairing_in, final_bracket, penultimate_bracket, paired_again, brackets, round}
+use Rattle.dutch_pair.proofs.RoundBy.{final_by, penultimate_by, ordinary_by}
 use Rattle.dutch_pair.proofs.BestLemmas.{chosen_is}
 use Rattle.dutch_pair.proofs.AllLemmas.{all_join}
 use Rattle.dutch_pair.proofs.GroupLemmas.{concat_scoregroups}
@@ -90,12 +91,12 @@ module _ (facts : Facts) where
               (collapsed_above facts reached lower left made.lists ((reached.number + 1) + 1) descends placed.goes refl),
         )
 
-    penultimate_stands : (reached : Reached) (tops lower : List ℕ) → IsPlaced reached tops lower → AllStand (penultimate_bracket facts reached lower).reached
+    penultimate_stands : (reached : Reached) (tops lower : List ℕ) → IsPlaced reached tops lower → AllStand (penultimate_bracket facts (paired_again reached) lower).reached
     penultimate_stands reached tops lower placed = penultimate_at reached tops lower (choice facts (paired_again reached) lower) placed refl
 
     kept_at : (reached : Reached) (tops lower : List ℕ) (goes_on : List ℕ → Round) (made : Choice) (t : Bool) → IsPlaced reached tops lower → choice facts reached lower ≡ Some made
         → AllStand (goes_on (downfloaters facts reached made.lists)).reached
-        → AllStand (cond t (pairing_in facts reached made (goes_on (downfloaters facts reached made.lists))) (passing facts reached made (penultimate_bracket facts reached lower))).reached
+        → AllStand (cond t (pairing_in facts reached made (goes_on (downfloaters facts reached made.lists))) (passing facts reached made (penultimate_bracket facts (paired_again reached) lower))).reached
     kept_at reached tops lower goes_on made true placed e later =
         (stands reached lower made false (lower_is facts reached tops lower placed.ends) placed.above e, later)
     kept_at reached tops lower goes_on made false placed e later =

@@ -13,7 +13,8 @@ use Rattle.dutch_pair.specs.Lower.{lower_of}
 use Rattle.dutch_pair.specs.Outcomes.{IsChoice, IsStage, shown, visit_at}
 use Rattle.dutch_pair.specs.QualityIn.{quality_in}
 use Rattle.dutch_pair.specs.Reached.{Reached, IsAbove, frame_of}
-use Rattle.dutch_pair.specs.Round.{Round, Choice, bracket, brackets, choice, completable, downfloaters, final_by, ordinary_by, passing, pairing_in, penultimate_bracket, penultimate_by, quality_of, scoregroups, shape_of}
+use Rattle.dutch_pair.specs.Round.{Round, Choice, bracket, brackets, choice, completable, downfloaters, passing, pairing_in, penultimate_bracket, quality_of, scoregroups, shape_of, paired_again}
+use Rattle.dutch_pair.proofs.RoundBy.{final_by, ordinary_by, penultimate_by}
 use Rattle.dutch_pair.specs.Seated.{seat_of}
 use Rattle.dutch_pair.specs.Stages.{Walk, IsSettled, choice_of, group_kind, is_again, round_by}
 use Rattle.dutch_pair.specs.Walk.{Goes}
@@ -104,7 +105,7 @@ module _ (facts : Facts) (reached : Reached) (lower : List ℕ) (made : Choice) 
   shown_by Ordinary number md residents out =
       let goes_on' : List ℕ → Round = λ left. brackets facts (reached.number + 1) left (scoregroups facts lower) in
       ap (λ (c : Option Choice). shown (visit_at 0 (ordinary_by facts reached lower goes_on' c).reached)) e
-      ∙ shown_ordinary (completable facts (downfloaters facts reached made.lists ++ lower)) (goes_on' (downfloaters facts reached made.lists)) (penultimate_bracket facts reached lower)
+      ∙ shown_ordinary (completable facts (downfloaters facts reached made.lists ++ lower)) (goes_on' (downfloaters facts reached made.lists)) (penultimate_bracket facts (paired_again reached) lower)
   shown_by Penultimate number md residents out = ap (λ (c : Option Choice). shown (visit_at 0 (penultimate_by facts reached lower c).reached)) e
   shown_by Last number md residents out = ap (λ (c : Option Choice). shown (visit_at 0 (final_by facts reached c).reached)) (ap (choice facts reached) (sym out.1) ∙ e)
   shown_by Collapsed number md residents out = ap (λ (c : Option Choice). shown (visit_at 0 (final_by facts reached c).reached)) (ap (choice facts reached) (sym out.1) ∙ e)
@@ -138,13 +139,13 @@ chosen_as k stopped e h = subst (λ (made : Made). IsChoice k.facts k.reached k.
 -- ---- a walk before a bracket, and behind the stage that comes of it
 
 module _ (facts : Facts) (number : ℕ) (reached : Reached) (lower : List ℕ) (s : StandsBefore facts number reached lower) where
-  pub walk_is : (limit : ℕ) (own : Reached) → own ≡ reached
-      → record { facts = facts; number = number; rest = round_by facts reached.kind reached lower; limit = limit }
-      ≡ (let walk : Walk = record { facts = facts; number = own.number; rest = round_by facts own.kind own lower; limit = limit } in walk)
-  walk_is limit own same =
-      ap (λ (n : ℕ). let walk : Walk = record { facts = facts; number = n; rest = round_by facts reached.kind reached lower; limit = limit } in walk)
+  pub walk_is : (own : Reached) → own ≡ reached
+      → record { facts = facts; number = number; rest = round_by facts reached.kind reached lower }
+      ≡ (let walk : Walk = record { facts = facts; number = own.number; rest = round_by facts own.kind own lower } in walk)
+  walk_is own same =
+      ap (λ (n : ℕ). let walk : Walk = record { facts = facts; number = n; rest = round_by facts reached.kind reached lower } in walk)
       (sym (stands_number facts number reached lower s))
-      ∙ ap (λ (b : Reached). let walk : Walk = record { facts = facts; number = b.number; rest = round_by facts b.kind b lower; limit = limit } in walk) (sym same)
+      ∙ ap (λ (b : Reached). let walk : Walk = record { facts = facts; number = b.number; rest = round_by facts b.kind b lower } in walk) (sym same)
 
   pub stage_is : Descends facts → (stage : Stage) → stage.reached ≡ reached → IsSettled facts lower stage → IsStage facts stage
   stage_is descends stage same settled =

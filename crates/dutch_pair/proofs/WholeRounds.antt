@@ -6,7 +6,8 @@ use Rattle.dutch_player.specs.Facts.{Facts}
 use Rattle.dutch_pair.specs.declared.reached.BracketKind.{BracketKind}
 use Rattle.dutch_pair.specs.declared.reached.BracketKind.TheVariants.{Ordinary, Last, Collapsed}
 use Rattle.dutch_pair.specs.Reached.{Reached}
-use Rattle.dutch_pair.specs.Round.{Round, Pairing, Choice, bracket, choice, completable, downfloaters, everybody, scoregroups, pairing_in, passing, no_pairing, final_by, final_bracket, penultimate_by, penultimate_bracket, paired_again, ordinary_by, ordinary_bracket, brackets, round}
+use Rattle.dutch_pair.specs.Round.{Round, Pairing, Choice, bracket, choice, completable, downfloaters, everybody, scoregroups, pairing_in, passing, no_pairing, final_bracket, penultimate_bracket, paired_again, ordinary_bracket, brackets, round}
+use Rattle.dutch_pair.proofs.RoundBy.{final_by, penultimate_by, ordinary_by}
 use Rattle.dutch_pair.specs.Seated.{all_pairs}
 use Rattle.dutch_pair.proofs.GroupLemmas.{concat_scoregroups}
 use Rattle.dutch_pair.proofs.Totals.{total, total_append}
@@ -59,7 +60,7 @@ module _ (w : ℕ → ℕ) where
         pairing_more reached chosen (final_bracket facts last).pairing (total w reached.seats + total w lower) (total w last.seats) (omega (arith, whole, both))
         (final_whole last (moved_within (reached.number + 1) Collapsed left lower))
 
-    penultimate_whole : (reached : Reached) (lower : List ℕ) → reached.mdps ≤ length reached.seats → Weighs (total w reached.seats + total w lower) (penultimate_bracket facts reached lower).pairing
+    penultimate_whole : (reached : Reached) (lower : List ℕ) → reached.mdps ≤ length reached.seats → Weighs (total w reached.seats + total w lower) (penultimate_bracket facts (paired_again reached) lower).pairing
     penultimate_whole reached lower within = penultimate_at (paired_again reached) lower (choice facts (paired_again reached) lower) within refl
 
     -- ---- an ordinary bracket
@@ -67,7 +68,7 @@ module _ (w : ℕ → ℕ) where
     kept_at : (reached : Reached) (lower : List ℕ) (goes_on : List ℕ → Round) (chosen : Choice) (t : Bool) → reached.mdps ≤ length reached.seats → choice facts reached lower ≡ Some chosen
         → ((left : List ℕ) → Weighs (total w left + total w lower) (goes_on left).pairing)
         → Weighs (total w reached.seats + total w lower)
-        (cond t (pairing_in facts reached chosen (goes_on (downfloaters facts reached chosen.lists))) (passing facts reached chosen (penultimate_bracket facts reached lower))).pairing
+        (cond t (pairing_in facts reached chosen (goes_on (downfloaters facts reached chosen.lists))) (passing facts reached chosen (penultimate_bracket facts (paired_again reached) lower))).pairing
     kept_at reached lower goes_on chosen true within e later =
         let left : List ℕ = downfloaters facts reached chosen.lists in
         let whole = choice_whole w facts reached lower chosen within e in

@@ -12,7 +12,7 @@ pub pairs_found : (test : ℕ × ℕ → Bool) (a : Arrangement)
     → list_any test (pairs_by_number a) ≡ (list_any test (by_place a.s1 a.s2) || list_any test (by_place a.s1r a.s2r))
 pairs_found test a = list_any-append test (by_place a.s1 a.s2) (by_place a.s1r a.s2r)
 
--- a player is paired where he is in one of the four lists
+-- a player is paired if they are in one of the four lists
 pub player_found : (p : ℕ) (a : Arrangement)
     → is_member p (paired a) ≡ (is_member p a.s1 || (is_member p a.s2 || (is_member p a.s1r || is_member p a.s2r)))
 player_found p a =

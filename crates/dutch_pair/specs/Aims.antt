@@ -29,7 +29,7 @@ beats (Some aim) quality = is_better aim quality
 abbrev pub is_idle : Option Quality → Option Best → Quality → Bool
 is_idle aim kept quality = beats aim quality || not (wins quality kept)
 
--- an aim is not better than a candidate; where there is no aim all are near
+-- an aim is not better than a candidate; without an aim all are near
 abbrev pub is_near : Facts → Reached → List ℕ → Option Quality → Arrangement → Bool
 is_near facts reached lower aim c = not (beats aim (quality_of facts reached lower c))
 

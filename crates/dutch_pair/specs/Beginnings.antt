@@ -8,7 +8,7 @@ use Rattle.dutch_player.specs.Facts.{Facts}
 use Rattle.dutch_pair.specs.Reached.{Reached}
 use Rattle.dutch_pair.specs.Seated.{Seated, all_pairs, lowest}
 
--- an arrangement begins with the pairs of another: where S2 or S2R has begun, with the same S1 or S1R
+-- an arrangement begins with the pairs of another; if S2 or S2R has begun, with the same S1 or S1R
 pub record HasPairsOf (b a : Arrangement) : Type 0 where
   pub s1 : (b.s2 ≡ []) ⊎ (b.s1 ≡ a.s1)
   pub s2 : GoesOn b.s2 a.s2

@@ -48,7 +48,7 @@ surplus_firm facts reached shape b colour = free (wants_firmly facts colour) rea
 abbrev pub more_missed : Facts → Reached → Shape → Arrangement → ℕ
 more_missed facts reached shape b = max (surplus facts reached shape b White) (surplus facts reached shape b Black)
 
--- C.11: the same, where C.8 and C.9 are those of the beginning
+-- C.11: the same, if C.8 and C.9 are those of the beginning
 abbrev pub more_missed_strong : Facts → Reached → Shape → Arrangement → ℕ
 more_missed_strong facts reached shape b = max (surplus_firm facts reached shape b White) (surplus_firm facts reached shape b Black)
 
@@ -67,7 +67,7 @@ suits facts reached x y =
 abbrev pub waiting : Arrangement → List ℕ
 waiting b = beyond b.s2r b.s1r
 
--- and those with whom
+-- and those with whom it can pair them
 abbrev pub pool : Facts → Reached → Arrangement → List ℕ
 pool facts reached b = left_of (left_of (left_of (residents_of (frame_of facts reached)) b.s2) b.s1r) b.s2r
 

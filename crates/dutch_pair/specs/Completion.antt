@@ -1,5 +1,7 @@
 -- Which players can be paired out (C.04.3 A.9), and how many steps it may take to tell.
-use Rattle.std.specs.Prelude.{◌≡◌, ℕ, zero, suc, ◌+◌, ◌*◌, ◌<◌, ◌≤◌, Bool, true, false, ◌&&◌, ◌||◌, List, [], ◌∷◌, ◌++◌, length, if◌then◌else◌}
+use Rattle.std.specs.Prelude.{◌≡◌, ℕ, zero, suc, ◌+◌, ◌*◌, ◌<◌, ◌≤◌, Bool, true, false, ◌&&◌, List, [], ◌∷◌, ◌++◌, flat_map, map, if◌then◌else◌}
+use Rattle.std.specs.List.{list_all, list_any}
+use Rattle.dutch_order.specs.Arrangements.{leaves_one}
 use Rattle.dutch_order.specs.declared.steps.Budget.{Budget}
 use Rattle.dutch_pair.specs.declared.completion.Answer.{Answer}
 use Rattle.dutch_pair.specs.declared.completion.Answer.TheVariants.{Yes, No, Undecided}
@@ -32,30 +34,44 @@ pub record Completable (meets : ℕ → ℕ → Bool) (may_be_left : ℕ → Boo
   pub covered : Covers meets players pairs out
   pub left_out : MayBeLeftOut may_be_left out
 
--- whether one of the later players, behind those between, may meet the first one and leaves players of whom something holds
-abbrev pub some_partner : (ℕ → Bool) → (List ℕ → Bool) → List ℕ → List ℕ → Bool
-some_partner meets holds between [] = false
-some_partner meets holds between (b ∷ after) = (meets b && holds (between ++ after)) || some_partner meets holds (between ++ b ∷ []) after
+-- a way to pair some players: its pairs, and those whom it leaves out
+pub record Way : Type 0 where
+  pub pairs : List (ℕ × ℕ)
+  pub out : List ℕ
 
--- nobody may be left out
-abbrev pub nobody : ℕ → Bool
-nobody a = false
+-- a member of a list with the others, and one player more among these
+abbrev pub with_member : ℕ → ℕ × List ℕ → ℕ × List ℕ
+with_member x pick = (pick.0, x ∷ pick.1)
 
--- who may be left out, where one may be (`bye`) or none
-abbrev pub left_over : Bool → (ℕ → Bool) → ℕ → Bool
-left_over bye may_be_left a = bye && may_be_left a
+-- each member of a list, with the others
+abbrev pub picks : List ℕ → List (ℕ × List ℕ)
+picks [] = []
+picks (x ∷ others) = (x, others) ∷ map (with_member x) (picks others)
 
--- a test of the same for players of a number: the first of them meets a later one, or is the one left out
-abbrev pub can_cover : (ℕ → ℕ → Bool) → (ℕ → Bool) → ℕ → List ℕ → Bool
-can_cover meets may_be_left zero players = true
-can_cover meets may_be_left (suc n) [] = false
-can_cover meets may_be_left (suc zero) (a ∷ later) = may_be_left a
-can_cover meets may_be_left (suc (suc n)) (a ∷ later) =
-    some_partner (meets a) (can_cover meets may_be_left n) [] later || (may_be_left a && can_cover meets nobody (suc n) later)
+-- a way to pair players, with one more in front who is left out
+abbrev pub left_out : ℕ → Way → Way
+left_out a way = record { pairs = way.pairs; out = a ∷ way.out }
 
--- whether players are completable, by a test
+-- a way to pair players, with one more in front who is paired with one of those left out
+abbrev pub paired : ℕ → Way → ℕ × List ℕ → Way
+paired a way pick = record { pairs = (a, pick.0) ∷ way.pairs; out = pick.1 }
+
+-- a way to pair players, with one more in front: left out, or paired with any of those left out
+abbrev pub with_first : ℕ → Way → List Way
+with_first a way = left_out a way ∷ map (paired a way) (picks way.out)
+
+-- all ways to pair the players of a list
+abbrev pub all_pairings : List ℕ → List Way
+all_pairings [] = record { pairs = []; out = [] } ∷ []
+all_pairings (a ∷ later) = flat_map (with_first a) (all_pairings later)
+
+-- C.1 to C.3: all pairs of a way may meet, and it leaves out at most one player, who may be left out
+abbrev pub is_complete : (ℕ → ℕ → Bool) → (ℕ → Bool) → Way → Bool
+is_complete meets may_be_left way = list_all (λ pair. meets pair.0 pair.1) way.pairs && leaves_one may_be_left way.out
+
+-- A.9: whether players are completable: one of all ways to pair them is such
 abbrev pub can_complete : (ℕ → ℕ → Bool) → (ℕ → Bool) → List ℕ → Bool
-can_complete meets may_be_left players = can_cover meets may_be_left (length players) players
+can_complete meets may_be_left players = list_any (is_complete meets may_be_left) (all_pairings players)
 
 -- the most steps that it takes to tell whether n players are completable, where one may be left out and where none may
 abbrev pub most : ℕ → Bool → ℕ

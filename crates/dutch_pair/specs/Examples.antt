@@ -6,6 +6,8 @@ use Rattle.dutch_player.specs.declared.float.Float.{Float}
 use Rattle.dutch_player.specs.declared.float.Float.TheVariants.{Up, Down}
 use Rattle.dutch_player.specs.Facts.{SeatFacts, Facts}
 use Rattle.dutch_order.specs.Arrangements.{Arrangement}
+use Rattle.dutch_order.specs.Exchange.{exchange_cmp}
+use Rattle.dutch_order.specs.Limbo.{limbo_cmp}
 use Rattle.dutch_pair.specs.declared.reached.BracketKind.TheVariants.{Ordinary}
 use Rattle.dutch_pair.specs.NextBracket.{quality, value_of}
 use Rattle.dutch_pair.specs.Reached.{Reached, numbers_meet, number_may_be_left}
@@ -17,7 +19,7 @@ use Rattle.dutch_pair.specs.Seated.{going_down, going_up}
 
 -- the boards of a round, if it has a pairing; who unfolds this unfolds all that a round is worked out with
 unfoldable pub boards_of : Facts → Option (List (ℕ × ℕ))
-unfolding completable candidates_of eligible quality_of best_of_shape shape_of choice numbers_meet number_may_be_left seats_meet seats_may_be_left is_better count_in quality_with quality value_of board_of goes_before goes_before_by_sum psd going_down going_up
+unfolding exchange_cmp limbo_cmp completable candidates_of eligible quality_of best_of_shape shape_of choice numbers_meet number_may_be_left seats_meet seats_may_be_left is_better count_in quality_with quality value_of board_of goes_before goes_before_by_sum psd going_down going_up
 boards_of facts = option_map (boards facts) (round facts).pairing
 
 -- the numbers of pairs in the brackets that a round reaches
@@ -59,7 +61,7 @@ abbrev pub five_players : Facts
 five_players =
     before 1 5 (player 1 0 [] [] None ∷ player 2 0 [] [] None ∷ player 3 0 [] [] None ∷ player 4 0 [] [] None ∷ player 5 0 [] [] None ∷ [])
 
--- one player leads: he moves down alone, and meets the one with whom both get their colour
+-- one player leads, moves down alone, and meets the one with whom both get their colour
 abbrev pub leader_moves_down : Facts
 leader_moves_down =
     before 2 5
@@ -70,7 +72,7 @@ leader_moves_down =
 abbrev pub leader_above_two : Reached
 leader_above_two = bracket 2 Ordinary (0 ∷ []) (1 ∷ 2 ∷ [])
 
--- in that bracket the leader meets one of the two, by his number
+-- in that bracket the leader meets one of the two, by the number of that one
 abbrev pub leader_meets : ℕ → Arrangement
 leader_meets resident = record { s1 = 1 ∷ []; s2 = resident ∷ []; s1r = []; s2r = [] }
 

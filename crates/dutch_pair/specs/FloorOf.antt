@@ -39,7 +39,7 @@ lists_by S2r lists = record { s1 = lists.s1; s2 = lists.s2; s1r = lists.s1r; s2r
 abbrev pub fixed_lists : Beginning → Arrangement
 fixed_lists b = lists_by b.filling b.lists
 
--- S1; the first one, where none is chosen
+-- S1; the first one, if none is chosen
 abbrev pub s1_by : Filling → Shape → List ℕ → List ℕ
 s1_by S1 shape s1 = numbers_from 1 shape.mdps
 s1_by S2 shape s1 = s1
@@ -58,18 +58,18 @@ abbrev pub is_uniform : Facts → Reached → Shape → Bool
 is_uniform facts reached shape =
     (shape.mdps == 0) || ((shape.mdps == reached.mdps) || (score_at facts (seat_of reached.seats 1) == score_at facts (seat_of reached.seats reached.mdps)))
 
--- C.6: what S1 tells where all residents have one score; else the differences of what is known
+-- C.6: what S1 tells if all residents have one score; otherwise the differences of what is known
 unfoldable pub psd_over : Filling → Basis → List ℕ → Seated → List ℕ
 psd_over filling basis s1 known =
     if is_flat basis.facts basis.reached
     then psd_with basis.facts basis.reached basis.shape (residents_score basis.facts basis.reached) (s1_by filling basis.shape s1)
     else psd basis.facts known
 
--- the same where a beginning is known
+-- the same if a beginning is known
 abbrev pub psd_by : Filling → Basis → Arrangement → List ℕ
 psd_by filling basis lists = psd_over filling basis lists.s1 (fixed basis.facts basis.reached lists)
 
--- 1 for a seat whose preference is a colour, or only where it is firm
+-- 1 for a seat whose preference is a colour, or only if it is also firm
 abbrev pub wanting : Bool → Facts → Colour → ℕ → ℕ
 wanting true = wants_firmly
 wanting false = wants
@@ -81,12 +81,12 @@ surplus_in w reached shape known =
     ((sum_by w reached.seats - sum_by (in_both w) known.pairs) - sum_by w known.down)
     - ((shape.pairs - length known.pairs) + ((length reached.seats - 2 * shape.pairs) - length known.down))
 
--- how many more than those of its pairs miss where this is known
+-- how many more than those of its pairs miss, given what is known
 abbrev pub more_in : Bool → Facts → Reached → Shape → Seated → ℕ
 more_in firm facts reached shape known =
     max (surplus_in (wanting firm facts White) reached shape known) (surplus_in (wanting firm facts Black) reached shape known)
 
--- C.10: how many more miss than in the pairs that are fixed; lonely players are known where S1R is chosen
+-- C.10: how many more miss than in the pairs that are fixed; lonely players are known once S1R is chosen
 abbrev pub more_by : Filling → Basis → Arrangement → ℕ
 more_by S1 basis lists = more_in false basis.facts basis.reached basis.shape (fixed basis.facts basis.reached lists)
 more_by S2 basis lists = more_in false basis.facts basis.reached basis.shape (fixed basis.facts basis.reached lists)

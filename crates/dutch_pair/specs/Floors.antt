@@ -24,7 +24,7 @@ pub record NotBelow (facts : Facts) (k : Seated) (q : Quality) : Type 0 where
   pub down_again_before_by : is_lower q.down_again_before_by (differences (again facts Down 2 (going_down facts k))) ≡ false
   pub up_again_before_by : is_lower q.up_again_before_by (differences (again facts Up 2 (going_up facts k))) ≡ false
 
--- a quality is nowhere in front of another: at C.11 where C.8 and C.9 are the same
+-- a quality is nowhere in front of another; at C.11 only if C.8 and C.9 are the same
 pub record IsFloor (f q : Quality) : Type 0 where
   pub psd : is_lower q.psd f.psd ≡ false
   pub next_pairs : q.next_pairs ≤ f.next_pairs
@@ -49,6 +49,6 @@ floor_over facts psd next more_missed more_missed_strong known =
     let k = quality_with facts known next in
     record k { psd = psd; missed_preferences = k.missed_preferences + more_missed; missed_strong = k.missed_strong + more_missed_strong }
 
--- the same where a beginning is known: the pairs that are fixed
+-- the same if a beginning is known: the pairs that are fixed
 abbrev pub floor_with : Facts → Reached → List ℕ → NextValue → ℕ → ℕ → Arrangement → Quality
 floor_with facts reached psd next more_missed more_missed_strong b = floor_over facts psd next more_missed more_missed_strong (fixed facts reached b)

@@ -52,7 +52,7 @@ module _ (facts : Facts) (bracket lower : List ℕ) (k : ℕ) where
         ]
       ]
 
-  -- whom a ghost meets meets it
+  -- if a ghost may meet a player, the player may meet the ghost
   pub ghosts_meet_sym : (i j : ℕ) → ghosts_meet facts bracket k lower i j ≡ ghosts_meet facts bracket k lower j i
   unfolding ghosts_meet
   ghosts_meet_sym i j =

@@ -12,7 +12,7 @@ pub record Above : Type 0 where
   pub seats : List ℕ
   pub lower : List ℕ
 
--- what has been read: of each lower player whether some player of the bracket may meet him, and whether one may have the bye
+-- what has been read: of each lower player whether some player of the bracket may meet them, and whether one may have the bye
 pub record IsRead (facts : Facts) (seats lower : List ℕ) (row : List Bool) (answer : Bool) : Type 0 where
   pub inside : AreSeats facts lower
   pub few : length lower ≤ LIMIT

@@ -29,7 +29,7 @@ shape_by_ghosts facts seats next ghosts =
 abbrev pub floor_length : ℕ → ℕ → ℕ → ℕ
 floor_length ghosts residents pairs = ghosts + ((pairs - ghosts) + ((ghosts + residents) - 2 * pairs))
 
--- that floor, where a bracket can have so many differences; otherwise nothing is known of the PSD
+-- that floor, if a bracket can have so many differences; otherwise nothing is known of the PSD
 abbrev pub floor_held : List ℕ → ℕ → ℕ → ℕ → List ℕ
 floor_held ghosts s residents pairs =
     if nat_lt LIMIT (floor_length (length ghosts) residents pairs) then [] else ghost_floor ghosts s residents pairs
@@ -40,7 +40,7 @@ value_with_floor facts next ghosts None = no_value
 value_with_floor facts next ghosts (Some most) =
     record { pairs = most.pairs; psd = floor_held ghosts (score_at facts (slice_index next 0)) (length next) most.pairs }
 
--- C.7: what no value of the next bracket is better than, where an arrangement of a shape leaves the Limbo of the first S1
+-- C.7: what no value of the next bracket is better than, if an arrangement of a shape leaves the Limbo of the first S1
 abbrev pub ghost_value : Facts → Reached → Shape → List ℕ → NextValue
 ghost_value facts reached shape next =
     value_with_floor facts next (first_ghosts facts reached shape) (shape_by_ghosts facts reached.seats next (first_ghosts facts reached shape))

@@ -6,6 +6,7 @@ pub mod QualityIn
 pub mod NextBracket
 pub mod Items
 pub mod Completion
+pub mod CompletionSearch
 pub mod Seats
 pub mod Stops
 pub mod Reached
@@ -38,6 +39,7 @@ pub mod PairFacts
 pub mod FloorOf
 pub mod Outlooks
 pub mod WaysOut
+pub mod DeadEnds
 pub mod Remembered
 pub mod Wishes
 pub mod RuledOut

@@ -43,7 +43,7 @@ legal_in facts reached = candidates (numbers_meet facts reached) (number_may_be_
 abbrev pub psd_in : Facts → Reached → Arrangement → List ℕ
 psd_in facts reached lists = psd facts (by_seats facts reached.seats (record { lists = lists; down = down (frame_of facts reached) lists }))
 
--- C.7: where it does not count, all candidates have the same value (our own choice)
+-- C.7: if it does not count, all candidates have the same value (our own choice)
 abbrev pub no_value : NextValue
 no_value = record { pairs = 0; psd = [] }
 

@@ -23,13 +23,13 @@ limbo_scores facts reached s1 = map (λ i. score_at facts (seat_of reached.seats
 unfoldable pub leaves_first : Facts → Reached → Shape → List ℕ → Bool
 leaves_first facts reached shape s1 = is_same (limbo_scores facts reached s1) (first_limbo facts reached shape)
 
--- and so does every S1, where a floor is known before one is chosen
+-- and so does every S1, if a floor is known before one is chosen
 abbrev pub leaves_first_by : Filling → Facts → Reached → Shape → List ℕ → Bool
 leaves_first_by S1 facts reached shape s1 = true
 leaves_first_by S2 facts reached shape s1 = leaves_first facts reached shape s1
 leaves_first_by S2r facts reached shape s1 = leaves_first facts reached shape s1
 
--- what is known where the Limbo is as the first one, if that is so
+-- the value for a Limbo like the first one, if it is known and the Limbo is so; otherwise the value in any case
 abbrev pub known_by : Option NextValue → Bool → NextValue → NextValue
 known_by None same any = any
 known_by (Some first) same any = if same then first else any

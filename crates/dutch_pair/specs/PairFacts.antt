@@ -6,7 +6,7 @@ use Rattle.dutch_pair.specs.Context.{Context}
 use Rattle.dutch_pair.specs.ColourFloors.{suits}
 use Rattle.dutch_pair.specs.BitTables.{has_bit}
 
--- two preferences are for one colour, so that one of the two misses his
+-- two preferences are for one colour, so that one of the two misses theirs
 abbrev pub collide : Option Pref → Option Pref → Bool
 collide (Some a) (Some b) = is_same a.colour b.colour
 collide _ _ = false
@@ -15,7 +15,7 @@ collide _ _ = false
 abbrev pub place_of : ℕ → ℕ → ℕ → ℕ
 place_of n x y = (x - 1) * n + (y - 1)
 
--- a table has a bit where two numbers suit
+-- a table has a bit for two numbers that suit each other
 abbrev pub KnowsPairs : Context → List ℕ → Type 0
 KnowsPairs known table =
     (x y : ℕ) → (0 < x) × (x ≤ length known.reached.seats) → (0 < y) × (y ≤ length known.reached.seats)

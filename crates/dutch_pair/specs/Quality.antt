@@ -1,7 +1,7 @@
--- The quality of a candidate (C.04.3 C.6 to C.19): the items by which candidates of one shape are compared.
-use Rattle.std.specs.Prelude.{ℕ, ◌+◌, Bool, true, false, not, ◌&&◌, ◌||◌, ◌==◌, nat_lt, if◌then◌else◌, List, [], ◌∷◌, ◌++◌, map, filter, length, sum_by, Option}
+-- The quality of a candidate (C.04.3 C.6 to C.19): the items by which candidates of one shape are compared, and which of two is better.
+use Rattle.std.specs.Prelude.{ℕ, ◌+◌, Bool, true, false, not, ◌&&◌, ◌||◌, ◌==◌, nat_lt, if◌then◌else◌, List, [], ◌∷◌, ◌++◌, map, filter, length, sum_by, Option, Some, None}
 use Rattle.std.specs.declared.cmp.Ordering.{Ordering}
-use Rattle.std.specs.Ordering.{nat_cmp, on, then_cmp, flip_args, is_lt}
+use Rattle.std.specs.Ordering.{nat_cmp, on, then_cmp, flip_args, is_lt, is_ne}
 use Rattle.std.specs.Cmp.Lexicographic.{slice_cmp}
 use Rattle.std.specs.Option.{option_map_or}
 use Rattle.trf16.specs.declared.cell.Colour.{Colour}
@@ -15,11 +15,13 @@ use Rattle.dutch_player.specs.Meetings.{is_topscorer}
 use Rattle.dutch_player.specs.Colours.{distance, colours}
 use Rattle.dutch_player.specs.Facts.{SeatFacts, Facts, seat_at}
 use Rattle.dutch_pair.specs.declared.seated.Floater.{Floater}
+use Rattle.dutch_pair.specs.declared.items.Item.{Item}
+use Rattle.dutch_pair.specs.declared.items.Item.TheVariants.{Psd, NextBracket, WideDifferences, ThirdColours, MissedPreferences, MissedStrong, DownAgain, UpAgain, DownAgainBefore, UpAgainBefore, DownAgainBy, UpAgainBy, DownAgainBeforeBy, UpAgainBeforeBy}
 use Rattle.dutch_pair.specs.declared.colours_missed.Miss.{Miss}
 use Rattle.dutch_pair.specs.declared.colours_missed.Miss.TheVariants.{Wide, Third, Preference, StrongPreference}
 use Rattle.dutch_pair.specs.Seated.{Seated, difference, difference_down, going_down, going_up}
 
--- the items in the order in which they count
+-- what the items say of a candidate
 pub record Quality : Type 0 where
   -- C.6: the differences of pairs and downfloaters, the highest first
   pub psd : List ℕ
@@ -76,7 +78,7 @@ unfoldable pub psd : Facts → Seated → List ℕ
 psd facts candidate =
     highest_first (map (difference facts) candidate.pairs ++ map (difference_down facts candidate.lowest) candidate.down)
 
--- C.8: with a colour more the colour difference is over +2 or under -2 (of each player his own: our own choice)
+-- C.8: with a colour more the colour difference is over +2 or under -2 (each player's own: our own choice)
 abbrev pub is_wide : SeatFacts → Colour → Bool
 is_wide seat colour = nat_lt 2 (distance (colour ∷ seat.played))
 
@@ -178,34 +180,50 @@ quality_with facts candidate next = record {
   up_again_before_by = differences (again facts Up 2 (going_up facts candidate));
 }
 
--- by a number first, the smaller one in front, and then by something else
-abbrev pub by_number : (Quality → ℕ) → (Quality → Quality → Ordering) → Quality → Quality → Ordering
-by_number item others = then_cmp (on item nat_cmp) others
+-- the items in the order in which they count
+abbrev pub all_items : List Item
+all_items =
+    Psd ∷ NextBracket ∷ WideDifferences ∷ ThirdColours ∷ MissedPreferences ∷ MissedStrong ∷ DownAgain ∷ UpAgain ∷ DownAgainBefore ∷ UpAgainBefore
+    ∷ DownAgainBy ∷ UpAgainBy ∷ DownAgainBeforeBy ∷ UpAgainBeforeBy ∷ []
 
--- by a list first, and then by something else: the smaller one in front, by its first difference or where it ends
-abbrev pub by_list : (Quality → List ℕ) → (Quality → Quality → Ordering) → Quality → Quality → Ordering
-by_list item others = then_cmp (on item (slice_cmp nat_cmp)) others
+-- by a number, the smaller one in front
+abbrev pub by_number : (Quality → ℕ) → Quality → Quality → Ordering
+by_number value = on value nat_cmp
 
--- C.16 to C.19
-abbrev pub compared_by_differences : Quality → Quality → Ordering
-compared_by_differences =
-    by_list (λ q. q.down_again_by) (by_list (λ q. q.up_again_by) (by_list (λ q. q.down_again_before_by) (on (λ q. q.up_again_before_by) (slice_cmp nat_cmp))))
+-- by a list, the smaller one in front: by its first difference or where it ends
+abbrev pub by_list : (Quality → List ℕ) → Quality → Quality → Ordering
+by_list value = on value (slice_cmp nat_cmp)
 
--- C.12 to C.15, and then the differences
-abbrev pub compared_by_floats : Quality → Quality → Ordering
-compared_by_floats =
-    by_number (λ q. q.down_again) (by_number (λ q. q.up_again) (by_number (λ q. q.down_again_before) (by_number (λ q. q.up_again_before) compared_by_differences)))
+-- how two qualities stand by one item alone; by C.7 the one with more pairs is in front, and of as many pairs the one with the smaller PSD
+abbrev pub compared_in : Item → Quality → Quality → Ordering
+compared_in Psd = by_list (λ q. q.psd)
+compared_in NextBracket = then_cmp (on (λ q. q.next_pairs) (flip_args nat_cmp)) (by_list (λ q. q.next_psd))
+compared_in WideDifferences = by_number (λ q. q.wide_differences)
+compared_in ThirdColours = by_number (λ q. q.third_colours)
+compared_in MissedPreferences = by_number (λ q. q.missed_preferences)
+compared_in MissedStrong = by_number (λ q. q.missed_strong)
+compared_in DownAgain = by_number (λ q. q.down_again)
+compared_in UpAgain = by_number (λ q. q.up_again)
+compared_in DownAgainBefore = by_number (λ q. q.down_again_before)
+compared_in UpAgainBefore = by_number (λ q. q.up_again_before)
+compared_in DownAgainBy = by_list (λ q. q.down_again_by)
+compared_in UpAgainBy = by_list (λ q. q.up_again_by)
+compared_in DownAgainBeforeBy = by_list (λ q. q.down_again_before_by)
+compared_in UpAgainBeforeBy = by_list (λ q. q.up_again_before_by)
 
--- C.8 to C.11, and then the floats
-abbrev pub compared_by_colours : Quality → Quality → Ordering
-compared_by_colours =
-    by_number (λ q. q.wide_differences) (by_number (λ q. q.third_colours) (by_number (λ q. q.missed_preferences) (by_number (λ q. q.missed_strong) compared_by_floats)))
+-- whether two qualities differ in an item
+abbrev pub differs : Item → Quality → Quality → Bool
+differs item a b = is_ne (compared_in item a b)
 
--- C.6, then C.7, of which more pairs go first, and then the colours
-abbrev pub compared : Quality → Quality → Ordering
-compared =
-    by_list (λ q. q.psd) (then_cmp (on (λ q. q.next_pairs) (flip_args nat_cmp)) (by_list (λ q. q.next_psd) compared_by_colours))
+-- the first of some items in which two qualities differ
+abbrev pub first_that_differs : List Item → Quality → Quality → Option Item
+first_that_differs [] a b = None
+first_that_differs (item ∷ items) a b = if differs item a b then Some item else first_that_differs items a b
 
--- one quality is better than another: at the first item that differs it stands in front
+-- the first of all items in which two qualities differ
+abbrev pub first_difference : Quality → Quality → Option Item
+first_difference = first_that_differs all_items
+
+-- one quality is better than another: at the first item in which they differ it stands in front
 unfoldable pub is_better : Quality → Quality → Bool
-is_better a b = is_lt (compared a b)
+is_better a b = option_map_or (λ item. is_lt (compared_in item a b)) (first_difference a b) false

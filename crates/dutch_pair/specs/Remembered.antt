@@ -1,5 +1,5 @@
 -- What the next bracket can be (C.04.3 C.7), remembered for the last lists of downfloaters that were asked about.
-use Rattle.std.specs.Prelude.{◌≡◌, ℕ, Bool, false, ◌||◌, if◌then◌else◌, List, [], ◌∷◌, map, take, nat_eq, Contains, ◌⊎◌, Option, Some, None}
+use Rattle.std.specs.Prelude.{◌≡◌, ℕ, Bool, true, false, ◌||◌, if◌then◌else◌, List, [], ◌∷◌, map, take, nat_eq, Contains, ◌⊎◌, Option, Some, None}
 use Rattle.std.specs.Cmp.Lexicographic.{pointwise}
 use Rattle.arrayvec.specs.ArrayVec.{ArrayVec}
 use Rattle.lru.specs.LruCache.{LruCache}
@@ -14,13 +14,14 @@ use Rattle.dutch_pair.specs.Quality.{NextValue}
 use Rattle.dutch_pair.specs.Round.{first_group, scoregroups}
 use Rattle.dutch_pair.specs.NextBracket.{IsNext, value_in}
 
--- a look-ahead: the bracket that it looks down from, the next lower scoregroup, and the lists of downfloaters for which it keeps values,
--- the last used first
+-- a look-ahead: the bracket that it looks down from, the next lower scoregroup, the lists of downfloaters for which it keeps values, the
+-- last used first, and whether memory was refused for one of them
 pub record Remembered : Type 0 where
   pub facts : Facts
   pub reached : Reached
   pub next : List ℕ
   pub kept : List (List ℕ)
+  pub is_short : Bool
 
 -- C.7: what the next bracket can be for downfloaters of a bracket
 abbrev pub value_below : Facts → Reached → List ℕ → List ℕ → NextValue
@@ -42,17 +43,22 @@ with_used down kept = down ∷ (if is_kept down kept then others down kept else 
 
 -- a look-ahead after it used the value of a list
 abbrev pub after_use : List ℕ → Remembered → Remembered
-after_use down old = record { facts = old.facts; reached = old.reached; next = old.next; kept = with_used down old.kept }
+after_use down old =
+    record { facts = old.facts; reached = old.reached; next = old.next; kept = with_used down old.kept; is_short = old.is_short }
+
+-- a look-ahead after memory was refused for a value: it keeps what it kept, and says so
+abbrev pub after_refusal : Remembered → Remembered
+after_refusal old = record { facts = old.facts; reached = old.reached; next = old.next; kept = old.kept; is_short = true }
 
 -- a look-ahead answers the value; or it was stopped, and then owes what is given with it
 abbrev pub IsLook : NextValue → Type 0 → Look → Type 0
 IsLook value stopped (Value pairs psd) = value ≡ record { pairs = pairs; psd = psd.items }
 IsLook value stopped Undecided = stopped
 
--- what is kept after an answer: with a value it was used; where memory was refused for a new one, and where the limit was reached, all
--- is as it was
+-- what is kept after an answer: with a value its list, which was used, unless memory was refused for a new one; where the limit was
+-- reached, all is as it was
 abbrev pub IsKeptAfter : List ℕ → Remembered → Remembered → Look → Type 0
-IsKeptAfter down old new (Value pairs psd) = (new ≡ after_use down old) ⊎ ((is_kept down old.kept ≡ false) × (new ≡ old))
+IsKeptAfter down old new (Value pairs psd) = (new ≡ after_use down old) ⊎ ((is_kept down old.kept ≡ false) × (new ≡ after_refusal old))
 IsKeptAfter down old new Undecided = new ≡ old
 
 -- a look-ahead still looks from its bracket to its next scoregroup, whatever it keeps

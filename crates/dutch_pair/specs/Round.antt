@@ -144,37 +144,31 @@ module _ (facts : Facts) where
   abbrev pub ending : List ℕ → Round
   ending left = record { reached = []; pairing = Some (record { pairs = []; bye = left }) }
 
-  -- the bracket that ends the round, by its choice; none has no pairing
-  abbrev pub final_by : Reached → Option Choice → Round
-  final_by reached None = no_pairing
-  final_by reached (Some choice) = pairing_in reached choice (ending (downfloaters reached choice.lists))
+  -- how a round goes on from a bracket by what is chosen in it; where nothing can be chosen there is no pairing
+  abbrev pub by_choice : Option Choice → (Choice → Round) → Round
+  by_choice None goes_on = no_pairing
+  by_choice (Some chosen) goes_on = goes_on chosen
 
-  -- A.9: the last bracket or the collapsed one, which ends the round
+  -- A.9: the last bracket, or the collapsed one: it keeps its pairs and ends the round, and who is left over has the bye
   abbrev pub final_bracket : Reached → Round
-  final_bracket reached = final_by reached (choice reached [])
+  final_bracket reached =
+      by_choice (choice reached []) (λ chosen. pairing_in reached chosen (ending (downfloaters reached chosen.lists)))
 
-  -- the penultimate bracket by its choice, and then the collapsed one of those whom it leaves over with all lower players
-  abbrev pub penultimate_by : Reached → List ℕ → Option Choice → Round
-  penultimate_by reached lower None = no_pairing
-  penultimate_by reached lower (Some choice) =
-      pairing_in reached choice (final_bracket (bracket (reached.number + 1) Collapsed (downfloaters reached choice.lists) lower))
-
-  -- A.9: a bracket that is paired again, and the collapsed one behind it
+  -- A.9: the penultimate bracket: it keeps its pairs, and those whom it leaves over make the collapsed bracket with all lower players
   abbrev pub penultimate_bracket : Reached → List ℕ → Round
-  penultimate_bracket reached lower = penultimate_by (paired_again reached) lower (choice (paired_again reached) lower)
+  penultimate_bracket reached lower =
+      by_choice (choice reached lower)
+      (λ chosen. pairing_in reached chosen (final_bracket (bracket (reached.number + 1) Collapsed (downfloaters reached chosen.lists) lower)))
 
-  -- an ordinary bracket by its choice: it keeps its pairs if those whom it leaves over can be paired out with all lower players; else
-  -- it is paired again
-  abbrev pub ordinary_by : Reached → List ℕ → (List ℕ → Round) → Option Choice → Round
-  ordinary_by reached lower goes_on None = no_pairing
-  ordinary_by reached lower goes_on (Some choice) =
-      if completable (downfloaters reached choice.lists ++ lower)
-      then pairing_in reached choice (goes_on (downfloaters reached choice.lists))
-      else passing reached choice (penultimate_bracket reached lower)
-
-  -- A.9: an ordinary bracket, and how the round goes on behind it
+  -- A.9: an ordinary bracket: if those whom it leaves over can be paired out with all lower players, it keeps its pairs and the round
+  -- goes on with them; else it is paired again as the penultimate one
   abbrev pub ordinary_bracket : Reached → List ℕ → (List ℕ → Round) → Round
-  ordinary_bracket reached lower goes_on = ordinary_by reached lower goes_on (choice reached lower)
+  ordinary_bracket reached lower goes_on =
+      by_choice (choice reached lower)
+      (λ chosen.
+      if completable (downfloaters reached chosen.lists ++ lower)
+      then pairing_in reached chosen (goes_on (downfloaters reached chosen.lists))
+      else passing reached chosen (penultimate_bracket (paired_again reached) lower))
 
   -- A.3: the brackets from a number on, for those moved down and the scoregroups to come
   abbrev pub brackets : ℕ → List ℕ → List (List ℕ) → Round

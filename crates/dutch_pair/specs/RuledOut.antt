@@ -26,13 +26,13 @@ abbrev pub has_one_of : ℕ → ℕ → List ℕ → Bool
 has_one_of p q numbers =
     (is_member p numbers && not (is_member q numbers)) || (is_member q numbers && not (is_member p numbers))
 
--- a moved-down player and a resident meet in no arrangement where S1 is chosen and has both or neither
+-- a moved-down player and a resident meet in no arrangement whose S1 is chosen and has both or neither
 abbrev pub s1_bars : Filling → ℕ → ℕ → Arrangement → Bool
 s1_bars S1 p q lists = false
 s1_bars S2 p q lists = not (has_one_of p q lists.s1)
 s1_bars S2r p q lists = not (has_one_of p q lists.s1)
 
--- and two residents in none where S1R is chosen and has both or neither
+-- and two residents in none whose S1R is chosen and has both or neither
 abbrev pub s1r_bars : Filling → ℕ → ℕ → Arrangement → Bool
 s1r_bars S1 p q lists = false
 s1r_bars S2 p q lists = false

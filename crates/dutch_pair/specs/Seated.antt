@@ -56,7 +56,7 @@ abbrev pub difference : Facts → ℕ × ℕ → ℕ
 difference facts pair =
     (score_at facts pair.0 - score_at facts pair.1) + (score_at facts pair.1 - score_at facts pair.0)
 
--- A.8: the difference of a downfloater: his score minus a score two half points below the lowest one in the bracket
+-- A.8: the difference of a downfloater: their score minus a score two half points below the lowest one in the bracket
 abbrev pub difference_down : Facts → ℕ → ℕ → ℕ
 difference_down facts least seat = (score_at facts seat - least) + 2
 

@@ -1,6 +1,7 @@
 -- A walk over the brackets of a round, as the round from where it stands on: a model that carries the round's proof.
 use Rattle.std.specs.Prelude.{◌≡◌, ℕ, ◌+◌, Bool, false, not, if◌then◌else◌, List, [], ◌∷◌, ◌++◌, map, Some}
 use Rattle.dutch_order.specs.declared.bracket.Shape.{Shape}
+use Rattle.dutch_order.specs.declared.steps.Budget.{Budget}
 use Rattle.dutch_order.specs.Arrangements.{Fits, down}
 use Rattle.dutch_player.specs.Facts.{Facts}
 use Rattle.dutch_pair.specs.declared.reached.BracketKind.{BracketKind}
@@ -12,17 +13,16 @@ use Rattle.dutch_pair.specs.declared.walk.Turn.{Turn}
 use Rattle.dutch_pair.specs.declared.walk.Turn.TheVariants.{Settled, Ended, Undecided}
 use Rattle.dutch_pair.specs.QualityIn.{quality_in}
 use Rattle.dutch_pair.specs.Reached.{Reached, IsOf, frame_of}
-use Rattle.dutch_pair.specs.Round.{Round, Choice, Pairing, brackets, choice, completable, ending, final_bracket, ordinary_bracket, passing, pairing_in, penultimate_by, quality_of, scoregroups}
+use Rattle.dutch_pair.specs.Round.{Round, Choice, Pairing, brackets, choice, completable, ending, final_bracket, ordinary_bracket, passing, pairing_in, penultimate_bracket, quality_of, scoregroups}
 use Rattle.dutch_pair.specs.Outcomes.{IsStage, shown, visit_at}
 use Rattle.dutch_pair.specs.Seated.{AreSeats, all_pairs, seat_of}
 use Rattle.dutch_pair.specs.WaysOut.{StandsBefore}
 
--- where a walk stands in a field: the number of the bracket that comes next, the round from there on, and the limit of a bracket's steps
+-- where a walk stands in a field: the number of the bracket that comes next, and the round from there on
 pub record Walk : Type 0 where
   pub facts : Facts
   pub number : ℕ
   pub rest : Round
-  pub limit : ℕ
 
 -- the kind of the bracket of a scoregroup above lower seats
 abbrev pub group_kind : List ℕ → BracketKind
@@ -45,7 +45,7 @@ module _ (facts : Facts) where
   abbrev pub round_by : BracketKind → Reached → List ℕ → Round
   round_by Ordinary reached lower = ordinary_bracket facts reached lower (λ left. brackets facts (reached.number + 1) left (scoregroups facts lower))
   round_by Last reached lower = final_bracket facts reached
-  round_by Penultimate reached lower = penultimate_by facts reached lower (choice facts reached lower)
+  round_by Penultimate reached lower = penultimate_bracket facts reached lower
   round_by Collapsed reached lower = final_bracket facts reached
 
   -- the round from what comes next on
@@ -83,20 +83,19 @@ pub record IsBehind (stage : Stage) (old new : Walk) : Type 0 where
   pub facts : new.facts ≡ old.facts
   pub number : new.number ≡ old.number + 1
   pub rest : old.rest ≡ stage_first old.facts stage new.rest
-  pub limit : new.limit ≡ old.limit
 
 -- the same of a stage that is settled above lower seats
-abbrev pub IsBehindIn : Facts → List ℕ → ℕ → Stage → Walk → Type 0
-IsBehindIn facts lower limit stage =
-    IsBehind stage (record { facts = facts; number = stage.reached.number; rest = round_by facts stage.reached.kind stage.reached lower; limit = limit })
+abbrev pub IsBehindIn : Facts → List ℕ → Stage → Walk → Type 0
+IsBehindIn facts lower stage =
+    IsBehind stage (record { facts = facts; number = stage.reached.number; rest = round_by facts stage.reached.kind stage.reached lower })
 
 -- a round begins with a bracket, which has a shape
 abbrev pub Shows : Facts → Round → Reached → Shape → Type 0
 Shows facts round reached shape =
     (shown (visit_at 0 round.reached) ≡ Some (reached, shape)) × IsOf facts reached × Fits (frame_of facts reached) shape
 
--- how a walk goes on
-abbrev pub GoesOn : Walk → Walk → Turn → Type 0
-GoesOn old new (Settled stage) = IsBehind stage old new × IsStage old.facts stage
-GoesOn old new (Ended bye) = (old.rest ≡ ending old.facts bye.items) × AreSeats old.facts bye.items
-GoesOn old new Undecided = new ≡ old
+-- how a walk goes on, and its budget with it: behind a stage no step is used, and where a bracket is undecided all are
+abbrev pub GoesOn : Walk → Walk → Budget → Turn → Type 0
+GoesOn old new budget (Settled stage) = IsBehind stage old new × IsStage old.facts stage × (budget.used ≡ 0)
+GoesOn old new budget (Ended bye) = (old.rest ≡ ending old.facts bye.items) × AreSeats old.facts bye.items
+GoesOn old new budget Undecided = (new ≡ old) × (budget.used ≡ budget.limit)

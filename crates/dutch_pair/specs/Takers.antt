@@ -3,15 +3,15 @@
 use Rattle.std.specs.Prelude.{ℕ, zero, suc, ◌+◌, ◌%◌, ◌==◌, Bool, true, false, ◌&&◌, ◌||◌, List, [], ◌∷◌, length}
 use Rattle.std.specs.List.{list_any}
 use Rattle.dutch_player.specs.Facts.{Facts}
-use Rattle.dutch_pair.specs.Completion.{some_partner, nobody, left_over}
+use Rattle.dutch_pair.specs.CompletionSearch.{some_partner, nobody, left_over}
 use Rattle.dutch_pair.specs.Seats.{seats_meet, seats_may_be_left}
 
--- a player is paired with one of k downfloaters, if he may be, and something holds with one fewer of them
+-- a player is paired with one of k downfloaters, if they may be, and something holds with one fewer of them
 abbrev pub takes_one : Bool → (ℕ → Bool) → ℕ → Bool
 takes_one may holds zero = false
 takes_one may holds (suc k) = may && holds k
 
--- the test of completable players, but for at most k who are paired with downfloaters: the first of players of a number meets a later
+-- the search of completable players, but for at most k who are paired with downfloaters: the first of players of a number meets a later
 -- one, or is paired with a downfloater, or is the one left out
 abbrev pub can_cover_but : (ℕ → ℕ → Bool) → (ℕ → Bool) → (ℕ → Bool) → ℕ → ℕ → List ℕ → Bool
 can_cover_but meets may_go may_be_left zero k players = true
@@ -21,11 +21,11 @@ can_cover_but meets may_go may_be_left (suc (suc n)) k (a ∷ later) =
     some_partner (meets a) (can_cover_but meets may_go may_be_left n k) [] later
     || (takes_one (may_go a) (λ j. can_cover_but meets may_go may_be_left (suc n) j later) k || (may_be_left a && can_cover_but meets may_go nobody (suc n) k later))
 
--- a lower player may be paired with a downfloater of a bracket if some player of it may meet him
+-- a lower player may be paired with a downfloater of a bracket if some player of it may meet them
 unfoldable pub meets_bracket : Facts → List ℕ → ℕ → Bool
 meets_bracket facts seats b = list_any (λ a. seats_meet facts a b) seats
 
--- C.4: whether lower players can be paired out with k downfloaters of a bracket, where one may be left out (`bye`) or none
+-- C.4: whether lower players can be paired out with k downfloaters of a bracket, if one may be left out (`bye`) or none may
 abbrev pub can_take_out : Facts → List ℕ → Bool → ℕ → ℕ → List ℕ → Bool
 can_take_out facts seats bye n k lower =
     can_cover_but (seats_meet facts) (meets_bracket facts seats) (left_over bye (seats_may_be_left facts)) n k lower

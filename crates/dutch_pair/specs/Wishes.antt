@@ -1,6 +1,6 @@
--- A wish for a candidate of a bracket, that two of its players meet or that one of them is left over (C.04.3 B.3), and the best of the
--- candidates that grant it (B.8).
-use Rattle.std.specs.Prelude.{◌≡◌, ◌⊎◌, ℕ, Bool, true, false, not, ◌&&◌, ◌||◌, ◌==◌, List, ◌∷◌, ◌++◌, filter, Option, Some, None}
+-- A wish for a candidate of a bracket, that two of its players meet or that one of them is left over (C.04.3 B.3), the best of the
+-- candidates that grant it (B.8), or why there is none (B.1, C.4, C.5).
+use Rattle.std.specs.Prelude.{◌≡◌, ◌<◌, ◌≤◌, ◌⊎◌, ◌+◌, ℕ, Bool, true, false, not, ◌&&◌, ◌||◌, ◌==◌, List, ◌∷◌, ◌++◌, filter, Option, Some, None}
 use Rattle.std.specs.List.{list_any}
 use Rattle.dutch_order.specs.declared.bracket.Shape.{Shape}
 use Rattle.dutch_order.specs.Arrangements.{Arrangement, down, paired}
@@ -9,13 +9,14 @@ use Rattle.dutch_order.specs.Forms.{pairs_by_number}
 use Rattle.dutch_order.specs.Keys.{IsIn}
 use Rattle.dutch_player.specs.Facts.{Facts}
 use Rattle.dutch_pair.specs.declared.instead.Instead.{Instead}
-use Rattle.dutch_pair.specs.declared.instead.Instead.TheVariants.{Best, NoneEligible, NoneLegal, Undecided}
+use Rattle.dutch_pair.specs.declared.instead.Instead.TheVariants.{Best, FewerMovedDown, NoneEligible, NoneLegal, Undecided}
 use Rattle.dutch_pair.specs.declared.wish.Wish.{Wish}
 use Rattle.dutch_pair.specs.declared.wish.Wish.TheVariants.{Pair, Over}
 use Rattle.dutch_pair.specs.QualityIn.{quality_in}
 use Rattle.dutch_pair.specs.Reached.{Reached, frame_of}
 use Rattle.dutch_pair.specs.Round.{candidates_of, eligible, is_better_in, quality_of}
 use Rattle.dutch_pair.specs.Choice.{best}
+use Rattle.dutch_pair.specs.Shapes.{fits}
 
 -- a pair is that of two players, in whatever order
 abbrev pub are_these : ℕ → ℕ → ℕ × ℕ → Bool
@@ -39,16 +40,48 @@ granting facts reached lower shape wish = filter (grants wish) (eligible facts r
 unfoldable pub best_granting : Facts → Reached → List ℕ → Shape → Wish → Option Arrangement
 best_granting facts reached lower shape wish = best (is_better_in facts reached lower) (granting facts reached lower shape wish)
 
+-- ---- why there is none
+
+-- B.1: as many pairs as a shape has, with so many moved-down players in them
+abbrev pub with_mdps : Shape → ℕ → Shape
+with_mdps shape mdps = record { pairs = shape.pairs; mdps = mdps }
+
+-- C.1 to C.3: the bracket has room for a shape, and a legal candidate of it grants a wish
+abbrev pub some_grants : Facts → Reached → Wish → Shape → Bool
+some_grants facts reached wish shape = fits (frame_of facts reached) shape && list_any (grants wish) (candidates_of facts reached shape)
+
+-- a legal candidate with as many pairs as a shape, and from a number of moved-down players in them to below another number, grants a wish
+pub record SomeGrants (facts : Facts) (reached : Reached) (wish : Wish) (shape : Shape) (from to : ℕ) : Type 0 where
+  pub mdps : ℕ
+  pub from_on : from ≤ mdps
+  pub below : mdps < to
+  pub granted : some_grants facts reached wish (with_mdps shape mdps) ≡ true
+
+-- there is none
+abbrev pub NoneGrants : Facts → Reached → Wish → Shape → ℕ → ℕ → Type 0
+NoneGrants facts reached wish shape from to =
+    (mdps : ℕ) → from ≤ mdps → mdps < to → some_grants facts reached wish (with_mdps shape mdps) ≡ false
+
+-- C.4: legal candidates of a shape grant a wish; or, where none with as many pairs and as many or fewer moved-down players in them does,
+-- some with more. None of these can be chosen
+abbrev pub IsBarred : Facts → Reached → Wish → Shape → Type 0
+IsBarred facts reached wish shape =
+    (list_any (grants wish) (candidates_of facts reached shape) ≡ true)
+    ⊎ (NoneGrants facts reached wish shape 0 (shape.mdps + 1) × SomeGrants facts reached wish shape (shape.mdps + 1) (shape.pairs + 1))
+
 -- what is told of a wish, for a bracket above lower seats and its shape: the best candidate that grants it, with its downfloaters and its
--- quality; that some candidates of the shape grant it, but none of these can be chosen (C.4); that none grants it (C.5); or that the
--- limit was reached
+-- quality; or the first of these that stands: legal candidates grant it, but none that can be chosen (C.4); none of the shape grants it,
+-- but one with as many pairs and fewer moved-down players in them (B.1); none with as many pairs grants it (C.5); or that the limit was
+-- reached
 abbrev pub IsInstead : Facts → Reached → List ℕ → Shape → Wish → ℕ → Instead → Type 0
 IsInstead facts reached lower shape wish limit (Best candidate quality) =
     (best_granting facts reached lower shape wish ≡ Some candidate.lists) × (candidate.down ≡ down (frame_of facts reached) candidate.lists)
     × (quality_in quality ≡ quality_of facts reached lower candidate.lists)
 IsInstead facts reached lower shape wish limit NoneEligible =
-    (list_any (grants wish) (candidates_of facts reached shape) ≡ true) × (list_any (grants wish) (eligible facts reached lower shape) ≡ false)
-IsInstead facts reached lower shape wish limit NoneLegal = list_any (grants wish) (candidates_of facts reached shape) ≡ false
+    IsBarred facts reached wish shape × (list_any (grants wish) (eligible facts reached lower shape) ≡ false)
+IsInstead facts reached lower shape wish limit FewerMovedDown =
+    (list_any (grants wish) (candidates_of facts reached shape) ≡ false) × SomeGrants facts reached wish shape 0 shape.mdps
+IsInstead facts reached lower shape wish limit NoneLegal = (mdps : ℕ) → some_grants facts reached wish (with_mdps shape mdps) ≡ false
 IsInstead facts reached lower shape wish limit (Undecided used) = used ≡ limit
 
 -- of some candidates one stands before another one

@@ -62,7 +62,7 @@ pub(crate) fn fixed_lists<'a>(prefix: &'a Prefix<'_>) -> Begun<'a>
     }
 }
 
-/// Whether all are numbers of a bracket.
+/// Whether all members of a list are numbers of a bracket.
 fn are_numbers(reached: &Reached, numbers: &[u16]) -> bool
     ensures { result ≡ are_numbers reached.now numbers.now }
 {

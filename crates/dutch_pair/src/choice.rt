@@ -103,7 +103,7 @@ fn consider(
     Ok(())
 }
 
-/// Of the candidates that a pass seeks, and that can be chosen, the first that none is better than: none where there is none.
+/// Of the candidates that a pass seeks, and that can be chosen, the first that none is better than; none if there is no such candidate.
 fn best_near<'a>(
     pass: &'a Pass<'a>,
     lister: &mut Lister<'_, ByNumber<'_>>,
@@ -137,8 +137,8 @@ fn best_near<'a>(
     }
 }
 
-/// What a pass with an aim chooses: the best of all. None is answered where there is no aim, or where the pass finds none that can be
-/// chosen, which says nothing of the choice.
+/// What a pass with an aim chooses: the best of all. The answer is none if there is no aim, or if the pass finds none that can be chosen,
+/// which says nothing of the choice.
 fn best_by_aim<'a>(
     pass: &'a Pass<'a>,
     lister: &mut Lister<'_, ByNumber<'_>>,
@@ -163,7 +163,8 @@ fn best_by_aim<'a>(
     best_near(pass, lister, judge, budget)
 }
 
-/// What a pass with an aim ends with, or else the same pass without one. (Apart from its caller, as a lister is large.)
+/// What a pass with an aim ends with, or if that is nothing, the same pass without an aim. (It stands apart from its caller, since a
+/// lister is large.)
 #[inline(never)]
 #[tactic(auto, using(crate::proofs::AimLemmas::without_aim))]
 fn best_in_passes(
@@ -190,8 +191,8 @@ fn best_in_passes(
     best_near(pass, &mut lister, judge, budget)
 }
 
-/// Of the candidates of a shape that can be chosen, and that grant a wish where something is wished, the first that none of them is
-/// better than: what a pass with an aim ends with, or else one without. `End` is answered where there is none.
+/// Of the candidates of a shape that can be chosen, and that grant the wish if there is one, the first that none of them is better than:
+/// what a pass with an aim ends with, or if that is nothing, one without. `End` says that there is none.
 pub(crate) fn best_of<'a>(
     alloc: Global,
     context: &'a Context<'a>,

@@ -60,7 +60,7 @@ fn in_pairs(context: &Context<'_>, want: Want, pairs: &[Pair]) -> usize
     count
 }
 
-/// How many who are counted, and are in no pair and not among those who go down, are more than can be served.
+/// Of those who are counted, and who are in no pair and do not go down: how many there are above the number that can be served.
 fn surplus(context: &Context<'_>, shape: Shape, known: &Seated, want: Want) -> usize
     requires inside { HasSeats context.now.facts known.now }
     requires small { shape.pairs ≤ LIMIT }
@@ -76,7 +76,7 @@ fn surplus(context: &Context<'_>, shape: Shape, known: &Seated, want: Want) -> u
     free.saturating_sub(to_make + to_leave.saturating_sub(known.down.len()))
 }
 
-/// How many miss more than in the pairs that are known (C.10); of firm preferences alone (C.11).
+/// How many players miss their preference beside those in the pairs that are known (C.10); or only firm preferences (C.11).
 pub(crate) fn more_missed(context: &Context<'_>, shape: Shape, known: &Seated, firm: bool) -> usize
     requires inside { HasSeats context.now.facts known.now }
     requires small { shape.pairs ≤ LIMIT }

@@ -14,14 +14,14 @@ ghost use Rattle.dutch_pair.specs.Quality.{misses, count_in, count_in_pairs, cou
 ghost use Rattle.dutch_pair.specs.Beginnings.{HasPairsOf, LacksEndOfS2r, in_both};
 ghost use Rattle.dutch_pair.specs.ColourFloors.{wants, wants_firmly, adds_top, more_missed, more_missed_strong, lonely};
 
-/// C.10: of a pair who both want a colour one misses it.
+/// C.10: if both players of a pair want the same colour, one of them misses it.
 #[tactic(auto, using(crate::proofs::C10Preferences::pair_misses))]
 pub fn a_pair_misses()
     ensures { (facts : Facts) (c : Colour) (pair : ℕ × ℕ) → in_both (wants facts c) pair ≤ 1 + count_in facts (misses Preference) pair }
 {}
 
-/// C.11: of a pair who may meet and both have a firm preference for a colour one misses a strong one, or the pair counts for C.8 or
-/// C.9.
+/// C.11: if the players of a pair may meet and both have a firm preference for the same colour, one of them misses a strong preference,
+/// or the pair counts for C.8 or C.9.
 #[tactic(auto, using(crate::proofs::C11StrongPreferences::pair_misses_firmly))]
 pub fn a_pair_misses_firmly()
     ensures { (facts : Facts) (c : Colour) (a b : ℕ) → may_meet facts a b ≡ true
@@ -36,7 +36,7 @@ pub fn a_beginning_misses()
         ≤ (quality_of facts reached lower a).missed_preferences }
 {}
 
-/// C.11: how many miss a strong preference at least, with a beginning, where C.8 and C.9 are its own.
+/// C.11: how many miss a strong preference at least, with a beginning, if C.8 and C.9 are those of the beginning.
 pub fn a_beginning_misses_strongly()
     ensures { (facts : Facts) (reached : Reached) (lower : List ℕ) (shape : Shape) (b a : Arrangement) → reached.mdps ≤ length reached.seats
         → IsIn a (candidates_of facts reached shape) → HasPairsOf b a
@@ -46,7 +46,7 @@ pub fn a_beginning_misses_strongly()
         ≤ (quality_of facts reached lower a).missed_strong }
 {}
 
-/// C.10: lonely players miss their preference, where all but an end of S2R is chosen.
+/// C.10: lonely players miss their preference, once all but an end of S2R is chosen.
 pub fn lonely_players_miss()
     ensures { (facts : Facts) (reached : Reached) (lower : List ℕ) (shape : Shape) (b a : Arrangement) → reached.mdps ≤ length reached.seats
         → IsIn a (candidates_of facts reached shape) → LacksEndOfS2r b a
@@ -54,7 +54,7 @@ pub fn lonely_players_miss()
         ≤ (quality_of facts reached lower a).missed_preferences }
 {}
 
-/// C.10: and so at least as many as each of the two bounds says.
+/// C.10: so at least as many miss their preference as each of the two bounds says.
 pub fn a_beginning_with_s1r_misses()
     ensures { (facts : Facts) (reached : Reached) (lower : List ℕ) (shape : Shape) (b a : Arrangement) → reached.mdps ≤ length reached.seats
         → IsIn a (candidates_of facts reached shape) → LacksEndOfS2r b a

@@ -13,13 +13,13 @@ use trf16::Colour;
 /// What is wrong with the colour that a player gets.
 #[derive(Clone, Copy)]
 pub enum Miss {
-    /// His colour difference gets over +2 or under -2 (C.8).
+    /// Their colour difference gets over +2 or under -2 (C.8).
     Wide,
-    /// It is that of his last two games (C.9).
+    /// It is that of their last two games (C.9).
     Third,
-    /// It is not that of his preference (C.10).
+    /// It is not that of their preference (C.10).
     Preference,
-    /// It is not that of his preference, which is strong and not absolute (C.11).
+    /// It is not that of their preference, which is strong and not absolute (C.11).
     StrongPreference,
 }
 

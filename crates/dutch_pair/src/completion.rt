@@ -1,10 +1,11 @@
 // Completion, article A.9: whether players can be paired so that at most one is left out, specified by a list of pairs.
 //
-// The search works in one list. Each later player in turn is swapped to the front, those before him keep their order behind him, and
-// once none of them has served the list is turned back. So a level of the search keeps no list of its own.
+// The search works in one list. Each later player in turn is swapped to the front, behind whom those before them keep their order. Once
+// none of them has served, the list is turned back. So a level of the search keeps no list of its own.
 ghost use Rattle.std.specs.Prelude.{◌≡◌, ◌+◌, ◌-◌, ◌*◌, ◌<◌, ◌≤◌, Ok, true, false, ◌&&◌, [], ◌++◌, take, drop, length, slice_index, if◌then◌else◌};
 ghost use Rattle.std.specs.Result.{IsErr};
-ghost use Rattle.dutch_pair.specs.Completion.{Completable, can_cover, some_partner, nobody, left_over, most, Spends, IsStopped, Takes, MatchAnswer, Tells};
+ghost use Rattle.dutch_pair.specs.Completion.{Completable, most, Spends, IsStopped, Takes, MatchAnswer, Tells};
+ghost use Rattle.dutch_pair.specs.CompletionSearch.{can_cover, some_partner, nobody, left_over};
 ghost use Rattle.dutch_pair.specs.declared.completion.Answer.TheVariants.{No};
 
 use crate::reached::push_all;
@@ -20,7 +21,7 @@ pub enum Answer {
 }
 
 impl Answer {
-    /// The same by a `bool`, to be passed on by `?` where the limit was reached first.
+    /// The same as a `bool`. If the limit was reached first, `?` passes that on.
     pub(crate) fn decided(self) -> Result<bool, Stopped>
         ensures { MatchAnswer self (result ≡ Ok true) (result ≡ Ok false) (IsErr result) }
     {
@@ -71,7 +72,7 @@ pub(crate) fn put_last(list: &mut [u16])
     }
 }
 
-/// Whether players can be paired, where one may be left out (`bye`) or none. Where they cannot, they stand as before.
+/// Whether players can be paired if one may be left out (`bye`), or if none may. If they cannot, they stand as before.
 #[cycle(search)]
 fn can_pair<R: Rule>(players: &mut [u16], bye: bool, rule: &R, budget: &mut Budget) -> Answer
     requires within { budget.old.used ≤ budget.old.limit }
@@ -94,8 +95,8 @@ fn can_pair<R: Rule>(players: &mut [u16], bye: bool, rule: &R, budget: &mut Budg
     }
 }
 
-/// Whether the first player can be paired with one of the later ones, so that the others can be paired. Each comes to their front in
-/// turn, and where none serves they stand as before.
+/// Whether the first player can be paired with one of the later ones, so that the others can be paired. Each later one comes to the
+/// front in turn. If none serves, they stand as before.
 #[cycle(search)]
 fn pair_first<R: Rule>(
     first: u16,
@@ -150,7 +151,7 @@ fn pair_with<R: Rule>(
     can_pair(&mut later[1..], bye, rule, budget)
 }
 
-/// Whether the first player may be left out, where one may be, so that all later ones can be paired.
+/// Whether the first player may be left out, if one may be, so that all later ones can be paired.
 #[cycle(search)]
 fn leave_first<R: Rule>(
     first: u16,

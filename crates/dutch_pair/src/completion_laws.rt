@@ -1,11 +1,11 @@
-// Laws of the definitions alone: a round is paired exactly where its players can be paired out (C.04.3 A.9, C.5).
+// Laws of the definitions alone: a round is paired exactly if its players can be paired out (C.04.3 A.9, C.5).
 ghost use Rattle.std.specs.Prelude.{◌≡◌, ◌↔◌, None, false, is_some, true};
 ghost use Rattle.dutch_player.specs.Facts.{Facts};
 ghost use Rattle.dutch_pair.specs.Completion.{Completable};
 ghost use Rattle.dutch_pair.specs.Round.{completable, everybody, round};
 ghost use Rattle.dutch_pair.specs.Seats.{seats_meet, seats_may_be_left};
 
-/// There is no dead end: a round is paired exactly where some list of pairs of present players who may meet leaves out at most one of
+/// There is no dead end: a round is paired exactly if some list of pairs of present players who may meet leaves out at most one of
 /// them, who may have the bye. So each bracket on the way has a candidate that can be chosen.
 pub fn a_round_is_paired_where_it_can_be()
     ensures paired { (facts : Facts) → Completable (seats_meet facts) (seats_may_be_left facts) (everybody facts) ↔ (is_some (round facts).pairing ≡ true) }

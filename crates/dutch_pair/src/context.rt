@@ -1,5 +1,5 @@
-// A bracket in its field above all lower seats, and what its shape, its choice and their floors ask of it, read once when the round
-// reaches it (C.04.3 A.3, A.6).
+// A bracket in its field above all lower seats (C.04.3 A.3, A.6). What its shape, its choice and their floors ask of it is read once, when
+// the round reaches it.
 ghost use Rattle.std.specs.Prelude.{◌≡◌, ◌+◌, ◌*◌, ◌<◌, ◌≤◌, length};
 ghost use Rattle.trf16.specs.declared.limits.TheConstants.{MOST_ROUNDS};
 ghost use Rattle.dutch_pair.specs.declared.colours_missed.Miss.TheVariants.{Preference};
@@ -105,7 +105,7 @@ impl<'a> Context<'a> {
         self.lower
     }
 
-    /// The next lower scoregroup, by rank; it is empty where no seat is below the bracket.
+    /// The next lower scoregroup, by rank; it is empty if no seat is below the bracket.
     #[tactic(auto, using(crate::proofs::NextGroups::is_next))]
     pub(crate) fn next(&self) -> &'a [u16]
         ensures value { result.now ≡ first_group self.now.facts (scoregroups self.now.facts self.now.lower) }
@@ -200,7 +200,7 @@ impl<'a> Context<'a> {
         }
     }
 
-    /// Whether one of a pair misses his preference (C.10): both never do.
+    /// Whether one of a pair misses their preference (C.10): both never do.
     #[tactic(auto, unfolding(crate::specs::Quality::count_in))]
     pub(crate) fn has_miss(&self, pair: Pair) -> bool
         requires first { pair.0 < length self.now.facts.seats }
@@ -210,7 +210,7 @@ impl<'a> Context<'a> {
         collide(self.field.preference(pair.0), self.field.preference(pair.1))
     }
 
-    /// Whether two numbers may meet, and neither misses his preference. It says no of a number that is not the bracket's.
+    /// Whether two numbers may meet, and neither misses their preference. It says no of a number that is not the bracket's.
     #[tactic(auto, unfolding(crate::specs::Reached::numbers_meet, crate::specs::ColourFloors::suits))]
     pub(crate) fn suits(&self, x: u16, y: u16) -> bool
         ensures { result ≡ suits self.now.facts self.now.reached x y }

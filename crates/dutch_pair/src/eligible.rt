@@ -99,7 +99,7 @@ pub(crate) fn can_be_chosen(
     leaves_completable(context, candidate, left, budget)
 }
 
-/// Draws the first candidate of a shape that can be chosen: no where there is none.
+/// Draws the first candidate of a shape that can be chosen. No says that there is none.
 #[tactic(auto, using(crate::proofs::EligibleLemmas::first_fit, crate::proofs::EligibleLemmas::passes_unfit, crate::proofs::EligibleLemmas::has_none))]
 pub(crate) fn first_eligible(
     context: &Context<'_>,

@@ -1,5 +1,5 @@
-// The floor of a beginning: a quality that no candidate with it is better than (C.04.3 C.6 to C.19). It is asked at each beginning
-// that a choice comes to, so it takes no memory and looks at each player a few times.
+// The floor of a beginning: a quality that no candidate with this beginning is better than (C.04.3 C.6 to C.19). It is asked for at each
+// beginning that a choice comes to, so it takes no memory and looks at each player only a few times.
 ghost use Rattle.std.specs.Prelude.{◌≡◌, ◌<◌, ◌≤◌, ◌||◌, ◌&&◌, IfSome, true, length};
 ghost use Rattle.dutch_order.specs.Arrangements.{Fits};
 ghost use Rattle.dutch_order.specs.declared.numbers.TheConstants.{LIMIT};
@@ -123,7 +123,7 @@ impl<'a> Floors<'a> {
         self.shape
     }
 
-    /// Fills a list with the PSD that S1 gives where all residents have one score.
+    /// Fills a list with the PSD that S1 gives if all residents have one score.
     #[tactic(auto, using(crate::proofs::FloorLemmas::has_room))]
     fn fill_psd_with(&self, s1: &[u16], psd: &mut Numbers)
         requires resident { self.now.reached.mdps < length self.now.reached.seats }
@@ -216,7 +216,7 @@ impl<'a> Floors<'a> {
         self.fill_over(filling, begun.s1, more, room);
     }
 
-    /// The same with what is known beside them. It says no where there is no room for a pair more.
+    /// The same with what is known beside them. It says no if there is no room for a pair more.
     #[tactic(auto, unfolding(crate::specs::FloorOf::floor_by_seats))]
     fn fill_floor_knowing(
         &self,
@@ -240,8 +240,8 @@ impl<'a> Floors<'a> {
         true
     }
 
-    /// Whether a floor of a beginning is known: not where its lists are not of the bracket and the shape, nor where S1 is not chosen and it
-    /// matters which is.
+    /// Whether a floor of a beginning is known. None is if its lists are not of the bracket and the shape, or if S1 is not chosen and it
+    /// matters which one is.
     fn is_known(&self, prefix: &Prefix<'_>) -> bool
         ensures { result ≡ is_known self.now prefix.now }
     {
@@ -252,7 +252,7 @@ impl<'a> Floors<'a> {
         has_s1(prefix.filling()) || self.uniform
     }
 
-    /// Fills the floor of a beginning, where one is known.
+    /// Fills the floor of a beginning, if one is known.
     #[tactic(auto, using(crate::proofs::FloorLemmas::known_numbers, crate::proofs::FloorLemmas::known_few), unfolding(crate::specs::FloorOf::floor_of))]
     pub(crate) fn floor(&self, prefix: &Prefix<'_>, room: &mut Room) -> bool
         ensures known { result ≡ is_known self.now prefix.now }
@@ -266,7 +266,7 @@ impl<'a> Floors<'a> {
         true
     }
 
-    /// Fills the floor of a beginning of which something more is known, where one is known.
+    /// Fills the floor of a beginning of which something more is known, if a floor is known.
     #[tactic(auto, using(crate::proofs::FloorLemmas::known_numbers, crate::proofs::FloorLemmas::known_few), unfolding(crate::specs::FloorOf::floor_knowing))]
     pub(crate) fn floor_knowing(&self, known: Known, prefix: &Prefix<'_>, room: &mut Room) -> bool
         requires { AreKnown self.now.facts known }
@@ -280,8 +280,8 @@ impl<'a> Floors<'a> {
         self.fill_floor_knowing(prefix.filling(), &fixed_lists(prefix), known, room)
     }
 
-    /// The quality that a first pass aims at, where all residents have one score: what a beginning with the first S1, and what is known
-    /// beside it, promises up to C.11. Any aim serves: what is chosen of the candidates that it is not better than is chosen of all.
+    /// The quality that a first pass aims at, if all residents have one score: what a beginning with the first S1, and what is known
+    /// beside it, promises up to C.11. Any aim serves: the choice among the candidates that it is not better than is the choice of all.
     #[tactic(auto, using(crate::proofs::FloorLemmas::first_length, crate::proofs::FloorLemmas::first_numbers))]
     pub(crate) fn aim(&self, known: Option<Known>) -> Option<Quality>
         requires { IfSome known (AreKnown self.now.facts) }

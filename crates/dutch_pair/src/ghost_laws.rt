@@ -1,4 +1,4 @@
-// Laws of ghosts: what ghosts in place of its downfloaters cannot do, no downfloaters of a bracket can (C.04.3 C.4, C.7).
+// Laws of ghosts: what ghosts cannot do in place of a bracket's downfloaters, no downfloaters of that bracket can do (C.04.3 C.4, C.7).
 ghost use Rattle.std.specs.Prelude.{◌≡◌, ◌+◌, ◌-◌, ◌*◌, ◌/◌, ◌≤◌, ℕ, Bool, List, [], Some, None, true, false, map, filter, length, slice_index};
 ghost use Rattle.dutch_order.specs.declared.bracket.Shape.{Shape};
 ghost use Rattle.dutch_order.specs.Choices.{numbers_from};
@@ -6,7 +6,6 @@ ghost use Rattle.dutch_order.specs.Keys.{IsIn};
 ghost use Rattle.dutch_order.specs.Arrangements.{Frame, Arrangement, IsBracket, arrangements, candidates, left_of};
 ghost use Rattle.dutch_player.specs.Facts.{Facts};
 ghost use Rattle.dutch_pair.specs.declared.reached.BracketKind.TheVariants.{Ordinary};
-ghost use Rattle.dutch_pair.specs.Completion.{can_cover};
 ghost use Rattle.dutch_pair.specs.Seated.{seat_of, score_at};
 ghost use Rattle.dutch_pair.specs.Reached.{Reached, IsOf, frame_of, numbers_meet, number_may_be_left};
 ghost use Rattle.dutch_pair.specs.Shapes.{fits, shapes_with, first_with, greatest_shape};
@@ -17,8 +16,8 @@ ghost use Rattle.dutch_pair.specs.Ghosts.{IsNotBetter, ghosts_meet, ghost_may_be
 ghost use Rattle.dutch_pair.specs.GhostValues.{first_limbo, first_ghosts, ghost_value};
 ghost use Rattle.dutch_pair.specs.Takers.{can_go_out};
 
-/// Where as many downfloaters as a number of pairs leaves cannot be paired out with the lower players, whoever they are, a penultimate
-/// bracket has no candidate with so many pairs.
+/// A number of pairs leaves so many downfloaters. If that many cannot be paired out with the lower players, whoever they are, then no
+/// candidate of a penultimate bracket with so many pairs can be chosen.
 pub fn a_count_of_downfloaters_tells_of_pairs()
     ensures { (facts : Facts) (reached : Reached) (lower : List ℕ) → is_penultimate reached.kind ≡ true → reached.mdps ≤ length reached.seats → (pairs : ℕ)
         → can_go_out facts reached.seats (length reached.seats - 2 * pairs) lower ≡ false
@@ -39,7 +38,7 @@ pub fn no_psd_is_below_the_floor()
         → is_lower (psd_in facts reached a) (floor_psd facts reached (score_at facts (seat_of reached.seats (reached.mdps + 1))) shape.pairs) ≡ false }
 {}
 
-/// What a bracket that is not a last one can be is not better than what a weaker rule finds, with the floor of its PSD.
+/// A bracket that is not a last one cannot be better than what a weaker rule finds, with the floor of its PSD.
 pub fn no_value_is_better_than_by_a_weaker_rule()
     ensures { (facts : Facts) (reached : Reached) → IsOf facts reached → IsFlat facts reached → (frame_of facts reached).last ≡ false
         → (meets : ℕ → ℕ → Bool) (left : ℕ → Bool) → ((i j : ℕ) → numbers_meet facts reached i j ≡ true → meets i j ≡ true)

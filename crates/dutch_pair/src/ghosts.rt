@@ -67,7 +67,7 @@ fn some_may_bye(field: &Field, seats: &[u16]) -> bool
     false
 }
 
-/// Of each lower player whether some player of a bracket may meet him.
+/// Of each lower player whether some player of a bracket may meet them.
 fn read_met(field: &Field, seats: &[u16], lower: &[u16]) -> ArrayVec<bool, LIMIT>
     requires seats { AreSeats field.now seats.now }
     requires lower { AreSeats field.now lower.now }
@@ -89,6 +89,8 @@ impl<'a> Ghosts<'a> {
         ensures answer { MatchResult result
             (λ ghosts. ghosts ≡ record { facts = context.now.facts; seats = context.now.reached.seats; lower = first_group context.now.facts (scoregroups context.now.facts context.now.lower) })
             (λ _. budget.new.used ≡ budget.new.limit) }
+        ensures counts { let steps = length context.now.reached.seats * length (first_group context.now.facts (scoregroups context.now.facts context.now.lower))
+            in MatchResult result (λ _. budget.new.used ≡ budget.old.used + steps) (λ _. budget.old.limit < budget.old.used + steps) }
         ensures spends { Spends budget.old budget.new }
     {
         let (field, seats, lower) = (context.field(), context.reached().seats(), context.next());

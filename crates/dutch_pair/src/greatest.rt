@@ -10,8 +10,8 @@ ghost use Rattle.dutch_pair.specs.Shapes.{IsFirst, fits, shapes_with, has_member
 
 use dutch_order::{Bracket, Budget, Candidate, Candidates, Rule, Shape, Stopped};
 
-/// What a bracket's arrangements are drawn with: a listing, which begins anew for each shape, and a place for what it hands out. They
-/// are made once for a bracket.
+/// What draws a bracket's arrangements: a listing, which begins anew for each shape, and a place for what it hands out. They are made
+/// once for a bracket.
 #[derive(Drop)]
 pub(crate) struct Lister<'a, R: Rule> {
     pub(crate) listing: Candidates<'a, R>,
@@ -19,8 +19,8 @@ pub(crate) struct Lister<'a, R: Rule> {
 }
 
 impl<'a, R: Rule> Lister<'a, R> {
-    /// A lister of a bracket by a rule. (It is large, and a function pays at its entry for the size of its locals: so who makes one does
-    /// little else, and is not inlined.)
+    /// A lister of a bracket by a rule. (It is large, and a function pays at its entry for the size of its locals. So a function that makes
+    /// one does little else, and is not inlined.)
     pub(crate) fn new(bracket: &'a Bracket, rule: &'a R) -> Lister<'a, R>
         ensures frame { result.listing.frame ≡ bracket.now }
         ensures rule { result.listing.rule ≡ rule.now }
@@ -46,7 +46,7 @@ pub(crate) trait Shapes<R: Rule> {
     fn bracket(&self) -> &Bracket
         ensures { result.now ≡ frame self.now };
 
-    /// Whether a shape with so many pairs may have an arrangement that counts: no is said only where none has.
+    /// Whether a shape with so many pairs may have an arrangement that counts: it says no only if none has.
     fn may_have(&self, pairs: usize, budget: &mut Budget) -> Result<bool, Stopped>
         requires small { 2 * pairs ≤ length (frame self.now).scores }
         requires within { budget.old.used ≤ budget.old.limit }
@@ -55,7 +55,7 @@ pub(crate) trait Shapes<R: Rule> {
             (budget.new.used ≡ budget.new.limit) }
         ensures spends { Spends budget.old budget.new };
 
-    /// Draws the first arrangement of a shape that counts: no where there is none.
+    /// Draws the first arrangement of a shape that counts. No says that there is none.
     fn first(
         &self,
         lister: &mut Lister<'_, R>,
@@ -110,7 +110,7 @@ impl<'a, R: Rule> Shapes<R> for Legal<'a, R> {
 }
 
 /// Whether a bracket has room for a shape.
-fn has_room(bracket: &Bracket, shape: Shape) -> bool
+pub(crate) fn has_room(bracket: &Bracket, shape: Shape) -> bool
     requires small { shape.pairs ≤ length bracket.now.scores }
     ensures { result ≡ fits bracket.now shape }
 {
@@ -121,7 +121,7 @@ fn has_room(bracket: &Bracket, shape: Shape) -> bool
     shape.mdps + 2 * (shape.pairs - shape.mdps) <= residents
 }
 
-/// Draws the first arrangement of a shape that counts, if the bracket has room for that shape: no where there is none.
+/// Draws the first arrangement of a shape that counts, if the bracket has room for that shape. No says that there is none.
 #[tactic(auto, using(crate::proofs::ShapeSearch::fits_by_test, crate::proofs::ShapeSearch::first_there))]
 fn first_of<R: Rule, S: Shapes<R>>(
     asked: &S,
@@ -146,8 +146,8 @@ fn first_of<R: Rule, S: Shapes<R>>(
     asked.first(lister, shape, budget)
 }
 
-/// Of the shapes with a number of pairs the one with the most moved-down players that has an arrangement that counts, of which the
-/// first is drawn.
+/// Of the shapes with a number of pairs, the one with the most moved-down players that has an arrangement that counts. Its first such
+/// arrangement is drawn.
 #[tactic(auto, using(crate::proofs::ShapeSearch::mdps_taken, crate::proofs::ShapeSearch::mdps_passed, crate::proofs::ShapeSearch::mdps_ended))]
 fn shape_with<R: Rule, S: Shapes<R>>(
     asked: &S,
@@ -182,7 +182,7 @@ fn shape_with<R: Rule, S: Shapes<R>>(
     }
 }
 
-/// The greatest shape of a bracket that has an arrangement that counts, of which the first is drawn; none where no shape has one.
+/// The greatest shape of a bracket that has an arrangement that counts, the first of which is drawn; none if no shape has one.
 pub(crate) fn greatest_shape<R: Rule, S: Shapes<R>>(
     asked: &S,
     lister: &mut Lister<'_, R>,
@@ -210,8 +210,8 @@ pub(crate) fn greatest_shape<R: Rule, S: Shapes<R>>(
     }
 }
 
-/// The greatest shape of a bracket that has a legal arrangement by a rule; none where no shape has one. (Apart from its caller, as a
-/// lister is large.)
+/// The greatest shape of a bracket that has a legal arrangement by a rule; none if no shape has one. (It stands apart from its caller,
+/// since a lister is large.)
 #[inline(never)]
 pub(crate) fn greatest_legal<R: Rule>(
     bracket: &Bracket,

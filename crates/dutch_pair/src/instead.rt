@@ -1,18 +1,21 @@
-// The best candidate of a bracket that grants a wish, in place of the one that is chosen, or why there is none (C.04.3 B.8, C.4, C.5).
-ghost use Rattle.std.specs.Prelude.{◌≡◌, ◌≤◌, IfOk, false, true};
+// The best candidate of a bracket that grants a wish, in place of the one that is chosen, or why there is none (C.04.3 B.8; B.1,
+// C.4, C.5).
+ghost use Rattle.std.specs.Prelude.{◌≡◌, ◌≤◌, ◌+◌, IfOk, Some, false, true};
 ghost use Rattle.std.specs.List.{list_any};
+ghost use Rattle.std.specs.Result.{MatchResult};
 ghost use Rattle.dutch_order.specs.Arrangements.{Fits};
-ghost use Rattle.dutch_order.specs.Steps.{Spends};
+ghost use Rattle.dutch_order.specs.Steps.{MatchDrawn, Spends};
 ghost use Rattle.dutch_pair.specs.Lower.{lower_of};
 ghost use Rattle.dutch_pair.specs.Outcomes.{IsStage};
 ghost use Rattle.dutch_pair.specs.Reached.{frame_of};
-ghost use Rattle.dutch_pair.specs.Round.{candidates_of, eligible};
+ghost use Rattle.dutch_pair.specs.Round.{candidates_of, eligible, shape_of};
 ghost use Rattle.dutch_pair.specs.Stops.{Decides};
-ghost use Rattle.dutch_pair.specs.Wishes.{IsInstead, grants};
+ghost use Rattle.dutch_pair.specs.Wishes.{IsInstead, NoneGrants, SomeGrants, grants, some_grants, with_mdps};
 
 use crate::choice::best_of;
 use crate::context::Context;
 use crate::fault::PairFault;
+use crate::greatest::has_room;
 use crate::quality::Quality;
 use crate::skipper::rules_out;
 use crate::stage::Stage;
@@ -30,9 +33,13 @@ pub enum Instead {
         candidate: Candidate,
         quality: Quality,
     },
-    /// Candidates of the shape grant it, but none of these can be chosen (C.4). This can be in a penultimate bracket alone.
+    /// Legal candidates grant it, with as many pairs as the shape, and as many moved-down players in them, or more. But none of these can
+    /// be chosen (C.4). This can be in a penultimate bracket alone.
     NoneEligible,
-    /// No candidate of the shape grants it (C.5).
+    /// No legal candidate of the shape grants it, but one with as many pairs and fewer moved-down players in them does. As many of these
+    /// as can be are paired (B.1).
+    FewerMovedDown,
+    /// No legal candidate with as many pairs grants it (C.5).
     NoneLegal,
     /// The limit was reached first, with this many steps.
     Undecided {
@@ -95,26 +102,116 @@ fn is_granted(wished: &Wished<'_>, budget: &mut Budget) -> Result<bool, Stopped>
     }
 }
 
-/// Why no candidate of a shape that can be chosen grants a wish: in a penultimate bracket others may do so.
-#[tactic(auto, using(crate::proofs::InsteadLemmas::none_legal))]
-fn why_none(wished: &Wished<'_>, budget: &mut Budget) -> Instead
-    requires none { list_any (grants wished.now.wish) (eligible wished.now.context.now.facts wished.now.context.now.reached wished.now.context.now.lower wished.now.shape) ≡ false }
+/// Whether a legal candidate grants the wish, with as many pairs as the shape and so many moved-down players in them.
+#[tactic(auto, using(crate::proofs::InsteadLemmas::few_pairs, crate::proofs::ShapeSearch::fits_by_test))]
+fn is_granted_with(wished: &Wished<'_>, mdps: usize, budget: &mut Budget) -> Result<bool, Stopped>
     requires within { budget.old.used ≤ budget.old.limit }
-    ensures { IsInstead wished.now.context.now.facts wished.now.context.now.reached wished.now.context.now.lower wished.now.shape wished.now.wish budget.old.limit result }
+    ensures answer { Decides result (some_grants wished.now.context.now.facts wished.now.context.now.reached wished.now.wish (with_mdps wished.now.shape mdps))
+        (budget.new.used ≡ budget.new.limit) }
+    ensures spends { Spends budget.old budget.new }
 {
-    if !wished.context.reached().kind().is_penultimate() {
-        return Instead::NoneLegal;
+    let shape = Shape {
+        pairs: wished.shape.pairs,
+        mdps,
+    };
+    if !has_room(wished.context.frame(), shape) {
+        return Ok(false);
     }
-    match is_granted(wished, budget) {
-        Ok(true) => Instead::NoneEligible,
-        Ok(false) => Instead::NoneLegal,
-        Err(Stopped) => Instead::Undecided { used: budget.used },
-    }
+    let wished = Wished {
+        context: wished.context,
+        shape,
+        wish: wished.wish,
+    };
+    is_granted(&wished, budget)
 }
 
-/// The best candidate that grants a wish, or why there is none.
+/// Whether a legal candidate grants the wish, with as many pairs as the shape, and from a number of moved-down players in them to below
+/// another number.
+fn is_granted_within(
+    wished: &Wished<'_>,
+    from: usize,
+    to: usize,
+    budget: &mut Budget,
+) -> Result<bool, Stopped>
+    requires within { budget.old.used ≤ budget.old.limit }
+    ensures answer { MatchDrawn result
+        (SomeGrants wished.now.context.now.facts wished.now.context.now.reached wished.now.wish wished.now.shape from to)
+        (NoneGrants wished.now.context.now.facts wished.now.context.now.reached wished.now.wish wished.now.shape from to)
+        (budget.new.used ≡ budget.new.limit) }
+    ensures spends { Spends budget.old budget.new }
+{
+    let mut mdps = to;
+    while from < mdps {
+        mdps -= 1;
+        if is_granted_with(wished, mdps, budget)? {
+            return Ok(true);
+        }
+    }
+    Ok(false)
+}
+
+/// Whether a legal candidate of the shape grants a wish that none grants that can be chosen. Elsewhere than in a penultimate bracket all
+/// of them can be chosen.
+#[tactic(auto, using(crate::proofs::InsteadLemmas::none_legal))]
+fn is_barred(wished: &Wished<'_>, budget: &mut Budget) -> Result<bool, Stopped>
+    requires none { list_any (grants wished.now.wish) (eligible wished.now.context.now.facts wished.now.context.now.reached wished.now.context.now.lower wished.now.shape) ≡ false }
+    requires within { budget.old.used ≤ budget.old.limit }
+    ensures answer { Decides result (list_any (grants wished.now.wish) (candidates_of wished.now.context.now.facts wished.now.context.now.reached wished.now.shape))
+        (budget.new.used ≡ budget.new.limit) }
+    ensures spends { Spends budget.old budget.new }
+{
+    if !wished.context.reached().kind().is_penultimate() {
+        return Ok(false);
+    }
+    is_granted(wished, budget)
+}
+
+/// Whether a legal candidate grants the wish, with as many pairs as the bracket's shape and more moved-down players in them. Elsewhere than
+/// in a penultimate bracket there is none, since it could be chosen.
+#[tactic(auto, using(crate::proofs::InsteadLemmas::none_more))]
+fn is_granted_above(wished: &Wished<'_>, budget: &mut Budget) -> Result<bool, Stopped>
+    requires greatest { shape_of wished.now.context.now.facts wished.now.context.now.reached wished.now.context.now.lower ≡ Some wished.now.shape }
+    requires within { budget.old.used ≤ budget.old.limit }
+    ensures answer { MatchDrawn result
+        (SomeGrants wished.now.context.now.facts wished.now.context.now.reached wished.now.wish wished.now.shape (wished.now.shape.mdps + 1) (wished.now.shape.pairs + 1))
+        (NoneGrants wished.now.context.now.facts wished.now.context.now.reached wished.now.wish wished.now.shape (wished.now.shape.mdps + 1) (wished.now.shape.pairs + 1))
+        (budget.new.used ≡ budget.new.limit) }
+    ensures spends { Spends budget.old budget.new }
+{
+    if !wished.context.reached().kind().is_penultimate() {
+        return Ok(false);
+    }
+    let shape = wished.shape;
+    is_granted_within(wished, shape.mdps + 1, shape.pairs + 1, budget)
+}
+
+/// Why no candidate of a bracket's shape that can be chosen grants a wish: the first reason that stands.
+#[tactic(auto, using(crate::proofs::InsteadLemmas::none_upto, crate::proofs::InsteadLemmas::none_at_all))]
+fn why_none(wished: &Wished<'_>, budget: &mut Budget) -> Result<Instead, Stopped>
+    requires greatest { shape_of wished.now.context.now.facts wished.now.context.now.reached wished.now.context.now.lower ≡ Some wished.now.shape }
+    requires none { list_any (grants wished.now.wish) (eligible wished.now.context.now.facts wished.now.context.now.reached wished.now.context.now.lower wished.now.shape) ≡ false }
+    requires within { budget.old.used ≤ budget.old.limit }
+    ensures answer { MatchResult result
+        (IsInstead wished.now.context.now.facts wished.now.context.now.reached wished.now.context.now.lower wished.now.shape wished.now.wish budget.old.limit)
+        (λ _. budget.new.used ≡ budget.new.limit) }
+    ensures spends { Spends budget.old budget.new }
+{
+    if is_barred(wished, budget)? {
+        return Ok(Instead::NoneEligible);
+    }
+    if is_granted_within(wished, 0, wished.shape.mdps, budget)? {
+        return Ok(Instead::FewerMovedDown);
+    }
+    if is_granted_above(wished, budget)? {
+        return Ok(Instead::NoneEligible);
+    }
+    Ok(Instead::NoneLegal)
+}
+
+/// The best candidate of a bracket's shape that grants a wish, or why there is none.
 #[tactic(auto, using(crate::proofs::InsteadLemmas::none_granting), unfolding(crate::specs::Aims::best_wished, crate::specs::Wishes::best_granting))]
 fn look_for(alloc: Global, wished: &Wished<'_>, budget: &mut Budget) -> Result<Instead, PairFault>
+    requires greatest { shape_of wished.now.context.now.facts wished.now.context.now.reached wished.now.context.now.lower ≡ Some wished.now.shape }
     requires within { budget.old.used ≤ budget.old.limit }
     ensures { IfOk result (IsInstead wished.now.context.now.facts wished.now.context.now.reached wished.now.context.now.lower wished.now.shape wished.now.wish budget.old.limit) }
 {
@@ -124,7 +221,10 @@ fn look_for(alloc: Global, wished: &Wished<'_>, budget: &mut Budget) -> Result<I
             candidate: best.candidate,
             quality: best.quality,
         }),
-        Step::End => Ok(why_none(wished, budget)),
+        Step::End => match why_none(wished, budget) {
+            Ok(reason) => Ok(reason),
+            Err(Stopped) => Ok(Instead::Undecided { used: budget.used }),
+        },
         Step::Undecided => Ok(Instead::Undecided { used: budget.used }),
     }
 }

@@ -25,7 +25,7 @@ use trf16::Colour;
 pub enum Item {
     /// The PSD (C.6).
     Psd,
-    /// The pairs of the next bracket, and for as many the least PSD (C.7).
+    /// The pairs of the next bracket, and the least PSD with as many pairs (C.7).
     NextBracket,
     /// Players in pairs with a topscorer who get a colour difference over +2 or under -2 (C.8).
     WideDifferences,
@@ -72,7 +72,7 @@ pub const ITEMS: [Item; 14] = [
 ];
 
 impl Quality {
-    /// How it stands to another one by an item alone: `Less` is in front.
+    /// How it compares with another one by an item alone: `Less` is in front.
     fn compared_in(&self, other: &Quality, item: Item) -> Ordering
         ensures { result ≡ compared_in item (quality_in self.now) (quality_in other.now) }
     {
@@ -99,7 +99,7 @@ impl Quality {
         }
     }
 
-    /// The first item in which it differs from another one; none where all are equal (C.6 to C.19).
+    /// The first item in which it differs from another one; none if all are equal (C.6 to C.19).
     #[tactic(auto, using(crate::proofs::ItemOrder::none_to_come))]
     pub fn first_difference(&self, other: &Quality) -> Option<Item>
         ensures { result ≡ first_difference (quality_in self.now) (quality_in other.now) }

@@ -1,6 +1,6 @@
 // Laws over the definitions: of qualities, completable players, shapes, scoregroups, boards and rounds; and laws that give what the
 // calls on a bracket ask for.
-ghost use Rattle.std.specs.Prelude.{◌≡◌, ◌≤◌, ◌⊎◌, ◌↔◌, ℕ, Bool, IfSome, List, Ok, Option, None, Some, false, length, true};
+ghost use Rattle.std.specs.Prelude.{◌≡◌, ◌≤◌, ◌⊎◌, ◌↔◌, ℕ, Bool, IfSome, List, ◌++◌, Ok, Option, None, Some, false, length, true};
 ghost use Rattle.trf16.specs.declared.limits.TheConstants.{MOST_ROUNDS};
 ghost use Rattle.trf16.specs.Round.{CanBePaired};
 ghost use Rattle.trf16.specs.Sheet.{Sheet};
@@ -18,6 +18,8 @@ ghost use Rattle.dutch_order.specs.Arrangements.{Fits, Frame, down};
 ghost use Rattle.dutch_order.specs.Candidates.{Candidate};
 ghost use Rattle.dutch_order.specs.Keys.{IsIn};
 ghost use Rattle.dutch_order.specs.declared.bracket.Shape.{Shape};
+ghost use Rattle.dutch_pair.specs.DeadEnds.{HasNoPairOf, NoTwoMayMeet, PairOut, moved_down};
+ghost use Rattle.dutch_pair.specs.declared.reached.BracketKind.TheVariants.{Collapsed, Penultimate};
 ghost use Rattle.dutch_pair.specs.Eligible.{HasCandidate};
 ghost use Rattle.dutch_pair.specs.Items.{DifferFirstIn, IsInFrontIn, first_difference, players_counted, who_counts};
 ghost use Rattle.dutch_pair.specs.declared.items.Item.{Item};
@@ -25,7 +27,7 @@ ghost use Rattle.dutch_pair.specs.Lower.{lower_of};
 ghost use Rattle.dutch_pair.specs.NextBracket.{IsOfBracket, IsNext, quality};
 ghost use Rattle.dutch_pair.specs.Outcomes.{IsStage, shown, visit_of};
 ghost use Rattle.dutch_pair.specs.Reached.{IsAbove, Reached, frame_of};
-ghost use Rattle.dutch_pair.specs.Round.{Pairing, candidates_of, eligible, first_group, round, scoregroups, shape_of};
+ghost use Rattle.dutch_pair.specs.Round.{Pairing, Visit, candidates_of, downfloaters, eligible, first_group, round, scoregroups, shape_of};
 ghost use Rattle.dutch_pair.specs.Shapes.{IsGreater, fits, has_member};
 ghost use Rattle.dutch_pair.specs.Completion.{Completable, can_complete, most};
 
@@ -43,7 +45,7 @@ pub fn better_is_an_order()
     ensures total { (a b : Quality) → (a ≡ b) ⊎ ((is_better a b ≡ true) ⊎ (is_better b a ≡ true)) }
 {}
 
-/// One quality is better than another exactly where it stands in front at the first item in which they differ: they differ in it, and in
+/// One quality is better than another exactly if it stands in front at the first item in which they differ: they differ in it, and in
 /// none that counts before it. Two that differ in none are the same, and neither is better.
 pub fn better_at_the_first_difference()
     ensures better { (a b : Quality) → (is_better a b ≡ true) ↔ IsSomeAnd (first_difference a b) (λ item. IsInFrontIn item a b) }
@@ -58,7 +60,7 @@ pub fn as_many_count_as_the_item_says()
         → length (who_counts facts reached draw item) ≡ players_counted item (quality facts reached next draw) }
 {}
 
-/// Players are completable exactly where the test says so.
+/// Players are completable exactly if the test says so.
 pub fn completable_by_test()
     ensures { (meets : ℕ → ℕ → Bool) (may_be_left : ℕ → Bool) (players : List ℕ)
         → Completable meets may_be_left players ↔ (can_complete meets may_be_left players ≡ true) }
@@ -84,7 +86,22 @@ pub fn at_most_one_has_the_bye()
     ensures { (facts : Facts) (pairing : Pairing) → (round facts).pairing ≡ Some pairing → length pairing.bye ≤ 1 }
 {}
 
-/// The boards of a round can be the next round of the accepted report that it is paired from, where a total of rounds that is asked
+/// No two players who were moved down into a bracket that a round reaches may meet, but in the collapsed one (A.9).
+pub fn no_two_moved_down_may_meet()
+    ensures { (facts : Facts) (visit : Visit) → IsIn visit (round facts).reached → ¬ (visit.bracket.kind ≡ Collapsed) → NoTwoMayMeet facts (moved_down visit.bracket) }
+{}
+
+/// No list of pairs that pairs out the players whom a penultimate bracket leaves over, with all players below it, has a pair of two whom
+/// the bracket leaves over (A.9).
+pub fn no_two_left_by_the_penultimate_are_paired(field: &Field)
+    ensures { (visit : Visit) (pairs : List (ℕ × ℕ)) → IsIn visit (round field.now).reached → visit.bracket.kind ≡ Penultimate
+        → PairOut field.now (downfloaters field.now visit.bracket visit.lists ++ lower_of field.now visit.bracket) pairs
+        → HasNoPairOf (downfloaters field.now visit.bracket visit.lists) pairs }
+{
+    scores_do_not_ascend(field);
+}
+
+/// The boards of a round can be the next round of the accepted report that it is paired from, if a total of rounds that is asked
 /// for is within the limit.
 pub fn boards_can_be_the_next_round()
     ensures { (bytes : List ℕ) (bye : ℕ) (sheet : Sheet) (asked : Option ℕ) (initial : Option Colour) (facts : Facts) (pairing : Pairing)
@@ -93,7 +110,7 @@ pub fn boards_can_be_the_next_round()
 {}
 
 /// The shape of a bracket has room in it and a candidate that can be chosen, and no shape with room and such a candidate is greater;
-/// where there is none, no shape has both (C.5, B.1).
+/// if the bracket has no shape, no shape has both (C.5, B.1).
 pub fn the_shape_is_the_greatest()
     ensures room { (facts : Facts) (reached : Reached) (lower : List ℕ) (s : Shape) → shape_of facts reached lower ≡ Some s → Fits (frame_of facts reached) s }
     ensures candidate { (facts : Facts) (reached : Reached) (lower : List ℕ) (s : Shape) → shape_of facts reached lower ≡ Some s
@@ -104,7 +121,7 @@ pub fn the_shape_is_the_greatest()
         → Fits (frame_of facts reached) t → ¬ (has_member (eligible facts reached lower t) ≡ true) }
 {}
 
-/// A bracket has room for a shape exactly where the test says so.
+/// A bracket has room for a shape exactly if the test says so.
 pub fn room_by_test()
     ensures { (frame : Frame) (shape : Shape) → Fits frame shape ↔ (fits frame shape ≡ true) }
 {}
@@ -139,8 +156,8 @@ pub fn the_first_scoregroup_is_next(field: &Field, reached: &Reached, lower: &[u
     ensures { IsNext field.now reached.now (first_group field.now (scoregroups field.now lower.now)) }
 {}
 
-/// A bracket of which all stages of a round tell stands above the players below it, and above them it has its shape and a candidate: whoever
-/// has asked for the stages can ask for the choice in it, and for the quality of each of its candidates.
+/// The bracket of a stage of a round stands above the players below it, and above them it has its shape and a candidate. So whoever has
+/// asked for the stages can ask for the choice in it, and for the quality of each of its candidates.
 pub fn a_stage_stands_above_the_lower(field: &Field, stage: &Stage)
     requires { IsStage field.now stage.now }
     ensures above { IsAbove field.now stage.now.reached (lower_of field.now stage.now.reached) }

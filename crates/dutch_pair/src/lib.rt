@@ -1,14 +1,15 @@
 //! Pairings of a round by the FIDE (Dutch) System (C.04.3): who can be paired out, and who meets whom, specified by lists of pairs.
 //!
-//! `pair_round` gives the boards of the round that the definitions name, or that there is no pairing, exactly where the present players
+//! `pair_round` gives the boards of the round that the definitions name, or that there is no pairing, which it says only if the present players
 //! cannot be paired out. `bracket_at` gives one bracket of that round, `stages` all of them; `completes`, `choose`, `boards` and
 //! `lookahead::quality` give the parts. `laws` and its neighbours hold what is proved of the definitions alone.
 //!
-//! Each bracket may make so many steps as its budget has. Where they end the answer is undecided, and never another pairing; that some
-//! number of steps decides a bracket is not proved.
+//! Each bracket may make so many steps as its budget has. If they are used up, the answer is undecided, and never another pairing. It is not
+//! proved that some number of steps decides a bracket.
 //!
 //! Lists are arrays with room for 1,024 numbers on the stack, some 2 MiB of it for a round. On the heap are the boards, the last 64
-//! values of C.7, and for a bracket some bits for each two players. Where memory is refused that is the answer.
+//! values of C.7, and for a bracket some bits for each two players. If memory is refused, a call says so; only a value of C.7 is
+//! then merely not kept.
 //!
 //! To mind: players are named by seat in a field, by number from 1 in a bracket, and by start rank on boards alone.
 #![tactic(auto)]

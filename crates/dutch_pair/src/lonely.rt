@@ -1,4 +1,4 @@
-// Players who miss their preference whoever of those left is their opponent, once S1R is chosen (C.04.3 C.10).
+// Once S1R is chosen: players who miss their preference, whoever of those left becomes their opponent (C.04.3 C.10).
 ghost use Rattle.std.specs.Prelude.{◌≡◌, ◌+◌, ◌-◌, ◌<◌, ◌≤◌, ◌||◌, ◌++◌, ℕ, not, length, filter, max};
 ghost use Rattle.std.specs.List.{list_any, AllByRecursion};
 ghost use Rattle.arrayvec.specs.ArrayVec.{array_vec_len};

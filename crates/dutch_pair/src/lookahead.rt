@@ -104,7 +104,7 @@ pub(crate) fn value_below(
     value_of(above.field, &next_bracket(above, down), budget)
 }
 
-/// The value of the next bracket for a candidate (C.7): in ordinary brackets alone.
+/// The value of the next bracket for a candidate (C.7), which counts only in ordinary brackets.
 #[tactic(auto, using(crate::proofs::NextBrackets::left_by_candidate))]
 fn next_value(
     above: &Above<'_>,
@@ -124,8 +124,8 @@ fn next_value(
     }
 }
 
-/// The quality of a candidate of a bracket above a next lower scoregroup (C.6 to C.19): none where the budget's limit was reached
-/// first. A step is one number tried at one place in the next bracket. It takes no memory.
+/// The quality of a candidate of a bracket above a next lower scoregroup (C.6 to C.19); none if the budget's limit was reached first. A step
+/// is one number tried at one place in the next bracket. It takes no memory.
 #[tactic(auto, unfolding(crate::specs::NextBracket::quality, crate::specs::Quality::quality_with))]
 pub fn quality(
     field: &Field,

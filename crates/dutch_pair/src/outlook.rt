@@ -1,5 +1,5 @@
-// The best that the next bracket can be, found before any candidate is looked at (C.04.3 C.7): by ghosts where the bracket's residents
-// have one score, and else by counting players.
+// The best that the next bracket can be, found before any candidate is looked at (C.04.3 C.7): by ghosts if the bracket's residents have one
+// score, otherwise by counting players.
 ghost use Rattle.std.specs.Prelude.{◌≡◌, ◌≤◌, []};
 ghost use Rattle.std.specs.Result.{MatchResult};
 ghost use Rattle.dutch_order.specs.Arrangements.{Fits};
@@ -20,9 +20,9 @@ use dutch_order::{Budget, Filling, Numbers, Shape, Stopped};
 /// What the next bracket can be at best.
 #[derive(Drop)]
 pub(crate) struct Outlook {
-    /// Where the Limbo has the scores of the first one, if that is known.
+    /// What it can be if the Limbo has the scores of the first one; none if that is not known.
     pub(crate) first: Option<NextValue>,
-    /// In any case.
+    /// What it can be in any case.
     pub(crate) any: NextValue,
 }
 

@@ -1,8 +1,8 @@
-// Which numbers of a bracket suit each other, read once: they may meet, and neither misses his preference (C.04.3 C.1, C.3, C.10).
+// Which numbers of a bracket suit each other, read once: they may meet, and neither misses their preference (C.04.3 C.1, C.3, C.10).
 //
-// A bit for each ordered pair of numbers, row by row, so that what it takes follows the bracket's size. A row takes the pairs with the
-// numbers before it from the rows that are there, so that each pair is looked at once.
-ghost use Rattle.std.specs.Prelude.{◌≡◌, ◌+◌, ◌*◌, ◌<◌, ◌≤◌, false, length, IfOk, MatchOption};
+// There is a bit for each ordered pair of numbers, row by row, so the memory that it takes follows the bracket's size. A row takes the pairs
+// with the numbers before it from the rows that are there, so each pair is looked at once.
+ghost use Rattle.std.specs.Prelude.{◌≡◌, ◌+◌, ◌-◌, ◌*◌, ◌/◌, ◌<◌, ◌≤◌, false, length, IfOk, MatchOption};
 ghost use Rattle.dutch_order.specs.declared.numbers.TheConstants.{LIMIT};
 ghost use Rattle.dutch_pair.specs.ColourFloors.{suits};
 ghost use Rattle.dutch_pair.specs.PairFacts.{place_of, NotedUpto, KnowsPairs, HasRoom};
@@ -109,7 +109,7 @@ fn empty(alloc: Global, context: &Context<'_>) -> Result<Vec<u64>, AllocError>
 }
 
 impl<'a> PairFacts<'a> {
-    /// Looks at all pairs of numbers of a bracket, a step a pair: none where the budget's limit would be passed.
+    /// Looks at all pairs of numbers of a bracket, a step for each pair; none if the budget's limit would be passed.
     pub(crate) fn read(
         alloc: Global,
         context: &'a Context<'a>,
@@ -117,6 +117,8 @@ impl<'a> PairFacts<'a> {
     ) -> Result<Option<PairFacts<'a>>, PairFault>
         requires within { budget.old.used ≤ budget.old.limit }
         ensures answer { IfOk result (λ read. MatchOption read (budget.new.used ≡ budget.new.limit) (λ facts. facts ≡ context.now)) }
+        ensures counts { let n = length context.now.reached.seats
+            in IfOk result (λ read. MatchOption read (budget.old.limit < budget.old.used + n * (n - 1) / 2) (λ _. budget.new.used ≡ budget.old.used + n * (n - 1) / 2)) }
         ensures spends { Spends budget.old budget.new }
     {
         let count = context.len();

@@ -31,7 +31,7 @@ impl Model for NextValue {
 }
 
 impl NextValue {
-    /// The one value of all candidates where C.7 does not count.
+    /// The one value of all candidates if C.7 does not count.
     pub(crate) fn none() -> NextValue
         ensures { result ≡ no_value }
     {
@@ -54,8 +54,8 @@ impl NextValue {
     }
 }
 
-/// The quality of a candidate: the items in the order in which they count. The smaller goes first, of the pairs of the next bracket
-/// the greater.
+/// The quality of a candidate: the items in the order in which they count. The smaller goes first; of the pairs of the next
+/// bracket the greater.
 #[derive(Debug, Default, Drop, PartialEq, Eq, PartialOrd, Ord)]
 pub struct Quality {
     pub(crate) psd: Numbers,
@@ -77,7 +77,7 @@ pub struct Quality {
 
 impl Quality {
     /// Whether this quality is better than another one.
-    #[tactic(auto, unfolding(crate::specs::Quality::is_better))]
+    #[tactic(auto, using(crate::proofs::InTurn::better_in_turn))]
     pub fn is_better(&self, other: &Quality) -> bool
         ensures { result ≡ is_better (quality_in self.now) (quality_in other.now) }
     {
@@ -108,7 +108,7 @@ impl Quality {
         &self.psd
     }
 
-    /// C.7: how many pairs the next bracket can have; 0 where C.7 does not count.
+    /// C.7: how many pairs the next bracket can have; 0 if C.7 does not count.
     pub fn next_pairs(&self) -> usize
         ensures { result ≡ (quality_in self.now).next_pairs }
     {
@@ -216,7 +216,7 @@ pub(crate) struct Room {
     pub(crate) pool: Numbers,
 }
 
-/// Fills a quality with the items of a candidate by seats, but for those of C.6, C.7, C.10 and C.11, which stay.
+/// Fills a quality with the items of a candidate by seats, except those of C.6, C.7, C.10 and C.11, which stay.
 #[tactic(auto, using(crate::proofs::Places::length_differences), unfolding(crate::specs::Quality::quality_with, crate::specs::QualityIn::with_others))]
 pub(crate) fn fill_others(field: &Field, candidate: &Seated, quality: &mut Quality)
     requires { HasSeats field.now candidate.now }

@@ -39,8 +39,8 @@ impl BracketKind {
 /// Seats of players.
 pub type Seats = ArrayVec<u16, LIMIT>;
 
-/// A bracket that a round reaches: the players moved down and then the residents, all by rank. A player's number in it is his
-/// place, from 1.
+/// A bracket that a round reaches: the players moved down and then the residents, all by rank. A player's number in it is
+/// their place, from 1.
 #[derive(Debug, Drop)]
 pub struct Reached {
     pub(crate) number: u16,

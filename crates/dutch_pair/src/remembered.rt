@@ -1,7 +1,8 @@
 // What the next bracket can be (C.04.3 C.7), remembered by downfloaters, specified by the value of each list and by which lists are kept.
 //
 // Candidates of a bracket that leave over the same players have one value, so it is looked for once. The values of the last 64 lists
-// that were used are kept, in a cache that is made once for a bracket. Where it cannot grow, the value is looked for each time.
+// that were used are kept, in a cache that is made once for a bracket. If it cannot grow, this is noted, and the value is looked for
+// each time.
 ghost use Rattle.std.specs.Prelude.{◌≡◌, ◌≤◌, true, false, [], length, map, take, IfOk, ◌⊎◌, if◌then◌else◌, Some, None};
 ghost use Rattle.std.specs.Map.{lookup};
 ghost use Rattle.std.specs.Result.{MatchResult};
@@ -48,6 +49,8 @@ pub struct LookAhead<'a> {
     reached: &'a Reached,
     next: Seats,
     values: Values,
+    // memory was refused for a value
+    is_short: bool,
     // the downfloaters who are asked about, filled anew for each question
     key: Numbers,
 }
@@ -57,7 +60,7 @@ impl<'a> Model for LookAhead<'a> {
 
     ghost Value = { Remembered };
 
-    ghost view = { λ a. record { facts = a.field.now; reached = a.reached.now; next = a.next.items; kept = lists_kept a.values.entries } };
+    ghost view = { λ a. record { facts = a.field.now; reached = a.reached.now; next = a.next.items; kept = lists_kept a.values.entries; is_short = a.is_short } };
 
     ghost invariant = { λ a. AreValues a.field.now a.reached.now a.next.items a.values };
 }
@@ -90,7 +93,7 @@ fn recalled(values: &mut Values, down: &Numbers) -> Option<NextValue>
     }
 }
 
-/// Puts the value that is kept for downfloaters, who are then the last used, into a quality, with no copy between: no where none is
+/// Puts the value that is kept for downfloaters, who are then the last used, into a quality, with no copy between. No says that none is
 /// kept.
 fn put_recalled(values: &mut Values, down: &Numbers, quality: &mut Quality) -> bool
     ensures put { lookup (is_key down.now) values.old.entries ≡ (if result then Some (next_in (quality_in quality.new)) else None) }
@@ -103,13 +106,14 @@ fn put_recalled(values: &mut Values, down: &Numbers, quality: &mut Quality) -> b
     true
 }
 
-/// Keeps a value for downfloaters. Where memory is refused nothing changes.
-fn keep(values: &mut Values, down: Numbers, value: NextValue)
-    ensures { (values.new ≡ lru_cache (put_entries is_key values.old down value) values.old.cap) ⊎ (values.new ≡ values.old) }
+/// Keeps a value for downfloaters. If memory is refused, nothing changes, and this is noted.
+fn keep(values: &mut Values, down: Numbers, value: NextValue, is_short: &mut bool)
+    ensures { ((values.new ≡ lru_cache (put_entries is_key values.old down value) values.old.cap) × (is_short.new ≡ is_short.old))
+        ⊎ ((values.new ≡ values.old) × (is_short.new ≡ true)) }
 {
     match values.put(down, value) {
         Ok(_) => {}
-        Err(_) => {}
+        Err(_) => *is_short = true,
     }
 }
 
@@ -134,7 +138,7 @@ impl<'a> LookAhead<'a> {
         requires of { IsOf field.now reached.now }
         requires ordinary { reached.now.kind ≡ Ordinary }
         requires next { IsNext field.now reached.now next.now }
-        ensures { IfOk result (λ ahead. ahead ≡ record { facts = field.now; reached = reached.now; next = next.now; kept = [] }) }
+        ensures { IfOk result (λ ahead. ahead ≡ record { facts = field.now; reached = reached.now; next = next.now; kept = []; is_short = false }) }
     {
         let mut seats = Seats::new();
         push_all(next, &mut seats);
@@ -143,6 +147,7 @@ impl<'a> LookAhead<'a> {
             reached,
             next: seats,
             values: no_values(alloc)?,
+            is_short: false,
             key: Numbers::new(),
         })
     }
@@ -164,15 +169,15 @@ impl<'a> LookAhead<'a> {
         match value_below(&above, down, budget) {
             Ok(value) => {
                 let key = copied(down);
-                keep(&mut self.values, key, value.copied());
+                keep(&mut self.values, key, value.copied(), &mut self.is_short);
                 told(value)
             }
             Err(Stopped) => Look::Undecided,
         }
     }
 
-    /// What the next bracket can be for downfloaters, by their numbers in the bracket. A value that is kept takes no step. Where memory
-    /// is refused the value is not kept.
+    /// What the next bracket can be for downfloaters, by their numbers in the bracket. A value that is kept takes no step. If memory
+    /// is refused, the value is not kept, which `is_short` tells from then on.
     pub fn value(&mut self, down: &[u16], budget: &mut Budget) -> Look
         requires down { AreLeft self.old.reached down.now }
         requires within { budget.old.used ≤ budget.old.limit }
@@ -190,7 +195,7 @@ impl<'a> LookAhead<'a> {
         }
     }
 
-    /// Puts the value that is kept for downfloaters into a quality: no where none is kept.
+    /// Puts the value that is kept for downfloaters into a quality. No says that none is kept.
     fn put_kept(&mut self, down: &[u16], quality: &mut Quality) -> bool
         requires { AreLeft self.old.reached down.now }
         ensures put { result ≡ true → next_in (quality_in quality.new) ≡ value_below self.old.facts self.old.reached self.old.next down.now }
@@ -226,6 +231,13 @@ impl<'a> LookAhead<'a> {
         }
         fill_quality(field, reached.seats(), candidate, room);
         Ok(())
+    }
+
+    /// Whether memory was refused for a value, so that it was not kept.
+    pub fn is_short(&self) -> bool
+        ensures { result ≡ self.now.is_short }
+    {
+        self.is_short
     }
 
     /// How many values are kept.

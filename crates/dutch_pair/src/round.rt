@@ -7,7 +7,7 @@ use crate::fault::PairFault;
 use crate::reached::{Reached, Seats};
 use crate::stage::Stage;
 use crate::walk::{Turn, Walk, everybody};
-use dutch_order::{Shape, Stopped};
+use dutch_order::{Budget, Shape, Stopped};
 use dutch_player::Field;
 use std::alloc::Global;
 
@@ -53,22 +53,23 @@ pub fn pair_round(alloc: Global, field: &Field, limit: u64) -> Result<Outcome, P
     ensures completion { IfOk result (TellsCompletion field.now) }
 {
     let all = everybody(field);
-    let mut walk = match Walk::start(field, &all, limit) {
+    let mut budget = Budget { limit, used: 0 };
+    let mut walk = match Walk::start(field, &all, &mut budget) {
         Ok(Some(walk)) => walk,
         Ok(None) => return Ok(Outcome::NoPairing),
         Err(Stopped) => return Ok(Outcome::Undecided {
             bracket: 1,
-            used: limit,
+            used: budget.used,
         }),
     };
     let mut pairs = Vec::new(alloc);
     loop {
-        match walk.go_on(alloc)? {
+        match walk.go_on(alloc, &mut budget)? {
             Turn::Settled(stage) => stage.put_pairs(field, &mut pairs)?,
             Turn::Ended(bye) => return Ok(Outcome::Paired(boards(alloc, field, &pairs, &bye)?)),
             Turn::Undecided => return Ok(Outcome::Undecided {
                 bracket: walk.number(),
-                used: limit,
+                used: budget.used,
             }),
         }
     }
@@ -87,60 +88,62 @@ pub fn bracket_at(
     ensures completion { IfOk result (TellsCompletionAt field.now) }
 {
     let all = everybody(field);
-    let mut walk = match Walk::start(field, &all, limit) {
+    let mut budget = Budget { limit, used: 0 };
+    let mut walk = match Walk::start(field, &all, &mut budget) {
         Ok(Some(walk)) => walk,
         Ok(None) => return Ok(BracketAt::NoPairing),
         Err(Stopped) => return Ok(BracketAt::Undecided {
             bracket: 1,
-            used: limit,
+            used: budget.used,
         }),
     };
     loop {
         if walk.number() == number {
-            match walk.bracket() {
+            match walk.bracket(&mut budget) {
                 Ok(Some((reached, shape))) => return Ok(BracketAt::Bracket { reached, shape }),
                 Ok(None) => return Ok(BracketAt::NotReached),
                 Err(Stopped) => {
                     return Ok(BracketAt::Undecided {
                         bracket: number,
-                        used: limit,
+                        used: budget.used,
                     });
                 }
             }
         }
-        match walk.go_on(alloc)? {
+        match walk.go_on(alloc, &mut budget)? {
             Turn::Settled(_stage) => {}
             Turn::Ended(_bye) => return Ok(BracketAt::NotReached),
             Turn::Undecided => return Ok(BracketAt::Undecided {
                 bracket: walk.number(),
-                used: limit,
+                used: budget.used,
             }),
         }
     }
 }
 
-/// The stages of the next round of a field, as `pair_round` pairs it, in the same steps.
+/// The stages of the next round of a field, as `pair_round` pairs it.
 #[tactic(auto, using(crate::proofs::NoDeadEnd::not_paired))]
 pub fn stages(alloc: Global, field: &Field, limit: u64) -> Result<AllStages, PairFault>
     ensures { IfOk result (AreStages field.now limit) }
 {
     let all = everybody(field);
-    let mut walk = match Walk::start(field, &all, limit) {
+    let mut budget = Budget { limit, used: 0 };
+    let mut walk = match Walk::start(field, &all, &mut budget) {
         Ok(Some(walk)) => walk,
         Ok(None) => return Ok(AllStages::NoPairing),
         Err(Stopped) => return Ok(AllStages::Undecided {
             bracket: 1,
-            used: limit,
+            used: budget.used,
         }),
     };
     let mut stages = Vec::new(alloc);
     loop {
-        match walk.go_on(alloc)? {
+        match walk.go_on(alloc, &mut budget)? {
             Turn::Settled(stage) => stages.push(stage)?,
             Turn::Ended(bye) => return Ok(AllStages::Paired { stages, bye }),
             Turn::Undecided => return Ok(AllStages::Undecided {
                 bracket: walk.number(),
-                used: limit,
+                used: budget.used,
             }),
         }
     }

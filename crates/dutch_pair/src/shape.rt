@@ -30,8 +30,8 @@ impl<'a, 'b> Shapes<ByNumber<'b>> for Context<'a> {
         self.frame()
     }
 
-    // Where as many downfloaters as so many pairs leave in a penultimate bracket cannot be paired out with the lower players, whoever they
-    // are, no candidate can be chosen (C.4).
+    // So many pairs leave so many downfloaters. If that many cannot be paired out with the lower players, whoever they are, no candidate of a
+    // penultimate bracket can be chosen (C.4).
     fn may_have(&self, pairs: usize, budget: &mut Budget) -> Result<bool, Stopped>
         requires small { 2 * pairs ≤ length (frame_of self.now.facts self.now.reached).scores }
         requires within { budget.old.used ≤ budget.old.limit }
@@ -57,7 +57,7 @@ impl<'a, 'b> Shapes<ByNumber<'b>> for Context<'a> {
 }
 
 /// The shape of a bracket of a field above all lower seats by rank: of the shapes that have a candidate, the one with the most pairs,
-/// and for them with the most moved-down players. None is answered where none has one.
+/// and for them with the most moved-down players. The answer is none if no shape has one.
 #[inline(never)]
 #[tactic(auto, unfolding(crate::specs::Round::shape_of))]
 pub(crate) fn shape_of(context: &Context<'_>, budget: &mut Budget) -> Result<Option<Shape>, Stopped>

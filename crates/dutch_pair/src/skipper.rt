@@ -1,9 +1,9 @@
 // What a pass over the candidates of a shape may skip (C.04.3 B.8), specified by the candidates that are of no interest.
 //
-// A candidate is of no interest where it does not grant what is wished, where the aim of the pass is better than it, or where it is not
-// better than the candidate that is kept. The first holds of each candidate with a beginning that rules the wish out; the others hold of
-// each where they hold of a floor, a quality that none of them is better than. With a wish a floor serves that is one only for those that
-// grant it: it counts the pair that is wished, or the one who is to go down, from the first question on.
+// A candidate is of no interest if it does not grant what is wished, if the aim of the pass is better than it, or if it is not better than
+// the candidate that is kept. The first is true of each candidate with a beginning that rules the wish out. The others are true of each
+// candidate with a beginning if they are true of its floor, a quality that none of these candidates is better than. With a wish, a floor is
+// enough that holds only for those that grant it: it counts the pair that is wished, or the one who is to go down, from the first question on.
 ghost use Rattle.std.specs.Prelude.{◌≡◌, ◌⊎◌, IfSome, true, false};
 ghost use Rattle.dutch_order.specs.Arrangements.{Arrangement, Fits};
 ghost use Rattle.dutch_order.specs.Keys.{IsIn};
@@ -39,7 +39,7 @@ pub(crate) struct Pass<'a> {
     ghost basis: { IsBasis context.now.facts context.now.reached context.now.lower shape floors },
 }
 
-/// Fills a quality that no candidate with a beginning is better than: no where none is known.
+/// Fills a quality that no candidate with a beginning is better than. No says that none is known.
 fn fill_floor(pass: &Pass<'_>, prefix: &Prefix<'_>, room: &mut Room) -> bool
     ensures { result ≡ true → (a : Arrangement) → IsIn a (candidates_of pass.now.context.now.facts pass.now.context.now.reached pass.now.shape) → Begins prefix.now a
         → is_better (quality_of pass.now.context.now.facts pass.now.context.now.reached pass.now.context.now.lower a) (quality_in room.new.quality) ≡ false }
@@ -118,8 +118,8 @@ fn fill_floor_knowing(pass: &Pass<'_>, known: Known, prefix: &Prefix<'_>, room: 
     pass.floors.floor_knowing(known, prefix, room)
 }
 
-/// What is known of each candidate that grants a wish, or of a pair in its order or in the other one. Nothing is where it names a number
-/// that the bracket has not.
+/// What is known of each candidate that grants a wish, or of a pair in its order or in the other one. Nothing is known if the wish names a
+/// number that the bracket does not have.
 #[tactic(auto, using(crate::proofs::KnownByWish::seat_inside, crate::proofs::KnownByWish::they_meet, crate::proofs::KnownByWish::goes_down))]
 pub(crate) fn known_by_wish(context: &Context<'_>, wish: Wish) -> Option<Known>
     ensures seats { IfSome result (AreKnown context.now.facts) }
@@ -143,7 +143,7 @@ pub(crate) fn known_by_wish(context: &Context<'_>, wish: Wish) -> Option<Known>
     }
 }
 
-/// The same where something may be wished.
+/// The same if there may be no wish.
 pub(crate) fn known_with(context: &Context<'_>, wish: Option<Wish>) -> Option<Known>
     ensures { IfSome result (AreKnown context.now.facts) }
 {

@@ -1,5 +1,5 @@
 // A bracket that a round reaches, as it is settled: its choice, and whether it is paired again (C.04.3 B.8, A.9).
-ghost use Rattle.std.specs.Prelude.{◌≡◌, ◌≤◌, ◌++◌, false, length, map, IfOk, IfSome, OnOk};
+ghost use Rattle.std.specs.Prelude.{◌≡◌, ◌≤◌, ◌++◌, false, length, map, IfOk, OnOk};
 ghost use Rattle.std.specs.List.{AllByRecursion};
 ghost use Rattle.std.specs.Option.{MatchOption};
 ghost use Rattle.dutch_order.specs.Steps.{Spends};
@@ -9,6 +9,7 @@ ghost use Rattle.dutch_pair.specs.Reached.{IsAbove};
 ghost use Rattle.dutch_pair.specs.Round.{completable};
 ghost use Rattle.dutch_pair.specs.Seated.{AllNumbers, seat_of};
 ghost use Rattle.dutch_pair.specs.Outcomes.{IsStage};
+ghost use Rattle.dutch_pair.specs.Stops.{Decides};
 ghost use Rattle.dutch_pair.specs.Stages.{IsSettled, is_again, own_pairs};
 
 use crate::choice::{Choice, choose_in};
@@ -42,8 +43,9 @@ fn is_again(
     requires numbers { AllNumbers context.now.reached.seats candidate.now.down }
     requires few { length candidate.now.down ≤ length context.now.reached.seats }
     requires within { budget.old.used ≤ budget.old.limit }
-    ensures answer { IfOk result (λ again. again ≡ is_again context.now.reached.kind
-        (completable context.now.facts (map (seat_of context.now.reached.seats) candidate.now.down ++ context.now.lower))) }
+    ensures answer { Decides result (is_again context.now.reached.kind
+        (completable context.now.facts (map (seat_of context.now.reached.seats) candidate.now.down ++ context.now.lower)))
+        (budget.new.used ≡ budget.new.limit) }
     ensures spends { Spends budget.old budget.new }
 {
     match context.reached().kind() {
@@ -55,22 +57,23 @@ fn is_again(
     }
 }
 
-/// Settles a bracket that has a candidate. None says that the budget's limit was reached first.
+/// Settles a bracket that has a candidate. None says that the budget's limit was reached first, by its choice or by the test behind it.
 pub(crate) fn settle(
     alloc: Global,
     field: &Field,
     reached: &Reached,
     lower: &[u16],
-    budget: Budget,
+    budget: &mut Budget,
 ) -> Result<Option<Stage>, PairFault>
     requires above { IsAbove field.now reached.now lower.now }
     requires candidate { HasCandidate field.now reached.now lower.now }
-    requires within { budget.used ≤ budget.limit }
-    ensures { IfOk result (λ settled. IfSome settled (λ stage. (stage.reached ≡ reached.now) × IsSettled field.now lower.now stage)) }
+    requires within { budget.old.used ≤ budget.old.limit }
+    ensures answer { IfOk result (λ settled. MatchOption settled (budget.new.used ≡ budget.new.limit)
+        (λ stage. (stage.reached ≡ reached.now) × IsSettled field.now lower.now stage)) }
+    ensures spends { Spends budget.old budget.new }
 {
-    let mut budget = budget;
     let context = Context::new(field, reached, lower);
-    let (shape, candidate, quality) = match choose_in(alloc, &context, &mut budget)? {
+    let (shape, candidate, quality) = match choose_in(alloc, &context, budget)? {
         Choice::Chosen {
             shape,
             candidate,
@@ -78,7 +81,7 @@ pub(crate) fn settle(
         } => (shape, candidate, quality),
         Choice::Undecided => return Ok(None),
     };
-    let Ok(again) = is_again(&context, &candidate, &mut budget) else {
+    let Ok(again) = is_again(&context, &candidate, budget) else {
         return Ok(None);
     };
     Ok(Some(Stage {

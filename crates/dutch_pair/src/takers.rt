@@ -1,11 +1,11 @@
 // Whether so many downfloaters, whoever they are, can be paired out with the lower players (C.04.3 A.9, C.4), specified by a test of
 // lists of pairs.
 //
-// Where only their number is known, downfloaters are all alike. So the search pairs the lower players with one another, and only counts
-// those whom it leaves to downfloaters: which of them takes whom is never tried. It works in one list, as the search for a completion.
-ghost use Rattle.std.specs.Prelude.{◌≡◌, ◌+◌, ◌-◌, ◌<◌, ◌≤◌, Ok, false, ◌&&◌, [], drop, length, slice_index};
+// If only their number is known, downfloaters are all alike. So the search pairs the lower players with one another, and only counts those
+// whom it leaves to downfloaters. It never tries which of them takes whom. It works in one list, as the search for a completion does.
+ghost use Rattle.std.specs.Prelude.{◌≡◌, ◌+◌, ◌-◌, ◌<◌, ◌≤◌, Ok, OnOk, true, false, ◌&&◌, [], drop, length, slice_index};
 ghost use Rattle.dutch_order.specs.declared.numbers.TheConstants.{LIMIT};
-ghost use Rattle.dutch_pair.specs.Completion.{some_partner, nobody, left_over};
+ghost use Rattle.dutch_pair.specs.CompletionSearch.{some_partner, nobody, left_over};
 ghost use Rattle.dutch_pair.specs.Seats.{seats_meet, seats_may_be_left};
 ghost use Rattle.dutch_pair.specs.Stops.{Decides};
 ghost use Rattle.dutch_pair.specs.Takers.{takes_one, meets_bracket, can_take_out, can_go_out};
@@ -64,7 +64,7 @@ pub(crate) fn can_go_out(
     can_pair(context, &mut all, Room { takers, bye }, budget)
 }
 
-/// Whether lower players can be paired out, where there is room for some at downfloaters and for one who is left out.
+/// Whether lower players can be paired out, if some may meet downfloaters and one may be left out.
 #[cycle(search)]
 #[tactic(auto, using(crate::proofs::TakersSearch::nobody_there, crate::proofs::TakersSearch::first_paired, crate::proofs::TakersSearch::first_taken, crate::proofs::TakersSearch::first_left))]
 fn can_pair(
@@ -90,8 +90,8 @@ fn can_pair(
     leave_first(context, *first, later, room, budget)
 }
 
-/// Whether the first player can be paired with one of the later ones, so that the others can be paired out. Each comes to their front
-/// in turn, and where none serves they stand as before.
+/// Whether the first player can be paired with one of the later ones, so that the others can be paired out. Each later one
+/// comes to the front in turn. If none serves, they stand as before.
 #[cycle(search)]
 fn pair_first(
     context: &Context<'_>,
@@ -131,6 +131,7 @@ fn pair_with(
     ensures answer { Decides result (seats_meet context.now.facts first (slice_index later.old 0)
         && can_take_out context.now.facts context.now.reached.seats room.bye (length later.old - 1) room.takers (drop 1 later.old))
         (budget.new.used ≡ budget.new.limit) }
+    ensures counts { OnOk result (budget.old.used < budget.new.used) }
     ensures spends { Spends budget.old budget.new }
     ensures kept { result ≡ Ok false → later.new ≡ later.old }
 {
@@ -154,6 +155,7 @@ fn take_first(
     ensures answer { Decides result
         (takes_one (meets_bracket context.now.facts context.now.reached.seats first) (λ k. can_take_out context.now.facts context.now.reached.seats room.bye (length later.old) k later.old) room.takers)
         (budget.new.used ≡ budget.new.limit) }
+    ensures counts { OnOk result (0 < room.takers → budget.old.used < budget.new.used) }
     ensures spends { Spends budget.old budget.new }
     ensures kept { result ≡ Ok false → later.new ≡ later.old }
 {
@@ -171,7 +173,7 @@ fn take_first(
     can_pair(context, later, fewer, budget)
 }
 
-/// Whether the first player may be left out, where one may be, so that all later ones can be paired out.
+/// Whether the first player may be left out, if one may be, so that all later ones can be paired out.
 #[cycle(search)]
 fn leave_first(
     context: &Context<'_>,
@@ -183,6 +185,7 @@ fn leave_first(
     requires within { budget.old.used ≤ budget.old.limit }
     ensures answer { Decides result (left_over room.bye (seats_may_be_left context.now.facts) first && can_take_out context.now.facts context.now.reached.seats false (length later.old) room.takers later.old)
         (budget.new.used ≡ budget.new.limit) }
+    ensures counts { OnOk result (room.bye ≡ true → budget.old.used < budget.new.used) }
     ensures spends { Spends budget.old budget.new }
     ensures kept { result ≡ Ok false → later.new ≡ later.old }
 {

@@ -1,11 +1,12 @@
 // The walk over the brackets of a round, from the highest scoregroup down (C.04.3 A.3, A.9), specified by the round from where it
 // stands on.
 //
-// Whatever bracket comes next, its players and all lower ones can be paired out, and no two of those moved down may meet: so each
-// bracket has a candidate that can be chosen, and the walk comes to an end at which at most one player is left over.
+// Whatever bracket comes next, its players and all lower ones can be paired out, and no two of those moved down may meet. So each bracket
+// has a candidate that can be chosen, and at the end of the walk at most one player is left over.
 ghost use Rattle.std.specs.Prelude.{◌≡◌, ◌+◌, ◌<◌, ◌≤◌, true, false, [], length, IfOk, Some};
 ghost use Rattle.dutch_order.specs.Arrangements.{Fits};
-ghost use Rattle.dutch_order.specs.Steps.{MatchFound};
+ghost use Rattle.std.specs.Result.{MatchResult};
+ghost use Rattle.dutch_order.specs.Steps.{MatchFound, Spends};
 ghost use Rattle.dutch_pair.specs.Eligible.{HasCandidate};
 ghost use Rattle.dutch_pair.specs.Reached.{IsAbove, frame_of};
 ghost use Rattle.dutch_pair.specs.Round.{everybody, round, brackets, completable, scoregroups, paired_again, shape_of};
@@ -52,19 +53,16 @@ pub(crate) struct Walk<'a> {
     next: Next,
     // the seats below it, by rank
     lower: &'a [u16],
-    // for it alone; in the first one the test of all players has used some
-    budget: Budget,
 }
 
 impl<'a> Model for Walk<'a> {
-    ghost use Rattle.std.specs.Prelude.{◌≤◌};
     ghost use Rattle.dutch_pair.specs.Stages.{Walk, StandsAt, round_from};
 
     ghost Value = { Walk };
 
-    ghost view = { λ w. record { facts = w.field.now; number = w.number; rest = round_from w.field.now w.lower.now w.next; limit = w.budget.limit } };
+    ghost view = { λ w. record { facts = w.field.now; number = w.number; rest = round_from w.field.now w.lower.now w.next } };
 
-    ghost invariant = { λ w. StandsAt w.field.now w.number w.lower.now w.next × (w.budget.used ≤ w.budget.limit) };
+    ghost invariant = { λ w. StandsAt w.field.now w.number w.lower.now w.next };
 }
 
 /// What comes of a walk's next bracket.
@@ -104,15 +102,17 @@ fn shape_in(
     field: &Field,
     reached: &Reached,
     lower: &[u16],
-    budget: Budget,
+    budget: &mut Budget,
 ) -> Result<Shape, Stopped>
     requires above { IsAbove field.now reached.now lower.now }
     requires candidate { HasCandidate field.now reached.now lower.now }
-    requires within { budget.used ≤ budget.limit }
-    ensures { IfOk result (λ shape. (shape_of field.now reached.now lower.now ≡ Some shape) × Fits (frame_of field.now reached.now) shape) }
+    requires within { budget.old.used ≤ budget.old.limit }
+    ensures answer { MatchResult result
+        (λ shape. (shape_of field.now reached.now lower.now ≡ Some shape) × Fits (frame_of field.now reached.now) shape)
+        (λ _. budget.new.used ≡ budget.new.limit) }
+    ensures spends { Spends budget.old budget.new }
 {
-    let mut budget = budget;
-    match shape_of(&Context::new(field, reached, lower), &mut budget)? {
+    match shape_of(&Context::new(field, reached, lower), budget)? {
         Some(shape) => Ok(shape),
         None => unreachable!(),
     }
@@ -120,18 +120,11 @@ fn shape_in(
 
 impl<'a> Walk<'a> {
     /// The walk before the bracket of some moved down and the first scoregroup of the seats that are left, or at the end.
-    fn before_group(
-        field: &'a Field,
-        number: u16,
-        left: Seats,
-        rest: &'a [u16],
-        budget: Budget,
-    ) -> Walk<'a>
+    fn before_group(field: &'a Field, number: u16, left: Seats, rest: &'a [u16]) -> Walk<'a>
         requires goes { Goes field.now left.items rest.now }
         requires out { GoesOut field.now left.items rest.now }
         requires small { number + length rest.now ≤ length field.now.seats + 1 }
-        requires within { budget.used ≤ budget.limit }
-        ensures { result ≡ record { facts = field.now; number = number; rest = brackets field.now number left.items (scoregroups field.now rest.now); limit = budget.limit } }
+        ensures { result ≡ record { facts = field.now; number = number; rest = brackets field.now number left.items (scoregroups field.now rest.now) } }
     {
         scores_do_not_ascend(field);
         if rest.is_empty() {
@@ -140,7 +133,6 @@ impl<'a> Walk<'a> {
                 number,
                 next: Next::Bye(left),
                 lower: rest,
-                budget,
             };
         }
         let (group, lower) = split_first_group(field, rest);
@@ -150,21 +142,19 @@ impl<'a> Walk<'a> {
             number,
             next: Next::Bracket(reached),
             lower,
-            budget,
         }
     }
 
     /// The walk behind a stage, which is settled above these lower seats.
-    fn behind(field: &'a Field, stage: &Stage, lower: &'a [u16], limit: u64) -> Walk<'a>
+    fn behind(field: &'a Field, stage: &Stage, lower: &'a [u16]) -> Walk<'a>
         requires stands { StandsBefore field.now stage.now.reached.number stage.now.reached lower.now }
         requires settled { IsSettled field.now lower.now stage.now }
-        ensures { IsBehindIn field.now lower.now limit stage.now result }
+        ensures { IsBehindIn field.now lower.now stage.now result }
     {
         scores_do_not_ascend(field);
         let reached = &stage.reached;
         let number = reached.number() + 1;
         let left = seats_of(reached.seats(), stage.candidate.down());
-        let budget = Budget { limit, used: 0 };
         if stage.again {
             let next = Next::Bracket(paired_again(reached));
             return Walk {
@@ -172,11 +162,10 @@ impl<'a> Walk<'a> {
                 number,
                 next,
                 lower,
-                budget,
             };
         }
         match reached.kind() {
-            BracketKind::Ordinary => Walk::before_group(field, number, left, lower, budget),
+            BracketKind::Ordinary => Walk::before_group(field, number, left, lower),
             BracketKind::Penultimate => {
                 let collapsed = bracket(number, BracketKind::Collapsed, &left, lower);
                 Walk {
@@ -184,7 +173,6 @@ impl<'a> Walk<'a> {
                     number,
                     next: Next::Bracket(collapsed),
                     lower: &lower[..0],
-                    budget,
                 }
             }
             BracketKind::Last | BracketKind::Collapsed => Walk {
@@ -192,30 +180,30 @@ impl<'a> Walk<'a> {
                 number,
                 next: Next::Bye(left),
                 lower,
-                budget,
             },
         }
     }
 
-    /// A walk over the brackets of the next round. Each bracket may make so many steps for its choice and the test behind it; the test
-    /// of all present players, which comes first, counts to the first one. None is answered where they cannot be paired out.
+    /// A walk over the brackets of the next round. The test of all present players comes first, and counts to the first bracket. The answer
+    /// is none if they cannot be paired out.
     pub(crate) fn start(
         field: &'a Field,
         all: &'a [u16],
-        limit: u64,
+        budget: &mut Budget,
     ) -> Result<Option<Walk<'a>>, Stopped>
-        requires { all.now ≡ everybody field.now }
-        ensures { MatchFound result
-            (λ walk. (completable field.now (everybody field.now) ≡ true) × (walk ≡ record { facts = field.now; number = 1; rest = round field.now; limit = limit }))
+        requires all { all.now ≡ everybody field.now }
+        requires within { budget.old.used ≤ budget.old.limit }
+        ensures answer { MatchFound result
+            (λ walk. (completable field.now (everybody field.now) ≡ true) × (walk ≡ record { facts = field.now; number = 1; rest = round field.now }))
             (completable field.now (everybody field.now) ≡ false)
-            (Unit {0}) }
+            (budget.new.used ≡ budget.new.limit) }
+        ensures spends { Spends budget.old budget.new }
     {
         scores_do_not_ascend(field);
-        let mut budget = Budget { limit, used: 0 };
-        if !can_complete(field, all, &mut budget)? {
+        if !can_complete(field, all, budget)? {
             return Ok(None);
         }
-        Ok(Some(Walk::before_group(field, 1, Seats::new(), all, budget)))
+        Ok(Some(Walk::before_group(field, 1, Seats::new(), all)))
     }
 
     /// The number of the bracket that comes next, if one does.
@@ -225,32 +213,40 @@ impl<'a> Walk<'a> {
         self.number
     }
 
-    /// Settles the bracket that comes next, and goes behind it.
-    pub(crate) fn go_on(&mut self, alloc: Global) -> Result<Turn, PairFault>
-        ensures { IfOk result (GoesOn self.old self.new) }
+    /// Settles the bracket that comes next by its choice and the test behind it, and goes behind it, where the budget begins anew.
+    pub(crate) fn go_on(&mut self, alloc: Global, budget: &mut Budget) -> Result<Turn, PairFault>
+        requires within { budget.old.used ≤ budget.old.limit }
+        ensures goes { IfOk result (GoesOn self.old self.new budget.new) }
+        ensures limit { budget.new.limit ≡ budget.old.limit }
+        ensures within { budget.new.used ≤ budget.new.limit }
     {
         scores_do_not_ascend(self.field);
         let stage = match &self.next {
             Next::Bye(bye) => return Ok(Turn::Ended(copied(bye))),
-            Next::Bracket(reached) => settle(alloc, self.field, reached, self.lower, self.budget)?,
+            Next::Bracket(reached) => settle(alloc, self.field, reached, self.lower, budget)?,
         };
         let Some(stage) = stage else {
             return Ok(Turn::Undecided);
         };
-        *self = Walk::behind(self.field, &stage, self.lower, self.budget.limit);
+        *self = Walk::behind(self.field, &stage, self.lower);
+        budget.used = 0;
         Ok(Turn::Settled(stage))
     }
 
-    /// The bracket that comes next, with its shape, of which alone it is asked. None is answered where none comes.
-    pub(crate) fn bracket(&self) -> Result<Option<(Reached, Shape)>, Stopped>
-        ensures { MatchFound result (λ found. Shows self.now.facts self.now.rest found.0 found.1 × (found.0.number ≡ self.now.number))
-            (self.now.rest.reached ≡ []) (Unit {0}) }
+    /// The bracket that comes next, with its shape; nothing more is asked of it. The answer is none if no bracket comes.
+    pub(crate) fn bracket(&self, budget: &mut Budget) -> Result<Option<(Reached, Shape)>, Stopped>
+        requires within { budget.old.used ≤ budget.old.limit }
+        ensures answer { MatchFound result
+            (λ found. Shows self.now.facts self.now.rest found.0 found.1 × (found.0.number ≡ self.now.number))
+            (self.now.rest.reached ≡ [])
+            (budget.new.used ≡ budget.new.limit) }
+        ensures spends { Spends budget.old budget.new }
     {
         scores_do_not_ascend(self.field);
         let Next::Bracket(reached) = &self.next else {
             return Ok(None);
         };
-        let shape = shape_in(self.field, reached, self.lower, self.budget)?;
+        let shape = shape_in(self.field, reached, self.lower, budget)?;
         Ok(Some((reached.copied(), shape)))
     }
 }

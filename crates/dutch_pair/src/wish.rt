@@ -1,7 +1,7 @@
 // A wish for a candidate of a bracket (C.04.3 B.3): that two of its players meet, or that one of them is left over.
 //
-// For a choice it is one condition more. A beginning rules it out by the pairs that it has, and by its first halves: of two who meet
-// one is in S1 or in S1R, and the other is not. So no permutation is looked through behind halves that keep the two apart.
+// For a choice it is one more condition. A beginning rules it out by the pairs that it has, and by its first halves: of two who meet, one is
+// in S1 or in S1R, and the other is not. So behind halves that keep the two apart no permutation is looked at.
 ghost use Rattle.std.specs.Prelude.{◌≡◌, nat_le};
 ghost use Rattle.std.specs.List.{list_any};
 ghost use Rattle.dutch_order.specs.Arrangements.{paired};
@@ -166,7 +166,7 @@ impl Wish {
     }
 }
 
-/// Whether a candidate grants a wish; where nothing is wished, every one will do.
+/// Whether a candidate grants a wish; if nothing is wished, every candidate will do.
 pub(crate) fn is_wished(wish: Option<Wish>, candidate: &Candidate) -> bool
     ensures { result ≡ is_wished wish candidate.now.lists }
 {

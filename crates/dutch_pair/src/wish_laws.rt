@@ -13,8 +13,8 @@ ghost use Rattle.dutch_pair.specs.Reached.{Reached};
 ghost use Rattle.dutch_pair.specs.Round.{best_of_shape, eligible, is_better_in};
 ghost use Rattle.dutch_pair.specs.Wishes.{ComesBefore, IsAsGoodBefore, best_granting, grants};
 
-/// That two meet is granted exactly where they are one of an arrangement's pairs; that a player of the bracket is left over, exactly where
-/// he is one of its downfloaters; and a wish is granted by none of some candidates exactly where each of them does not grant it.
+/// That two meet is granted exactly if they are one of an arrangement's pairs. That a player of the bracket is left over is granted exactly
+/// if they are one of its downfloaters. None of some candidates grants a wish exactly if each of them does not grant it.
 #[tactic(auto, using(crate::proofs::BestGranting::pair_by_test, crate::proofs::BestGranting::over_by_test, crate::proofs::BestGranting::none_by_test))]
 pub fn a_wish_is_granted_by_test()
     ensures pair { (p q : ℕ) (a : Arrangement) → (grants (Pair p q) a ≡ true) ↔ (IsIn (p, q) (pairs_by_number a) ⊎ IsIn (q, p) (pairs_by_number a)) }

@@ -53,7 +53,7 @@ meet_seats facts a b =
 pub meeting_sym : (facts : Facts) (a b : ℕ) → may_meet facts a b ≡ may_meet facts b a
 meeting_sym facts a b = meet_seats facts (seat_at facts a) (seat_at facts b)
 
--- what the two get where the one, or the other, ranks higher
+-- what the two get if the one, or the other, ranks higher
 abbrev of_ranked : Facts → ℕ → ℕ → ℕ × ℕ
 of_ranked facts high low = with_colour high low (colour_of_higher facts high low)
 
@@ -85,7 +85,7 @@ with_other : (a b : ℕ) (c : Colour) → with_colour a b c ≡ with_colour b a 
 with_other a b White = refl
 with_other a b Black = refl
 
--- two who each want a colour, by whether it is one, and by how a contest is decided
+-- two who each want a colour, by whether it is the same one, and by how a contest is decided
 abbrev both_want : Bool → Decision → Colour → Decision
 both_want one decision wanted = if one then decision else by BothPreferences wanted
 
@@ -96,7 +96,7 @@ granted-both initial high low wanted theirs p q e f differ =
     ∙ ap (granted initial high low (Some p)) f
     ∙ ap (λ one. (both_want one (contested high.played low.played p q) p.colour).colour) (differ-same p.colour q.colour differ)
 
--- where both want a colour: what the contest gives where it is one, and else each his own
+-- if both want a colour: what the contest gives if it is the same one, and otherwise each their own
 decided-both : (decision : Decision) (one : Bool) (wanted : Colour) → (both_want one decision wanted).colour ≡ (if one then decision.colour else wanted)
 decided-both decision true wanted = refl
 decided-both decision false wanted = refl
@@ -123,7 +123,7 @@ grants_both facts a b apart p q legal e f k l differ = elim (cases_lt a b) [
       (one ∙ sym (swapped a b p q differ), one))
 ]
 
--- the rule where the one, or the other, ranks higher
+-- the rule if the one, or the other, ranks higher
 rule-less : (facts : Facts) (a b : ℕ) → a < b → colour_rule facts a b ≡ (decision_of facts a b).rule
 rule-less facts a b lt = ap (λ t. cond t (decision_of facts a b).rule (decision_of facts b a).rule) (lt-ltb a b lt)
 
@@ -136,7 +136,7 @@ rule_sym facts a b differ = elim (cases_lt a b) [
   | inr le ↦ rule-more facts a b le ∙ sym (rule-less facts b a (omega arith))
 ]
 
--- two who want one colour, by who is stronger and by how their colours can alternate
+-- two who want the same colour, by who is stronger and by how their colours can alternate
 abbrev contest : Bool → Bool → Option Colour → Colour → Decision
 contest mine theirs alternate wanted =
     if mine then by StrongerPreference wanted else (if theirs then by StrongerPreference (other wanted) else by_history alternate wanted)

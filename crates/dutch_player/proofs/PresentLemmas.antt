@@ -237,7 +237,7 @@ unfolding has_start named_in
 started [] start = refl
 started (entry ∷ rest) start = ap (λ t. (entry.start == start) || t) (started rest start)
 
--- the list of those from whom one is kept apart has whom the report names
+-- the list of those from whom a player is kept apart has those whom the report names
 kept_from : (sheet : Sheet) (one other : ℕ) → known sheet other ≡ true → has_start (apart_from sheet one) other ≡ apart sheet one other
 unfolding has_start named_in
 kept_from sheet one other named =
@@ -266,7 +266,7 @@ both_same : (b : Bool) → (b || b) ≡ b
 both_same true = refl
 both_same false = refl
 
--- two seats are kept apart where the report keeps their players apart
+-- two seats are kept apart if the report keeps their players apart
 pub seats_apart : (sheet : Sheet) (asked : Option ℕ) (initial : Option Colour) (facts : Facts) → HasOwnStarts sheet → facts_of sheet asked initial ≡ Ok facts
     → (a b : ℕ) → a < length facts.seats → b < length facts.seats
     → are_apart (seat_at facts a) (seat_at facts b) ≡ apart sheet (seat_at facts a).start (seat_at facts b).start

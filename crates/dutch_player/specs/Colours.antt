@@ -28,7 +28,7 @@ is_stronger mine played theirs their_played =
     nat_lt (grade theirs.strength) (grade mine.strength)
     || (is_absolute mine.strength && is_absolute theirs.strength && nat_lt (distance their_played) (distance played))
 
--- E.3: where, seen from the last game back, one had white and the other black for the first time, each gets the other colour
+-- E.3: seen from the last game back, at the first place where one had white and the other black, each gets the other colour
 abbrev pub alternated : List Colour → List Colour → Option Colour
 alternated [] theirs = None
 alternated (mine ∷ before) [] = None
@@ -38,12 +38,12 @@ alternated (mine ∷ before) (theirs ∷ their_before) = if is_same mine theirs 
 abbrev pub by : ColourRule → Colour → Decision
 by rule colour = record { rule = rule; colour = colour }
 
--- E.3: the colours alternate, where there is a game from which they can; else E.4: the higher ranked gets what he wants
+-- E.3: the colours alternate, if there is a game from which they can; else E.4: the higher ranked gets what they want
 abbrev pub by_history : Option Colour → Colour → Decision
 by_history (Some alternate) wanted = by Alternation alternate
 by_history None wanted = by HigherRank wanted
 
--- E.2 to E.4: both want one colour
+-- E.2 to E.4: both want the same colour
 abbrev pub contested : List Colour → List Colour → Pref → Pref → Decision
 contested high low wanted theirs =
     if is_stronger wanted high theirs low then by StrongerPreference wanted.colour
@@ -54,7 +54,7 @@ contested high low wanted theirs =
 abbrev pub by_start : Colour → ℕ → Colour
 by_start initial start = if start % 2 == 1 then initial else other initial
 
--- E.1: both preferences are granted where they are not for one colour; else E.2 to E.4, or E.5
+-- E.1: both preferences are granted if they are not for the same colour; else E.2 to E.4, or E.5
 abbrev pub by_preferences : Colour → SeatFacts → SeatFacts → Option Pref → Option Pref → Decision
 by_preferences initial high low (Some wanted) (Some theirs) =
     if is_same wanted.colour theirs.colour then contested high.played low.played wanted theirs else by BothPreferences wanted.colour
@@ -66,7 +66,7 @@ by_preferences initial high low None None = by InitialColour (by_start initial h
 abbrev pub granted : Colour → SeatFacts → SeatFacts → Option Pref → Option Pref → Colour
 granted initial high low wanted theirs = (by_preferences initial high low wanted theirs).colour
 
--- E: how the colours of two are decided, of whom the first ranks higher
+-- E: how the colours of two are decided; the first of them ranks higher
 abbrev pub decided : Colour → SeatFacts → SeatFacts → Decision
 decided initial high low = by_preferences initial high low (preference high.played) (preference low.played)
 
@@ -78,7 +78,7 @@ decision_of facts high low = decided facts.initial (seat_at facts high) (seat_at
 abbrev pub colour_of_higher : Facts → ℕ → ℕ → Colour
 colour_of_higher facts high low = (decision_of facts high low).colour
 
--- who has white, and who has black, where the first gets a colour
+-- who has white, and who has black, if the first gets the given colour
 abbrev pub with_colour : ℕ → ℕ → Colour → ℕ × ℕ
 with_colour a b White = (a, b)
 with_colour a b Black = (b, a)

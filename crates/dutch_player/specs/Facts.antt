@@ -1,4 +1,4 @@
--- What a round is paired from: the present players by rank, and how a report tells of them (C.04.3 A.2, A.7).
+-- What a round is paired from: the present players by rank, and how it comes from a report (C.04.3 A.2, A.7).
 use Rattle.std.specs.Prelude.{◌≡◌, ℕ, ◌+◌, ◌-◌, Bool, false, ◌&&◌, ◌||◌, ◌==◌, nat_lt, if◌then◌else◌, List, [], ◌∷◌, take, slice_index_or, Option, Some, None, option_map, Result, Ok, Err}
 use Rattle.std.specs.Option.{ok_or, option_map_or}
 use Rattle.trf16.specs.declared.cell.Colour.{Colour}
@@ -13,9 +13,9 @@ use Rattle.dutch_player.specs.declared.fault.FieldFault.{FieldFault}
 use Rattle.dutch_player.specs.declared.fault.FieldFault.TheVariants.{Unfinished, Unsupported, RoundsUnknown, RoundsOver}
 use Rattle.dutch_player.specs.Histories.{score, played, opponents, may_bye, float_in}
 
--- a present player: start rank, score in half points, the colours of his games (the last game first), the start ranks of those whom
--- he has met, the start ranks of those from whom he is kept apart, his floats in the last round and in the one before it, and whether
--- he may have the bye
+-- a present player: start rank, score in half points, the colours of their games (the last game first), the start ranks of those whom
+-- they have met, the start ranks of those from whom they are kept apart, their floats in the last round and in the one before it, and
+-- whether they may have the bye
 pub record SeatFacts : Type 0 where
   pub start : ℕ
   pub score : ℕ
@@ -100,12 +100,12 @@ total_of sheet None = sheet.total
 abbrev pub unsupported : Sheet → Option ℕ
 unsupported sheet = first_of (Xxa ∷ Xxs ∷ Rank ∷ []) sheet
 
--- a fault, where its cause stands
+-- a fault, if its cause is there
 abbrev pub refused : Option FieldFault → Result (Unit {0}) FieldFault
 refused None = Ok tt
 refused (Some fault) = Err fault
 
--- the total of rounds, where a further round can be paired: each game has a result, every line is supported, the total is known,
+-- the total of rounds, if a further round can be paired: each game has a result, every line is supported, the total is known,
 -- and not all rounds are played; else the first of these that fails
 unfoldable pub total_for : Sheet → Option ℕ → Result ℕ FieldFault
 total_for sheet asked = do

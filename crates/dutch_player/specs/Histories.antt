@@ -10,7 +10,7 @@ use Rattle.trf16.specs.Sheet.{Sheet, half_points, points_upto, cell_at}
 use Rattle.dutch_player.specs.declared.float.Float.{Float}
 use Rattle.dutch_player.specs.declared.float.Float.TheVariants.{Up, Down}
 
--- A.2: the score in half points, where the pairing-allocated bye gives so many
+-- A.2: the score in half points, if the pairing-allocated bye gives so many
 abbrev pub score : ℕ → List Cell → ℕ
 score bye cells = sum_by (half_points bye) cells
 
@@ -43,12 +43,12 @@ bars_bye _ = false
 abbrev pub may_bye : List Cell → Bool
 may_bye cells = not (list_any bars_bye cells)
 
--- A.4: down where a player's score is above his opponent's, up where it is below
+-- A.4: down if a player's score is above the opponent's, up if it is below
 abbrev pub float_between : ℕ → ℕ → Option Float
 float_between mine theirs = if nat_lt theirs mine then Some Down else (if nat_lt mine theirs then Some Up else None)
 
--- A.4: the float of a round with some rounds before it: against whom he played, by the scores as they stood then; without a game
--- played, down, also in rounds that he missed before a late entry (our own choice)
+-- A.4: the float of a round with some rounds before it: against whom the player played, by the scores as they stood then; without a
+-- game played, down, also in rounds that were missed before a late entry (our own choice)
 abbrev pub float_by : Sheet → List Cell → ℕ → Cell → Option Float
 float_by sheet cells before cell =
     option_map_or (λ opponent. float_between (score sheet.bye (take before cells)) (points_upto sheet opponent before)) (opponent_played cell) (Some Down)

@@ -23,8 +23,8 @@ GrantsBoth facts a b = (p q : Pref) → may_meet facts a b ≡ true
     → p.strength ≡ Absolute → q.strength ≡ Absolute → (p.colour ≡ q.colour → ⊥)
     → (colours facts a b ≡ with_colour a b p.colour) × (colours facts a b ≡ with_colour b a q.colour)
 
--- what the rule tells by which the colours of two are decided. E.1: whoever prefers a colour gets it. E.4: the higher ranked gets the
--- colour that he prefers. E.5: nobody prefers one
+-- what is true of two players if a rule decides their colours. E.1: whoever prefers a colour gets it. E.4: the higher ranked gets the
+-- colour that they prefer. E.5: nobody prefers one
 pub record TellsRule (facts : Facts) (a b : ℕ) : Type 0 where
   pub granted : colour_rule facts a b ≡ BothPreferences → (wish : Pref) → preference (seat_at facts a).played ≡ Some wish → Gets facts a b wish.colour
   pub higher : colour_rule facts a b ≡ HigherRank → a < b → (wish : Pref) → preference (seat_at facts a).played ≡ Some wish → Gets facts a b wish.colour

@@ -7,7 +7,7 @@ use Rattle.dutch_player.specs.declared.preference.Pref.{Pref}
 use Rattle.dutch_player.specs.Preferences.{is_same, preference}
 use Rattle.dutch_player.specs.Facts.{SeatFacts, Facts, seat_at}
 
--- A.7: before the last round, who has more than half of the points that could be had: over R half points after R rounds
+-- A.7: before the last round, a player who has more than half of the points that could be had: over R half points after R rounds
 abbrev pub is_topscorer : Facts → SeatFacts → Bool
 is_topscorer facts a = (facts.round == facts.total) && nat_lt (facts.round - 1) a.score
 
@@ -33,12 +33,12 @@ is_absolute Absolute = true
 is_absolute Strong = false
 is_absolute Mild = false
 
--- both preferences are absolute, and for one colour
+-- both preferences are absolute, and for the same colour
 abbrev pub clash : Option Pref → Option Pref → Bool
 clash (Some a) (Some b) = is_absolute a.strength && is_absolute b.strength && is_same a.colour b.colour
 clash _ _ = false
 
--- C.3: two who are no topscorers do not meet where their absolute preferences are for one colour
+-- C.3: two players, neither of whom is a topscorer, do not meet if both have absolute preferences for the same colour
 abbrev pub colours_allow : Facts → SeatFacts → SeatFacts → Bool
 colours_allow facts a b = is_topscorer facts a || is_topscorer facts b || not (clash (preference a.played) (preference b.played))
 

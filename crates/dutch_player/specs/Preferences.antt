@@ -21,7 +21,7 @@ abbrev pub is_black : Colour → Bool
 is_black White = false
 is_black Black = true
 
--- two colours are one
+-- two colours are the same
 abbrev pub is_same : Colour → Colour → Bool
 is_same White c = is_white c
 is_same Black c = is_black c
@@ -38,7 +38,7 @@ blacks played = count_by is_black played
 abbrev pub difference : List Colour → ℤ
 difference played = pos (whites played) -ℤ pos (blacks played)
 
--- the colour of the last two games, where there are two and both have it
+-- the colour of the last two games, if there are two and both have it
 abbrev pub last_two : List Colour → Option Colour
 last_two [] = None
 last_two (last ∷ []) = None

@@ -1,4 +1,4 @@
--- What a present player is, wherever his lists lie in memory.
+-- What a present player is, wherever their lists lie in memory.
 use Rattle.dutch_player.specs.declared.seat.Seat.{Seat}
 use Rattle.dutch_player.specs.Facts.{SeatFacts}
 

@@ -1,4 +1,4 @@
--- The seat of a player by his start rank.
+-- The seat of a player by their start rank.
 use Rattle.std.specs.Prelude.{◌≡◌, ◌≢◌, ℕ, ◌<◌, Bool, ◌==◌, length, Option, Some, None}
 use Rattle.std.specs.List.{position_from}
 use Rattle.dutch_player.specs.Facts.{SeatFacts, Facts, seat_at}
@@ -7,7 +7,7 @@ use Rattle.dutch_player.specs.Facts.{SeatFacts, Facts, seat_at}
 abbrev pub has_start : ℕ → SeatFacts → Bool
 has_start start seat = seat.start == start
 
--- the seat of a start rank; none where nobody present has it
+-- the seat of a start rank; none if nobody present has it
 abbrev pub seat_with : Facts → ℕ → Option ℕ
 seat_with facts start = position_from (has_start start) 0 facts.seats
 

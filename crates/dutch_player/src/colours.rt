@@ -65,7 +65,7 @@ fn alternated(mine: &[Colour], theirs: &[Colour]) -> Option<Colour>
     }
 }
 
-// E.3 and E.4: the higher ranked wants a colour; where the colours can alternate he gets the one by which they do.
+// E.3 and E.4: the higher ranked wants a colour; if the colours can alternate, that player gets the one by which they do.
 fn by_history(alternate: Option<Colour>, wanted: Colour) -> Decision
     ensures { result ≡ by_history alternate wanted }
 {
@@ -81,7 +81,7 @@ fn by_history(alternate: Option<Colour>, wanted: Colour) -> Decision
     }
 }
 
-// E.2 to E.4: both want one colour.
+// E.2 to E.4: both want the same colour.
 fn contested(high: &[Colour], low: &[Colour], wanted: Pref, theirs: Pref) -> Decision
     ensures { result ≡ contested high.now low.now wanted theirs }
 {
@@ -108,7 +108,7 @@ fn by_start(initial: Colour, start: u16) -> Colour
     }
 }
 
-// E.1: who has no preference is content with either colour.
+// E.1: a player without a preference is content with either colour.
 fn both(colour: Colour) -> Decision
     ensures { result ≡ by BothPreferences colour }
 {
@@ -144,14 +144,14 @@ fn by_preferences(
     }
 }
 
-/// How the colours of two are decided, of whom the first ranks higher.
+/// How the colours of two are decided; the first of them ranks higher.
 pub(crate) fn decided(initial: Colour, high: &Seat, low: &Seat) -> Decision
     ensures { result ≡ decided initial (facts_in high.now) (facts_in low.now) }
 {
     by_preferences(initial, high, low, high.preference, low.preference)
 }
 
-/// Who has white and who has black, where the first gets a colour.
+/// Who has white and who has black, if the first gets the given colour.
 pub(crate) fn with_colour(a: u16, b: u16, colour: Colour) -> (u16, u16)
     ensures { result ≡ with_colour a b colour }
 {

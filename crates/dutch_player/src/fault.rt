@@ -17,7 +17,7 @@ pub enum FieldFault {
     /// Neither the caller nor the report names the total of rounds.
     #[error("rounds unknown")]
     RoundsUnknown,
-    /// The next round is behind the last.
+    /// The next round would come after the last one.
     #[error("all rounds are played")]
     RoundsOver,
     /// Memory was refused.

@@ -45,10 +45,10 @@ impl Model for Field {
 }
 
 impl Field {
-    /// The present players of a report, as the round behind the last that was paired finds them. A total of rounds or an initial colour
-    /// that is given goes before the report's; the initial colour is white where nothing names it. Why there is no further round is
-    /// told in this order: a game without a result (by the players' lines, then by round), the first line that is not supported, a
-    /// total that is not known, a round behind the total, memory.
+    /// The present players of a report, as they are before the round that comes after the last paired one. A total of rounds or an
+    /// initial colour that is given goes before the report's; the initial colour is white if nothing names it. If there is no further
+    /// round, the reason is the first of these: a game without a result (by the players' lines, then by round), the first line that is
+    /// not supported, a total that is not known, a round after the last one, memory.
     #[tactic(auto, unfolding(crate::specs::Facts::facts_of))]
     pub fn new(
         alloc: Global,
@@ -143,7 +143,7 @@ impl Field {
         difference(&self.seat(seat).played)
     }
 
-    /// The colour of the last two games, where there are two and both have it (A.6).
+    /// The colour of the last two games, if there are two and both have it (A.6).
     pub fn last_two(&self, seat: u16) -> Option<Colour>
         requires { seat < length self.now.seats }
         ensures { result ≡ last_two (seat_at self.now seat).played }
@@ -159,7 +159,7 @@ impl Field {
         self.seat(seat).preference
     }
 
-    /// Whether the player is a topscorer (A.7): more than half of the points that could be had, and only the last round is left.
+    /// Whether the player is a topscorer (A.7): they have more than half of the points that could be had, and only the last round is left.
     pub fn topscorer(&self, seat: u16) -> bool
         requires { seat < length self.now.seats }
         ensures { result ≡ is_topscorer self.now (seat_at self.now seat) }
@@ -180,8 +180,8 @@ impl Field {
         self.colours_allow(a, b)
     }
 
-    /// Whether the colours of two players allow that they meet (C.3): one of them is a topscorer, or they have no absolute preferences
-    /// for one colour.
+    /// Whether the colours of two players let them meet (C.3): one of them is a topscorer, or they do not both have an absolute preference
+    /// for the same colour.
     pub fn colours_allow(&self, a: u16, b: u16) -> bool
         requires first { a < length self.now.seats }
         requires second { b < length self.now.seats }
@@ -198,7 +198,7 @@ impl Field {
         self.seat(seat).may_bye
     }
 
-    // How the colours of two are decided, of whom the first ranks higher.
+    // How the colours of two are decided; the first of them ranks higher.
     fn decision_of(&self, high: u16, low: u16) -> Decision
         requires first { high < length self.now.seats }
         requires second { low < length self.now.seats }

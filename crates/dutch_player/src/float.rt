@@ -3,8 +3,8 @@
 /// A float of a player in a round.
 #[derive(Debug, Clone, Copy, PartialEq, Eq)]
 pub enum Float {
-    /// He met an opponent with a higher score.
+    /// The player met an opponent with a higher score.
     Up,
-    /// He met an opponent with a lower score, or did not play.
+    /// The player met an opponent with a lower score, or did not play.
     Down,
 }

@@ -13,7 +13,7 @@ ghost use Rattle.trf16.specs.declared.limits.TheConstants.{MOST_PLAYERS};
 
 use crate::field::Field;
 
-/// Who may meet another may be met by him.
+/// If one player may meet another, the other may meet the one.
 #[tactic(auto, using(crate::proofs::LawLemmas::meeting_sym))]
 pub fn meeting_is_symmetric(field: &Field, a: u16, b: u16)
     ensures { may_meet field.now a b ≡ may_meet field.now b a }
@@ -40,7 +40,7 @@ pub fn colour_rules_are_symmetric(field: &Field, a: u16, b: u16)
     ensures { colour_rule field.now a b ≡ colour_rule field.now b a }
 {}
 
-/// What the rule tells by which the colours of two are decided.
+/// What is true of two players if a rule decides their colours.
 #[tactic(auto, using(crate::proofs::LawLemmas::tells_rule))]
 pub fn colour_rules_tell(field: &Field, a: u16, b: u16)
     ensures { TellsRule field.now a b }
@@ -66,21 +66,21 @@ pub fn scores_do_not_ascend(field: &Field)
     let _ = &field.seats;
 }
 
-/// Each player of the report who is present has a seat, one alone, and nobody else has any; the round that is to be paired is the report's next
-/// one, and within the total.
+/// Each player of the report who is present has exactly one seat, and nobody else has any. The round that is to be paired is the report's
+/// next one, and within the total.
 pub fn seats_are_present_players()
     ensures { (sheet : Sheet) (asked : Option ℕ) (initial : Option Colour) (facts : Facts) → HasOwnStarts sheet → facts_of sheet asked initial ≡ Ok facts
         → IsFieldOf sheet asked facts }
 {}
 
-/// Two seats of a field are kept apart exactly where the report keeps their start ranks apart: they are two, and a line `XXP` names both.
+/// Two seats of a field are kept apart exactly if the report keeps their start ranks apart: these differ, and a line `XXP` names both.
 pub fn the_report_tells_who_is_kept_apart()
     ensures { (sheet : Sheet) (asked : Option ℕ) (initial : Option Colour) (facts : Facts) → HasOwnStarts sheet → facts_of sheet asked initial ≡ Ok facts
         → (a b : ℕ) → a < length facts.seats → b < length facts.seats
         → are_apart (seat_at facts a) (seat_at facts b) ≡ apart sheet (seat_at facts a).start (seat_at facts b).start }
 {}
 
-/// The seat of a start rank is one whose player has it; where there is none, no present player has it.
+/// The seat of a start rank is one whose player has it; if there is none, no present player has it.
 #[tactic(auto, using(crate::proofs::StartLemmas::tells_seat))]
 pub fn seats_are_found_by_start_ranks()
     ensures { (facts : Facts) (start : ℕ) → TellsSeat facts start (seat_with facts start) }

@@ -42,7 +42,7 @@ pub(crate) fn is_absolute(strength: Strength) -> bool
     }
 }
 
-/// Whether two preferences are absolute, and for one colour.
+/// Whether two preferences are absolute, and for the same colour.
 pub(crate) fn clash(a: Option<Pref>, b: Option<Pref>) -> bool
     ensures { result ≡ clash a b }
 {

@@ -12,7 +12,7 @@ pub enum Strength {
     Absolute,
     /// A colour difference of one.
     Strong,
-    /// To alternate.
+    /// To alternate with the last game.
     Mild,
 }
 
@@ -51,7 +51,7 @@ fn is_black(colour: &Colour) -> bool
     }
 }
 
-/// Whether two colours are one.
+/// Whether two colours are the same.
 pub(crate) fn is_same(mine: Colour, theirs: Colour) -> bool
     ensures { result ≡ is_same mine theirs }
 {
@@ -88,7 +88,7 @@ pub(crate) fn difference(played: &[Colour]) -> i16
     whites(played) as i16 - blacks(played) as i16
 }
 
-/// The colour of the last two games, where there are two and both have it.
+/// The colour of the last two games, if there are two and both have it.
 pub(crate) fn last_two(played: &[Colour]) -> Option<Colour>
     ensures { result ≡ last_two played.now }
 {
@@ -117,7 +117,7 @@ fn mild(played: &[Colour]) -> Option<Pref>
     }
 }
 
-// Strong, or mild where the difference is 0.
+// Strong, or mild if the difference is 0.
 fn strong_or_mild(played: &[Colour]) -> Option<Pref>
     ensures { result ≡ strong_or_mild played.now }
 {

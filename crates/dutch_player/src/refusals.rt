@@ -6,7 +6,7 @@ ghost use Rattle.dutch_player.specs.Facts.{total_for};
 use crate::fault::FieldFault;
 use trf16::{LineKind, Report};
 
-/// The total of rounds, where a further round can be paired.
+/// The total of rounds, if a further round can be paired.
 #[tactic(auto, unfolding(crate::specs::Facts::total_for))]
 pub(crate) fn total_for(report: &Report<'_>, asked: Option<u8>) -> Result<u8, FieldFault>
     ensures value { result ≡ total_for report.now asked }

@@ -1,4 +1,4 @@
-// A present player, and his rank among others (C.04.3 A.2).
+// A present player, and their rank among others (C.04.3 A.2).
 ghost use Rattle.std.specs.Prelude.{◌≡◌, ◌≤◌, ◌*◌, vec_len};
 ghost use Rattle.trf16.specs.declared.limits.TheConstants.{MOST_ROUNDS};
 ghost use Rattle.dutch_player.specs.Preferences.{preference as preference_of};
@@ -17,9 +17,9 @@ pub(crate) struct Seat {
     pub(crate) played: Vec<Colour>,
     // what those come to, worked out once
     pub(crate) preference: Option<Pref>,
-    // start ranks of those whom he has met
+    // start ranks of those whom they have met
     pub(crate) opponents: Vec<u16>,
-    // start ranks of those from whom a line `XXP` keeps him apart
+    // start ranks of those from whom a line `XXP` keeps them apart
     pub(crate) apart: Vec<u16>,
     // in the last round, and in the one before it
     pub(crate) latest: Option<Float>,

@@ -1,4 +1,4 @@
-// The seat of a player by his start rank.
+// The seat of a player by their start rank.
 ghost use Rattle.std.specs.Prelude.{◌≡◌, ◌≤◌, length, map};
 ghost use Rattle.std.specs.List.{position_from};
 ghost use Rattle.dutch_player.specs.SeatOf.{facts_in};
@@ -23,7 +23,7 @@ fn place_of(seats: &[Seat], start: u16) -> Option<u16>
 }
 
 impl Field {
-    /// The seat of the present player with a start rank; none where nobody present has it.
+    /// The seat of the present player with a start rank; none if nobody present has it.
     #[tactic(auto, using(crate::proofs::StartLemmas::tells_seat))]
     pub fn seat_with(&self, start: u16) -> Option<u16>
         ensures value { result ≡ seat_with self.now start }

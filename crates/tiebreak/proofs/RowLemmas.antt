@@ -51,7 +51,7 @@ starts-all sheet keys =
     let same : starts rows ≡ map (λ entry. entry.start) sheet.players = starts-with_keys sheet keys (map (row_of sheet) sheet.players) ∙ starts-row_of sheet sheet.players in
     subst (λ (before : List ℕ). IsPermutation before (starts (ranked rows))) same (starts-ranked rows)
 
--- where a call gives rows, they are those of the definition
+-- if a call gives rows, they are those of the definition
 pub rows-given : (all rows : List RowFacts) (first : Result (Unit {0}) TieFault) → (first >>= (λ _. Ok all)) ≡ Ok rows → all ≡ rows
 rows-given all rows (Ok x) e = cc
 rows-given all rows (Err fault) e = cc

@@ -1,4 +1,4 @@
--- The rounds that were paired, seen from one player: his score, whom he met, and whose score a round counts.
+-- The rounds that were paired, seen from one player: their score, whom they met, and whose score a round counts.
 use Rattle.std.specs.Prelude.{ℕ, ◌+◌, ◌-◌, Bool, false, ◌==◌, List}
 use Rattle.std.specs.List.{list_any, range_with_len}
 use Rattle.trf16.specs.declared.cell.Cell.{Cell}
@@ -22,13 +22,13 @@ is_game_with other _ = false
 abbrev pub have_met : Sheet → ℕ → ℕ → Bool
 have_met sheet a b = list_any (λ round. is_game_with b (cell_in sheet a round)) (rounds_of sheet)
 
--- the half points of the virtual opponent in a round without a game: the player's score before the round, what he missed of 2 in it,
+-- the half points of the virtual opponent in a round without a game: the player's score before the round, what they missed of 2 in it,
 -- and 1 for each round behind it (our own choice)
 abbrev pub virtual_score : Sheet → ℕ → ℕ → ℕ
 virtual_score sheet start round = points_upto sheet start (round - 1) + (2 - half_points sheet.bye (cell_in sheet start round)) + (rounds_played sheet - round)
 
 -- the score that a round with this cell counts: the opponent's as it stands, without adjustment (our own choice), or the virtual
--- opponent's where no game was played
+-- opponent's if no game was played
 abbrev pub score_met : Sheet → ℕ → ℕ → Cell → ℕ
 score_met sheet start round (Game opponent colour rated got) = score sheet opponent
 score_met sheet start round _ = virtual_score sheet start round

@@ -24,7 +24,7 @@ buchholz sheet start = sum_by (opponent_score sheet start) (rounds_of sheet)
 abbrev pub sonneborn_berger : Sheet → ℕ → ℕ
 sonneborn_berger sheet start = sum_by (λ round. opponent_score sheet start round * half_points sheet.bye (cell_in sheet start round)) (rounds_of sheet)
 
--- rows that no score and no value tells apart so far
+-- rows with the same score and the same values so far
 abbrev pub is_level : RowFacts → RowFacts → Bool
 is_level a b = (a.score == b.score) && pointwise (option_eq nat_eq) a.values b.values
 
@@ -32,7 +32,7 @@ is_level a b = (a.score == b.score) && pointwise (option_eq nat_eq) a.values b.v
 abbrev pub group_of : List RowFacts → RowFacts → List ℕ
 group_of rows row = map (λ other. other.start) (filter (is_level row) rows)
 
--- whether each of a group has met each other
+-- whether all of a group have met each other
 abbrev pub have_all_met : Sheet → List ℕ → Bool
 have_all_met sheet group = list_all (λ a. list_all (λ b. (a == b) || have_met sheet a b) group) group
 
@@ -45,15 +45,15 @@ is_against group _ = false
 abbrev pub points_against : List ℕ → Cell → ℕ
 points_against group cell = if is_against group cell then game_points cell else 0
 
--- the half points of a player from his games against a group
+-- the half points of a player from their games against a group
 abbrev pub points_among : Sheet → List ℕ → ℕ → ℕ
 points_among sheet group start = sum_by (λ round. points_against group (cell_in sheet start round)) (rounds_of sheet)
 
--- direct encounter within a group: none where it is one player alone, or where not all have met
+-- direct encounter within a group: none if it is one player alone, or if not all have met
 abbrev pub direct_in : Sheet → List ℕ → ℕ → Option ℕ
 direct_in sheet group start = if nat_lt 1 (length group) && have_all_met sheet group then Some (points_among sheet group start) else None
 
--- the value of a key for a row, where the rows have the values of the keys before
+-- the value of a key for a row, given rows that have the values of the keys before it
 abbrev pub value_of : Sheet → List RowFacts → Key → RowFacts → Option ℕ
 value_of sheet rows Direct row = direct_in sheet (group_of rows row) row.start
 value_of sheet rows Buchholz row = Some (buchholz sheet row.start)

@@ -69,7 +69,7 @@ no_row = record { start = 0; score = 0; values = [] }
 abbrev pub row_at : List RowFacts → ℕ → RowFacts
 row_at rows place = slice_index_or rows place no_row
 
--- a fault, where its cause stands
+-- a fault, if its cause is there
 abbrev pub refused : Option TieFault → Result (Unit {0}) TieFault
 refused None = Ok tt
 refused (Some fault) = Err fault

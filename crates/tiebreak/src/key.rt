@@ -1,12 +1,12 @@
 // The keys that break ties.
 
-/// What players of one score are told apart by.
+/// What tells players of one score apart.
 #[derive(Debug, Clone, Copy, PartialEq, Eq)]
 pub enum Key {
-    /// Direct encounter: the half points of the games among those who are level so far, where all of them have met.
+    /// Direct encounter: the half points of the games among those who are level so far, if all of them have met.
     Direct,
     /// Buchholz: the sum of the opponents' scores, in half points.
     Buchholz,
-    /// Sonneborn-Berger: the sum of the opponents' scores, each times the own result, in quarters of a point.
+    /// Sonneborn-Berger: the sum of the opponents' scores, each times what the player got, in quarters of a point.
     SonnebornBerger,
 }

@@ -46,7 +46,7 @@ fn group_of(alloc: Global, rows: &[Row], row: &Row) -> Result<Vec<u16>, AllocErr
         .collect(alloc)
 }
 
-// Whether one of a group has met each other.
+// Whether one of a group has met all others of it.
 fn has_met_all(report: &Report<'_>, rounds: u8, start: u16, group: &[u16]) -> bool
     requires { rounds ≡ rounds_played report.now }
     ensures { result ≡ list_all (λ other. (start == other) || have_met report.now start other) group.now }
@@ -106,7 +106,7 @@ fn direct_in(report: &Report<'_>, rounds: u8, group: &[u16], start: u16) -> Opti
     None
 }
 
-/// The value of a key for a row, where the rows have the values of the keys before.
+/// The value of a key for a row, given rows that have the values of the keys before it.
 pub(crate) fn value_of(
     alloc: Global,
     report: &Report<'_>,

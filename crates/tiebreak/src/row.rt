@@ -6,7 +6,7 @@ ghost use Rattle.tiebreak.specs.Standings.{with_value, goes_before};
 use std::alloc::{AllocError, Global};
 use std::marker::Model;
 
-/// A player, his score, and the values of the keys in their order.
+/// A player, their score, and the values of the keys in their order.
 #[derive(Drop)]
 pub struct Row {
     start: u16,
@@ -50,7 +50,7 @@ impl Row {
         self.score
     }
 
-    /// The values of the keys, in the order of the keys: half points, and quarters of a point for Sonneborn-Berger. None is where
+    /// The values of the keys, in the order of the keys: half points, and quarters of a point for Sonneborn-Berger. A value is none if
     /// direct encounter tells nothing.
     pub fn values(&self) -> &[Option<u32>]
         ensures { result.now ≡ self.now.values }
@@ -71,7 +71,7 @@ impl Row {
         })
     }
 
-    // Whether neither the scores nor the values tell two rows apart.
+    // Whether two rows have the same score and the same values.
     pub(crate) fn is_level(&self, other: &Row) -> bool
         ensures { result ≡ is_level self.now other.now }
     {

@@ -87,9 +87,9 @@ fn with_keys(alloc: Global, report: &Report<'_>, keys: &[Key]) -> Result<Vec<Row
     Ok(rows)
 }
 
-/// The standings of a report over the rounds that were paired, with the keys that break ties, in their order; a key may be named
-/// again, or none. Why there are none is told in this order: a game without a result (by the players' lines, then by round), the
-/// first line `XXS`, memory.
+/// The standings of a report over the rounds that were paired, with the keys that break ties, in their order. A key may be named
+/// twice, and there may be none. If there are no standings, the reason is the first of these: a game without a result (by the players'
+/// lines, then by round), the first line `XXS`, memory.
 #[tactic(auto, unfolding(crate::specs::Standings::standings_of))]
 pub fn table(alloc: Global, report: &Report<'_>, keys: &[Key]) -> Result<Standings, TieFault>
     ensures { Gives result (standings_of report.now keys.now) }

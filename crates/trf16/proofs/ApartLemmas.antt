@@ -13,7 +13,7 @@ use Rattle.std.specs.List.{position}
 use Rattle.std.proofs.lemmas.List.{length-map}
 use Rattle.std.proofs.lemmas.List.Quantifiers.{position-Some}
 use Rattle.std.proofs.lemmas.Bool.{eqb-true}
-use Rattle.trf16.specs.Notes.{are_marked, TellsApart}
+use Rattle.trf16.specs.Notes.{are_marked, start_at, TellsApart}
 use Rattle.trf16.specs.declared.apart.Apart.{Apart}
 
 -- a mark for each two of one sheet is one of another with the same lines and start ranks
@@ -90,3 +90,25 @@ looked_up of sheet a b i j told li lj first second =
     ∙ ap (λ (xs : List ℕ). some_carried (names_both (slice_index_or xs i 0) (slice_index_or xs j 0)) sheet) told.starts
     ∙ ap (λ (x : ℕ). some_carried (names_both x (slice_index_or (starts_of sheet.players) j 0)) sheet) first
     ∙ ap (λ (y : ℕ). some_carried (names_both a y) sheet) second
+
+-- who is named together, where the places are those of the players of a sheet; and where no line names two
+pub told : {E : Type 0} (r : Result Apart E) (sheet given : Sheet) (keys : List ℕ) (n : ℕ) → keys ≡ starts_of sheet.players → n ≡ length sheet.players
+    → ((test : List (List ℕ) → Bool) → some_carried test given ≡ some_carried test sheet)
+    → IfOk r (λ apart. (i j : ℕ) → i < vec_len apart.starts → j < vec_len apart.starts → are_marked apart i j ≡ some_carried (names_both (start_at apart i) (start_at apart j)) given)
+    → IfOk r (λ apart. apart.starts.items ≡ keys) → IfOk r (λ apart. vec_len apart.starts ≡ n) → IfOk r (λ apart. TellsApart apart sheet)
+told (Ok apart) sheet given keys n keyed size same both starts count = record {
+  starts = starts ∙ keyed;
+  count = count ∙ size;
+  both = λ i j li lj. both i j li lj ∙ same (names_both (start_at apart i) (start_at apart j));
+}
+told (Err e) sheet given keys n keyed size same both starts count = tt
+
+pub told_none : {E : Type 0} (r : Result Apart E) (sheet : Sheet) (keys : List ℕ) (n : ℕ) → keys ≡ starts_of sheet.players → n ≡ length sheet.players
+    → some_carried (is_kind (codes "XXP")) sheet ≡ false → IfOk r (λ apart. (i j : ℕ) → are_marked apart i j ≡ false)
+    → IfOk r (λ apart. apart.starts.items ≡ keys) → IfOk r (λ apart. vec_len apart.starts ≡ n) → IfOk r (λ apart. TellsApart apart sheet)
+told_none (Ok apart) sheet keys n keyed size nobody none starts count = record {
+  starts = starts ∙ keyed;
+  count = count ∙ size;
+  both = λ i j li lj. none i j ∙ sym (not_any (start_at apart i) (start_at apart j) sheet nobody);
+}
+told_none (Err e) sheet keys n keyed size nobody none starts count = tt

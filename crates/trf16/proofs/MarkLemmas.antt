@@ -1,15 +1,17 @@
--- Marks of which none is set, one of them that is set, and the places of some.
-use Rattle.std.proofs.Common.{◌≡◌, ℕ, zero, suc, ◌+◌, ◌*◌, ◌<◌, ◌≤◌, Bool, true, false, ◌&&◌, ◌||◌, ◌==◌, List, [], ◌∷◌, length, refl, sym, ap, ◌∙◌, ◌++◌, nat_lt, slice_index_or, inl, inr, ◌≢◌, arith}
-use Rattle.std.specs.List.{AllByRecursion, AllClonesOf}
+-- Marks of which none is set, one of them that is set or taken away, and the places of some.
+use Rattle.std.proofs.Common.{◌≡◌, ℕ, zero, suc, ◌+◌, ◌*◌, ◌<◌, ◌≤◌, Bool, true, false, cond, ◌&&◌, ◌||◌, ◌==◌, nat_eq, List, [], ◌∷◌, Option, Some, None, length, refl, sym, ap, ◌∙◌, nat_lt, slice_index_or, inl, inr, ◌≢◌, arith}
+use Rattle.std.specs.List.{AllClonesOf, IsDistinct, position, position_from}
+use Rattle.std.specs.Option.{option_map_or}
 use Rattle.std.proofs.Math.ListN.{set}
 use Rattle.std.proofs.Math.Nat.{mul-suc, mul-le-mul_left}
-use Rattle.std.proofs.Math.Bool.{or-true, or-false, and-false}
-use Rattle.std.proofs.lemmas.Bool.{cases_lt}
+use Rattle.std.proofs.Math.Bool.{or-true, or-false, and-true, and-false}
+use Rattle.std.proofs.lemmas.Bool.{cases_lt, cases_order, eq-eqb, ne_eqb, eqb-true}
 use Rattle.std.proofs.lemmas.Bool.Decides.{eqb_tells, nat_tests}
 use Rattle.std.proofs.lemmas.Grind.{get_or-set_at}
-use Rattle.std.proofs.lemmas.List.{get_or-set_other}
-use Rattle.std.proofs.lemmas.List.Folds.{list_any-append}
-use Rattle.trf16.specs.Notes.{is_place}
+use Rattle.std.proofs.lemmas.Iterator.Adapters.{position_from-zero}
+use Rattle.std.proofs.lemmas.List.{get_or-set_other, set-get_or}
+use Rattle.std.proofs.lemmas.List.Quantifiers.{position-Some}
+use Rattle.std.proofs.lemmas.Map.Keys.{apart_from_distinct}
 
 -- whatever is a clone of false is false
 pub none_marked : (marks : List Bool) (i : ℕ) → AllClonesOf (λ x y. y ≡ x) false marks → slice_index_or marks i false ≡ false
@@ -59,31 +61,67 @@ marked_at marks n i j k l room room' within =
           ∙ sym (rw (other.0) (or-false (slice_index_or marks (n * k + l) false)))
     ]
 
--- the places of those in front of whom something holds: one place more
+-- a mark joined by another in its row and place alone
+pub joined_at : (marks : List Bool) (n i j k l : ℕ) (v : Bool) → j < n → l < n → n * i + j < length marks
+    → slice_index_or (set marks (n * i + j) (slice_index_or marks (n * i + j) false || v)) (n * k + l) false
+    ≡ (slice_index_or marks (n * k + l) false || ((i == k) && ((j == l) && v)))
+joined_at marks n i j k l true room room' within =
+    ap (λ v. slice_index_or (set marks (n * i + j) v) (n * k + l) false) (or-true (slice_index_or marks (n * i + j) false))
+    ∙ marked_at marks n i j k l room room' within
+    ∙ ap (λ b. slice_index_or marks (n * k + l) false || ((i == k) && b)) (sym (and-true (j == l)))
+joined_at marks n i j k l false room room' within =
+    ap (λ v. slice_index_or (set marks (n * i + j) v) (n * k + l) false) (or-false (slice_index_or marks (n * i + j) false))
+    ∙ ap (λ (xs : List Bool). slice_index_or xs (n * k + l) false) (set-get_or marks (n * i + j) false)
+    ∙ sym (ap (λ b. slice_index_or marks (n * k + l) false || ((i == k) && b)) (and-false (j == l))
+    ∙ ap (λ b. slice_index_or marks (n * k + l) false || b) (and-false (i == k)) ∙ or-false (slice_index_or marks (n * k + l) false))
+
 same_in_front : (n k : ℕ) → n ≢ k → nat_lt k (n + 1) ≡ nat_lt k n
 same_in_front n k other = grind (arith, nat_tests)
 
-pub place_added : (places : List ℕ) (n k : ℕ) (holds : ℕ → Bool) → is_place places k ≡ (nat_lt k n && holds k) → holds n ≡ true
-    → is_place (places ++ n ∷ []) k ≡ (nat_lt k (n + 1) && holds k)
-place_added places n k holds before here =
-    list_any-append (λ place. place == k) places (n ∷ []) ∙ ap (λ b. b || ((n == k) || false)) before
-    ∙ elim (eqb_tells n k) [
+-- those in front of a place, and the one at it
+pub row_more : (named : List Bool) (p l : ℕ) (before row : Bool)
+    → ((before || (row && (nat_lt l p && slice_index_or named l false))) || (row && ((p == l) && slice_index_or named p false)))
+    ≡ (before || (row && (nat_lt l (p + 1) && slice_index_or named l false)))
+row_more named p l true row = refl
+row_more named p l false false = refl
+row_more named p l false true =
+    elim (eqb_tells p l) [
       | inl same ↦
-          let last : nat_lt k (n + 1) ≡ true = (let is : n ≡ k = same.1 in grind (arith, nat_tests)) in
-          let held : holds k ≡ true = ap holds (sym same.1) ∙ here in
-          rw (same.0, last, held) (or-true (nat_lt k n && true))
-      | inr other ↦ rw (other.0, same_in_front n k other.1) (or-false (nat_lt k n && holds k))
+          let last : nat_lt l (p + 1) ≡ true = (let is : p ≡ l = same.1 in grind (arith, nat_tests)) in
+          let front : nat_lt l p ≡ false = (let is : p ≡ l = same.1 in grind (arith, nat_tests)) in
+          let value : slice_index_or named p false ≡ slice_index_or named l false = ap (λ k. slice_index_or named k false) same.1 in
+          rw (last, front, same.0) value
+      | inr other ↦ rw (other.0, same_in_front p l other.1) (or-false (nat_lt l p && slice_index_or named l false))
     ]
 
-pub place_passed : (b : Bool) (n k : ℕ) (holds : ℕ → Bool) → b ≡ (nat_lt k n && holds k) → holds n ≡ false → b ≡ (nat_lt k (n + 1) && holds k)
-place_passed b n k holds before here =
-    before ∙ elim (eqb_tells n k) [
-      | inl same ↦
-          let none : holds k ≡ false = ap holds (sym same.1) ∙ here in
-          rw (none) (and-false (nat_lt k n) ∙ sym (and-false (nat_lt k (n + 1))))
-      | inr other ↦ rw (same_in_front n k other.1) refl
-    ]
+-- a key that is nowhere is not at a place, and one is at one place alone
+none_here : (t : ℕ → Bool) (i x : ℕ) (xs : List ℕ) → position_from t i (x ∷ xs) ≡ None → (t x ≡ false) × (position_from t (i + 1) xs ≡ None)
+none_here t i x xs e = by (t x) refl e
+  where
+    not_none : (k : ℕ) → ◌≡◌ {A = Option ℕ} (Some k) None → ⊥
+    not_none k e = cc
 
-pub within_added : (bound n : ℕ) (places : List ℕ) → n < bound → AllByRecursion (λ place. place < bound) places → AllByRecursion (λ place. place < bound) (places ++ n ∷ [])
-within_added bound n [] lt all = (lt, all)
-within_added bound n (place ∷ places) lt (here, rest) = (here, within_added bound n places lt rest)
+    by : (b : Bool) → t x ≡ b → cond b (Some i) (position_from t (i + 1) xs) ≡ None → (t x ≡ false) × (position_from t (i + 1) xs ≡ None)
+    by true is e = absurd (not_none i e)
+    by false is e = (is, e)
+
+none_from : (t : ℕ → Bool) (i : ℕ) (xs : List ℕ) (k : ℕ) → position_from t i xs ≡ None → k < length xs → t (slice_index_or xs k 0) ≡ false
+none_from t i [] k e lt = absurd (omega arith)
+none_from t i (x ∷ xs) zero e lt = (none_here t i x xs e).0
+none_from t i (x ∷ xs) (suc k) e lt = none_from t (i + 1) xs k (none_here t i x xs e).1 (omega arith)
+
+pub place_tells : (keys : List ℕ) (start k : ℕ) (found : Option ℕ) → IsDistinct nat_eq keys → found ≡ position (nat_eq start) keys → k < length keys
+    → option_map_or (λ place. place == k) found false ≡ (start == slice_index_or keys k 0)
+place_tells keys start k None distinct e lt = sym (none_from (nat_eq start) 0 keys k (sym (position_from-zero (nat_eq start) keys) ∙ sym e) lt)
+place_tells keys start k (Some i) distinct e lt =
+    let found = position-Some (nat_eq start) keys i 0 (sym e) in
+    elim (cases_order i k) [
+      | inl same ↦ eq-eqb i k same ∙ sym (ap (λ j. nat_eq start (slice_index_or keys j 0)) (sym same) ∙ found.1)
+      | inr other ↦
+          elim other [
+            | inl below ↦
+                ne_eqb i k (λ same. omega arith)
+                ∙ sym (ap (λ s. nat_eq s (slice_index_or keys k 0)) (eqb-true start (slice_index_or keys i 0) found.1) ∙ apart_from_distinct nat_eq keys i k 0 distinct below lt)
+            | inr above ↦ ne_eqb i k (λ same. omega arith) ∙ sym (found.2 k above)
+          ]
+    ]

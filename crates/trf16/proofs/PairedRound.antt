@@ -95,7 +95,7 @@ given (board ∷ rest) start cell e = by (board.0 == start) (board.1 == 0) refl 
         (record { paired = refl; said = refl; names = λ o names. subst (λ n. list_any (nat_eq n) (named_by (board ∷ rest)) ≡ true) (one_is board.0 o names) (named_head board rest) })
     by false bye is false e later = later e
 
--- whoever meets somebody on a board is answered by him
+-- whoever meets somebody on a board is answered by them
 record IsMet (boards : List (ℕ × ℕ)) (start : ℕ) (cell : Cell) (opponent : ℕ) : Type 0 where
   theirs : Cell
   names : opponent_in_cell cell ≡ Some opponent

@@ -53,7 +53,7 @@ none_from (Some x) e = absurd (true_false e)
     true_false : true ≡ false → ⊥
     true_false e = cc
 
--- a player whose key is his start rank keeps the entries keyed
+-- a player whose key is their start rank keeps the entries keyed
 pub keyed-push : (es : List (ℕ × Player)) (p : Player) → keys_of es ≡ map (λ e. e.1.start) es
     → keys_of (es ++ (p.start, p) ∷ []) ≡ map (λ e. e.1.start) (es ++ (p.start, p) ∷ [])
 keyed-push es p keyed =

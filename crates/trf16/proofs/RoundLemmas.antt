@@ -95,7 +95,7 @@ turned-more turn keeps done entry rest all player same paired =
           ∙ append_assoc entries (entry_of player ∷ []) others ∙ ap (λ (e : Entry). entries ++ e ∷ others) same ∙ paired.whole;
     }
 
--- one more player, as the loop inserts him
+-- one more player, as the loop inserts them
 pub turned-insert : {S : Type 0} (turn : Entry → Entry) → KeepsStart turn → (done : IndexMap ℕ Player S) (entry : Entry) (coming rest all : List Entry) (player : Player) (new : List (ℕ × Player))
     → coming ≡ entry ∷ rest → AreTurned turn done.entries coming all → entry_of player ≡ turn entry
     → new ≡ insert_entry nat_eq done.entries entry.start player → IsDistinct nat_eq (starts_of all) → AreTurned turn new rest all

@@ -1,4 +1,4 @@
--- A report whose points fields are summed: its verdict is that of the report but for the rule on points, and its canonical text is
+-- A report whose points fields are summed: its verdict is that of the report without the rule on points, and its canonical text is
 -- accepted.
 --
 -- Summing is a change of players as the round trip allows it (`Turns`). Start ranks and cells stay, so the rules on two players hold

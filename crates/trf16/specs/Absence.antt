@@ -30,7 +30,7 @@ is_absence (Unfinished opponent colour) = false
 abbrev pub is_named_absent : Sheet → ℕ → Bool
 is_named_absent sheet start = some_carried (names_absent start) sheet
 
--- a player is absent from the next round: a line XXZ names him, or his cell there says so (our own choice)
+-- a player is absent from the next round: a line XXZ names them, or their cell there says so (our own choice)
 abbrev pub absent : Sheet → ℕ → Bool
 absent sheet start = is_named_absent sheet start || is_absence (cell_in sheet start (rounds_played sheet + 1))
 

@@ -1,6 +1,5 @@
 -- What is noted of the carried lines while they are read, and what it must agree with.
 use Rattle.std.specs.Prelude.{◌≡◌, ℕ, ◌+◌, ◌*◌, ◌<◌, Bool, true, false, ◌||◌, ◌==◌, nat_lt, codes, length, map, vec_len, if◌then◌else◌, List, [], ◌∷◌, Option, Some, None, slice_index_or}
-use Rattle.std.specs.List.{list_any}
 use Rattle.std.specs.Option.{option_or}
 use Rattle.std.specs.Str.{byte}
 use Rattle.trf16.specs.Sheet.{Sheet}
@@ -63,10 +62,6 @@ pub record Tells (notes : Notes) (sheet : Sheet) : Type 0 where
 -- whether two players, by their places in the order of the lines, are marked as named together
 abbrev pub are_marked : Apart → ℕ → ℕ → Bool
 are_marked apart i j = slice_index_or apart.marks.items (vec_len apart.starts * i + j) false
-
--- a place is one of some
-abbrev pub is_place : List ℕ → ℕ → Bool
-is_place places k = list_any (λ place. place == k) places
 
 -- the start rank of the player at a place
 abbrev pub start_at : Apart → ℕ → ℕ

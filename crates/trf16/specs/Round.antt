@@ -23,13 +23,13 @@ pub record CanBePaired (boards : List (ℕ × ℕ)) (sheet : Sheet) : Type 0 whe
   pub once : IsDistinct nat_eq (named_by boards)
   pub within : rounds_played sheet < MOST_ROUNDS
 
--- what a board gives a player, if it names him: a game without a result yet, or the pairing-allocated bye
+-- what a board gives a player, if it names them: a game without a result yet, or the pairing-allocated bye
 abbrev pub cell_on : ℕ × ℕ → ℕ → Option Cell
 cell_on board start =
     if board.0 == start then Some (if board.1 == 0 then Bye Allocated else Unfinished board.1 White)
     else (if board.1 == start then Some (Unfinished board.0 Black) else None)
 
--- what the first of some boards that names a player gives him
+-- what the first of some boards that names a player gives them
 abbrev pub cell_by : List (ℕ × ℕ) → ℕ → Option Cell
 cell_by [] start = None
 cell_by (board ∷ rest) start = option_map_or (λ cell. Some cell) (cell_on board start) (cell_by rest start)
@@ -45,8 +45,8 @@ with_cell (suc before) cell (first ∷ rest) = first ∷ with_cell before cell r
 abbrev pub cells_with : List (ℕ × ℕ) → ℕ → Entry → List Cell
 cells_with boards before entry = option_map_or (λ cell. with_cell before cell entry.cells) (cell_by boards entry.start) entry.cells
 
--- a player with his cell of the next round; a points field that is not blank is the sum up to it, where the pairing-allocated bye
--- gives so many half points
+-- a player with their cell of the next round; a points field that is not blank is the sum up to it, with the pairing-allocated
+-- bye worth so many half points
 abbrev pub entry_with : ℕ → List (ℕ × ℕ) → ℕ → Entry → Entry
 entry_with bye boards before entry =
     let cells = cells_with boards before entry in

@@ -47,7 +47,7 @@ abbrev pub are_free : Sheet → List ℕ → Bool
 are_free sheet [] = true
 are_free sheet (start ∷ rest) = is_free sheet rest start && are_free sheet rest
 
--- a player with his cell of the next round and his points, where there are boards, or else with his points summed over so many rounds
+-- a player with their cell of the next round and their points if there are boards, or else with their points summed over so many rounds
 abbrev pub entry_turned : Option (List (ℕ × ℕ)) → ℕ → ℕ → Entry → Entry
 entry_turned (Some boards) bye rounds entry = entry_with bye boards rounds entry
 entry_turned None bye rounds entry = entry_summed bye rounds entry

@@ -61,7 +61,7 @@ fn pair_fits(player: u16, round: usize, mine: &Cell, theirs: &Cell) -> Result<()
     Ok(())
 }
 
-// A cell of a player in a round names a player, another one, who names him too.
+// A cell of a player in a round names another player of the report, who names the first one too.
 #[tactic(auto, unfolding(crate::specs::Answering::cell_fits))]
 fn cell_fits(report: &Report<'_>, player: u16, round: u8, cell: &Cell) -> Result<(), Fault>
     requires { 0 < round }
@@ -136,7 +136,7 @@ fn points_fit(report: &Report<'_>, player: &Player<'_>, rounds: u8) -> Result<()
     })
 }
 
-// The rounds of a player, and then his points.
+// The rounds of a player, and then their points.
 #[tactic(auto, unfolding(crate::specs::Answering::player_fits))]
 fn player_fits(report: &Report<'_>, player: &Player<'_>, rounds: u8) -> Result<(), Fault>
     requires { rounds ≡ rounds_played report.now }

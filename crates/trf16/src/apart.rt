@@ -2,7 +2,7 @@
 ghost use Rattle.std.specs.Prelude.{◌≤◌, vec_len};
 ghost use Rattle.trf16.specs.declared.limits.TheConstants.{MOST_PLAYERS};
 
-/// A mark for each two players, by their places in the order of the lines; no mark at all where no line names two.
+/// A mark for each two players, by their places in the order of the lines; no mark at all if no line names two.
 #[derive(Drop)]
 pub(crate) struct Apart {
     pub(crate) starts: Vec<u16>,

@@ -25,7 +25,7 @@ pub fn front(cells: &[Cell], rounds: u8) -> &[Cell]
     cells.split_at(cells.len().min(usize::from(rounds))).0
 }
 
-/// The half points of some rounds, where the pairing-allocated bye gives `bye`, 0 to 2.
+/// The half points of some rounds, if the pairing-allocated bye gives `bye`, 0 to 2.
 pub(crate) fn points_of(cells: &[Cell], bye: u16) -> u16
     requires rounds { length cells.now ≤ MOST_ROUNDS }
     requires worth { bye ≤ 2 }

@@ -1,4 +1,4 @@
-// The columns of a line: its characters where the text is UTF-8, else its bytes.
+// The columns of a line: its characters if the text is UTF-8, otherwise its bytes.
 ghost use Rattle.std.specs.Prelude.{◌≡◌, ℕ, ◌+◌, ◌-◌, ◌<◌, ◌≤◌, ◌∷◌, List, length, slice_index, take, drop, true, false, not, [], slice_index_or, IfOk};
 ghost use Rattle.trf16.specs.Lines.{columns, goes_on, text, joined, is_blank};
 ghost use Rattle.trf16.specs.Steps.{IsStart, AllStart};
@@ -37,7 +37,7 @@ fn follow_len(bytes: &[u8]) -> usize
         .unwrap_or(bytes.len())
 }
 
-/// How many bytes the first column has; none where the line is at its end.
+/// How many bytes the first column has; none if the line is at its end.
 pub(crate) fn column_len(bytes: &[u8], utf8: bool) -> usize
     ensures within { result ≤ length bytes.now }
     ensures first { take result bytes.now ≡ joined (take 1 (columns utf8 bytes.now)) }
@@ -108,7 +108,7 @@ impl<'a> Line<'a> {
 }
 
 /// The first columns of a line, and what stands behind them.
-pub(crate) fn split_columns(bytes: &[u8], utf8: bool, count: usize) -> (&[u8], &[u8])
+pub fn split_columns(bytes: &[u8], utf8: bool, count: usize) -> (&[u8], &[u8])
     ensures front { result.0.now ≡ joined (take count (columns utf8 bytes.now)) }
     ensures back { columns utf8 result.1.now ≡ drop count (columns utf8 bytes.now) }
     ensures rest { result.1.now ≡ joined (drop count (columns utf8 bytes.now)) }
@@ -122,14 +122,14 @@ pub(crate) fn split_columns(bytes: &[u8], utf8: bool, count: usize) -> (&[u8], &
 }
 
 /// The first three columns of a line, and what stands behind them.
-pub(crate) fn split_kind(bytes: &[u8], utf8: bool) -> (&[u8], &[u8])
+pub fn split_kind(bytes: &[u8], utf8: bool) -> (&[u8], &[u8])
     ensures kind { result.0.now ≡ text (columns utf8 bytes.now) 1 3 }
     ensures rest { result.1.now ≡ joined (drop 3 (columns utf8 bytes.now)) }
 {
     split_columns(bytes, utf8, 3)
 }
 
-/// How many columns a text has: characters where it is of a UTF-8 text, else bytes. It takes time in step with the text.
+/// How many columns a text has: characters if it is of a UTF-8 text, otherwise bytes. The time grows with the text.
 pub fn column_count(bytes: &[u8], utf8: bool) -> usize
     ensures { result ≡ length (columns utf8 bytes.now) }
 {
@@ -144,7 +144,7 @@ pub fn column_count(bytes: &[u8], utf8: bool) -> usize
 }
 
 /// Whether there is nothing but blanks.
-pub(crate) fn is_blank(bytes: &[u8]) -> bool
+pub fn is_blank(bytes: &[u8]) -> bool
     ensures { result ≡ is_blank bytes.now }
 {
     bytes.iter().all(|byte| *byte == b' ')

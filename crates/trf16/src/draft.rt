@@ -136,29 +136,16 @@ impl<'a> Draft<'a> {
         }
     }
 
-    // The start ranks of the players, in the order of their lines.
-    fn starts(&self, alloc: Global) -> Result<Vec<u16>, AllocError>
-        ensures value { IfOk result (λ starts. starts.items ≡ map (λ entry. entry.start) self.now.players) }
-        ensures few { IfOk result (λ starts. vec_len starts ≡ length self.now.players) }
-    {
-        let mut starts = Vec::new(alloc);
-        for player in self.players.values() {
-            starts.push(player.start)?;
-        }
-        Ok(starts)
-    }
-
     /// Who is named together by lines `XXP`, where it is noted whether there is one.
     pub(crate) fn apart(&self, alloc: Global, notes: &Notes) -> Result<Apart, AllocError>
         requires noted { Tells notes.now self.now }
         requires few { length self.now.players ≤ MOST_PLAYERS }
         ensures { IfOk result (λ apart. TellsApart apart self.now) }
     {
-        let starts = self.starts(alloc)?;
         if notes.together {
-            Apart::read(alloc, starts, self.text, self.utf8)
+            Apart::read(alloc, &self.players, self.text, self.utf8)
         } else {
-            Ok(Apart::none(alloc, starts))
+            Apart::none(alloc, &self.players)
         }
     }
 

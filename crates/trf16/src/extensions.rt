@@ -10,7 +10,7 @@ use crate::columns::split_kind;
 use crate::fields::{next_word, number_in, number_of};
 
 /// Whether two words are the same but for the case of their letters.
-pub(crate) fn is_word(word: &[u8], capitals: &[u8]) -> bool
+pub fn is_word(word: &[u8], capitals: &[u8]) -> bool
     ensures { result ≡ is_word word.now capitals.now }
 {
     word.eq_ignore_ascii_case(capitals)

@@ -39,9 +39,9 @@ pub enum Fault {
     NoPlayers,
     /// A player's opponent in a round is no player of the report.
     NoSuchOpponent { player: u16, round: usize },
-    /// A player is his own opponent.
+    /// A player is their own opponent.
     SelfOpponent { player: u16, round: usize },
-    /// A player's opponent does not name him in that round.
+    /// A player's opponent does not name them in that round.
     NotMutual { player: u16, round: usize },
     /// Two who meet do not have opposite colours.
     Colours { player: u16, round: usize },

@@ -30,8 +30,8 @@ fn word_len(bytes: &[u8]) -> usize
         .unwrap_or(bytes.len())
 }
 
-/// The first word of a text and what stands behind it, or none where there are only blanks.
-pub(crate) fn next_word(bytes: &[u8]) -> Option<(&[u8], &[u8])>
+/// The first word of a text and what stands behind it, or none if there are only blanks.
+pub fn next_word(bytes: &[u8]) -> Option<(&[u8], &[u8])>
     ensures first { MatchOption result (words bytes.now ≡ []) (λ x. words bytes.now ≡ x.0.now ∷ words x.1.now) }
     ensures shorter { IfSome result (λ x. length x.1.now < length bytes.now) }
 {
@@ -73,7 +73,7 @@ fn is_number(word: &[u8]) -> bool
 }
 
 /// The number that a word of one to four digits spells.
-pub(crate) fn number_of(word: &[u8]) -> Option<u16>
+pub fn number_of(word: &[u8]) -> Option<u16>
     ensures value { result ≡ number_of word.now }
     ensures bound { IfSome result (λ n. n < 10000) }
 {
@@ -140,7 +140,7 @@ pub(crate) fn points_of(word: &[u8]) -> Option<u16>
     }
 }
 
-/// The points of a field in half points, none where it is blank; no answer where it is neither.
+/// The points of a field in half points, none if it is blank; no answer if it is neither.
 pub(crate) fn points_in(field: &[u8]) -> Option<Option<u16>>
     ensures value { result ≡ points_in (words field.now) }
     ensures bound { IfSome result (λ points. IfSome points (λ p. p < 20000)) }
@@ -168,7 +168,7 @@ pub(crate) fn trimmed(bytes: &[u8]) -> &[u8]
 }
 
 /// A text without the blanks at its ends.
-pub(crate) fn without_blanks(bytes: &[u8]) -> &[u8]
+pub fn without_blanks(bytes: &[u8]) -> &[u8]
     ensures { result.now ≡ without_blanks bytes.now }
 {
     for (i, byte) in bytes.iter().enumerate() {

@@ -108,7 +108,7 @@ fn cell_of(opponent: Option<u16>, colour_mark: u8, result_mark: u8) -> Option<Ce
     }
 }
 
-// The opponent that a field names; none where it is blank or 0, and no answer where it is no number.
+// The opponent that a field names; none if it is blank or 0, and no answer if it is no number.
 fn opponent_in(field: &[u8]) -> Option<Option<u16>>
     ensures { result ≡ opponent_in (words field.now) }
 {

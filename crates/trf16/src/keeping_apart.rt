@@ -1,10 +1,10 @@
 // Marking which players are named together by lines `XXP`: each line names a set, and each two of it are marked.
-ghost use Rattle.std.specs.Prelude.{◌≡◌, ℕ, ◌<◌, ◌≤◌, ◌&&◌, ◌||◌, ◌==◌, ◌*◌, false, codes, IfOk, vec_len};
-ghost use Rattle.std.specs.List.{AllByRecursion};
+ghost use Rattle.std.specs.Prelude.{◌≡◌, ℕ, ◌<◌, ◌≤◌, ◌&&◌, ◌||◌, ◌==◌, ◌+◌, ◌*◌, [], false, length, slice_index_or, IfOk, vec_len};
+ghost use Rattle.std.specs.Map.{keys_of};
 ghost use Rattle.trf16.specs.Lines.{lines, columns};
-ghost use Rattle.trf16.specs.Fields.{words};
-ghost use Rattle.trf16.specs.Extensions.{is_word, is_named, names_both};
-ghost use Rattle.trf16.specs.Notes.{has_start, are_marked, is_place, start_at};
+ghost use Rattle.trf16.specs.Extensions.{names_both};
+ghost use Rattle.trf16.specs.Places.{is_place};
+ghost use Rattle.trf16.specs.Notes.{are_marked, start_at};
 ghost use Rattle.trf16.specs.Verdict.{without_players};
 ghost use Rattle.trf16.specs.Absence.{some_carried};
 ghost use Rattle.trf16.specs.declared.limits.TheConstants.{MOST_PLAYERS};
@@ -13,29 +13,37 @@ use crate::apart::Apart;
 use crate::columns::split_kind;
 use crate::extensions::is_word;
 use crate::lines::next_line;
-use crate::start_ranks::StartRanks;
+use crate::named::Named;
+use crate::player::Player;
+use indexmap::IndexMap;
 use std::alloc::{AllocError, Global};
 
 impl Apart {
     /// Nobody is named together with another.
-    pub(crate) fn none(alloc: Global, starts: Vec<u16>) -> Apart
-        requires { vec_len starts ≤ MOST_PLAYERS }
-        ensures none { (i j : ℕ) → are_marked result i j ≡ false }
-        ensures same { result.starts ≡ starts }
+    pub(crate) fn none(
+        alloc: Global,
+        players: &IndexMap<u16, Player<'_>>,
+    ) -> Result<Apart, AllocError>
+        requires { length players.now.entries ≤ MOST_PLAYERS }
+        ensures none { IfOk result (λ apart. (i j : ℕ) → are_marked apart i j ≡ false) }
+        ensures starts { IfOk result (λ apart. apart.starts.items ≡ keys_of players.now.entries) }
+        ensures count { IfOk result (λ apart. vec_len apart.starts ≡ length players.now.entries) }
     {
-        Apart {
-            starts,
+        Ok(Apart {
+            starts: starts_of(alloc, players)?,
             marks: Vec::new(alloc),
-        }
+        })
     }
 
     // The same with room for a mark for each two.
-    fn with_room(alloc: Global, starts: Vec<u16>) -> Result<Apart, AllocError>
-        requires { vec_len starts ≤ MOST_PLAYERS }
+    fn with_room(alloc: Global, players: &IndexMap<u16, Player<'_>>) -> Result<Apart, AllocError>
+        requires { length players.now.entries ≤ MOST_PLAYERS }
         ensures none { IfOk result (λ apart. (i j : ℕ) → are_marked apart i j ≡ false) }
-        ensures same { IfOk result (λ apart. apart.starts ≡ starts) }
+        ensures starts { IfOk result (λ apart. apart.starts.items ≡ keys_of players.now.entries) }
+        ensures count { IfOk result (λ apart. vec_len apart.starts ≡ length players.now.entries) }
         ensures room { IfOk result (λ apart. vec_len apart.marks ≡ vec_len apart.starts * vec_len apart.starts) }
     {
+        let starts = starts_of(alloc, players)?;
         let places = starts.len();
         let marks = Vec::from_elem(alloc, false, places * places)?;
         Ok(Apart { starts, marks })
@@ -65,94 +73,94 @@ impl Apart {
         }
     }
 
-    // Marks two players.
-    fn mark(&mut self, i: usize, j: usize)
-        requires first { i < vec_len self.old.starts }
-        requires second { j < vec_len self.old.starts }
+    // Marks each two of those who are named.
+    fn mark_each_two(&mut self, named: &Named)
+        requires count { vec_len named.now.marks ≡ vec_len self.old.starts }
         requires room { vec_len self.old.marks ≡ vec_len self.old.starts * vec_len self.old.starts }
-        ensures marked { (k l : ℕ) → l < vec_len self.old.starts → are_marked self.new k l ≡ (are_marked self.old k l || ((i == k) && (j == l))) }
+        ensures marked { (k l : ℕ) → l < vec_len self.old.starts → are_marked self.new k l ≡ (are_marked self.old k l || (is_place named.now.places.items k && is_place named.now.places.items l)) }
         ensures same { self.new.starts ≡ self.old.starts }
         ensures room { vec_len self.new.marks ≡ vec_len self.new.starts * vec_len self.new.starts }
     {
-        self.marks[self.starts.len() * i + j] = true;
-    }
-
-    // The places of those who are named.
-    fn places_of(&self, alloc: Global, named: &StartRanks) -> Result<Vec<usize>, AllocError>
-        ensures named { IfOk result (λ places. (k : ℕ) → k < vec_len self.now.starts → is_place places.items k ≡ has_start named.now (start_at self.now k)) }
-        ensures inside { IfOk result (λ places. AllByRecursion (λ place. place < vec_len self.now.starts) places.items) }
-    {
-        let mut places = Vec::new(alloc);
-        for place in 0..self.starts.len() {
-            if named.has(self.starts[place]) {
-                places.push(place)?;
-            }
-        }
-        Ok(places)
-    }
-
-    // Marks a player together with each of some.
-    fn mark_row(&mut self, i: usize, places: &[usize])
-        requires first { i < vec_len self.old.starts }
-        requires inside { AllByRecursion (λ place. place < vec_len self.old.starts) places.now }
-        requires room { vec_len self.old.marks ≡ vec_len self.old.starts * vec_len self.old.starts }
-        ensures marked { (k l : ℕ) → l < vec_len self.old.starts → are_marked self.new k l ≡ (are_marked self.old k l || ((i == k) && is_place places.now l)) }
-        ensures same { self.new.starts ≡ self.old.starts }
-        ensures room { vec_len self.new.marks ≡ vec_len self.new.starts * vec_len self.new.starts }
-    {
-        for place in places {
-            self.mark(i, *place);
+        for place in &named.places {
+            mark_row(&mut self.marks, *place, &named.marks);
         }
     }
 
-    // Marks each two of some.
-    fn mark_each_two(&mut self, places: &[usize])
-        requires inside { AllByRecursion (λ place. place < vec_len self.old.starts) places.now }
+    // Marks each two whom a line names, if it is of the kind `XXP`. Nobody is named before it and behind it.
+    fn mark_line(
+        &mut self,
+        players: &IndexMap<u16, Player<'_>>,
+        named: &mut Named,
+        line: &[u8],
+        utf8: bool,
+    ) -> Result<(), AllocError>
+        requires starts { self.old.starts.items ≡ keys_of players.now.entries }
+        requires count { vec_len self.old.starts ≡ length players.now.entries }
         requires room { vec_len self.old.marks ≡ vec_len self.old.starts * vec_len self.old.starts }
-        ensures marked { (k l : ℕ) → l < vec_len self.old.starts → are_marked self.new k l ≡ (are_marked self.old k l || (is_place places.now k && is_place places.now l)) }
-        ensures same { self.new.starts ≡ self.old.starts }
-        ensures room { vec_len self.new.marks ≡ vec_len self.new.starts * vec_len self.new.starts }
-    {
-        for place in places {
-            self.mark_row(*place, places);
-        }
-    }
-
-    // Marks each two whom a line names, if it is of the kind `XXP`.
-    fn mark_line(&mut self, alloc: Global, line: &[u8], utf8: bool) -> Result<(), AllocError>
-        requires room { vec_len self.old.marks ≡ vec_len self.old.starts * vec_len self.old.starts }
+        requires nobody { named.old.places.items ≡ [] }
+        requires all { vec_len named.old.marks ≡ length players.now.entries }
         ensures marked { IfOk result (λ _. (k l : ℕ) → k < vec_len self.old.starts → l < vec_len self.old.starts → are_marked self.new k l ≡ (are_marked self.old k l || names_both (start_at self.old k) (start_at self.old l) (columns utf8 line.now))) }
-        ensures same { IfOk result (λ _. self.new.starts ≡ self.old.starts) }
-        ensures room { IfOk result (λ _. vec_len self.new.marks ≡ vec_len self.new.starts * vec_len self.new.starts) }
+        ensures same { self.new.starts ≡ self.old.starts }
+        ensures room { vec_len self.new.marks ≡ vec_len self.new.starts * vec_len self.new.starts }
+        ensures nobody { IfOk result (λ _. named.new.places.items ≡ []) }
+        ensures all { vec_len named.new.marks ≡ vec_len named.old.marks }
     {
         let (kind, rest) = split_kind(line, utf8);
-        if is_word(kind, b"XXP") {
-            let mut named = StartRanks::new(alloc)?;
-            named.mark_words(rest);
-            let places = self.places_of(alloc, &named)?;
-            self.mark_each_two(&places);
+        if !is_word(kind, b"XXP") {
+            return Ok(());
         }
+        named.add_words(players, rest)?;
+        self.mark_each_two(named);
+        named.clear();
         Ok(())
     }
 
     /// Who is named together by the lines of a text.
     pub(crate) fn read(
         alloc: Global,
-        starts: Vec<u16>,
+        players: &IndexMap<u16, Player<'_>>,
         text: &[u8],
         utf8: bool,
     ) -> Result<Apart, AllocError>
-        requires { vec_len starts ≤ MOST_PLAYERS }
-        ensures both { IfOk result (λ apart. (i j : ℕ) → i < vec_len starts → j < vec_len starts → are_marked apart i j ≡ some_carried (names_both (start_at apart i) (start_at apart j)) (without_players utf8 (lines text.now) 0)) }
-        ensures same { IfOk result (λ apart. apart.starts ≡ starts) }
+        requires { length players.now.entries ≤ MOST_PLAYERS }
+        ensures both { IfOk result (λ apart. (i j : ℕ) → i < vec_len apart.starts → j < vec_len apart.starts → are_marked apart i j ≡ some_carried (names_both (start_at apart i) (start_at apart j)) (without_players utf8 (lines text.now) 0)) }
+        ensures starts { IfOk result (λ apart. apart.starts.items ≡ keys_of players.now.entries) }
+        ensures count { IfOk result (λ apart. vec_len apart.starts ≡ length players.now.entries) }
     {
-        let mut apart = Apart::with_room(alloc, starts)?;
+        let mut apart = Apart::with_room(alloc, players)?;
+        let mut named = Named::none(alloc, players.len())?;
         let mut rest = text;
         while !rest.is_empty() {
             let (line, after) = next_line(rest);
-            apart.mark_line(alloc, line, utf8)?;
+            apart.mark_line(players, &mut named, line, utf8)?;
             rest = after;
         }
         Ok(apart)
+    }
+}
+
+// The start ranks of the players, in the order of their lines.
+fn starts_of(alloc: Global, players: &IndexMap<u16, Player<'_>>) -> Result<Vec<u16>, AllocError>
+    ensures value { IfOk result (λ starts. starts.items ≡ keys_of players.now.entries) }
+    ensures count { IfOk result (λ starts. vec_len starts ≡ length players.now.entries) }
+{
+    let mut starts = Vec::new(alloc);
+    for start in players.keys() {
+        starts.push(*start)?;
+    }
+    Ok(starts)
+}
+
+// Marks in the row of a player each who is named.
+fn mark_row(marks: &mut [bool], i: usize, named: &[bool])
+    requires row { i < length named.now }
+    requires few { length named.now ≤ MOST_PLAYERS }
+    requires room { length marks.old ≡ length named.now * length named.now }
+    ensures marked { let n = length named.now in (k l : ℕ) → l < n → slice_index_or marks.new (n * k + l) false ≡ (slice_index_or marks.old (n * k + l) false || ((i == k) && slice_index_or named.now l false)) }
+    ensures len { length marks.new ≡ length marks.old }
+{
+    let front = named.len() * i;
+    for place in 0..named.len() {
+        marks[front + place] |= named[place];
     }
 }

@@ -27,13 +27,13 @@ pub fn law_points()
     ensures { (points : ℕ) → points < 200 → points_in (words (right_in_four (points_text points))) ≡ Some (Some points) }
 {}
 
-/// A word spells points exactly where it has one to four bytes and is digits, behind which nothing stands or a point or comma and then
-/// 0 or 5: twice the number and the half point.
+/// A word spells points exactly if it has one to four bytes: digits, and behind them nothing, or a point or comma and then 0 or 5. The
+/// half points are twice the number, and one more for a 5.
 pub fn law_points_spelled()
     ensures { (word : List ℕ) → (points : ℕ) → (points_of word ≡ Some points) ↔ ((1 ≤ length word) × (length word ≤ 4) × SpellsPoints 0 word points) }
 {}
 
-/// A cell that some fields spell has eight columns where it is written, and its fields there (opponent in columns 1 to 4 of the
+/// A cell that some fields spell has eight columns when it is written, and its fields there (opponent in columns 1 to 4 of the
 /// eight, colour in 6 and result in 8) spell it again.
 pub fn law_cells()
     ensures size { (opponent : List ℕ) → (colour : List ℕ) → (outcome : List ℕ) → (cell : Cell) → cell_from opponent colour outcome ≡ Some cell → length (cell_text cell) ≡ 8 }
@@ -41,7 +41,7 @@ pub fn law_cells()
         → cell_from (slice_range (cell_text cell) 0 4) (slice_range (cell_text cell) 5 6) (slice_range (cell_text cell) 7 8) ≡ Some cell }
 {}
 
-/// The columns of a line are its characters where it is UTF-8, and else its bytes.
+/// The columns of a line are its characters if it is UTF-8, and otherwise its bytes.
 pub fn law_columns()
     ensures characters { (bytes : List ℕ) → is_utf8 bytes ≡ true → columns true bytes ≡ map encode_utf8 (chars bytes) }
     ensures bytes { (bytes : List ℕ) → columns false bytes ≡ map (λ b. b ∷ []) bytes }
@@ -59,7 +59,7 @@ pub fn law_round_trip()
         → verdict (written report) report.bye ≡ Ok report }
 {}
 
-/// The canonical text of a report that was read, and whose next round some boards then are, reads back as that report, by what the
+/// If some boards are put into a report that was read, as its next round, the canonical text reads back as that report, by what the
 /// pairing-allocated bye gives in it, unless it is too long.
 pub fn law_round_trip_with_round()
     ensures { (bytes : List ℕ) → (bye : ℕ) → (report : Sheet) → (boards : List (ℕ × ℕ)) → bye ≤ 2 → verdict bytes bye ≡ Ok report
@@ -67,8 +67,8 @@ pub fn law_round_trip_with_round()
         → verdict (written (with_round boards report)) report.bye ≡ Ok (with_round boards report) }
 {}
 
-/// The verdict on a text whose points fields are not compared is the verdict but for its last rule: where they differ, the verdict is that
-/// some points field is no sum.
+/// The verdict on a text whose points fields are not compared is the verdict without its last rule: if the two differ, the verdict is
+/// that some points field is no sum.
 pub fn points_are_the_last_rule()
     ensures { (bytes : List ℕ) → (bye : ℕ) → IsButForPoints (verdict bytes bye) (verdict_unsummed bytes bye) }
 {}

@@ -3,12 +3,12 @@
 //! `read` gives the report that a text is, or the first rule that it breaks, in one stated order. A question to a `Report` gives the
 //! value of its definition over the report's lines. `write` gives the canonical text, and what it writes reads back as the same report.
 //!
-//! A report borrows its text. Beside it, it keeps its players with their cells, at most 1,024 players of 64 rounds, a mark for each
-//! start rank, and a mark for each two players where a line `XXP` names some. It is read in a walk over the text, or in two where there
-//! is such a line. Questions walk it no more, but for `carried`, and for `apart` of a number that no player has.
+//! A report borrows its text. Beside the text it keeps its players with their cells, at most 1,024 players of 64 rounds; a mark for each
+//! start rank; and if a line `XXP` names players, a mark for each two players. The text is walked over once to read it, or twice if there
+//! is such a line. Questions do not walk over it again, except `carried`, and `apart` of a number that no player has.
 //!
-//! To mind: points are half points, rounds count from 1, and a player is named by his start rank. What the pairing-allocated bye is
-//! worth does not stand in a report, so `read_with` is told it. What takes memory answers where it is refused.
+//! To mind: points are half points, rounds count from 1, and a player is named by their start rank. What the pairing-allocated bye is
+//! worth does not stand in a report, so `read_with` is told it. A call that takes memory says so if it is refused.
 #![tactic(auto)]
 
 mod answering;
@@ -29,6 +29,7 @@ mod limits;
 mod lines;
 mod marking;
 pub mod meetings;
+mod named;
 mod names;
 mod notes;
 mod noting;
@@ -44,11 +45,14 @@ mod writing;
 
 pub use cell::{Bye, Cell, Colour, Outcome};
 pub use cells::{cell_at, front};
-pub use columns::column_count;
+pub use columns::{column_count, is_blank, split_columns, split_kind};
 pub use devices::{Counted, Failed, Sink, Source};
+pub use extensions::is_word;
 pub use fault::{Excess, Fault};
+pub use fields::{next_word, number_of, without_blanks};
 pub use kind::LineKind;
 pub use limits::{LAST_COLUMN, MOST_BYTES, MOST_PLAYERS, MOST_ROUNDS};
+pub use lines::{next_line, skip_marks};
 pub use output::put_all;
 pub use player::Player;
 pub use reading::{read, read_unsummed, read_with};

@@ -4,7 +4,7 @@ ghost use Rattle.trf16.specs.Lines.{without_marks, lines, ends_line};
 ghost use Rattle.trf16.specs.Steps.{behind_end};
 
 /// The text behind the byte order marks in front of it, however many.
-pub(crate) fn skip_marks(bytes: &[u8]) -> &[u8]
+pub fn skip_marks(bytes: &[u8]) -> &[u8]
     ensures { result.now ≡ without_marks bytes.now }
 {
     let mut rest = bytes;
@@ -26,7 +26,7 @@ fn line_len(bytes: &[u8]) -> usize
         .unwrap_or(bytes.len())
 }
 
-// What stands behind the line end in front; nothing where the text ends there.
+// What stands behind the line end in front; nothing if the text ends there.
 fn behind_end(rest: &[u8]) -> &[u8]
     ensures value { result.now ≡ behind_end rest.now }
     ensures shorter { 0 < length rest.now → length result.now < length rest.now }
@@ -41,7 +41,7 @@ fn behind_end(rest: &[u8]) -> &[u8]
 }
 
 /// The first line of a text that is not empty, without its end, and what stands behind that end.
-pub(crate) fn next_line(bytes: &[u8]) -> (&[u8], &[u8])
+pub fn next_line(bytes: &[u8]) -> (&[u8], &[u8])
     requires { 0 < length bytes.now }
     ensures first { lines bytes.now ≡ result.0.now ∷ lines result.1.now }
     ensures shorter { length result.1.now < length bytes.now }

@@ -17,15 +17,15 @@ fn name_of(left: &[u8], utf8: bool) -> &[u8]
 }
 
 impl<'a> Report<'a> {
-    /// Whether a column is a character: the report is UTF-8. Else a column is a byte.
+    /// Whether a column is a character: the report is UTF-8. Otherwise a column is a byte.
     pub fn is_utf8(&self) -> bool
         ensures { result ≡ self.now.utf8 }
     {
         self.utf8
     }
 
-    /// The name of a player: columns 15 to 47 of his line, without the blanks at its ends; empty where nothing stands there, and
-    /// where no player has the start rank.
+    /// The name of a player: columns 15 to 47 of their line, without the blanks at its ends; empty if nothing stands there, and
+    /// if no player has the start rank.
     pub fn name(&self, start: u16) -> &'a [u8]
         ensures { result.now ≡ name_in self.now start }
     {

@@ -1,4 +1,4 @@
-// A player of a report: what his line says, field by field.
+// A player of a report: what their line says, field by field.
 ghost use Rattle.std.specs.Prelude.{◌≤◌, vec_len};
 ghost use Rattle.trf16.specs.declared.limits.TheConstants.{MOST_ROUNDS};
 

@@ -49,7 +49,7 @@ impl<'a> Report<'a> {
         self.first_line(LineKind::Xxs).is_some()
     }
 
-    /// Whether a player is absent from the round behind the last that was paired: a line `XXZ` names him, or his cell there is
+    /// Whether a player is absent from the round after the last one that was paired: a line `XXZ` names them, or their cell there is
     /// `H`, `F` or `Z`.
     pub fn absent(&self, start: u16) -> bool
         ensures { result ≡ absent self.now start }
@@ -95,7 +95,7 @@ impl<'a> Report<'a> {
     }
 
     /// Whether a line `XXP` names two different numbers: then the players with these start ranks do not meet in the next round.
-    /// Of players it is looked up; only of a number that no player has it takes time in step with the text.
+    /// For players it is looked up; for a number that no player has, the time grows with the text.
     pub fn apart(&self, a: u16, b: u16) -> bool
         ensures { result ≡ apart self.now a b }
     {

@@ -214,7 +214,7 @@ fn start_ranks_onto(draft: &mut Draft<'_>, n: usize, bytes: &[u8]) -> Result<(),
     Ok(())
 }
 
-// 001: a player; and whether his line goes on behind the last round.
+// 001: a player; and whether their line goes on behind the last round.
 #[tactic(auto, unfolding(crate::specs::Verdict::player_onto))]
 fn player_onto<'a>(
     alloc: Global,
@@ -312,7 +312,7 @@ fn has_size(draft: &Draft<'_>, too_long: bool) -> Result<(), Fault>
     Ok(())
 }
 
-// The report, where it is so.
+// The report, if that is so.
 fn sized<'a>(
     alloc: Global,
     draft: Draft<'a>,
@@ -364,12 +364,12 @@ pub fn read<'a>(alloc: Global, bytes: &'a [u8]) -> Result<Report<'a>, Fault>
 }
 
 /// Reads a report of at most `MOST_BYTES` bytes, `MOST_PLAYERS` players and `MOST_ROUNDS` rounds, in which the pairing-allocated bye gives `bye` half points, 0 to
-/// 2: the report that the text is, or the first rule that it breaks. A column is a character where the text is UTF-8, else a byte; byte
+/// 2: the report that the text is, or the first rule that it breaks. A column is a character if the text is UTF-8, else a byte; byte
 /// order marks in front are skipped.
 ///
 /// # Errors
-/// Too many bytes goes before all; then what is wrong with a line, in the order of the lines; then too many players, too many
-/// rounds, and no players; then for each player in the order of the lines what does not fit in his rounds, and then his points.
+/// Too many bytes is told first; then what is wrong with a line, in the order of the lines; then too many players, too many
+/// rounds, and no players; then for each player in the order of the lines what does not fit in their rounds, and then their points.
 /// Want of memory may come at any growth.
 pub fn read_with<'a>(alloc: Global, bytes: &'a [u8], bye: u16) -> Result<Report<'a>, Fault>
     requires { bye ≤ 2 }

@@ -120,7 +120,7 @@ impl<'a> Report<'a> {
         self.players.get(&start)
     }
 
-    /// The cell of a player in a round, which counts from 1; behind his last cell it is blank.
+    /// The cell of a player in a round, which counts from 1; behind their last cell it is blank.
     pub fn cell(&self, start: u16, round: u8) -> Cell
         requires { 0 < round }
         ensures { result ≡ cell_in self.now start round }
@@ -131,7 +131,7 @@ impl<'a> Report<'a> {
         }
     }
 
-    /// The last round in which some player has an opponent or the pairing-allocated bye; 0 where there is none.
+    /// The last round in which some player has an opponent or the pairing-allocated bye; 0 if there is none.
     pub fn rounds_played(&self) -> u8
         ensures value { result ≡ rounds_played self.now }
         ensures few { result ≤ MOST_ROUNDS }
@@ -139,7 +139,8 @@ impl<'a> Report<'a> {
         self.rounds
     }
 
-    /// A line that is carried as it stands, which counts from 1: not that of a player. It takes time in step with the text.
+    /// The line of a number, from 1, as it stands; none if it is a player's line, or if the text has no such line. The time grows with the
+    /// text.
     pub fn carried(&self, line: usize) -> Option<&'a [u8]>
         requires { 0 < line }
         ensures { option_copied result ≡ carried_in self.now line }

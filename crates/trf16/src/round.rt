@@ -14,7 +14,7 @@ use crate::report::{Report, last_round_of};
 use indexmap::IndexMap;
 use std::alloc::{AllocError, Global};
 
-// What a board gives a player, if it names him.
+// What a board gives a player, if it names them.
 fn cell_on(board: (u16, u16), start: u16) -> Option<Cell>
     ensures { result ≡ cell_on board start }
 {
@@ -37,7 +37,7 @@ fn cell_on(board: (u16, u16), start: u16) -> Option<Cell>
     None
 }
 
-// What the first board that names a player gives him.
+// What the first board that names a player gives them.
 fn cell_by(boards: &[(u16, u16)], start: u16) -> Option<Cell>
     ensures { result ≡ cell_by boards.now start }
 {
@@ -141,7 +141,7 @@ impl<'a> Report<'a> {
         }
     }
 
-    // A player with his cell of the next round and his points.
+    // A player with their cell of the next round and their points.
     fn player_with(
         &self,
         alloc: Global,
@@ -163,7 +163,7 @@ impl<'a> Report<'a> {
         })
     }
 
-    // A player with his cell of the next round and his points, or else with his points summed.
+    // A player with their cell of the next round and their points, or else with their points summed.
     fn player_turned(
         &self,
         alloc: Global,
@@ -211,8 +211,8 @@ impl<'a> Report<'a> {
         })
     }
 
-    /// Whether some boards can be the next round: whoever they name is a player of the report, is present, and is named once; and no
-    /// round comes behind the last that there can be.
+    /// Whether some boards can be the next round: whoever they name is a player of the report, is present, and is named once;
+    /// and the last round that there can be is not paired yet.
     pub fn can_be_paired(&self, boards: &[(u16, u16)]) -> bool
         ensures { IsTrue result ↔ CanBePaired boards.now self.now }
     {
@@ -227,7 +227,7 @@ impl<'a> Report<'a> {
         true
     }
 
-    /// The report with its next round paired. A board is white and black in start ranks; where black is 0, white has the
+    /// The report with its next round paired. A board is white and black in start ranks; if black is 0, white has the
     /// pairing-allocated bye. Each points field that is not blank becomes the sum over the rounds up to the next.
     ///
     /// # Errors

@@ -208,9 +208,9 @@ fn put_next<W: Sink>(
     }
 }
 
-/// Writes a report as its canonical text: each line that is no player's as it stands, and each player's line afresh in
-/// TRF16's columns, all ended by LF, with no byte order mark in front. It fails only where the sink does, and then a part
-/// of the text stands there, which ends before the text does.
+/// Writes a report as its canonical text: each line that is no player's as it stands, and each player's line anew in TRF16's columns, all
+/// ended by LF, with no byte order mark in front. It fails only if the sink does; then a part of the text was written, which ends before
+/// the text does.
 pub fn write<W: Sink>(report: &Report<'_>, w: &mut W) -> Result<(), Failed>
     ensures { Puts (written report.now) (use_of W.held W.failures w.old w.new) result }
 {

@@ -1,5 +1,5 @@
-// Tests of the public calls of all other crates, called as their callers do, each that takes memory once with enough of it. They stand
-// in a crate of their own, since a crate with tests is proved twice.
+// Tests of the public calls of the crates below the command line, called as their callers do, each that takes memory once with enough of
+// it. They stand in a crate of their own, since a crate with tests is proved twice.
 #![tactic(auto)]
 
 #[cfg(test)]
@@ -10,8 +10,6 @@ mod candidates_tests;
 mod cursor_tests;
 #[cfg(test)]
 mod device_tests;
-#[cfg(test)]
-mod hostile_tests;
 #[cfg(test)]
 mod lines;
 #[cfg(test)]
@@ -29,12 +27,6 @@ mod report_tests;
 #[cfg(test)]
 mod round_tests;
 #[cfg(test)]
-mod rows;
-#[cfg(test)]
-mod run_tests;
-#[cfg(test)]
 mod standings_tests;
-#[cfg(test)]
-mod steps_tests;
 #[cfg(test)]
 mod writing_tests;

@@ -18,7 +18,7 @@ use std::alloc::Global;
 use std::test::Fail;
 use trf16::Colour;
 
-// The first won against the third, and the others drew: he moves down to the second and the fourth.
+// The first won against the third, and the others drew: the first moves down to the second and the fourth.
 const ONE_MOVES_DOWN: [Line<'static>; 4] = [
     ("001    1", "   3 w 1"),
     ("001    2", "   4 b ="),

@@ -104,7 +104,7 @@ fn lines_and_points(rt: HostRuntime) -> Result<(), Fail> {
     Ok(())
 }
 
-// Player 3 has no points but those of the bye, and his points field counts a full one.
+// Player 3 has no points but those of the bye, and their points field counts a full one.
 #[test]
 fn bye_by_its_worth(rt: HostRuntime) -> Result<(), Fail> {
     let report = read(rt.alloc(), REPORT)?;

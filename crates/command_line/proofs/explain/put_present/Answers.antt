@@ -1,4 +1,4 @@
--- The line of the player, and his brackets behind it.
+-- The line of the player, and their brackets behind it.
 use Rattle.std.specs.Prelude.{string_bytes}
 use Rattle.command_line.specs.InsteadAnswers.{PairedRound}
 use Rattle.command_line.proofs.JoinedTexts.{present_joined}

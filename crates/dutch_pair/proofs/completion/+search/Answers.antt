@@ -1,7 +1,8 @@
--- The answer and the steps of one player more, from those of the players behind him.
+-- The answer and the steps of one player more, from those of the players further back.
 use Rattle.std.proofs.Common.{◌≡◌, ◌∙◌, ℕ, ◌-◌, ◌+◌, ◌*◌, ◌++◌, ◌&&◌, Bool, List, suc, length, take, drop, refl, sym, ap, subst, arith, false}
 use Rattle.std.specs.Prelude.{if◌then◌else◌, slice_index, swap}
-use Rattle.dutch_pair.specs.Completion.{can_cover, left_over, nobody, most, Spends, IsStopped, Takes, Tells}
+use Rattle.dutch_pair.specs.Completion.{most, Spends, IsStopped, Takes, Tells}
+use Rattle.dutch_pair.specs.CompletionSearch.{can_cover, left_over, nobody}
 use Rattle.dutch_pair.proofs.Turned.{brought, swap-turned, turned-more, of_brought}
 use Rattle.dutch_pair.proofs.PairSearch.{told_by_pairs, told_by_bye, spent_by_pairs, spent_by_bye, odd_unpaired, told_by_partner, partner_fails, all_fail, spends-within, takes-found}
 use Rattle.dutch_pair.proofs.completion.+search.Goals as goal

@@ -1,6 +1,7 @@
 -- No partner tried so far completes the players, and each trial took its steps.
 use Rattle.std.proofs.Common.{◌≡◌, ◌+◌, ◌*◌, ◌-◌, ◌≤◌, take, drop, length, []}
-use Rattle.dutch_pair.specs.Completion.{can_cover, left_over, some_partner, most, Spends}
+use Rattle.dutch_pair.specs.Completion.{most, Spends}
+use Rattle.dutch_pair.specs.CompletionSearch.{can_cover, left_over, some_partner}
 use Rattle.dutch_pair.proofs.Turned.{turned}
 use Rattle.dutch_pair.proofs.completion.+search.Given as goal
 

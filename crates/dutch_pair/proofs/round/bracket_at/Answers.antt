@@ -11,7 +11,7 @@ pub loop-alloc-init : goal.loop-alloc-init
 loop-alloc-init c =
     let facts = c.args.field.now in
     let walk = c.in-Ok-Some.walk in
-    let found = MatchOption-at_some _ _ walk c.in-Ok-Some.field-0-is c.in-Ok-Some.ensures in
+    let found = MatchOption-at_some _ _ walk c.in-Ok-Some.field-0-is c.in-Ok-Some.ensures.answer in
     let e = found.1 in
     let number : walk.number ≡ 1 = ap (λ (w : Walk). w.number) e in
     let count = ap (λ (w : Walk). length w.rest.reached) e in
@@ -21,6 +21,8 @@ loop-alloc-init c =
       low = omega (arith, number);
       count = omega (arith, number, count);
       ahead = subst (λ (w : Walk). IsAhead c.args.number w.number w.rest.reached (round facts).reached) (sym e) (ahead_first c.args.number (round facts).reached);
+      limit = c.start.ensures.spends.limit;
+      within = c.start.ensures.spends.within;
     }
 
 pub loop-alloc-preserved : goal.loop-alloc-preserved
@@ -29,7 +31,7 @@ loop-alloc-preserved c =
     let new = c.go_on.new.self in
     let inv = c.loop-alloc.invariant in
     let stage = c.in-Settled._stage in
-    let behind = (subst (λ turn. GoesOn old new turn) c.in-Settled.is c.in_ok-_stage.ensures).0 in
+    let behind = (subst (λ turn. GoesOn old new c.go_on.new.budget turn) c.in-Settled.is c.in_ok-_stage.ensures.goes).0 in
     let number : new.number ≡ old.number + 1 = behind.number in
     record {
       facts = behind.facts ∙ inv.facts;
@@ -38,13 +40,15 @@ loop-alloc-preserved c =
       count = omega (arith, inv.count, number, first_count old.facts stage new.rest old.rest behind.rest);
       ahead = ahead_more old.facts stage new.rest old.rest c.args.number old.number new.number (round c.args.field.now).reached behind.rest number
           (λ same. c.if-number.false (c.number.ensures ∙ same)) inv.ahead;
+      limit = c.go_on.ensures.limit ∙ inv.limit;
+      within = c.go_on.ensures.within;
     }
 
 pub loop-alloc-smaller : goal.loop-alloc-smaller
 loop-alloc-smaller c =
     let old = c.loop-alloc.walk in
     let new = c.go_on.new.self in
-    let behind = (subst (λ turn. GoesOn old new turn) c.in-Settled.is c.in_ok-_stage.ensures).0 in
+    let behind = (subst (λ turn. GoesOn old new c.go_on.new.budget turn) c.in-Settled.is c.in_ok-_stage.ensures.goes).0 in
     let count : length old.rest.reached ≡ suc (length new.rest.reached) = first_count old.facts c.in-Settled._stage new.rest old.rest behind.rest in
     omega (arith, count)
 
@@ -52,7 +56,7 @@ pub returns-in-Ended-clause-bracket : goal.returns-in-Ended-clause-bracket
 returns-in-Ended-clause-bracket c =
     let facts = c.args.field.now in
     let old = c.loop-alloc.walk in
-    let h = subst (λ turn. GoesOn old c.go_on.new.self turn) c.in-Ended.is c.in_ok-_stage.ensures in (
+    let h = subst (λ turn. GoesOn old c.go_on.new.self c.go_on.new.budget turn) c.in-Ended.is c.in_ok-_stage.ensures.goes in (
       ahead_none c.args.number old.number old.rest.reached (round facts).reached (ap (λ (r : Round). r.reached) h.0) c.loop-alloc.invariant.ahead,
       round_goes facts c.loop-alloc.invariant.complete,
     )
@@ -61,6 +65,6 @@ pub returns-in-Ok-None-bracket-clause-bracket : goal.returns-in-Ok-None-bracket-
 returns-in-Ok-None-bracket-clause-bracket c =
     let facts = c.args.field.now in
     let walk = c.loop-alloc.walk in (
-      ahead_none c.args.number walk.number walk.rest.reached (round facts).reached (MatchOption-at_none _ _ c.in-Ok-None-bracket.field-0-is c.in-Ok-None-bracket.ensures) c.loop-alloc.invariant.ahead,
+      ahead_none c.args.number walk.number walk.rest.reached (round facts).reached (MatchOption-at_none _ _ c.in-Ok-None-bracket.field-0-is c.in-Ok-None-bracket.ensures.answer) c.loop-alloc.invariant.ahead,
       round_goes facts c.loop-alloc.invariant.complete,
     )

@@ -14,7 +14,7 @@ use Rattle.dutch_pair.proofs.round.stages.Goals as goal
 pub loop-stages-init : goal.loop-stages-init
 loop-stages-init c =
     let walk = c.in-Ok-Some.walk in
-    let found = MatchOption-at_some _ _ walk c.in-Ok-Some.field-0-is c.in-Ok-Some.ensures in
+    let found = MatchOption-at_some _ _ walk c.in-Ok-Some.field-0-is c.in-Ok-Some.ensures.answer in
     let e = found.1 in
     let number : walk.number ≡ 1 = ap (λ (w : Walk). w.number) e in
     let count = ap (λ (w : Walk). length w.rest.reached) e in
@@ -25,6 +25,8 @@ loop-stages-init c =
       told = ap (λ (xs : List Stage). map visit xs ++ walk.rest.reached) c.new-stages.ensures.items ∙ ap (λ (w : Walk). w.rest.reached) e;
       bye = ap (λ (w : Walk). bye_in w.rest.pairing) e;
       stages = subst (AllByRecursion (IsStage c.args.field.now)) (sym c.new-stages.ensures.items) tt;
+      limit = c.start.ensures.spends.limit;
+      within = c.start.ensures.spends.within;
     }
 
 pub loop-stages-preserved : goal.loop-stages-preserved
@@ -33,7 +35,7 @@ loop-stages-preserved c =
     let new = c.go_on.new.self in
     let inv = c.loop-stages.invariant in
     let stage = c.in-Settled.stage in
-    let h = subst (λ turn. GoesOn old new turn) c.in-Settled.is c.in_ok-stage.ensures in
+    let h = subst (λ turn. GoesOn old new c.go_on.new.budget turn) c.in-Settled.is c.in_ok-stage.ensures.goes in
     let behind = h.0 in
     let number : new.number ≡ old.number + 1 = behind.number in
     let own = subst (λ (facts : Facts). IsStage facts stage) inv.facts h.1 in
@@ -47,12 +49,14 @@ loop-stages-preserved c =
       bye = first_bye old.facts stage new.rest old.rest behind.rest ∙ inv.bye;
       stages = subst (AllByRecursion (IsStage c.args.field.now)) (sym c.in_ok-push-in-Settled.ensures.items)
           (all_join (IsStage c.args.field.now) c.loop-stages.stages.items (stage ∷ []) inv.stages (own, tt));
+      limit = c.go_on.ensures.limit ∙ inv.limit;
+      within = c.go_on.ensures.within;
     }
 
 pub loop-stages-smaller : goal.loop-stages-smaller
 loop-stages-smaller c =
     let old = c.loop-stages.walk in
     let new = c.go_on.new.self in
-    let behind = (subst (λ turn. GoesOn old new turn) c.in-Settled.is c.in_ok-stage.ensures).0 in
+    let behind = (subst (λ turn. GoesOn old new c.go_on.new.budget turn) c.in-Settled.is c.in_ok-stage.ensures.goes).0 in
     let count : length old.rest.reached ≡ suc (length new.rest.reached) = first_count old.facts c.in-Settled.stage new.rest old.rest behind.rest in
     omega (arith, count)

@@ -16,8 +16,8 @@ is_again-requires-clause-few c =
     let h = chosen_as k _ c.in-Chosen.is c.in_ok-shape.ensures.answer in
     few_left k.facts k.reached c.in-Chosen.candidate.lists c.in-Chosen.candidate.down h.1
 
-pub returns : goal.returns
-returns c =
+pub returns-clause-answer : goal.returns-clause-answer
+returns-clause-answer c =
     let k = c.new-context.result in
     let h = chosen_as k _ c.in-Chosen.is c.in_ok-shape.ensures.answer in (
       c.copied.ensures,

@@ -2,7 +2,7 @@
 use Rattle.std.proofs.Common.{◌≡◌, ◌∙◌, ◌-◌, ◌+◌, ◌||◌, List, ℕ, Ok, length, take, drop, sym, ap, arith}
 use Rattle.std.specs.Prelude.{swap}
 use Rattle.dutch_order.proofs.Spending.{spends-more}
-use Rattle.dutch_pair.specs.Completion.{some_partner}
+use Rattle.dutch_pair.specs.CompletionSearch.{some_partner}
 use Rattle.dutch_pair.specs.Seats.{seats_meet}
 use Rattle.dutch_pair.specs.Takers.{can_take_out}
 use Rattle.dutch_pair.proofs.PairSearch.{some_partner-step, partner_fails}

@@ -1,6 +1,6 @@
 -- No partner tried so far leaves players who can be paired out.
 use Rattle.std.proofs.Common.{◌≡◌, ◌+◌, ◌*◌, ◌-◌, take, drop, length, []}
-use Rattle.dutch_pair.specs.Completion.{some_partner}
+use Rattle.dutch_pair.specs.CompletionSearch.{some_partner}
 use Rattle.dutch_pair.specs.Seats.{seats_meet}
 use Rattle.dutch_pair.specs.Takers.{can_take_out}
 use Rattle.dutch_order.specs.Steps.{Spends}

@@ -39,7 +39,7 @@ returns-in-Some-clause-kept c =
     ap (λ v. lists_kept v.entries) c.recalled.ensures.kept ∙ promoted_kept c.fill_key.new.key c.self.inside.values.entries c.in-Some.value found
     ∙ ap (λ l. with_used l (lists_kept c.self.inside.values.entries)) c.fill_key.ensures in
     kept_is c.in-Some.value c.args.down.now c.args.self.now _ c.told.result c.told.ensures
-    (inl (ap (λ l. record { facts = c.self.inside.field.now; reached = c.self.inside.reached.now; next = c.self.inside.next.items; kept = l }) lists ∙ ap (λ r. after_use c.args.down.now r) c.self.view_is))
+    (inl (ap (λ l. record { facts = c.self.inside.field.now; reached = c.self.inside.reached.now; next = c.self.inside.next.items; kept = l; is_short = c.self.inside.is_short }) lists ∙ ap (λ r. after_use c.args.down.now r) c.self.view_is))
 
 pub looked_for-requires-clause-unknown : goal.looked_for-requires-clause-unknown
 looked_for-requires-clause-unknown c =
@@ -70,7 +70,7 @@ pub returns-in-None-clause-kept : goal.returns-in-None-clause-kept
 returns-in-None-clause-kept c =
     let none : lookup (is_key c.fill_key.new.key) c.self.inside.values.entries ≡ None = sym c.in-None.ensures.value in
     let same =
-    ap (λ v. record { facts = c.self.inside.field.now; reached = c.self.inside.reached.now; next = c.self.inside.next.items; kept = lists_kept v.entries }) c.recalled.ensures.kept
-    ∙ ap (λ es. record { facts = c.self.inside.field.now; reached = c.self.inside.reached.now; next = c.self.inside.next.items; kept = lists_kept es }) (none_promoted c.fill_key.new.key c.self.inside.values.entries none)
+    ap (λ v. record { facts = c.self.inside.field.now; reached = c.self.inside.reached.now; next = c.self.inside.next.items; kept = lists_kept v.entries; is_short = c.self.inside.is_short }) c.recalled.ensures.kept
+    ∙ ap (λ es. record { facts = c.self.inside.field.now; reached = c.self.inside.reached.now; next = c.self.inside.next.items; kept = lists_kept es; is_short = c.self.inside.is_short }) (none_promoted c.fill_key.new.key c.self.inside.values.entries none)
     ∙ c.self.view_is in
     subst (λ old. IsKeptAfter c.args.down.now old c.looked_for.new.self c.looked_for.result) same c.looked_for.ensures.kept

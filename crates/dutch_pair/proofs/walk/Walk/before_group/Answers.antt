@@ -10,7 +10,7 @@ use Rattle.dutch_pair.proofs.WalkSteps.{stands_group}
 use Rattle.dutch_pair.proofs.walk.Walk.before_group.Goals as goal
 
 pub invariant_of-result : goal.invariant_of-result
-invariant_of-result c = (moved_inside c.args.field.now c.args.left.items c.args.rest.now c.requires.goes, c.requires.within)
+invariant_of-result c = moved_inside c.args.field.now c.args.left.items c.args.rest.now c.requires.goes
 
 pub split_first_group-requires : goal.split_first_group-requires
 split_first_group-requires c = record { inside = rest_inside c.args.field.now c.args.left.items c.args.rest.now c.requires.goes }
@@ -30,11 +30,9 @@ invariant_of-result-2 c =
     let parts = parted_by facts (record { falls = c.scores_do_not_ascend.ensures.scores; few = c.scores_do_not_ascend.ensures.few })
     c.requires.goes (some_by_test c.args.rest.now c.if-is_empty.ensures) c.split_first_group.ensures.whole c.split_first_group.ensures.first in
     let same = c.bracket-reached.ensures ∙ ap (λ k. bracket c.args.number k c.deref.result.now group) c.group_kind.ensures
-    ∙ ap (λ (m : List ℕ). bracket c.args.number (group_kind lower) m group) c.deref.ensures.0 in (
-      subst (λ (b : Reached). StandsBefore facts c.args.number b lower) (sym same)
-          (stands_group facts c.args.number parts c.split_first_group.ensures.whole c.requires.out c.requires.small),
-      c.requires.within,
-    )
+    ∙ ap (λ (m : List ℕ). bracket c.args.number (group_kind lower) m group) c.deref.ensures.0 in
+    subst (λ (b : Reached). StandsBefore facts c.args.number b lower) (sym same)
+    (stands_group facts c.args.number parts c.split_first_group.ensures.whole c.requires.out c.requires.small)
 
 pub returns : goal.returns
 returns c =
@@ -45,5 +43,5 @@ returns c =
     c.requires.goes (some_by_test c.args.rest.now c.if-is_empty.ensures) c.split_first_group.ensures.whole c.split_first_group.ensures.first in
     let same = c.bracket-reached.ensures ∙ ap (λ k. bracket c.args.number k c.deref.result.now group) c.group_kind.ensures
     ∙ ap (λ (m : List ℕ). bracket c.args.number (group_kind lower) m group) c.deref.ensures.0 in
-    ap (λ (r : Round). let walk : Walk = record { facts = facts; number = c.args.number; rest = r; limit = c.args.budget.limit } in walk)
+    ap (λ (r : Round). let walk : Walk = record { facts = facts; number = c.args.number; rest = r } in walk)
     (ap (λ (b : Reached). round_by facts b.kind b lower) same ∙ sym (group_round facts parts c.args.number))

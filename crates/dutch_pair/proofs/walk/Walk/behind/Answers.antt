@@ -56,8 +56,8 @@ bracket-collapsed-requires c =
     (record { falls = c.scores_do_not_ascend.ensures.scores; few = c.scores_do_not_ascend.ensures.few }) in
     left_few facts stage.reached stage.candidate.lists c.args.lower.now c.deref.result.now (c.deref.ensures.0 ∙ left) above.few
 
-pub invariant_of-t-20 : goal.invariant_of-t-20
-invariant_of-t-20 c =
+pub invariant_of-t-18 : goal.invariant_of-t-18
+invariant_of-t-18 c =
     let facts = c.args.field.now in
     let stage = c.args.stage.now in
     let lower = c.args.lower.now in
@@ -66,12 +66,10 @@ invariant_of-t-20 c =
     (c.down.ensures ∙ c.requires.settled.down) c.seats_of-left.ensures in
     let collapsed = stands_collapsed facts stage.reached.number stage.reached lower c.requires.stands
     (record { falls = c.scores_do_not_ascend.ensures.scores; few = c.scores_do_not_ascend.ensures.few }) (choice_of stage)
-    (sym c.kind.ensures ∙ c.in-Penultimate.is) c.requires.settled.choice in (
-      subst (λ (b : Reached). StandsBefore facts (n + 1) b []) (sym c.bracket-collapsed.ensures)
-          (subst (λ (xs : List ℕ). StandsBefore facts (n + 1) (bracket (n + 1) Collapsed xs lower) []) (sym (c.deref.ensures.0 ∙ left))
-          (subst (λ (m : ℕ). StandsBefore facts (m + 1) (bracket (m + 1) Collapsed (downfloaters facts stage.reached stage.candidate.lists) lower) []) (sym c.number-number.ensures) collapsed)),
-      omega arith,
-    )
+    (sym c.kind.ensures ∙ c.in-Penultimate.is) c.requires.settled.choice in
+    subst (λ (b : Reached). StandsBefore facts (n + 1) b []) (sym c.bracket-collapsed.ensures)
+    (subst (λ (xs : List ℕ). StandsBefore facts (n + 1) (bracket (n + 1) Collapsed xs lower) []) (sym (c.deref.ensures.0 ∙ left))
+    (subst (λ (m : ℕ). StandsBefore facts (m + 1) (bracket (m + 1) Collapsed (downfloaters facts stage.reached stage.candidate.lists) lower) []) (sym c.number-number.ensures) collapsed))
 
 pub invariant_of-result-in-Last : goal.invariant_of-result-in-Last
 invariant_of-result-in-Last c =
@@ -81,4 +79,4 @@ invariant_of-result-in-Last c =
     (c.down.ensures ∙ c.requires.settled.down) c.seats_of-left.ensures in
     let above = stands_above facts stage.reached.number stage.reached c.args.lower.now c.requires.stands
     (record { falls = c.scores_do_not_ascend.ensures.scores; few = c.scores_do_not_ascend.ensures.few }) in
-    (down_seats facts stage.reached stage.candidate.lists c.seats_of-left.result.items above.bracket left, omega arith)
+    down_seats facts stage.reached stage.candidate.lists c.seats_of-left.result.items above.bracket left

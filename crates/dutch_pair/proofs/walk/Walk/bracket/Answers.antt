@@ -9,25 +9,25 @@ use Rattle.dutch_pair.proofs.walk.Walk.bracket.Goals as goal
 pub shape_in-requires-clause-above : goal.shape_in-requires-clause-above
 shape_in-requires-clause-above c =
     let w = c.self.inside in
-    let s = subst (λ next. StandsAt w.field.now w.number w.lower.now next) c.in-Bracket.is c.self.invariant.0 in
+    let s = subst (λ next. StandsAt w.field.now w.number w.lower.now next) c.in-Bracket.is c.self.invariant in
     stands_above w.field.now w.number c.in-Bracket.reached w.lower.now s
     (record { falls = c.scores_do_not_ascend.ensures.scores; few = c.scores_do_not_ascend.ensures.few })
 
 pub shape_in-requires-clause-candidate : goal.shape_in-requires-clause-candidate
 shape_in-requires-clause-candidate c =
     let w = c.self.inside in
-    let s = subst (λ next. StandsAt w.field.now w.number w.lower.now next) c.in-Bracket.is c.self.invariant.0 in
+    let s = subst (λ next. StandsAt w.field.now w.number w.lower.now next) c.in-Bracket.is c.self.invariant in
     stands_has w.field.now w.number c.in-Bracket.reached w.lower.now s
 
-pub returns : goal.returns
-returns c =
+pub returns-clause-answer : goal.returns-clause-answer
+returns-clause-answer c =
     let w = c.self.inside in
     let reached = c.in-Bracket.reached in
-    let s = subst (λ next. StandsAt w.field.now w.number w.lower.now next) c.in-Bracket.is c.self.invariant.0 in
+    let s = subst (λ next. StandsAt w.field.now w.number w.lower.now next) c.in-Bracket.is c.self.invariant in
     let above = stands_above w.field.now w.number reached w.lower.now s
     (record { falls = c.scores_do_not_ascend.ensures.scores; few = c.scores_do_not_ascend.ensures.few }) in
     let here = sym c.self.view_is
-    ∙ ap (λ next. let walk : Walk = record { facts = w.field.now; number = w.number; rest = round_from w.field.now w.lower.now next; limit = w.budget.limit } in walk) c.in-Bracket.is in
+    ∙ ap (λ next. let walk : Walk = record { facts = w.field.now; number = w.number; rest = round_from w.field.now w.lower.now next } in walk) c.in-Bracket.is in
     subst (λ (b : Reached). Shows c.args.self.now.facts c.args.self.now.rest b c.in_ok-shape.shape × (b.number ≡ c.args.self.now.number)) (sym c.copied.ensures)
     (subst (λ (now : Walk). Shows now.facts now.rest reached c.in_ok-shape.shape × (reached.number ≡ now.number)) (sym here)
-    ((stands_shown w.field.now w.number reached w.lower.now c.in_ok-shape.shape s c.in_ok-shape.ensures.0, above.bracket, c.in_ok-shape.ensures.1), stands_number w.field.now w.number reached w.lower.now s))
+    ((stands_shown w.field.now w.number reached w.lower.now c.in_ok-shape.shape s c.in_ok-shape.ensures.answer.0, above.bracket, c.in_ok-shape.ensures.answer.1), stands_number w.field.now w.number reached w.lower.now s))

@@ -1,11 +1,12 @@
 -- What is marked so far: each one in front with all.
-use Rattle.std.proofs.Common.{◌≡◌, ℕ, ◌*◌, ◌<◌, ◌||◌, ◌&&◌}
-use Rattle.std.specs.Prelude.{take, vec_len}
-use Rattle.trf16.specs.Notes.{are_marked, is_place}
+use Rattle.std.proofs.Common.{◌≡◌, ℕ, ◌*◌, ◌<◌, ◌||◌, ◌&&◌, false}
+use Rattle.std.specs.Prelude.{slice_index_or, take, vec_len}
+use Rattle.trf16.specs.Notes.{are_marked}
+use Rattle.trf16.specs.Places.{is_place}
 use Rattle.trf16.proofs.apart.Apart.mark_each_two.Given as goal
 
 abbrev pub invariant-loop-place : goal.invariant-loop-place
 invariant-loop-place l =
     ((k m : ℕ) → m < vec_len l.initial.self.starts
-    → are_marked l.self k m ≡ (are_marked l.initial.self k m || (is_place (take l.place-index l.places) k && is_place l.places m)))
+    → are_marked l.self k m ≡ (are_marked l.initial.self k m || (is_place (take l.place-index l.named.places.items) k && slice_index_or l.named.marks.items m false)))
     × (l.self.starts ≡ l.initial.self.starts) × (vec_len l.self.marks ≡ vec_len l.self.starts * vec_len l.self.starts)

@@ -1,6 +1,5 @@
 use Rattle.std.proofs.Common.{◌≡◌, ℕ, ◌<◌, ◌||◌, List, ap, sym, refl, ◌∙◌, subst}
 use Rattle.std.specs.Prelude.{slice_index_or, vec_len}
-use Rattle.std.proofs.lemmas.Result.{err_from_is_err_and}
 use Rattle.trf16.specs.Lines.{columns, lines}
 use Rattle.trf16.specs.Extensions.{names_both}
 use Rattle.trf16.specs.Notes.{are_marked, start_at}
@@ -15,8 +14,9 @@ loop-rest-preserved c =
     let after = lines c.next_line.result.1.now in
     let old = c.loop-rest.apart in
     let new = c.mark_line.new.self in
-    let same = c.in_ok-mark_line.ensures.same in (
-      subst (λ starts. (i j : ℕ) → i < vec_len starts → j < vec_len starts
+    let before = c.loop-rest.invariant in
+    let same = c.in_ok-mark_line.ensures.same in record {
+      both = subst (λ starts. (i j : ℕ) → i < vec_len starts → j < vec_len starts
           → (are_marked new i j || some_of (names_both (slice_index_or starts.items i 0) (slice_index_or starts.items j 0)) utf8 after)
           ≡ some_of (names_both (slice_index_or starts.items i 0) (slice_index_or starts.items j 0)) utf8 (lines c.args.text.now)) (sym same)
           (λ i j li lj.
@@ -26,19 +26,10 @@ loop-rest-preserved c =
           ∙ or_step (are_marked old i j) here (some_of test utf8 after)
           ∙ ap (λ b. are_marked old i j || b) (sym (some_of-cons test utf8 line after here (not_together (start_at old i) (start_at old j) (columns utf8 line)) refl))
           ∙ ap (λ (ls : List (List ℕ)). are_marked old i j || some_of test utf8 ls) (sym c.next_line.ensures.first)
-          ∙ c.loop-rest.invariant.0 i j li lj),
-      same ∙ c.loop-rest.invariant.1,
-      c.in_ok-mark_line.ensures.room,
-    )
-
-pub returns-in_err-apart-clause-both : goal.returns-in_err-apart-clause-both
-returns-in_err-apart-clause-both c = let p = err_from_is_err_and c.from_residual.result c.from_residual.ensures.1 in rw p.1 tt
-
-pub returns-in_err-apart-clause-same : goal.returns-in_err-apart-clause-same
-returns-in_err-apart-clause-same c = let p = err_from_is_err_and c.from_residual.result c.from_residual.ensures.1 in rw p.1 tt
-
-pub returns-in_err-mark_line-clause-both : goal.returns-in_err-mark_line-clause-both
-returns-in_err-mark_line-clause-both c = let p = err_from_is_err_and c.from_residual-in_err-mark_line.result c.from_residual-in_err-mark_line.ensures.1 in rw p.1 tt
-
-pub returns-in_err-mark_line-clause-same : goal.returns-in_err-mark_line-clause-same
-returns-in_err-mark_line-clause-same c = let p = err_from_is_err_and c.from_residual-in_err-mark_line.result c.from_residual-in_err-mark_line.ensures.1 in rw p.1 tt
+          ∙ before.both i j li lj);
+      starts = ap (λ v. v.items) same ∙ before.starts;
+      count = ap vec_len same ∙ before.count;
+      room = c.in_ok-mark_line.ensures.room;
+      nobody = c.in_ok-mark_line.ensures.nobody;
+      all = c.in_ok-mark_line.ensures.all ∙ before.all;
+    }

@@ -1,33 +1,44 @@
-use Rattle.std.proofs.Common.{◌≡◌, ℕ, ◌<◌, sym, ap, ◌∙◌, subst}
-use Rattle.std.specs.Prelude.{vec_len}
+use Rattle.std.proofs.Common.{◌≡◌, ℕ, List, length, map, sym, ap, ◌∙◌, arith}
+use Rattle.std.specs.Map.{keys_of}
+use Rattle.std.proofs.lemmas.List.{length-map}
 use Rattle.trf16.specs.Lines.{lines}
-use Rattle.trf16.specs.Extensions.{names_both}
 use Rattle.trf16.specs.Absence.{some_carried}
+use Rattle.trf16.specs.Sheet.{Entry, Sheet, entry_of}
+use Rattle.trf16.specs.StartRanks.{starts_of}
 use Rattle.trf16.specs.Verdict.{without_players}
-use Rattle.trf16.specs.Notes.{are_marked, start_at, TellsApart}
-use Rattle.trf16.proofs.ApartLemmas.{ok_so, not_any}
+use Rattle.trf16.specs.declared.player.Player.{Player}
+use Rattle.trf16.proofs.ApartLemmas.{told, told_none}
+use Rattle.trf16.proofs.RoundLemmas.{starts-entries}
 use Rattle.trf16.proofs.draft.Draft.apart.Goals as goal
+
+size : (entries : List (ℕ × Player)) (players : List Entry) → map (λ e. entry_of e.1) entries ≡ players → length entries ≡ length players
+size entries players same = sym (length-map entries (λ e. entry_of e.1)) ∙ ap (λ (es : List Entry). length es) same
+
+keyed : (entries : List (ℕ × Player)) (players : List Entry) → map (λ e. entry_of e.1) entries ≡ players → keys_of entries ≡ map (λ e. e.1.start) entries → keys_of entries ≡ starts_of players
+keyed entries players same keys = keys ∙ starts-entries entries ∙ ap starts_of same
+
+pub read-requires : goal.read-requires
+read-requires c =
+    let same = size c.self.inside.players.entries c.args.self.now.players (ap (λ (sheet : Sheet). sheet.players) c.self.view_is) in
+    omega (arith, same, c.requires.few)
+
+pub none-requires : goal.none-requires
+none-requires c =
+    let same = size c.self.inside.players.entries c.args.self.now.players (ap (λ (sheet : Sheet). sheet.players) c.self.view_is) in
+    omega (arith, same, c.requires.few)
 
 pub returns-then-notes : goal.returns-then-notes
 returns-then-notes c =
-    let starts = c.in_ok-starts.starts in
-    let sheet = c.args.self.now in
     let r = c.self.inside in
-    ok_so c.read.result
-    (λ apart. (i j : ℕ) → i < vec_len starts → j < vec_len starts → are_marked apart i j ≡ some_carried (names_both (start_at apart i) (start_at apart j)) (without_players r.utf8 (lines r.text.now) 0))
-    (λ apart. apart.starts ≡ starts) (λ apart. TellsApart apart sheet)
-    (λ apart both same. record {
-      starts = ap (λ v. v.items) same ∙ c.in_ok-starts.ensures.value;
-      count = ap vec_len same ∙ c.in_ok-starts.ensures.few;
-      both = λ i j li lj.
-          both i j (subst (λ v. i < vec_len v) same li) (subst (λ v. j < vec_len v) same lj) ∙ ap (some_carried (names_both (start_at apart i) (start_at apart j))) c.self.view_is;
-    })
-    c.read.ensures.both c.read.ensures.same
+    let same = ap (λ (sheet : Sheet). sheet.players) c.self.view_is in
+    told c.read.result c.args.self.now (without_players r.utf8 (lines r.text.now) 0) (keys_of r.players.entries) (length r.players.entries)
+    (keyed r.players.entries c.args.self.now.players same c.self.invariant.0) (size r.players.entries c.args.self.now.players same)
+    (λ test. ap (some_carried test) c.self.view_is) c.read.ensures.both c.read.ensures.starts c.read.ensures.count
 
 pub returns-else-notes : goal.returns-else-notes
 returns-else-notes c =
-    let none = c.none.result in record {
-      starts = ap (λ v. v.items) c.none.ensures.same ∙ c.in_ok-starts.ensures.value;
-      count = ap vec_len c.none.ensures.same ∙ c.in_ok-starts.ensures.few;
-      both = λ i j li lj. c.none.ensures.none i j ∙ sym (not_any (start_at none i) (start_at none j) c.args.self.now (sym c.requires.noted.together ∙ c.if-notes.false));
-    }
+    let r = c.self.inside in
+    let same = ap (λ (sheet : Sheet). sheet.players) c.self.view_is in
+    told_none c.none.result c.args.self.now (keys_of r.players.entries) (length r.players.entries)
+    (keyed r.players.entries c.args.self.now.players same c.self.invariant.0) (size r.players.entries c.args.self.now.players same)
+    (sym c.requires.noted.together ∙ c.if-notes.false) c.none.ensures.none c.none.ensures.starts c.none.ensures.count

@@ -1,0 +1,18 @@
+use Rattle.std.proofs.Common.{◌≡◌, IfOk, string_bytes, subst, sym}
+use Rattle.report_notes.specs.NoteOf.{noted}
+use Rattle.report_notes.specs.declared.note.Note.{Note}
+use Rattle.command_line.specs.NoteTexts.{front_text}
+use Rattle.command_line.proofs.notes.front.Goals as goal
+
+pub returns-in-NoPlayer : goal.returns-in-NoPlayer
+unfolding front_text
+returns-in-NoPlayer c = rw c.in-NoPlayer.is c.format.ensures.ok
+
+pub returns-in-BlankBefore : goal.returns-in-BlankBefore
+unfolding front_text
+returns-in-BlankBefore c =
+    subst (λ (n : Note). IfOk c.format-in-BlankBefore.result (λ text. string_bytes text ≡ front_text (noted n))) (sym c.in-BlankBefore.is) c.format-in-BlankBefore.ensures.ok
+
+pub returns-in-BehindColumn : goal.returns-in-BehindColumn
+unfolding front_text
+returns-in-BehindColumn c = rw c.in-BehindColumn.is c.format-in-BehindColumn.ensures.ok

@@ -1,0 +1,4 @@
+-- What the contracts of report_notes name: what looks like a mistake, and the places in front of it.
+pub mod Notes
+pub mod NoteOf
+pub mod Places

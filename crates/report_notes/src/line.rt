@@ -1,0 +1,121 @@
+// What of one line looks like a mistake.
+ghost use Rattle.std.specs.Prelude.{◌≡◌, ℕ, ◌∷◌, [], MatchOption};
+ghost use Rattle.trf16.specs.Lines.{columns};
+ghost use Rattle.trf16.specs.Verdict.{is_player};
+ghost use Rattle.report_notes.specs.Notes.{carried_notes, extension_notes, line_notes, player_notes};
+ghost use Rattle.report_notes.specs.NoteOf.{left_notes, noted};
+
+use crate::kinds::{begins_blank, is_known, kind_in};
+use crate::names::{names_one, next_stranger};
+use crate::note::Note;
+use trf16::{Report, is_blank, is_word, split_columns, split_kind};
+
+/// What is left to tell of a line.
+#[derive(Debug, Clone, Copy)]
+pub(crate) enum Left<'a> {
+    /// Nothing.
+    Nothing,
+    /// One note.
+    One(Note<'a>),
+    /// Those of some words that are the start rank of no player; and then, if so, that all of the line name one player.
+    Names { names: &'a [u8], alone: bool },
+}
+
+/// The first note that is left of line n, and what is left behind it.
+pub(crate) fn next_left<'a>(
+    report: &Report<'_>,
+    n: usize,
+    left: Left<'a>,
+) -> Option<(Note<'a>, Left<'a>)>
+    ensures { MatchOption result (left_notes report.now n left.entry ≡ [])
+        (λ x. left_notes report.now n left.entry ≡ noted x.0 ∷ left_notes report.now n x.1) }
+{
+    match left {
+        Left::Nothing => None,
+        Left::One(note) => Some((note, Left::Nothing)),
+        Left::Names { names, alone } => next_name(report, n, names, alone),
+    }
+}
+
+// The same of the words of a line `XXZ` or `XXP`.
+fn next_name<'a>(
+    report: &Report<'_>,
+    n: usize,
+    names: &'a [u8],
+    alone: bool,
+) -> Option<(Note<'a>, Left<'a>)>
+    ensures { MatchOption result (left_notes report.now n (Left.Names names.entry alone) ≡ [])
+        (λ x. left_notes report.now n (Left.Names names.entry alone) ≡ noted x.0 ∷ left_notes report.now n x.1) }
+{
+    if let Some((number, after)) = next_stranger(report, names) {
+        let left = Left::Names {
+            names: after,
+            alone,
+        };
+        return Some((Note::NoPlayer { line: n, number }, left));
+    }
+    if alone {
+        Some((Note::OnePlayer { line: n }, Left::Nothing))
+    } else {
+        None
+    }
+}
+
+/// All that is to be told of line n.
+pub(crate) fn line_left<'a>(report: &Report<'_>, n: usize, line: &'a [u8]) -> Left<'a>
+    ensures { left_notes report.now n result ≡ line_notes report.now n line.now }
+{
+    let (kind, _) = split_kind(line, report.is_utf8());
+    if kind == b"001".as_slice() {
+        player_left(report, n, line)
+    } else {
+        carried_left(report, n, line)
+    }
+}
+
+// The same of a player's line: what stands behind the columns of the next round.
+fn player_left<'a>(report: &Report<'_>, n: usize, line: &'a [u8]) -> Left<'a>
+    ensures { left_notes report.now n result ≡ player_notes report.now n (columns report.now.utf8 line.now) }
+{
+    let column = 101 + 10 * usize::from(report.rounds_played());
+    let (_, rest) = split_columns(line, report.is_utf8(), column);
+    if is_blank(rest) {
+        Left::Nothing
+    } else {
+        Left::One(Note::BehindColumn { line: n, column })
+    }
+}
+
+// The same of a line that is carried.
+fn carried_left<'a>(report: &Report<'_>, n: usize, line: &'a [u8]) -> Left<'a>
+    ensures { left_notes report.now n result ≡ carried_notes report.now n line.now }
+{
+    let kind = kind_in(line, report.is_utf8());
+    if is_blank(line) {
+        Left::Nothing
+    } else if !is_known(kind) {
+        Left::One(Note::UnknownKind { line: n, kind })
+    } else if begins_blank(line) {
+        Left::One(Note::BlankBefore { line: n, kind })
+    } else {
+        extension_left(report, line)
+    }
+}
+
+// The same of a line of a known kind: what `XXZ` and `XXP` name.
+fn extension_left<'a>(report: &Report<'_>, line: &'a [u8]) -> Left<'a>
+    ensures { (n : ℕ) → left_notes report.now n result ≡ extension_notes report.now n (columns report.now.utf8 line.now) }
+{
+    let (kind, names) = split_kind(line, report.is_utf8());
+    if is_word(kind, b"XXZ") {
+        Left::Names {
+            names,
+            alone: false,
+        }
+    } else if is_word(kind, b"XXP") {
+        let alone = names_one(names);
+        Left::Names { names, alone }
+    } else {
+        Left::Nothing
+    }
+}

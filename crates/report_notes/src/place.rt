@@ -1,0 +1,16 @@
+// A place in the text of a report, in front of some of its notes.
+ghost use Rattle.std.specs.Prelude.{◌+◌, ◌<◌, ◌^◌, length};
+
+use crate::line::Left;
+
+/// A place in front of some notes of a report.
+#[derive(Debug, Clone, Copy)]
+pub struct Place<'a> {
+    // the lines behind the one in hand
+    pub(crate) text: &'a [u8],
+    // the number of the line in hand, from 1; 0 in front of the first
+    pub(crate) line: usize,
+    // what is still to be told of it
+    pub(crate) left: Left<'a>,
+    ghost few: { line + length text.now < 2 ^ 64 },
+}
