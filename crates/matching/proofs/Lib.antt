@@ -1,2 +1,1 @@
-pub mod LabelLemmas
 pub mod PairLemmas

@@ -1,5 +1,5 @@
 -- Matchings as lists of partners, and labels of vertices.
-use Rattle.std.specs.Prelude.{◌≡◌, ◌≢◌, ◌≤◌, ℕ, Bool, true, List, length, All, Option, Some}
+use Rattle.std.specs.Prelude.{◌≡◌, ◌≢◌, ◌≤◌, ◌+◌, ◌*◌, ℕ, Bool, true, List, length, All, Option, Some}
 use Rattle.std.specs.List.{slice_get}
 
 -- a list gives the vertex a the partner b
@@ -23,3 +23,7 @@ pub record IsMatching (size : ℕ) (joined : ℕ → ℕ → Bool) (partners : L
 pub record AreLabels (size most : ℕ) (labels : List ℕ) : Type 0 where
   pub places : length labels ≡ size
   pub within : All (λ label. label ≤ most) labels
+
+-- each of so many vertices is asked about from each, and then from each in a search from each
+abbrev pub most_steps : ℕ → ℕ
+most_steps size = size * size + size * (size * size)

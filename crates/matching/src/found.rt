@@ -1,6 +1,6 @@
 // What is handed out.
-ghost use Rattle.std.specs.Prelude.{◌≡◌, ◌≤◌, IfOk};
-ghost use Rattle.matching.specs.Matchings.{IsMatching, AreLabels};
+ghost use Rattle.std.specs.Prelude.{◌≡◌, ◌≤◌, ◌<◌, ◌+◌, IfOk};
+ghost use Rattle.matching.specs.Matchings.{IsMatching, AreLabels, most_steps};
 
 use crate::fault::Fault;
 use crate::forest::Forest;
@@ -26,7 +26,8 @@ pub fn greatest<G: Graph>(alloc: Global, graph: &G, left: &mut u64) -> Result<Fo
     ensures matching { IfOk result (λ found. IsMatching (G.vertices graph.now) (G.joined graph.now) found.partners.items) }
     ensures labels { IfOk result (λ found. AreLabels (G.vertices graph.now) found.most found.labels.items) }
     ensures falls { left.new ≤ left.old }
-    ensures stopped { result ≡ Err Fault.Stopped → left.new ≡ 0 }
+    ensures few { left.old ≤ left.new + most_steps (G.vertices graph.now) }
+    ensures stopped { result ≡ Err Fault.Stopped → (left.new ≡ 0) × (left.old < most_steps (G.vertices graph.now)) }
 {
     let mut forest = Forest::new(alloc, graph.size())?;
     forest.pair_all(graph, left)?;

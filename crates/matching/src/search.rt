@@ -1,7 +1,9 @@
 // The searches: from each vertex that is alone one, for a way to another such vertex on which every second pair is a pair so far.
-ghost use Rattle.std.specs.Prelude.{◌≡◌, ◌≤◌, ◌<◌, ◌+◌, length, IfSome, IfOk, OnErr, OnOk};
+// Before them each vertex is paired with the first one that it can have, which saves most searches where many are joined.
+ghost use Rattle.std.specs.Prelude.{◌≡◌, ◌≤◌, ◌<◌, ◌+◌, ◌*◌, length, IfSome, IfOk, OnErr, OnOk};
 ghost use Rattle.std.specs.Option.{MatchOption};
 ghost use Rattle.std.specs.Result.{MatchResult};
+ghost use Rattle.matching.specs.Matchings.{most_steps};
 
 use crate::fault::Fault;
 use crate::forest::{Forest, Mark};
@@ -19,6 +21,66 @@ fn take_step(left: &mut u64) -> Result<(), Fault>
 }
 
 impl Forest {
+    /// Pairs two vertices.
+    fn pair(&mut self, v: u16, u: u16)
+        requires one { v < self.old.size }
+        requires other { u < self.old.size }
+        ensures { self.new.size ≡ self.old.size }
+    {
+        self.partner.put(v, Some(u));
+        self.partner.put(u, Some(v));
+    }
+
+    /// The first vertex behind a vertex that is alone and joined to it, with a step for each vertex asked about.
+    fn first_alone<G: Graph>(&self, graph: &G, v: u16, left: &mut u64) -> Result<Option<u16>, Fault>
+        requires vertex { v < self.now.size }
+        requires of_graph { self.now.size ≡ G.vertices graph.now }
+        ensures behind { IfOk result (λ found. IfSome found (λ u. (v < u) × (u < self.now.size))) }
+        ensures steps { MatchResult result
+            (λ found. MatchOption found (left.new + self.now.size ≡ left.old + v + 1) (λ u. left.new + u ≡ left.old + v))
+            (λ _. (left.new ≡ 0) × (left.old < self.now.size)) }
+    {
+        let end = self.size;
+        for u in v + 1..end {
+            take_step(left)?;
+            if self.partner.at(u).is_none() && graph.joins(v, u) {
+                return Ok(Some(u));
+            }
+        }
+        Ok(None)
+    }
+
+    /// Pairs a vertex with the first one behind it that it can have.
+    fn pair_with_first<G: Graph>(&mut self, graph: &G, v: u16, left: &mut u64) -> Result<(), Fault>
+        requires vertex { v < self.old.size }
+        requires of_graph { self.old.size ≡ G.vertices graph.now }
+        ensures size { self.new.size ≡ self.old.size }
+        ensures falls { left.new ≤ left.old }
+        ensures few { left.old ≤ left.new + self.old.size }
+        ensures stopped { OnErr result ((left.new ≡ 0) × (left.old < self.old.size)) }
+    {
+        if let Some(u) = self.first_alone(graph, v, left)? {
+            self.pair(v, u);
+        }
+        Ok(())
+    }
+
+    /// Pairs each vertex that is alone with the first one that it can have.
+    fn begin<G: Graph>(&mut self, graph: &G, left: &mut u64) -> Result<(), Fault>
+        requires { self.old.size ≡ G.vertices graph.now }
+        ensures size { self.new.size ≡ self.old.size }
+        ensures falls { left.new ≤ left.old }
+        ensures few { left.old ≤ left.new + self.old.size * self.old.size }
+        ensures stopped { OnErr result ((left.new ≡ 0) × (left.old < self.old.size * self.old.size)) }
+    {
+        for v in 0..self.size {
+            if self.partner.at(v).is_none() {
+                self.pair_with_first(graph, v, left)?;
+            }
+        }
+        Ok(())
+    }
+
     /// Takes a vertex that was not reached into the tree, and its partner as an outer vertex. If it has none, a way ends there: true.
     fn grow(&mut self, v: u16, u: u16) -> bool
         requires outer { v < self.old.size }
@@ -65,7 +127,7 @@ impl Forest {
         ensures end { IfOk result (λ o. IfSome o (λ u. u < self.old.size)) }
         ensures steps { MatchResult result
             (λ end. MatchOption end (left.new + self.old.size ≡ left.old) (λ u. left.new + u + 1 ≡ left.old))
-            (λ _. (left.new ≡ 0) × (left.old ≤ self.old.size)) }
+            (λ _. (left.new ≡ 0) × (left.old < self.old.size)) }
     {
         self.marks[usize::from(v)] = Mark::Searched;
         for u in 0..self.size {
@@ -89,7 +151,8 @@ impl Forest {
         ensures size { self.new.size ≡ self.old.size }
         ensures end { IfOk result (λ o. IfSome o (λ u. u < self.old.size)) }
         ensures falls { left.new ≤ left.old }
-        ensures stopped { OnErr result (left.new ≡ 0) }
+        ensures few { left.old ≤ left.new + self.old.size * self.old.size }
+        ensures stopped { OnErr result ((left.new ≡ 0) × (left.old < self.old.size * self.old.size)) }
     {
         self.marks[usize::from(root)] = Mark::Waiting;
         for _ in 0..self.size {
@@ -115,8 +178,7 @@ impl Forest {
                 return;
             };
             let left_over = self.partner.at(outer);
-            self.partner.put(v, Some(outer));
-            self.partner.put(outer, Some(v));
+            self.pair(v, outer);
             let Some(next) = left_over else {
                 return;
             };
@@ -156,7 +218,8 @@ impl Forest {
         requires of_graph { self.old.size ≡ G.vertices graph.now }
         ensures size { self.new.size ≡ self.old.size }
         ensures falls { left.new ≤ left.old }
-        ensures stopped { OnErr result (left.new ≡ 0) }
+        ensures few { left.old ≤ left.new + self.old.size * self.old.size }
+        ensures stopped { OnErr result ((left.new ≡ 0) × (left.old < self.old.size * self.old.size)) }
     {
         match self.find_way(graph, root, left)? {
             Some(end) => {
@@ -173,8 +236,10 @@ impl Forest {
         requires { self.old.size ≡ G.vertices graph.now }
         ensures size { self.new.size ≡ self.old.size }
         ensures falls { left.new ≤ left.old }
-        ensures stopped { OnErr result (left.new ≡ 0) }
+        ensures few { left.old ≤ left.new + most_steps self.old.size }
+        ensures stopped { OnErr result ((left.new ≡ 0) × (left.old < most_steps self.old.size)) }
     {
+        self.begin(graph, left)?;
         for root in 0..self.size {
             if self.partner.at(root).is_none() {
                 self.pair_root(graph, root, left)?;

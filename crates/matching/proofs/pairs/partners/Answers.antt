@@ -9,7 +9,7 @@ loop-a-preserved g c =
     record {
       places = omega (arith, c.in_ok-push.ensures.len);
       size = kept.size;
-      copies = one_more _ _ _ _ _ _ kept.places c.in_ok-push.ensures.items c.partner.ensures kept.copies;
+      copies = one_more _ _ _ c.push.new.self.items c.partner.result _ kept.places c.in_ok-push.ensures.items c.partner.ensures kept.copies;
     }
 
 pub returns : goal.returns
