@@ -1,0 +1,16 @@
+-- Each vertex's answer keeps the list a copy of the pairs, and a whole copy is a matching.
+use Rattle.std.proofs.Common.{arith}
+use Rattle.matching.proofs.PairLemmas.{one_more, whole}
+use Rattle.matching.proofs.pairs.partners.Goals as goal
+
+pub loop-a-preserved : goal.loop-a-preserved
+loop-a-preserved g c =
+    let kept = c.loop-a.invariant in
+    record {
+      places = omega (arith, c.in_ok-push.ensures.len);
+      size = kept.size;
+      copies = one_more _ _ _ c.push.new.self.items c.partner.result _ kept.places c.in_ok-push.ensures.items c.partner.ensures kept.copies;
+    }
+
+pub returns : goal.returns
+returns g c = whole _ _ _ _ c.requires (omega arith) c.loop-a.invariant.copies
