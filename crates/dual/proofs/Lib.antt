@@ -1,0 +1,6 @@
+pub mod Sums
+pub mod WeakDuality
+pub mod Covering
+pub mod Barriers
+pub mod Witnesses
+pub mod TableLemmas

@@ -1,0 +1,5 @@
+pub mod Matchings
+pub mod Duals
+pub mod Tables
+pub mod Barriers
+pub mod Counts

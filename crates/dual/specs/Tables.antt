@@ -1,0 +1,30 @@
+-- Certificates as tables by the players' numbers.
+use Rattle.std.specs.Prelude.{ℕ, ◌*◌, Bool, false, List, map, slice_index_or}
+use Rattle.dual.specs.declared.table.MarkedSet.{MarkedSet}
+use Rattle.dual.specs.declared.table.Table.{Table}
+use Rattle.dual.specs.Duals.{Priced, Certificate, most_inside}
+
+-- a set by its marks: who has none is not in it
+abbrev pub has_mark : MarkedSet → ℕ → Bool
+has_mark set v = slice_index_or set.marks.items v false
+
+abbrev pub priced_by : MarkedSet → Priced
+priced_by set = record { has = has_mark set; price = set.price }
+
+-- a potential by the table, and 0 past its end
+abbrev pub potential_in : Table → ℕ → ℕ
+potential_in table v = slice_index_or table.potentials.items v 0
+
+-- the certificate that a table holds
+abbrev pub certificate_in : Table → Certificate
+certificate_in table =
+    record {
+      potential = potential_in table;
+      given = table.given;
+      given_left = table.given_left;
+      sets = map priced_by table.sets.items;
+    }
+
+-- the most that a set's tolls come to
+abbrev pub most_toll : List ℕ → MarkedSet → ℕ
+most_toll players set = set.price * most_inside players (priced_by set)

@@ -1,0 +1,25 @@
+// What is asked of a caller: who may meet, who may be left over, and what that costs.
+ghost use Rattle.std.specs.Prelude.{◌≡◌};
+ghost use Rattle.dual.specs.Matchings.{Costs};
+
+/// Who may meet and who may be left over, and at what cost. It answers for all numbers.
+pub trait Rule {
+    /// What it answers.
+    ghost costs: { Self → Costs };
+
+    /// Whether `a` may meet `b`.
+    fn may_meet(&self, a: u16, b: u16) -> bool
+        ensures { result ≡ (costs self.now).meets a b };
+
+    /// What a pair of the two costs.
+    fn weight(&self, a: u16, b: u16) -> u32
+        ensures { result ≡ (costs self.now).weight a b };
+
+    /// Whether `a` may be left over.
+    fn may_be_left(&self, a: u16) -> bool
+        ensures { result ≡ (costs self.now).may_be_left a };
+
+    /// What it costs to leave `a` over.
+    fn left_cost(&self, a: u16) -> u32
+        ensures { result ≡ (costs self.now).left_cost a };
+}
