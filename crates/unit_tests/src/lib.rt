@@ -11,6 +11,8 @@ mod cursor_tests;
 #[cfg(test)]
 mod device_tests;
 #[cfg(test)]
+mod dual_tests;
+#[cfg(test)]
 mod lines;
 #[cfg(test)]
 mod order_tests;

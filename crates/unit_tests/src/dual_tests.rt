@@ -1,0 +1,199 @@
+// Certificates, barriers and witnesses of a few players, worked by hand.
+ghost use Rattle.std.specs.Prelude.{◌≤◌, IfOk, length};
+
+use dual::{MarkedSet, Rule, Table, tells_completable, tells_incompletable};
+use std::alloc::Global;
+use std::test::Fail;
+
+// Numbers in fours: 0 to 3, 4 to 7 and so on. Those of one four may meet, and the first of each four may meet everybody. A pair of one four
+// costs `near`, any other 10. One player may be left over, and costs `left`.
+#[derive(Drop)]
+struct Fours {
+    near: u32,
+    leaves: u16,
+    left: u32,
+}
+
+impl Rule for Fours {
+    ghost use Rattle.std.specs.Prelude.{not, ◌==◌, ◌&&◌, ◌||◌, ◌/◌, ◌%◌, if◌then◌else◌};
+
+    ghost costs = { λ r. record {
+      meets = λ a b. not (a == b) && ((a / 4 == b / 4) || ((a % 4 == 0) || (b % 4 == 0)));
+      weight = λ a b. if a / 4 == b / 4 then r.near else 10;
+      may_be_left = λ a. a == r.leaves;
+      left_cost = λ a. r.left;
+    } };
+
+    fn may_meet(&self, a: u16, b: u16) -> bool {
+        a != b && (a / 4 == b / 4 || a % 4 == 0 || b % 4 == 0)
+    }
+
+    fn weight(&self, a: u16, b: u16) -> u32 {
+        if a / 4 == b / 4 { self.near } else { 10 }
+    }
+
+    fn may_be_left(&self, a: u16) -> bool {
+        a == self.leaves
+    }
+
+    fn left_cost(&self, _a: u16) -> u32 {
+        self.left
+    }
+}
+
+// A number that no player of these tests has: nobody may be left over.
+const NOBODY: u16 = 99;
+
+fn leaving(leaves: u16) -> Fours {
+    Fours {
+        near: 0,
+        leaves,
+        left: 0,
+    }
+}
+
+// Ten players: three groups of three, 1 to 3, 5 to 7 and 9 to 11, behind 4, who serves one of them; and 1 may be left over. Labels tell
+// nothing that go past `most`, that join two of the groups (one of six is not odd), or that part players who may meet.
+#[test]
+fn three_groups_behind_one_blocker(rt: HostRuntime) {
+    let ten = [1, 2, 3, 4, 5, 6, 7, 9, 10, 11];
+    let labels = [0, 1, 1, 1, 0, 2, 2, 2, 0, 3, 3, 3];
+    let joined = [0, 1, 1, 1, 0, 2, 2, 2, 0, 2, 2, 2];
+    let parted = [0, 1, 1, 2, 0, 3, 3, 3, 0, 4, 4, 4];
+    let table = [
+        (&labels, 3, true),
+        (&labels, 2, false),
+        (&joined, 3, false),
+        (&parted, 4, false),
+    ];
+    for (labels, most, told) in table {
+        let answer = tells_incompletable(labels, most, &leaving(1), &ten);
+        assert_eq!(rt; answer, told, "{labels:?}");
+    }
+}
+
+// Two odd groups, 1 to 3 and 5, behind 4: too many, unless one of an odd group may be left over. The one group without 5 is served; it is
+// not without 4 either, unless one of it may be left over.
+#[test]
+fn who_may_be_left_over_decides(rt: HostRuntime) {
+    let labels = [0, 1, 1, 1, 0, 2];
+    let five = [1, 2, 3, 4, 5];
+    let table = [
+        (NOBODY, &five[..], true),
+        (4, &five[..], true),
+        (5, &five[..], false),
+        (NOBODY, &five[..4], false),
+        (NOBODY, &five[..3], true),
+        (3, &five[..3], false),
+        (NOBODY, &five[..2], false),
+        (NOBODY, &five[..0], false),
+    ];
+    for (leaves, players, told) in table {
+        let answer = tells_incompletable(&labels, 2, &leaving(leaves), players);
+        assert_eq!(rt; answer, told, "{leaves} left of {}", players.len());
+    }
+}
+
+// Those that are none have one mistake each: two who may not meet, one left over who may not be, one twice, one twice in pairs, nobody left
+// over, one who is no player.
+#[test]
+fn witnesses_of_five(rt: HostRuntime) {
+    let five = [1, 2, 3, 4, 5];
+    let table = [
+        (5, [(1, 2), (4, 3)], Some(5), true),
+        (5, [(3, 4), (2, 1)], Some(5), true),
+        (3, [(1, 2), (4, 5)], Some(3), true),
+        (4, [(1, 2), (3, 5)], Some(4), false),
+        (5, [(1, 2), (4, 5)], Some(3), false),
+        (3, [(1, 2), (4, 3)], Some(3), false),
+        (5, [(1, 2), (2, 3)], Some(5), false),
+        (5, [(1, 2), (4, 3)], None, false),
+        (5, [(1, 2), (4, 8)], Some(5), false),
+    ];
+    for (leaves, pairs, left, told) in table {
+        let answer = tells_completable(&pairs, left, &leaving(leaves), &five);
+        assert_eq!(rt; answer, told, "{pairs:?} with {leaves}");
+    }
+}
+
+// A certificate by its potentials, what is given to a pair and to one left over, and the marks and price of one set.
+fn table(
+    alloc: Global,
+    potentials: &[u32],
+    given: (u32, u32),
+    set: (&[bool], u32),
+) -> Result<Table, Fail>
+    ensures { IfOk result (λ table. length table.sets.items ≤ 1) }
+{
+    let mut all = Vec::new(alloc);
+    all.extend_from_slice(potentials)?;
+    let mut marks = Vec::new(alloc);
+    marks.extend_from_slice(set.0)?;
+    let mut sets = Vec::new(alloc);
+    sets.push(MarkedSet {
+        marks,
+        price: set.1,
+    })?;
+    Ok(Table {
+        potentials: all,
+        given: given.0,
+        given_left: given.1,
+        sets,
+    })
+}
+
+const THREE: [bool; 4] = [false, true, true, true];
+
+// Of 1, 2 and 3 one has to meet 4, and that costs 10; 5 and 6 meet, and that costs nothing. Each two of the three bear 20 by the price of
+// their set, and only one pair pays it.
+#[test]
+fn a_priced_set_of_three(rt: HostRuntime) -> Result<(), Fail> {
+    let six = [1, 2, 3, 4, 5, 6];
+    let rule = leaving(NOBODY);
+    let potentials = [0, 10, 10, 10];
+    let priced = table(rt.alloc(), &potentials, (0, 0), (&THREE, 20))?;
+    assert_eq!(rt; priced.bound(&rule, &six, 0), Some(10));
+    let cheap = table(rt.alloc(), &potentials, (0, 0), (&THREE, 19))?;
+    assert_eq!(rt; cheap.bound(&rule, &six, 0), None);
+    assert!(rt; !cheap.is_feasible(&rule, &six));
+    Ok(())
+}
+
+// 4 meets one of 1, 2 and 3, for 10, and the other two meet. A set of all four has room for two pairs.
+#[test]
+fn a_priced_set_of_four(rt: HostRuntime) -> Result<(), Fail> {
+    let four = [1, 2, 3, 4];
+    let all = [false, true, true, true, true];
+    let priced = table(rt.alloc(), &[0, 5, 5, 5, 15], (0, 0), (&all, 10))?;
+    assert_eq!(rt; priced.bound(&leaving(NOBODY), &four, 0), Some(10));
+    Ok(())
+}
+
+// A certificate of nothing bounds nothing; a pair that is known brings its cost.
+#[test]
+fn known_pairs_bring_their_slack(rt: HostRuntime) -> Result<(), Fail> {
+    let six = [1, 2, 3, 4, 5, 6];
+    let rule = leaving(NOBODY);
+    let flat = table(rt.alloc(), &[], (0, 0), (&THREE, 0))?;
+    assert!(rt; flat.is_feasible(&rule, &six));
+    assert_eq!(rt; flat.bound_with(&rule, &six, 0, &[]), 0);
+    assert_eq!(rt; flat.bound_with(&rule, &six, 0, &[(5, 6), (3, 4)]), 10);
+    Ok(())
+}
+
+// 1 meets 2, for 4, and 3 is left over. A potential of 7 is more than the 6 that it may cost to leave 3 over, unless 1 more is given.
+#[test]
+fn one_is_left_over(rt: HostRuntime) -> Result<(), Fail> {
+    let three = [1, 2, 3];
+    for (left, given_left, bound) in [(7, 0, Some(11)), (6, 0, None), (6, 1, Some(10))] {
+        let rule = Fours {
+            near: 4,
+            leaves: 3,
+            left,
+        };
+        let given = (10, given_left);
+        let certificate = table(rt.alloc(), &[0, 7, 7, 7], given, (&THREE, 0))?;
+        assert_eq!(rt; certificate.bound(&rule, &three, 1), bound);
+    }
+    Ok(())
+}
