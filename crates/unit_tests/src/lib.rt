@@ -13,6 +13,8 @@ mod device_tests;
 #[cfg(test)]
 mod lines;
 #[cfg(test)]
+mod matching_tests;
+#[cfg(test)]
 mod order_tests;
 #[cfg(test)]
 mod pairing_tests;
