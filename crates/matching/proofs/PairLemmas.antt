@@ -1,10 +1,11 @@
 -- How the list of partners grows: it has the pairs of the links, and no others.
-use Rattle.std.proofs.Common.{◌≡◌, ◌<◌, ℕ, zero, suc, Bool, List, [], ◌∷◌, ◌++◌, length, length-append, Option, Some, None, refl, sym, ◌∙◌, subst, inl, inr, arith}
+use Rattle.std.proofs.Common.{◌≡◌, ◌<◌, ℕ, zero, suc, Bool, List, [], ◌∷◌, ◌++◌, length, length-append, Option, Some, None}
+use Rattle.std.proofs.Common.{refl, sym, ◌∙◌, subst, inl, inr, arith}
 use Rattle.std.proofs.lemmas.Bool.{cases_lt}
 use Rattle.std.specs.List.{slice_get}
 use Rattle.std.specs.Option.{MatchOption}
 use Rattle.std.proofs.lemmas.Option.{slice_get_within}
-use Rattle.matching.specs.Matchings.{Gives, IsPair, IsMatching}
+use Rattle.matching.specs.Matchings.{Gives, IsPair, IsMatching, HasPairs}
 
 -- one element more: an earlier place keeps its element
 pub earlier : {X : Type 0} (xs : List X) (x : X) (k : ℕ) → k < length xs → slice_get (xs ++ x ∷ []) k ≡ slice_get xs k
@@ -24,8 +25,13 @@ pub record Copies (joined : ℕ → ℕ → Bool) (links found : List (Option �
 
 -- a pair is one in either order
 pub turned : (joined : ℕ → ℕ → Bool) (links : List (Option ℕ)) (a b : ℕ) → IsPair joined links a b → IsPair joined links b a
-turned joined links a b pair =
-    record { given = pair.back; back = pair.given; two = λ e. pair.two (sym e); joined_to = pair.joined_from; joined_from = pair.joined_to }
+turned joined links a b pair = record {
+  given = pair.back;
+  back = pair.given;
+  two = λ e. pair.two (sym e);
+  joined_to = pair.joined_from;
+  joined_from = pair.joined_to;
+}
 
 pub whole : (joined : ℕ → ℕ → Bool) (links found : List (Option ℕ)) (size : ℕ) →
     length links ≡ size → length found ≡ size → Copies joined links found → IsMatching size joined found
@@ -34,8 +40,16 @@ whole joined links found size as_long places copies = record {
   pairs = λ a b given.
       let pair = copies.sound a b given in
       let there : b < length links = slice_get_within links b (Some a) pair.back in
-      record { given = given; back = copies.full b a (omega arith) (turned joined links a b pair); two = pair.two; joined_to = pair.joined_to; joined_from = pair.joined_from };
+      let back = copies.full b a (omega arith) (turned joined links a b pair) in
+      record { given = given; back = back; two = pair.two; joined_to = pair.joined_to; joined_from = pair.joined_from };
 }
+
+-- a copy of all places has all pairs
+pub all_kept : (joined : ℕ → ℕ → Bool) (links found : List (Option ℕ)) →
+    length found ≡ length links → Copies joined links found → HasPairs joined links found
+all_kept joined links found as_long copies = λ a b pair.
+    let there : a < length links = slice_get_within links a (Some b) pair.given in
+    copies.full a b (omega arith) pair
 
 -- what is known of an answer that is a partner
 told : (joined : ℕ → ℕ → Bool) (links : List (Option ℕ)) (a b : ℕ) (answer : Option ℕ) → answer ≡ Some b →

@@ -19,6 +19,10 @@ pub record IsMatching (size : ℕ) (joined : ℕ → ℕ → Bool) (partners : L
   pub places : length partners ≡ size
   pub pairs : (a b : ℕ) → Gives partners a b → IsPair joined partners a b
 
+-- whoever are in a pair by a first list are partners in a second one
+abbrev pub HasPairs : (ℕ → ℕ → Bool) → List (Option ℕ) → List (Option ℕ) → Type 0
+HasPairs joined links partners = (a b : ℕ) → IsPair joined links a b → Gives partners a b
+
 -- each vertex has a label, none of them above the greatest
 pub record AreLabels (size most : ℕ) (labels : List ℕ) : Type 0 where
   pub places : length labels ≡ size

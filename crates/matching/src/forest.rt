@@ -4,7 +4,10 @@
 // partners of inner vertices, and all vertices of a blossom, a circle of odd length that is folded into one vertex, its base. If a search
 // fails, its tree is left as it is: no later search enters it. When you change it, keep this: marks, parents and bases of a failed tree
 // stay as they are, since they are its groups and its blockers.
-ghost use Rattle.std.specs.Prelude.{◌≡◌, ◌<◌, length, vec_len, IfOk, IfSome};
+ghost use Rattle.std.specs.Prelude.{◌≡◌, ◌≢◌, ◌<◌, ℕ, length, vec_len, IfOk, IfSome, Some};
+ghost use Rattle.std.specs.List.{slice_get};
+ghost use Rattle.std.specs.Option.{MatchOption};
+ghost use Rattle.matching.specs.Links.{LeadsTo};
 
 use crate::links::Links;
 use std::alloc::{AllocError, Global};
@@ -67,15 +70,24 @@ impl Forest {
     /// The base of the blossom that a vertex is in; the vertex itself if it is in none.
     pub(crate) fn base_of(&self, v: u16) -> u16
         requires { v < self.now.size }
-        ensures { result < self.now.size }
+        ensures value { LeadsTo self.now.base.ends.items v result }
+        ensures inside { result < self.now.size }
     {
         self.base.at(v).unwrap_or(v)
     }
 
     /// The first vertex with a mark.
     pub(crate) fn first(&self, mark: Mark) -> Option<u16>
-        ensures { IfSome result (λ v. v < self.now.size) }
+        ensures marked { MatchOption result
+            ((v : ℕ) → slice_get self.now.marks.items v ≢ Some mark)
+            (λ v. slice_get self.now.marks.items v ≡ Some mark) }
+        ensures inside { IfSome result (λ v. v < self.now.size) }
     {
-        (0..self.size).find(|v| self.marks[usize::from(*v)] == mark)
+        for v in 0..self.size {
+            if self.marks[usize::from(v)] == mark {
+                return Some(v);
+            }
+        }
+        None
     }
 }

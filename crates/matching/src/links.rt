@@ -1,5 +1,5 @@
 // From each vertex to another one, or to none.
-ghost use Rattle.std.specs.Prelude.{◌≡◌, ◌<◌, ◌∷◌, ℕ, length, vec_len, IfOk, IfSome, Some, None, slice_set};
+ghost use Rattle.std.specs.Prelude.{◌≡◌, ◌<◌, length, IfOk, IfSome, Some, None, slice_set};
 ghost use Rattle.std.specs.List.{slice_get};
 ghost use Rattle.std.specs.Option.{ForSome};
 ghost use Rattle.matching.specs.Links.{StaysInside};
@@ -35,6 +35,7 @@ impl Links {
     pub(crate) fn put(&mut self, v: u16, end: Option<u16>)
         requires from { v < length self.old.ends.items }
         requires to { ForSome end (λ w. w < length self.old.ends.items) }
+        ensures value { self.new.ends.items ≡ slice_set self.old.ends.items v end }
         ensures size { length self.new.ends.items ≡ length self.old.ends.items }
     {
         self.ends[usize::from(v)] = end;

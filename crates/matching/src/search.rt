@@ -1,9 +1,10 @@
 // The searches: from each vertex that is alone one, for a way to another such vertex on which every second pair is a pair so far.
 // Before them each vertex is paired with the first one that it can have, which saves most searches where many are joined.
-ghost use Rattle.std.specs.Prelude.{◌≡◌, ◌≤◌, ◌<◌, ◌+◌, ◌*◌, length, IfSome, IfOk, OnErr, OnOk};
+ghost use Rattle.std.specs.Prelude.{◌≡◌, ◌≤◌, ◌<◌, ◌+◌, ◌*◌, Some, slice_set, IfSome, IfOk, OnErr};
 ghost use Rattle.std.specs.Option.{MatchOption};
 ghost use Rattle.std.specs.Result.{MatchResult};
 ghost use Rattle.matching.specs.Matchings.{most_steps};
+ghost use Rattle.matching.specs.declared.fault.Fault.TheVariants.{Stopped};
 
 use crate::fault::Fault;
 use crate::forest::{Forest, Mark};
@@ -11,7 +12,9 @@ use crate::graph::Graph;
 
 /// Takes a step, if one is left.
 fn take_step(left: &mut u64) -> Result<(), Fault>
-    ensures { MatchResult result (λ _. left.new + 1 ≡ left.old) (λ _. (left.new ≡ 0) × (left.old ≡ 0)) }
+    ensures { MatchResult result
+        (λ _. left.new + 1 ≡ left.old)
+        (λ fault. (fault ≡ Stopped) × (left.new ≡ 0) × (left.old ≡ 0)) }
 {
     if *left == 0 {
         return Err(Fault::Stopped);
@@ -25,7 +28,8 @@ impl Forest {
     fn pair(&mut self, v: u16, u: u16)
         requires one { v < self.old.size }
         requires other { u < self.old.size }
-        ensures { self.new.size ≡ self.old.size }
+        ensures partners { self.new.partner.ends.items ≡ slice_set (slice_set self.old.partner.ends.items v (Some u)) u (Some v) }
+        ensures size { self.new.size ≡ self.old.size }
     {
         self.partner.put(v, Some(u));
         self.partner.put(u, Some(v));

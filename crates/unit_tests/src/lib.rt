@@ -15,6 +15,8 @@ mod dual_tests;
 #[cfg(test)]
 mod lines;
 #[cfg(test)]
+mod matching_tests;
+#[cfg(test)]
 mod order_tests;
 #[cfg(test)]
 mod pairing_tests;

@@ -1,6 +1,6 @@
 -- Each vertex's answer keeps the list a copy of the pairs, and a whole copy is a matching.
 use Rattle.std.proofs.Common.{arith}
-use Rattle.matching.proofs.PairLemmas.{one_more, whole}
+use Rattle.matching.proofs.PairLemmas.{one_more, whole, all_kept}
 use Rattle.matching.proofs.pairs.partners.Goals as goal
 
 pub loop-a-preserved : goal.loop-a-preserved
@@ -13,4 +13,9 @@ loop-a-preserved g c =
     }
 
 pub returns : goal.returns
-returns g c = whole _ _ _ _ c.requires (omega arith) c.loop-a.invariant.copies
+returns g c =
+    let kept = c.loop-a.invariant in
+    record {
+      matching = whole _ _ _ _ c.requires (omega arith) kept.copies;
+      kept = all_kept _ _ _ (omega (arith, c.requires)) kept.copies;
+    }
