@@ -1,1 +1,2 @@
 pub mod GameLemmas
+pub mod NotedRounds

@@ -14,6 +14,7 @@
 
 mod games;
 mod kinds;
+pub mod laws;
 mod line;
 mod names;
 mod note;
