@@ -43,9 +43,21 @@ fn front(alloc: Global, note: Note<'_>) -> Result<String, AllocError>
         Note::NoPlayer { line, number } => {
             format!(in alloc; "note line {line}: no player {number}")
         }
+        Note::PlayedLast { line, number } => {
+            format!(in alloc; "note line {line}: player {number} played the last round")
+        }
         Note::UnknownKind { line, .. } => format!(in alloc; "note line {line}: unknown kind "),
         Note::BlankBefore { line, .. } => format!(in alloc; "note line {line}: blank before "),
         Note::OnePlayer { line } => format!(in alloc; "note line {line}: names one player"),
+        Note::LongName { line } => {
+            format!(in alloc; "note line {line}: the name runs into column 48")
+        }
+        Note::EarlyPoints { line } => {
+            format!(in alloc; "note line {line}: the points count a round to come")
+        }
+        Note::NoResult { line, round } => {
+            format!(in alloc; "note line {line}: round {round} has no result")
+        }
         Note::BehindColumn { line, column } => {
             format!(in alloc; "note line {line}: behind column {column} nothing is read")
         }
@@ -58,7 +70,13 @@ fn kind_named<'a>(note: Note<'a>) -> &'a [u8]
 {
     match note {
         Note::UnknownKind { kind, .. } | Note::BlankBefore { kind, .. } => kind,
-        Note::NoPlayer { .. } | Note::OnePlayer { .. } | Note::BehindColumn { .. } => &[],
+        Note::NoPlayer { .. }
+        | Note::PlayedLast { .. }
+        | Note::OnePlayer { .. }
+        | Note::LongName { .. }
+        | Note::EarlyPoints { .. }
+        | Note::NoResult { .. }
+        | Note::BehindColumn { .. } => &[],
     }
 }
 

@@ -1,4 +1,5 @@
 -- What the contracts of report_notes name: what looks like a mistake, and the places in front of it.
+pub mod Games
 pub mod Notes
 pub mod NoteOf
 pub mod Places

@@ -1,14 +1,14 @@
 // What of one line looks like a mistake.
 ghost use Rattle.std.specs.Prelude.{◌≡◌, ℕ, ◌∷◌, [], MatchOption};
 ghost use Rattle.trf16.specs.Lines.{columns};
-ghost use Rattle.trf16.specs.Verdict.{is_player};
-ghost use Rattle.report_notes.specs.Notes.{carried_notes, extension_notes, line_notes, player_notes};
+ghost use Rattle.report_notes.specs.Notes.{carried_notes, extension_notes, line_notes};
 ghost use Rattle.report_notes.specs.NoteOf.{left_notes, noted};
 
 use crate::kinds::{begins_blank, is_known, kind_in};
-use crate::names::{names_one, next_stranger};
+use crate::names::{names_one, next_absent, next_stranger};
 use crate::note::Note;
-use trf16::{Report, is_blank, is_word, split_columns, split_kind};
+use crate::player_line::{PlayerLeft, next_of_player, player_left};
+use trf16::{Report, is_blank, is_word, split_kind};
 
 /// What is left to tell of a line.
 #[derive(Debug, Clone, Copy)]
@@ -17,8 +17,13 @@ pub(crate) enum Left<'a> {
     Nothing,
     /// One note.
     One(Note<'a>),
-    /// Those of some words that are the start rank of no player; and then, if so, that all of the line name one player.
+    /// Of a line `XXP`: those of some words that are the start rank of no player; and then, if so, that all of the line name one
+    /// player.
     Names { names: &'a [u8], alone: bool },
+    /// Of a line `XXZ`: what is to be told of some words.
+    Absent(&'a [u8]),
+    /// Of a player's line.
+    Player(PlayerLeft),
 }
 
 /// The first note that is left of line n, and what is left behind it.
@@ -34,10 +39,18 @@ pub(crate) fn next_left<'a>(
         Left::Nothing => None,
         Left::One(note) => Some((note, Left::Nothing)),
         Left::Names { names, alone } => next_name(report, n, names, alone),
+        Left::Absent(names) => {
+            let (note, rest) = next_absent(report, n, names)?;
+            Some((note, Left::Absent(rest)))
+        }
+        Left::Player(left) => {
+            let (note, rest) = next_of_player(report, n, left)?;
+            Some((note, Left::Player(rest)))
+        }
     }
 }
 
-// The same of the words of a line `XXZ` or `XXP`.
+// The same of the words of a line `XXP`.
 fn next_name<'a>(
     report: &Report<'_>,
     n: usize,
@@ -67,22 +80,9 @@ pub(crate) fn line_left<'a>(report: &Report<'_>, n: usize, line: &'a [u8]) -> Le
 {
     let (kind, _) = split_kind(line, report.is_utf8());
     if kind == b"001".as_slice() {
-        player_left(report, n, line)
+        Left::Player(player_left(report, line))
     } else {
         carried_left(report, n, line)
-    }
-}
-
-// The same of a player's line: what stands behind the columns of the next round.
-fn player_left<'a>(report: &Report<'_>, n: usize, line: &'a [u8]) -> Left<'a>
-    ensures { left_notes report.now n result ≡ player_notes report.now n (columns report.now.utf8 line.now) }
-{
-    let column = 101 + 10 * usize::from(report.rounds_played());
-    let (_, rest) = split_columns(line, report.is_utf8(), column);
-    if is_blank(rest) {
-        Left::Nothing
-    } else {
-        Left::One(Note::BehindColumn { line: n, column })
     }
 }
 
@@ -108,10 +108,7 @@ fn extension_left<'a>(report: &Report<'_>, line: &'a [u8]) -> Left<'a>
 {
     let (kind, names) = split_kind(line, report.is_utf8());
     if is_word(kind, b"XXZ") {
-        Left::Names {
-            names,
-            alone: false,
-        }
+        Left::Absent(names)
     } else if is_word(kind, b"XXP") {
         let alone = names_one(names);
         Left::Names { names, alone }

@@ -1,8 +1,11 @@
 // The start ranks that a line `XXZ` or `XXP` names.
 ghost use Rattle.std.specs.Prelude.{◌≡◌, ◌∷◌, ◌<◌, [], MatchOption, IfSome, length};
 ghost use Rattle.trf16.specs.Fields.{words};
-ghost use Rattle.report_notes.specs.Notes.{are_all, names_one, strangers};
+ghost use Rattle.report_notes.specs.Notes.{absent_notes, are_all, names_one, strangers};
+ghost use Rattle.report_notes.specs.NoteOf.{noted};
 
+use crate::games::played_last;
+use crate::note::Note;
 use trf16::{Report, next_word, number_of};
 
 /// The first number among some words that no player has, and the words behind it.
@@ -28,6 +31,40 @@ fn stranger(report: &Report<'_>, word: &[u8]) -> Option<u16>
     match number_of(word) {
         Some(number) if !report.knows(number) => Some(number),
         _ => None,
+    }
+}
+
+/// The first note on the words of a line `XXZ`, line n, and the words behind the one that it is on.
+pub(crate) fn next_absent<'a>(
+    report: &Report<'_>,
+    n: usize,
+    bytes: &'a [u8],
+) -> Option<(Note<'a>, &'a [u8])>
+    ensures first { MatchOption result (absent_notes report.now n (words bytes.now) ≡ [])
+        (λ x. absent_notes report.now n (words bytes.now) ≡ noted x.0 ∷ absent_notes report.now n (words x.1.now)) }
+{
+    let mut rest = bytes;
+    while let Some((word, after)) = next_word(rest) {
+        if let Some(note) = absent_note(report, n, word) {
+            return Some((note, after));
+        }
+        rest = after;
+    }
+    None
+}
+
+// What is noted of a word of such a line.
+fn absent_note<'a>(report: &Report<'_>, n: usize, word: &[u8]) -> Option<Note<'a>>
+    ensures { MatchOption result (absent_notes report.now n (word.now ∷ []) ≡ [])
+        (λ note. absent_notes report.now n (word.now ∷ []) ≡ noted note ∷ []) }
+{
+    let number = number_of(word)?;
+    if !report.knows(number) {
+        Some(Note::NoPlayer { line: n, number })
+    } else if played_last(report, number) {
+        Some(Note::PlayedLast { line: n, number })
+    } else {
+        None
     }
 }
 

@@ -1,0 +1,31 @@
+// Which rounds a player's points field counts.
+ghost use Rattle.std.specs.Prelude.{◌≡◌, false};
+ghost use Rattle.std.specs.Option.{option_map_or};
+ghost use Rattle.trf16.specs.Names.{player_of};
+ghost use Rattle.trf16.specs.Sheet.{entry_of};
+ghost use Rattle.report_notes.specs.Games.{counts_to_come};
+
+use trf16::{Player, Report, front};
+
+/// Whether the points field of the player with a start rank counts a round to come. Time grows with the players.
+pub(crate) fn counts_to_come(report: &Report<'_>, start: u16) -> bool
+    ensures { result ≡ option_map_or (counts_to_come report.now) (player_of report.now.players start) false }
+{
+    for player in report.players() {
+        if player.start == start {
+            return field_counts_to_come(report, player);
+        }
+    }
+    false
+}
+
+// The same of a player.
+fn field_counts_to_come(report: &Report<'_>, player: &Player<'_>) -> bool
+    ensures { result ≡ counts_to_come report.now (entry_of player.now) }
+{
+    let Some(points) = player.points else {
+        return false;
+    };
+    let paired = front(&player.cells, report.rounds_played());
+    points == report.points_over(&player.cells) && points != report.points_over(paired)
+}
