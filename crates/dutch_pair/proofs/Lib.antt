@@ -30,6 +30,7 @@ pub mod AnyLemmas
 pub mod Partners
 pub mod AllPairings
 pub mod Covering
+pub mod Completions
 pub mod Descents
 pub mod DownLemmas
 pub mod EligibleLemmas

@@ -8,6 +8,7 @@ pub mod Items
 pub mod Completion
 pub mod CompletionSearch
 pub mod Seats
+pub mod Meetings
 pub mod Stops
 pub mod Reached
 pub mod Context

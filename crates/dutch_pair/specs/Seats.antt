@@ -2,6 +2,7 @@
 use Rattle.std.specs.Prelude.{ℕ, Bool, not, ◌&&◌, ◌==◌, nat_lt, length}
 use Rattle.dutch_player.specs.Facts.{Facts, seat_at}
 use Rattle.dutch_player.specs.Meetings.{may_meet}
+use Rattle.dual.specs.Matchings.{Costs}
 
 -- a seat of the field
 abbrev pub is_seat : Facts → ℕ → Bool
@@ -14,3 +15,7 @@ seats_meet facts a b = is_seat facts a && is_seat facts b && not (a == b) && may
 -- C.2: a seat whose player may have the bye
 unfoldable pub seats_may_be_left : Facts → ℕ → Bool
 seats_may_be_left facts a = is_seat facts a && (seat_at facts a).may_bye
+
+-- the same, at no cost
+abbrev pub costs_nothing : Facts → Costs
+costs_nothing facts = record { meets = seats_meet facts; weight = λ a b. 0; may_be_left = seats_may_be_left facts; left_cost = λ a. 0 }

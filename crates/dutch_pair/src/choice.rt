@@ -279,5 +279,5 @@ pub fn choose(
     ensures answer { IfOk result (IsChoice field.now reached.now lower.now (budget.new.used ≡ budget.new.limit)) }
     ensures spends { Spends budget.old budget.new }
 {
-    choose_in(alloc, &Context::new(field, reached, lower), budget)
+    choose_in(alloc, &Context::new(alloc, field, reached, lower), budget)
 }

@@ -19,12 +19,15 @@ use crate::reached::{ByNumber, Reached};
 use crate::seated::{Pair, lowest};
 use dutch_order::{Bracket, LIMIT, Numbers, Rule, Shape, numbered_from};
 use dutch_player::{Field, Pref, Strength};
+use std::alloc::Global;
 use std::marker::Model;
 use trf16::Colour;
 
 /// A bracket of a field above all lower seats by rank.
 #[derive(Drop)]
 pub(crate) struct Context<'a> {
+    // for what is found on the heap
+    alloc: Global,
     field: &'a Field,
     reached: &'a Reached,
     lower: &'a [u16],
@@ -67,11 +70,17 @@ fn collide(one: Option<Pref>, other: Option<Pref>) -> bool
 
 impl<'a> Context<'a> {
     /// Reads a bracket above all lower seats by rank.
-    pub(crate) fn new(field: &'a Field, reached: &'a Reached, lower: &'a [u16]) -> Context<'a>
+    pub(crate) fn new(
+        alloc: Global,
+        field: &'a Field,
+        reached: &'a Reached,
+        lower: &'a [u16],
+    ) -> Context<'a>
         requires { IsAbove field.now reached.now lower.now }
         ensures { result ≡ record { facts = field.now; reached = reached.now; lower = lower.now } }
     {
         Context {
+            alloc,
             field,
             reached,
             lower,
@@ -79,6 +88,11 @@ impl<'a> Context<'a> {
             lowest: lowest(field, reached.seats()),
             next: split_first_group(field, lower).0,
         }
+    }
+
+    /// The allocator.
+    pub(crate) fn alloc(&self) -> Global {
+        self.alloc
     }
 
     /// The field.

@@ -8,16 +8,18 @@ ghost use Rattle.dutch_pair.specs.Shapes.{IsFirst, has_member};
 ghost use Rattle.dutch_pair.specs.Round.{is_penultimate, completable, eligible};
 ghost use Rattle.dutch_pair.specs.Eligible.{Lists, can_be_chosen};
 ghost use Rattle.dutch_pair.specs.Stops.{Decides};
-ghost use Rattle.dutch_order.specs.Steps.{MatchDrawn, Spends};
+ghost use Rattle.dutch_order.specs.Steps.{MatchDrawn, MatchFound, Spends};
 
-use crate::completion::completes_in;
+use crate::completion::completes;
 use crate::context::Context;
 use crate::greatest::Lister;
-use crate::reached::{BracketKind, ByNumber, Reached, Seats, copied, push_all};
+use crate::matched::told_by_matching;
+use crate::reached::{BracketKind, ByNumber, Reached, Seats, push_all};
 use crate::seated::push_seats;
 use crate::seats::seats;
 use dutch_order::{Budget, Candidate, Shape, Stopped};
 use dutch_player::Field;
+use std::alloc::Global;
 
 impl BracketKind {
     /// Whether the bracket is paired again so that all lower players can be paired out.
@@ -39,8 +41,56 @@ fn fill_with_lower(reached: &Reached, numbers: &[u16], lower: &[u16], seats: &mu
     push_all(lower, seats);
 }
 
-/// Whether seats can be paired out (A.9).
+/// The steps of the search for each player that decide nearly all lists.
+const FIRST_STEPS: u64 = 64;
+
+/// A budget of so many steps at most, of those that are left.
+fn at_most(steps: u64, budget: &Budget) -> Budget
+    requires within { budget.now.used ≤ budget.now.limit }
+    ensures used { result.used ≡ budget.now.used }
+    ensures within { result.used ≤ result.limit }
+    ensures less { result.limit ≤ budget.now.limit }
+{
+    Budget {
+        limit: budget.used.saturating_add(steps).min(budget.limit),
+        used: budget.used,
+    }
+}
+
+/// Whether seats can be paired out (A.9), by a search of few steps. None says that they did not suffice.
+fn told_by_few_steps(
+    field: &Field,
+    players: &[u16],
+    budget: &mut Budget,
+) -> Result<Option<bool>, Stopped>
+    requires few { length players.now ≤ LIMIT }
+    requires within { budget.old.used ≤ budget.old.limit }
+    ensures answer { MatchFound result (λ yes. yes ≡ completable field.now players.now) (Unit {0}) (budget.new.used ≡ budget.new.limit) }
+    ensures spends { Spends budget.old budget.new }
+{
+    let mut few = at_most(FIRST_STEPS * players.len() as u64, budget);
+    let answer = completes(players, &seats(field), &mut few).decided();
+    budget.used = few.used;
+    match answer {
+        Ok(told) => Ok(Some(told)),
+        Err(Stopped) if budget.used == budget.limit => Err(Stopped),
+        Err(Stopped) => Ok(None),
+    }
+}
+
+/// Whether seats can be paired out (A.9), by the search.
+fn told_by_search(field: &Field, players: &[u16], budget: &mut Budget) -> Result<bool, Stopped>
+    requires few { length players.now ≤ LIMIT }
+    requires within { budget.old.used ≤ budget.old.limit }
+    ensures answer { Decides result (completable field.now players.now) (budget.new.used ≡ budget.new.limit) }
+    ensures spends { Spends budget.old budget.new }
+{
+    completes(players, &seats(field), budget).decided()
+}
+
+/// Whether seats can be paired out (A.9): by a search of few steps, then by a matching, and if neither tells it, by the whole search.
 pub(crate) fn can_complete(
+    alloc: Global,
     field: &Field,
     players: &[u16],
     budget: &mut Budget,
@@ -50,16 +100,13 @@ pub(crate) fn can_complete(
     ensures answer { Decides result (completable field.now players.now) (budget.new.used ≡ budget.new.limit) }
     ensures spends { Spends budget.old budget.new }
 {
-    can_complete_in(field, &mut copied(players), budget)
-}
-
-/// The same, by a search in the list itself, whose order it may change.
-fn can_complete_in(field: &Field, players: &mut [u16], budget: &mut Budget) -> Result<bool, Stopped>
-    requires within { budget.old.used ≤ budget.old.limit }
-    ensures answer { Decides result (completable field.now players.old) (budget.new.used ≡ budget.new.limit) }
-    ensures spends { Spends budget.old budget.new }
-{
-    completes_in(players, &seats(field), budget).decided()
+    if let Some(told) = told_by_few_steps(field, players, budget)? {
+        return Ok(told);
+    }
+    if let Some(told) = told_by_matching(alloc, field, players, budget)? {
+        return Ok(told);
+    }
+    told_by_search(field, players, budget)
 }
 
 /// Whether those whom a candidate leaves over can be paired out with all lower players (A.9). The list is filled anew with them all.
@@ -76,7 +123,7 @@ pub(crate) fn leaves_completable(
     ensures spends { Spends budget.old budget.new }
 {
     fill_with_lower(context.reached(), candidate.down(), context.lower(), left);
-    can_complete_in(context.field(), left, budget)
+    can_complete(context.alloc(), context.field(), left, budget)
 }
 
 /// Whether a candidate can be chosen: in the penultimate bracket only if those whom it leaves over can be paired

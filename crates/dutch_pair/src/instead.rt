@@ -243,7 +243,7 @@ pub fn best_instead(
     ensures { IfOk result (IsInstead field.now stage.now.reached (lower_of field.now stage.now.reached) stage.now.shape wish limit) }
 {
     let lower = stage.reached().lower(field);
-    let context = Context::new(field, stage.reached(), &lower);
+    let context = Context::new(alloc, field, stage.reached(), &lower);
     let wished = Wished {
         context: &context,
         shape: stage.shape(),

@@ -54,7 +54,7 @@ pub fn pair_round(alloc: Global, field: &Field, limit: u64) -> Result<Outcome, P
 {
     let all = everybody(field);
     let mut budget = Budget { limit, used: 0 };
-    let mut walk = match Walk::start(field, &all, &mut budget) {
+    let mut walk = match Walk::start(alloc, field, &all, &mut budget) {
         Ok(Some(walk)) => walk,
         Ok(None) => return Ok(Outcome::NoPairing),
         Err(Stopped) => return Ok(Outcome::Undecided {
@@ -89,7 +89,7 @@ pub fn bracket_at(
 {
     let all = everybody(field);
     let mut budget = Budget { limit, used: 0 };
-    let mut walk = match Walk::start(field, &all, &mut budget) {
+    let mut walk = match Walk::start(alloc, field, &all, &mut budget) {
         Ok(Some(walk)) => walk,
         Ok(None) => return Ok(BracketAt::NoPairing),
         Err(Stopped) => return Ok(BracketAt::Undecided {
@@ -99,7 +99,7 @@ pub fn bracket_at(
     };
     loop {
         if walk.number() == number {
-            match walk.bracket(&mut budget) {
+            match walk.bracket(alloc, &mut budget) {
                 Ok(Some((reached, shape))) => return Ok(BracketAt::Bracket { reached, shape }),
                 Ok(None) => return Ok(BracketAt::NotReached),
                 Err(Stopped) => {
@@ -128,7 +128,7 @@ pub fn stages(alloc: Global, field: &Field, limit: u64) -> Result<AllStages, Pai
 {
     let all = everybody(field);
     let mut budget = Budget { limit, used: 0 };
-    let mut walk = match Walk::start(field, &all, &mut budget) {
+    let mut walk = match Walk::start(alloc, field, &all, &mut budget) {
         Ok(Some(walk)) => walk,
         Ok(None) => return Ok(AllStages::NoPairing),
         Err(Stopped) => return Ok(AllStages::Undecided {

@@ -58,3 +58,26 @@ impl<'a> Rule for BySeat<'a> {
 
     ghost symmetric = { λ facts a b _ _. seats_meet_sym facts a b };
 }
+
+// (for a matching only who may meet and who may be left over counts)
+impl<'a> dual::Rule for BySeat<'a> {
+    ghost use Rattle.dutch_pair.specs.Seats.{costs_nothing};
+
+    ghost costs = { costs_nothing };
+
+    fn may_meet(&self, a: u16, b: u16) -> bool {
+        Rule::may_meet(self, a, b)
+    }
+
+    fn weight(&self, _a: u16, _b: u16) -> u32 {
+        0
+    }
+
+    fn may_be_left(&self, a: u16) -> bool {
+        Rule::may_be_left(self, a)
+    }
+
+    fn left_cost(&self, _a: u16) -> u32 {
+        0
+    }
+}

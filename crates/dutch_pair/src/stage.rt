@@ -72,7 +72,7 @@ pub(crate) fn settle(
         (λ stage. (stage.reached ≡ reached.now) × IsSettled field.now lower.now stage)) }
     ensures spends { Spends budget.old budget.new }
 {
-    let context = Context::new(field, reached, lower);
+    let context = Context::new(alloc, field, reached, lower);
     let (shape, candidate, quality) = match choose_in(alloc, &context, budget)? {
         Choice::Chosen {
             shape,

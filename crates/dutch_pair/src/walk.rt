@@ -98,21 +98,15 @@ fn paired_again(reached: &Reached) -> Reached
 }
 
 /// The shape of a bracket.
-fn shape_in(
-    field: &Field,
-    reached: &Reached,
-    lower: &[u16],
-    budget: &mut Budget,
-) -> Result<Shape, Stopped>
-    requires above { IsAbove field.now reached.now lower.now }
-    requires candidate { HasCandidate field.now reached.now lower.now }
+fn shape_in(context: &Context<'_>, budget: &mut Budget) -> Result<Shape, Stopped>
+    requires candidate { HasCandidate context.now.facts context.now.reached context.now.lower }
     requires within { budget.old.used ≤ budget.old.limit }
     ensures answer { MatchResult result
-        (λ shape. (shape_of field.now reached.now lower.now ≡ Some shape) × Fits (frame_of field.now reached.now) shape)
+        (λ shape. (shape_of context.now.facts context.now.reached context.now.lower ≡ Some shape) × Fits (frame_of context.now.facts context.now.reached) shape)
         (λ _. budget.new.used ≡ budget.new.limit) }
     ensures spends { Spends budget.old budget.new }
 {
-    match shape_of(&Context::new(field, reached, lower), budget)? {
+    match shape_of(context, budget)? {
         Some(shape) => Ok(shape),
         None => unreachable!(),
     }
@@ -187,6 +181,7 @@ impl<'a> Walk<'a> {
     /// A walk over the brackets of the next round. The test of all present players comes first, and counts to the first bracket. The answer
     /// is none if they cannot be paired out.
     pub(crate) fn start(
+        alloc: Global,
         field: &'a Field,
         all: &'a [u16],
         budget: &mut Budget,
@@ -200,7 +195,7 @@ impl<'a> Walk<'a> {
         ensures spends { Spends budget.old budget.new }
     {
         scores_do_not_ascend(field);
-        if !can_complete(field, all, budget)? {
+        if !can_complete(alloc, field, all, budget)? {
             return Ok(None);
         }
         Ok(Some(Walk::before_group(field, 1, Seats::new(), all)))
@@ -234,7 +229,11 @@ impl<'a> Walk<'a> {
     }
 
     /// The bracket that comes next, with its shape; nothing more is asked of it. The answer is none if no bracket comes.
-    pub(crate) fn bracket(&self, budget: &mut Budget) -> Result<Option<(Reached, Shape)>, Stopped>
+    pub(crate) fn bracket(
+        &self,
+        alloc: Global,
+        budget: &mut Budget,
+    ) -> Result<Option<(Reached, Shape)>, Stopped>
         requires within { budget.old.used ≤ budget.old.limit }
         ensures answer { MatchFound result
             (λ found. Shows self.now.facts self.now.rest found.0 found.1 × (found.0.number ≡ self.now.number))
@@ -246,7 +245,8 @@ impl<'a> Walk<'a> {
         let Next::Bracket(reached) = &self.next else {
             return Ok(None);
         };
-        let shape = shape_in(self.field, reached, self.lower, budget)?;
+        let context = Context::new(alloc, self.field, reached, self.lower);
+        let shape = shape_in(&context, budget)?;
         Ok(Some((reached.copied(), shape)))
     }
 }

@@ -7,8 +7,8 @@ use Rattle.dutch_pair.proofs.NoDeadEnd.{round_goes}
 use Rattle.dutch_pair.proofs.RoundEnds.{IsAhead, ahead_first, ahead_more, ahead_none, first_count}
 use Rattle.dutch_pair.proofs.round.bracket_at.Goals as goal
 
-pub loop-alloc-init : goal.loop-alloc-init
-loop-alloc-init c =
+pub loop-walk-init : goal.loop-walk-init
+loop-walk-init c =
     let facts = c.args.field.now in
     let walk = c.in-Ok-Some.walk in
     let found = MatchOption-at_some _ _ walk c.in-Ok-Some.field-0-is c.in-Ok-Some.ensures.answer in
@@ -25,11 +25,11 @@ loop-alloc-init c =
       within = c.start.ensures.spends.within;
     }
 
-pub loop-alloc-preserved : goal.loop-alloc-preserved
-loop-alloc-preserved c =
-    let old = c.loop-alloc.walk in
+pub loop-walk-preserved : goal.loop-walk-preserved
+loop-walk-preserved c =
+    let old = c.loop-walk.walk in
     let new = c.go_on.new.self in
-    let inv = c.loop-alloc.invariant in
+    let inv = c.loop-walk.invariant in
     let stage = c.in-Settled._stage in
     let behind = (subst (λ turn. GoesOn old new c.go_on.new.budget turn) c.in-Settled.is c.in_ok-_stage.ensures.goes).0 in
     let number : new.number ≡ old.number + 1 = behind.number in
@@ -44,9 +44,9 @@ loop-alloc-preserved c =
       within = c.go_on.ensures.within;
     }
 
-pub loop-alloc-smaller : goal.loop-alloc-smaller
-loop-alloc-smaller c =
-    let old = c.loop-alloc.walk in
+pub loop-walk-smaller : goal.loop-walk-smaller
+loop-walk-smaller c =
+    let old = c.loop-walk.walk in
     let new = c.go_on.new.self in
     let behind = (subst (λ turn. GoesOn old new c.go_on.new.budget turn) c.in-Settled.is c.in_ok-_stage.ensures.goes).0 in
     let count : length old.rest.reached ≡ suc (length new.rest.reached) = first_count old.facts c.in-Settled._stage new.rest old.rest behind.rest in
@@ -55,16 +55,16 @@ loop-alloc-smaller c =
 pub returns-in-Ended-clause-bracket : goal.returns-in-Ended-clause-bracket
 returns-in-Ended-clause-bracket c =
     let facts = c.args.field.now in
-    let old = c.loop-alloc.walk in
+    let old = c.loop-walk.walk in
     let h = subst (λ turn. GoesOn old c.go_on.new.self c.go_on.new.budget turn) c.in-Ended.is c.in_ok-_stage.ensures.goes in (
-      ahead_none c.args.number old.number old.rest.reached (round facts).reached (ap (λ (r : Round). r.reached) h.0) c.loop-alloc.invariant.ahead,
-      round_goes facts c.loop-alloc.invariant.complete,
+      ahead_none c.args.number old.number old.rest.reached (round facts).reached (ap (λ (r : Round). r.reached) h.0) c.loop-walk.invariant.ahead,
+      round_goes facts c.loop-walk.invariant.complete,
     )
 
 pub returns-in-Ok-None-bracket-clause-bracket : goal.returns-in-Ok-None-bracket-clause-bracket
 returns-in-Ok-None-bracket-clause-bracket c =
     let facts = c.args.field.now in
-    let walk = c.loop-alloc.walk in (
-      ahead_none c.args.number walk.number walk.rest.reached (round facts).reached (MatchOption-at_none _ _ c.in-Ok-None-bracket.field-0-is c.in-Ok-None-bracket.ensures.answer) c.loop-alloc.invariant.ahead,
-      round_goes facts c.loop-alloc.invariant.complete,
+    let walk = c.loop-walk.walk in (
+      ahead_none c.args.number walk.number walk.rest.reached (round facts).reached (MatchOption-at_none _ _ c.in-Ok-None-bracket.field-0-is c.in-Ok-None-bracket.ensures.answer) c.loop-walk.invariant.ahead,
+      round_goes facts c.loop-walk.invariant.complete,
     )

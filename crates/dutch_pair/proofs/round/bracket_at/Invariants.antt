@@ -4,8 +4,8 @@ use Rattle.dutch_pair.specs.Round.{completable, everybody, round}
 use Rattle.dutch_pair.proofs.RoundEnds.{IsAhead}
 use Rattle.dutch_pair.proofs.round.bracket_at.Given as goal
 
-abbrev pub invariant-loop-alloc : goal.invariant-loop-alloc
-invariant-loop-alloc l = record {
+abbrev pub invariant-loop-walk : goal.invariant-loop-walk
+invariant-loop-walk l = record {
   facts : l.walk.facts ≡ l.field;
   complete : completable l.field (everybody l.field) ≡ true;
   low : 1 ≤ l.walk.number;
@@ -15,5 +15,5 @@ invariant-loop-alloc l = record {
   ahead : IsAhead l.number l.walk.number l.walk.rest.reached (round l.field).reached;
 }
 
-abbrev pub decreases-loop-alloc : goal.decreases-loop-alloc
-decreases-loop-alloc l = length l.walk.rest.reached
+abbrev pub decreases-loop-walk : goal.decreases-loop-walk
+decreases-loop-walk l = length l.walk.rest.reached
