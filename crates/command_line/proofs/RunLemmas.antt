@@ -5,7 +5,6 @@ use Rattle.std.proofs.lemmas.Bool.{cases_lt}
 use Rattle.std.proofs.lemmas.Bool.Decides.{nat_tests}
 use Rattle.trf16.specs.Verdict.{laid_out, verdict}
 use Rattle.trf16.specs.declared.fault.Excess.TheVariants.{Bytes}
-use Rattle.trf16.specs.declared.fault.Fault.{Fault}
 use Rattle.trf16.specs.declared.fault.Fault.TheVariants.{TooMany}
 use Rattle.trf16.specs.Summed.{verdict_unsummed}
 use Rattle.command_line.specs.Commands.{Answers, AnswersReport, check_answer, format_verdict, verdict_for}
