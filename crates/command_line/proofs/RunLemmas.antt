@@ -5,10 +5,9 @@ use Rattle.std.proofs.lemmas.Bool.{cases_lt}
 use Rattle.std.proofs.lemmas.Bool.Decides.{nat_tests}
 use Rattle.trf16.specs.Verdict.{laid_out, verdict}
 use Rattle.trf16.specs.declared.fault.Excess.TheVariants.{Bytes}
-use Rattle.trf16.specs.declared.fault.Fault.{Fault}
 use Rattle.trf16.specs.declared.fault.Fault.TheVariants.{TooMany}
 use Rattle.trf16.specs.Summed.{verdict_unsummed}
-use Rattle.command_line.specs.Commands.{Answers, AnswersReport, format_verdict, verdict_for}
+use Rattle.command_line.specs.Commands.{Answers, AnswersReport, check_answer, format_verdict, verdict_for}
 use Rattle.command_line.specs.Statuses.{Answer}
 use Rattle.command_line.specs.Devices.{Reading}
 use Rattle.command_line.specs.Input.{IsRead, most_read}
@@ -43,19 +42,24 @@ verdict_for-long (Candidates options) bytes bye h = verdict-long bytes bye h
 verdict_for-long (Explain options) bytes bye h = verdict-long bytes bye h
 verdict_for-long (Standings options) bytes bye h = verdict-long bytes bye h
 
--- where a report is refused, an answer is one over any other input
-refused_alike : (request : Request) (a b : List ℕ) (fault : Fault) (answer : Answer) → AnswersReport request a (Err fault) answer
-    → AnswersReport request b (Err fault) answer
-refused_alike (Check options) a b fault answer h = h
-refused_alike (Format options) a b fault answer h = h
-refused_alike (Pair options) a b fault answer h = h
-refused_alike (Candidates options) a b fault answer h = h
-refused_alike (Explain options) a b fault answer h = h
-refused_alike (Standings options) a b fault answer h = h
+-- where a report has too many bytes, nothing is found behind it
+check_alike : (noting : Bool) (a b : List ℕ) (bye : ℕ) → check_answer (Err (TooMany Bytes)) noting a bye ≡ check_answer (Err (TooMany Bytes)) noting b bye
+check_alike false a b bye = refl
+check_alike true a b bye = refl
+
+-- where a report has too many bytes, an answer is one over any other input
+refused_alike : (request : Request) (a b : List ℕ) (bye : ℕ) (answer : Answer) → AnswersReport request a bye (Err (TooMany Bytes)) answer
+    → AnswersReport request b bye (Err (TooMany Bytes)) answer
+refused_alike (Check options) a b bye answer h = h ∙ check_alike options.notes a b bye
+refused_alike (Format options) a b bye answer h = h
+refused_alike (Pair options) a b bye answer h = h
+refused_alike (Candidates options) a b bye answer h = h
+refused_alike (Explain options) a b bye answer h = h
+refused_alike (Standings options) a b bye answer h = h
 
 -- an answer over an input, by its verdict
 abbrev AnswersOver : Request → ℕ → Answer → List ℕ → Type 0
-AnswersOver request bye answer input = AnswersReport request input (verdict_for request input bye) answer
+AnswersOver request bye answer input = AnswersReport request input bye (verdict_for request input bye) answer
 
 -- an answer over what is read of some bytes is one over them
 answers_whole : (request : Request) (input rest : List ℕ) (bye : ℕ) (answer : Answer) → (length input < most_read → rest ≡ [])
@@ -65,8 +69,8 @@ answers_whole request input rest bye answer whole h = elim (cases_lt (length inp
   | inr long ↦
       let here = verdict_for-long request input bye long in
       let there = verdict_for-long request (input ++ rest) bye (omega (arith, length-append input rest)) in
-      subst (λ report. AnswersReport request (input ++ rest) report answer) (sym there)
-      (refused_alike request input (input ++ rest) (TooMany Bytes) answer (subst (λ report. AnswersReport request input report answer) here h))
+      subst (λ report. AnswersReport request (input ++ rest) bye report answer) (sym there)
+      (refused_alike request input (input ++ rest) bye answer (subst (λ report. AnswersReport request input bye report answer) here h))
 ]
 
 -- the bytes that a source had

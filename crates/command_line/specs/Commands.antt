@@ -10,6 +10,7 @@ use Rattle.command_line.specs.CandidateAnswers.{AnswersCandidates}
 use Rattle.command_line.specs.ExplainAnswers.{AnswersExplain}
 use Rattle.command_line.specs.NoteTexts.{notes_text}
 use Rattle.command_line.specs.PairAnswers.{AnswersPair}
+use Rattle.command_line.specs.RefusalNoteTexts.{in_front, refusal_note}
 use Rattle.command_line.specs.StandingsAnswers.{standings_answer}
 use Rattle.command_line.specs.Statuses.{Answer, done, refusal, report_answer}
 use Rattle.command_line.specs.Texts.{accepted_text}
@@ -22,11 +23,12 @@ abbrev pub size_text : Sheet → List ℕ
 size_text sheet = accepted_text (length sheet.players) (rounds_played sheet)
 
 -- `check`: how many players and rounds the report has, with `--notes` (true) followed by what of its bytes looks like a mistake; or why
--- it is refused
-abbrev pub check_answer : Result Sheet Fault → Bool → List ℕ → Answer
-check_answer (Err fault) noting input = refusal fault
-check_answer (Ok sheet) false input = done (size_text sheet)
-check_answer (Ok sheet) true input = done (size_text sheet ++ notes_text (notes_of sheet input))
+-- it is refused, with `--notes` followed by what was found
+abbrev pub check_answer : Result Sheet Fault → Bool → List ℕ → ℕ → Answer
+check_answer (Err fault) false input bye = refusal fault
+check_answer (Err fault) true input bye = in_front (refusal fault) (refusal_note fault input bye)
+check_answer (Ok sheet) false input bye = done (size_text sheet)
+check_answer (Ok sheet) true input bye = done (size_text sheet ++ notes_text (notes_of sheet input))
 
 -- the report that `format` writes: as it was read, or with `--points` (true) with its points fields summed
 abbrev pub formatted : Bool → Sheet → Sheet
@@ -43,14 +45,14 @@ abbrev pub format_verdict : Bool → List ℕ → ℕ → Result Sheet Fault
 format_verdict false input bye = verdict input bye
 format_verdict true input bye = verdict_unsummed input bye
 
--- this is an answer to a request over an input and the report that it is, or over why it is refused
-abbrev pub AnswersReport : Request → List ℕ → Result Sheet Fault → Answer → Type 0
-AnswersReport (Check options) input report answer = answer ≡ check_answer report options.notes input
-AnswersReport (Format options) input report answer = answer ≡ format_answer options.points report
-AnswersReport (Pair options) input report answer = AnswersPair options report answer
-AnswersReport (Candidates options) input report answer = AnswersCandidates options report answer
-AnswersReport (Explain options) input report answer = AnswersExplain options report answer
-AnswersReport (Standings options) input report answer = answer ≡ standings_answer options report
+-- this is an answer to a request over an input, what the pairing-allocated bye gives, and the report that it is, or over why it is refused
+abbrev pub AnswersReport : Request → List ℕ → ℕ → Result Sheet Fault → Answer → Type 0
+AnswersReport (Check options) input bye report answer = answer ≡ check_answer report options.notes input bye
+AnswersReport (Format options) input bye report answer = answer ≡ format_answer options.points report
+AnswersReport (Pair options) input bye report answer = AnswersPair options report answer
+AnswersReport (Candidates options) input bye report answer = AnswersCandidates options report answer
+AnswersReport (Explain options) input bye report answer = AnswersExplain options report answer
+AnswersReport (Standings options) input bye report answer = answer ≡ standings_answer options report
 
 -- the verdict that a request goes by, where the pairing-allocated bye gives so many half points
 abbrev pub verdict_for : Request → List ℕ → ℕ → Result Sheet Fault
@@ -59,4 +61,4 @@ verdict_for request input bye = verdict input bye
 
 -- this is an answer to a task over an input: its request's, over the verdict by what the pairing-allocated bye gives
 abbrev pub Answers : Task → List ℕ → Answer → Type 0
-Answers task input answer = AnswersReport task.request input (verdict_for task.request input task.bye) answer
+Answers task input answer = AnswersReport task.request input task.bye (verdict_for task.request input task.bye) answer

@@ -4,6 +4,7 @@ pub mod Input
 pub mod Words
 pub mod Texts
 pub mod NoteTexts
+pub mod RefusalNoteTexts
 pub mod Commands
 pub mod Run
 pub mod Replies

@@ -149,7 +149,7 @@ pub fn notes<'a>(alloc: Global) -> Arg<'a>
     flag(
         alloc,
         "notes",
-        "Prints a line too for each thing of an accepted report that looks like a mistake",
+        "Prints a line too for each thing of an accepted report that looks like a mistake, and for what was found where it is refused",
     )
 }
 

@@ -1,5 +1,5 @@
 // The command `check`: whether a report is accepted, how many players and rounds it has, and what looks like a mistake.
-ghost use Rattle.std.specs.Prelude.{◌≡◌, ◌≤◌, ◌++◌, IfOk, Ok, string_bytes};
+ghost use Rattle.std.specs.Prelude.{◌≡◌, ℕ, ◌≤◌, ◌++◌, IfOk, Ok, string_bytes};
 ghost use Rattle.trf16.specs.Verdict.{verdict};
 ghost use Rattle.report_notes.specs.Notes.{notes_of};
 ghost use Rattle.command_line.specs.Commands.{check_answer, size_text};
@@ -10,6 +10,7 @@ ghost use Rattle.command_line.specs.Statuses.{done};
 use crate::notes::put_notes;
 use crate::options::CheckOptions;
 use crate::refusal::refused;
+use crate::refusal_notes::refused_with_note;
 use crate::reply::{Reply, Status, Text};
 use crate::texts;
 use std::alloc::{AllocError, Global};
@@ -23,11 +24,12 @@ pub fn check(
     bye: u16,
 ) -> Result<Reply, AllocError>
     requires { bye ≤ 2 }
-    ensures { IfOk result (λ reply. answer_of reply ≡ check_answer (verdict bytes.now bye) options.notes bytes.now) }
+    ensures { IfOk result (λ reply. answer_of reply ≡ check_answer (verdict bytes.now bye) options.notes bytes.now bye) }
 {
     match trf16::read_with(alloc, bytes, bye) {
         Ok(report) => accepted(alloc, options, &report, bytes),
         Err(Fault::OutOfMemory) => Err(AllocError),
+        Err(fault) if options.notes => refused_with_note(alloc, fault, bytes, bye),
         Err(fault) => refused(alloc, fault),
     }
 }
@@ -39,7 +41,7 @@ fn accepted(
     report: &Report<'_>,
     bytes: &[u8],
 ) -> Result<Reply, AllocError>
-    ensures { IfOk result (λ reply. answer_of reply ≡ check_answer (Ok report.now) options.notes bytes.now) }
+    ensures { (bye : ℕ) → IfOk result (λ reply. answer_of reply ≡ check_answer (Ok report.now) options.notes bytes.now bye) }
 {
     let text = size(alloc, report)?;
     if options.notes {

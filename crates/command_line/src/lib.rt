@@ -23,6 +23,7 @@ mod pair;
 mod player_line;
 mod question;
 mod refusal;
+mod refusal_notes;
 mod reply;
 mod running;
 mod standings;

@@ -1,2 +1,3 @@
 pub mod GameLemmas
 pub mod NotedRounds
+mod AloneLemmas

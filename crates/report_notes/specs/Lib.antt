@@ -1,5 +1,6 @@
--- What the contracts of report_notes name: what looks like a mistake, and the places in front of it.
+-- What the contracts of report_notes name: what looks like a mistake, and the places in front of it; and what stands where a report is refused.
 pub mod Games
 pub mod Notes
 pub mod NoteOf
 pub mod Places
+pub mod RefusalNotes

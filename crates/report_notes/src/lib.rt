@@ -21,8 +21,13 @@ mod note;
 mod place;
 mod player_line;
 mod points;
+mod refusal;
 mod walk;
 
 pub use note::Note;
 pub use place::Place;
+pub use refusal::{
+    Columns, Sums, are_lines_read, columns_of, has_characters, held, line_alone_has_bytes, line_in,
+    line_of, sums_of,
+};
 pub use walk::next_note;

@@ -1,0 +1,178 @@
+// What stands where a report is refused: what the columns hold that a refusal is about, and the sums that a points field was compared
+// with.
+ghost use Rattle.std.specs.Prelude.{◌≡◌, ℕ, ◌≤◌, List, ◌∷◌, [], Err, not, true, false};
+ghost use Rattle.std.specs.List.{list_all};
+ghost use Rattle.std.specs.Str.{is_utf8};
+ghost use Rattle.trf16.specs.Lines.{columns, ends_line, lines, text, without_marks};
+ghost use Rattle.trf16.specs.Sheet.{entry_of};
+ghost use Rattle.trf16.specs.declared.limits.TheConstants.{LAST_COLUMN};
+ghost use Rattle.report_notes.specs.RefusalNotes.{alone_in_bytes, are_lines_read, columns_around, columns_of, held, line_in, line_of, sums_among, sums_of};
+
+use std::str;
+use trf16::{
+    Excess, Fault, LAST_COLUMN, MOST_ROUNDS, Player, Report, front, next_line, skip_marks,
+    split_columns,
+};
+
+/// Columns of a line, `first` to `last`. Lines and columns count from 1.
+#[derive(Debug, Clone, Copy, PartialEq, Eq)]
+pub struct Columns {
+    pub line: usize,
+    pub first: usize,
+    pub last: usize,
+}
+
+/// A points field and the sums that it was compared with, in half points: over the rounds that were paired, and over all rounds.
+#[derive(Debug, Clone, Copy, PartialEq, Eq)]
+pub struct Sums {
+    pub player: u16,
+    pub field: u16,
+    pub paired: u16,
+    pub all: u16,
+}
+
+// A column that must be blank, with what it stands between.
+fn columns_around(line: usize, column: usize) -> Columns
+    requires { column ≤ LAST_COLUMN }
+    ensures { result ≡ columns_around line column }
+{
+    if column < 9 {
+        return Columns {
+            line,
+            first: 1,
+            last: 8,
+        };
+    }
+    if column < 92 {
+        return Columns {
+            line,
+            first: 81,
+            last: 91,
+        };
+    }
+    let further = 10 * ((column - 92) / 10);
+    Columns {
+        line,
+        first: 92 + further,
+        last: 101 + further,
+    }
+}
+
+/// The columns that a refusal is about: opponent, colour and result of a bad cell, or a column that must be blank with what it stands
+/// between.
+pub fn columns_of(fault: Fault) -> Option<Columns>
+    ensures { result ≡ columns_of fault }
+{
+    match fault {
+        Fault::BadCell { line, round } if round <= MOST_ROUNDS => Some(Columns {
+            line,
+            first: 82 + 10 * round,
+            last: 89 + 10 * round,
+        }),
+        Fault::Misaligned { line, column } if column <= LAST_COLUMN => {
+            Some(columns_around(line, column))
+        }
+        _ => None,
+    }
+}
+
+/// Whether a column of a text is a character: the text is UTF-8. Otherwise a column is a byte.
+pub fn has_characters(bytes: &[u8]) -> bool
+    ensures { result ≡ is_utf8 (without_marks bytes.now) }
+{
+    str::from_utf8(skip_marks(bytes)).is_ok()
+}
+
+/// The line of a number, from 1; empty behind the last line. The time grows with the text.
+pub fn line_in(bytes: &[u8], n: usize) -> &[u8]
+    ensures { result.now ≡ line_in bytes.now n }
+{
+    let mut rest = skip_marks(bytes);
+    let mut before = n.saturating_sub(1);
+    while !rest.is_empty() {
+        let (line, after) = next_line(rest);
+        if before == 0 {
+            return line;
+        }
+        before -= 1;
+        rest = after;
+    }
+    &[]
+}
+
+// The columns `first` to `last` of a line.
+fn columns_in(line: &[u8], utf8: bool, first: usize, last: usize) -> &[u8]
+    ensures { result.now ≡ text (columns utf8 line.now) first last }
+{
+    let before = first.saturating_sub(1);
+    let (_, rest) = split_columns(line, utf8, before);
+    split_columns(rest, utf8, last.saturating_sub(before)).0
+}
+
+/// What some columns of a text hold; columns behind the line's end are missing.
+pub fn held(bytes: &[u8], place: Columns) -> &[u8]
+    ensures { result.now ≡ held bytes.now place }
+{
+    let Columns { line, first, last } = place;
+    columns_in(line_in(bytes, line), has_characters(bytes), first, last)
+}
+
+/// The line whose columns are at fault.
+pub fn line_of(fault: Fault) -> Option<usize>
+    ensures { result ≡ line_of fault }
+{
+    match fault {
+        Fault::BadNumber { line } | Fault::Misaligned { line, .. } | Fault::BadCell { line, .. } =>
+            Some(line),
+        _ => None,
+    }
+}
+
+/// Whether each line of a refused text is read: it has not too many bytes, and no rule on a line is broken.
+pub fn are_lines_read(fault: Fault) -> bool
+    ensures { result ≡ are_lines_read (Err fault) }
+{
+    match fault {
+        Fault::TooMany(Excess::Bytes)
+        | Fault::BadNumber { .. }
+        | Fault::Duplicate { .. }
+        | Fault::Misaligned { .. }
+        | Fault::BadCell { .. }
+        | Fault::BadExtension { .. } => false,
+        _ => true,
+    }
+}
+
+// The points field of a player, and the sums that it is compared with.
+fn player_sums(report: &Report<'_>, player: &Player<'_>) -> Option<Sums>
+    ensures { result ≡ sums_of report.now (entry_of player.now) }
+{
+    let field = player.points?;
+    let paired = front(&player.cells, report.rounds_played());
+    Some(Sums {
+        player: player.start,
+        field,
+        paired: report.points_over(paired),
+        all: report.points_over(&player.cells),
+    })
+}
+
+/// The points field of the player with a start rank, and the sums that it is compared with; none if the field is blank, or if no
+/// player has the start rank.
+pub fn sums_of(report: &Report<'_>, start: u16) -> Option<Sums>
+    ensures { result ≡ sums_among report.now report.now.players start }
+{
+    for player in report.players() {
+        if player.start == start {
+            return player_sums(report, player);
+        }
+    }
+    None
+}
+
+/// A line alone, as the text that shows whether the line fits in bytes: it is not read as UTF-8, so its columns are bytes, and its
+/// lines are that line and one of a single byte, which is of no kind.
+pub fn line_alone_has_bytes()
+    ensures columns { (line : List ℕ) → is_utf8 (without_marks (alone_in_bytes line)) ≡ false }
+    ensures lines { (line : List ℕ) → list_all (λ b. not (ends_line b)) line ≡ true → lines (alone_in_bytes line) ≡ line ∷ (0xFF ∷ []) ∷ [] }
+{}
