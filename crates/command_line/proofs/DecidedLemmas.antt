@@ -1,5 +1,5 @@
 -- Where it is decided, bracket by bracket.
-use Rattle.std.proofs.Common.{◌≡◌, ◌∙◌, ℕ, Bool, true, false, cond, ◌&&◌, ◌||◌, ◌⊎◌, inl, inr, List, [], ◌∷◌, ◌++◌, Some, refl, sym, ap}
+use Rattle.std.proofs.Common.{◌≡◌, ◌∙◌, ℕ, Bool, true, false, cond, ◌&&◌, ◌||◌, inl, inr, List, [], ◌∷◌, Some, refl, sym, ap}
 use Rattle.std.proofs.lemmas.Bool.{and_parts, true≢false}
 use Rattle.dutch_pair.specs.declared.stage.Stage.{Stage}
 use Rattle.dutch_pair.specs.declared.wish.Wish.{Wish}

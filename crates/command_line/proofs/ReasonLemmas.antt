@@ -1,8 +1,8 @@
 -- The reasons why no candidate grants a wish stand (C.04.3 B.1, C.4, C.5).
-use Rattle.std.proofs.Common.{◌≡◌, ◌∙◌, ℕ, ◌<◌, ◌≤◌, ◌⊎◌, inl, inr, Bool, true, false, ◌&&◌, List, [], ◌∷◌, refl, sym, ap, subst, arith}
+use Rattle.std.proofs.Common.{◌≡◌, ◌∙◌, ℕ, ◌<◌, ◌≤◌, ◌⊎◌, inl, inr, true, false, ◌&&◌, List, [], ◌∷◌, refl, sym, ap, subst, arith}
 use Rattle.std.specs.List.{list_any}
-use Rattle.std.proofs.lemmas.Bool.{and_parts, and_from, cases_lt, false_from_ne_true}
-use Rattle.dutch_order.specs.Arrangements.{Arrangement, Fits}
+use Rattle.std.proofs.lemmas.Bool.{and_parts, and_from, cases_lt}
+use Rattle.dutch_order.specs.Arrangements.{Arrangement}
 use Rattle.dutch_order.specs.Keys.{IsIn}
 use Rattle.dutch_order.proofs.Orders.{filter-IsIn}
 use Rattle.dutch_player.specs.Facts.{Facts}
@@ -11,7 +11,7 @@ use Rattle.dutch_pair.specs.Outcomes.{IsStage}
 use Rattle.dutch_pair.specs.Reached.{frame_of}
 use Rattle.dutch_pair.specs.Round.{can_be_chosen, candidates_of, eligible}
 use Rattle.dutch_pair.specs.Shapes.{fits, has_member}
-use Rattle.dutch_pair.specs.Wishes.{IsBarred, IsInstead, SomeGrants, grants, some_grants, with_mdps}
+use Rattle.dutch_pair.specs.Wishes.{IsBarred, IsInstead, grants, some_grants, with_mdps}
 use Rattle.dutch_pair.specs.declared.instead.Instead.TheVariants.{FewerMovedDown, NoneEligible, NoneLegal}
 use Rattle.dutch_pair.specs.declared.stage.Stage.{Stage}
 use Rattle.dutch_pair.specs.declared.wish.Wish.{Wish}

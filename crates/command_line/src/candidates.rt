@@ -146,12 +146,7 @@ fn list_coming<R: Rule>(
 }
 
 // A first line, the lines of the candidates of the bracket of a number, and how they ended.
-fn listing(
-    alloc: Global,
-    number: u16,
-    first: String,
-    listed: &Listed,
-) -> Result<String, AllocError>
+fn listing(alloc: Global, number: u16, first: String, listed: &Listed) -> Result<String, AllocError>
     ensures { IfOk result (λ text. string_bytes text
         ≡ string_bytes first ++ (string_bytes listed.now.text ++ ending_text number listed.now.ending)) }
 {
