@@ -5,6 +5,7 @@ use Rattle.dutch_order.specs.Arrangements.{Arrangement, candidates, rest}
 use Rattle.dutch_order.specs.Cursors.{cursor_of}
 use Rattle.dutch_order.specs.declared.bracket.Shape.{Shape}
 use Rattle.dutch_order.specs.declared.cursor.CursorFault.{CursorFault}
+use Rattle.dutch_order.specs.declared.steps.Budget.{Budget}
 use Rattle.dutch_pair.specs.Outcomes.{IsBracketAt}
 use Rattle.dutch_pair.specs.Reached.{Reached, frame_of, numbers_meet, number_may_be_left}
 use Rattle.dutch_pair.specs.declared.round.BracketAt.{BracketAt}
@@ -29,6 +30,12 @@ IsListing line coming count steps AtEnd text = (length coming < count) × (text 
 IsListing line coming count steps AtCount text = (count ≤ length coming) × (text ≡ flat_map line (take count coming))
 IsListing line coming count steps (Stopped used) text =
     (used ≡ steps) × ((k : ℕ) × (k < count) × (k ≤ length coming) × (text ≡ flat_map line (take k coming)))
+
+-- a listing is stopped only where all steps of its budget are used
+abbrev pub StopsAtLimit : Ending → Budget → Type 0
+StopsAtLimit AtEnd budget = Unit {0}
+StopsAtLimit AtCount budget = Unit {0}
+StopsAtLimit (Stopped used) budget = budget.used ≡ budget.limit
 
 -- the status of a listing
 abbrev pub status_of : Ending → Status

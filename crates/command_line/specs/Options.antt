@@ -1,5 +1,5 @@
 -- What the options of a command say, by the rows that clap makes of its words.
-use Rattle.std.specs.Prelude.{ℕ, Bool, true, false, if◌then◌else◌, List, Option, Some, None, Result, Ok, Err, option_and_then, unwrap_or, codes}
+use Rattle.std.specs.Prelude.{ℕ, ◌-◌, ◌^◌, Bool, true, false, if◌then◌else◌, List, Option, Some, None, Result, Ok, Err, option_and_then, unwrap_or, codes}
 use Rattle.std.specs.Option.{option_map_or}
 use Rattle.std.specs.Str.{bytes_eq}
 use Rattle.std.specs.Str.Parse.{digits_value, without_leading_plus}
@@ -32,6 +32,13 @@ abbrev pub ◌>>=◌ : {A B : Type 0} → Result A WordFault → (A → Result B
 -- the rows of the options that clap found
 abbrev pub rows_in : ArgMatches → List Row
 rows_in matches = rows_of (found_of matches)
+
+-- the largest numbers of 64 bits and of 16
+abbrev pub u64_max : ℕ
+u64_max = 2 ^ 64 - 1
+
+abbrev pub u16_max : ℕ
+u16_max = 2 ^ 16 - 1
 
 -- ---- one option
 
@@ -66,23 +73,23 @@ rounds_in rows = number_in MOST_ROUNDS (codes "rounds") rows
 
 -- `--steps`: how many steps a bracket may take, 10000000 where it is left out
 abbrev pub steps_in : List Row → ℕ
-steps_in rows = unwrap_or (number_in 18446744073709551615 (codes "steps") rows) 10000000
+steps_in rows = unwrap_or (number_in u64_max (codes "steps") rows) 10000000
 
 -- `--count`: how many candidates are wanted, 100 where it is left out
 abbrev pub count_in : List Row → ℕ
-count_in rows = unwrap_or (number_in 18446744073709551615 (codes "count") rows) 100
+count_in rows = unwrap_or (number_in u64_max (codes "count") rows) 100
 
 -- `--bracket`: the number of the bracket (clap lets no words pass that leave it out)
 abbrev pub bracket_in : List Row → ℕ
-bracket_in rows = unwrap_or (number_in 65535 (codes "bracket") rows) 1
+bracket_in rows = unwrap_or (number_in u16_max (codes "bracket") rows) 1
 
 -- `--player`: the player of whom it is asked (clap lets no words pass with 0 or with one above 9999)
 abbrev pub player_in : List Row → Option ℕ
-player_in rows = number_in 65535 (codes "player") rows
+player_in rows = number_in u16_max (codes "player") rows
 
 -- `--instead`: whom the player might have met, 0 for the bye (clap lets no words pass with one above 9999)
 abbrev pub instead_in : List Row → Option ℕ
-instead_in rows = number_in 65535 (codes "instead") rows
+instead_in rows = number_in u16_max (codes "instead") rows
 
 -- `--bye`: what the pairing-allocated bye gives in half points, 2 where it is left out (clap lets no words pass with one above 2)
 abbrev pub bye_in : List Row → ℕ

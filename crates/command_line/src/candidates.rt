@@ -14,8 +14,8 @@ use crate::options::CandidatesOptions;
 use crate::refusal::{cannot_be_paired, no_pairing, refused, undecided};
 use crate::reply::{Reply, Status, Text};
 use crate::texts;
-use dutch_order::{Candidates, Cursor, Rule, Shape};
-use dutch_pair::{BracketAt, BracketKind, PairFault, Reached, bracket_at};
+use dutch_order::{Budget, Candidates, Cursor, Rule, Shape};
+use dutch_pair::{BracketAt, PairFault, Reached, bracket_at};
 use dutch_player::{Field, FieldFault};
 use std::alloc::{AllocError, Global};
 use trf16::{Fault, Report};
@@ -132,26 +132,25 @@ fn list_coming<R: Rule>(
     ensures { IfOk result (λ reply. Lists options.now field.now reached.now shape
         (coming_of field.now reached.now shape options.now.from) (answer_of reply)) }
 {
-    let listed = lines(alloc, field, reached, coming, options.count, options.steps)?;
-    let text = listing(alloc, options.bracket, reached.kind(), shape, &listed)?;
+    let mut budget = Budget {
+        limit: options.steps,
+        used: 0,
+    };
+    let listed = lines(alloc, field, reached, coming, options.count, &mut budget)?;
+    let first = texts::bracket(alloc, options.bracket, reached.kind(), shape)?;
+    let text = listing(alloc, options.bracket, first, &listed)?;
     Ok(Reply {
         status: listed.ending.status(),
         text: Text::Made(text),
     })
 }
 
-// A bracket, the lines of its candidates, and how they ended.
-fn listing(
-    alloc: Global,
-    number: u16,
-    kind: BracketKind,
-    shape: Shape,
-    listed: &Listed,
-) -> Result<String, AllocError>
+// A first line, the lines of the candidates of the bracket of a number, and how they ended.
+fn listing(alloc: Global, number: u16, first: String, listed: &Listed) -> Result<String, AllocError>
     ensures { IfOk result (λ text. string_bytes text
-        ≡ bracket_text number kind shape ++ (string_bytes listed.now.text ++ ending_text number listed.now.ending)) }
+        ≡ string_bytes first ++ (string_bytes listed.now.text ++ ending_text number listed.now.ending)) }
 {
-    let mut text = texts::bracket(alloc, number, kind, shape)?;
+    let mut text = first;
     text.push_str(listed.text.as_str())?;
     let last = texts::ending(alloc, number, listed.ending)?;
     text.push_str(last.as_str())?;

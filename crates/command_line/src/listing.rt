@@ -1,10 +1,11 @@
 // The lines of candidates, as many as are asked for, one after the other.
-ghost use Rattle.std.specs.Prelude.{◌≡◌, ◌++◌, ◌∷◌, [], IfOk, OnOk, string_bytes};
+ghost use Rattle.std.specs.Prelude.{◌≡◌, ◌≤◌, ◌++◌, ◌∷◌, [], IfOk, OnOk, string_bytes};
 ghost use Rattle.std.specs.List.{flat_map};
 ghost use Rattle.std.specs.Fmt.{decimal};
 ghost use Rattle.std.specs.Prelude.{codes};
+ghost use Rattle.dutch_order.specs.Steps.{Spends};
 ghost use Rattle.dutch_pair.specs.Reached.{IsOf, frame_of};
-ghost use Rattle.command_line.specs.CandidateAnswers.{IsListing, ending_text, status_of};
+ghost use Rattle.command_line.specs.CandidateAnswers.{IsListing, StopsAtLimit, ending_text, status_of};
 ghost use Rattle.command_line.specs.CandidateTexts.{down_text, candidate_text, line_text, pair_text, pairs_text, start_of};
 
 use crate::reply::Status;
@@ -43,7 +44,7 @@ pub struct Listed {
     pub ending: Ending,
 }
 
-/// The lines of the next `count` candidates, or of fewer if no more are left or all steps are used up before.
+/// The lines of the next `count` candidates, or of fewer if no more are left or all steps of the budget are used up before.
 #[tactic(auto, using(crate::proofs::ListingLemmas::underway_none, crate::proofs::ListingLemmas::underway_line, crate::proofs::ListingLemmas::underway_end, crate::proofs::ListingLemmas::underway_stopped, crate::proofs::ListingLemmas::underway_count))]
 pub fn lines<R: Rule>(
     alloc: Global,
@@ -51,21 +52,20 @@ pub fn lines<R: Rule>(
     reached: &Reached,
     mut coming: Candidates<'_, R>,
     count: usize,
-    steps: u64,
+    budget: &mut Budget,
 ) -> Result<Listed, AllocError>
     requires of { IsOf field.now reached.now }
     requires frame { coming.frame ≡ frame_of field.now reached.now }
-    ensures { IfOk result (λ listed.
-        IsListing (line_text field.now reached.now) coming.entry.coming count steps listed.ending (string_bytes listed.text)) }
+    requires within { budget.old.used ≤ budget.old.limit }
+    ensures listing { IfOk result (λ listed.
+        IsListing (line_text field.now reached.now) coming.entry.coming count budget.old.limit listed.ending (string_bytes listed.text)) }
+    ensures stopped { IfOk result (λ listed. StopsAtLimit listed.ending budget.new) }
+    ensures spends { Spends budget.old budget.new }
 {
     let mut text = String::new(alloc);
-    let mut budget = Budget {
-        limit: steps,
-        used: 0,
-    };
     let mut done = 0;
     while done < count {
-        match coming.next(&mut budget) {
+        match coming.next(budget) {
             Step::Found(candidate) => put_line(alloc, &mut text, field, reached, &candidate)?,
             Step::End => {
                 let ending = Ending::AtEnd;

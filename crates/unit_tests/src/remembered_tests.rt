@@ -136,8 +136,25 @@ fn a_value_that_is_kept_takes_no_step(rt: HostRuntime) -> Result<(), Fail> {
             assert_eq!(rt; same, pairs);
             assert_eq!(rt; again.as_slice(), psd.as_slice());
         }
-        // Where memory is refused, the value was not kept.
-        Look::Undecided => assert_eq!(rt; look.len(), 0),
+        // Nothing was kept: it could not be looked up, and no step was left to look for it.
+        Look::Undecided => return Err(Fail::new("not kept")),
+    }
+    Ok(())
+}
+
+// Looks up the values of the lists of 2 to 65, with no step to look for one that is not kept: then it fails.
+fn look_up_the_last_64(
+    alloc: Global,
+    look: &mut LookAhead<'_>,
+    reached: &Reached,
+) -> Result<(), Fail>
+    requires reached { look.old.reached ≡ reached.now }
+    ensures reached { look.new.reached ≡ reached.now }
+{
+    let mut none = Budget { limit: 0, used: 0 };
+    for number in 2..66 {
+        let down = places_of_ones(alloc, number)?;
+        value_of(look, reached, &down, &mut none)?;
     }
     Ok(())
 }
@@ -159,6 +176,7 @@ fn the_last_64_values_are_kept(rt: HostRuntime) -> Result<(), Fail> {
         }
     }
     assert_eq!(rt; look.len(), 64);
+    look_up_the_last_64(rt.alloc(), &mut look, &reached)?;
     let before = budget.used;
     value_of(&mut look, &reached, &[1], &mut budget)?;
     assert!(rt; budget.used > before);

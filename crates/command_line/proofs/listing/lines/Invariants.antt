@@ -1,5 +1,6 @@
 use Rattle.std.proofs.Common.{◌≡◌, ◌≤◌, ◌-◌}
 use Rattle.std.specs.Prelude.{string_bytes}
+use Rattle.dutch_order.specs.Steps.{Spends}
 use Rattle.dutch_pair.specs.Reached.{frame_of}
 use Rattle.command_line.specs.CandidateTexts.{line_text}
 use Rattle.command_line.proofs.ListingLemmas.{IsUnderway}
@@ -10,8 +11,7 @@ invariant-loop-done g l = record {
   underway : IsUnderway (line_text l.field l.reached) l.initial.coming.coming l.coming.coming l.done (string_bytes l.text);
   frame : l.coming.frame ≡ frame_of l.field l.reached;
   within : l.done ≤ l.count;
-  limit : l.budget.limit ≡ l.steps;
-  used : l.budget.used ≤ l.budget.limit;
+  spends : Spends l.initial.budget l.budget;
 }
 
 abbrev pub decreases-loop-done : goal.decreases-loop-done
