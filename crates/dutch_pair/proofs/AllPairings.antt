@@ -1,14 +1,13 @@
 -- All ways to pair a list of players, and the search that finds one of them: the search pairs the first player with a later one and goes
 -- on with the others, while the list of all ways adds one player after the other to those behind. They agree since a player who is left
 -- out by a way can as well be taken out of the list beforehand.
-use Rattle.std.proofs.Common.{◌≡◌, ℕ, zero, suc, Bool, true, ◌&&◌, ◌||◌, ◌↔◌, ◌⊎◌, inl, inr, List, [], ◌∷◌, ◌++◌, map, length, refl, sym, ◌∙◌, ap, subst, arith}
-use Rattle.std.specs.List.{list_all, list_any}
+use Rattle.std.proofs.Common.{◌≡◌, ℕ, zero, suc, Bool, true, ◌&&◌, ◌↔◌, ◌⊎◌, inl, inr, List, [], ◌∷◌, ◌++◌, map, length, refl, sym, ◌∙◌, ap, subst, arith}
+use Rattle.std.specs.List.{list_all}
 use Rattle.std.proofs.lemmas.Bool.{or_cases, and_parts, and_from, or_left, or_right, true≢false}
-use Rattle.std.proofs.lemmas.List.{length-append}
 use Rattle.dutch_order.specs.Arrangements.{leaves_one}
 use Rattle.dutch_order.specs.Keys.{IsIn}
 use Rattle.dutch_order.proofs.Orders.{IsIn-map, map-IsIn, IsIn-flat_map, flat_map-IsIn}
-use Rattle.dutch_pair.specs.Completion.{Way, all_pairings, can_complete, is_complete, left_out, paired, picks, with_first, with_member}
+use Rattle.dutch_pair.specs.Completion.{Way, all_pairings, can_complete, is_complete, paired, picks, with_first, with_member}
 use Rattle.dutch_pair.specs.CompletionSearch.{can_cover, nobody, some_partner}
 use Rattle.dutch_pair.proofs.AnyLemmas.{any_in, found_in}
 use Rattle.dutch_pair.proofs.Partners.{partner_of, partner_serves}
