@@ -3,12 +3,12 @@
 //
 // If only their number is known, downfloaters are all alike. So the search pairs the lower players with one another, and only counts those
 // whom it leaves to downfloaters. It never tries which of them takes whom. It works in one list, as the search for a completion does.
-ghost use Rattle.std.specs.Prelude.{◌≡◌, ◌+◌, ◌-◌, ◌<◌, ◌≤◌, Ok, OnOk, true, false, ◌&&◌, [], drop, length, slice_index};
+ghost use Rattle.std.specs.Prelude.{◌≡◌, ◌+◌, ◌-◌, ◌*◌, ◌%◌, ◌<◌, ◌≤◌, ◌==◌, Ok, OnOk, true, false, ◌&&◌, [], drop, length, slice_index};
 ghost use Rattle.dutch_order.specs.declared.numbers.TheConstants.{LIMIT};
 ghost use Rattle.dutch_pair.specs.CompletionSearch.{some_partner, nobody, left_over};
 ghost use Rattle.dutch_pair.specs.Seats.{seats_meet, seats_may_be_left};
 ghost use Rattle.dutch_pair.specs.Stops.{Decides};
-ghost use Rattle.dutch_pair.specs.Takers.{takes_one, meets_bracket, can_take_out, can_go_out};
+ghost use Rattle.dutch_pair.specs.Takers.{takes_one, meets_bracket, can_take_out, can_go_out, most_of_bye, most_of_one, most_taking};
 ghost use Rattle.dutch_order.specs.Steps.{Spends};
 
 use crate::completion::put_last;
@@ -55,6 +55,7 @@ pub(crate) fn can_go_out(
     requires few { takers ≤ length context.now.reached.seats }
     requires within { budget.old.used ≤ budget.old.limit }
     ensures answer { Decides result (can_go_out context.now.facts context.now.reached.seats takers context.now.lower) (budget.new.used ≡ budget.new.limit) }
+    ensures few { budget.new.used ≤ budget.old.used + most_taking (length context.now.lower) takers ((takers + length context.now.lower) % 2 == 1) }
     ensures spends { Spends budget.old budget.new }
 {
     let lower = context.lower();
@@ -75,6 +76,7 @@ fn can_pair(
 ) -> Result<bool, Stopped>
     requires within { budget.old.used ≤ budget.old.limit }
     ensures answer { Decides result (can_take_out context.now.facts context.now.reached.seats room.bye (length players.old) room.takers players.old) (budget.new.used ≡ budget.new.limit) }
+    ensures few { budget.new.used ≤ budget.old.used + most_taking (length players.old) room.takers room.bye }
     ensures spends { Spends budget.old budget.new }
     ensures kept { result ≡ Ok false → players.new ≡ players.old }
 {
@@ -104,6 +106,7 @@ fn pair_first(
     ensures answer { Decides result
         (some_partner (seats_meet context.now.facts first) (can_take_out context.now.facts context.now.reached.seats room.bye (length later.old - 1) room.takers) [] later.old)
         (budget.new.used ≡ budget.new.limit) }
+    ensures few { budget.new.used ≤ budget.old.used + length later.old * (1 + most_taking (length later.old - 1) room.takers room.bye) }
     ensures spends { Spends budget.old budget.new }
     ensures kept { result ≡ Ok false → later.new ≡ later.old }
 {
@@ -132,6 +135,7 @@ fn pair_with(
         && can_take_out context.now.facts context.now.reached.seats room.bye (length later.old - 1) room.takers (drop 1 later.old))
         (budget.new.used ≡ budget.new.limit) }
     ensures counts { OnOk result (budget.old.used < budget.new.used) }
+    ensures few { budget.new.used ≤ budget.old.used + (1 + most_taking (length later.old - 1) room.takers room.bye) }
     ensures spends { Spends budget.old budget.new }
     ensures kept { result ≡ Ok false → later.new ≡ later.old }
 {
@@ -156,6 +160,7 @@ fn take_first(
         (takes_one (meets_bracket context.now.facts context.now.reached.seats first) (λ k. can_take_out context.now.facts context.now.reached.seats room.bye (length later.old) k later.old) room.takers)
         (budget.new.used ≡ budget.new.limit) }
     ensures counts { OnOk result (0 < room.takers → budget.old.used < budget.new.used) }
+    ensures few { budget.new.used ≤ budget.old.used + most_of_one (λ k. most_taking (length later.old) k room.bye) room.takers }
     ensures spends { Spends budget.old budget.new }
     ensures kept { result ≡ Ok false → later.new ≡ later.old }
 {
@@ -186,6 +191,7 @@ fn leave_first(
     ensures answer { Decides result (left_over room.bye (seats_may_be_left context.now.facts) first && can_take_out context.now.facts context.now.reached.seats false (length later.old) room.takers later.old)
         (budget.new.used ≡ budget.new.limit) }
     ensures counts { OnOk result (room.bye ≡ true → budget.old.used < budget.new.used) }
+    ensures few { budget.new.used ≤ budget.old.used + most_of_bye (most_taking (length later.old) room.takers false) room.bye }
     ensures spends { Spends budget.old budget.new }
     ensures kept { result ≡ Ok false → later.new ≡ later.old }
 {

@@ -1,8 +1,8 @@
 -- No partner tried so far leaves players who can be paired out.
-use Rattle.std.proofs.Common.{◌≡◌, ◌+◌, ◌*◌, ◌-◌, take, drop, length, []}
+use Rattle.std.proofs.Common.{◌≡◌, ◌≤◌, ◌+◌, ◌*◌, ◌-◌, take, drop, length, []}
 use Rattle.dutch_pair.specs.CompletionSearch.{some_partner}
 use Rattle.dutch_pair.specs.Seats.{seats_meet}
-use Rattle.dutch_pair.specs.Takers.{can_take_out}
+use Rattle.dutch_pair.specs.Takers.{can_take_out, most_taking}
 use Rattle.dutch_order.specs.Steps.{Spends}
 use Rattle.dutch_pair.proofs.Turned.{turned}
 use Rattle.dutch_pair.proofs.takers.+search.Given as goal
@@ -31,5 +31,6 @@ invariant-pair_first-loop-place l =
       turned : l.later ≡ turned l.place all;
       len : length l.later ≡ length all;
       same : some_partner meets holds (take l.place all) (drop l.place all) ≡ some_partner meets holds [] all;
+      few : l.budget.used ≤ l.initial.budget.used + l.place * (1 + most_taking (length all - 1) l.room.takers l.room.bye);
       spends : Spends l.initial.budget l.budget;
     }

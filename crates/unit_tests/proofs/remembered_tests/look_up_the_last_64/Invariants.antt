@@ -3,7 +3,7 @@ use Rattle.std.proofs.Common.{◌≡◌, ◌≤◌}
 use Rattle.unit_tests.proofs.remembered_tests.look_up_the_last_64.Given as goal
 
 abbrev pub invariant-loop-number : goal.invariant-loop-number
-invariant-loop-number g l = record {
+invariant-loop-number l = record {
   reached : l.look.reached ≡ l.initial.look.reached;
-  within : l.budget.used ≤ l.budget.limit;
+  within : l.none.used ≤ l.none.limit;
 }
