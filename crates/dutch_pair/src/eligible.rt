@@ -88,7 +88,8 @@ fn told_by_search(field: &Field, players: &[u16], budget: &mut Budget) -> Result
     completes(players, &seats(field), budget).decided()
 }
 
-/// Whether seats can be paired out (A.9): by a search of few steps, then by a matching, and if neither tells it, by the whole search.
+/// Whether seats can be paired out (A.9): by a search of few steps, then by a matching if it can be had, and if neither tells it, by the
+/// whole search.
 pub(crate) fn can_complete(
     alloc: Global,
     field: &Field,

@@ -96,7 +96,14 @@ fn confirmed(
     Ok(None)
 }
 
-/// Whether seats can be paired out, told by a greatest matching. None says that it was not confirmed, or that memory was refused.
+/// The most steps that a matching of so many seats, and the bye, may take.
+fn most_steps(players: &[u16]) -> u64 {
+    let size = players.len() as u64 + 1;
+    size.saturating_mul(size).saturating_mul(size + 1)
+}
+
+/// Whether seats can be paired out, told by a greatest matching. It is looked for only if the most steps that it may take are left. None
+/// says that it was not looked for, that it was not confirmed, or that memory was refused.
 pub(crate) fn told_by_matching(
     alloc: Global,
     field: &Field,
@@ -109,6 +116,9 @@ pub(crate) fn told_by_matching(
     ensures spends { Spends budget.old budget.new }
 {
     let mut left = budget.limit - budget.used;
+    if left < most_steps(players) {
+        return Ok(None);
+    }
     let found = greatest(alloc, &Meetings::new(field, players), &mut left);
     budget.used = budget.limit - left;
     match found {
