@@ -17,7 +17,7 @@ use Rattle.dutch_order.specs.declared.cursor.CursorFault.{CursorFault}
 use Rattle.command_line.specs.CandidateAnswers.{IsListing, IsAnswerToField, Lists, AnswersFound, coming_of, ending_text, status_of}
 use Rattle.command_line.specs.CandidateTexts.{bracket_text, candidate_text, line_text, pairs_text}
 use Rattle.command_line.specs.Replies.{answer_of}
-use Rattle.command_line.specs.Statuses.{not_of_bracket}
+use Rattle.command_line.specs.Statuses.{not_of_bracket, plain}
 use Rattle.command_line.specs.declared.listing.Ending.{Ending}
 use Rattle.command_line.specs.declared.options.CandidatesOptions.{CandidatesOptions}
 use Rattle.command_line.specs.declared.reply.Reply.{Reply}
@@ -109,10 +109,10 @@ pub listed : (options : CandidatesOptions) (facts : Facts) (reached : Reached) (
     (text lines : List ℕ) (ending : Ending) → coming_of facts reached shape options.from ≡ Ok coming
     → IsListing (line_text facts reached) coming options.count options.steps ending lines → status ≡ status_of ending
     → text ≡ bracket_text options.bracket reached.kind shape ++ (lines ++ ending_text options.bracket ending)
-    → Lists options facts reached shape (coming_of facts reached shape options.from) (record { status = status; text = text })
+    → Lists options facts reached shape (coming_of facts reached shape options.from) (plain status text)
 listed options facts reached shape coming status text lines ending e listing s t =
-    subst (λ r. Lists options facts reached shape r (record { status = status; text = text })) (sym e)
-    (record { ending = ending; lines = lines; listing = listing; status = s; text = t })
+    subst (λ r. Lists options facts reached shape r (plain status text)) (sym e)
+    (record { ending = ending; lines = lines; listing = listing; status = s; text = t; plain = refl })
 
 -- a cursor of another bracket is told
 pub not_listed : (options : CandidatesOptions) (facts : Facts) (reached : Reached) (shape : Shape) (fault : CursorFault) {E : Type 0} (r : Result Reply E)

@@ -1,5 +1,5 @@
 -- What `candidates` answers: a bracket, its shape, and the candidates of that shape in article D's order, from a cursor on or all.
-use Rattle.std.specs.Prelude.{◌≡◌, ℕ, ◌<◌, ◌≤◌, List, ◌++◌, length, take, Option, Some, None, Result, Ok, Err, codes}
+use Rattle.std.specs.Prelude.{◌≡◌, ℕ, ◌<◌, ◌≤◌, List, [], ◌++◌, length, take, Option, Some, None, Result, Ok, Err, codes}
 use Rattle.std.specs.List.{flat_map}
 use Rattle.dutch_order.specs.Arrangements.{Arrangement, candidates, rest}
 use Rattle.dutch_order.specs.Cursors.{cursor_of}
@@ -66,6 +66,7 @@ pub record IsListOfBracket (options : CandidatesOptions) (facts : Facts) (reache
   pub listing : IsListing (line_text facts reached) coming options.count options.steps ending lines
   pub status : answer.status ≡ status_of ending
   pub text : answer.text ≡ bracket_text options.bracket reached.kind shape ++ (lines ++ ending_text options.bracket ending)
+  pub plain : answer.note ≡ []
 
 -- the same, where the cursor is one of the bracket; else that is told
 abbrev pub Lists : CandidatesOptions → Facts → Reached → Shape → Result (List Arrangement) CursorFault → Answer → Type 0

@@ -10,7 +10,7 @@ use Rattle.command_line.specs.CandidateAnswers.{AnswersCandidates}
 use Rattle.command_line.specs.ExplainAnswers.{AnswersExplain}
 use Rattle.command_line.specs.NoteTexts.{notes_text}
 use Rattle.command_line.specs.PairAnswers.{AnswersPair}
-use Rattle.command_line.specs.RefusalNoteTexts.{in_front, refusal_note}
+use Rattle.command_line.specs.RefusalNoteTexts.{with_note, refusal_note}
 use Rattle.command_line.specs.StandingsAnswers.{standings_answer}
 use Rattle.command_line.specs.Statuses.{Answer, done, refusal, report_answer}
 use Rattle.command_line.specs.Texts.{accepted_text}
@@ -23,10 +23,10 @@ abbrev pub size_text : Sheet → List ℕ
 size_text sheet = accepted_text (length sheet.players) (rounds_played sheet)
 
 -- `check`: how many players and rounds the report has, with `--notes` (true) followed by what of its bytes looks like a mistake; or why
--- it is refused, with `--notes` followed by what was found
+-- it is refused, with `--notes` noting what was found
 abbrev pub check_answer : Result Sheet Fault → Bool → List ℕ → ℕ → Answer
 check_answer (Err fault) false input bye = refusal fault
-check_answer (Err fault) true input bye = in_front (refusal fault) (refusal_note fault input bye)
+check_answer (Err fault) true input bye = with_note (refusal fault) (refusal_note fault input bye)
 check_answer (Ok sheet) false input bye = done (size_text sheet)
 check_answer (Ok sheet) true input bye = done (size_text sheet ++ notes_text (notes_of sheet input))
 

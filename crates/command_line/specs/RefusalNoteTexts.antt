@@ -1,4 +1,4 @@
--- The line of `check --notes` below a refusal: what was found.
+-- The line of `check --notes` beside a refusal: what was found.
 use Rattle.std.specs.Prelude.{ℕ, if◌then◌else◌, List, [], ◌++◌, codes, Option, Some, None, option_and_then, Result, Ok, Err}
 use Rattle.std.specs.Option.{option_map_or}
 use Rattle.std.specs.Fmt.{decimal}
@@ -9,9 +9,10 @@ use Rattle.trf16.specs.declared.fault.Fault.TheVariants.{Points}
 use Rattle.report_notes.specs.RefusalNotes.{columns_of, fits_in_bytes, held, line_of, sums_among}
 use Rattle.report_notes.specs.declared.refusal.Columns.{Columns}
 use Rattle.report_notes.specs.declared.refusal.Sums.{Sums}
+use Rattle.refusals.specs.Texts.{fault_text}
 use Rattle.command_line.specs.Controls.{without_controls}
 use Rattle.command_line.specs.Statuses.{Answer}
-use Rattle.command_line.specs.Texts.{fault_text, halves_text}
+use Rattle.command_line.specs.Texts.{halves_text}
 
 -- ---- columns
 
@@ -57,6 +58,6 @@ abbrev pub refusal_note : Fault → List ℕ → ℕ → List ℕ
 refusal_note (Points player) input bye = points_note player (verdict_unsummed input bye)
 refusal_note fault input bye = line_note fault input bye
 
--- an answer in front of a text
-abbrev pub in_front : Answer → List ℕ → Answer
-in_front answer text = record { status = answer.status; text = answer.text ++ text }
+-- an answer with a note
+abbrev pub with_note : Answer → List ℕ → Answer
+with_note answer note = record { status = answer.status; text = answer.text; note = note }

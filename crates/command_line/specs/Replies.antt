@@ -1,8 +1,8 @@
 -- Replies as answers.
-use Rattle.std.specs.Prelude.{ℕ, List, string_bytes}
+use Rattle.std.specs.Prelude.{ℕ, List, [], string_bytes}
 use Rattle.command_line.specs.Statuses.{Answer}
 use Rattle.command_line.specs.declared.reply.Text.{Text}
-use Rattle.command_line.specs.declared.reply.Text.TheVariants.{Fixed, Made, Bytes}
+use Rattle.command_line.specs.declared.reply.Text.TheVariants.{Fixed, Made, Bytes, Noted}
 use Rattle.command_line.specs.declared.reply.Reply.{Reply}
 
 -- the bytes of a text
@@ -10,7 +10,15 @@ abbrev pub text_of : Text → List ℕ
 text_of (Fixed text) = text.now
 text_of (Made text) = string_bytes text
 text_of (Bytes text) = text.items
+text_of (Noted text note) = string_bytes text
 
--- the status and the text of a reply
+-- its note
+abbrev pub note_of : Text → List ℕ
+note_of (Fixed text) = []
+note_of (Made text) = []
+note_of (Bytes text) = []
+note_of (Noted text note) = note.items
+
+-- the status of a reply, its text and its note
 abbrev pub answer_of : Reply → Answer
-answer_of reply = record { status = reply.status; text = text_of reply.text }
+answer_of reply = record { status = reply.status; text = text_of reply.text; note = note_of reply.text }

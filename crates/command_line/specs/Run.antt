@@ -1,9 +1,9 @@
 -- A run: what is answered to the words and to the bytes of the source, and how the answer is written.
-use Rattle.std.specs.Prelude.{◌≡◌, ◌⊎◌, ◌+◌, ◌≤◌, ℕ, Bool, true, false, List, Option, None, Some}
+use Rattle.std.specs.Prelude.{◌≡◌, ◌⊎◌, ◌+◌, ◌≤◌, ℕ, Bool, true, false, List, [], ◌∷◌, Option, None, Some}
 use Rattle.command_line.specs.Devices.{Reading, IsKept, IsUnread}
 use Rattle.trf16.specs.Output.{Use, HasFailed, HasNotFailed, HasText, HasPart}
 use Rattle.command_line.specs.Commands.{Answers}
-use Rattle.command_line.specs.Statuses.{Answer, is_output, out_of_memory, read_fault}
+use Rattle.command_line.specs.Statuses.{Answer, is_output, out_of_memory, plain, read_fault}
 use Rattle.command_line.specs.Input.{most_read}
 use Rattle.command_line.specs.Texts.{word_text, write_text}
 use Rattle.command_line.specs.Words.{AsksFor, AsksForHelp, AsksWrongly, IsMistaken, meant}
@@ -51,19 +51,21 @@ pub record IsHelped (words : List (List ℕ)) (source : Reading) (answer : Answe
   pub asked : AsksForHelp words
   pub unread : IsUnread source
   pub status : answer.status ≡ Done
+  pub plain : answer.note ≡ []
 
 -- the words are refused, and nothing is read; the text is clap's
 pub record IsCorrected (words : List (List ℕ)) (source : Reading) (answer : Answer) : Type 0 where
   pub mistaken : IsMistaken words
   pub unread : IsUnread source
   pub status : answer.status ≡ BadWords
+  pub plain : answer.note ≡ []
 
 -- the options are refused with a text of the program's own, and nothing is read
 pub record HasWordFault (words : List (List ℕ)) (source : Reading) (answer : Answer) : Type 0 where
   pub fault : WordFault
   pub asked : AsksWrongly words fault
   pub unread : IsUnread source
-  pub tells : answer ≡ record { status = BadWords; text = word_text fault }
+  pub tells : answer ≡ plain BadWords (word_text fault)
 
 -- what is answered to the words and to what the source gives
 abbrev pub IsAnswer : List (List ℕ) → Reading → Answer → Type 0
@@ -94,10 +96,44 @@ pub record IsOnStandardError (answer : Answer) (out err : Use) (status : Status)
   pub silent : IsKept out
   pub told : HasTextOrPart answer.text err
 
+-- one text and then another were written, each whole or as much of it as the sink took
+pub record HasInTurn (first second : List ℕ) (sink : Use) : Type 0 where
+  pub between : Option (List ℕ)
+  pub failures_between : ℕ
+  pub begun : HasTextOrPart first (record {
+    before = sink.before;
+    after = between;
+    failures_before = sink.failures_before;
+    failures_after = failures_between;
+  })
+  pub ended : HasTextOrPart second (record {
+    before = between;
+    after = sink.after;
+    failures_before = failures_between;
+    failures_after = sink.failures_after;
+  })
+
+-- the answer stands on standard error unless that failed, and its note on standard output
+pub record IsNoted (answer : Answer) (out err : Use) (status : Status) : Type 0 where
+  pub ends : status ≡ answer.status
+  pub noted : HasText answer.note out
+  pub told : HasTextOrPart answer.text err
+
+-- the same, but standard output failed, which standard error tells behind the answer unless it failed too
+pub record IsNoteCut (answer : Answer) (out err : Use) (status : Status) : Type 0 where
+  pub ends : status ≡ Trouble
+  pub noted : HasPart answer.note out
+  pub told : HasInTurn answer.text write_text err
+
+-- how an answer is written to standard error, by its note
+abbrev pub IsToldWith : List ℕ → Answer → Use → Use → Status → Type 0
+IsToldWith [] answer out err status = IsOnStandardError answer out err status
+IsToldWith (_ ∷ _) answer out err status = IsNoted answer out err status ⊎ IsNoteCut answer out err status
+
 -- how an answer is written: to standard output (true), or to standard error (false)
 abbrev pub IsWrittenTo : Bool → Answer → Use → Use → Status → Type 0
 IsWrittenTo true answer out err status = IsPrinted answer out err status ⊎ IsCut answer out err status
-IsWrittenTo false answer out err status = IsOnStandardError answer out err status
+IsWrittenTo false answer out err status = IsToldWith answer.note answer out err status
 
 -- how an answer is written, by its status
 abbrev pub IsWritten : Answer → Use → Use → Status → Type 0

@@ -16,7 +16,7 @@ pub fn refused(alloc: Global, fault: Fault) -> Result<Reply, AllocError>
     requires { fault ≢ Fault.OutOfMemory }
     ensures { IfOk result (λ reply. answer_of reply ≡ refusal fault) }
 {
-    let text = texts::refused(alloc, fault)?;
+    let text = refusals::refused(alloc, fault)?;
     Ok(Reply {
         status: Status::Refused,
         text: Text::Made(text),
@@ -28,7 +28,7 @@ pub fn cannot_be_paired(alloc: Global, fault: FieldFault) -> Result<Reply, Alloc
     requires { fault ≢ FieldFault.OutOfMemory }
     ensures { IfOk result (λ reply. answer_of reply ≡ field_refusal fault) }
 {
-    let text = texts::cannot_be_paired(alloc, fault)?;
+    let text = refusals::cannot_be_paired(alloc, fault)?;
     Ok(Reply {
         status: Status::Refused,
         text: Text::Made(text),
@@ -40,7 +40,7 @@ pub fn has_no_standings(alloc: Global, fault: TieFault) -> Result<Reply, AllocEr
     requires { fault ≢ TieFault.OutOfMemory }
     ensures { IfOk result (λ reply. answer_of reply ≡ tie_refusal fault) }
 {
-    let text = texts::has_no_standings(alloc, fault)?;
+    let text = refusals::has_no_standings(alloc, fault)?;
     Ok(Reply {
         status: Status::Refused,
         text: Text::Made(text),

@@ -1,22 +1,22 @@
-// The line of `check --notes` below a refusal: what was found.
+// The line of `check --notes` beside a refusal: what was found.
 ghost use Rattle.std.specs.Prelude.{◌≡◌, ◌≢◌, ◌≤◌, ◌++◌, IfOk, Err, Ok, codes, string_bytes};
 ghost use Rattle.trf16.specs.Summed.{verdict_unsummed};
 ghost use Rattle.report_notes.specs.RefusalNotes.{alone_in_bytes, are_lines_read, fits_in_bytes};
-ghost use Rattle.command_line.specs.RefusalNoteTexts.{bytes_text, columns_text, held_text, in_front, line_in_bytes, line_note, points_note, refusal_note, sums_text};
+ghost use Rattle.command_line.specs.RefusalNoteTexts.{bytes_text, columns_text, held_text, line_in_bytes, line_note, points_note, refusal_note, sums_text, with_note};
 ghost use Rattle.command_line.specs.Replies.{answer_of};
 ghost use Rattle.command_line.specs.Statuses.{refusal};
-ghost use Rattle.command_line.specs.Texts.{fault_text};
+ghost use Rattle.refusals.specs.Texts.{fault_text};
 
 use crate::controls::without_controls;
 use crate::reply::{Reply, Status, Text};
-use crate::texts::{self, halves};
+use crate::texts::halves;
 use report_notes::{
     Columns, Sums, are_lines_read, columns_of, has_characters, held, line_in, line_of, sums_of,
 };
 use std::alloc::{AllocError, Global};
 use trf16::{Fault, Report};
 
-/// Why a report that stands in some bytes is refused, and in the line below it what was found.
+/// Why a report that stands in some bytes is refused, and as a note what was found.
 pub fn refused_with_note(
     alloc: Global,
     fault: Fault,
@@ -25,14 +25,13 @@ pub fn refused_with_note(
 ) -> Result<Reply, AllocError>
     requires known { fault ≢ Fault.OutOfMemory }
     requires worth { bye ≤ 2 }
-    ensures { IfOk result (λ reply. answer_of reply ≡ in_front (refusal fault) (refusal_note fault bytes.now bye)) }
+    ensures { IfOk result (λ reply. answer_of reply ≡ with_note (refusal fault) (refusal_note fault bytes.now bye)) }
 {
-    let mut text = texts::refused(alloc, fault)?.into_bytes();
+    let text = refusals::refused(alloc, fault)?;
     let note = refusal_note(alloc, fault, bytes, bye)?;
-    text.extend_from_slice(note.as_slice())?;
     Ok(Reply {
         status: Status::Refused,
-        text: Text::Bytes(text),
+        text: Text::Noted(text, note),
     })
 }
 
@@ -87,7 +86,7 @@ fn sums_text(alloc: Global, sums: Sums) -> Result<String, AllocError>
 fn next_refusal(alloc: Global, fault: Fault) -> Result<Vec<u8>, AllocError>
     ensures { IfOk result (λ note. note.items ≡ codes "note then " ++ fault_text fault) }
 {
-    let refusal = texts::refused(alloc, fault)?;
+    let refusal = refusals::refused(alloc, fault)?;
     let refusal = refusal.as_str();
     Ok(format!(in alloc; "note then {refusal}")?.into_bytes())
 }

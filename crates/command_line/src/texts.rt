@@ -1,19 +1,16 @@
-// The texts of the program, apart from clap's.
+// The texts of the program, apart from clap's and from why a report is refused.
 ghost use Rattle.std.specs.Prelude.{◌≡◌, ◌++◌, IfOk, codes, string_bytes};
 ghost use Rattle.std.specs.Fmt.{decimal};
 ghost use Rattle.command_line.specs.CandidateAnswers.{ending_text};
 ghost use Rattle.command_line.specs.CandidateTexts.{bracket_text, kind_text};
-ghost use Rattle.command_line.specs.Texts.{accepted_text, excess_text, fault_text, field_text, halves_text, not_of_bracket_text, not_reached_text, question_text, round_text, tie_text, undecided_text, word_text};
+ghost use Rattle.command_line.specs.Texts.{accepted_text, halves_text, not_of_bracket_text, not_reached_text, question_text, undecided_text, word_text};
 
 use crate::listing::Ending;
 use crate::options::WordFault;
 use crate::question::QuestionFault;
 use dutch_order::Shape;
 use dutch_pair::BracketKind;
-use dutch_player::FieldFault;
 use std::alloc::{AllocError, Global};
-use tiebreak::TieFault;
-use trf16::{Excess, Fault};
 
 /// A report is accepted: how many players it has, and how many rounds were paired.
 pub fn accepted(alloc: Global, players: usize, rounds: u8) -> Result<String, AllocError>
@@ -46,76 +43,6 @@ pub fn bad_question(alloc: Global, fault: QuestionFault) -> Result<String, Alloc
         QuestionFault::NamedTwice { player } => {
             format!(in alloc; "words: player {player} is named twice\n")
         }
-    }
-}
-
-/// Why a report is refused.
-pub fn refused(alloc: Global, fault: Fault) -> Result<String, AllocError>
-    ensures { IfOk result (λ text. string_bytes text ≡ fault_text fault) }
-{
-    match fault {
-        Fault::BadNumber { line } => format!(in alloc; "refused: line {line}: bad number\n"),
-        Fault::Duplicate { line } => of_line(alloc, line, ": duplicate\n"),
-        Fault::Misaligned { line, column } => {
-            format!(in alloc; "refused: line {line}: column {column} must be blank\n")
-        }
-        Fault::BadCell { line, round } => {
-            format!(in alloc; "refused: line {line}: round {round}: bad cell\n")
-        }
-        Fault::BadExtension { line } => of_line(alloc, line, ": bad extension\n"),
-        Fault::TooMany(excess) => too_many(alloc, excess),
-        Fault::NoPlayers => String::from_str(alloc, "refused: no players\n"),
-        Fault::NoSuchOpponent { player, round } => {
-            of_round(alloc, player, round, ": no such opponent\n")
-        }
-        Fault::SelfOpponent { player, round } => {
-            of_round(alloc, player, round, ": own opponent\n")
-        }
-        Fault::NotMutual { player, round } => of_round(alloc, player, round, ": not mutual\n"),
-        Fault::Colours { player, round } => of_round(alloc, player, round, ": colours\n"),
-        Fault::Results { player, round } => of_round(alloc, player, round, ": results\n"),
-        Fault::Points { player } => format!(in alloc; "refused: player {player}: points\n"),
-        Fault::OutOfMemory => String::from_str(alloc, "memory: refused\n"),
-    }
-}
-
-// What is wrong with a line of a report.
-fn of_line(alloc: Global, line: usize, what: &str) -> Result<String, AllocError>
-    ensures { IfOk result (λ text. string_bytes text ≡ codes "refused: line " ++ (decimal line ++ what.now)) }
-{
-    format!(in alloc; "refused: line {line}{what}")
-}
-
-// What does not fit in a round of a player.
-fn of_round(alloc: Global, player: u16, round: usize, what: &str) -> Result<String, AllocError>
-    ensures { IfOk result (λ text. string_bytes text ≡ round_text player round what.now) }
-{
-    format!(in alloc; "refused: player {player} round {round}{what}")
-}
-
-fn too_many(alloc: Global, excess: Excess) -> Result<String, AllocError>
-    ensures { IfOk result (λ text. string_bytes text ≡ excess_text excess) }
-{
-    let text = match excess {
-        Excess::Bytes => "refused: too many bytes\n",
-        Excess::Players => "refused: too many players\n",
-        Excess::Rounds => "refused: too many rounds\n",
-    };
-    String::from_str(alloc, text)
-}
-
-/// Why the next round cannot be paired from a report.
-pub fn cannot_be_paired(alloc: Global, fault: FieldFault) -> Result<String, AllocError>
-    ensures { IfOk result (λ text. string_bytes text ≡ field_text fault) }
-{
-    match fault {
-        FieldFault::Unfinished { player, round } => {
-            of_round(alloc, player, round, ": unfinished\n")
-        }
-        FieldFault::Unsupported { line } => of_line(alloc, line, ": unsupported\n"),
-        FieldFault::RoundsUnknown => String::from_str(alloc, "refused: rounds unknown\n"),
-        FieldFault::RoundsOver => String::from_str(alloc, "refused: all rounds are played\n"),
-        FieldFault::OutOfMemory => String::from_str(alloc, "memory: refused\n"),
     }
 }
 
@@ -174,19 +101,6 @@ pub fn ending(alloc: Global, number: u16, ending: Ending) -> Result<String, Allo
         Ending::AtEnd => String::from_str(alloc, "end\n"),
         Ending::AtCount => String::from_str(alloc, "more\n"),
         Ending::Stopped { used } => undecided(alloc, number, used),
-    }
-}
-
-/// Why a report has no standings.
-pub fn has_no_standings(alloc: Global, fault: TieFault) -> Result<String, AllocError>
-    ensures { IfOk result (λ text. string_bytes text ≡ tie_text fault) }
-{
-    match fault {
-        TieFault::Unfinished { player, round } => {
-            of_round(alloc, player, round, ": unfinished\n")
-        }
-        TieFault::Unsupported { line } => of_line(alloc, line, ": unsupported\n"),
-        TieFault::OutOfMemory => String::from_str(alloc, "memory: refused\n"),
     }
 }
 
