@@ -92,3 +92,4 @@ pub mod OnePairMore
 pub mod Downfloaters
 pub mod NoDeadEnd
 pub mod DeadEndLaws
+pub mod BarrierLemmas

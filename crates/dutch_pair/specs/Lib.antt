@@ -45,3 +45,4 @@ pub mod Remembered
 pub mod Wishes
 pub mod RuledOut
 pub mod KnownBeside
+pub mod Barriers

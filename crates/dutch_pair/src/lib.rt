@@ -14,6 +14,7 @@
 //! To mind: players are named by seat in a field, by number from 1 in a bracket, and by start rank on boards alone.
 #![tactic(auto)]
 
+mod barrier;
 mod begun;
 mod bit_table;
 pub mod boards;
@@ -65,6 +66,7 @@ mod walk;
 mod wish;
 pub mod wish_laws;
 
+pub use barrier::{Barrier, barrier_of, lacks_bye};
 pub use choice::{Choice, choose};
 pub use completion::{Answer, completes};
 pub use conditions::{are_left, is_next};

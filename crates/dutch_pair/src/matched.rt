@@ -58,7 +58,7 @@ fn made_pairs(
 }
 
 /// The labels of the seats of a list, by seat. Who is not in the list has label 0.
-fn by_seat(
+pub(crate) fn by_seat(
     alloc: Global,
     field: &Field,
     players: &[u16],
