@@ -1,5 +1,6 @@
 -- What `explain` answers: the round, bracket by bracket, or what of it one player is told.
-use Rattle.std.specs.Prelude.{◌≡◌, ℕ, not, ◌==◌, if◌then◌else◌, List, ◌++◌, Option, Some, None, Result, Ok, Err}
+use Rattle.std.specs.Prelude.{◌≡◌, ℕ, not, ◌==◌, if◌then◌else◌, IfSome, List, ◌++◌, Option, Some, None, Result, Ok, Err}
+use Rattle.dutch_pair.specs.Barriers.{Barrier, Blocks}
 use Rattle.dutch_pair.specs.Outcomes.{AreStages}
 use Rattle.dutch_pair.specs.declared.round.AllStages.{AllStages}
 use Rattle.dutch_pair.specs.declared.round.AllStages.TheVariants.{Paired, NoPairing, Undecided}
@@ -8,10 +9,11 @@ use Rattle.dutch_player.specs.StartRanks.{seat_with}
 use Rattle.dutch_player.specs.declared.fault.FieldFault.{FieldFault}
 use Rattle.trf16.specs.Sheet.{Sheet, known}
 use Rattle.trf16.specs.declared.fault.Fault.{Fault}
+use Rattle.command_line.specs.BarrierTexts.{reason_text}
 use Rattle.command_line.specs.ExplainTexts.{round_text, stages_text}
 use Rattle.command_line.specs.InsteadAnswers.{AnswersInstead, PairedRound}
 use Rattle.command_line.specs.PlayerTexts.{absent_text, player_text}
-use Rattle.command_line.specs.Statuses.{Answer, behind, done, field_refusal, no_pairing, question_refusal, refusal, undecided}
+use Rattle.command_line.specs.Statuses.{Answer, behind, done, field_refusal, no_pairing, plain, question_refusal, refusal, undecided}
 use Rattle.command_line.specs.declared.options.ExplainOptions.{ExplainOptions}
 use Rattle.command_line.specs.declared.options.Question.{Question}
 use Rattle.command_line.specs.declared.question.QuestionFault.{QuestionFault}
@@ -64,11 +66,21 @@ abbrev pub TellsPaired : Option Question → ℕ → PairedRound → Answer → 
 TellsPaired None steps round answer = answer ≡ done (first_text round ++ stages_text round.facts None round.stages)
 TellsPaired (Some question) steps round answer = AnswersQuestion round steps question.player question.instead answer
 
+-- that there is no pairing, and a text behind it
+abbrev pub no_pairing_with : List ℕ → Answer
+no_pairing_with why = plain no_pairing.status (no_pairing.text ++ why)
+
+-- A.9: no pairing, and why: a barrier that blocks the round, if one was found
+pub record TellsWhy (facts : Facts) (answer : Answer) : Type 0 where
+  pub found : Option Barrier
+  pub blocks : IfSome found (Blocks facts)
+  pub tells : answer ≡ no_pairing_with (reason_text facts found)
+
 -- what is told of a round
 abbrev pub TellsRound : ExplainOptions → Sheet → Facts → AllStages → Answer → Type 0
 TellsRound options sheet facts (Paired stages bye) answer =
     TellsPaired options.question options.steps (record { sheet = sheet; facts = facts; stages = stages.items; bye = bye.items }) answer
-TellsRound options sheet facts NoPairing answer = answer ≡ no_pairing
+TellsRound options sheet facts NoPairing answer = TellsWhy facts answer
 TellsRound options sheet facts (Undecided number used) answer = answer ≡ undecided number used
 
 -- a field is paired, and its round is told

@@ -18,6 +18,7 @@ pub mod CandidateAnswers
 pub mod PairAnswers
 pub mod ItemTexts
 pub mod ExplainTexts
+pub mod BarrierTexts
 pub mod ExplainAnswers
 pub mod StandingsTexts
 pub mod Known

@@ -10,12 +10,13 @@ ghost use Rattle.command_line.specs.ExplainAnswers.{AnswersExplain, AnswersQuest
 ghost use Rattle.command_line.specs.Replies.{answer_of};
 ghost use Rattle.command_line.specs.Statuses.{done};
 
+use crate::barrier_lines::no_pairing_because;
 use crate::bracket_lines::{put_stages, round_line};
 use crate::instead::{Paired, instead};
 use crate::options::{ExplainOptions, Question};
 use crate::player_line::{put_absent, put_player};
 use crate::question::question_fault;
-use crate::refusal::{cannot_be_asked, cannot_be_paired, no_pairing, refused, undecided};
+use crate::refusal::{cannot_be_asked, cannot_be_paired, refused, undecided};
 use crate::reply::{Reply, Status, Text};
 use dutch_pair::{AllStages, PairFault, stages};
 use dutch_player::{Field, FieldFault};
@@ -105,7 +106,7 @@ fn tell<'a>(
             };
             tell_paired(alloc, options, &round)
         }
-        AllStages::NoPairing => Ok(no_pairing()),
+        AllStages::NoPairing => no_pairing_because(alloc, field, options.steps),
         AllStages::Undecided { bracket, used } => undecided(alloc, *bracket, *used),
     }
 }

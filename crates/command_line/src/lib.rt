@@ -3,6 +3,7 @@
 #![tactic(auto)]
 
 mod arguments;
+mod barrier_lines;
 mod bracket_lines;
 mod candidates;
 mod check;
