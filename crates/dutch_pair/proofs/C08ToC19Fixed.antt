@@ -37,10 +37,10 @@ with_topscorers_add_up facts holds xs ys =
     ∙ sum_by-append (count_in facts holds) (filter (has_topscorer facts) xs) (filter (has_topscorer facts) ys)
 
 -- what adds up over a list adds up over the members that a test finds, and over what is made of each
-filtered_add_up : {X : Type 0} (f : List X → ℕ) (test : X → Bool) → AddsUp f → AddsUp (λ xs. f (filter test xs))
+pub filtered_add_up : {X : Type 0} (f : List X → ℕ) (test : X → Bool) → AddsUp f → AddsUp (λ xs. f (filter test xs))
 filtered_add_up f test adds xs ys = ap f (filter-append test xs ys) ∙ adds (filter test xs) (filter test ys)
 
-mapped_add_up : {X Y : Type 0} (f : List Y → ℕ) (made : X → Y) → AddsUp f → AddsUp (λ xs. f (map made xs))
+pub mapped_add_up : {X Y : Type 0} (f : List Y → ℕ) (made : X → Y) → AddsUp f → AddsUp (λ xs. f (map made xs))
 mapped_add_up f made adds xs ys = ap f (map-append made xs ys) ∙ adds (map made xs) (map made ys)
 
 module _ (facts : Facts) (reached : Reached) (known : List (ℕ × ℕ)) (gone : List ℕ) (candidate : Candidate) (others : Beside known (all_pairs reached.seats candidate.lists))
@@ -77,11 +77,11 @@ module _ (facts : Facts) (reached : Reached) (known : List (ℕ × ℕ)) (gone :
 
 module _ (facts : Facts) (float : Float) (back : ℕ) where
   -- how many had a float in the round so far back
-  counts_add_up : AddsUp (λ floaters. length (again facts float back floaters))
+  pub counts_add_up : AddsUp (λ floaters. length (again facts float back floaters))
   counts_add_up xs ys = ap length (filter-append _ xs ys) ∙ length-append (again facts float back xs) (again facts float back ys)
 
   -- how often a difference stands among theirs
-  copies_add_up : (d : ℕ) → AddsUp (λ floaters. copies d (map (λ (floater : Floater). floater.by) (again facts float back floaters)))
+  pub copies_add_up : (d : ℕ) → AddsUp (λ floaters. copies d (map (λ (floater : Floater). floater.by) (again facts float back floaters)))
   copies_add_up d xs ys =
       ap (λ floaters. copies d (map (λ (floater : Floater). floater.by) floaters)) (filter-append _ xs ys)
       ∙ ap (copies d) (map-append (λ (floater : Floater). floater.by) (again facts float back xs) (again facts float back ys))

@@ -23,7 +23,7 @@ module _ (w : ℕ → ℕ) where
   abbrev pub paired_total : Arrangement → ℕ
   paired_total a = (total w a.s1 + total w a.s2) + (total w a.s1r + total w a.s2r)
 
-  arranged : (frame : Frame) (shape : Shape) (a : Arrangement) → frame.mdps ≤ length frame.scores → IsIn a (arrangements frame shape)
+  pub arranged : (frame : Frame) (shape : Shape) (a : Arrangement) → frame.mdps ≤ length frame.scores → IsIn a (arrangements frame shape)
       → total w (down frame a) + paired_total a ≡ total w (numbers_from 1 (length frame.scores))
   arranged frame shape a inside m =
       let q = frame.mdps in

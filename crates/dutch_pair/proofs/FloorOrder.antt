@@ -31,7 +31,7 @@ list_not : (xs ys : List ℕ) (others : Ordering) → is_lower xs ys ≡ false �
 list_not xs ys others first later = then_not (slice_cmp nat_cmp xs ys) others first later
 
 -- by a number that is not smaller, and where it is the same by others
-number_not : (x y : ℕ) (others : Ordering) → y ≤ x → (x ≡ y → is_lt others ≡ false) → is_lt (ordering_then (nat_cmp x y) others) ≡ false
+pub number_not : (x y : ℕ) (others : Ordering) → y ≤ x → (x ≡ y → is_lt others ≡ false) → is_lt (ordering_then (nat_cmp x y) others) ≡ false
 number_not x y others first later =
     by_ranked (x < y) (x ≡ y) (y < x) (nat_cmp x y) (ranked x y (nat_cmp x y) refl)
     (λ e less. absurd (omega (arith, first, less)))

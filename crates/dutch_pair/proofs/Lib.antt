@@ -1,3 +1,6 @@
+pub mod CandidateMatchings
+pub mod WrittenNumbers
+pub mod C06ToC19Weights
 pub mod AimLemmas
 pub mod WishLemmas
 pub mod InsteadLemmas

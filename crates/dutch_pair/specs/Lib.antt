@@ -46,3 +46,4 @@ pub mod Wishes
 pub mod RuledOut
 pub mod KnownBeside
 pub mod Barriers
+pub mod Weights

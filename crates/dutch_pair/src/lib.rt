@@ -63,6 +63,7 @@ mod spending;
 mod stage;
 mod takers;
 mod walk;
+mod weight_laws;
 mod wish;
 pub mod wish_laws;
 

@@ -1,0 +1,213 @@
+-- Numbers by their digits, in a base that is greater than each digit of the second: where the first number is not greater, its first digit
+-- that differs is less. So a quality whose weight is not greater than that of another is not worse in C.6 and C.8 to C.19.
+use Rattle.std.proofs.Common.{◌≡◌, ℕ, ◌+◌, ◌*◌, ◌<◌, ◌≤◌, ◌⊎◌, Bool, true, false, eqb, nat_lt, cond, List, [], ◌∷◌, ◌++◌, inl, inr, refl, sym, ap, subst, ◌∙◌, append-nil, arith}
+use Rattle.std.specs.Prelude.{◌==◌, count_by}
+use Rattle.std.specs.List.{AllByRecursion}
+use Rattle.std.specs.declared.cmp.Ordering.{Ordering}
+use Rattle.std.specs.declared.cmp.Ordering.TheVariants.{Less, Equal, Greater}
+use Rattle.std.specs.Ordering.{nat_cmp, is_lt, ordering_then}
+use Rattle.std.specs.Cmp.Lexicographic.{slice_cmp}
+use Rattle.std.proofs.lemmas.Bool.{cases_Bool, eqb-true}
+use Rattle.std.proofs.lemmas.Bool.Decides.{nat_tests}
+use Rattle.std.proofs.lemmas.Cmp.{tied_itself, nat_list_cmp_total}
+use Rattle.std.proofs.lemmas.List.Sums.{sum_by-cons}
+use Rattle.std.proofs.Math.Nat.{mul-add, mul-le-mul_left}
+use Rattle.dutch_order.specs.Keys.{IsIn}
+use Rattle.dutch_order.proofs.Comparing.{lists_tied}
+use Rattle.dutch_pair.specs.NextBracket.{is_lower}
+use Rattle.dutch_pair.specs.Outlooks.{HasNoBetter}
+use Rattle.dutch_pair.specs.Quality.{Quality, NextValue, highest_first, is_better, one_if}
+use Rattle.dutch_pair.specs.QualityIn.{next_in}
+use Rattle.dutch_pair.specs.Weights.{Scale, IsScale, IsAmong, IsOn, HasDigits, counts, digits, weight_of, written}
+use Rattle.dutch_pair.proofs.Copies.{Falls, copies, highest_first_falls, not_lower}
+use Rattle.dutch_pair.proofs.FloorOrder.{number_not}
+use Rattle.dutch_pair.proofs.InTurn.{better_in_turn, compared_by_colours, compared_by_differences}
+use Rattle.dutch_pair.proofs.QualityOrder.{total}
+
+one_cond : (b : Bool) → cond b 1 0 ≡ one_if b
+one_cond true = refl
+one_cond false = refl
+
+pub counted : (d : ℕ) (xs : List ℕ) → count_by (λ by. by == d) xs ≡ copies d xs
+counted d [] = refl
+counted d (x ∷ xs) = omega (arith, sum_by-cons (λ by. cond (by == d) 1 0) x xs, counted d xs, one_cond (x == d))
+
+at_most : (x y : ℕ) → (x ≤ y) ⊎ (y < x)
+at_most x y = grind arith
+
+in_order : (xs : List ℕ) → highest_first xs ≡ xs → Falls xs
+in_order xs same = subst Falls same (highest_first_falls xs)
+
+member_below : (x d : ℕ) (xs : List ℕ) → AllByRecursion (λ y. y ≤ x) xs → IsIn d xs → d ≤ x
+member_below x d [] all m = absurd m
+member_below x d (y ∷ ys) all (inl e) = omega (arith, e, all.0)
+member_below x d (y ∷ ys) all (inr m) = member_below x d ys all.1 m
+
+-- a number that stands in a list is among those that it has
+held : (d : ℕ) (differences xs : List ℕ) → AllByRecursion (λ by. IsIn by differences) xs → IsIn d differences ⊎ (copies d xs ≡ 0)
+held d differences [] all = inr refl
+held d differences (x ∷ xs) all = elim (cases_Bool (eqb x d)) [
+  | inl here ↦ inl (subst (λ n. IsIn n differences) (eqb-true x d here) all.0)
+  | inr other ↦ elim (held d differences xs all.1) [ inl m ↦ inl m | inr none ↦ inr (omega (arith, none, ap one_if other)) ]
+]
+
+module _ (base : ℕ) (f a : Quality) where
+  -- a greater front makes a greater number
+  greater : (front front' : ℕ) (digits : List (Quality → ℕ)) → front' < front → AllByRecursion (λ digit. digit a < base) digits
+      → written base front' digits a < written base front digits f
+  greater front front' [] less small = less
+  greater front front' (digit ∷ digits) less small =
+      let more : base * (front' + 1) ≤ base * front = mul-le-mul_left base (let le : front' + 1 ≤ front = omega (arith, less) in le) in
+      greater (base * front + digit f) (base * front' + digit a) digits (omega (arith, more, mul-add base front' 1, small.0)) small.1
+
+  -- behind a common front the number with some digits is no greater for the first quality
+  pub record NotAbove (digits : List (Quality → ℕ)) : Type 0 where
+    pub front : ℕ
+    pub is : written base front digits f ≤ written base front digits a
+    pub small : AllByRecursion (λ digit. digit a < base) digits
+
+  next : (digit : Quality → ℕ) (digits : List (Quality → ℕ)) → NotAbove (digit ∷ digits) → (digit f ≤ digit a) × (digit a ≡ digit f → NotAbove digits)
+  next digit digits not = (
+    elim (at_most (digit f) (digit a)) [
+      | inl le ↦ le
+      | inr more ↦
+          let bad = greater (base * not.front + digit f) (base * not.front + digit a) digits (omega (arith, more)) not.small.1 in
+          absurd (omega (arith, bad, not.is))
+    ],
+    λ same. record {
+      front = base * not.front + digit a;
+      is = subst (λ n. written base (base * not.front + n) digits f ≤ written base (base * not.front + digit a) digits a) (sym same) not.is;
+      small = not.small.1;
+    },
+  )
+
+  module _ (list : Quality → List ℕ) where
+    -- down to a difference in whose number two lists differ
+    counts_next : (differences : List ℕ) (rest : List (Quality → ℕ)) → Falls differences → NotAbove (counts differences list ++ rest)
+        → ((d : ℕ) → IsIn d differences → ((e : ℕ) → d < e → copies e (list f) ≡ copies e (list a)) → copies d (list f) ≤ copies d (list a))
+        × (((e : ℕ) → copies e (list f) ≡ copies e (list a)) → NotAbove rest)
+    counts_next [] rest falls not = (λ d m. absurd m, λ same. not)
+    counts_next (x ∷ xs) rest falls not =
+        let one = next (λ q. count_by (λ by. by == x) (list q)) (counts xs list ++ rest) not in
+        let passed : copies x (list f) ≡ copies x (list a) → NotAbove (counts xs list ++ rest) = λ same.
+        one.1 (counted x (list a) ∙ sym same ∙ sym (counted x (list f))) in
+        let here : copies x (list f) ≤ copies x (list a) = omega (arith, one.0, counted x (list f), counted x (list a)) in (
+          λ d m above. elim m [
+            | inl e ↦ subst (λ n. copies n (list f) ≤ copies n (list a)) (sym e) here
+            | inr later ↦ elim (at_most x d) [
+              | inl le ↦
+                  let same : x ≡ d = omega (arith, le, member_below x d xs falls.0 later) in
+                  subst (λ n. copies n (list f) ≤ copies n (list a)) same here
+              | inr less ↦ (counts_next xs rest falls.1 (passed (above x less))).0 d later above
+            ]
+          ],
+          λ same. (counts_next xs rest falls.1 (passed (same x))).1 same,
+        )
+
+    list_next : (differences : List ℕ) (rest : List (Quality → ℕ)) → highest_first differences ≡ differences → IsAmong differences (list f) → Falls (list a)
+        → NotAbove (counts differences list ++ rest) → (is_lower (list a) (list f) ≡ false) × (list a ≡ list f → NotAbove rest)
+    list_next differences rest falls among ordered not =
+        let both = counts_next differences rest (in_order differences falls) not in (
+          not_lower (list f) (list a) (in_order (list f) among.0) ordered
+              (λ d above. elim (held d differences (list f) among.1) [ inl m ↦ both.0 d m above | inr none ↦ omega (arith, none) ]),
+          λ same. both.1 (λ e. ap (copies e) (sym same)),
+        )
+
+then_not : (o others : Ordering) → is_lt o ≡ false → (o ≡ Equal → is_lt others ≡ false) → is_lt (ordering_then o others) ≡ false
+then_not Less others first later = first
+then_not Equal others first later = later refl
+then_not Greater others first later = refl
+
+not_lower_itself : (xs : List ℕ) → is_lower xs xs ≡ false
+not_lower_itself xs = ap is_lt (tied_itself nat_list_cmp_total xs)
+
+-- by a list that is not lower, and where it is the same by others
+list_not : (xs ys : List ℕ) (others : Ordering) → is_lower xs ys ≡ false → (xs ≡ ys → is_lt others ≡ false) → is_lt (ordering_then (slice_cmp nat_cmp xs ys) others) ≡ false
+list_not xs ys others first later = then_not (slice_cmp nat_cmp xs ys) others first (λ e. later (lists_tied xs ys e))
+
+-- the lists of a quality stand the highest first
+pub record IsOrdered (q : Quality) : Type 0 where
+  pub psd : Falls q.psd
+  pub down_again_by : Falls q.down_again_by
+  pub up_again_by : Falls q.up_again_by
+  pub down_again_before_by : Falls q.down_again_before_by
+  pub up_again_before_by : Falls q.up_again_before_by
+
+module _ (scale : Scale) (falls : IsScale scale) (f a : Quality) (on : IsOn scale f) (ordered : IsOrdered a) where
+  abbrev by : (Quality → List ℕ) → List (Quality → ℕ)
+  by list = counts scale.floats list
+
+  differences_not : NotAbove scale.base f a (by (λ q. q.down_again_by) ++ (by (λ q. q.up_again_by) ++ (by (λ q. q.down_again_before_by) ++ by (λ q. q.up_again_before_by))))
+      → is_lt (compared_by_differences a f) ≡ false
+  differences_not not =
+      let one = list_next scale.base f a (λ q. q.down_again_by) scale.floats _ falls.floats on.down_again_by ordered.down_again_by not in
+      list_not a.down_again_by f.down_again_by _ one.0 (λ same1.
+      let two = list_next scale.base f a (λ q. q.up_again_by) scale.floats _ falls.floats on.up_again_by ordered.up_again_by (one.1 same1) in
+      list_not a.up_again_by f.up_again_by _ two.0 (λ same2.
+      let three = list_next scale.base f a (λ q. q.down_again_before_by) scale.floats _ falls.floats on.down_again_before_by ordered.down_again_before_by (two.1 same2) in
+      list_not a.down_again_before_by f.down_again_before_by _ three.0 (λ same3.
+      let last : NotAbove scale.base f a (by (λ q. q.up_again_before_by) ++ []) = subst (NotAbove scale.base f a) (sym (append-nil (by (λ q. q.up_again_before_by)))) (three.1 same3) in
+      (list_next scale.base f a (λ q. q.up_again_before_by) scale.floats [] falls.floats on.up_again_before_by ordered.up_again_before_by last).0)))
+
+  colours_not : NotAbove scale.base f a ((λ q. q.wide_differences) ∷ (λ q. q.third_colours) ∷ (λ q. q.missed_preferences) ∷ (λ q. q.missed_strong)
+      ∷ (λ q. q.down_again) ∷ (λ q. q.up_again) ∷ (λ q. q.down_again_before) ∷ (λ q. q.up_again_before)
+      ∷ (by (λ q. q.down_again_by) ++ (by (λ q. q.up_again_by) ++ (by (λ q. q.down_again_before_by) ++ by (λ q. q.up_again_before_by)))))
+      → is_lt (compared_by_colours a f) ≡ false
+  colours_not not =
+      let n1 = next scale.base f a (λ q. q.wide_differences) _ not in
+      number_not a.wide_differences f.wide_differences _ n1.0 (λ s1.
+      let n2 = next scale.base f a (λ q. q.third_colours) _ (n1.1 s1) in
+      number_not a.third_colours f.third_colours _ n2.0 (λ s2.
+      let n3 = next scale.base f a (λ q. q.missed_preferences) _ (n2.1 s2) in
+      number_not a.missed_preferences f.missed_preferences _ n3.0 (λ s3.
+      let n4 = next scale.base f a (λ q. q.missed_strong) _ (n3.1 s3) in
+      number_not a.missed_strong f.missed_strong _ n4.0 (λ s4.
+      let n5 = next scale.base f a (λ q. q.down_again) _ (n4.1 s4) in
+      number_not a.down_again f.down_again _ n5.0 (λ s5.
+      let n6 = next scale.base f a (λ q. q.up_again) _ (n5.1 s5) in
+      number_not a.up_again f.up_again _ n6.0 (λ s6.
+      let n7 = next scale.base f a (λ q. q.down_again_before) _ (n6.1 s6) in
+      number_not a.down_again_before f.down_again_before _ n7.0 (λ s7.
+      let n8 = next scale.base f a (λ q. q.up_again_before) _ (n7.1 s7) in
+      number_not a.up_again_before f.up_again_before _ n8.0 (λ s8. differences_not (n8.1 s8)))))))))
+
+  -- C.6 to C.19: a quality that weighs no less, and has no better value of the next bracket, is not better
+  pub not_lighter : HasDigits scale a → weight_of scale f ≤ weight_of scale a → HasNoBetter a (next_in f) → is_better a f ≡ false
+  unfolding weight_of
+  not_lighter small heavy next_not =
+      let top = list_next scale.base f a (λ q. q.psd) scale.psd _ falls.psd on.psd ordered.psd (record { front = 0; is = heavy; small = small }) in
+      better_in_turn a f
+      ∙ list_not a.psd f.psd _ top.0 (λ same.
+      number_not f.next_pairs a.next_pairs _ next_not.0 (λ pairs.
+      list_not a.next_psd f.next_psd _ (next_not.1 (sym pairs)) (λ _. colours_not (top.1 same))))
+
+-- of two qualities with one value of the next bracket the better one is the one that weighs less
+module _ (scale : Scale) (falls : IsScale scale) where
+  ordered : (q : Quality) → IsOn scale q → IsOrdered q
+  ordered q on = record {
+    psd = in_order q.psd on.psd.0;
+    down_again_by = in_order q.down_again_by on.down_again_by.0;
+    up_again_by = in_order q.up_again_by on.up_again_by.0;
+    down_again_before_by = in_order q.down_again_before_by on.down_again_before_by.0;
+    up_again_before_by = in_order q.up_again_before_by on.up_again_before_by.0;
+  }
+
+  same_next : (q r : Quality) → next_in q ≡ next_in r → HasNoBetter r (next_in q)
+  same_next q r same = (
+    let pairs : q.next_pairs ≡ r.next_pairs = ap (λ (n : NextValue). n.pairs) same in omega (arith, pairs),
+    λ _. ap (λ (n : NextValue). is_lower r.next_psd n.psd) same ∙ not_lower_itself r.next_psd,
+  )
+
+  pub lighter_is_better : (q r : Quality) → IsOn scale q → IsOn scale r → HasDigits scale q → HasDigits scale r → next_in q ≡ next_in r
+      → is_better q r ≡ nat_lt (weight_of scale q) (weight_of scale r)
+  lighter_is_better q r on_q on_r small_q small_r same = elim (cases_Bool (nat_lt (weight_of scale q) (weight_of scale r))) [
+    | inl less ↦ elim (total q r) [
+      | inl e ↦ absurd (let w : weight_of scale q ≡ weight_of scale r = ap (weight_of scale) e in grind (arith, nat_tests, w, less))
+      | inr (inl better) ↦ better ∙ sym less
+      | inr (inr worse) ↦
+          let not : is_better r q ≡ false = not_lighter scale falls q r on_q (ordered r on_r) small_r (grind (arith, nat_tests, less)) (same_next q r same) in
+          absurd (let bad : true ≡ false = sym worse ∙ not in cc)
+    ]
+    | inr not_less ↦
+        not_lighter scale falls r q on_r (ordered q on_q) small_q (grind (arith, nat_tests, not_less)) (same_next r q (sym same)) ∙ sym not_less
+  ]

@@ -1,0 +1,68 @@
+// Laws of the weight of a candidate: its items that are sums, C.6 and C.8 to C.19, as the digits of one number (C.04.3). A certificate bounds
+// it for all candidates with a beginning, and that bound is a floor: a quality that none of them is better than.
+ghost use Rattle.std.specs.Prelude.{◌≡◌, ◌<◌, ◌≤◌, ◌||◌, ℕ, List, true, false, length, nat_lt};
+ghost use Rattle.dual.specs.Duals.{Certificate, IsFeasible};
+ghost use Rattle.dutch_order.specs.declared.bracket.Shape.{Shape};
+ghost use Rattle.dutch_order.specs.Arrangements.{Arrangement, Fits, down};
+ghost use Rattle.dutch_order.specs.Keys.{IsIn};
+ghost use Rattle.dutch_order.specs.Prefixes.{Begins, Beginning};
+ghost use Rattle.dutch_player.specs.Facts.{Facts};
+ghost use Rattle.dutch_pair.specs.Beginnings.{HasPairsOf};
+ghost use Rattle.dutch_pair.specs.Outlooks.{HasNoBetter, IsOutlook, awaited};
+ghost use Rattle.dutch_pair.specs.declared.outlook.Outlook.{Outlook};
+ghost use Rattle.dutch_pair.specs.FloorOf.{fixed_lists, has_s1, is_uniform};
+ghost use Rattle.dutch_pair.specs.Quality.{Quality, is_better};
+ghost use Rattle.dutch_pair.specs.QualityIn.{next_in};
+ghost use Rattle.dutch_pair.specs.Reached.{IsOf, Reached, frame_of};
+ghost use Rattle.dutch_pair.specs.Round.{candidates_of, quality_of};
+ghost use Rattle.dutch_pair.specs.Weights.{HasDigits, IsOn, IsScale, Scale, least_weight, number_pairs, numbers, weighing, weight_of};
+ghost use Rattle.dual.specs.Matchings.{cost};
+
+/// C.6, C.8 to C.19: the weight of a candidate is the sum of what each of its pairs and each of its downfloaters weighs alone.
+#[tactic(auto, using(crate::proofs::C06ToC19Weights::candidate_weighs))]
+pub fn a_weight_is_a_sum()
+    ensures { (facts : Facts) (reached : Reached) (scale : Scale) (lower : List ℕ) (a : Arrangement)
+        → weight_of scale (quality_of facts reached lower a) ≡ cost (weighing facts reached scale) (number_pairs a) (down (frame_of facts reached) a) }
+{}
+
+/// C.6, C.8 to C.19: of two qualities with one value of the next bracket (C.7) the better one is the one that weighs less, on a scale that
+/// has a digit for each of their differences and a base above each of their digits.
+#[tactic(auto, using(crate::proofs::WrittenNumbers::lighter_is_better))]
+pub fn the_lighter_is_better()
+    ensures { (scale : Scale) → IsScale scale → (q r : Quality) → IsOn scale q → IsOn scale r → HasDigits scale q → HasDigits scale r
+        → next_in q ≡ next_in r → is_better q r ≡ nat_lt (weight_of scale q) (weight_of scale r) }
+{}
+
+/// C.6, C.8 to C.19: no candidate with a beginning weighs less than a feasible certificate says, with the slack of the pairs that the beginning
+/// fixes, each once.
+#[tactic(auto, using(crate::proofs::CandidateMatchings::weighs_no_less))]
+pub fn a_certificate_bounds_the_weight()
+    ensures { (facts : Facts) (reached : Reached) (scale : Scale) (lower : List ℕ) (shape : Shape) (a : Arrangement) → IsOf facts reached
+        → Fits (frame_of facts reached) shape → IsIn a (candidates_of facts reached shape) → (b : Arrangement) → HasPairsOf b a
+        → (certificate : Certificate) → IsFeasible (weighing facts reached scale) (numbers reached) certificate
+        → least_weight facts reached scale certificate shape b ≤ weight_of scale (quality_of facts reached lower a) }
+{}
+
+/// C.6 to C.19: so a quality that weighs no more than that is a floor: no candidate with the beginning is better than it, unless by a better
+/// value of the next bracket.
+pub fn a_certificate_gives_floors()
+    ensures { (facts : Facts) (reached : Reached) (scale : Scale) (lower : List ℕ) (shape : Shape) (a : Arrangement) → IsOf facts reached
+        → Fits (frame_of facts reached) shape → IsIn a (candidates_of facts reached shape) → (b : Arrangement) → HasPairsOf b a
+        → (certificate : Certificate) → IsFeasible (weighing facts reached scale) (numbers reached) certificate
+        → IsScale scale → length reached.seats < scale.base → (f : Quality) → IsOn scale f
+        → weight_of scale f ≤ least_weight facts reached scale certificate shape b → HasNoBetter (quality_of facts reached lower a) (next_in f)
+        → is_better (quality_of facts reached lower a) f ≡ false }
+{}
+
+/// C.6 to C.19: the same behind a beginning that the search comes to, where the floor has the best that the next bracket is known to be.
+#[tactic(auto, using(crate::proofs::CandidateMatchings::beginning_has_floor))]
+pub fn a_beginning_has_a_floor_by_weight()
+    ensures { (facts : Facts) (reached : Reached) (scale : Scale) (lower : List ℕ) (shape : Shape) (a : Arrangement) → IsOf facts reached
+        → Fits (frame_of facts reached) shape → IsIn a (candidates_of facts reached shape)
+        → (outlook : Outlook) → IsOutlook facts reached lower shape outlook → (b : Beginning) → Begins b a
+        → (has_s1 b.filling || is_uniform facts reached shape) ≡ true
+        → (certificate : Certificate) → IsFeasible (weighing facts reached scale) (numbers reached) certificate
+        → IsScale scale → length reached.seats < scale.base → (f : Quality) → IsOn scale f
+        → weight_of scale f ≤ least_weight facts reached scale certificate shape (fixed_lists b)
+        → next_in f ≡ awaited facts reached shape outlook b.filling (fixed_lists b).s1 → is_better (quality_of facts reached lower a) f ≡ false }
+{}
