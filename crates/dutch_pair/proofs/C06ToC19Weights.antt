@@ -23,12 +23,12 @@ use Rattle.dutch_pair.specs.Quality.{Quality, NextValue, again, count_in, count_
 use Rattle.dutch_pair.specs.Reached.{Reached, frame_of}
 use Rattle.dutch_pair.specs.Round.{downfloaters, quality_of}
 use Rattle.dutch_pair.specs.Seated.{Seated, all_pairs, difference, difference_down, floats_down, goes_down, goes_up, going_down, going_up, is_uneven, lowest, pairs_of, seat_of}
-use Rattle.dutch_pair.specs.Weights.{HasDigits, Scale, counts, digits, number_pairs, weight_of, weighing, written}
+use Rattle.dutch_pair.specs.Weights.{HasDigits, Scale, number_pairs, weight_of, weighing}
 use Rattle.dutch_pair.proofs.AllLemmas.{all_join}
 use Rattle.dutch_pair.proofs.Copies.{copies, copies_append, highest_first_copies, highest_first_falls}
 use Rattle.dutch_pair.proofs.C08ToC19Fixed.{with_topscorers_add_up, filtered_add_up, mapped_add_up, counts_add_up, copies_add_up}
 use Rattle.dutch_pair.proofs.FixedPairs.{AddsUp}
-use Rattle.dutch_pair.proofs.WrittenNumbers.{IsOrdered, counted}
+use Rattle.dutch_pair.proofs.WrittenNumbers.{IsOrdered, count_readers, counted, has_digits, read_off, readers, weight_read}
 
 one_or_none : (b : Bool) → one_if b ≤ 1
 one_or_none true = omega arith
@@ -189,15 +189,15 @@ module _ (facts : Facts) (reached : Reached) where
   in_differences d floaters =
       counted d (differences floaters) ∙ highest_first_copies d (map (λ (floater : Floater). floater.by) floaters)
 
-  counts_sum : (list : Quality → List ℕ) → ((d : ℕ) → IsSum (λ q. count_by (λ by. by == d) (list q))) → (differences : List ℕ) → AllByRecursion IsSum (counts differences list)
+  counts_sum : (list : Quality → List ℕ) → ((d : ℕ) → IsSum (λ q. count_by (λ by. by == d) (list q))) → (differences : List ℕ) → AllByRecursion IsSum (count_readers differences list)
   counts_sum list each [] = tt
   counts_sum list each (d ∷ ds) = (each d, counts_sum list each ds)
 
-  pub all_sums : (scale : Scale) → AllByRecursion IsSum (digits scale)
+  pub all_sums : (scale : Scale) → AllByRecursion IsSum (readers scale)
   unfolding quality_with
   all_sums scale =
-      let by = λ (list : Quality → List ℕ). counts scale.floats list in
-      all_join IsSum (counts scale.psd (λ q. q.psd)) _ (counts_sum (λ q. q.psd) psd_sum scale.psd) (
+      let by = λ (list : Quality → List ℕ). count_readers scale.floats list in
+      all_join IsSum (count_readers scale.psd (λ q. q.psd)) _ (counts_sum (λ q. q.psd) psd_sum scale.psd) (
         wide_sum,
         (
           third_sum,
@@ -306,17 +306,17 @@ pairs_seated seats a =
 -- ---- numbers whose digits are sums
 
 written_sum : (base : ℕ) (digits : List (Quality → ℕ)) (q q1 q2 : Quality) (front1 front2 : ℕ) → AllByRecursion (λ digit. digit q ≡ digit q1 + digit q2) digits
-    → written base (front1 + front2) digits q ≡ written base front1 digits q1 + written base front2 digits q2
+    → read_off base (front1 + front2) digits q ≡ read_off base front1 digits q1 + read_off base front2 digits q2
 written_sum base [] q q1 q2 front1 front2 sums = refl
 written_sum base (digit ∷ digits) q q1 q2 front1 front2 sums =
     let fronts : base * (front1 + front2) + digit q ≡ (base * front1 + digit q1) + (base * front2 + digit q2) = omega (arith, mul-add base front1 front2, sums.0) in
-    ap (λ front. written base front digits q) fronts ∙ written_sum base digits q q1 q2 (base * front1 + digit q1) (base * front2 + digit q2) sums.1
+    ap (λ front. read_off base front digits q) fronts ∙ written_sum base digits q q1 q2 (base * front1 + digit q1) (base * front2 + digit q2) sums.1
 
-written_none : (base : ℕ) (digits : List (Quality → ℕ)) (q : Quality) → AllByRecursion (λ digit. digit q ≡ 0) digits → written base 0 digits q ≡ 0
+written_none : (base : ℕ) (digits : List (Quality → ℕ)) (q : Quality) → AllByRecursion (λ digit. digit q ≡ 0) digits → read_off base 0 digits q ≡ 0
 written_none base [] q none = refl
 written_none base (digit ∷ digits) q none =
     let front : base * 0 + digit q ≡ 0 = omega (arith, none.0) in
-    ap (λ n. written base n digits q) front ∙ written_none base digits q none.1
+    ap (λ n. read_off base n digits q) front ∙ written_none base digits q none.1
 
 module _ (facts : Facts) (reached : Reached) (scale : Scale) where
   -- what a pair of seats weighs alone, and what a seat does that goes down
@@ -326,18 +326,23 @@ module _ (facts : Facts) (reached : Reached) (scale : Scale) where
   abbrev pub down_alone : ℕ → ℕ
   down_alone seat = weight_of scale (of facts reached [] (seat ∷ []) no_value)
 
+  weight_more : (q q1 q2 : Quality) → AllByRecursion (λ (digit : Quality → ℕ). digit q ≡ digit q1 + digit q2) (readers scale)
+      → weight_of scale q ≡ weight_of scale q1 + weight_of scale q2
+  weight_more q q1 q2 sums =
+      omega (arith, written_sum scale.base (readers scale) q q1 q2 0 0 sums, weight_read q scale, weight_read q1 scale, weight_read q2 scale)
+
   pub weight_sum : (pairs : List (ℕ × ℕ)) (down : List ℕ) (next : NextValue) → weight_of scale (of facts reached pairs down next) ≡ sum_by pair_alone pairs + sum_by down_alone down
-  unfolding weight_of
   weight_sum [] [] next =
-      written_none scale.base (digits scale) (of facts reached [] [] next)
-      (all_so (IsSum facts reached) _ (λ digit sum. none_of_none facts reached digit sum next) (digits scale) (all_sums facts reached scale))
+      weight_read (of facts reached [] [] next) scale
+      ∙ written_none scale.base (readers scale) (of facts reached [] [] next)
+      (all_so (IsSum facts reached) _ (λ digit sum. none_of_none facts reached digit sum next) (readers scale) (all_sums facts reached scale))
   weight_sum [] (seat ∷ down) next =
-      let more = written_sum scale.base (digits scale) (of facts reached [] (seat ∷ down) next) (of facts reached [] (seat ∷ []) no_value) (of facts reached [] down next) 0 0
-      (all_so (IsSum facts reached) _ (λ digit sum. down_more facts reached digit sum seat down next) (digits scale) (all_sums facts reached scale)) in
+      let more = weight_more (of facts reached [] (seat ∷ down) next) (of facts reached [] (seat ∷ []) no_value) (of facts reached [] down next)
+      (all_so (IsSum facts reached) _ (λ digit sum. down_more facts reached digit sum seat down next) (readers scale) (all_sums facts reached scale)) in
       omega (arith, more, weight_sum [] down next, sum_by-cons down_alone seat down)
   weight_sum (pair ∷ pairs) down next =
-      let more = written_sum scale.base (digits scale) (of facts reached (pair ∷ pairs) down next) (of facts reached (pair ∷ []) [] no_value) (of facts reached pairs down next) 0 0
-      (all_so (IsSum facts reached) _ (λ digit sum. pair_more facts reached digit sum pair pairs down next) (digits scale) (all_sums facts reached scale)) in
+      let more = weight_more (of facts reached (pair ∷ pairs) down next) (of facts reached (pair ∷ []) [] no_value) (of facts reached pairs down next)
+      (all_so (IsSum facts reached) _ (λ digit sum. pair_more facts reached digit sum pair pairs down next) (readers scale) (all_sums facts reached scale)) in
       omega (arith, more, weight_sum pairs down next, sum_by-cons pair_alone pair pairs)
 
   -- so is that of a candidate
@@ -354,8 +359,9 @@ module _ (facts : Facts) (reached : Reached) (scale : Scale) where
 
   digits_small : (pairs : List (ℕ × ℕ)) (down : List ℕ) (next : NextValue) → 2 * length pairs + length down < scale.base → HasDigits scale (of facts reached pairs down next)
   digits_small pairs down next less =
-      all_so (IsSum facts reached) (λ digit. digit (of facts reached pairs down next) < scale.base)
-      (λ digit sum. omega (arith, few facts reached digit sum pairs down next, less)) (digits scale) (all_sums facts reached scale)
+      has_digits (of facts reached pairs down next) scale
+      (all_so (IsSum facts reached) (λ digit. digit (of facts reached pairs down next) < scale.base)
+      (λ digit sum. omega (arith, few facts reached digit sum pairs down next, less)) (readers scale) (all_sums facts reached scale))
 
   -- and its digits are no greater than the number of players
   pub candidate_digits : (lower : List ℕ) (a : Arrangement) → 2 * length (number_pairs a) + length (down (frame_of facts reached) a) < scale.base

@@ -27,7 +27,7 @@ use Rattle.dutch_pair.specs.QualityIn.{next_in}
 use Rattle.dutch_pair.specs.Reached.{IsOf, Reached, ends_round, frame_of, number_may_be_left, numbers_meet}
 use Rattle.dutch_pair.specs.Round.{candidates_of, quality_of}
 use Rattle.dutch_pair.specs.Seated.{score_at}
-use Rattle.dutch_pair.specs.Weights.{IsOn, IsScale, Scale, least_weight, number_pairs, numbers, weighing, weight_of}
+use Rattle.dutch_pair.specs.Weights.{HasDigits, IsOn, IsScale, Scale, above_psd, least_weight, number_pairs, numbers, weighing, weight_of}
 use Rattle.dutch_pair.proofs.AllLemmas.{all_join}
 use Rattle.dutch_pair.proofs.ArrangementParts.{parts_of}
 use Rattle.dutch_pair.proofs.C06ToC19Weights.{candidate_digits, candidate_ordered, candidate_weighs}
@@ -37,7 +37,7 @@ use Rattle.dutch_pair.proofs.FloorOfBeginning.{begun_pairs}
 use Rattle.dutch_pair.proofs.GhostPairs.{down_count}
 use Rattle.dutch_pair.proofs.LegalPairs.{in_passes, legal_of}
 use Rattle.dutch_pair.proofs.Totals.{total}
-use Rattle.dutch_pair.proofs.WrittenNumbers.{not_lighter}
+use Rattle.dutch_pair.proofs.WrittenNumbers.{behind_psd, not_lighter}
 
 total_sum : (w : ℕ → ℕ) (xs : List ℕ) → total w xs ≡ sum_by w xs
 total_sum w [] = refl
@@ -158,24 +158,30 @@ module _ (facts : Facts) (reached : Reached) (scale : Scale) (lower : List ℕ) 
   numbers_counted : length (numbers reached) ≡ length reached.seats
   numbers_counted = length-numbers 1 (length reached.seats)
 
-  -- so a quality that weighs no more than a candidate, with no worse value of the next bracket, is not beaten by it
-  pub not_beaten : IsScale scale → length reached.seats < scale.base → (f : Quality) → IsOn scale f → weight_of scale f ≤ weight_of scale (quality_of facts reached lower a)
-      → HasNoBetter (quality_of facts reached lower a) (next_in f) → is_better (quality_of facts reached lower a) f ≡ false
-  not_beaten falls high f on weighs next =
-      not_lighter scale falls f (quality_of facts reached lower a) on (candidate_ordered facts reached scale lower a)
-      (candidate_digits facts reached scale lower a (omega (
+  digits_are_small : length reached.seats < scale.base → HasDigits scale (quality_of facts reached lower a)
+  digits_are_small high =
+      candidate_digits facts reached scale lower a (omega (
         arith,
         high,
-        numbers_counted,
+        length-numbers 1 (length reached.seats),
         counted (weighing facts reached scale) (numbers reached) (number_pairs a) (down (frame_of facts reached) a) candidate_is_matching,
-      ))) weighs next
+      ))
 
   -- C.6 to C.19: a quality that weighs no more than the bound, with no worse value of the next bracket than a candidate has, is a floor
   pub bound_is_floor : (b : Arrangement) → HasPairsOf b a → (certificate : Certificate) → IsFeasible (weighing facts reached scale) (numbers reached) certificate
       → IsScale scale → length reached.seats < scale.base → (f : Quality) → IsOn scale f → weight_of scale f ≤ least_weight facts reached scale certificate shape b
       → HasNoBetter (quality_of facts reached lower a) (next_in f) → is_better (quality_of facts reached lower a) f ≡ false
   bound_is_floor b begins certificate feasible falls high f on weighs next =
-      not_beaten falls high f on (omega (arith, weighs, weighs_no_less b begins certificate feasible)) next
+      not_lighter scale falls f (quality_of facts reached lower a) on (candidate_ordered facts reached scale lower a) (digits_are_small high)
+      (omega (arith, weighs, weighs_no_less b begins certificate feasible)) next
+
+  -- C.6: and one above whose PSD the bound lies, whatever the next bracket can be
+  pub bound_is_above : (b : Arrangement) → HasPairsOf b a → (certificate : Certificate) → IsFeasible (weighing facts reached scale) (numbers reached) certificate
+      → IsScale scale → length reached.seats < scale.base → (f : Quality) → IsOn scale f
+      → weight_of scale (above_psd scale f) ≤ least_weight facts reached scale certificate shape b → is_better (quality_of facts reached lower a) f ≡ false
+  bound_is_above b begins certificate feasible falls high f on weighs =
+      behind_psd scale falls f (quality_of facts reached lower a) on (candidate_ordered facts reached scale lower a) (digits_are_small high)
+      (omega (arith, weighs, weighs_no_less b begins certificate feasible))
 
   -- the same behind a beginning, with what the next bracket is known to be at best
   pub beginning_has_floor : (outlook : Outlook) → IsOutlook facts reached lower shape outlook → (b : Beginning) → Begins b a

@@ -1,6 +1,6 @@
 -- Numbers by their digits, in a base that is greater than each digit of the second: where the first number is not greater, its first digit
 -- that differs is less. So a quality whose weight is not greater than that of another is not worse in C.6 and C.8 to C.19.
-use Rattle.std.proofs.Common.{◌≡◌, ℕ, ◌+◌, ◌*◌, ◌<◌, ◌≤◌, ◌⊎◌, Bool, true, false, eqb, nat_lt, cond, List, [], ◌∷◌, ◌++◌, inl, inr, refl, sym, ap, subst, ◌∙◌, append-nil, arith}
+use Rattle.std.proofs.Common.{◌≡◌, ℕ, ◌+◌, ◌*◌, ◌<◌, ◌≤◌, ◌⊎◌, Bool, true, false, eqb, nat_lt, cond, List, [], ◌∷◌, ◌++◌, map, inl, inr, refl, sym, ap, subst, ◌∙◌, append-nil, arith}
 use Rattle.std.specs.Prelude.{◌==◌, count_by}
 use Rattle.std.specs.List.{AllByRecursion}
 use Rattle.std.specs.declared.cmp.Ordering.{Ordering}
@@ -10,6 +10,7 @@ use Rattle.std.specs.Cmp.Lexicographic.{slice_cmp}
 use Rattle.std.proofs.lemmas.Bool.{cases_Bool, eqb-true}
 use Rattle.std.proofs.lemmas.Bool.Decides.{nat_tests}
 use Rattle.std.proofs.lemmas.Cmp.{tied_itself, nat_list_cmp_total}
+use Rattle.std.proofs.lemmas.List.{map-append}
 use Rattle.std.proofs.lemmas.List.Sums.{sum_by-cons}
 use Rattle.std.proofs.Math.Nat.{mul-add, mul-le-mul_left}
 use Rattle.dutch_order.specs.Keys.{IsIn}
@@ -18,7 +19,7 @@ use Rattle.dutch_pair.specs.NextBracket.{is_lower}
 use Rattle.dutch_pair.specs.Outlooks.{HasNoBetter}
 use Rattle.dutch_pair.specs.Quality.{Quality, NextValue, highest_first, is_better, one_if}
 use Rattle.dutch_pair.specs.QualityIn.{next_in}
-use Rattle.dutch_pair.specs.Weights.{Scale, IsScale, IsAmong, IsOn, HasDigits, counts, digits, weight_of, written}
+use Rattle.dutch_pair.specs.Weights.{Scale, above_psd, IsScale, IsAmong, IsOn, HasDigits, counts, digits, weight_of, written}
 use Rattle.dutch_pair.proofs.Copies.{Falls, copies, highest_first_falls, not_lower}
 use Rattle.dutch_pair.proofs.FloorOrder.{number_not}
 use Rattle.dutch_pair.proofs.InTurn.{better_in_turn, compared_by_colours, compared_by_differences}
@@ -51,10 +52,92 @@ held d differences (x ∷ xs) all = elim (cases_Bool (eqb x d)) [
   | inr other ↦ elim (held d differences xs all.1) [ inl m ↦ inl m | inr none ↦ inr (omega (arith, none, ap one_if other)) ]
 ]
 
+-- ---- the digits as functions of a quality
+
+-- how often each of some differences stands in a list of a quality
+abbrev pub count_readers : List ℕ → (Quality → List ℕ) → List (Quality → ℕ)
+count_readers differences list = map (λ d quality. count_by (λ by. by == d) (list quality)) differences
+
+-- what reads each digit of a quality
+abbrev pub readers : Scale → List (Quality → ℕ)
+readers scale =
+    count_readers scale.psd (λ q. q.psd)
+    ++ (λ q. q.wide_differences) ∷ (λ q. q.third_colours) ∷ (λ q. q.missed_preferences) ∷ (λ q. q.missed_strong)
+    ∷ (λ q. q.down_again) ∷ (λ q. q.up_again) ∷ (λ q. q.down_again_before) ∷ (λ q. q.up_again_before)
+    ∷ (count_readers scale.floats (λ q. q.down_again_by) ++ (count_readers scale.floats (λ q. q.up_again_by)
+    ++ (count_readers scale.floats (λ q. q.down_again_before_by) ++ count_readers scale.floats (λ q. q.up_again_before_by))))
+
+-- a number with the digits behind it that are read
+abbrev pub read_off : ℕ → ℕ → List (Quality → ℕ) → Quality → ℕ
+read_off base front [] quality = front
+read_off base front (digit ∷ digits) quality = read_off base (base * front + digit quality) digits quality
+
+module _ (q : Quality) where
+  -- all that are read
+  abbrev reading : List (Quality → ℕ) → List ℕ
+  reading digits = map (λ (digit : Quality → ℕ). digit q) digits
+
+  counts_read : (list : Quality → List ℕ) (differences : List ℕ) → reading (count_readers differences list) ≡ counts differences (list q)
+  counts_read list [] = refl
+  counts_read list (d ∷ ds) = ap (λ (ns : List ℕ). count_by (λ by. by == d) (list q) ∷ ns) (counts_read list ds)
+
+  counts_before : (list : Quality → List ℕ) (differences : List ℕ) (rest : List (Quality → ℕ)) (others : List ℕ) → reading rest ≡ others
+      → reading (count_readers differences list ++ rest) ≡ counts differences (list q) ++ others
+  counts_before list differences rest others same =
+      map-append (λ (digit : Quality → ℕ). digit q) (count_readers differences list) rest
+      ∙ ap (λ (ns : List ℕ). ns ++ reading rest) (counts_read list differences)
+      ∙ ap (λ (ns : List ℕ). counts differences (list q) ++ ns) same
+
+  digits_read : (scale : Scale) → reading (readers scale) ≡ digits scale q
+  digits_read scale =
+      let by : (Quality → List ℕ) → List (Quality → ℕ) = λ list. count_readers scale.floats list in
+      let c19 : List ℕ = counts scale.floats q.up_again_before_by in
+      let c18 : List ℕ = counts scale.floats q.down_again_before_by ++ c19 in
+      let c17 : List ℕ = counts scale.floats q.up_again_by ++ c18 in
+      let c16 : List ℕ = counts scale.floats q.down_again_by ++ c17 in
+      let numbers : List ℕ → List ℕ = λ ns.
+      q.wide_differences ∷ q.third_colours ∷ q.missed_preferences ∷ q.missed_strong ∷ q.down_again ∷ q.up_again ∷ q.down_again_before ∷ q.up_again_before ∷ ns in
+      let r18 : List (Quality → ℕ) = by (λ q. q.down_again_before_by) ++ by (λ q. q.up_again_before_by) in
+      let r17 : List (Quality → ℕ) = by (λ q. q.up_again_by) ++ r18 in
+      let r16 : List (Quality → ℕ) = by (λ q. q.down_again_by) ++ r17 in
+      let r8 : List (Quality → ℕ) =
+      (λ q. q.wide_differences) ∷ (λ q. q.third_colours) ∷ (λ q. q.missed_preferences) ∷ (λ q. q.missed_strong)
+      ∷ (λ q. q.down_again) ∷ (λ q. q.up_again) ∷ (λ q. q.down_again_before) ∷ (λ q. q.up_again_before) ∷ r16 in
+      let e18 : reading r18 ≡ c18 = counts_before (λ q. q.down_again_before_by) scale.floats (by (λ q. q.up_again_before_by)) c19 (counts_read (λ q. q.up_again_before_by) scale.floats) in
+      let e17 : reading r17 ≡ c17 = counts_before (λ q. q.up_again_by) scale.floats r18 c18 e18 in
+      let e16 : reading r16 ≡ c16 = counts_before (λ q. q.down_again_by) scale.floats r17 c17 e17 in
+      let e8 : reading r8 ≡ numbers c16 = ap numbers e16 in
+      counts_before (λ q. q.psd) scale.psd r8 (numbers c16) e8
+
+  written_read : (base front : ℕ) (digits : List (Quality → ℕ)) → written base front (reading digits) ≡ read_off base front digits q
+  written_read base front [] = refl
+  written_read base front (digit ∷ digits) = written_read base (base * front + digit q) digits
+
+  -- the weight is the number that is read
+  pub weight_read : (scale : Scale) → weight_of scale q ≡ read_off scale.base 0 (readers scale) q
+  unfolding weight_of
+  weight_read scale = ap (written scale.base 0) (sym (digits_read scale)) ∙ written_read scale.base 0 (readers scale)
+
+  each_read : (base : ℕ) (digits : List (Quality → ℕ)) → AllByRecursion (λ n. n < base) (reading digits) → AllByRecursion (λ (digit : Quality → ℕ). digit q < base) digits
+  each_read base [] all = tt
+  each_read base (digit ∷ digits) all = (all.0, each_read base digits all.1)
+
+  all_read : (base : ℕ) (digits : List (Quality → ℕ)) → AllByRecursion (λ (digit : Quality → ℕ). digit q < base) digits → AllByRecursion (λ n. n < base) (reading digits)
+  all_read base [] all = tt
+  all_read base (digit ∷ digits) all = (all.0, all_read base digits all.1)
+
+  small_read : (scale : Scale) → HasDigits scale q → AllByRecursion (λ (digit : Quality → ℕ). digit q < scale.base) (readers scale)
+  small_read scale small = each_read scale.base (readers scale) (subst (AllByRecursion (λ n. n < scale.base)) (sym (digits_read scale)) small)
+
+  pub has_digits : (scale : Scale) → AllByRecursion (λ (digit : Quality → ℕ). digit q < scale.base) (readers scale) → HasDigits scale q
+  has_digits scale small = subst (AllByRecursion (λ n. n < scale.base)) (digits_read scale) (all_read scale.base (readers scale) small)
+
+-- ---- which of two numbers is less
+
 module _ (base : ℕ) (f a : Quality) where
   -- a greater front makes a greater number
   greater : (front front' : ℕ) (digits : List (Quality → ℕ)) → front' < front → AllByRecursion (λ digit. digit a < base) digits
-      → written base front' digits a < written base front digits f
+      → read_off base front' digits a < read_off base front digits f
   greater front front' [] less small = less
   greater front front' (digit ∷ digits) less small =
       let more : base * (front' + 1) ≤ base * front = mul-le-mul_left base (let le : front' + 1 ≤ front = omega (arith, less) in le) in
@@ -63,7 +146,7 @@ module _ (base : ℕ) (f a : Quality) where
   -- behind a common front the number with some digits is no greater for the first quality
   pub record NotAbove (digits : List (Quality → ℕ)) : Type 0 where
     pub front : ℕ
-    pub is : written base front digits f ≤ written base front digits a
+    pub is : read_off base front digits f ≤ read_off base front digits a
     pub small : AllByRecursion (λ digit. digit a < base) digits
 
   next : (digit : Quality → ℕ) (digits : List (Quality → ℕ)) → NotAbove (digit ∷ digits) → (digit f ≤ digit a) × (digit a ≡ digit f → NotAbove digits)
@@ -76,20 +159,20 @@ module _ (base : ℕ) (f a : Quality) where
     ],
     λ same. record {
       front = base * not.front + digit a;
-      is = subst (λ n. written base (base * not.front + n) digits f ≤ written base (base * not.front + digit a) digits a) (sym same) not.is;
+      is = subst (λ n. read_off base (base * not.front + n) digits f ≤ read_off base (base * not.front + digit a) digits a) (sym same) not.is;
       small = not.small.1;
     },
   )
 
   module _ (list : Quality → List ℕ) where
     -- down to a difference in whose number two lists differ
-    counts_next : (differences : List ℕ) (rest : List (Quality → ℕ)) → Falls differences → NotAbove (counts differences list ++ rest)
+    counts_next : (differences : List ℕ) (rest : List (Quality → ℕ)) → Falls differences → NotAbove (count_readers differences list ++ rest)
         → ((d : ℕ) → IsIn d differences → ((e : ℕ) → d < e → copies e (list f) ≡ copies e (list a)) → copies d (list f) ≤ copies d (list a))
         × (((e : ℕ) → copies e (list f) ≡ copies e (list a)) → NotAbove rest)
     counts_next [] rest falls not = (λ d m. absurd m, λ same. not)
     counts_next (x ∷ xs) rest falls not =
-        let one = next (λ q. count_by (λ by. by == x) (list q)) (counts xs list ++ rest) not in
-        let passed : copies x (list f) ≡ copies x (list a) → NotAbove (counts xs list ++ rest) = λ same.
+        let one = next (λ q. count_by (λ by. by == x) (list q)) (count_readers xs list ++ rest) not in
+        let passed : copies x (list f) ≡ copies x (list a) → NotAbove (count_readers xs list ++ rest) = λ same.
         one.1 (counted x (list a) ∙ sym same ∙ sym (counted x (list f))) in
         let here : copies x (list f) ≤ copies x (list a) = omega (arith, one.0, counted x (list f), counted x (list a)) in (
           λ d m above. elim m [
@@ -105,7 +188,7 @@ module _ (base : ℕ) (f a : Quality) where
         )
 
     list_next : (differences : List ℕ) (rest : List (Quality → ℕ)) → highest_first differences ≡ differences → IsAmong differences (list f) → Falls (list a)
-        → NotAbove (counts differences list ++ rest) → (is_lower (list a) (list f) ≡ false) × (list a ≡ list f → NotAbove rest)
+        → NotAbove (count_readers differences list ++ rest) → (is_lower (list a) (list f) ≡ false) × (list a ≡ list f → NotAbove rest)
     list_next differences rest falls among ordered not =
         let both = counts_next differences rest (in_order differences falls) not in (
           not_lower (list f) (list a) (in_order (list f) among.0) ordered
@@ -135,7 +218,7 @@ pub record IsOrdered (q : Quality) : Type 0 where
 
 module _ (scale : Scale) (falls : IsScale scale) (f a : Quality) (on : IsOn scale f) (ordered : IsOrdered a) where
   abbrev by : (Quality → List ℕ) → List (Quality → ℕ)
-  by list = counts scale.floats list
+  by list = count_readers scale.floats list
 
   differences_not : NotAbove scale.base f a (by (λ q. q.down_again_by) ++ (by (λ q. q.up_again_by) ++ (by (λ q. q.down_again_before_by) ++ by (λ q. q.up_again_before_by))))
       → is_lt (compared_by_differences a f) ≡ false
@@ -173,13 +256,23 @@ module _ (scale : Scale) (falls : IsScale scale) (f a : Quality) (on : IsOn scal
 
   -- C.6 to C.19: a quality that weighs no less, and has no better value of the next bracket, is not better
   pub not_lighter : HasDigits scale a → weight_of scale f ≤ weight_of scale a → HasNoBetter a (next_in f) → is_better a f ≡ false
-  unfolding weight_of
   not_lighter small heavy next_not =
-      let top = list_next scale.base f a (λ q. q.psd) scale.psd _ falls.psd on.psd ordered.psd (record { front = 0; is = heavy; small = small }) in
+      let top = list_next scale.base f a (λ q. q.psd) scale.psd _ falls.psd on.psd ordered.psd (record { front = 0; is = omega (arith, heavy, weight_read f scale, weight_read a scale); small = small_read a scale small }) in
       better_in_turn a f
       ∙ list_not a.psd f.psd _ top.0 (λ same.
       number_not f.next_pairs a.next_pairs _ next_not.0 (λ pairs.
       list_not a.next_psd f.next_psd _ (next_not.1 (sym pairs)) (λ _. colours_not (top.1 same))))
+
+  -- C.6: and one that weighs no less than all with the PSD of another is not better than that, whatever its value of the next bracket
+  pub behind_psd : HasDigits scale a → weight_of scale (above_psd scale f) ≤ weight_of scale a → is_better a f ≡ false
+  behind_psd small heavy =
+      let g : Quality = above_psd scale f in
+      let top = list_next scale.base g a (λ q. q.psd) scale.psd _ falls.psd on.psd ordered.psd
+      (record { front = 0; is = omega (arith, heavy, weight_read g scale, weight_read a scale); small = small_read a scale small }) in
+      better_in_turn a f
+      ∙ list_not a.psd f.psd _ top.0 (λ same.
+      let rest = top.1 same in
+      absurd (omega (arith, (next scale.base g a (λ q. q.wide_differences) _ rest).0, rest.small.0)))
 
 -- of two qualities with one value of the next bracket the better one is the one that weighs less
 module _ (scale : Scale) (falls : IsScale scale) where

@@ -23,26 +23,47 @@ pub record Scale : Type 0 where
   pub base : ℕ
 
 -- how often each of some differences stands in a list
-abbrev pub counts : List ℕ → (Quality → List ℕ) → List (Quality → ℕ)
-counts differences list = map (λ d quality. count_by (λ by. by == d) (list quality)) differences
+abbrev pub counts : List ℕ → List ℕ → List ℕ
+counts differences list = map (λ d. count_by (λ by. by == d) list) differences
 
 -- the digits of a quality, the first one counts most: C.6, C.8 to C.15, and C.16 to C.19
-abbrev pub digits : Scale → List (Quality → ℕ)
-digits scale =
-    counts scale.psd (λ q. q.psd)
-    ++ (λ q. q.wide_differences) ∷ (λ q. q.third_colours) ∷ (λ q. q.missed_preferences) ∷ (λ q. q.missed_strong)
-    ∷ (λ q. q.down_again) ∷ (λ q. q.up_again) ∷ (λ q. q.down_again_before) ∷ (λ q. q.up_again_before)
-    ∷ (counts scale.floats (λ q. q.down_again_by) ++ (counts scale.floats (λ q. q.up_again_by)
-    ++ (counts scale.floats (λ q. q.down_again_before_by) ++ counts scale.floats (λ q. q.up_again_before_by))))
+abbrev pub digits : Scale → Quality → List ℕ
+digits scale q =
+    counts scale.psd q.psd
+    ++ q.wide_differences ∷ q.third_colours ∷ q.missed_preferences ∷ q.missed_strong
+    ∷ q.down_again ∷ q.up_again ∷ q.down_again_before ∷ q.up_again_before
+    ∷ (counts scale.floats q.down_again_by ++ (counts scale.floats q.up_again_by
+    ++ (counts scale.floats q.down_again_before_by ++ counts scale.floats q.up_again_before_by)))
 
 -- a number with further digits behind it
-abbrev pub written : ℕ → ℕ → List (Quality → ℕ) → Quality → ℕ
-written base front [] quality = front
-written base front (digit ∷ digits) quality = written base (base * front + digit quality) digits quality
+abbrev pub written : ℕ → ℕ → List ℕ → ℕ
+written base front [] = front
+written base front (digit ∷ digits) = written base (base * front + digit) digits
 
 -- the number with the digits of a quality
 unfoldable pub weight_of : Scale → Quality → ℕ
-weight_of scale quality = written scale.base 0 (digits scale) quality
+weight_of scale quality = written scale.base 0 (digits scale quality)
+
+-- a quality that weighs more than any with the PSD of another and digits below the base, and no more than any with a higher PSD
+abbrev pub above_psd : Scale → Quality → Quality
+above_psd scale q =
+    record {
+      psd = q.psd;
+      next_pairs = 0;
+      next_psd = [];
+      wide_differences = scale.base;
+      third_colours = 0;
+      missed_preferences = 0;
+      missed_strong = 0;
+      down_again = 0;
+      up_again = 0;
+      down_again_before = 0;
+      up_again_before = 0;
+      down_again_by = [];
+      up_again_by = [];
+      down_again_before_by = [];
+      up_again_before_by = [];
+    }
 
 -- what a pair of numbers of a bracket weighs alone
 abbrev pub weight_of_pair : Facts → Reached → Scale → ℕ → ℕ → ℕ
@@ -94,4 +115,4 @@ pub record IsOn (scale : Scale) (quality : Quality) : Type 0 where
 
 -- each digit of a quality is less than the base
 abbrev pub HasDigits : Scale → Quality → Type 0
-HasDigits scale quality = AllByRecursion (λ digit. digit quality < scale.base) (digits scale)
+HasDigits scale quality = AllByRecursion (λ digit. digit < scale.base) (digits scale quality)

@@ -15,7 +15,7 @@ ghost use Rattle.dutch_pair.specs.Quality.{Quality, is_better};
 ghost use Rattle.dutch_pair.specs.QualityIn.{next_in};
 ghost use Rattle.dutch_pair.specs.Reached.{IsOf, Reached, frame_of};
 ghost use Rattle.dutch_pair.specs.Round.{candidates_of, quality_of};
-ghost use Rattle.dutch_pair.specs.Weights.{HasDigits, IsOn, IsScale, Scale, least_weight, number_pairs, numbers, weighing, weight_of};
+ghost use Rattle.dutch_pair.specs.Weights.{HasDigits, IsOn, IsScale, Scale, above_psd, least_weight, number_pairs, numbers, weighing, weight_of};
 ghost use Rattle.dual.specs.Matchings.{cost};
 
 /// C.6, C.8 to C.19: the weight of a candidate is the sum of what each of its pairs and each of its downfloaters weighs alone.
@@ -52,6 +52,15 @@ pub fn a_certificate_gives_floors()
         → IsScale scale → length reached.seats < scale.base → (f : Quality) → IsOn scale f
         → weight_of scale f ≤ least_weight facts reached scale certificate shape b → HasNoBetter (quality_of facts reached lower a) (next_in f)
         → is_better (quality_of facts reached lower a) f ≡ false }
+{}
+
+/// C.6: where the bound is above the PSD of a quality, no candidate with the beginning is better than it, whatever the next bracket can be.
+pub fn a_certificate_tells_of_the_psd()
+    ensures { (facts : Facts) (reached : Reached) (scale : Scale) (lower : List ℕ) (shape : Shape) (a : Arrangement) → IsOf facts reached
+        → Fits (frame_of facts reached) shape → IsIn a (candidates_of facts reached shape) → (b : Arrangement) → HasPairsOf b a
+        → (certificate : Certificate) → IsFeasible (weighing facts reached scale) (numbers reached) certificate
+        → IsScale scale → length reached.seats < scale.base → (f : Quality) → IsOn scale f
+        → weight_of scale (above_psd scale f) ≤ least_weight facts reached scale certificate shape b → is_better (quality_of facts reached lower a) f ≡ false }
 {}
 
 /// C.6 to C.19: the same behind a beginning that the search comes to, where the floor has the best that the next bracket is known to be.
