@@ -1,0 +1,2 @@
+-- What the contracts of the crate cite.
+pub mod Certificates

@@ -1,0 +1,109 @@
+// What is handed out of the labels. The number of vertices is the graph's: nothing need be known of the forest's own.
+ghost use Rattle.std.specs.Prelude.{◌≡◌, All, IfErr, IfOk, length, vec_len};
+ghost use Rattle.cheapest.specs.Certificates.{HasPlaces};
+ghost use Rattle.cheapest.specs.declared.fault.Fault.TheVariants.{Stopped};
+
+use crate::fault::Fault;
+use crate::forest::Forest;
+use crate::steps::{rest, sum};
+use std::alloc::{AllocError, Global};
+use wide::Wide;
+
+/// A set of vertices by a mark for each, and the price of each pair inside it.
+#[derive(Debug, Drop)]
+pub struct PricedSet {
+    pub marks: Vec<bool>,
+    pub price: Wide,
+}
+
+/// A potential for each vertex, what a pair and a vertex left over are given on top of their cost, and priced sets. All numbers are of
+/// costs that count twice.
+#[derive(Debug, Drop)]
+pub struct Certificate {
+    pub potentials: Vec<Wide>,
+    pub given: Wide,
+    pub given_left: Wide,
+    pub sets: Vec<PricedSet>,
+}
+
+impl Forest {
+    // Whether a vertex is in a blossom.
+    fn is_inside(&self, v: u16, blossom: u16) -> bool {
+        let mut node = v;
+        for _ in 0..self.nodes {
+            let Some(parent) = self.parent_of(node) else {
+                return false;
+            };
+            if parent == blossom {
+                return true;
+            }
+            node = parent;
+        }
+        false
+    }
+
+    // A mark for each vertex of a blossom.
+    fn marks_of(&self, alloc: Global, size: u16, blossom: u16) -> Result<Vec<bool>, AllocError>
+        ensures { IfOk result (λ marks. vec_len marks ≡ size) }
+    {
+        let mut marks = Vec::with_capacity(alloc, usize::from(size))?;
+        for v in 0..size {
+            marks.push(self.is_inside(v, blossom))?;
+        }
+        Ok(marks)
+    }
+
+    // The blossoms that have a price.
+    fn priced_sets(&self, alloc: Global, size: u16) -> Result<Vec<PricedSet>, AllocError>
+        ensures { IfOk result (λ sets. All (λ set. length set.marks.items ≡ size) sets.items) }
+    {
+        let mut sets = Vec::new(alloc);
+        for blossom in self.size..self.nodes {
+            let price = self.label(blossom);
+            if self.live.at(usize::from(blossom)) && !price.is_zero() {
+                let marks = self.marks_of(alloc, size, blossom)?;
+                sets.push(PricedSet { marks, price })?;
+            }
+        }
+        Ok(sets)
+    }
+
+    // The most by which the label of a vertex is above what it costs to leave it over.
+    fn most_above(&self) -> Wide {
+        let mut most = Wide::zero();
+        for v in 0..self.size {
+            let above = rest(self.label(v), self.gains.left.at(usize::from(v)));
+            if most.is_less(above) {
+                most = above;
+            }
+        }
+        most
+    }
+
+    // What each vertex could be left over for, less its label.
+    fn potentials(&self, alloc: Global, size: u16, given_left: Wide) -> Result<Vec<Wide>, Fault>
+        ensures places { IfOk result (λ potentials. vec_len potentials ≡ size) }
+        ensures going { IfErr result (λ fault. fault ≡ Stopped → ⊥) }
+    {
+        let mut potentials = Vec::with_capacity(alloc, usize::from(size))?;
+        for v in 0..size {
+            let most = sum(self.gains.left.at(usize::from(v)), given_left)?;
+            potentials.push(rest(most, self.label(v)))?;
+        }
+        Ok(potentials)
+    }
+
+    /// The certificate that the labels are. Potentials below 0 are had by giving more.
+    pub(crate) fn certificate(&self, alloc: Global, size: u16) -> Result<Certificate, Fault>
+        ensures places { IfOk result (HasPlaces size) }
+        ensures going { IfErr result (λ fault. fault ≡ Stopped → ⊥) }
+    {
+        let given_left = self.most_above();
+        Ok(Certificate {
+            potentials: self.potentials(alloc, size, given_left)?,
+            given: sum(given_left, given_left)?,
+            given_left,
+            sets: self.priced_sets(alloc, size)?,
+        })
+    }
+}

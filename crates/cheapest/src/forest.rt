@@ -1,0 +1,120 @@
+// Labels, who is paired so far, the blossoms, and the tree of the search that goes on.
+//
+// Nodes are the vertices, and behind them the blossoms: circles of an odd number of nodes, each with its base, the one vertex in it that
+// has no partner in it. A node that is in no blossom is outermost. Of a blossom only its base is kept right: who is paired with whom
+// inside it follows from its base, and is worked out when it is unfolded. When you change it, keep this: the label of a vertex counts
+// for all its pairs, that of a blossom for the pairs inside it; no pair's gain is above the labels that count for it, and pairs of the
+// matching have just as much.
+use crate::gains::Gains;
+use crate::places::Places;
+use std::alloc::{AllocError, Global};
+use wide::Wide;
+
+/// What the search that goes on knows of an outermost node.
+#[derive(Debug, Clone, Copy, PartialEq, Eq)]
+pub(crate) enum Mark {
+    /// Not reached.
+    Free,
+    /// Reached by ways of even length: its base could be left over.
+    Outer,
+    /// Reached by ways of odd length alone.
+    Inner,
+}
+
+/// The state of all searches, node by node.
+#[derive(Drop)]
+pub(crate) struct Forest {
+    pub(crate) size: u16,
+    pub(crate) nodes: u16,
+    pub(crate) gains: Gains,
+    pub(crate) labels: Places<Wide>,
+    pub(crate) partner: Places<Option<u16>>,
+    pub(crate) base: Places<Option<u16>>,
+    /// The outermost blossom that a vertex is in, if it is in one.
+    pub(crate) outer: Places<Option<u16>>,
+    /// The blossom that a node lies in, if it is not outermost.
+    pub(crate) parent: Places<Option<u16>>,
+    /// The pair of vertices that joins a node to the next one of its blossom's circle.
+    pub(crate) next: Places<Option<(u16, u16)>>,
+    /// The pair of vertices by which an inner node was reached.
+    pub(crate) reached: Places<Option<(u16, u16)>>,
+    /// The vertex of an outer node that is nearest to a vertex.
+    pub(crate) nearest: Places<Option<u16>>,
+    pub(crate) marks: Places<Mark>,
+    pub(crate) scanned: Places<bool>,
+    pub(crate) live: Places<bool>,
+    /// The nodes on the way from a vertex to the root, for the folding of a blossom.
+    pub(crate) on_way: Places<bool>,
+}
+
+impl Forest {
+    /// No vertex is paired or reached, and all labels are 0.
+    pub(crate) fn new(alloc: Global, gains: Gains, size: u16, nodes: u16) -> Result<Forest, AllocError> {
+        let count = usize::from(nodes);
+        Ok(Forest {
+            size,
+            nodes,
+            gains,
+            labels: Places::new(alloc, count, Wide::zero())?,
+            partner: Places::new(alloc, count, None)?,
+            base: Places::new(alloc, count, None)?,
+            outer: Places::new(alloc, count, None)?,
+            parent: Places::new(alloc, count, None)?,
+            next: Places::new(alloc, count, None)?,
+            reached: Places::new(alloc, count, None)?,
+            nearest: Places::new(alloc, count, None)?,
+            marks: Places::new(alloc, count, Mark::Free)?,
+            scanned: Places::new(alloc, count, false)?,
+            live: Places::new(alloc, count, false)?,
+            on_way: Places::new(alloc, count, false)?,
+        })
+    }
+
+    /// The outermost node that a vertex is in.
+    pub(crate) fn outer_of(&self, v: u16) -> u16 {
+        self.outer.at(usize::from(v)).unwrap_or(v)
+    }
+
+    /// The base of a node; a vertex is its own.
+    pub(crate) fn base_of(&self, node: u16) -> u16 {
+        self.base.at(usize::from(node)).unwrap_or(node)
+    }
+
+    pub(crate) fn partner_of(&self, v: u16) -> Option<u16> {
+        self.partner.at(usize::from(v))
+    }
+
+    pub(crate) fn parent_of(&self, node: u16) -> Option<u16> {
+        self.parent.at(usize::from(node))
+    }
+
+    pub(crate) fn label(&self, node: u16) -> Wide {
+        self.labels.at(usize::from(node))
+    }
+
+    /// The mark of the outermost node that a vertex is in.
+    pub(crate) fn mark_of(&self, v: u16) -> Mark {
+        self.marks.at(usize::from(self.outer_of(v)))
+    }
+
+    /// Marks an outermost node.
+    pub(crate) fn mark(&mut self, node: u16, mark: Mark) {
+        self.marks.put(usize::from(node), mark);
+    }
+
+    /// Whether a node is a blossom that lies in no other.
+    pub(crate) fn is_outermost_blossom(&self, node: u16) -> bool {
+        self.live.at(usize::from(node)) && self.parent_of(node).is_none()
+    }
+
+    /// Whether a vertex has no partner.
+    pub(crate) fn is_alone(&self, v: u16) -> bool {
+        self.base_of(self.outer_of(v)) == v && self.partner_of(v).is_none()
+    }
+
+    /// Pairs two vertices.
+    pub(crate) fn pair(&mut self, a: u16, b: u16) {
+        self.partner.put(usize::from(a), Some(b));
+        self.partner.put(usize::from(b), Some(a));
+    }
+}

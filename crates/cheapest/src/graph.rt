@@ -1,0 +1,27 @@
+// What is matched: vertices, which of them are joined, and what that costs.
+ghost use Rattle.std.specs.Prelude.{◌≡◌, ◌<◌, ℕ, Bool, is_some};
+
+use wide::Wide;
+
+/// Vertices from 0 on. Some of them are joined, at a cost, and each that is left over costs something too.
+pub trait Costs {
+    /// How many vertices there are.
+    ghost vertices: { Self → ℕ };
+
+    /// Whether two vertices are joined.
+    ghost joined: { Self → ℕ → ℕ → Bool };
+
+    /// How many vertices there are.
+    fn size(&self) -> u16
+        ensures { result ≡ vertices self.now };
+
+    /// What a pair of the vertices `a` and `b` costs; none if they are not joined.
+    fn cost(&self, a: u16, b: u16) -> Option<Wide>
+        requires first { a < vertices self.now }
+        requires second { b < vertices self.now }
+        ensures { is_some result ≡ joined self.now a b };
+
+    /// What it costs to leave a vertex over; none if it must not be, which is taken for more than any matching costs.
+    fn left_cost(&self, a: u16) -> Option<Wide>
+        requires { a < vertices self.now };
+}

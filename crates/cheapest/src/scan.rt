@@ -1,0 +1,113 @@
+// Which outer vertex is nearest to a vertex: by which pair the labels could come down least until they have just what the pair gains.
+ghost use Rattle.std.specs.Prelude.{◌≡◌, ◌≤◌, IfErr};
+ghost use Rattle.cheapest.specs.declared.fault.Fault.TheVariants.{Stopped, TooGreat};
+
+use crate::fault::Fault;
+use crate::forest::{Forest, Mark};
+use crate::steps::{rest, sum, take_step};
+use wide::Wide;
+
+impl Forest {
+    /// What the labels of two vertices that are in no common blossom have beyond the gain of the pair.
+    pub(crate) fn slack(&self, a: u16, b: u16) -> Result<Wide, Fault>
+        ensures { IfErr result (λ fault. fault ≡ TooGreat) }
+    {
+        let labels = sum(self.label(a), self.label(b))?;
+        Ok(rest(labels, self.gains.at(a, b)))
+    }
+
+    /// Whether two vertices gain something as a pair, and are in no common blossom.
+    fn can_be_joined(&self, a: u16, b: u16) -> bool {
+        self.outer_of(a) != self.outer_of(b) && !self.gains.at(a, b).is_zero()
+    }
+
+    /// Whether the vertex that was nearest to a vertex is in a common blossom with it by now.
+    fn is_stale(&self, v: u16, nearest: u16) -> bool {
+        self.outer_of(v) == self.outer_of(nearest)
+    }
+
+    /// Notes an outer vertex if it is nearer to a vertex than any before. What is stale stays so, until all are looked at anew.
+    fn consider(&mut self, u: u16, v: u16) -> Result<(), Fault>
+        ensures { IfErr result (λ fault. fault ≡ TooGreat) }
+    {
+        let is_nearer = match self.nearest.at(usize::from(v)) {
+            None => true,
+            Some(nearest) => {
+                !self.is_stale(v, nearest) && self.slack(u, v)?.is_less(self.slack(nearest, v)?)
+            }
+        };
+        if is_nearer {
+            self.nearest.put(usize::from(v), Some(u));
+        }
+        Ok(())
+    }
+
+    /// Looks at all neighbours of an outer vertex, with a step for each vertex asked about.
+    fn scan(&mut self, u: u16, left: &mut u64) -> Result<(), Fault>
+        ensures falls { left.new ≤ left.old }
+        ensures stopped { IfErr result (λ fault. fault ≡ Stopped → left.new ≡ 0) }
+    {
+        self.scanned.put(usize::from(u), true);
+        for v in 0..self.size {
+            take_step(left)?;
+            if self.can_be_joined(u, v) {
+                self.consider(u, v)?;
+            }
+        }
+        Ok(())
+    }
+
+    /// The first outer vertex whose neighbours are still to be looked at.
+    fn first_waiting(&self) -> Option<u16> {
+        for v in 0..self.size {
+            if !self.scanned.at(usize::from(v)) && self.mark_of(v) == Mark::Outer {
+                return Some(v);
+            }
+        }
+        None
+    }
+
+    /// Looks at the neighbours of all outer vertices.
+    pub(crate) fn scan_all(&mut self, left: &mut u64) -> Result<(), Fault>
+        ensures falls { left.new ≤ left.old }
+        ensures stopped { IfErr result (λ fault. fault ≡ Stopped → left.new ≡ 0) }
+    {
+        for _ in 0..self.size {
+            let Some(u) = self.first_waiting() else {
+                return Ok(());
+            };
+            self.scan(u, left)?;
+        }
+        Ok(())
+    }
+
+    /// Finds anew which outer vertex is nearest to an outer vertex, with a step for each vertex asked about.
+    fn look_anew(&mut self, v: u16, left: &mut u64) -> Result<(), Fault>
+        ensures falls { left.new ≤ left.old }
+        ensures stopped { IfErr result (λ fault. fault ≡ Stopped → left.new ≡ 0) }
+    {
+        self.nearest.put(usize::from(v), None);
+        for u in 0..self.size {
+            take_step(left)?;
+            if self.mark_of(u) == Mark::Outer && self.can_be_joined(u, v) {
+                self.consider(u, v)?;
+            }
+        }
+        Ok(())
+    }
+
+    /// Looks anew for each vertex whose nearest one is in a common blossom with it.
+    pub(crate) fn look_anew_at_all(&mut self, left: &mut u64) -> Result<(), Fault>
+        ensures falls { left.new ≤ left.old }
+        ensures stopped { IfErr result (λ fault. fault ≡ Stopped → left.new ≡ 0) }
+    {
+        for v in 0..self.size {
+            if let Some(nearest) = self.nearest.at(usize::from(v)) {
+                if self.is_stale(v, nearest) {
+                    self.look_anew(v, left)?;
+                }
+            }
+        }
+        Ok(())
+    }
+}

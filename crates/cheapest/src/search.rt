@@ -1,0 +1,123 @@
+// The searches: from each vertex that is alone and has a label beyond 0, one for a partner, or for another vertex that may be left over
+// in its place.
+ghost use Rattle.std.specs.Prelude.{◌≡◌, ◌≤◌, IfErr};
+ghost use Rattle.cheapest.specs.declared.fault.Fault.TheVariants.{Stopped};
+
+use crate::events::Deed;
+use crate::fault::Fault;
+use crate::forest::{Forest, Mark};
+
+impl Forest {
+    // Gives an outer vertex a partner, or none, and pairs all anew on the way from its node to the root.
+    fn pair_up_to_root(&mut self, vertex: u16, partner: Option<u16>) {
+        let (mut vertex, mut partner) = (vertex, partner);
+        for _ in 0..self.nodes {
+            let node = self.outer_of(vertex);
+            let left_over = self.partner_of(self.base_of(node));
+            self.base.put(usize::from(node), Some(vertex));
+            self.partner.put(usize::from(vertex), partner);
+            let Some(left_over) = left_over else {
+                return;
+            };
+            let inner = usize::from(self.outer_of(left_over));
+            let Some((from, at)) = self.reached.at(inner) else {
+                return;
+            };
+            self.base.put(inner, Some(at));
+            self.partner.put(usize::from(at), Some(from));
+            (vertex, partner) = (from, Some(at));
+        }
+    }
+
+    // Takes a node that was not reached into the tree, and the one that it is paired with as an outer one. If it is alone, the way ends
+    // there: true.
+    fn grow(&mut self, u: u16, v: u16) -> bool {
+        let node = self.outer_of(v);
+        if let Some(partner) = self.partner_of(self.base_of(node)) {
+            self.reach(node, (u, v));
+            self.mark(self.outer_of(partner), Mark::Outer);
+            return false;
+        }
+        self.base.put(usize::from(node), Some(v));
+        self.partner.put(usize::from(v), Some(u));
+        self.pair_up_to_root(u, Some(v));
+        true
+    }
+
+    // Takes the pair of an outer vertex and another one; whether the search is at its end.
+    fn join(&mut self, u: u16, v: u16) -> bool {
+        match self.mark_of(v) {
+            Mark::Free => self.grow(u, v),
+            Mark::Outer => {
+                self.fold(u, v);
+                false
+            }
+            Mark::Inner => false,
+        }
+    }
+
+    // Does what can be done; whether the search is at its end.
+    fn act(&mut self, deed: Deed) -> bool {
+        match deed {
+            Deed::Join(u, v) => self.join(u, v),
+            Deed::Expand(blossom) => {
+                self.expand(blossom);
+                false
+            }
+            Deed::Leave(v) => {
+                self.pair_up_to_root(v, None);
+                true
+            }
+        }
+    }
+
+    // Changes the labels until something can be done, and does it; whether the search is at its end.
+    fn go_on(&mut self, left: &mut u64) -> Result<bool, Fault>
+        ensures falls { left.new ≤ left.old }
+        ensures stopped { IfErr result (λ fault. fault ≡ Stopped → left.new ≡ 0) }
+    {
+        self.scan_all(left)?;
+        self.look_anew_at_all(left)?;
+        let Some(event) = self.first_event()? else {
+            return Ok(true);
+        };
+        self.adjust(event.by)?;
+        Ok(self.act(event.deed))
+    }
+
+    // Forgets the tree of the last search.
+    fn forget_tree(&mut self) {
+        self.marks.clear();
+        self.scanned.clear();
+        self.nearest.clear();
+        self.reached.clear();
+    }
+
+    // Searches from a vertex that is alone. Each node is grown, folded and expanded once at most.
+    fn settle(&mut self, root: u16, left: &mut u64) -> Result<(), Fault>
+        ensures falls { left.new ≤ left.old }
+        ensures stopped { IfErr result (λ fault. fault ≡ Stopped → left.new ≡ 0) }
+    {
+        self.forget_tree();
+        self.mark(self.outer_of(root), Mark::Outer);
+        for _ in 0..3 * u32::from(self.nodes) {
+            if self.go_on(left)? {
+                return Ok(());
+            }
+        }
+        Ok(())
+    }
+
+    /// Searches from each vertex that is alone and has a label beyond 0.
+    pub(crate) fn settle_all(&mut self, left: &mut u64) -> Result<(), Fault>
+        ensures falls { left.new ≤ left.old }
+        ensures stopped { IfErr result (λ fault. fault ≡ Stopped → left.new ≡ 0) }
+    {
+        for v in 0..self.size {
+            if self.is_alone(v) && !self.label(v).is_zero() {
+                self.settle(v, left)?;
+            }
+        }
+        Ok(())
+    }
+}

@@ -1,0 +1,96 @@
+// The first labels, and the first pairs: labels as low as one vertex after the other can have them, and pairs that gain just as much.
+ghost use Rattle.std.specs.Prelude.{◌≡◌, ◌≤◌, IfErr};
+ghost use Rattle.cheapest.specs.declared.fault.Fault.TheVariants.{Stopped};
+
+use crate::fault::Fault;
+use crate::forest::Forest;
+use crate::steps::{rest, take_step};
+use wide::Wide;
+
+// A vertex, and what the labels have beyond the gain of the pair with it.
+#[derive(Debug, Clone, Copy)]
+struct Neighbour {
+    vertex: u16,
+    slack: Wide,
+}
+
+impl Forest {
+    // Half of the most that a pair of a vertex gains.
+    fn first_label(&self, v: u16) -> Wide {
+        let mut most = Wide::zero();
+        for u in 0..self.size {
+            let half = self.gains.at(v, u).halved();
+            if most.is_less(half) {
+                most = half;
+            }
+        }
+        most
+    }
+
+    fn label_all(&mut self) {
+        for v in 0..self.size {
+            let label = self.first_label(v);
+            self.labels.put(usize::from(v), label);
+        }
+    }
+
+    // The nearer of two neighbours; of two that are equally near one that is alone.
+    fn nearer(&self, first: Option<Neighbour>, second: Neighbour) -> Neighbour {
+        let Some(first) = first else {
+            return second;
+        };
+        let is_free = self.is_alone(second.vertex) && !self.is_alone(first.vertex);
+        let is_as_near = !first.slack.is_less(second.slack);
+        if second.slack.is_less(first.slack) || (is_as_near && is_free) {
+            second
+        } else {
+            first
+        }
+    }
+
+    // The nearest neighbour of a vertex, with a step for each vertex asked about.
+    fn nearest_neighbour(&self, v: u16, left: &mut u64) -> Result<Option<Neighbour>, Fault>
+        ensures falls { left.new ≤ left.old }
+        ensures stopped { IfErr result (λ fault. fault ≡ Stopped → left.new ≡ 0) }
+    {
+        let mut nearest = None;
+        for vertex in 0..self.size {
+            take_step(left)?;
+            if !self.gains.at(v, vertex).is_zero() {
+                let slack = self.slack(v, vertex)?;
+                nearest = Some(self.nearer(nearest, Neighbour { vertex, slack }));
+            }
+        }
+        Ok(nearest)
+    }
+
+    // Lowers the label of a vertex as far as it can be, and pairs it if that leads to another one that is alone.
+    fn lower(&mut self, v: u16, left: &mut u64) -> Result<(), Fault>
+        ensures falls { left.new ≤ left.old }
+        ensures stopped { IfErr result (λ fault. fault ≡ Stopped → left.new ≡ 0) }
+    {
+        let label = self.label(v);
+        let Some(near) = self.nearest_neighbour(v, left)? else {
+            return Ok(());
+        };
+        self.labels.put(usize::from(v), rest(label, near.slack));
+        if !label.is_less(near.slack) && self.is_alone(near.vertex) {
+            self.pair(v, near.vertex);
+        }
+        Ok(())
+    }
+
+    /// Labels all vertices, and pairs those that are paired at once.
+    pub(crate) fn begin(&mut self, left: &mut u64) -> Result<(), Fault>
+        ensures falls { left.new ≤ left.old }
+        ensures stopped { IfErr result (λ fault. fault ≡ Stopped → left.new ≡ 0) }
+    {
+        self.label_all();
+        for v in 0..self.size {
+            if self.is_alone(v) {
+                self.lower(v, left)?;
+            }
+        }
+        Ok(())
+    }
+}
