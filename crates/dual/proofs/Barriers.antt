@@ -6,7 +6,7 @@ use Rattle.std.proofs.lemmas.Bool.{cases_Bool, cases_lt, eqb-true, eq-eqb}
 use Rattle.std.proofs.lemmas.List.Elements.{All-nil}
 use Rattle.std.proofs.lemmas.List.Folds.{list_any_at}
 use Rattle.std.proofs.lemmas.List.Sums.{sum_by-cons, sum_by-le-sum_by}
-use Rattle.dual.specs.Matchings.{Costs, IsMatching, Covers, MayBeLeftOut, Completable}
+use Rattle.dual.specs.Matchings.{Costs, IsMatching, MakeUp, Covers, MayBeLeftOut, Completable}
 use Rattle.dual.specs.Duals.{Priced, Certificate, toll, Bears, BearsLeft, IsFeasible, most_inside}
 use Rattle.dual.specs.Barriers.{Suits, IsBarrier, group_size, blockers, odd_groups, is_of_odd_group, served, IsTooNarrow}
 use Rattle.dual.proofs.Sums.{sum_plus, sum_none, sum_of_ones, one, one_itself, of_member, of_members, named, sum_named}
@@ -157,9 +157,10 @@ module _ (meets : ℕ → ℕ → Bool) (players : List ℕ) (label : ℕ → �
 
 -- ---- with some left over
 
-module _ (meets : ℕ → ℕ → Bool) (players : List ℕ) (label : ℕ → ℕ) (k : ℕ) (barrier : IsBarrier meets players label k) (pairs : List (ℕ × ℕ)) (out : List ℕ) (covers : Covers meets players pairs out) where
+module _ (meets : ℕ → ℕ → Bool) (players : List ℕ) (label : ℕ → ℕ) (k : ℕ) (barrier : IsBarrier meets players label k) (pairs : List (ℕ × ℕ)) (out : List ℕ)
+    (whole : MakeUp players pairs out) (met : All (λ pair. meets pair.0 pair.1 ≡ true) pairs) where
   parts : (w : ℕ → ℕ) → sum_by w (named pairs) + sum_by w out ≡ sum_by w players
-  parts w = omega (arith, sum_named w pairs, covers_whole meets w players pairs out covers)
+  parts w = omega (arith, sum_named w pairs, whole w)
 
   among : (x : ℕ) → 0 < sum_by (one x) (named pairs) → 0 < sum_by (one x) players
   among x some = omega (arith, some, parts (one x))
@@ -176,7 +177,7 @@ module _ (meets : ℕ → ℕ → Bool) (players : List ℕ) (label : ℕ → �
   paired_served : odd_groups (named pairs) label k ≤ blockers (named pairs) label
   paired_served =
       all_served meets (named pairs) label k paired pairs
-      (record { whole = λ w. omega (arith, sum_named w pairs); may_meet = covers_meet meets players pairs out covers; may_be_left = All-nil (λ v. true ≡ true) })
+      (record { whole = λ w. omega (arith, sum_named w pairs); may_meet = met; may_be_left = All-nil (λ v. true ≡ true) })
 
   -- those left over out of an odd group
   abbrev of_group : ℕ → ℕ → ℕ
@@ -238,8 +239,8 @@ module _ (meets : ℕ → ℕ → Bool) (players : List ℕ) (label : ℕ → �
   ]
 
   -- of each odd group somebody meets a blocker, or is left over
-  pub left_out : odd_groups players label k ≤ blockers players label + count_by (is_of_odd_group players label) out
-  left_out =
+  pub all_but_left : odd_groups players label k ≤ blockers players label + count_by (is_of_odd_group players label) out
+  all_but_left =
       omega (
         arith,
         paired_served,
@@ -247,6 +248,23 @@ module _ (meets : ℕ → ℕ → Bool) (players : List ℕ) (label : ℕ → �
         sum_by-le-sum_by (of_groups k) (λ v. one_if (is_of_odd_group players label v)) out at_most_once,
         parts (λ v. one_if (nat_eq (label v) 0)),
       )
+
+  -- so what is odd beyond the blockers is left over
+  pub left_over : odd_groups players label k - blockers players label ≤ length out
+  left_over =
+      omega (
+        arith,
+        all_but_left,
+        sum_by-le-sum_by (λ v. one_if (is_of_odd_group players label v)) (λ v. 1) out (λ v. one_if_small (is_of_odd_group players label v)),
+        sum_of_ones out,
+      )
+
+-- the same of pairs that cover players
+pub left_out : (meets : ℕ → ℕ → Bool) (players : List ℕ) (label : ℕ → ℕ) (k : ℕ) → IsBarrier meets players label k
+    → (pairs : List (ℕ × ℕ)) (out : List ℕ) → Covers meets players pairs out
+    → odd_groups players label k ≤ blockers players label + count_by (is_of_odd_group players label) out
+left_out meets players label k barrier pairs out covers =
+    all_but_left meets players label k barrier pairs out (λ w. covers_whole meets w players pairs out covers) (covers_meet meets players pairs out covers)
 
 -- ---- so players are not completable where more groups are odd than are served
 

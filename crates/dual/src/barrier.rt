@@ -1,8 +1,8 @@
 // A barrier as a table of labels by the players' numbers: whether it tells that no list of pairs completes.
-ghost use Rattle.std.specs.Prelude.{◌≡◌, ◌&&◌, ◌↔◌, ◌≤◌, All, IsTrue, length, slice_index};
+ghost use Rattle.std.specs.Prelude.{◌≡◌, ◌-◌, ◌&&◌, ◌↔◌, ◌≤◌, ℕ, List, true, All, IsTrue, length, slice_index};
 ghost use Rattle.std.specs.List.{list_any};
-ghost use Rattle.dual.specs.Matchings.{Completable};
-ghost use Rattle.dual.specs.Barriers.{Suits, IsBarrier, group_size, odd_groups, is_of_odd_group, IsTooNarrow};
+ghost use Rattle.dual.specs.Matchings.{MakeUp, Completable};
+ghost use Rattle.dual.specs.Barriers.{Suits, IsBarrier, group_size, blockers, odd_groups, is_of_odd_group, IsTooNarrow};
 
 use crate::rule::Rule;
 
@@ -96,4 +96,19 @@ pub fn tells_incompletable<R: Rule>(labels: &[u16], most: u16, rule: &R, players
     let spare = may_leave_odd(labels, rule, players);
     is_barrier(labels, most, rule, players)
         && group_size(labels, players, 0) + usize::from(spare) < odd_groups(labels, players, most)
+}
+
+/// How many players all pairs of players who may meet leave over at least, by a barrier: so many groups more are odd than there are blockers.
+/// Labels that are no barrier tell 0.
+pub fn least_left<R: Rule>(labels: &[u16], most: u16, rule: &R, players: &[u16]) -> usize
+    ensures sound { (pairs : List (ℕ × ℕ)) (out : List ℕ) → MakeUp players.now pairs out
+        → All (λ pair. (R.costs rule.now).meets pair.0 pair.1 ≡ true) pairs → result ≤ length out }
+    ensures whole { IsBarrier (R.costs rule.now).meets players.now (slice_index labels.now) most
+        → result ≡ odd_groups players.now (slice_index labels.now) most - blockers players.now (slice_index labels.now) }
+    ensures none { ¬ IsBarrier (R.costs rule.now).meets players.now (slice_index labels.now) most → result ≡ 0 }
+{
+    if !is_barrier(labels, most, rule, players) {
+        return 0;
+    }
+    odd_groups(labels, players, most).saturating_sub(group_size(labels, players, 0))
 }

@@ -3,7 +3,7 @@
 //!
 //! A `Table` holds a certificate: a potential for each player, and priced sets of players. `Table::bound` checks it and answers what every
 //! matching costs at least; no value is answered of a certificate that is not feasible. `tells_incompletable` checks a barrier (after
-//! Tutte and Berge), `tells_completable` a witness. Whoever finds them need not be trusted.
+//! Tutte and Berge), `least_left` says how many it leaves over, `tells_completable` checks a witness. Whoever finds them need not be trusted.
 //!
 //! Nothing here knows chess: a `Rule` of the caller says, by numbers, who may meet and who may be left over, and at what cost. Nothing takes
 //! memory. A check takes time with the square of the number of players, for a certificate times the number of its sets.
@@ -17,7 +17,7 @@ mod rule;
 mod table;
 mod witness;
 
-pub use barrier::tells_incompletable;
+pub use barrier::{least_left, tells_incompletable};
 pub use rule::Rule;
 pub use table::{MOST, MarkedSet, Table};
 pub use witness::tells_completable;

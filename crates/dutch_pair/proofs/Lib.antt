@@ -11,6 +11,9 @@ pub mod AllPaired
 pub mod RuledOutLemmas
 pub mod AllLemmas
 pub mod C04Takers
+pub mod JoinedPairs
+pub mod JoinedMates
+pub mod BoundedShapes
 pub mod C07WeakerRules
 pub mod C07PsdFloor
 pub mod C07Ghosts

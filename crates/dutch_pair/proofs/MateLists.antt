@@ -1,6 +1,6 @@
 -- Mates among the players of a bracket, of whom no two are moved down, are the pairs of an arrangement; its downfloaters are their
 -- own mates.
-use Rattle.std.proofs.Common.{◌≡◌, ℕ, ◌+◌, ◌-◌, ◌<◌, ◌≤◌, Bool, true, false, not, ◌==◌, ltb, cond, List, [], ◌∷◌, ◌++◌, map, length, refl, sym, ap, ◌∙◌, arith, subst, inl, inr}
+use Rattle.std.proofs.Common.{◌≡◌, ℕ, ◌+◌, ◌-◌, ◌<◌, ◌≤◌, Bool, true, false, not, ◌||◌, ◌==◌, ltb, cond, List, [], ◌∷◌, ◌++◌, map, length, refl, sym, ap, ◌∙◌, arith, subst, inl, inr}
 use Rattle.std.specs.List.{filter}
 use Rattle.std.proofs.lemmas.List.{length-map}
 use Rattle.std.proofs.lemmas.Bool.{cases_eq, cases_order, cases_lt, eq-eqb, ne_eqb, ltb-true, lt-ltb, not_from_false, not-true, and_from, true≢false, or_right}
@@ -235,3 +235,15 @@ module _ (frame : Frame) (mate : ℕ → ℕ) (within : frame.mdps ≤ length fr
 
     pub mates_candidate : has_member (candidates meets may_be_left frame mates_shape) ≡ true
     mates_candidate = has_kept (is_legal meets may_be_left frame) of_mates (arrangements frame mates_shape) mates_arranged legal_mates
+
+  -- where any number may be left over, mates who meet are enough
+  module _ (meets : ℕ → ℕ → Bool) (may_be_left : ℕ → Bool) (met' : (x : ℕ) → IsNumber frame x → (mate x ≡ x → ⊥) → meets x (mate x) ≡ true) (open' : frame.last ≡ false) where
+    open_legal : is_legal meets may_be_left frame of_mates ≡ true
+    open_legal =
+        and_from (all_meet meets s1 s2) _ (all_meet_mates meets mate s1 (λ x m. let h = in_s1 x m in met' x (low_number x h.0) h.1))
+        (and_from (all_meet meets s1r s2r) _
+        (all_meet_mates meets mate s1r (λ x m. let h = in_s1r x m in met' x (high_number x h.0) (λ e. let less : x < mate x = h.1 in omega (arith, e, less))))
+        (ap (λ t. not t || leaves_one may_be_left (down frame of_mates)) open'))
+
+    pub mates_open : has_member (candidates meets may_be_left frame mates_shape) ≡ true
+    mates_open = has_kept (is_legal meets may_be_left frame) of_mates (arrangements frame mates_shape) mates_arranged open_legal

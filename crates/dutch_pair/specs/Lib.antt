@@ -9,6 +9,7 @@ pub mod Completion
 pub mod CompletionSearch
 pub mod Seats
 pub mod Meetings
+pub mod Joins
 pub mod Stops
 pub mod Reached
 pub mod Context

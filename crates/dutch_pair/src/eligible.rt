@@ -45,7 +45,7 @@ fn fill_with_lower(reached: &Reached, numbers: &[u16], lower: &[u16], seats: &mu
 const FIRST_STEPS: u64 = 64;
 
 /// A budget of so many steps at most, of those that are left.
-fn at_most(steps: u64, budget: &Budget) -> Budget
+pub(crate) fn at_most(steps: u64, budget: &Budget) -> Budget
     requires within { budget.now.used ≤ budget.now.limit }
     ensures used { result.used ≡ budget.now.used }
     ensures within { result.used ≤ result.limit }

@@ -1,0 +1,135 @@
+// The players of a bracket as a graph, for whoever finds matchings (C.04.3 B.2, C.1 to C.3), and how many pairs a barrier allows.
+//
+// Vertices are the numbers of the bracket; the vertex 0 is the bye. The moved-down players come first, so whoever looks for partners vertex
+// by vertex pairs as many of them as can be.
+ghost use Rattle.std.specs.Prelude.{◌≡◌, true, false, nat_le};
+ghost use Rattle.dutch_pair.specs.Joins.{AreAtMost, are_apart, may_pair, takes_bye, joined, joins_of_all, joins_of_moved_down};
+ghost use Rattle.dutch_pair.specs.Reached.{IsOf};
+
+use crate::context::Context;
+use dual::least_left;
+use dutch_order::{Rule, numbered_from};
+use matching::{Found, Graph};
+use std::marker::Model;
+
+/// The players of a bracket, joined if a pair of an arrangement may have both.
+#[derive(Drop)]
+pub(crate) struct Joins<'a, 'b> {
+    context: &'b Context<'a>,
+    residents: bool,
+    bye: bool,
+}
+
+impl<'a, 'b> Model for Joins<'a, 'b> {
+    ghost use Rattle.dutch_pair.specs.Joins.{Joins};
+
+    ghost Value = { Joins };
+
+    ghost view = { λ j. record { facts = j.context.now.facts; reached = j.context.now.reached; residents = j.residents; bye = j.bye } };
+}
+
+/// Of two players at most one was moved down, and where residents are not joined to one another, one was.
+fn are_apart(residents: bool, first: bool, second: bool) -> bool
+    ensures { result ≡ are_apart residents first second }
+{
+    if first { !second } else { residents || second }
+}
+
+impl<'a, 'b> Joins<'a, 'b> {
+    /// All who may be in a pair. In a bracket of an odd number that ends the round the residents who may have the bye are joined to it.
+    pub(crate) fn of_all(context: &'b Context<'a>) -> Joins<'a, 'b>
+        ensures value { result ≡ joins_of_all context.now.facts context.now.reached }
+        ensures sound { IsOf context.now.facts context.now.reached }
+    {
+        let bye = context.reached().kind().ends_round() && context.len() % 2 == 1;
+        Joins {
+            context,
+            residents: true,
+            bye,
+        }
+    }
+
+    /// The moved-down players and the residents whom they may meet.
+    pub(crate) fn of_moved_down(context: &'b Context<'a>) -> Joins<'a, 'b>
+        ensures { result ≡ joins_of_moved_down context.now.facts context.now.reached }
+    {
+        Joins {
+            context,
+            residents: false,
+            bye: false,
+        }
+    }
+
+    fn is_moved_down(&self, a: u16) -> bool
+        ensures { result ≡ nat_le a self.now.reached.mdps }
+    {
+        usize::from(a) <= self.context.reached().mdps()
+    }
+
+    fn may_pair(&self, a: u16, b: u16) -> bool
+        ensures { result ≡ may_pair self.now a b }
+    {
+        self.context.rule().may_meet(a, b)
+            && are_apart(self.residents, self.is_moved_down(a), self.is_moved_down(b))
+    }
+
+    fn takes_bye(&self, a: u16) -> bool
+        ensures { result ≡ takes_bye self.now a }
+    {
+        self.bye && !self.is_moved_down(a) && self.context.rule().may_be_left(a)
+    }
+
+    /// The most pairs by the labels of a matching, if they are a barrier: who is left over for want of blockers is in none.
+    pub(crate) fn most_pairs(&self, found: &Found) -> usize
+        ensures { AreAtMost self.now result }
+    {
+        let count = self.context.len();
+        let numbers = numbered_from(1, count);
+        count.saturating_sub(least_left(&found.labels, found.most, self, &numbers)) / 2
+    }
+}
+
+impl<'a, 'b> Graph for Joins<'a, 'b> {
+    ghost use Rattle.dutch_pair.specs.Joins.{vertices, joined};
+
+    ghost vertices = { vertices };
+
+    ghost joined = { joined };
+
+    fn size(&self) -> u16 {
+        self.context.len() as u16 + 1
+    }
+
+    fn joins(&self, a: u16, b: u16) -> bool {
+        if a == 0 {
+            self.takes_bye(b)
+        } else if b == 0 {
+            self.takes_bye(a)
+        } else {
+            self.may_pair(a, b)
+        }
+    }
+}
+
+// (for a barrier only who may be in a pair counts)
+impl<'a, 'b> dual::Rule for Joins<'a, 'b> {
+    ghost use Rattle.dutch_pair.specs.Joins.{pairs_cost_nothing};
+
+    ghost costs = { pairs_cost_nothing };
+
+    fn may_meet(&self, a: u16, b: u16) -> bool {
+        self.may_pair(a, b)
+    }
+
+    fn weight(&self, _a: u16, _b: u16) -> u32 {
+        0
+    }
+
+    fn may_be_left(&self, _a: u16) -> bool {
+        true
+    }
+
+    fn left_cost(&self, _a: u16) -> u32 {
+        0
+    }
+}
