@@ -1,28 +1,30 @@
 -- A matching of a bracket's graph is the pairs of a candidate (C.04.3 B.2, C.1 to C.3); and the shape that such a candidate has, and that
 -- no candidate exceeds, is the bracket's (C.5, B.1).
-use Rattle.std.proofs.Common.{◌≡◌, ℕ, ◌+◌, ◌-◌, ◌≤◌, Bool, true, false, not, ◌||◌, ◌==◌, nat_le, ltb, cond, List, [], ◌∷◌, length, Option, Some, None, inl, inr, refl, sym, ap, ◌∙◌, subst, arith}
+use Rattle.std.proofs.Common.{◌≡◌, ℕ, ◌+◌, ◌-◌, ◌≤◌, ◌⊎◌, Bool, true, false, not, ◌||◌, ◌==◌, nat_le, ltb, cond, All, List, [], ◌∷◌, length, Option, Some, None, inl, inr, refl, sym, ap, ◌∙◌, subst, arith}
 use Rattle.std.specs.Prelude.{filter}
 use Rattle.std.specs.List.{slice_get}
 use Rattle.std.proofs.lemmas.Bool.{cases_eq, cases_lt, eq-eqb, ne_eqb, and_parts, le-leb}
 use Rattle.std.proofs.lemmas.List.{length-map}
+use Rattle.std.proofs.lemmas.List.Elements.{All-head, All-tail}
 use Rattle.std.proofs.lemmas.Option.{slice_get_within}
 use Rattle.matching.specs.Matchings.{Gives, IsPair, IsMatching}
 use Rattle.dutch_order.specs.declared.bracket.Shape.{Shape}
 use Rattle.dutch_order.specs.Choices.{numbers_from}
 use Rattle.dutch_order.specs.Forms.{IsMovedDown}
+use Rattle.dutch_order.specs.Keys.{IsIn}
+use Rattle.dutch_order.proofs.FoundPaths.{in-numbers}
 use Rattle.dutch_order.specs.Arrangements.{Arrangement, Frame, Fits, candidates}
 use Rattle.dutch_player.specs.Facts.{Facts}
 use Rattle.dutch_pair.specs.declared.reached.BracketKind.{BracketKind}
-use Rattle.dutch_pair.specs.declared.reached.BracketKind.TheVariants.{Ordinary}
 use Rattle.dutch_pair.specs.Reached.{Reached, IsOf, ends_round, frame_of, numbers_meet, number_may_be_left}
 use Rattle.dutch_pair.specs.Round.{candidates_of, eligible, is_penultimate, shape_of}
 use Rattle.dutch_pair.specs.Eligible.{can_be_chosen}
 use Rattle.dutch_pair.specs.Seated.{score_at}
 use Rattle.dutch_pair.specs.Shapes.{IsGreater, has_member}
-use Rattle.dutch_pair.specs.Joins.{Joins, IsMost, are_apart, joined, joins_of_all, mate_at, mate_of, matched_shape, may_pair, takes_bye, vertices}
+use Rattle.dutch_pair.specs.Joins.{AreMatched, Joins, IsMost, go_together, is_matched, is_matched_at, joined, joins_of_all, mate_at, mate_of, matched_shape, may_pair, takes_bye, vertices}
 use Rattle.dutch_pair.proofs.EligibleLemmas.{eligible_is}
 use Rattle.dutch_pair.proofs.JoinedPairs.{eligible_candidate}
-use Rattle.dutch_pair.proofs.MateLists.{IsNumber, NumberMates, mates_fit, mates_open, mates_shape}
+use Rattle.dutch_pair.proofs.MateLists.{IsNumber, NumberMates, mates_candidate, mates_fit, mates_open, mates_shape}
 use Rattle.dutch_pair.proofs.ShapeLaws.{has_one, has_room, none_has_one, none_is_greater}
 
 -- ---- mates by a list of partners
@@ -42,6 +44,18 @@ given_at (Some (Some b)) a ne =
 -- and whoever has a partner who is not the bye has them as mate
 mate_given : (partners : List (Option ℕ)) (a b : ℕ) → (b ≡ 0 → ⊥) → Gives partners a b → mate_of partners a ≡ b
 mate_given partners a b some given = ap (λ o. mate_at o a) given ∙ ap (λ t. cond t a b) (ne_eqb b 0 some)
+
+-- whoever is their own mate, with a partner, has the bye, or is their own partner
+partner_at : (o : Option (Option ℕ)) (a : ℕ) → is_matched_at o ≡ true → mate_at o a ≡ a → (b : ℕ) × (o ≡ Some (Some b)) × ((b ≡ 0) ⊎ (b ≡ a))
+partner_at None a has own = absurd (cc)
+partner_at (Some None) a has own = absurd (cc)
+partner_at (Some (Some b)) a has own =
+    (b, refl, elim (cases_eq b 0) [ inl none ↦ inl none | inr some ↦ inr (sym (ap (λ t. cond t a b) (ne_eqb b 0 some)) ∙ own) ])
+
+all_in : (P : ℕ → Type 0) (x : ℕ) (xs : List ℕ) → All P xs → IsIn x xs → P x
+all_in P x [] all m = absurd m
+all_in P x (y ∷ ys) all (inl same) = subst P (sym same) (All-head P y ys all)
+all_in P x (y ∷ ys) all (inr m) = all_in P x ys (All-tail P y ys all) m
 
 module _ (joins : Joins) (partners : List (Option ℕ)) (matching : IsMatching (vertices joins) (joined joins) partners) where
   abbrev reached : Reached
@@ -79,7 +93,7 @@ module _ (joins : Joins) (partners : List (Option ℕ)) (matching : IsMatching (
       ∙ ap (λ t. cond t (takes_bye joins (mate x)) (cond (mate x == 0) (takes_bye joins x) (may_pair joins x (mate x)))) (sym (ne_eqb x 0 pos))
       ∙ (pair_of x ne).joined_to
 
-  parts_apart : (residents one other : Bool) → are_apart residents one other ≡ true → one ≡ true → other ≡ true → ⊥
+  parts_apart : (residents one other : Bool) → go_together residents one other ≡ true → one ≡ true → other ≡ true → ⊥
   parts_apart residents true true apart e f = absurd (cc)
   parts_apart residents true false apart e f = absurd (cc)
   parts_apart residents false other apart e f = absurd (cc)
@@ -130,6 +144,42 @@ module _ (joins : Joins) (partners : List (Option ℕ)) (matching : IsMatching (
         ap (λ s. has_member (candidates (numbers_meet joins.facts reached) (number_may_be_left joins.facts reached) frame s)) (sym same_shape)
         ∙ mates_open frame mate inside mates (numbers_meet joins.facts reached) (number_may_be_left joins.facts reached) met open'
 
+    -- ---- where each number has a partner, or the bye
+
+    module _ (matched : AreMatched reached partners) where
+      has_partner : (x : ℕ) → IsNumber frame x → is_matched partners x ≡ true
+      has_partner x h =
+          all_in (λ a. is_matched partners a ≡ true) x (numbers_from 1 (length reached.seats)) matched
+          (in-numbers x 1 (length reached.seats) (omega (arith, h.0)) (omega (arith, h.1, count)))
+
+      -- who is their own mate has the bye
+      bye_of : (x : ℕ) → IsNumber frame x → mate x ≡ x → IsPair (joined joins) partners x 0
+      bye_of x h own =
+          let one = partner_at (slice_get partners x) x (has_partner x h) own in
+          elim one.2 [
+            | inl none ↦ matching.pairs x 0 (one.1 ∙ ap (λ b. Some (Some b)) none)
+            | inr same ↦ absurd ((matching.pairs x x (one.1 ∙ ap (λ b. Some (Some b)) same)).two refl)
+          ]
+
+      one_alone : (x y : ℕ) → IsNumber frame x → IsNumber frame y → mate x ≡ x → mate y ≡ y → x ≡ y
+      one_alone x y h g own own' =
+          let first : slice_get partners 0 ≡ Some (Some x) = (bye_of x h own).back in
+          let second : slice_get partners 0 ≡ Some (Some y) = (bye_of y g own').back in
+          let both : Some (Some x) ≡ Some (Some y) = sym first ∙ second in cc
+
+      may_alone : (x : ℕ) → IsNumber frame x → mate x ≡ x → number_may_be_left joins.facts reached x ≡ true
+      may_alone x h own =
+          let pos : x ≡ 0 → ⊥ = λ e. let some = h.0 in omega (arith, e, some) in
+          let takes : takes_bye joins x ≡ true =
+          ap (λ t. cond t (takes_bye joins 0) (takes_bye joins x)) (sym (ne_eqb x 0 pos)) ∙ (bye_of x h own).joined_to in
+          let inner = and_parts joins.bye _ takes in (and_parts (not (nat_le x reached.mdps)) (number_may_be_left joins.facts reached x) inner.1).1
+
+      pub matched_last : has_member (candidates_of joins.facts reached shape) ≡ true
+      unfolding candidates_of
+      matched_last =
+          ap (λ s. has_member (candidates (numbers_meet joins.facts reached) (number_may_be_left joins.facts reached) frame s)) (sym same_shape)
+          ∙ mates_candidate frame mate inside mates (numbers_meet joins.facts reached) (number_may_be_left joins.facts reached) met one_alone may_alone
+
 -- ---- the shape of a bracket
 
 no_penultimate : (kind : BracketKind) (complete : Bool) → is_penultimate kind ≡ false → (not (is_penultimate kind) || complete) ≡ true
@@ -164,13 +214,22 @@ module _ (facts : Facts) (reached : Reached) (lower : List ℕ) (t : Shape) (mos
   pub is_shape : shape_of facts reached lower ≡ Some t
   is_shape = is_at (shape_of facts reached lower) refl
 
--- an ordinary bracket has the shape of a matching that no candidate exceeds
-pub shape_matched : (facts : Facts) (reached : Reached) (lower : List ℕ) (partners : List (Option ℕ)) (most : Shape) → reached.kind ≡ Ordinary → IsOf facts reached
+ends_or_not : (kind : BracketKind) (b : Bool) → ends_round kind ≡ b → (ends_round kind ≡ true) ⊎ (ends_round kind ≡ false)
+ends_or_not kind true e = inl e
+ends_or_not kind false e = inr e
+
+-- a bracket that is not the penultimate one has the shape of a matching that no candidate exceeds
+pub shape_matched : (facts : Facts) (reached : Reached) (lower : List ℕ) (partners : List (Option ℕ)) (most : Shape) → is_penultimate reached.kind ≡ false → IsOf facts reached
+    → (ends_round reached.kind ≡ true → AreMatched reached partners)
     → IsMatching (vertices (joins_of_all facts reached)) (joined (joins_of_all facts reached)) partners → IsMost facts reached most
     → matched_shape reached partners ≡ most → shape_of facts reached lower ≡ Some (matched_shape reached partners)
-shape_matched facts reached lower partners most ordinary sound matching bound same =
+shape_matched facts reached lower partners most again sound last matching bound same =
     let within : reached.mdps ≤ length reached.seats = omega (arith, sound.sound.within, length-map reached.seats (score_at facts)) in
     let shape : Shape = matched_shape reached partners in
     let joins : Joins = joins_of_all facts reached in
+    let candidate : has_member (candidates_of facts reached shape) ≡ true = elim (ends_or_not reached.kind (ends_round reached.kind) refl) [
+      | inl ends ↦ matched_last joins partners matching within (last ends)
+      | inr goes_on ↦ matched_candidate joins partners matching within goes_on
+    ] in
     is_shape facts reached lower shape (subst (IsMost facts reached) (sym same) bound) (matched_fits joins partners matching within)
-    (candidate_eligible facts reached lower shape (ap is_penultimate ordinary) (matched_candidate joins partners matching within (ap ends_round ordinary)))
+    (candidate_eligible facts reached lower shape again candidate)

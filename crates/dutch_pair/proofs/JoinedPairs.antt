@@ -22,7 +22,7 @@ use Rattle.dutch_pair.specs.Round.{candidates_of, eligible}
 use Rattle.dutch_pair.specs.Eligible.{can_be_chosen}
 use Rattle.dutch_pair.specs.Seated.{score_at}
 use Rattle.dutch_pair.specs.Shapes.{has_member}
-use Rattle.dutch_pair.specs.Joins.{Joins, AreAtMost, IsMost, are_apart, may_pair}
+use Rattle.dutch_pair.specs.Joins.{Joins, AreAtMost, IsMost, go_together, may_pair}
 use Rattle.dutch_pair.proofs.ArrangementParts.{FourLists, lists_of, residents_whole, subset_whole, numbers_rise}
 use Rattle.dutch_pair.proofs.EligibleLemmas.{eligible_is}
 use Rattle.dutch_pair.proofs.LeastPsd.{in_filter}
@@ -150,12 +150,12 @@ module _ (facts : Facts) (reached : Reached) (shape : Shape) (a : Arrangement) (
     abbrev May : ℕ × ℕ → Type 0
     May pair = may_pair joins pair.0 pair.1 ≡ true
 
-    may_be : (x y : ℕ) (one other : Bool) → nat_le x reached.mdps ≡ one → nat_le y reached.mdps ≡ other → are_apart joins.residents one other ≡ true → meets x y ≡ true → May (x, y)
+    may_be : (x y : ℕ) (one other : Bool) → nat_le x reached.mdps ≡ one → nat_le y reached.mdps ≡ other → go_together joins.residents one other ≡ true → meets x y ≡ true → May (x, y)
     may_be x y one other first second apart met =
         and_from (numbers_meet joins.facts joins.reached x y) _
         (ap (λ (f : Facts). numbers_meet f joins.reached x y) of_facts ∙ ap (λ (r : Reached). numbers_meet facts r x y) of_reached ∙ met)
-        (ap (λ (r : Reached). are_apart joins.residents (nat_le x r.mdps) (nat_le y r.mdps)) of_reached
-        ∙ ap (λ (b : Bool). are_apart joins.residents b (nat_le y reached.mdps)) first ∙ ap (are_apart joins.residents one) second ∙ apart)
+        (ap (λ (r : Reached). go_together joins.residents (nat_le x r.mdps) (nat_le y r.mdps)) of_reached
+        ∙ ap (λ (b : Bool). go_together joins.residents b (nat_le y reached.mdps)) first ∙ ap (go_together joins.residents one) second ∙ apart)
 
     first_may : (rest : List (ℕ × ℕ)) → All May rest → All May (first_pairs ++ rest)
     first_may rest all =

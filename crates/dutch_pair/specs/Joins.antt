@@ -28,14 +28,14 @@ abbrev pub joins_of_moved_down : Facts → Reached → Joins
 joins_of_moved_down facts reached = record { facts = facts; reached = reached; residents = false; bye = false }
 
 -- of two players at most one was moved down, and where residents are not joined to one another, one was
-abbrev pub are_apart : Bool → Bool → Bool → Bool
-are_apart residents true second = not second
-are_apart residents false second = residents || second
+abbrev pub go_together : Bool → Bool → Bool → Bool
+go_together residents true second = not second
+go_together residents false second = residents || second
 
 -- two numbers of the bracket that may be in a pair
 abbrev pub may_pair : Joins → ℕ → ℕ → Bool
 may_pair joins a b =
-    numbers_meet joins.facts joins.reached a b && are_apart joins.residents (nat_le a joins.reached.mdps) (nat_le b joins.reached.mdps)
+    numbers_meet joins.facts joins.reached a b && go_together joins.residents (nat_le a joins.reached.mdps) (nat_le b joins.reached.mdps)
 
 -- a resident who may have the bye, where there is one
 abbrev pub takes_bye : Joins → ℕ → Bool
@@ -72,6 +72,19 @@ mate_at (Some (Some b)) a = if b == 0 then a else b
 
 abbrev pub mate_of : List (Option ℕ) → ℕ → ℕ
 mate_of partners a = mate_at (slice_get partners a) a
+
+-- a number has a partner, or the bye
+abbrev pub is_matched_at : Option (Option ℕ) → Bool
+is_matched_at None = false
+is_matched_at (Some None) = false
+is_matched_at (Some (Some b)) = true
+
+abbrev pub is_matched : List (Option ℕ) → ℕ → Bool
+is_matched partners a = is_matched_at (slice_get partners a)
+
+-- in a bracket that ends the round each number has a partner, or the bye
+abbrev pub AreMatched : Reached → List (Option ℕ) → Type 0
+AreMatched reached partners = All (λ a. is_matched partners a ≡ true) (numbers_from 1 (length reached.seats))
 
 abbrev pub has_mate : List (Option ℕ) → ℕ → Bool
 has_mate partners a = not (mate_of partners a == a)

@@ -3,7 +3,7 @@
 // Vertices are the numbers of the bracket; the vertex 0 is the bye. The moved-down players come first, so whoever looks for partners vertex
 // by vertex pairs as many of them as can be.
 ghost use Rattle.std.specs.Prelude.{◌≡◌, true, false, nat_le};
-ghost use Rattle.dutch_pair.specs.Joins.{AreAtMost, are_apart, may_pair, takes_bye, joined, joins_of_all, joins_of_moved_down};
+ghost use Rattle.dutch_pair.specs.Joins.{AreAtMost, go_together, may_pair, takes_bye, joined, joins_of_all, joins_of_moved_down};
 ghost use Rattle.dutch_pair.specs.Reached.{IsOf};
 
 use crate::context::Context;
@@ -29,8 +29,8 @@ impl<'a, 'b> Model for Joins<'a, 'b> {
 }
 
 /// Of two players at most one was moved down, and where residents are not joined to one another, one was.
-fn are_apart(residents: bool, first: bool, second: bool) -> bool
-    ensures { result ≡ are_apart residents first second }
+fn go_together(residents: bool, first: bool, second: bool) -> bool
+    ensures { result ≡ go_together residents first second }
 {
     if first { !second } else { residents || second }
 }
@@ -70,7 +70,7 @@ impl<'a, 'b> Joins<'a, 'b> {
         ensures { result ≡ may_pair self.now a b }
     {
         self.context.rule().may_meet(a, b)
-            && are_apart(self.residents, self.is_moved_down(a), self.is_moved_down(b))
+            && go_together(self.residents, self.is_moved_down(a), self.is_moved_down(b))
     }
 
     fn takes_bye(&self, a: u16) -> bool

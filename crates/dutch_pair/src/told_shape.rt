@@ -2,15 +2,15 @@
 // in pairs, and a matching that has as many of both is the pairs of a candidate.
 //
 // Whoever finds the matchings is not trusted: a barrier counts only if the check of it confirms it, and a matching is one by its contract.
-ghost use Rattle.std.specs.Prelude.{◌≡◌, ◌≤◌, Some, IfSome, length, filter};
+ghost use Rattle.std.specs.Prelude.{◌≡◌, ◌≤◌, ◌↔◌, Some, true, All, IfSome, IsTrue, length, filter};
 ghost use Rattle.dutch_order.specs.Steps.{MatchFound, Spends};
-ghost use Rattle.dutch_pair.specs.Joins.{IsMost, goes_first, has_mate, joined, joins_of_all, mate_of, matched_shape, vertices};
+ghost use Rattle.dutch_pair.specs.Joins.{AreMatched, IsMost, goes_first, has_mate, is_matched, joined, joins_of_all, mate_of, matched_shape, vertices};
+ghost use Rattle.dutch_pair.specs.Reached.{ends_round};
 ghost use Rattle.dutch_pair.specs.Round.{shape_of};
 ghost use Rattle.matching.specs.Matchings.{IsMatching};
 
 use crate::context::Context;
 use crate::joins::Joins;
-use crate::reached::BracketKind;
 use dutch_order::{Budget, Shape, Stopped, numbered_from};
 use matching::{Fault, Found, greatest};
 
@@ -73,14 +73,31 @@ fn most_of(context: &Context<'_>, all: &Found, moved_down: &Found) -> Shape
     }
 }
 
-/// The shape of an ordinary bracket, if it is that of a matching: it has as many pairs, and moved-down players in them, as may be.
-#[tactic(auto, using(crate::proofs::JoinedMates::shape_matched))]
+/// Whether each of some numbers has a partner, or the bye.
+fn are_matched(partners: &[Option<u16>], numbers: &[u16]) -> bool
+    ensures { IsTrue result ↔ All (λ a. is_matched partners.now a ≡ true) numbers.now }
+{
+    numbers
+        .iter()
+        .all(|a| matches!(partners.get(usize::from(*a)), Some(Some(_))))
+}
+
+/// Whether nobody is left over where nobody may be: in a bracket that ends the round each number has a partner, or the bye.
+fn leaves_nobody_there(context: &Context<'_>, partners: &[Option<u16>]) -> bool
+    ensures { IsTrue result → ends_round context.now.reached.kind ≡ true → AreMatched context.now.reached partners.now }
+{
+    !context.reached().kind().ends_round()
+        || are_matched(partners, &numbered_from(1, context.len()))
+}
+
+/// The shape of a bracket that is not the penultimate one, if it is that of a matching: it has as many pairs, and moved-down players in
+/// them, as may be, and in a bracket that ends the round it leaves over nobody but who has the bye.
 fn shape_by(context: &Context<'_>, found: &Found, most: Shape) -> Option<Shape>
     requires most { IsMost context.now.facts context.now.reached most }
     requires matching { IsMatching (vertices (joins_of_all context.now.facts context.now.reached)) (joined (joins_of_all context.now.facts context.now.reached)) found.now.partners.items }
     ensures { IfSome result (λ shape. shape_of context.now.facts context.now.reached context.now.lower ≡ Some shape) }
 {
-    if context.reached().kind() != BracketKind::Ordinary {
+    if context.reached().kind().is_penultimate() || !leaves_nobody_there(context, &found.partners) {
         return None;
     }
     let shape = matched_shape(context, &found.partners);

@@ -1,0 +1,20 @@
+-- The matching has the shape that no candidate exceeds, in a bracket whose candidates can all be chosen.
+use Rattle.std.proofs.Common.{rules, ◌≡◌, Some, true, false, ap, ◌∙◌}
+use Rattle.dutch_order.specs.declared.bracket.Shape.{Shape}
+use Rattle.dutch_pair.specs.Joins.{AreMatched, matched_shape}
+use Rattle.dutch_pair.specs.Reached.{ends_round}
+use Rattle.dutch_pair.specs.Round.{is_penultimate}
+use Rattle.dutch_pair.proofs.JoinedMates.{shape_matched}
+use Rattle.dutch_pair.proofs.told_shape.shape_by.Goals as goal
+
+pub returns : goal.returns
+returns c =
+    let facts = c.args.context.now.facts in
+    let reached = c.args.context.now.reached in
+    let partners = c.args.found.now.partners.items in
+    let again : is_penultimate reached.kind ≡ false = search rules in
+    let last : ends_round reached.kind ≡ true → AreMatched reached partners = search rules in
+    let same : matched_shape reached partners ≡ c.args.most = search rules in
+    let shape : matched_shape reached partners ≡ c.matched_shape-shape.result = search rules in
+    shape_matched facts reached c.args.context.now.lower partners c.args.most again c.reached.ensures.sound last c.requires.matching c.requires.most same
+    ∙ ap (λ (s : Shape). Some s) shape
