@@ -7,6 +7,8 @@ mod barred;
 #[cfg(test)]
 mod candidates_tests;
 #[cfg(test)]
+mod cheapest_tests;
+#[cfg(test)]
 mod cursor_tests;
 #[cfg(test)]
 mod device_tests;
