@@ -49,7 +49,12 @@ pub(crate) struct Forest {
 
 impl Forest {
     /// No vertex is paired or reached, and all labels are 0.
-    pub(crate) fn new(alloc: Global, gains: Gains, size: u16, nodes: u16) -> Result<Forest, AllocError> {
+    pub(crate) fn new(
+        alloc: Global,
+        gains: Gains,
+        size: u16,
+        nodes: u16,
+    ) -> Result<Forest, AllocError> {
         let count = usize::from(nodes);
         Ok(Forest {
             size,

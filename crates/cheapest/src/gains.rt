@@ -22,13 +22,7 @@ pub(crate) struct Gains {
 // The greater number.
 fn greater(a: Wide, b: Option<Wide>) -> Wide {
     match b {
-        Some(b) => {
-            if a.is_less(b) {
-                b
-            } else {
-                a
-            }
-        }
+        Some(b) => { if a.is_less(b) { b } else { a } }
         None => a,
     }
 }

@@ -111,7 +111,10 @@ fn potential(found: &Found, v: usize) -> Wide {
 
 // What a pair can bear: its cost, counted twice, what it is given, and the prices of the sets that hold both.
 fn bears(found: &Found, a: usize, b: usize, cost: u64) -> Wide {
-    let mut most = sum(Wide::from_u64(cost.saturating_mul(2)), found.certificate.given);
+    let mut most = sum(
+        Wide::from_u64(cost.saturating_mul(2)),
+        found.certificate.given,
+    );
     for set in &found.certificate.sets {
         if set.marks.get(a) == Some(&true) && set.marks.get(b) == Some(&true) {
             most = sum(most, set.price);
@@ -135,8 +138,8 @@ fn is_borne_alone(graph: &Graph, found: &Found, a: usize) -> bool {
 }
 
 fn is_feasible(graph: &Graph, found: &Found) -> bool {
-    (0..usize::from(graph.size))
-        .all(|a| is_borne_alone(graph, found, a) && is_borne_by_pairs(graph, found, a))
+    (0..usize::from(graph.size)).all(|a| is_borne_alone(graph, found, a)
+        && is_borne_by_pairs(graph, found, a))
 }
 
 // What a matching costs, counted twice, with all that is given, and with what the sets cost at most.
@@ -197,7 +200,8 @@ fn sets_of(alloc: Global, graph: &Graph) -> Result<Option<usize>, Fail> {
     let found = found_of(alloc, graph)?;
     let least = least(alloc, graph)?;
     let is_cheapest = cost_of(graph, &found) == least;
-    let is_right = is_feasible(graph, &found) && (least >= MOST || (is_cheapest && is_tight(graph, &found)));
+    let is_right = is_feasible(graph, &found)
+        && (least >= MOST || (is_cheapest && is_tight(graph, &found)));
     Ok(is_right.then_some(found.certificate.sets.len()))
 }
 
