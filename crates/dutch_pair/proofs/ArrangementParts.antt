@@ -39,7 +39,7 @@ tuple_members P pool (suc k) t all m =
     subst (AllByRecursion P) (sym from.1)
     (member_has P pool all first.0 first.1, tuple_members P (without first.0 pool) k from.0 (all_filter P (λ y. not (eqb y first.0)) pool all) from.2)
 
-subset_members : (P : ℕ → Type 0) (pool : List ℕ) (k : ℕ) (set : List ℕ) → AllByRecursion P pool → IsIn set (subsets pool k) → AllByRecursion P set
+pub subset_members : (P : ℕ → Type 0) (pool : List ℕ) (k : ℕ) (set : List ℕ) → AllByRecursion P pool → IsIn set (subsets pool k) → AllByRecursion P set
 subset_members P pool zero set all (inl same) = subst (AllByRecursion P) (sym same) tt
 subset_members P pool zero set all (inr none) = absurd none
 subset_members P [] (suc k) set all m = absurd m

@@ -39,7 +39,7 @@ use Rattle.dutch_pair.proofs.LegalPairs.{in_passes, legal_of}
 use Rattle.dutch_pair.proofs.Totals.{total}
 use Rattle.dutch_pair.proofs.WrittenNumbers.{behind_psd, not_lighter}
 
-total_sum : (w : ℕ → ℕ) (xs : List ℕ) → total w xs ≡ sum_by w xs
+pub total_sum : (w : ℕ → ℕ) (xs : List ℕ) → total w xs ≡ sum_by w xs
 total_sum w [] = refl
 total_sum w (x ∷ xs) = omega (arith, sum_by-cons w x xs, total_sum w xs)
 
@@ -143,7 +143,7 @@ module _ (facts : Facts) (reached : Reached) (scale : Scale) (lower : List ℕ) 
         may_be_left = each (λ v. (not (ends_round reached.kind) || number_may_be_left facts reached v) ≡ true) (down (frame_of facts reached) a) left_legal;
       }
 
-  left_over : length (down (frame_of facts reached) a) ≡ length reached.seats - 2 * shape.pairs
+  pub left_over : length (down (frame_of facts reached) a) ≡ length reached.seats - 2 * shape.pairs
   left_over =
       omega (arith, down_count (frame_of facts reached) shape a of'.sound.within fits.within_pairs (legal_of facts reached shape a m).arranged, among)
 
@@ -158,7 +158,7 @@ module _ (facts : Facts) (reached : Reached) (scale : Scale) (lower : List ℕ) 
   numbers_counted : length (numbers reached) ≡ length reached.seats
   numbers_counted = length-numbers 1 (length reached.seats)
 
-  digits_are_small : length reached.seats < scale.base → HasDigits scale (quality_of facts reached lower a)
+  pub digits_are_small : length reached.seats < scale.base → HasDigits scale (quality_of facts reached lower a)
   digits_are_small high =
       candidate_digits facts reached scale lower a (omega (
         arith,

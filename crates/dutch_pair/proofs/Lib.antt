@@ -1,3 +1,4 @@
+pub mod WeightsBehind
 pub mod CandidateMatchings
 pub mod WrittenNumbers
 pub mod C06ToC19Weights

@@ -48,3 +48,4 @@ pub mod RuledOut
 pub mod KnownBeside
 pub mod Barriers
 pub mod Weights
+pub mod WeightFloors

@@ -125,7 +125,12 @@ fn best_near<'a>(
     lister.listing.restart(pass.shape);
     let mut kept = None;
     loop {
-        let skipper = Skipper { pass, kept: &kept };
+        let skipper = Skipper {
+            pass,
+            kept: &kept,
+            aim_bar: pass.aim_bar(),
+            kept_bar: pass.kept_bar(&kept),
+        };
         match lister
             .listing
             .put_next_within(&skipper, &mut judge.room, &mut lister.drawn, budget)
@@ -228,6 +233,7 @@ pub(crate) fn best_of<'a>(
         wish,
         aim: floors.aim(known),
         floors,
+        weights: None,
     };
     match best_in_passes(&mut pass, &mut judge, budget) {
         Ok(Some(best)) => Ok(Step::Found(best)),

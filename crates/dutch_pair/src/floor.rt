@@ -3,13 +3,14 @@
 ghost use Rattle.std.specs.Prelude.{◌≡◌, ◌<◌, ◌≤◌, ◌||◌, ◌&&◌, IfSome, true, length};
 ghost use Rattle.dutch_order.specs.Arrangements.{Fits};
 ghost use Rattle.dutch_order.specs.declared.numbers.TheConstants.{LIMIT};
-ghost use Rattle.dutch_pair.specs.QualityIn.{quality_in};
+ghost use Rattle.dutch_pair.specs.QualityIn.{next_in, quality_in};
 ghost use Rattle.dutch_pair.specs.Beginnings.{fixed};
 ghost use Rattle.dutch_pair.specs.PsdFloors.{psd_with};
 ghost use Rattle.dutch_pair.specs.Reached.{IsOf, frame_of};
 ghost use Rattle.dutch_pair.specs.Seated.{all_pairs, AllNumbers, HasSeats};
 ghost use Rattle.dutch_pair.specs.Outlooks.{awaited};
-ghost use Rattle.dutch_pair.specs.FloorOf.{HasNumbers, is_flat, is_uniform, is_known, has_s1, residents_score, psd_over, more_by, more_in, floor_by, floor_by_seats, floor_knowing, floor_of};
+ghost use Rattle.dutch_pair.specs.WeightFloors.{IsNoBetter};
+ghost use Rattle.dutch_pair.specs.FloorOf.{HasNumbers, fixed_lists, is_flat, is_uniform, is_known, has_s1, residents_score, psd_over, more_by, more_in, floor_by, floor_by_seats, floor_knowing, floor_of};
 ghost use Rattle.dutch_pair.specs.Floors.{floor_over};
 ghost use Rattle.dutch_pair.specs.KnownBeside.{AreKnown, known_by};
 
@@ -142,6 +143,18 @@ impl<'a> Floors<'a> {
     {
         self.outlook
             .awaited(self.pairs.context(), self.shape(), filling, s1)
+    }
+
+    /// Whether the next bracket is never better behind a beginning than a quality says, as far as that is known (C.7).
+    pub(crate) fn has_no_better_next(&self, prefix: &Prefix<'_>, quality: &Quality) -> bool
+        ensures { result ≡ true → ((has_s1 prefix.now.filling || is_uniform self.now.facts self.now.reached self.now.shape) ≡ true)
+            × IsNoBetter (awaited self.now.facts self.now.reached self.now.shape self.now.outlook prefix.now.filling (fixed_lists prefix.now).s1)
+            (next_in (quality_in quality.now)) }
+    {
+        let filling = prefix.filling();
+        let begun = fixed_lists(prefix);
+        (has_s1(filling) || self.uniform)
+            && self.awaited(filling, begun.s1).is_no_better_than(quality)
     }
 
     /// How many more miss than in the pairs that are fixed (C.10).

@@ -65,6 +65,7 @@ mod stage;
 mod takers;
 mod told_shape;
 mod walk;
+mod weight_floor;
 mod weight_laws;
 mod wish;
 pub mod wish_laws;

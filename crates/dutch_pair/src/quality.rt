@@ -1,5 +1,5 @@
 // The quality of a candidate, by which candidates of one shape are compared (C.04.3 C.6 to C.19), specified item by item.
-ghost use Rattle.std.specs.Prelude.{◌≡◌, ◌≤◌, length};
+ghost use Rattle.std.specs.Prelude.{◌≡◌, ◌≤◌, true, length};
 ghost use Rattle.dutch_pair.specs.Seated.{by_seats, AreSeats, HasSeats, IsCandidate};
 ghost use Rattle.dutch_pair.specs.Quality.{quality_with, is_better};
 ghost use Rattle.dutch_pair.specs.NextBracket.{no_value};
@@ -51,6 +51,20 @@ impl NextValue {
             pairs: self.pairs,
             psd,
         }
+    }
+}
+
+impl NextValue {
+    ghost use Rattle.dutch_pair.specs.WeightFloors.{IsNoBetter};
+
+    /// Whether it is not better than what a quality says of the next bracket. A no says nothing.
+    pub(crate) fn is_no_better_than(&self, quality: &Quality) -> bool
+        ensures { result ≡ true → IsNoBetter self.now (next_in (quality_in quality.now)) }
+    {
+        if self.pairs != quality.next_pairs() {
+            return self.pairs < quality.next_pairs();
+        }
+        !self.psd.as_slice().cmp(quality.next_psd()).is_lt()
     }
 }
 

@@ -4,16 +4,20 @@
 // the candidate that is kept. The first is true of each candidate with a beginning that rules the wish out. The others are true of each
 // candidate with a beginning if they are true of its floor, a quality that none of these candidates is better than. With a wish, a floor is
 // enough that holds only for those that grant it: it counts the pair that is wished, or the one who is to go down, from the first question on.
-ghost use Rattle.std.specs.Prelude.{◌≡◌, ◌⊎◌, IfSome, true, false};
+ghost use Rattle.std.specs.Prelude.{◌≡◌, ◌⊎◌, IfSome, Some, not, true, false};
+ghost use Rattle.std.specs.Option.{ForSome};
 ghost use Rattle.dutch_order.specs.Arrangements.{Arrangement, Fits};
 ghost use Rattle.dutch_order.specs.Keys.{IsIn};
 ghost use Rattle.dutch_order.specs.Prefixes.{Begins};
 ghost use Rattle.dutch_pair.specs.Reached.{frame_of};
 ghost use Rattle.dutch_pair.specs.FloorOf.{IsBasis};
 ghost use Rattle.dutch_pair.specs.Quality.{is_better};
-ghost use Rattle.dutch_pair.specs.QualityIn.{quality_in};
+ghost use Rattle.dutch_pair.specs.QualityIn.{next_in, quality_in};
+ghost use Rattle.dutch_pair.specs.Kept.{wins};
+ghost use Rattle.dutch_pair.specs.Outlooks.{HasNoBetter};
+ghost use Rattle.dutch_pair.specs.WeightFloors.{AreOf, HasBar, IsLeast, kept_in};
 ghost use Rattle.dutch_pair.specs.Round.{candidates_of, quality_of};
-ghost use Rattle.dutch_pair.specs.Aims.{aim_in, is_dull, is_idle};
+ghost use Rattle.dutch_pair.specs.Aims.{aim_in, beats, is_dull, is_idle};
 ghost use Rattle.dutch_pair.specs.KnownBeside.{AreKnown, Holds, turned};
 ghost use Rattle.dutch_pair.specs.Wishes.{grants, is_wished};
 ghost use Rattle.dutch_pair.specs.declared.wish.Wish.TheVariants.{Over};
@@ -23,8 +27,10 @@ use crate::context::Context;
 use crate::floor::Floors;
 use crate::known::Known;
 use crate::quality::{Quality, Room};
+use crate::weight_floor::{Bar, WeightFloors};
 use crate::wish::Wish;
 use dutch_order::{Bound, Prefix, Shape};
+use wide::Wide;
 
 /// One pass over the candidates of a shape, in a bracket above all lower seats by rank. With an aim it seeks those alone that the aim
 /// is not better than, and with a wish those alone that grant it.
@@ -35,8 +41,10 @@ pub(crate) struct Pass<'a> {
     pub(crate) wish: Option<Wish>,
     pub(crate) aim: Option<Quality>,
     pub(crate) floors: Floors<'a>,
+    pub(crate) weights: Option<WeightFloors<'a>>,
     ghost fits: { Fits (frame_of context.now.facts context.now.reached) shape },
     ghost basis: { IsBasis context.now.facts context.now.reached context.now.lower shape floors },
+    ghost weighed: { ForSome weights (AreOf context.now.facts context.now.reached shape) },
 }
 
 /// Fills a quality that no candidate with a beginning is better than. No says that none is known.
@@ -153,11 +161,57 @@ pub(crate) fn known_with(context: &Context<'_>, wish: Option<Wish>) -> Option<Kn
     }
 }
 
+/// Whether no candidate with a beginning has a better value of the next bracket than a quality says (C.7). A no says nothing.
+fn has_no_better_next(pass: &Pass<'_>, prefix: &Prefix<'_>, quality: &Quality) -> bool
+    ensures { result ≡ true → (a : Arrangement) → IsIn a (candidates_of pass.now.context.now.facts pass.now.context.now.reached pass.now.shape) → Begins prefix.now a
+        → HasNoBetter (quality_of pass.now.context.now.facts pass.now.context.now.reached pass.now.context.now.lower a) (next_in (quality_in quality.now)) }
+{
+    let _reached = pass.context.reached();
+    pass.floors.has_no_better_next(prefix, quality)
+}
+
+/// The bar of a quality on the scale of floors, if both are there.
+fn bar_of(weights: &Option<WeightFloors<'_>>, quality: &Quality) -> Option<Bar>
+    ensures { HasBar weights.now (Some (quality_in quality.now)) result }
+{
+    match weights {
+        Some(weights) => return weights.bar(quality),
+        None => return None,
+    }
+}
+
+impl<'a> Pass<'a> {
+    /// The bar of the aim.
+    pub(crate) fn aim_bar(&self) -> Option<Bar>
+        ensures { HasBar self.now.weights (aim_in self.now.aim) result }
+    {
+        match &self.aim {
+            Some(aim) => return bar_of(&self.weights, aim),
+            None => return None,
+        }
+    }
+
+    /// The bar of the candidate that is kept.
+    pub(crate) fn kept_bar(&self, kept: &Option<Best>) -> Option<Bar>
+        ensures { HasBar self.now.weights (kept_in kept.now) result }
+    {
+        match kept {
+            Some(best) => return bar_of(&self.weights, &best.quality),
+            None => return None,
+        }
+    }
+}
+
 /// Tells which beginnings a pass may skip, beside the candidate that it keeps.
 #[derive(Drop)]
 pub(crate) struct Skipper<'a, 'k> {
     pub(crate) pass: &'a Pass<'a>,
     pub(crate) kept: &'k Option<Best>,
+    /// The bars of the aim and of the candidate that is kept.
+    pub(crate) aim_bar: Option<Bar>,
+    pub(crate) kept_bar: Option<Bar>,
+    ghost aim: { ∥ HasBar pass.now.weights (aim_in pass.now.aim) aim_bar ∥₁ },
+    ghost best: { ∥ HasBar pass.now.weights (kept_in kept.now) kept_bar ∥₁ },
 }
 
 impl<'a, 'k> Skipper<'a, 'k> {
@@ -188,6 +242,54 @@ impl<'a, 'k> Skipper<'a, 'k> {
             return false;
         }
         is_idle(&room.quality, &self.pass.aim, self.kept)
+    }
+
+    /// Whether the aim is better than all candidates with a beginning, where they weigh so much at least.
+    fn is_behind_aim(&self, prefix: &Prefix<'_>, least: Wide) -> bool
+        requires { ForSome self.now.pass.now.weights (λ w. IsLeast w prefix.now least) }
+        ensures { result ≡ true → (a : Arrangement) → IsIn a (candidates_of self.now.pass.now.context.now.facts self.now.pass.now.context.now.reached self.now.pass.now.shape)
+            → Begins prefix.now a → beats (aim_in self.now.pass.now.aim)
+            (quality_of self.now.pass.now.context.now.facts self.now.pass.now.context.now.reached self.now.pass.now.context.now.lower a) ≡ true }
+    {
+        let Some(bar) = &self.aim_bar else {
+            return false;
+        };
+        let Some(aim) = &self.pass.aim else {
+            return false;
+        };
+        bar.is_passed(least) && (bar.is_above(least) || has_no_better_next(self.pass, prefix, aim))
+    }
+
+    /// Whether no candidate with a beginning is better than the one that is kept, where they weigh so much at least.
+    fn is_behind_kept(&self, prefix: &Prefix<'_>, least: Wide) -> bool
+        requires { ForSome self.now.pass.now.weights (λ w. IsLeast w prefix.now least) }
+        ensures { result ≡ true → (a : Arrangement) → IsIn a (candidates_of self.now.pass.now.context.now.facts self.now.pass.now.context.now.reached self.now.pass.now.shape)
+            → Begins prefix.now a → not (wins
+            (quality_of self.now.pass.now.context.now.facts self.now.pass.now.context.now.reached self.now.pass.now.context.now.lower a) self.now.kept.now) ≡ true }
+    {
+        let Some(bar) = &self.kept_bar else {
+            return false;
+        };
+        let Some(best) = self.kept else {
+            return false;
+        };
+        bar.is_above(least)
+            || (bar.is_reached(least) && has_no_better_next(self.pass, prefix, &best.quality))
+    }
+
+    /// Whether no candidate with a beginning is of interest by what all of them weigh at least.
+    fn is_idle_by_weight(&self, prefix: &Prefix<'_>) -> bool
+        ensures { result ≡ true → (a : Arrangement) → IsIn a (candidates_of self.now.pass.now.context.now.facts self.now.pass.now.context.now.reached self.now.pass.now.shape)
+            → Begins prefix.now a → is_idle (aim_in self.now.pass.now.aim) self.now.kept.now
+            (quality_of self.now.pass.now.context.now.facts self.now.pass.now.context.now.reached self.now.pass.now.context.now.lower a) ≡ true }
+    {
+        let Some(weights) = &self.pass.weights else {
+            return false;
+        };
+        let Some(least) = weights.least(prefix) else {
+            return false;
+        };
+        self.is_behind_kept(prefix, least) || self.is_behind_aim(prefix, least)
     }
 
     /// Whether no candidate with a beginning that grants what is wished is of interest.
@@ -233,6 +335,8 @@ impl<'a, 'k> Bound for Skipper<'a, 'k> {
         if self.pass.aim.is_none() && self.kept.is_none() {
             return false;
         }
-        self.is_idle_all(prefix, room) || self.is_idle_granted(prefix, room)
+        self.is_idle_all(prefix, room)
+            || self.is_idle_granted(prefix, room)
+            || self.is_idle_by_weight(prefix)
     }
 }

@@ -1,0 +1,206 @@
+// Floors of a bracket by the weight of its candidates (C.04.3 C.6, C.8 to C.19), and what they say behind a beginning. They are asked at each
+// beginning that a choice comes to, so an answer takes no memory, and looks at each pair of the beginning once for each floor.
+ghost use Rattle.std.specs.Prelude.{◌≡◌, ◌+◌, ◌<◌, ◌≤◌, ◌⊎◌, ◌↔◌, IsTrue, IfSome, drop, length, sum_by, if◌then◌else◌};
+ghost use Rattle.std.specs.List.{zip};
+ghost use Rattle.dual.specs.Floors.{extra_in, extra_left_in};
+ghost use Rattle.dutch_order.specs.declared.numbers.TheConstants.{LIMIT};
+ghost use Rattle.dutch_pair.specs.QualityIn.{quality_in};
+ghost use Rattle.dutch_pair.specs.WeightFloors.{bound_behind, is_first, left_known, passed_over};
+ghost use Rattle.dutch_pair.specs.Weights.{IsScale};
+
+use crate::begun::fixed_lists;
+use crate::quality::Quality;
+use crate::weighing::Weighing;
+use dual::Floor;
+use dutch_order::{Filling, LIMIT, Prefix, Shape};
+use std::marker::Model;
+use wide::Wide;
+
+/// What a quality weighs, and what all with a higher PSD weigh at least.
+#[derive(Clone, Copy, Debug)]
+pub(crate) struct Bar {
+    weight: Wide,
+    above: Wide,
+}
+
+/// Floors of a bracket and a shape by weight, each by a certificate that was checked.
+#[derive(Drop)]
+pub(crate) struct WeightFloors<'a> {
+    weighing: Weighing<'a>,
+    shape: Shape,
+    floors: Vec<Floor>,
+}
+
+impl<'a> Model for WeightFloors<'a> {
+    ghost use Rattle.dutch_pair.specs.WeightFloors.{AreFloors, Weighed};
+
+    ghost Value = { Weighed };
+
+    ghost view = { λ w. record { facts = w.weighing.facts; reached = w.weighing.reached; shape = w.shape; scale = w.weighing.scale } };
+
+    ghost invariant = { λ w. AreFloors (record { facts = w.weighing.facts; reached = w.weighing.reached; shape = w.shape; scale = w.weighing.scale }) w.floors.items };
+}
+
+/// A sum with what the pairs of two lists add to a floor; none if it does not fit.
+fn plus_pairs(floor: &Floor, firsts: &[u16], seconds: &[u16], sum: Wide) -> Option<Wide>
+    ensures { IfSome result (λ n. n ≡ sum + sum_by (extra_in floor.now) (zip firsts.now seconds.now)) }
+{
+    let count = firsts.len().min(seconds.len());
+    let mut sum = sum;
+    for i in 0..count {
+        let Some(more) = sum.plus(floor.extra(firsts[i], seconds[i])) else {
+            return None;
+        };
+        sum = more;
+    }
+    Some(sum)
+}
+
+/// Whether a list has a number at a place.
+fn is_at(list: &[u16], place: usize, number: u16) -> bool
+    ensures { result ≡ is_first number (drop place list.now) }
+{
+    place < list.len() && list[place] == number
+}
+
+/// What a player adds who is known to be left over; nothing for one who is met in S1.
+fn extra_outside(floor: &Floor, is_met: bool, number: u16) -> Wide
+    ensures { result ≡ (if is_met then 0 else extra_left_in floor.now number) }
+{
+    if is_met {
+        Wide::zero()
+    } else {
+        floor.extra_left(number)
+    }
+}
+
+/// A sum with what the moved-down players add whom S1 passes over; none if it does not fit.
+fn plus_outside(floor: &Floor, mdps: usize, s1: &[u16], sum: Wide) -> Option<Wide>
+    requires { mdps ≤ LIMIT }
+    ensures { IfSome result (λ n. n ≡ sum + sum_by (extra_left_in floor.now) (passed_over s1.now 1 mdps)) }
+{
+    let mut sum = sum;
+    let mut met = 0;
+    for above in 0..mdps {
+        let number = above as u16 + 1;
+        let is_met = is_at(s1, met, number);
+        let Some(more) = sum.plus(extra_outside(floor, is_met, number)) else {
+            return None;
+        };
+        sum = more;
+        met += usize::from(is_met);
+    }
+    Some(sum)
+}
+
+/// A sum with what those add who are known to be left over; none if it does not fit.
+fn plus_left(floor: &Floor, mdps: usize, prefix: &Prefix<'_>, sum: Wide) -> Option<Wide>
+    requires { mdps ≤ LIMIT }
+    ensures { IfSome result (λ n. n ≡ sum + sum_by (extra_left_in floor.now) (left_known prefix.now.filling mdps prefix.now.lists.s1)) }
+{
+    match prefix.filling() {
+        Filling::S1 => return Some(sum),
+        Filling::S2 | Filling::S2r => return plus_outside(floor, mdps, prefix.s1(), sum),
+    }
+}
+
+/// What a floor says behind a beginning; none if it does not fit.
+fn bound_behind(floor: &Floor, mdps: usize, prefix: &Prefix<'_>) -> Option<Wide>
+    requires { mdps ≤ LIMIT }
+    ensures { IfSome result (λ n. n ≡ bound_behind floor.now mdps prefix.now) }
+{
+    let begun = fixed_lists(prefix);
+    let Some(first) = plus_pairs(floor, begun.s1, begun.s2, floor.base()) else {
+        return None;
+    };
+    let Some(second) = plus_pairs(floor, begun.s1r, begun.s2r, first) else {
+        return None;
+    };
+    plus_left(floor, mdps, prefix, second)
+}
+
+/// The greater one of two numbers that may be there.
+fn greater(one: Option<Wide>, other: Option<Wide>) -> Option<Wide>
+    ensures { (result ≡ one) ⊎ (result ≡ other) }
+{
+    match (one, other) {
+        (Some(first), Some(second)) => {
+            if first.is_less(second) {
+                return other;
+            }
+            return one;
+        }
+        (None, _) => return other,
+        _ => return one,
+    }
+}
+
+impl Bar {
+    /// So much weight is no less than that of the quality.
+    pub(crate) fn is_reached(&self, weight: Wide) -> bool
+        ensures { IsTrue result ↔ (self.now.weight ≤ weight) }
+    {
+        !weight.is_less(self.weight)
+    }
+
+    /// So much weight is more than that of the quality.
+    pub(crate) fn is_passed(&self, weight: Wide) -> bool
+        ensures { IsTrue result ↔ (self.now.weight < weight) }
+    {
+        self.weight.is_less(weight)
+    }
+
+    /// So much weight is more than any with the same PSD has.
+    pub(crate) fn is_above(&self, weight: Wide) -> bool
+        ensures { IsTrue result ↔ (self.now.above ≤ weight) }
+    {
+        !weight.is_less(self.above)
+    }
+}
+
+impl<'a> WeightFloors<'a> {
+    ghost use Rattle.dutch_pair.specs.WeightFloors.{IsBar, IsLeast};
+
+    /// The floors of a bracket and a shape: none so far.
+    pub(crate) fn new(weighing: Weighing<'a>, shape: Shape) -> WeightFloors<'a>
+        requires falls { IsScale weighing.scale }
+        requires high { length weighing.reached.seats < weighing.scale.base }
+        ensures { result ≡ record { facts = weighing.entry.facts; reached = weighing.entry.reached; shape = shape; scale = weighing.entry.scale } }
+    {
+        let floors = Vec::new(weighing.context().alloc());
+        WeightFloors {
+            weighing,
+            shape,
+            floors,
+        }
+    }
+
+    /// The bar of a quality; none if the scale has not all its differences, or a weight does not fit.
+    pub(crate) fn bar(&self, quality: &Quality) -> Option<Bar>
+        ensures { IfSome result (IsBar self.now.scale (quality_in quality.now)) }
+    {
+        let scale = self.weighing.scale();
+        if !scale.measures(quality) {
+            return None;
+        }
+        let Some(weight) = scale.weigh(quality) else {
+            return None;
+        };
+        let Some(above) = scale.weigh_above(quality) else {
+            return None;
+        };
+        Some(Bar { weight, above })
+    }
+
+    /// The greatest bound that a floor gives behind a beginning; none if there is none that fits.
+    pub(crate) fn least(&self, prefix: &Prefix<'_>) -> Option<Wide>
+        ensures { IfSome result (IsLeast self.now prefix.now) }
+    {
+        let mdps = self.weighing.context().reached().mdps();
+        let mut least = None;
+        for floor in &self.floors {
+            least = greater(least, bound_behind(floor, mdps, prefix));
+        }
+        least
+    }
+}
