@@ -68,7 +68,7 @@ left_may may true (v ∷ w ∷ left) e = absurd (let bad : false ≡ true = e in
 
 -- ---- the pairs of a beginning are some of those of an arrangement
 
-zip_none : (xs : List ℕ) → zip {X = ℕ} xs [] ≡ []
+pub zip_none : (xs : List ℕ) → zip {X = ℕ} xs [] ≡ []
 zip_none [] = refl
 zip_none (x ∷ xs) = refl
 

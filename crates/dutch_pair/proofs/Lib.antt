@@ -1,3 +1,4 @@
+pub mod BoundSums
 pub mod WeightsBehind
 pub mod CandidateMatchings
 pub mod WrittenNumbers

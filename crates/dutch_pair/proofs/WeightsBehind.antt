@@ -1,7 +1,8 @@
 -- No candidate behind a beginning weighs less than a floor says (C.04.3 C.6, C.8 to C.19). So none is better than a quality that weighs no
 -- more, and one that weighs less is better than all.
-use Rattle.std.proofs.Common.{◌≡◌, ℕ, zero, suc, ◌+◌, ◌-◌, ◌*◌, ◌<◌, ◌≤◌, ◌⊎◌, Bool, true, false, not, cond, eqb, ◌||◌, List, [], ◌∷◌, ◌++◌, All, map, drop, length, sum_by, inl, inr, refl, sym, ap, subst, ◌∙◌, arith}
+use Rattle.std.proofs.Common.{◌≡◌, ℕ, zero, suc, ◌+◌, ◌-◌, ◌*◌, ◌<◌, ◌≤◌, ◌⊎◌, Bool, true, false, not, cond, eqb, ◌||◌, List, [], ◌∷◌, ◌++◌, All, map, drop, get_or, length, sum_by, Option, Some, None, IfSome, inl, inr, refl, sym, ap, subst, ◌∙◌, arith}
 use Rattle.std.specs.List.{AllByRecursion}
+use Rattle.std.specs.Option.{ForSome}
 use Rattle.std.specs.declared.cmp.Ordering.{Ordering}
 use Rattle.std.specs.declared.cmp.Ordering.TheVariants.{Less, Equal, Greater}
 use Rattle.std.specs.Ordering.{nat_cmp, is_lt, ordering_reverse}
@@ -9,6 +10,9 @@ use Rattle.std.specs.Cmp.Lexicographic.{slice_cmp}
 use Rattle.std.proofs.lemmas.Bool.{eq-eqb, false_from_ne_true, ne_eqb, true≢false}
 use Rattle.std.proofs.lemmas.Cmp.{nat_list_cmp_total}
 use Rattle.std.proofs.lemmas.List.{length-map}
+use Rattle.std.proofs.lemmas.List.Elements.{All-get_or}
+use Rattle.std.proofs.Math.Logic.{∥∥₁_elim}
+use mathlib.Core.Bool.{Bool-set}
 use Rattle.dual.specs.Floors.{FloorTable, IsFloor, extra_in, extra_left_in}
 use Rattle.dual.specs.Matchings.{IsPartOf}
 use Rattle.dutch_order.specs.declared.bracket.Shape.{Shape}
@@ -20,18 +24,24 @@ use Rattle.dutch_order.specs.Keys.{IsIn}
 use Rattle.dutch_order.specs.Prefixes.{Begins, BeginsAt, Beginning}
 use Rattle.dutch_order.proofs.Orders.{IsIn-append, IsIn-map}
 use Rattle.dutch_player.specs.Facts.{Facts}
-use Rattle.dutch_pair.specs.FloorOf.{fixed_lists}
+use Rattle.dutch_pair.specs.FloorOf.{Basis, IsBasis, fixed_lists, has_s1, is_uniform}
 use Rattle.dutch_pair.specs.NextBracket.{is_lower}
-use Rattle.dutch_pair.specs.Outlooks.{HasNoBetter}
+use Rattle.dutch_pair.specs.Outlooks.{HasNoBetter, awaited}
 use Rattle.dutch_pair.specs.Quality.{NextValue, Quality, is_better}
-use Rattle.dutch_pair.specs.QualityIn.{next_in}
+use Rattle.dutch_pair.specs.QualityIn.{next_in, quality_in}
+use Rattle.dutch_pair.specs.Aims.{aim_in, beats}
+use Rattle.dutch_pair.specs.Kept.{wins}
+use Rattle.dutch_pair.specs.declared.choice.Best.{Best}
+use Rattle.dutch_pair.specs.declared.quality.Quality.{Quality as Fields}
+use Rattle.dutch_pair.specs.declared.weight_floor.Bar.{Bar}
 use Rattle.dutch_pair.specs.Reached.{IsOf, Reached, frame_of}
 use Rattle.dutch_pair.specs.Round.{candidates_of, quality_of}
 use Rattle.dutch_pair.specs.Seated.{score_at}
-use Rattle.dutch_pair.specs.WeightFloors.{IsNoBetter, bound_behind, is_first, left_known, passed_over}
+use Rattle.dutch_pair.specs.WeightFloors.{AreFloors, AreOf, HasBar, IsBar, IsLeast, IsNoBetter, Weighed, bound_behind, is_first, kept_in, left_known, passed_over}
 use Rattle.dutch_pair.specs.Weights.{IsOn, IsScale, Scale, above_psd, number_pairs, numbers, weighing, weight_of}
 use Rattle.dutch_pair.proofs.ArrangementParts.{lists_of, numbers_above, numbers_rise, parts_of, subset_members, subset_whole}
 use Rattle.dutch_pair.proofs.C06ToC19Weights.{candidate_ordered, candidate_weighs}
+use Rattle.dutch_pair.proofs.C07Outlook.{awaited_holds}
 use Rattle.dutch_pair.proofs.CandidateMatchings.{candidate_is_matching, digits_are_small, left_over, part_of, total_sum}
 use Rattle.dutch_pair.proofs.FloorOfBeginning.{begun_pairs}
 use Rattle.dutch_pair.proofs.LegalPairs.{legal_of}
@@ -47,14 +57,14 @@ none_met : (first : ℕ) (list : List ℕ) → AllByRecursion (λ y. first < y) 
 none_met first [] above = refl
 none_met first (x ∷ list) above = ne_eqb x first (λ e. let h : first < x = above.0 in omega (arith, h, e))
 
+-- what is passed over if one is met, and if none is
+pub at_met : (list : List ℕ) (first count : ℕ) → is_first first list ≡ true → passed_over list first (suc count) ≡ passed_over (drop 1 list) (suc first) count
+at_met list first count met = ap (λ t. cond t (passed_over (drop 1 list) (suc first) count) (first ∷ passed_over list (suc first) count)) met
+
+pub at_none : (list : List ℕ) (first count : ℕ) → is_first first list ≡ false → passed_over list first (suc count) ≡ first ∷ passed_over list (suc first) count
+at_none list first count none = ap (λ t. cond t (passed_over (drop 1 list) (suc first) count) (first ∷ passed_over list (suc first) count)) none
+
 module _ (w : ℕ → ℕ) where
-  -- what is passed over if one is met, and if none is
-  at_met : (list : List ℕ) (first count : ℕ) → is_first first list ≡ true → passed_over list first (suc count) ≡ passed_over (drop 1 list) (suc first) count
-  at_met list first count met = ap (λ t. cond t (passed_over (drop 1 list) (suc first) count) (first ∷ passed_over list (suc first) count)) met
-
-  at_none : (list : List ℕ) (first count : ℕ) → is_first first list ≡ false → passed_over list first (suc count) ≡ first ∷ passed_over list (suc first) count
-  at_none list first count none = ap (λ t. cond t (passed_over (drop 1 list) (suc first) count) (first ∷ passed_over list (suc first) count)) none
-
   over_none : (first count : ℕ) → total w (passed_over [] first count) ≡ total w (numbers_from first count)
   over_none first zero = refl
   over_none first (suc count) = ap (λ n. w first + n) (over_none (suc first) count)
@@ -113,7 +123,7 @@ module _ (frame : Frame) (shape : Shape) (a : Arrangement) (within : frame.mdps 
   }
 
   left_part : (filling : Filling) (lists : Arrangement) → BeginsAt filling lists a → IsPartOf (left_known filling frame.mdps lists.s1) (down frame a)
-  left_part S1 lists begins = record { others = down frame a; whole = λ w. refl }
+  left_part S1 lists begins = record { others = down frame a; whole = λ w. omega arith }
   left_part S2 lists begins = outside_part lists.s1 begins.0
   left_part S2r lists begins = outside_part lists.s1 begins.0
 
@@ -174,3 +184,109 @@ module _ (facts : Facts) (reached : Reached) (scale : Scale) (lower : List ℕ) 
       | inr (inl better) ↦ better
       | inr (inr worse) ↦ absurd (let bad : true ≡ false = sym worse ∙ not in cc)
     ]
+
+-- ---- the greatest of the bounds
+
+-- one floor of several holds
+pub one_holds : (w : Weighed) (b : Beginning) (floors : List FloorTable) → AreFloors w floors → (floor : FloorTable) (i : ℕ) → i < length floors → floor ≡ get_or floors i floor
+    → (mdps : ℕ) → mdps ≡ w.reached.mdps → (bound : Option ℕ) → IfSome bound (λ n. n ≡ bound_behind floor mdps b) → IfSome bound (IsLeast w b)
+one_holds w b floors are floor i within at' mdps same None is = tt
+one_holds w b floors are floor i within at' mdps same (Some bound) is =
+    let P : FloorTable → Type 0 = IsFloor (weighing w.facts w.reached w.scale) (numbers w.reached) (length w.reached.seats - 2 * w.shape.pairs) in
+    let holds : P floor = subst P (sym at') (All-get_or P floors i floor within are.hold) in
+    record {
+      falls = are.falls;
+      high = are.high;
+      none_less = λ lower a of' fits m begins.
+          omega (
+            arith,
+            is,
+            ap (λ n. bound_behind floor n b) same,
+            weighs_more w.facts w.reached w.scale lower w.shape a of' fits m b begins floor holds,
+          );
+    }
+
+pub greater_holds : (w : Weighed) (b : Beginning) (one other found : Option ℕ) → (found ≡ one) ⊎ (found ≡ other) → IfSome one (IsLeast w b) → IfSome other (IsLeast w b)
+    → IfSome found (IsLeast w b)
+greater_holds w b one other found (inl same) first second = subst (λ (o : Option ℕ). IfSome o (IsLeast w b)) (sym same) first
+greater_holds w b one other found (inr same) first second = subst (λ (o : Option ℕ). IfSome o (IsLeast w b)) (sym same) second
+
+-- ---- what bars tell
+
+-- floors of a bracket and a shape, as they are of these
+made_of : (facts : Facts) (reached : Reached) (shape : Shape) (w : Weighed) → AreOf facts reached shape w
+    → w ≡ record { facts = facts; reached = reached; shape = shape; scale = w.scale }
+made_of facts reached shape w are = λ i. record { facts = are.facts_are i; reached = are.reached_is i; shape = are.shape_is i; scale = w.scale }
+
+module _ (facts : Facts) (reached : Reached) (lower : List ℕ) (shape : Shape) (a : Arrangement) (of' : IsOf facts reached)
+    (fits : Fits (frame_of facts reached) shape) (m : IsIn a (candidates_of facts reached shape)) (b : Beginning) (begins : Begins b a) (least : ℕ) where
+  abbrev it : Quality
+  it = quality_of facts reached lower a
+
+  -- so much weight is no less than all of a PSD, or no less than that of a quality, where the next bracket is not better
+  abbrev pub Reaches : Bar → Quality → Type 0
+  Reaches bar f = (bar.above ≤ least) ⊎ ((bar.weight ≤ least) × HasNoBetter it (next_in f))
+
+  module _ (w : Weighed) (are : AreOf facts reached shape w) (is : IsLeast w b least) (f : Quality) (bar : Bar) (at' : IsBar w.scale f bar) where
+    weighs : least ≤ weight_of w.scale it
+    weighs = (subst (λ v. IsLeast v b least) (made_of facts reached shape w are) is).none_less lower a of' fits m begins
+
+    high_here : length reached.seats < w.scale.base
+    high_here = (subst (λ v. IsLeast v b least) (made_of facts reached shape w are) is).high
+
+    no_better_here : Reaches bar f → is_better it f ≡ false
+    no_better_here (inl above) =
+        behind_all facts reached w.scale lower shape a of' fits m is.falls high_here f at'.on (omega (arith, at'.above, above, weighs))
+    no_better_here (inr both) =
+        no_lighter facts reached w.scale lower shape a of' fits m is.falls high_here f at'.on (omega (arith, at'.weight, both.0, weighs)) both.1
+
+    better_here : bar.weight < least → Reaches bar f → is_better f it ≡ true
+    better_here passed reaches =
+        then_worse facts reached w.scale lower shape a of' fits m is.falls high_here f at'.on (omega (arith, at'.weight, passed, weighs)) (no_better_here reaches)
+
+  module _ (weights : Option Weighed) (of_weights : ForSome weights (AreOf facts reached shape)) (leasts : ForSome weights (λ w. IsLeast w b least)) (bar : Bar) where
+    kept_by : (weights' : Option Weighed) → weights ≡ weights' → (best : Best) → Reaches bar (quality_in best.quality)
+        → HasBar weights' (Some (quality_in best.quality)) (Some bar) → not (wins it (Some best)) ≡ true
+    kept_by None same best reaches at' = absurd at'
+    kept_by (Some w) same best reaches at' =
+        ap not (no_better_here w (of_weights w same) (leasts w same) (quality_in best.quality) bar at' reaches)
+
+    aim_by : (weights' : Option Weighed) → weights ≡ weights' → (aim : Quality) → bar.weight < least → Reaches bar aim
+        → HasBar weights' (Some aim) (Some bar) → is_better aim it ≡ true
+    aim_by None same aim passed reaches at' = absurd at'
+    aim_by (Some w) same aim passed reaches at' = better_here w (of_weights w same) (leasts w same) aim bar at' passed reaches
+
+    -- the kept candidate is not worse than one behind its bar
+    pub behind_kept : (kept : Option Best) (found : Option Bar) (best : Best) → kept ≡ Some best → found ≡ Some bar → ∥ HasBar weights (kept_in kept) found ∥₁
+        → Reaches bar (quality_in best.quality) → not (wins it kept) ≡ true
+    behind_kept kept found best there bar_is at' reaches =
+        ∥∥₁_elim at' (Bool-set _ _) (λ has.
+        let here' : HasBar weights (Some (quality_in best.quality)) (Some bar) =
+        subst (λ (o : Option Bar). HasBar weights (Some (quality_in best.quality)) o) bar_is (subst (λ (o : Option Best). HasBar weights (kept_in o) found) there has) in
+        ap (λ (o : Option Best). not (wins it o)) there ∙ kept_by weights refl best reaches here')
+
+    -- the aim is better than one beyond its bar
+    pub behind_aim : (aims : Option Fields) (found : Option Bar) (aim : Fields) → aims ≡ Some aim → found ≡ Some bar → ∥ HasBar weights (aim_in aims) found ∥₁
+        → bar.weight < least → Reaches bar (quality_in aim) → beats (aim_in aims) it ≡ true
+    behind_aim aims found aim there bar_is at' passed reaches =
+        ∥∥₁_elim at' (Bool-set _ _) (λ has.
+        let here' : HasBar weights (Some (quality_in aim)) (Some bar) =
+        subst (λ (o : Option Bar). HasBar weights (Some (quality_in aim)) o) bar_is (subst (λ (o : Option Fields). HasBar weights (aim_in o) found) there has) in
+        ap (λ (o : Option Fields). beats (aim_in o) it) there ∙ aim_by weights refl (quality_in aim) passed reaches here')
+
+-- ---- what is awaited
+
+-- C.7: where what is awaited behind a beginning is not better than what a quality says, no candidate is
+pub awaited_by : (facts : Facts) (reached : Reached) (lower : List ℕ) (shape : Shape) (basis : Basis) → IsBasis facts reached lower shape basis → IsOf facts reached
+    → (b : Beginning) (other : NextValue)
+    → ((has_s1 b.filling || is_uniform basis.facts basis.reached basis.shape) ≡ true)
+    × IsNoBetter (awaited basis.facts basis.reached basis.shape basis.outlook b.filling (fixed_lists b).s1) other
+    → (a : Arrangement) → IsIn a (candidates_of facts reached shape) → Begins b a → HasNoBetter (quality_of facts reached lower a) other
+awaited_by facts reached lower shape basis is of' b other known a m begins =
+    let Tells : Basis → Type 0 = λ k. ((has_s1 b.filling || is_uniform k.facts k.reached k.shape) ≡ true)
+    × IsNoBetter (awaited k.facts k.reached k.shape k.outlook b.filling (fixed_lists b).s1) other in
+    let made : basis ≡ record { facts = facts; reached = reached; shape = shape; outlook = basis.outlook } =
+    λ i. record { facts = is.facts_are i; reached = is.stand_is i; shape = is.shape_is i; outlook = basis.outlook } in
+    let told = subst Tells made known in
+    none_better_on (quality_of facts reached lower a) (awaited facts reached shape basis.outlook b.filling (fixed_lists b).s1) other
+    (awaited_holds facts reached lower shape basis.outlook of' is.outlook b.filling b.lists a (legal_of facts reached shape a m).arranged begins told.0) told.1

@@ -33,7 +33,7 @@ pub counted : (d : ℕ) (xs : List ℕ) → count_by (λ by. by == d) xs ≡ cop
 counted d [] = refl
 counted d (x ∷ xs) = omega (arith, sum_by-cons (λ by. cond (by == d) 1 0) x xs, counted d xs, one_cond (x == d))
 
-at_most : (x y : ℕ) → (x ≤ y) ⊎ (y < x)
+pub at_most : (x y : ℕ) → (x ≤ y) ⊎ (y < x)
 at_most x y = grind arith
 
 in_order : (xs : List ℕ) → highest_first xs ≡ xs → Falls xs

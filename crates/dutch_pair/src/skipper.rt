@@ -251,6 +251,7 @@ impl<'a, 'k> Skipper<'a, 'k> {
             → Begins prefix.now a → beats (aim_in self.now.pass.now.aim)
             (quality_of self.now.pass.now.context.now.facts self.now.pass.now.context.now.reached self.now.pass.now.context.now.lower a) ≡ true }
     {
+        let _reached = self.pass.context.reached();
         let Some(bar) = &self.aim_bar else {
             return false;
         };
@@ -267,6 +268,7 @@ impl<'a, 'k> Skipper<'a, 'k> {
             → Begins prefix.now a → not (wins
             (quality_of self.now.pass.now.context.now.facts self.now.pass.now.context.now.reached self.now.pass.now.context.now.lower a) self.now.kept.now) ≡ true }
     {
+        let _reached = self.pass.context.reached();
         let Some(bar) = &self.kept_bar else {
             return false;
         };

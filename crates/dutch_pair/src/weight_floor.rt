@@ -4,6 +4,7 @@ ghost use Rattle.std.specs.Prelude.{◌≡◌, ◌+◌, ◌<◌, ◌≤◌, ◌�
 ghost use Rattle.std.specs.List.{zip};
 ghost use Rattle.dual.specs.Floors.{extra_in, extra_left_in};
 ghost use Rattle.dutch_order.specs.declared.numbers.TheConstants.{LIMIT};
+ghost use Rattle.dutch_pair.specs.Quality.{one_if};
 ghost use Rattle.dutch_pair.specs.QualityIn.{quality_in};
 ghost use Rattle.dutch_pair.specs.WeightFloors.{bound_behind, is_first, left_known, passed_over};
 ghost use Rattle.dutch_pair.specs.Weights.{IsScale};
@@ -74,6 +75,14 @@ fn extra_outside(floor: &Floor, is_met: bool, number: u16) -> Wide
     }
 }
 
+/// The place behind one that is met, or else the same place.
+fn place_after(place: usize, is_met: bool) -> usize
+    requires { place < LIMIT }
+    ensures { result ≡ place + one_if is_met }
+{
+    if is_met { place + 1 } else { place }
+}
+
 /// A sum with what the moved-down players add whom S1 passes over; none if it does not fit.
 fn plus_outside(floor: &Floor, mdps: usize, s1: &[u16], sum: Wide) -> Option<Wide>
     requires { mdps ≤ LIMIT }
@@ -88,7 +97,7 @@ fn plus_outside(floor: &Floor, mdps: usize, s1: &[u16], sum: Wide) -> Option<Wid
             return None;
         };
         sum = more;
-        met += usize::from(is_met);
+        met = place_after(met, is_met);
     }
     Some(sum)
 }
