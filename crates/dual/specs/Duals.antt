@@ -59,12 +59,11 @@ abbrev pub losses : Certificate → List ℕ → ℕ → ℕ → ℕ
 losses certificate players pairs left =
     certificate.given * pairs + certificate.given_left * left + sum_by (λ set. set.price * most_inside players set) certificate.sets
 
+-- how many pairs there are where so many are left over
+abbrev pub pairs_of : List ℕ → ℕ → ℕ
+pairs_of players left = (length players - left) / 2
+
 -- the value of a certificate for so many players left over, with the slack of known pairs; 0 where it is negative
 abbrev pub value : Costs → Certificate → List ℕ → ℕ → List (ℕ × ℕ) → ℕ
 value costs certificate players left known =
-    (gains certificate players + sum_by (slack costs certificate) known) - losses certificate players ((length players - left) / 2) left
-
--- no matching that has the known pairs and leaves so many players over costs less
-abbrev pub IsBound : Costs → List ℕ → ℕ → List (ℕ × ℕ) → ℕ → Type 0
-IsBound costs players left known bound =
-    (pairs : List (ℕ × ℕ)) (out : List ℕ) → IsMatching costs players pairs out → IsPartOf known pairs → length out ≡ left → bound ≤ cost costs pairs out
+    (gains certificate players + sum_by (slack costs certificate) known) - losses certificate players (pairs_of players left) left

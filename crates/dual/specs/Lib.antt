@@ -1,5 +1,6 @@
 pub mod Matchings
 pub mod Duals
 pub mod Tables
+pub mod Floors
 pub mod Barriers
 pub mod Counts

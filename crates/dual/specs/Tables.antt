@@ -1,5 +1,5 @@
 -- Certificates as tables by the players' numbers.
-use Rattle.std.specs.Prelude.{ℕ, ◌*◌, Bool, false, List, map, slice_index_or}
+use Rattle.std.specs.Prelude.{ℕ, ◌*◌, Bool, false, if◌then◌else◌, List, map, sum_by, slice_index_or}
 use Rattle.dual.specs.declared.table.MarkedSet.{MarkedSet}
 use Rattle.dual.specs.declared.table.Table.{Table}
 use Rattle.dual.specs.Duals.{Priced, Certificate, most_inside}
@@ -10,6 +10,10 @@ has_mark set v = slice_index_or set.marks.items v false
 
 abbrev pub priced_by : MarkedSet → Priced
 priced_by set = record { has = has_mark set; price = set.price }
+
+-- what a player pays for a set beside another who is inside
+abbrev pub toll_of : ℕ → MarkedSet → ℕ
+toll_of v set = if has_mark set v then set.price else 0
 
 -- a potential by the table, and 0 past its end
 abbrev pub potential_in : Table → ℕ → ℕ
@@ -25,6 +29,9 @@ certificate_in table =
       sets = map priced_by table.sets.items;
     }
 
--- the most that a set's tolls come to
+-- the most that a set's tolls come to, and those of all sets
 abbrev pub most_toll : List ℕ → MarkedSet → ℕ
 most_toll players set = set.price * most_inside players (priced_by set)
+
+abbrev pub most_tolls : Table → List ℕ → ℕ
+most_tolls table players = sum_by (most_toll players) table.sets.items

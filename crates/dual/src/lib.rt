@@ -1,23 +1,28 @@
 //! Weak duality: certificates that no matching is cheap, barriers and witnesses that tell whether players can be paired out, specified by
 //! pairs over numbers.
 //!
-//! A `Table` holds a certificate: a potential for each player, and priced sets of players. `Table::bound` checks it and answers what every
-//! matching costs at least; no value is answered of a certificate that is not feasible. `tells_incompletable` checks a barrier (after
-//! Tutte and Berge), `least_left` says how many it leaves over, `tells_completable` checks a witness. Whoever finds them need not be trusted.
+//! A `Table` holds a certificate: a potential for each player, and priced sets of players. `Table::floor` checks it and makes a `Floor` of it:
+//! what every matching costs at least, and what each pair and each player left over adds that is known of it. Of a certificate that is not
+//! feasible no floor is made. `tells_incompletable` checks a barrier (after Tutte and Berge), `least_left` says how many it leaves over,
+//! `tells_completable` checks a witness. Whoever finds them need not be trusted.
 //!
-//! Nothing here knows chess: a `Rule` of the caller says, by numbers, who may meet and who may be left over, and at what cost. Nothing takes
-//! memory. A check takes time with the square of the number of players, for a certificate times the number of its sets.
+//! Nothing here knows chess: a `Rule` of the caller says, by numbers, who may meet and who may be left over, and at what cost. Only a floor
+//! takes memory, a number for each pair. A check takes time with the square of the number of players, for a certificate times the number of
+//! its sets.
 //!
-//! To mind: certificates are natural numbers. Potentials below 0, and a multiplier of the number left over, are had by giving more.
+//! To mind: certificates are natural numbers below 2^256. Potentials below 0, and a multiplier of the number left over, are had by giving more.
 #![tactic(auto)]
 
 mod barrier;
+mod check;
+mod floor;
 pub mod laws;
 mod rule;
 mod table;
 mod witness;
 
 pub use barrier::{least_left, tells_incompletable};
+pub use floor::Floor;
 pub use rule::Rule;
 pub use table::{MOST, MarkedSet, Table};
 pub use witness::tells_completable;

@@ -1,18 +1,25 @@
 // What is asked of a caller: who may meet, who may be left over, and what that costs.
-ghost use Rattle.std.specs.Prelude.{◌≡◌};
+ghost use Rattle.std.specs.Prelude.{◌≡◌, ℕ};
 ghost use Rattle.dual.specs.Matchings.{Costs};
 
-/// Who may meet and who may be left over, and at what cost. It answers for all numbers.
+use wide::Wide;
+
+/// Who may meet and who may be left over, and at what cost. Who may meet is answered for all numbers, costs for known ones alone.
 pub trait Rule {
     /// What it answers.
     ghost costs: { Self → Costs };
+
+    /// A number of which costs are known.
+    ghost knows: { Self → ℕ → Type 0 };
 
     /// Whether `a` may meet `b`.
     fn may_meet(&self, a: u16, b: u16) -> bool
         ensures { result ≡ (costs self.now).meets a b };
 
     /// What a pair of the two costs.
-    fn weight(&self, a: u16, b: u16) -> u32
+    fn weight(&self, a: u16, b: u16) -> Wide
+        requires first { knows self.now a }
+        requires second { knows self.now b }
         ensures { result ≡ (costs self.now).weight a b };
 
     /// Whether `a` may be left over.
@@ -20,6 +27,7 @@ pub trait Rule {
         ensures { result ≡ (costs self.now).may_be_left a };
 
     /// What it costs to leave `a` over.
-    fn left_cost(&self, a: u16) -> u32
+    fn left_cost(&self, a: u16) -> Wide
+        requires { knows self.now a }
         ensures { result ≡ (costs self.now).left_cost a };
 }

@@ -11,6 +11,7 @@ use dual::least_left;
 use dutch_order::{Rule, numbered_from};
 use matching::{Found, Graph};
 use std::marker::Model;
+use wide::Wide;
 
 /// The players of a bracket, joined if a pair of an arrangement may have both.
 #[derive(Drop)]
@@ -117,19 +118,21 @@ impl<'a, 'b> dual::Rule for Joins<'a, 'b> {
 
     ghost costs = { pairs_cost_nothing };
 
+    ghost knows = { λ _ _. Unit {0} };
+
     fn may_meet(&self, a: u16, b: u16) -> bool {
         self.may_pair(a, b)
     }
 
-    fn weight(&self, _a: u16, _b: u16) -> u32 {
-        0
+    fn weight(&self, _a: u16, _b: u16) -> Wide {
+        Wide::zero()
     }
 
     fn may_be_left(&self, _a: u16) -> bool {
         true
     }
 
-    fn left_cost(&self, _a: u16) -> u32 {
-        0
+    fn left_cost(&self, _a: u16) -> Wide {
+        Wide::zero()
     }
 }

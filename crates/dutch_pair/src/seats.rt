@@ -5,6 +5,7 @@ ghost use Rattle.dutch_pair.specs.Seats.{is_seat, seats_meet, seats_may_be_left}
 use dutch_order::Rule;
 use dutch_player::Field;
 use std::marker::Model;
+use wide::Wide;
 
 /// The players of a field by seat: who may meet whom, and who may have the bye. It says false for a number that is no seat, and for
 /// two equal ones.
@@ -65,19 +66,21 @@ impl<'a> dual::Rule for BySeat<'a> {
 
     ghost costs = { costs_nothing };
 
+    ghost knows = { λ _ _. Unit {0} };
+
     fn may_meet(&self, a: u16, b: u16) -> bool {
         Rule::may_meet(self, a, b)
     }
 
-    fn weight(&self, _a: u16, _b: u16) -> u32 {
-        0
+    fn weight(&self, _a: u16, _b: u16) -> Wide {
+        Wide::zero()
     }
 
     fn may_be_left(&self, a: u16) -> bool {
         Rule::may_be_left(self, a)
     }
 
-    fn left_cost(&self, _a: u16) -> u32 {
-        0
+    fn left_cost(&self, _a: u16) -> Wide {
+        Wide::zero()
     }
 }

@@ -4,14 +4,15 @@ ghost use Rattle.std.specs.Prelude.{◌≤◌, IfOk, length};
 use dual::{MarkedSet, Rule, Table, tells_completable, tells_incompletable};
 use std::alloc::Global;
 use std::test::Fail;
+use wide::Wide;
 
 // Numbers in fours: 0 to 3, 4 to 7 and so on. Those of one four may meet, and the first of each four may meet everybody. A pair of one four
 // costs `near`, any other 10. One player may be left over, and costs `left`.
 #[derive(Drop)]
 struct Fours {
-    near: u32,
+    near: u64,
     leaves: u16,
-    left: u32,
+    left: u64,
 }
 
 impl Rule for Fours {
@@ -24,20 +25,23 @@ impl Rule for Fours {
       left_cost = λ a. r.left;
     } };
 
+    ghost knows = { λ _ _. Unit {0} };
+
     fn may_meet(&self, a: u16, b: u16) -> bool {
         a != b && (a / 4 == b / 4 || a % 4 == 0 || b % 4 == 0)
     }
 
-    fn weight(&self, a: u16, b: u16) -> u32 {
-        if a / 4 == b / 4 { self.near } else { 10 }
+    fn weight(&self, a: u16, b: u16) -> Wide {
+        let weight = if a / 4 == b / 4 { self.near } else { 10 };
+        Wide::from_u64(weight)
     }
 
     fn may_be_left(&self, a: u16) -> bool {
         a == self.leaves
     }
 
-    fn left_cost(&self, _a: u16) -> u32 {
-        self.left
+    fn left_cost(&self, _a: u16) -> Wide {
+        Wide::from_u64(self.left)
     }
 }
 
@@ -119,27 +123,45 @@ fn witnesses_of_five(rt: HostRuntime) {
 // A certificate by its potentials, what is given to a pair and to one left over, and the marks and price of one set.
 fn table(
     alloc: Global,
-    potentials: &[u32],
-    given: (u32, u32),
-    set: (&[bool], u32),
-) -> Result<Table, Fail>
-    ensures { IfOk result (λ table. length table.sets.items ≤ 1) }
-{
-    let mut all = Vec::new(alloc);
-    all.extend_from_slice(potentials)?;
+    potentials: &[u64],
+    given: (u64, u64),
+    set: (&[bool], u64),
+) -> Result<Table, Fail> {
     let mut marks = Vec::new(alloc);
     marks.extend_from_slice(set.0)?;
     let mut sets = Vec::new(alloc);
     sets.push(MarkedSet {
         marks,
-        price: set.1,
+        price: Wide::from_u64(set.1),
     })?;
     Ok(Table {
-        potentials: all,
-        given: given.0,
-        given_left: given.1,
+        potentials: potentials
+            .iter()
+            .map(|potential| Wide::from_u64(*potential))
+            .collect(alloc)?,
+        given: Wide::from_u64(given.0),
+        given_left: Wide::from_u64(given.1),
         sets,
     })
+}
+
+// The base of the floor, if there is one.
+fn base(
+    alloc: Global,
+    table: &Table,
+    rule: &Fours,
+    players: &[u16],
+    left: usize,
+) -> Result<Option<Wide>, Fail>
+    requires few { length players.now ≤ 65536 }
+    requires some { left ≤ length players.now }
+{
+    let floor = table.floor(alloc, rule, players, left)?;
+    Ok(floor.map(|floor| floor.base()))
+}
+
+fn number(value: u64) -> Option<Wide> {
+    Some(Wide::from_u64(value))
 }
 
 const THREE: [bool; 4] = [false, true, true, true];
@@ -152,10 +174,9 @@ fn a_priced_set_of_three(rt: HostRuntime) -> Result<(), Fail> {
     let rule = leaving(NOBODY);
     let potentials = [0, 10, 10, 10];
     let priced = table(rt.alloc(), &potentials, (0, 0), (&THREE, 20))?;
-    assert_eq!(rt; priced.bound(&rule, &six, 0), Some(10));
+    assert_eq!(rt; base(rt.alloc(), &priced, &rule, &six, 0)?, number(10));
     let cheap = table(rt.alloc(), &potentials, (0, 0), (&THREE, 19))?;
-    assert_eq!(rt; cheap.bound(&rule, &six, 0), None);
-    assert!(rt; !cheap.is_feasible(&rule, &six));
+    assert_eq!(rt; base(rt.alloc(), &cheap, &rule, &six, 0)?, None);
     Ok(())
 }
 
@@ -165,19 +186,33 @@ fn a_priced_set_of_four(rt: HostRuntime) -> Result<(), Fail> {
     let four = [1, 2, 3, 4];
     let all = [false, true, true, true, true];
     let priced = table(rt.alloc(), &[0, 5, 5, 5, 15], (0, 0), (&all, 10))?;
-    assert_eq!(rt; priced.bound(&leaving(NOBODY), &four, 0), Some(10));
+    let rule = leaving(NOBODY);
+    assert_eq!(rt; base(rt.alloc(), &priced, &rule, &four, 0)?, number(10));
     Ok(())
 }
 
-// A certificate of nothing bounds nothing; a pair that is known brings its cost.
+// A certificate of nothing bounds nothing; a pair that is known brings its cost, and a set inside which it is its price. Two who may not meet
+// add nothing, and nobody does who is not in the table.
 #[test]
 fn known_pairs_bring_their_slack(rt: HostRuntime) -> Result<(), Fail> {
     let six = [1, 2, 3, 4, 5, 6];
-    let rule = leaving(NOBODY);
-    let flat = table(rt.alloc(), &[], (0, 0), (&THREE, 0))?;
-    assert!(rt; flat.is_feasible(&rule, &six));
-    assert_eq!(rt; flat.bound_with(&rule, &six, 0, &[]), 0);
-    assert_eq!(rt; flat.bound_with(&rule, &six, 0, &[(5, 6), (3, 4)]), 10);
+    let flat = table(rt.alloc(), &[], (0, 0), (&THREE, 3))?;
+    let rule = Fours {
+        near: 2,
+        leaves: 6,
+        left: 7,
+    };
+    let floor = flat.floor(rt.alloc(), &rule, &six, 0)?;
+    let Some(floor) = floor else {
+        return Err(Fail::new("a floor"));
+    };
+    assert_eq!(rt; floor.base(), Wide::zero());
+    for (a, b, extra) in [(5, 6, 2), (3, 4, 10), (1, 2, 5), (3, 5, 0), (7, 5, 0), (5, 7, 0)] {
+        assert_eq!(rt; floor.extra(a, b), Wide::from_u64(extra));
+    }
+    for (a, extra) in [(6, 7), (5, 0), (700, 0)] {
+        assert_eq!(rt; floor.extra_left(a), Wide::from_u64(extra));
+    }
     Ok(())
 }
 
@@ -185,7 +220,7 @@ fn known_pairs_bring_their_slack(rt: HostRuntime) -> Result<(), Fail> {
 #[test]
 fn one_is_left_over(rt: HostRuntime) -> Result<(), Fail> {
     let three = [1, 2, 3];
-    for (left, given_left, bound) in [(7, 0, Some(11)), (6, 0, None), (6, 1, Some(10))] {
+    for (left, given_left, bound) in [(7, 0, number(11)), (6, 0, None), (6, 1, number(10))] {
         let rule = Fours {
             near: 4,
             leaves: 3,
@@ -193,7 +228,25 @@ fn one_is_left_over(rt: HostRuntime) -> Result<(), Fail> {
         };
         let given = (10, given_left);
         let certificate = table(rt.alloc(), &[0, 7, 7, 7], given, (&THREE, 0))?;
-        assert_eq!(rt; certificate.bound(&rule, &three, 1), bound);
+        assert_eq!(rt; base(rt.alloc(), &certificate, &rule, &three, 1)?, bound);
     }
+    Ok(())
+}
+
+// A certificate that gives away more than it gains is no floor, and none is one of which a sum does not fit.
+#[test]
+fn some_certificates_are_no_floor(rt: HostRuntime) -> Result<(), Fail> {
+    let three = [1, 2, 3];
+    let rule = leaving(3);
+    let giving = table(rt.alloc(), &[0, 1, 1, 1], (4, 0), (&THREE, 0))?;
+    assert_eq!(rt; base(rt.alloc(), &giving, &rule, &three, 1)?, None);
+    let mut great = table(rt.alloc(), &[], (0, 0), (&THREE, 0))?;
+    assert_eq!(rt; base(rt.alloc(), &great, &rule, &three, 1)?, number(0));
+    let half = Wide::power_of_two(255).unwrap_or(Wide::zero());
+    great.given = half;
+    for set in &mut great.sets {
+        set.price = half;
+    }
+    assert_eq!(rt; base(rt.alloc(), &great, &rule, &three, 1)?, None);
     Ok(())
 }

@@ -1,0 +1,53 @@
+-- What every matching costs at least, and what known pairs and known players left over add to that.
+use Rattle.std.specs.Prelude.{◌≡◌, ℕ, ◌+◌, ◌*◌, ◌^◌, ◌<◌, ◌≤◌, true, if◌then◌else◌, nat_lt, List, [], All, length, sum_by, slice_index_or}
+use Rattle.dual.specs.Matchings.{Costs, IsMatching, IsPartOf, in_both, cost}
+use Rattle.dual.specs.Duals.{Certificate, bears, bears_left, slack, slack_left, gains, losses, pairs_of, value}
+
+-- a base, and what each pair and each player left over adds: a pair's number stands in the row of its first player
+pub record FloorTable : Type 0 where
+  pub base : ℕ
+  pub size : ℕ
+  pub extra : List ℕ
+  pub extra_left : List ℕ
+
+-- what a pair adds, 0 outside of the table
+abbrev pub extra_in : FloorTable → ℕ × ℕ → ℕ
+extra_in floor pair = if nat_lt pair.1 floor.size then slice_index_or floor.extra (pair.0 * floor.size + pair.1) 0 else 0
+
+-- what a player left over adds, 0 outside of the table
+abbrev pub extra_left_in : FloorTable → ℕ → ℕ
+extra_left_in floor v = slice_index_or floor.extra_left v 0
+
+-- no matching that leaves so many players over costs less than the base and what is known of it adds
+abbrev pub IsFloor : Costs → List ℕ → ℕ → FloorTable → Type 0
+IsFloor costs players left floor =
+    (pairs : List (ℕ × ℕ)) (out : List ℕ) → IsMatching costs players pairs out → length out ≡ left
+    → (known : List (ℕ × ℕ)) (known_left : List ℕ) → IsPartOf known pairs → IsPartOf known_left out
+    → floor.base + (sum_by (extra_in floor) known + sum_by (extra_left_in floor) known_left) ≤ cost costs pairs out
+
+-- of two who may meet the table tells the slack, and so it does of one who may be left over
+abbrev pub TellsSlack : Costs → Certificate → FloorTable → ℕ → ℕ → Type 0
+TellsSlack costs certificate floor u v = costs.meets u v ≡ true → extra_in floor (u, v) ≡ slack costs certificate (u, v)
+
+abbrev pub TellsSlackLeft : Costs → Certificate → FloorTable → ℕ → Type 0
+TellsSlackLeft costs certificate floor v = costs.may_be_left v ≡ true → extra_left_in floor v ≡ slack_left costs certificate v
+
+-- the floor that a certificate is: its value, and on top the slack of each pair and of each player left over
+pub record IsFloorOf (costs : Costs) (players : List ℕ) (left : ℕ) (certificate : Certificate) (floor : FloorTable) : Type 0 where
+  pub base : floor.base ≡ value costs certificate players left []
+  pub pairs : All (λ u. All (TellsSlack costs certificate floor u) players) players
+  pub left_over : All (TellsSlackLeft costs certificate floor) players
+
+-- what two who may meet bear is below a bound, and so is what one bears who may be left over
+abbrev pub BearsBelow : Costs → Certificate → ℕ → ℕ → ℕ → Type 0
+BearsBelow costs certificate most u v = costs.meets u v ≡ true → bears costs certificate (u, v) < most
+
+abbrev pub BearsLeftBelow : Costs → Certificate → ℕ → ℕ → Type 0
+BearsLeftBelow costs certificate most v = costs.may_be_left v ≡ true → bears_left costs certificate v < most
+
+-- all sums of a certificate are below a bound
+pub record IsBelow (costs : Costs) (players : List ℕ) (left : ℕ) (certificate : Certificate) (most : ℕ) : Type 0 where
+  pub pairs : All (λ u. All (BearsBelow costs certificate most u) players) players
+  pub left_over : All (BearsLeftBelow costs certificate most) players
+  pub gained : gains certificate players < most
+  pub lost : losses certificate players (pairs_of players left) left < most

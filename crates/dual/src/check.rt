@@ -1,0 +1,168 @@
+// The check of a certificate, pair by pair: what each pair, and each player left over, could bear beyond its potentials.
+ghost use Rattle.std.specs.Prelude.{◌≡◌, ◌+◌, ◌-◌, ◌*◌, ◌/◌, ◌^◌, ◌<◌, ◌≤◌, ◌↔◌, ◌⊎◌, ℕ, true, All, IfOk, IfSome, IsSome, IsTrue, SomeIff, length, map, sum_by, slice_index_or, vec_len};
+ghost use Rattle.std.specs.List.{filter};
+ghost use Rattle.dual.specs.Duals.{IsFeasible, bears, bears_left, slack, slack_left, losses, gains, pairs_of, Bears};
+ghost use Rattle.dual.specs.Floors.{IsFloor, IsFloorOf, IsBelow};
+ghost use Rattle.dual.specs.Tables.{has_mark, toll_of, certificate_in};
+
+use crate::floor::Floor;
+use crate::rule::Rule;
+use crate::table::{MOST, MarkedSet, Table};
+use std::alloc::{AllocError, Global};
+use wide::Wide;
+
+// The row of a player: where it begins, and the sets that have the player.
+#[derive(Drop)]
+struct Row<'a> {
+    player: u16,
+    start: usize,
+    sets: Vec<&'a MarkedSet>,
+}
+
+impl Row<'_> {
+    // What a pair of the row's player pays.
+    fn tolls(&self, v: u16) -> Option<Wide>
+    {
+        let mut sum = Wide::zero();
+        for set in &self.sets {
+            sum = sum.plus(set.toll(v))?;
+        }
+        Some(sum)
+    }
+}
+
+// One more than the greatest number.
+fn size_for(players: &[u16]) -> usize
+    ensures above { All (λ v. v < result) players.now }
+    ensures few { result ≤ 65536 }
+{
+    let mut size = 0;
+    for v in players {
+        size = size.max(usize::from(*v) + 1);
+    }
+    size
+}
+
+impl Table {
+    fn row(&self, alloc: Global, player: u16, size: usize) -> Result<Row<'_>, AllocError>
+        requires { size ≤ 65536 }
+    {
+        let sets = self
+            .sets
+            .iter()
+            .filter(|set| set.has(player))
+            .collect(alloc)?;
+        Ok(Row {
+            player,
+            start: usize::from(player) * size,
+            sets,
+        })
+    }
+
+    // What a pair of the row's player could bear beyond its potentials; none if it cannot bear them.
+    fn slack<R: Rule>(&self, rule: &R, row: &Row<'_>, v: u16) -> Option<Wide> {
+        let weight = rule.weight(row.player, v);
+        let bears = weight.plus(self.given)?.plus(row.tolls(v)?)?;
+        bears
+            .minus(self.potential(row.player))?
+            .minus(self.potential(v))
+    }
+
+    // What a player left over could bear beyond the potential; none if the player cannot bear it.
+    fn slack_left<R: Rule>(&self, rule: &R, v: u16) -> Option<Wide>
+        requires { R.knows rule.now v }
+        ensures { SomeIff result ((bears_left (R.costs rule.now) (certificate_in self.now) v < 2 ^ 256)
+            × ((certificate_in self.now).potential v ≤ bears_left (R.costs rule.now) (certificate_in self.now) v))
+            (slack_left (R.costs rule.now) (certificate_in self.now) v) }
+    {
+        let bears = rule.left_cost(v).plus(self.given_left)?;
+        bears.minus(self.potential(v))
+    }
+
+    // Writes the slacks of a row, and says whether all pairs can bear their potentials.
+    fn fill<R: Rule>(&self, rule: &R, row: &Row<'_>, players: &[u16], extra: &mut [Wide]) -> bool {
+        for v in players {
+            if rule.may_meet(row.player, *v) {
+                let Some(slack) = self.slack(rule, row, *v) else {
+                    return false;
+                };
+                extra[row.start + usize::from(*v)] = slack;
+            }
+        }
+        true
+    }
+
+    // The slacks of all pairs; none if one cannot bear its potentials.
+    fn extras<R: Rule>(
+        &self,
+        alloc: Global,
+        rule: &R,
+        players: &[u16],
+        size: usize,
+    ) -> Result<Option<Vec<Wide>>, AllocError> {
+        let mut extra = vec![in alloc; Wide::zero(); size * size]?;
+        for a in players {
+            let row = self.row(alloc, *a, size)?;
+            if !self.fill(rule, &row, players, &mut extra) {
+                return Ok(None);
+            }
+        }
+        Ok(Some(extra))
+    }
+
+    // The slacks of all who may be left over; none if one cannot bear the potential.
+    fn extras_left<R: Rule>(
+        &self,
+        alloc: Global,
+        rule: &R,
+        players: &[u16],
+        size: usize,
+    ) -> Result<Option<Vec<Wide>>, AllocError> {
+        let mut extra = vec![in alloc; Wide::zero(); size]?;
+        for v in players {
+            if rule.may_be_left(*v) {
+                let Some(slack) = self.slack_left(rule, *v) else {
+                    return Ok(None);
+                };
+                extra[usize::from(*v)] = slack;
+            }
+        }
+        Ok(Some(extra))
+    }
+
+    /// The floor that the certificate is, for matchings that leave so many players over. There is none if the certificate is not feasible, if it
+    /// gives away more than it gains, or if a sum of its numbers is 2^256 or more.
+    pub fn floor<R: Rule>(
+        &self,
+        alloc: Global,
+        rule: &R,
+        players: &[u16],
+        left: usize,
+    ) -> Result<Option<Floor>, AllocError>
+        requires known { All (R.knows rule.now) players.now }
+        requires few { length players.now ≤ MOST }
+        requires some { left ≤ length players.now }
+        ensures whole { IfOk result (λ found. IsSome found ↔ (IsFeasible (R.costs rule.now) players.now (certificate_in self.now)
+            × IsBelow (R.costs rule.now) players.now left (certificate_in self.now) (2 ^ 256)
+            × (losses (certificate_in self.now) players.now (pairs_of players.now left) left ≤ gains (certificate_in self.now) players.now))) }
+        ensures value { IfOk result (λ found. IfSome found (IsFloorOf (R.costs rule.now) players.now left (certificate_in self.now))) }
+        ensures least { IfOk result (λ found. IfSome found (IsFloor (R.costs rule.now) players.now left)) }
+    {
+        let Some(base) = self.value(players, left) else {
+            return Ok(None);
+        };
+        let size = size_for(players);
+        let Some(extra_left) = self.extras_left(alloc, rule, players, size)? else {
+            return Ok(None);
+        };
+        let Some(extra) = self.extras(alloc, rule, players, size)? else {
+            return Ok(None);
+        };
+        Ok(Some(Floor {
+            base,
+            size,
+            extra,
+            extra_left,
+        }))
+    }
+}

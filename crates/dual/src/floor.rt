@@ -1,0 +1,62 @@
+// A floor: what every matching costs at least, and what each pair and each player left over adds that is known of it.
+ghost use Rattle.std.specs.Prelude.{◌≡◌, slice_index_or};
+ghost use Rattle.dual.specs.Floors.{extra_in, extra_left_in};
+
+use std::marker::Model;
+use wide::Wide;
+
+/// What every matching costs at least, and what each pair and each player left over adds that is known of it.
+#[derive(Debug, Drop)]
+pub struct Floor {
+    pub(crate) base: Wide,
+    pub(crate) size: usize,
+    // by the first player's number times the size, and the second's
+    pub(crate) extra: Vec<Wide>,
+    pub(crate) extra_left: Vec<Wide>,
+}
+
+impl Model for Floor {
+    ghost use Rattle.std.specs.Prelude.{◌≤◌};
+    ghost use Rattle.dual.specs.Floors.{FloorTable};
+
+    ghost Value = { FloorTable };
+
+    ghost view = { λ f. record { base = f.base; size = f.size; extra = f.extra.items; extra_left = f.extra_left.items } };
+
+    ghost invariant = { λ f. f.size ≤ 65536 };
+}
+
+// A number of a list, 0 past its end.
+fn at(numbers: &[Wide], index: usize) -> Wide
+    ensures { result ≡ slice_index_or numbers.now index 0 }
+{
+    if index < numbers.len() { numbers[index] } else { Wide::zero() }
+}
+
+impl Floor {
+    /// What every matching costs at least.
+    pub fn base(&self) -> Wide
+        ensures { result ≡ self.now.base }
+    {
+        self.base
+    }
+
+    /// What a pair adds, 0 outside of the table.
+    pub fn extra(&self, a: u16, b: u16) -> Wide
+        ensures { result ≡ extra_in self.now (a, b) }
+    {
+        let b = usize::from(b);
+        if b < self.size {
+            at(&self.extra, usize::from(a) * self.size + b)
+        } else {
+            Wide::zero()
+        }
+    }
+
+    /// What a player left over adds, 0 outside of the table.
+    pub fn extra_left(&self, a: u16) -> Wide
+        ensures { result ≡ extra_left_in self.now a }
+    {
+        at(&self.extra_left, usize::from(a))
+    }
+}
