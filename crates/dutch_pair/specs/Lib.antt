@@ -47,5 +47,6 @@ pub mod Wishes
 pub mod RuledOut
 pub mod KnownBeside
 pub mod Barriers
+pub mod WeightTables
 pub mod Weights
 pub mod WeightFloors
