@@ -195,7 +195,6 @@ one_holds w b floors are floor i within at' mdps same (Some bound) is =
     let P : FloorTable → Type 0 = IsFloor (weighing w.facts w.reached w.scale) (numbers w.reached) (length w.reached.seats - 2 * w.shape.pairs) in
     let holds : P floor = subst P (sym at') (All-get_or P floors i floor within are.hold) in
     record {
-      falls = are.falls;
       high = are.high;
       none_less = λ lower a of' fits m begins.
           omega (
@@ -236,13 +235,13 @@ module _ (facts : Facts) (reached : Reached) (lower : List ℕ) (shape : Shape) 
 
     no_better_here : Reaches bar f → is_better it f ≡ false
     no_better_here (inl above) =
-        behind_all facts reached w.scale lower shape a of' fits m is.falls high_here f at'.on (omega (arith, at'.above, above, weighs))
+        behind_all facts reached w.scale lower shape a of' fits m at'.falls high_here f at'.on (omega (arith, at'.above, above, weighs))
     no_better_here (inr both) =
-        no_lighter facts reached w.scale lower shape a of' fits m is.falls high_here f at'.on (omega (arith, at'.weight, both.0, weighs)) both.1
+        no_lighter facts reached w.scale lower shape a of' fits m at'.falls high_here f at'.on (omega (arith, at'.weight, both.0, weighs)) both.1
 
     better_here : bar.weight < least → Reaches bar f → is_better f it ≡ true
     better_here passed reaches =
-        then_worse facts reached w.scale lower shape a of' fits m is.falls high_here f at'.on (omega (arith, at'.weight, passed, weighs)) (no_better_here reaches)
+        then_worse facts reached w.scale lower shape a of' fits m at'.falls high_here f at'.on (omega (arith, at'.weight, passed, weighs)) (no_better_here reaches)
 
   module _ (weights : Option Weighed) (of_weights : ForSome weights (AreOf facts reached shape)) (leasts : ForSome weights (λ w. IsLeast w b least)) (bar : Bar) where
     kept_by : (weights' : Option Weighed) → weights ≡ weights' → (best : Best) → Reaches bar (quality_in best.quality)

@@ -50,14 +50,12 @@ bound_behind floor mdps b =
 
 -- floors hold of a bracket and a shape, on a scale of more digits than the bracket has players
 pub record AreFloors (weighed : Weighed) (floors : List FloorTable) : Type 0 where
-  pub falls : IsScale weighed.scale
   pub high : length weighed.reached.seats < weighed.scale.base
   pub hold : All (IsFloor (weighing weighed.facts weighed.reached weighed.scale) (numbers weighed.reached)
       (length weighed.reached.seats - 2 * weighed.shape.pairs)) floors
 
 -- no candidate behind a beginning weighs less, on a scale of more digits than the bracket has players
 pub record IsLeast (weighed : Weighed) (b : Beginning) (least : ℕ) : Type 0 where
-  pub falls : IsScale weighed.scale
   pub high : length weighed.reached.seats < weighed.scale.base
   pub none_less : (lower : List ℕ) (a : Arrangement) → IsOf weighed.facts weighed.reached → Fits (frame_of weighed.facts weighed.reached) weighed.shape
       → IsIn a (candidates_of weighed.facts weighed.reached weighed.shape) → Begins b a
@@ -78,6 +76,7 @@ pub record IsBar (scale : Scale) (quality : Quality) (bar : Bar) : Type 0 where
   pub weight : bar.weight ≡ weight_of scale quality
   pub above : bar.above ≡ weight_of scale (above_psd scale quality)
   pub on : IsOn scale quality
+  pub falls : IsScale scale
 
 -- if there is a bar, it is that of a quality that is there, on the scale of floors that are there
 abbrev pub HasBar : Option Weighed → Option Quality → Option Bar → Type 0

@@ -1,21 +1,26 @@
 // Floors of a bracket by the weight of its candidates (C.04.3 C.6, C.8 to C.19), and what they say behind a beginning. They are asked at each
 // beginning that a choice comes to, so an answer takes no memory, and looks at each pair of the beginning once for each floor.
-ghost use Rattle.std.specs.Prelude.{◌≡◌, ◌+◌, ◌<◌, ◌≤◌, ◌⊎◌, ◌↔◌, IsTrue, IfSome, drop, length, sum_by, if◌then◌else◌};
+ghost use Rattle.std.specs.Prelude.{◌≡◌, ◌+◌, ◌-◌, ◌*◌, ◌<◌, ◌≤◌, ◌⊎◌, ◌↔◌, IfOk, IfSome, IsTrue, drop, length, sum_by, if◌then◌else◌};
 ghost use Rattle.std.specs.List.{zip};
 ghost use Rattle.dual.specs.Floors.{extra_in, extra_left_in};
 ghost use Rattle.dutch_order.specs.declared.numbers.TheConstants.{LIMIT};
 ghost use Rattle.dutch_pair.specs.Quality.{one_if};
 ghost use Rattle.dutch_pair.specs.QualityIn.{quality_in};
 ghost use Rattle.dutch_pair.specs.WeightFloors.{bound_behind, is_first, left_known, passed_over};
-ghost use Rattle.dutch_pair.specs.Weights.{IsScale};
 
 use crate::begun::fixed_lists;
+use crate::context::Context;
 use crate::quality::Quality;
+use crate::scale::Scale;
 use crate::weighing::Weighing;
-use dual::Floor;
-use dutch_order::{Filling, LIMIT, Prefix, Shape};
+use dual::{Floor, Table};
+use dutch_order::{Filling, LIMIT, Prefix, Shape, numbered_from};
+use std::alloc::AllocError;
 use std::marker::Model;
 use wide::Wide;
+
+/// So many floors are kept. Each is asked at each beginning.
+const KEPT: usize = 4;
 
 /// What a quality weighs, and what all with a higher PSD weigh at least.
 #[derive(Clone, Copy, Debug)]
@@ -168,12 +173,11 @@ impl Bar {
 }
 
 impl<'a> WeightFloors<'a> {
-    ghost use Rattle.dutch_pair.specs.WeightFloors.{IsBar, IsLeast};
+    ghost use Rattle.dutch_pair.specs.WeightFloors.{AreOf, IsBar, IsLeast};
 
     /// The floors of a bracket and a shape: none so far.
-    pub(crate) fn new(weighing: Weighing<'a>, shape: Shape) -> WeightFloors<'a>
-        requires falls { IsScale weighing.scale }
-        requires high { length weighing.reached.seats < weighing.scale.base }
+    fn new(weighing: Weighing<'a>, shape: Shape) -> WeightFloors<'a>
+        requires { length weighing.reached.seats < weighing.scale.base }
         ensures { result ≡ record { facts = weighing.entry.facts; reached = weighing.entry.reached; shape = shape; scale = weighing.entry.scale } }
     {
         let floors = Vec::new(weighing.context().alloc());
@@ -182,6 +186,50 @@ impl<'a> WeightFloors<'a> {
             shape,
             floors,
         }
+    }
+
+    /// Weighs a bracket's pairs and downfloaters for floors of a shape, of which there are none so far; none if a weight does not fit. It takes
+    /// steps with the square of the number of players.
+    pub(crate) fn read(
+        context: &'a Context<'a>,
+        shape: Shape,
+        with_floats: bool,
+    ) -> Result<Option<WeightFloors<'a>>, AllocError>
+        ensures { IfOk result (λ found. IfSome found (AreOf context.now.facts context.now.reached shape)) }
+    {
+        let scale = Scale::of(context, with_floats);
+        match Weighing::read(context, scale)? {
+            Some(weighing) => return Ok(Some(WeightFloors::new(weighing, shape))),
+            None => return Ok(None),
+        }
+    }
+
+    /// How many players the matchings leave over.
+    fn left(&self) -> usize
+        ensures { result ≡ length self.now.reached.seats - 2 * self.now.shape.pairs }
+    {
+        self.weighing
+            .context()
+            .len()
+            .saturating_sub(self.shape.pairs)
+            .saturating_sub(self.shape.pairs)
+    }
+
+    /// Checks a certificate, and keeps its floor in place of the oldest but the first one if there is no room. A no says that it gives none.
+    pub(crate) fn put(&mut self, table: &Table) -> Result<bool, AllocError>
+        ensures { self.new ≡ self.old }
+    {
+        let context = self.weighing.context();
+        let players = numbered_from(1, context.len());
+        let left = self.left();
+        let Some(floor) = table.floor(context.alloc(), &self.weighing, &players, left)? else {
+            return Ok(false);
+        };
+        if self.floors.len() >= KEPT {
+            self.floors.remove(1);
+        }
+        self.floors.push(floor)?;
+        Ok(true)
     }
 
     /// The bar of a quality; none if the scale has not all its differences, or a weight does not fit.
