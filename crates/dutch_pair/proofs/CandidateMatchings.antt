@@ -43,7 +43,7 @@ pub total_sum : (w : ℕ → ℕ) (xs : List ℕ) → total w xs ≡ sum_by w xs
 total_sum w [] = refl
 total_sum w (x ∷ xs) = omega (arith, sum_by-cons w x xs, total_sum w xs)
 
-each : {X : Type 0} (P : X → Type 0) (xs : List X) → AllByRecursion P xs → All P xs
+pub each : {X : Type 0} (P : X → Type 0) (xs : List X) → AllByRecursion P xs → All P xs
 each P [] all = All-nil P
 each P (x ∷ xs) all = All-cons P x xs all.0 (each P xs all.1)
 

@@ -37,12 +37,12 @@ use Rattle.dutch_pair.specs.declared.weight_floor.Bar.{Bar}
 use Rattle.dutch_pair.specs.Reached.{IsOf, Reached, frame_of}
 use Rattle.dutch_pair.specs.Round.{candidates_of, quality_of}
 use Rattle.dutch_pair.specs.Seated.{score_at}
-use Rattle.dutch_pair.specs.WeightFloors.{AreFloors, AreOf, HasBar, IsBar, IsLeast, IsNoBetter, Weighed, bound_behind, is_first, kept_in, left_known, passed_over}
+use Rattle.dutch_pair.specs.WeightFloors.{AreFloors, AreOf, HasBar, IsBar, IsLeast, IsNoBetter, IsWeightFloor, Weighed, bound_behind, is_first, kept_in, left_known, passed_over}
 use Rattle.dutch_pair.specs.Weights.{IsOn, IsScale, Scale, above_psd, number_pairs, numbers, weighing, weight_of}
-use Rattle.dutch_pair.proofs.ArrangementParts.{lists_of, numbers_above, numbers_rise, parts_of, subset_members, subset_whole}
+use Rattle.dutch_pair.proofs.ArrangementParts.{lists_of, numbers_above, numbers_rise, numbers_within, parts_of, subset_members, subset_whole}
 use Rattle.dutch_pair.proofs.C06ToC19Weights.{candidate_ordered, candidate_weighs}
 use Rattle.dutch_pair.proofs.C07Outlook.{awaited_holds}
-use Rattle.dutch_pair.proofs.CandidateMatchings.{candidate_is_matching, digits_are_small, left_over, part_of, total_sum}
+use Rattle.dutch_pair.proofs.CandidateMatchings.{candidate_is_matching, digits_are_small, each, left_over, part_of, total_sum}
 use Rattle.dutch_pair.proofs.FloorOfBeginning.{begun_pairs}
 use Rattle.dutch_pair.proofs.LegalPairs.{legal_of}
 use Rattle.dutch_pair.proofs.PsdParts.{down_parts}
@@ -184,6 +184,18 @@ module _ (facts : Facts) (reached : Reached) (scale : Scale) (lower : List ℕ) 
       | inr (inl better) ↦ better
       | inr (inr worse) ↦ absurd (let bad : true ≡ false = sym worse ∙ not in cc)
     ]
+
+-- ---- floors that are put
+
+-- all numbers of a bracket are known
+pub numbers_known : (n : ℕ) → All (λ a. (0 < a) × (a ≤ n)) (numbers_from 1 n)
+numbers_known n = each (λ a. (0 < a) × (a ≤ n)) (numbers_from 1 n) (numbers_within 0 1 n n (omega arith) (omega arith))
+
+pub floor_put : (w : Weighed) (players : List ℕ) (left : ℕ) (floor : FloorTable) → players ≡ numbers w.reached → left ≡ length w.reached.seats - 2 * w.shape.pairs
+    → IsFloor (weighing w.facts w.reached w.scale) players left floor → IsWeightFloor w floor
+floor_put w players left floor same count is =
+    let costs = weighing w.facts w.reached w.scale in
+    subst (λ (n : ℕ). IsFloor costs (numbers w.reached) n floor) count (subst (λ (xs : List ℕ). IsFloor costs xs left floor) same is)
 
 -- ---- the greatest of the bounds
 

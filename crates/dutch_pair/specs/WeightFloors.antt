@@ -48,11 +48,15 @@ abbrev pub bound_behind : FloorTable → ℕ → Beginning → ℕ
 bound_behind floor mdps b =
     floor.base + (sum_by (extra_in floor) (number_pairs (fixed_lists b)) + sum_by (extra_left_in floor) (left_known b.filling mdps b.lists.s1))
 
--- floors hold of a bracket and a shape, on a scale of more digits than the bracket has players
+-- a floor of the weights of a bracket, for matchings with as many pairs as the shape has
+abbrev pub IsWeightFloor : Weighed → FloorTable → Type 0
+IsWeightFloor weighed floor =
+    IsFloor (weighing weighed.facts weighed.reached weighed.scale) (numbers weighed.reached) (length weighed.reached.seats - 2 * weighed.shape.pairs) floor
+
+-- floors of a bracket and a shape, on a scale of more digits than the bracket has players
 pub record AreFloors (weighed : Weighed) (floors : List FloorTable) : Type 0 where
   pub high : length weighed.reached.seats < weighed.scale.base
-  pub hold : All (IsFloor (weighing weighed.facts weighed.reached weighed.scale) (numbers weighed.reached)
-      (length weighed.reached.seats - 2 * weighed.shape.pairs)) floors
+  pub hold : All (IsWeightFloor weighed) floors
 
 -- no candidate behind a beginning weighs less, on a scale of more digits than the bracket has players
 pub record IsLeast (weighed : Weighed) (b : Beginning) (least : ℕ) : Type 0 where

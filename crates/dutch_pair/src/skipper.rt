@@ -288,6 +288,9 @@ impl<'a, 'k> Skipper<'a, 'k> {
         let Some(weights) = &self.pass.weights else {
             return false;
         };
+        if self.aim_bar.is_none() && self.kept_bar.is_none() {
+            return false;
+        }
         let Some(least) = weights.least(prefix) else {
             return false;
         };

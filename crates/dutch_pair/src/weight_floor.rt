@@ -1,12 +1,12 @@
 // Floors of a bracket by the weight of its candidates (C.04.3 C.6, C.8 to C.19), and what they say behind a beginning. They are asked at each
 // beginning that a choice comes to, so an answer takes no memory, and looks at each pair of the beginning once for each floor.
-ghost use Rattle.std.specs.Prelude.{◌≡◌, ◌+◌, ◌-◌, ◌*◌, ◌<◌, ◌≤◌, ◌⊎◌, ◌↔◌, IfOk, IfSome, IsTrue, drop, length, sum_by, if◌then◌else◌};
+ghost use Rattle.std.specs.Prelude.{◌≡◌, ◌+◌, ◌-◌, ◌*◌, ◌<◌, ◌≤◌, ◌⊎◌, ◌↔◌, All, IfOk, IfSome, IsTrue, drop, length, sum_by, if◌then◌else◌};
 ghost use Rattle.std.specs.List.{zip};
 ghost use Rattle.dual.specs.Floors.{extra_in, extra_left_in};
 ghost use Rattle.dutch_order.specs.declared.numbers.TheConstants.{LIMIT};
 ghost use Rattle.dutch_pair.specs.Quality.{one_if};
 ghost use Rattle.dutch_pair.specs.QualityIn.{quality_in};
-ghost use Rattle.dutch_pair.specs.WeightFloors.{bound_behind, is_first, left_known, passed_over};
+ghost use Rattle.dutch_pair.specs.WeightFloors.{IsWeightFloor, Weighed, bound_behind, is_first, left_known, passed_over};
 
 use crate::begun::fixed_lists;
 use crate::context::Context;
@@ -149,6 +149,24 @@ fn greater(one: Option<Wide>, other: Option<Wide>) -> Option<Wide>
     }
 }
 
+/// Lets the oldest floor but the first one go if there is no room for one more.
+fn make_room(floors: &mut Vec<Floor>)
+    ensures { (w : Weighed) → All (IsWeightFloor w) floors.old.items → All (IsWeightFloor w) floors.new.items }
+{
+    if floors.len() >= KEPT {
+        floors.remove(1);
+    }
+}
+
+/// Keeps one floor more.
+fn keep(floors: &mut Vec<Floor>, floor: Floor) -> Result<(), AllocError>
+    ensures { (w : Weighed) → All (IsWeightFloor w) floors.old.items → IsWeightFloor w floor → All (IsWeightFloor w) floors.new.items }
+{
+    make_room(floors);
+    floors.push(floor)?;
+    Ok(())
+}
+
 impl Bar {
     /// So much weight is no less than that of the quality.
     pub(crate) fn is_reached(&self, weight: Wide) -> bool
@@ -225,10 +243,7 @@ impl<'a> WeightFloors<'a> {
         let Some(floor) = table.floor(context.alloc(), &self.weighing, &players, left)? else {
             return Ok(false);
         };
-        if self.floors.len() >= KEPT {
-            self.floors.remove(1);
-        }
-        self.floors.push(floor)?;
+        keep(&mut self.floors, floor)?;
         Ok(true)
     }
 
