@@ -53,12 +53,12 @@ abbrev pub IsWeightFloor : Weighed → FloorTable → Type 0
 IsWeightFloor weighed floor =
     IsFloor (weighing weighed.facts weighed.reached weighed.scale) (numbers weighed.reached) (length weighed.reached.seats - 2 * weighed.shape.pairs) floor
 
--- floors of a bracket and a shape, on a scale of more digits than the bracket has players
+-- floors of a bracket and a shape, on a scale whose base is above the number of players
 pub record AreFloors (weighed : Weighed) (floors : List FloorTable) : Type 0 where
   pub high : length weighed.reached.seats < weighed.scale.base
   pub hold : All (IsWeightFloor weighed) floors
 
--- no candidate behind a beginning weighs less, on a scale of more digits than the bracket has players
+-- no candidate behind a beginning weighs less, on a scale whose base is above the number of players
 pub record IsLeast (weighed : Weighed) (b : Beginning) (least : ℕ) : Type 0 where
   pub high : length weighed.reached.seats < weighed.scale.base
   pub none_less : (lower : List ℕ) (a : Arrangement) → IsOf weighed.facts weighed.reached → Fits (frame_of weighed.facts weighed.reached) weighed.shape
@@ -75,7 +75,8 @@ pub record AreOf (facts : Facts) (reached : Reached) (shape : Shape) (weighed : 
 abbrev pub IsNoBetter : NextValue → NextValue → Type 0
 IsNoBetter next other = (next.pairs ≤ other.pairs) × (next.pairs ≡ other.pairs → is_lower next.psd other.psd ≡ false)
 
--- a bar is that of a quality: what it weighs, and what all with a higher PSD weigh at least
+-- a bar is that of a quality, on a scale with a digit for each of its differences: what it weighs, and what all with a higher PSD weigh at
+-- least
 pub record IsBar (scale : Scale) (quality : Quality) (bar : Bar) : Type 0 where
   pub weight : bar.weight ≡ weight_of scale quality
   pub above : bar.above ≡ weight_of scale (above_psd scale quality)
