@@ -4,3 +4,4 @@ pub mod Covering
 pub mod Barriers
 pub mod Witnesses
 pub mod TableLemmas
+pub mod FloorLemmas

@@ -1,6 +1,6 @@
 -- Certificates that no matching is cheap.
 use Rattle.std.specs.Prelude.{◌≡◌, ℕ, ◌+◌, ◌-◌, ◌*◌, ◌/◌, ◌≤◌, Bool, true, ◌&&◌, if◌then◌else◌, List, All, length, sum_by, count_by}
-use Rattle.dual.specs.Matchings.{Costs, IsMatching, IsPartOf, in_both, cost}
+use Rattle.dual.specs.Matchings.{Costs, in_both}
 
 -- a set of players, and the price of each pair inside it
 pub record Priced : Type 0 where

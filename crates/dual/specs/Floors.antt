@@ -1,6 +1,6 @@
 -- What every matching costs at least, and what known pairs and known players left over add to that.
-use Rattle.std.specs.Prelude.{◌≡◌, ℕ, ◌+◌, ◌*◌, ◌^◌, ◌<◌, ◌≤◌, true, if◌then◌else◌, nat_lt, List, [], All, length, sum_by, slice_index_or}
-use Rattle.dual.specs.Matchings.{Costs, IsMatching, IsPartOf, in_both, cost}
+use Rattle.std.specs.Prelude.{◌≡◌, ℕ, ◌+◌, ◌*◌, ◌<◌, ◌≤◌, true, if◌then◌else◌, nat_lt, List, [], All, length, sum_by, slice_index_or}
+use Rattle.dual.specs.Matchings.{Costs, IsMatching, IsPartOf, cost}
 use Rattle.dual.specs.Duals.{Certificate, bears, bears_left, slack, slack_left, gains, losses, pairs_of, value}
 
 -- a base, and what each pair and each player left over adds: a pair's number stands in the row of its first player

@@ -1,9 +1,9 @@
 // The check of a certificate, pair by pair: what each pair, and each player left over, could bear beyond its potentials.
-ghost use Rattle.std.specs.Prelude.{◌≡◌, ◌+◌, ◌-◌, ◌*◌, ◌/◌, ◌^◌, ◌<◌, ◌≤◌, ◌↔◌, ◌⊎◌, ℕ, true, All, IfOk, IfSome, IsSome, IsTrue, SomeIff, length, map, sum_by, slice_index_or, vec_len};
-ghost use Rattle.std.specs.List.{filter};
-ghost use Rattle.dual.specs.Duals.{IsFeasible, bears, bears_left, slack, slack_left, losses, gains, pairs_of, Bears};
+ghost use Rattle.std.specs.Prelude.{◌≡◌, ◌+◌, ◌*◌, ◌^◌, ◌<◌, ◌≤◌, ◌↔◌, ℕ, true, All, IfOk, IfSome, IsSome, IsTrue, SomeIff, length, sum_by, slice_index, vec_len};
+ghost use Rattle.dual.specs.Duals.{IsFeasible, bears_left, slack, slack_left, losses, gains, pairs_of, toll};
 ghost use Rattle.dual.specs.Floors.{IsFloor, IsFloorOf, IsBelow};
-ghost use Rattle.dual.specs.Tables.{has_mark, toll_of, certificate_in};
+ghost use Rattle.dual.specs.Checks.{CanBear, CanBearLeft, AllBear, HasSlacks};
+ghost use Rattle.dual.specs.Tables.{toll_of, certificate_in};
 
 use crate::floor::Floor;
 use crate::rule::Rule;
@@ -22,6 +22,7 @@ struct Row<'a> {
 impl Row<'_> {
     // What a pair of the row's player pays.
     fn tolls(&self, v: u16) -> Option<Wide>
+        ensures { let tolls = sum_by (λ set. toll_of v set.now) self.now.sets.items in SomeIff result (tolls < 2 ^ 256) tolls }
     {
         let mut sum = Wide::zero();
         for set in &self.sets {
@@ -34,7 +35,7 @@ impl Row<'_> {
 // One more than the greatest number.
 fn size_for(players: &[u16]) -> usize
     ensures above { All (λ v. v < result) players.now }
-    ensures few { result ≤ 65536 }
+    ensures few { result ≤ MOST }
 {
     let mut size = 0;
     for v in players {
@@ -45,7 +46,10 @@ fn size_for(players: &[u16]) -> usize
 
 impl Table {
     fn row(&self, alloc: Global, player: u16, size: usize) -> Result<Row<'_>, AllocError>
-        requires { size ≤ 65536 }
+        requires { size ≤ MOST }
+        ensures player { IfOk result (λ row. row.player ≡ player) }
+        ensures start { IfOk result (λ row. row.start ≡ player * size) }
+        ensures sets { IfOk result (λ row. (v : ℕ) → sum_by (λ set. toll_of v set.now) row.sets.items ≡ sum_by (toll (player, v)) (certificate_in self.now).sets) }
     {
         let sets = self
             .sets
@@ -60,7 +64,13 @@ impl Table {
     }
 
     // What a pair of the row's player could bear beyond its potentials; none if it cannot bear them.
-    fn slack<R: Rule>(&self, rule: &R, row: &Row<'_>, v: u16) -> Option<Wide> {
+    fn slack<R: Rule>(&self, rule: &R, row: &Row<'_>, v: u16) -> Option<Wide>
+        requires first { R.knows rule.now row.now.player }
+        requires second { R.knows rule.now v }
+        requires sets { (v : ℕ) → sum_by (λ set. toll_of v set.now) row.now.sets.items ≡ sum_by (toll (row.now.player, v)) (certificate_in self.now).sets }
+        ensures { SomeIff result (CanBear (R.costs rule.now) (certificate_in self.now) (2 ^ 256) row.now.player v)
+            (slack (R.costs rule.now) (certificate_in self.now) (row.now.player, v)) }
+    {
         let weight = rule.weight(row.player, v);
         let bears = weight.plus(self.given)?.plus(row.tolls(v)?)?;
         bears
@@ -71,16 +81,23 @@ impl Table {
     // What a player left over could bear beyond the potential; none if the player cannot bear it.
     fn slack_left<R: Rule>(&self, rule: &R, v: u16) -> Option<Wide>
         requires { R.knows rule.now v }
-        ensures { SomeIff result ((bears_left (R.costs rule.now) (certificate_in self.now) v < 2 ^ 256)
-            × ((certificate_in self.now).potential v ≤ bears_left (R.costs rule.now) (certificate_in self.now) v))
-            (slack_left (R.costs rule.now) (certificate_in self.now) v) }
+        ensures { SomeIff result (CanBearLeft (R.costs rule.now) (certificate_in self.now) (2 ^ 256) v) (slack_left (R.costs rule.now) (certificate_in self.now) v) }
     {
         let bears = rule.left_cost(v).plus(self.given_left)?;
         bears.minus(self.potential(v))
     }
 
     // Writes the slacks of a row, and says whether all pairs can bear their potentials.
-    fn fill<R: Rule>(&self, rule: &R, row: &Row<'_>, players: &[u16], extra: &mut [Wide]) -> bool {
+    fn fill<R: Rule>(&self, rule: &R, row: &Row<'_>, players: &[u16], extra: &mut [Wide]) -> bool
+        requires first { R.knows rule.now row.now.player }
+        requires known { All (R.knows rule.now) players.now }
+        requires within { All (λ v. row.now.start + v < length extra.old) players.now }
+        requires few { length extra.old ≤ MOST * MOST }
+        requires sets { (v : ℕ) → sum_by (λ set. toll_of v set.now) row.now.sets.items ≡ sum_by (toll (row.now.player, v)) (certificate_in self.now).sets }
+        ensures whole { IsTrue result ↔ AllBear (R.costs rule.now) (certificate_in self.now) (2 ^ 256) row.now.player players.now }
+        ensures value { IsTrue result → HasSlacks (R.costs rule.now) (certificate_in self.now) row.now.player players.now row.now.start extra.new }
+        ensures others { (k : ℕ) → (All (λ v. ¬ (row.now.start + v ≡ k)) players.now) → slice_index extra.new k ≡ slice_index extra.old k }
+    {
         for v in players {
             if rule.may_meet(row.player, *v) {
                 let Some(slack) = self.slack(rule, row, *v) else {
@@ -99,7 +116,13 @@ impl Table {
         rule: &R,
         players: &[u16],
         size: usize,
-    ) -> Result<Option<Vec<Wide>>, AllocError> {
+    ) -> Result<Option<Vec<Wide>>, AllocError>
+        requires known { All (R.knows rule.now) players.now }
+        requires below { All (λ v. v < size) players.now }
+        requires few { size ≤ MOST }
+        ensures whole { IfOk result (λ found. IsSome found ↔ All (λ u. AllBear (R.costs rule.now) (certificate_in self.now) (2 ^ 256) u players.now) players.now) }
+        ensures value { IfOk result (λ found. IfSome found (λ extra. All (λ u. HasSlacks (R.costs rule.now) (certificate_in self.now) u players.now (u * size) extra.items) players.now)) }
+    {
         let mut extra = vec![in alloc; Wide::zero(); size * size]?;
         for a in players {
             let row = self.row(alloc, *a, size)?;
@@ -117,7 +140,14 @@ impl Table {
         rule: &R,
         players: &[u16],
         size: usize,
-    ) -> Result<Option<Vec<Wide>>, AllocError> {
+    ) -> Result<Option<Vec<Wide>>, AllocError>
+        requires known { All (R.knows rule.now) players.now }
+        requires below { All (λ v. v < size) players.now }
+        ensures whole { IfOk result (λ found. IsSome found ↔ All (λ v. (R.costs rule.now).may_be_left v ≡ true
+            → CanBearLeft (R.costs rule.now) (certificate_in self.now) (2 ^ 256) v) players.now) }
+        ensures value { IfOk result (λ found. IfSome found (λ extra. All (λ v. (R.costs rule.now).may_be_left v ≡ true
+            → slice_index extra.items v ≡ slack_left (R.costs rule.now) (certificate_in self.now) v) players.now)) }
+    {
         let mut extra = vec![in alloc; Wide::zero(); size]?;
         for v in players {
             if rule.may_be_left(*v) {

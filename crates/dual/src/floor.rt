@@ -30,7 +30,11 @@ impl Model for Floor {
 fn at(numbers: &[Wide], index: usize) -> Wide
     ensures { result ≡ slice_index_or numbers.now index 0 }
 {
-    if index < numbers.len() { numbers[index] } else { Wide::zero() }
+    if index < numbers.len() {
+        numbers[index]
+    } else {
+        Wide::zero()
+    }
 }
 
 impl Floor {

@@ -1,5 +1,5 @@
 // A certificate as tables by the players' numbers, and its value.
-ghost use Rattle.std.specs.Prelude.{◌≡◌, ◌+◌, ◌*◌, ◌^◌, ◌<◌, ◌≤◌, SomeIff, [], length, count_by, if◌then◌else◌};
+ghost use Rattle.std.specs.Prelude.{◌≡◌, ◌+◌, ◌-◌, ◌*◌, ◌^◌, ◌<◌, ◌≤◌, SomeIff, length, count_by, if◌then◌else◌};
 ghost use Rattle.dual.specs.Duals.{most_inside, gains, losses, pairs_of};
 ghost use Rattle.dual.specs.Tables.{has_mark, toll_of, potential_in, certificate_in, most_toll, most_tolls};
 
@@ -102,9 +102,7 @@ impl Table {
         let pairs = (players.len() - left) / 2;
         let given = self.given.times(pairs as u32)?;
         let given_left = self.given_left.times(left as u32)?;
-        given
-            .plus(given_left)?
-            .plus(self.most_tolls(players)?)
+        given.plus(given_left)?.plus(self.most_tolls(players)?)
     }
 
     // The value of the certificate, unless it is negative.

@@ -191,23 +191,23 @@ fn a_priced_set_of_four(rt: HostRuntime) -> Result<(), Fail> {
     Ok(())
 }
 
-// A certificate of nothing bounds nothing; a pair that is known brings its cost, and a set inside which it is its price. Two who may not meet
-// add nothing, and nobody does who is not in the table.
+// Each pair that is known adds what it costs, less its potentials, and the price of the set that it is inside. Two who may not meet add
+// nothing, and nobody does who is not in the table.
 #[test]
 fn known_pairs_bring_their_slack(rt: HostRuntime) -> Result<(), Fail> {
     let six = [1, 2, 3, 4, 5, 6];
-    let flat = table(rt.alloc(), &[], (0, 0), (&THREE, 3))?;
+    let priced = table(rt.alloc(), &[0, 2, 2, 2], (0, 0), (&THREE, 3))?;
     let rule = Fours {
         near: 2,
         leaves: 6,
         left: 7,
     };
-    let floor = flat.floor(rt.alloc(), &rule, &six, 0)?;
+    let floor = priced.floor(rt.alloc(), &rule, &six, 0)?;
     let Some(floor) = floor else {
         return Err(Fail::new("a floor"));
     };
-    assert_eq!(rt; floor.base(), Wide::zero());
-    for (a, b, extra) in [(5, 6, 2), (3, 4, 10), (1, 2, 5), (3, 5, 0), (7, 5, 0), (5, 7, 0)] {
+    assert_eq!(rt; floor.base(), Wide::from_u64(3));
+    for (a, b, extra) in [(5, 6, 2), (3, 4, 8), (1, 2, 1), (3, 5, 0), (7, 5, 0), (5, 7, 0)] {
         assert_eq!(rt; floor.extra(a, b), Wide::from_u64(extra));
     }
     for (a, extra) in [(6, 7), (5, 0), (700, 0)] {

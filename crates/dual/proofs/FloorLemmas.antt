@@ -1,0 +1,176 @@
+-- What is written of a checked certificate, and that it is a floor.
+use Rattle.std.proofs.Common.{◌≡◌, ◌≢◌, ℕ, ◌+◌, ◌-◌, ◌*◌, ◌<◌, ◌≤◌, Bool, true, cond, nat_eq, List, [], ◌∷◌, All, length, take, drop, get_or, set, sum_by, refl, inl, inr, sym, ap, subst, ◌∙◌, arith}
+use Rattle.std.proofs.lemmas.Bool.{cases_Bool, cases_lt, eqb-true, eq-eqb, lt-ltb}
+use Rattle.std.proofs.lemmas.List.{get_or-set_same, get_or-set_other}
+use Rattle.std.proofs.lemmas.List.Elements.{All-more, All-weaker, All-head, All-tail}
+use Rattle.std.proofs.lemmas.List.Sums.{sum_by-cons, sum_by-drop_more, sum_by-le-sum_by}
+use Rattle.std.proofs.Math.Nat.{add-mul, mul-le-mul_right}
+use Rattle.dual.specs.Checks.{HasSlacks}
+use Rattle.dual.specs.Duals.{Certificate, IsFeasible, slack, slack_left, gains, losses, pairs_of}
+use Rattle.dual.specs.Floors.{FloorTable, extra_in, extra_left_in, IsFloor, IsFloorOf, TellsSlack, TellsSlackLeft}
+use Rattle.dual.specs.Matchings.{Costs, IsPartOf, in_both}
+use Rattle.dual.proofs.Sums.{sum_plus, one, one_itself, of_member}
+use Rattle.dual.proofs.WeakDuality.{bounded_beside, counted}
+
+-- the next of what is summed goes from what is to come to what has been
+pub sum_next : {X : Type 0} (f : X → ℕ) (xs ys : List X) (i : ℕ) (x : X) → i < length xs → x ≡ get_or ys i x → ys ≡ xs
+    → sum_by f (drop i xs) ≡ f x + sum_by f (drop (i + 1) xs)
+sum_next f xs ys i x inside e same =
+    let read : x ≡ get_or xs i x = e ∙ ap (λ zs. get_or zs i x) same in
+    omega (arith, sum_by-drop_more f xs i x inside, ap f read)
+
+-- ---- a number is written in its player's place
+
+module _ (at slack : ℕ → ℕ) (asks : ℕ → Bool) (same : (v w : ℕ) → at v ≡ at w → v ≡ w) where
+  abbrev Stands : List ℕ → ℕ → Type 0
+  Stands extra v = asks v ≡ true → get_or extra (at v) 0 ≡ slack v
+
+  kept : (extra : List ℕ) (p s v : ℕ) → at p < length extra → s ≡ slack p → get_or extra (at v) 0 ≡ slack v → get_or (set extra (at p) s) (at v) 0 ≡ slack v
+  kept extra p s v inside e h = elim (cases_Bool (nat_eq (at v) (at p))) [
+    | inl here ↦
+        let is : v ≡ p = same v p (eqb-true (at v) (at p) here) in
+        ap (λ u. get_or (set extra (at p) s) (at u) 0) is ∙ get_or-set_same extra (at p) s 0 inside ∙ e ∙ ap slack (sym is)
+    | inr other ↦
+        let ne : at v ≢ at p = λ is. cc (eq-eqb (at v) (at p) is, other) in
+        get_or-set_other extra (at p) (at v) s 0 ne ∙ h
+  ]
+
+  pub stands_more : (players : List ℕ) (i : ℕ) (extra new : List ℕ) (k s : ℕ) → i < length players → k < length extra → k ≡ at (get_or players i 0)
+      → new ≡ set extra k s → s ≡ slack (get_or players i 0) → All (Stands extra) (take i players) → All (Stands new) (take (i + 1) players)
+  stands_more players i extra new k s lt inside place written e told =
+      let p : ℕ = get_or players i 0 in
+      let there : at (get_or players i 0) < length extra = omega (arith, place, inside) in
+      let after : new ≡ set extra (at (get_or players i 0)) s = written ∙ ap (λ j. set extra j s) place in
+      subst (λ xs. All (Stands xs) (take (i + 1) players)) (sym after)
+      (All-more (Stands (set extra (at (get_or players i 0)) s)) players i 0 lt
+      (All-weaker (Stands extra) (Stands (set extra (at (get_or players i 0)) s)) (λ v h asked. kept extra (get_or players i 0) s v there e (h asked)) (take i players) told)
+      (λ asked. get_or-set_same extra (at (get_or players i 0)) s 0 there ∙ e))
+
+-- ---- rows of a square
+
+pub inside_square : (a v size : ℕ) → a < size → v < size → a * size + v < size * size
+inside_square a v size first second =
+    let step : a + 1 ≤ size = omega arith in
+    let rows : (a + 1) * size ≤ size * size = mul-le-mul_right size step in
+    omega (arith, rows, add-mul a 1 size)
+
+other_row : (a u w v size : ℕ) → w < size → v < size → a ≢ u → a * size + w ≢ u * size + v
+other_row a u w v size first second ne e = elim (cases_lt a u) [
+  | inl below ↦
+      let step : a + 1 ≤ u = omega arith in
+      let rows : (a + 1) * size ≤ u * size = mul-le-mul_right size step in
+      omega (arith, rows, e, add-mul a 1 size)
+  | inr above ↦
+      let step : u + 1 ≤ a = omega arith in
+      let rows : (u + 1) * size ≤ a * size = mul-le-mul_right size step in
+      omega (arith, rows, e, add-mul u 1 size)
+]
+
+module _ (costs : Costs) (certificate : Certificate) (size : ℕ) (players : List ℕ) (below : All (λ v. v < size) players) where
+  abbrev Row : List ℕ → ℕ → Type 0
+  Row extra u = HasSlacks costs certificate u players (u * size) extra
+
+  row_kept : (a u start : ℕ) (old new : List ℕ) → start ≡ a * size → ((k : ℕ) → All (λ v. ¬ (start + v ≡ k)) players → get_or new k 0 ≡ get_or old k 0)
+      → HasSlacks costs certificate a players start new → Row old u → Row new u
+  row_kept a u start old new begins others row h = elim (cases_Bool (nat_eq a u)) [
+    | inl here ↦
+        let is : a ≡ u = eqb-true a u here in
+        subst (Row new) is (subst (λ n. HasSlacks costs certificate a players n new) begins row)
+    | inr other ↦ λ k d lt met.
+        let ne : a ≢ u = λ is. cc (eq-eqb a u is, other) in
+        let v : ℕ = get_or players k d in
+        others (u * size + get_or players k d) (λ j e there is. other_row a u (get_or players j e) (get_or players k d) size (below j e there) (below k d lt) ne (ap (λ n. n + get_or players j e) (sym begins) ∙ is))
+        ∙ h k d lt met
+  ]
+
+  pub rows_more : (i start : ℕ) (old new : List ℕ) → i < length players → start ≡ get_or players i 0 * size
+      → ((k : ℕ) → All (λ v. ¬ (start + v ≡ k)) players → get_or new k 0 ≡ get_or old k 0)
+      → HasSlacks costs certificate (get_or players i 0) players start new
+      → All (Row old) (take i players) → All (Row new) (take (i + 1) players)
+  rows_more i start old new lt begins others row told =
+      All-more (Row new) players i 0 lt
+      (All-weaker (Row old) (Row new) (λ u h. row_kept (get_or players i 0) u start old new begins others row h) (take i players) told)
+      (subst (λ n. HasSlacks costs certificate (get_or players i 0) players n new) begins row)
+
+-- ---- what is told is a floor
+
+-- where no member of a whole has more than another weight, no part has more
+sum_within : {X : Type 0} (f g : X → ℕ) (known all : List X) → IsPartOf known all → sum_by (λ x. f x - g x) all ≡ 0 → sum_by f known ≤ sum_by g known
+sum_within f g known all part none =
+    omega (
+      arith,
+      none,
+      part.whole (λ x. f x - g x),
+      sum_by-le-sum_by f (λ x. g x + (f x - g x)) known (λ x. omega arith),
+      sum_plus g (λ x. f x - g x) known,
+    )
+
+module _ (costs : Costs) (players : List ℕ) (certificate : Certificate) (floor : FloorTable) where
+  abbrev IsMet : ℕ × ℕ → Type 0
+  IsMet pair = costs.meets pair.0 pair.1 ≡ true
+
+  abbrev MayStay : ℕ → Type 0
+  MayStay v = costs.may_be_left v ≡ true
+
+  abbrev stands : ℕ → Type 0
+  stands v = 0 < sum_by (one v) players
+
+  -- what the pairs of a matching add is their slack
+  pairs_told : All (λ u. All (TellsSlack costs certificate floor u) players) players → (pairs : List (ℕ × ℕ)) → ((x : ℕ) → 0 < sum_by (in_both (one x)) pairs → stands x)
+      → All IsMet pairs → sum_by (λ pair. extra_in floor pair - slack costs certificate pair) pairs ≡ 0
+  pairs_told told [] inside may = refl
+  pairs_told told (pair ∷ pairs) inside may =
+      let first : stands pair.0 = inside pair.0 (omega (arith, sum_by-cons (in_both (one pair.0)) pair pairs, one_itself pair.0)) in
+      let second : stands pair.1 = inside pair.1 (omega (arith, sum_by-cons (in_both (one pair.1)) pair pairs, one_itself pair.1)) in
+      let row : All (TellsSlack costs certificate floor pair.0) players = of_member (λ u. All (TellsSlack costs certificate floor u) players) pair.0 players told first in
+      let here : extra_in floor pair ≡ slack costs certificate pair =
+      of_member (TellsSlack costs certificate floor pair.0) pair.1 players row second (All-head IsMet pair pairs may) in
+      omega (
+        arith,
+        here,
+        sum_by-cons (λ p. extra_in floor p - slack costs certificate p) pair pairs,
+        pairs_told told pairs (λ x some. inside x (omega (arith, some, sum_by-cons (in_both (one x)) pair pairs))) (All-tail IsMet pair pairs may),
+      )
+
+  -- what its players left over add is theirs
+  left_told : All (TellsSlackLeft costs certificate floor) players → (left : List ℕ) → ((x : ℕ) → 0 < sum_by (one x) left → stands x) → All MayStay left
+      → sum_by (λ v. extra_left_in floor v - slack_left costs certificate v) left ≡ 0
+  left_told told [] inside may = refl
+  left_told told (v ∷ left) inside may =
+      let member : stands v = inside v (omega (arith, sum_by-cons (one v) v left, one_itself v)) in
+      let here : extra_left_in floor v ≡ slack_left costs certificate v =
+      of_member (TellsSlackLeft costs certificate floor) v players told member (All-head MayStay v left may) in
+      omega (
+        arith,
+        here,
+        sum_by-cons (λ u. extra_left_in floor u - slack_left costs certificate u) v left,
+        left_told told left (λ x some. inside x (omega (arith, some, sum_by-cons (one x) v left))) (All-tail MayStay v left may),
+      )
+
+-- the floor that a feasible certificate is, if it gains what it gives away, bounds every matching
+pub floor_least : (costs : Costs) (players : List ℕ) (left : ℕ) (certificate : Certificate) (floor : FloorTable) → IsFeasible costs players certificate
+    → losses certificate players (pairs_of players left) left ≤ gains certificate players → IsFloorOf costs players left certificate floor
+    → IsFloor costs players left floor
+floor_least costs players left certificate floor feasible whole told = λ pairs out matching e known known_left part part_left.
+    let number : pairs_of players left ≡ length pairs = omega (arith, counted costs players pairs out matching, e) in
+    let same : losses certificate players (pairs_of players left) left ≡ losses certificate players (length pairs) (length out) =
+    ap (λ n. losses certificate players n left) number ∙ ap (losses certificate players (length pairs)) (sym e) in
+    omega (
+      arith,
+      same,
+      whole,
+      told.base,
+      bounded_beside costs players certificate pairs out feasible matching known known_left part part_left,
+      sum_within (extra_in floor) (slack costs certificate) known pairs part
+          (pairs_told costs players certificate floor told.pairs pairs (λ x some. omega (arith, some, matching.whole (one x))) matching.may_meet),
+      sum_within (extra_left_in floor) (slack_left costs certificate) known_left out part_left
+          (left_told costs players certificate floor told.left_over out (λ x some. omega (arith, some, matching.whole (one x))) matching.may_be_left),
+    )
+
+-- rows of a square, as a floor has them, tell the slacks
+pub rows_tell : (costs : Costs) (players : List ℕ) (certificate : Certificate) (floor : FloorTable) → All (λ v. v < floor.size) players
+    → All (λ u. HasSlacks costs certificate u players (u * floor.size) floor.extra) players → All (λ u. All (TellsSlack costs certificate floor u) players) players
+rows_tell costs players certificate floor below rows = λ k d lt j e there met.
+    let u : ℕ = get_or players k d in
+    let v : ℕ = get_or players j e in
+    ap (λ b. cond b (get_or floor.extra (get_or players k d * floor.size + get_or players j e) 0) 0) (lt-ltb (get_or players j e) floor.size (below j e there)) ∙ rows k d lt j e there met

@@ -1,0 +1,29 @@
+-- Each matching costs the floor at least, by weak duality.
+use Rattle.std.proofs.Common.{ℕ, List, refl, arith}
+use Rattle.dual.specs.Duals.{Certificate, IsFeasible}
+use Rattle.dual.specs.Floors.{FloorTable, IsFloorOf}
+use Rattle.dual.specs.Matchings.{Costs}
+use Rattle.dual.specs.Tables.{certificate_in}
+use Rattle.dual.proofs.FloorLemmas.{floor_least, rows_tell}
+use Rattle.dual.proofs.table.Table.floor.Goals as goal
+
+pub returns-clause-least : goal.returns-clause-least
+returns-clause-least g c =
+    let costs : Costs = g.R.Rule.costs c.args.rule.now in
+    let certificate : Certificate = certificate_in c.args.self.now in
+    let players : List ℕ = c.args.players.now in
+    let floor : FloorTable = record { base = c.in-Some.base; size = c.size_for-size.result; extra = c.in-Some-3.extra.items; extra_left = c.in-Some-2.extra_left.items } in
+    let bears = rw c.in-Some-3.is at c.in_ok-extra.ensures.whole in
+    let rows = rw c.in-Some-3.is at c.in_ok-extra.ensures.value in
+    let bears_left = rw c.in-Some-2.is at c.in_ok-extra_left.ensures.whole in
+    let told_left = rw c.in-Some-2.is at c.in_ok-extra_left.ensures.value in
+    let feasible : IsFeasible costs players certificate = record {
+      pairs = λ k d lt j e there met. (bears.0 refl k d lt j e there met).1;
+      left = λ k d lt may. (bears_left.0 refl k d lt may).1;
+    } in
+    let told : IsFloorOf costs players c.args.left certificate floor = record {
+      base = omega (arith, c.in-Some.ensures.1);
+      pairs = rows_tell costs players certificate floor c.size_for-size.ensures.above rows;
+      left_over = told_left;
+    } in
+    floor_least costs players c.args.left certificate floor feasible c.in-Some.ensures.0.2 told
