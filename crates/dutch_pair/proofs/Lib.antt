@@ -1,3 +1,4 @@
+pub mod AboveLemmas
 pub mod BoundSums
 pub mod WeightsBehind
 pub mod CandidateMatchings
