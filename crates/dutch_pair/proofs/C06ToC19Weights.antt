@@ -334,8 +334,8 @@ module _ (facts : Facts) (reached : Reached) (scale : Scale) where
   pub weight_sum : (pairs : List (ℕ × ℕ)) (down : List ℕ) (next : NextValue) → weight_of scale (of facts reached pairs down next) ≡ sum_by pair_alone pairs + sum_by down_alone down
   weight_sum [] [] next =
       weight_read (of facts reached [] [] next) scale
-      ∙ written_none scale.base (readers scale) (of facts reached [] [] next)
-      (all_so (IsSum facts reached) _ (λ digit sum. none_of_none facts reached digit sum next) (readers scale) (all_sums facts reached scale))
+      ∙ ap (λ n. 2 * n) (written_none scale.base (readers scale) (of facts reached [] [] next)
+      (all_so (IsSum facts reached) _ (λ digit sum. none_of_none facts reached digit sum next) (readers scale) (all_sums facts reached scale)))
   weight_sum [] (seat ∷ down) next =
       let more = weight_more (of facts reached [] (seat ∷ down) next) (of facts reached [] (seat ∷ []) no_value) (of facts reached [] down next)
       (all_so (IsSum facts reached) _ (λ digit sum. down_more facts reached digit sum seat down next) (readers scale) (all_sums facts reached scale)) in

@@ -113,10 +113,10 @@ module _ (q : Quality) where
   written_read base front [] = refl
   written_read base front (digit ∷ digits) = written_read base (base * front + digit q) digits
 
-  -- the weight is the number that is read
-  pub weight_read : (scale : Scale) → weight_of scale q ≡ read_off scale.base 0 (readers scale) q
+  -- the weight is twice the number that is read
+  pub weight_read : (scale : Scale) → weight_of scale q ≡ 2 * read_off scale.base 0 (readers scale) q
   unfolding weight_of
-  weight_read scale = ap (written scale.base 0) (sym (digits_read scale)) ∙ written_read scale.base 0 (readers scale)
+  weight_read scale = ap (λ n. 2 * n) (ap (written scale.base 0) (sym (digits_read scale)) ∙ written_read scale.base 0 (readers scale))
 
   each_read : (base : ℕ) (digits : List (Quality → ℕ)) → AllByRecursion (λ n. n < base) (reading digits) → AllByRecursion (λ (digit : Quality → ℕ). digit q < base) digits
   each_read base [] all = tt

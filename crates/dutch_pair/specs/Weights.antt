@@ -40,9 +40,9 @@ abbrev pub written : ℕ → ℕ → List ℕ → ℕ
 written base front [] = front
 written base front (digit ∷ digits) = written base (base * front + digit) digits
 
--- the number with the digits of a quality
+-- twice the number with the digits of a quality, so that half of a weight is whole
 unfoldable pub weight_of : Scale → Quality → ℕ
-weight_of scale quality = written scale.base 0 (digits scale quality)
+weight_of scale quality = 2 * written scale.base 0 (digits scale quality)
 
 -- a quality that weighs more than any with the PSD of another and digits below the base, and no more than any with a higher PSD
 abbrev pub above_psd : Scale → Quality → Quality
