@@ -47,4 +47,5 @@ pub mod Wishes
 pub mod RuledOut
 pub mod KnownBeside
 pub mod Barriers
+pub mod WeightTables
 pub mod Weights

@@ -83,6 +83,12 @@ weighing facts reached scale = record {
   left_cost = weight_of_one_down facts reached scale;
 }
 
+-- a bracket of a field, and the scale on which its pairs and its downfloaters are weighed
+pub record Weighing : Type 0 where
+  pub facts : Facts
+  pub reached : Reached
+  pub scale : Scale
+
 -- all numbers of a bracket
 abbrev pub numbers : Reached → List ℕ
 numbers reached = numbers_from 1 (length reached.seats)

@@ -35,7 +35,7 @@ impl<'a> Model for PairFacts<'a> {
 }
 
 /// Where a table of so many players has two numbers.
-fn place_of(n: usize, x: u16, y: u16) -> usize
+pub(crate) fn place_of(n: usize, x: u16, y: u16) -> usize
     requires few { n ≤ LIMIT }
     requires first { (0 < x) × (x ≤ n) }
     requires second { (0 < y) × (y ≤ n) }

@@ -234,18 +234,24 @@ pub(crate) fn fill_others(field: &Field, candidate: &Seated, quality: &mut Quali
     quality.up_again_before = quality.up_again_before_by.len();
 }
 
-/// Fills the quality of a candidate of a bracket with these seats, for the value of the next bracket that it has.
+/// Fills a quality with the items of a candidate by seats, except that of C.7, which stays.
 #[tactic(auto, unfolding(crate::specs::Quality::quality_with, crate::specs::QualityIn::with_others))]
+pub(crate) fn fill_seated(field: &Field, candidate: &Seated, quality: &mut Quality)
+    requires { HasSeats field.now candidate.now }
+    ensures { quality_in quality.new ≡ quality_with field.now candidate.now (next_in (quality_in quality.old)) }
+{
+    fill_psd(field, candidate, &mut quality.psd);
+    quality.missed_preferences = count_in_pairs(field, Miss::Preference, &candidate.pairs);
+    quality.missed_strong = count_in_pairs(field, Miss::StrongPreference, &candidate.pairs);
+    fill_others(field, candidate, quality);
+}
+
+/// Fills the quality of a candidate of a bracket with these seats, for the value of the next bracket that it has.
 pub(crate) fn fill_quality(field: &Field, seats: &[u16], candidate: &Candidate, room: &mut Room)
     requires bracket { AreSeats field.now seats.now }
     requires candidate { IsCandidate seats.now candidate.now }
     ensures { quality_in room.new.quality ≡ quality_with field.now (by_seats field.now seats.now candidate.now) (next_in (quality_in room.old.quality)) }
 {
-    let seated = &mut room.seated;
-    let quality = &mut room.quality;
-    seated.fill(field, seats, candidate);
-    fill_psd(field, seated, &mut quality.psd);
-    quality.missed_preferences = count_in_pairs(field, Miss::Preference, &seated.pairs);
-    quality.missed_strong = count_in_pairs(field, Miss::StrongPreference, &seated.pairs);
-    fill_others(field, seated, quality);
+    room.seated.fill(field, seats, candidate);
+    fill_seated(field, &room.seated, &mut room.quality);
 }

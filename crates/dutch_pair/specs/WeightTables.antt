@@ -1,0 +1,49 @@
+-- Tables of what the pairs and the downfloaters of a bracket weigh. Only private functions' clauses cite these.
+use Rattle.std.specs.Prelude.{◌≡◌, ℕ, ◌-◌, ◌*◌, ◌<◌, ◌≤◌, List, length, slice_index}
+use Rattle.dutch_pair.specs.PairFacts.{place_of}
+use Rattle.dutch_pair.specs.Reached.{Reached}
+use Rattle.dutch_pair.specs.Weights.{Weighing, weight_of_one_down, weight_of_pair}
+
+-- a number of a bracket
+abbrev pub IsNumber : Reached → ℕ → Type 0
+IsNumber reached a = (0 < a) × (a ≤ length reached.seats)
+
+-- where a table of pairs has two numbers of a bracket
+abbrev pub place_in : Weighing → ℕ → ℕ → ℕ
+place_in w a b = place_of (length w.reached.seats) a b
+
+-- what two numbers weigh as a pair, and what one weighs as a downfloater
+abbrev pub pair_weight : Weighing → ℕ → ℕ → ℕ
+pair_weight w = weight_of_pair w.facts w.reached w.scale
+
+abbrev pub down_weight : Weighing → ℕ → ℕ
+down_weight w = weight_of_one_down w.facts w.reached w.scale
+
+-- a table tells what each pair weighs whose place is before an end
+abbrev pub TellsPairsUpto : Weighing → List ℕ → ℕ → Type 0
+TellsPairsUpto w table end =
+    (a b : ℕ) → IsNumber w.reached a → IsNumber w.reached b → place_in w a b < end → slice_index table (place_in w a b) ≡ pair_weight w a b
+
+-- a table has a place for each pair, and one for each number
+abbrev pub HasPairs : Weighing → List ℕ → Type 0
+HasPairs w table = length table ≡ length w.reached.seats * length w.reached.seats
+
+abbrev pub HasAll : Weighing → List ℕ → Type 0
+HasAll w table = length table ≡ length w.reached.seats
+
+-- a table tells what each pair weighs
+abbrev pub TellsPairs : Weighing → List ℕ → Type 0
+TellsPairs w table = (a b : ℕ) → IsNumber w.reached a → IsNumber w.reached b → slice_index table (place_in w a b) ≡ pair_weight w a b
+
+-- a table tells what each of the first numbers weighs as a downfloater
+abbrev pub TellsDownUpto : Weighing → List ℕ → ℕ → Type 0
+TellsDownUpto w table end = (a : ℕ) → IsNumber w.reached a → a ≤ end → slice_index table (a - 1) ≡ down_weight w a
+
+-- a table tells what each downfloater weighs
+abbrev pub TellsDown : Weighing → List ℕ → Type 0
+TellsDown w table = (a : ℕ) → IsNumber w.reached a → slice_index table (a - 1) ≡ down_weight w a
+
+-- a pair, or a downfloater, weighs so much
+pub data IsHeavy (w : Weighing) (most : ℕ) : Type 0 where
+  pub pair : (a b : ℕ) → IsNumber w.reached a → IsNumber w.reached b → most ≤ pair_weight w a b → IsHeavy w most
+  pub one_down : (a : ℕ) → IsNumber w.reached a → most ≤ down_weight w a → IsHeavy w most

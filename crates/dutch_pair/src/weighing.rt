@@ -1,0 +1,283 @@
+// What each pair and each downfloater of a bracket weighs alone (C.04.3 C.6, C.8 to C.19), worked out once for all certificates of the bracket.
+ghost use Rattle.std.specs.Prelude.{◌≡◌, ◌+◌, ◌*◌, ◌<◌, ◌≤◌, ◌^◌, true, false, [], ◌∷◌, IfOk, MatchOption, length};
+ghost use Rattle.std.specs.Option.{SomeIff};
+ghost use Rattle.dutch_pair.specs.Beginnings.{seated_so};
+ghost use Rattle.dutch_pair.specs.NextBracket.{no_value};
+ghost use Rattle.dutch_pair.specs.Quality.{quality_with};
+ghost use Rattle.dutch_pair.specs.Seated.{HasSeats, seat_of};
+ghost use Rattle.dutch_pair.specs.WeightTables.{HasAll, HasPairs, IsHeavy, IsNumber, TellsDown, TellsPairs, TellsPairsUpto, down_weight, pair_weight, place_in};
+ghost use Rattle.dutch_pair.specs.Weights.{Weighing, weight_of};
+
+use crate::context::Context;
+use crate::pair_facts::place_of;
+use crate::quality::{Quality, Room, fill_seated};
+use crate::scale::Scale;
+use crate::seated::Seated;
+use dutch_order::Rule;
+use dutch_player::Field;
+use std::alloc::{AllocError, Global};
+use std::marker::Model;
+use wide::Wide;
+
+/// The weights of the pairs and the downfloaters of a bracket.
+#[derive(Drop)]
+pub(crate) struct Weighing<'a> {
+    context: &'a Context<'a>,
+    scale: Scale,
+    // of each two numbers, row by row
+    pairs: Vec<Wide>,
+    // of each number
+    down: Vec<Wide>,
+}
+
+impl<'a> Model for Weighing<'a> {
+    ghost use Rattle.dutch_pair.specs.WeightTables.{HasAll, HasPairs, TellsDown, TellsPairs};
+    ghost use Rattle.dutch_pair.specs.Weights.{Weighing};
+
+    ghost Value = { Weighing };
+
+    ghost view = { λ w. record { facts = w.context.now.facts; reached = w.context.now.reached; scale = w.scale } };
+
+    ghost invariant = { λ w.
+        let weighed : Weighing = record { facts = w.context.now.facts; reached = w.context.now.reached; scale = w.scale }
+        in (HasPairs weighed w.pairs.items × TellsPairs weighed w.pairs.items) × (HasAll weighed w.down.items × TellsDown weighed w.down.items) };
+}
+
+/// What the weights of a bracket are worked out by.
+#[derive(Drop)]
+struct Weigher<'a> {
+    context: &'a Context<'a>,
+    scale: &'a Scale,
+}
+
+impl<'a> Model for Weigher<'a> {
+    ghost use Rattle.dutch_pair.specs.Weights.{Weighing};
+
+    ghost Value = { Weighing };
+
+    ghost view = { λ w. record { facts = w.context.now.facts; reached = w.context.now.reached; scale = w.scale.now } };
+}
+
+/// Fills in two players who meet, by number.
+fn seat_pair(context: &Context<'_>, a: u16, b: u16, seated: &mut Seated)
+    requires first { (0 < a) × (a ≤ length context.now.reached.seats) }
+    requires second { (0 < b) × (b ≤ length context.now.reached.seats) }
+    ensures value { let seats = context.now.reached.seats
+        in seated.new ≡ seated_so context.now.facts context.now.reached ((seat_of seats a, seat_of seats b) ∷ []) [] }
+    ensures inside { HasSeats context.now.facts seated.new }
+{
+    let reached = context.reached();
+    seated.pairs.clear();
+    seated.pairs.push((reached.seat(a), reached.seat(b)));
+    seated.down.clear();
+    seated.lowest = context.lowest();
+}
+
+/// Fills in a downfloater, by number.
+fn seat_one_down(context: &Context<'_>, a: u16, seated: &mut Seated)
+    requires { (0 < a) × (a ≤ length context.now.reached.seats) }
+    ensures value { seated.new ≡ seated_so context.now.facts context.now.reached [] (seat_of context.now.reached.seats a ∷ []) }
+    ensures inside { HasSeats context.now.facts seated.new }
+{
+    seated.pairs.clear();
+    seated.down.clear();
+    seated.down.push(context.reached().seat(a));
+    seated.lowest = context.lowest();
+}
+
+/// The weight of some pairs and downfloaters by seats; none if it is 2^256 or more.
+fn weigh(field: &Field, scale: &Scale, seated: &Seated, quality: &mut Quality) -> Option<Wide>
+    requires { HasSeats field.now seated.now }
+    ensures { let weight = weight_of scale.now (quality_with field.now seated.now no_value) in SomeIff result (weight < 2 ^ 256) weight }
+{
+    fill_seated(field, seated, quality);
+    scale.weigh(quality)
+}
+
+impl Weigher<'_> {
+    /// What a pair weighs alone; none if it is 2^256 or more.
+    fn pair(&self, a: u16, b: u16, room: &mut Room) -> Option<Wide>
+        requires first { IsNumber self.now.reached a }
+        requires second { IsNumber self.now.reached b }
+        ensures { SomeIff result (pair_weight self.now a b < 2 ^ 256) (pair_weight self.now a b) }
+    {
+        seat_pair(self.context, a, b, &mut room.seated);
+        let field = self.context.field();
+        weigh(field, self.scale, &room.seated, &mut room.quality)
+    }
+
+    /// What a downfloater weighs alone; none if it is 2^256 or more.
+    fn one_down(&self, a: u16, room: &mut Room) -> Option<Wide>
+        requires { IsNumber self.now.reached a }
+        ensures { SomeIff result (down_weight self.now a < 2 ^ 256) (down_weight self.now a) }
+    {
+        seat_one_down(self.context, a, &mut room.seated);
+        let field = self.context.field();
+        weigh(field, self.scale, &room.seated, &mut room.quality)
+    }
+
+    /// Puts what a pair weighs into a table; no if it is 2^256 or more.
+    fn put_pair(&self, a: u16, b: u16, room: &mut Room, table: &mut [Wide]) -> bool
+        requires first { IsNumber self.now.reached a }
+        requires second { IsNumber self.now.reached b }
+        requires room { HasPairs self.now table.old }
+        requires told { TellsPairsUpto self.now table.old (place_in self.now a b) }
+        ensures told { result ≡ true → TellsPairsUpto self.now table.new (place_in self.now a b + 1) }
+        ensures heavy { result ≡ false → IsHeavy self.now (2 ^ 256) }
+    {
+        match self.pair(a, b, room) {
+            Some(weight) => {
+                table[place_of(self.context.len(), a, b)] = weight;
+                true
+            }
+            None => false,
+        }
+    }
+
+    /// Puts what the pairs of a number weigh into a table.
+    fn put_row(&self, a: u16, room: &mut Room, table: &mut [Wide]) -> bool
+        requires number { IsNumber self.now.reached a }
+        requires room { HasPairs self.now table.old }
+        requires told { TellsPairsUpto self.now table.old (place_in self.now a 1) }
+        ensures told { result ≡ true → TellsPairsUpto self.now table.new (length self.now.reached.seats * a) }
+        ensures heavy { result ≡ false → IsHeavy self.now (2 ^ 256) }
+    {
+        for b in 0..self.context.len() {
+            if !self.put_pair(a, b as u16 + 1, room, table) {
+                return false;
+            }
+        }
+        true
+    }
+
+    /// Puts what all pairs weigh into a table.
+    fn put_pairs(&self, room: &mut Room, table: &mut [Wide]) -> bool
+        requires { HasPairs self.now table.old }
+        ensures told { result ≡ true → TellsPairs self.now table.new }
+        ensures heavy { result ≡ false → IsHeavy self.now (2 ^ 256) }
+    {
+        for a in 0..self.context.len() {
+            if !self.put_row(a as u16 + 1, room, table) {
+                return false;
+            }
+        }
+        true
+    }
+
+    /// Puts what all downfloaters weigh into a table.
+    fn put_down(&self, room: &mut Room, table: &mut [Wide]) -> bool
+        requires { HasAll self.now table.old }
+        ensures told { result ≡ true → TellsDown self.now table.new }
+        ensures heavy { result ≡ false → IsHeavy self.now (2 ^ 256) }
+    {
+        for a in 0..self.context.len() {
+            match self.one_down(a as u16 + 1, room) {
+                Some(weight) => table[a] = weight,
+                None => return false,
+            }
+        }
+        true
+    }
+}
+
+/// The weights of all pairs, row by row; none if one of them is 2^256 or more.
+fn weigh_pairs(
+    alloc: Global,
+    weigher: &Weigher<'_>,
+    room: &mut Room,
+) -> Result<Option<Vec<Wide>>, AllocError>
+    ensures { IfOk result (λ weighed. MatchOption weighed (IsHeavy weigher.now (2 ^ 256))
+        (λ table. HasPairs weigher.now table.items × TellsPairs weigher.now table.items)) }
+{
+    let count = weigher.context.len();
+    let mut table = vec![in alloc; Wide::zero(); count * count]?;
+    if !weigher.put_pairs(room, &mut table) {
+        return Ok(None);
+    }
+    Ok(Some(table))
+}
+
+/// The weights of all downfloaters; none if one of them is 2^256 or more.
+fn weigh_down(
+    alloc: Global,
+    weigher: &Weigher<'_>,
+    room: &mut Room,
+) -> Result<Option<Vec<Wide>>, AllocError>
+    ensures { IfOk result (λ weighed. MatchOption weighed (IsHeavy weigher.now (2 ^ 256))
+        (λ table. HasAll weigher.now table.items × TellsDown weigher.now table.items)) }
+{
+    let mut table = vec![in alloc; Wide::zero(); weigher.context.len()]?;
+    if !weigher.put_down(room, &mut table) {
+        return Ok(None);
+    }
+    Ok(Some(table))
+}
+
+impl<'a> Weighing<'a> {
+    /// Works out all weights of a bracket; none if one of them is 2^256 or more.
+    pub(crate) fn read(
+        context: &'a Context<'a>,
+        scale: Scale,
+    ) -> Result<Option<Weighing<'a>>, AllocError>
+        ensures { let weighed = record { facts = context.now.facts; reached = context.now.reached; scale = scale }
+            in IfOk result (λ read. MatchOption read (IsHeavy weighed (2 ^ 256)) (λ weighing. weighing ≡ weighed)) }
+    {
+        let mut room = Room::default();
+        let weigher = Weigher {
+            context,
+            scale: &scale,
+        };
+        let Some(pairs) = weigh_pairs(context.alloc(), &weigher, &mut room)? else {
+            return Ok(None);
+        };
+        let Some(down) = weigh_down(context.alloc(), &weigher, &mut room)? else {
+            return Ok(None);
+        };
+        Ok(Some(Weighing {
+            context,
+            scale,
+            pairs,
+            down,
+        }))
+    }
+
+    /// The scale that they are weighed on.
+    pub(crate) fn scale(&self) -> &Scale
+        ensures { result.now ≡ self.now.scale }
+    {
+        &self.scale
+    }
+
+    /// The bracket.
+    pub(crate) fn context(&self) -> &'a Context<'a>
+        ensures facts { result.now.facts ≡ self.now.facts }
+        ensures reached { result.now.reached ≡ self.now.reached }
+    {
+        self.context
+    }
+}
+
+impl dual::Rule for Weighing<'_> {
+    ghost use Rattle.std.specs.Prelude.{◌<◌, ◌≤◌, length};
+    ghost use Rattle.dutch_pair.specs.Weights.{weighing};
+
+    ghost costs = { λ w. weighing w.facts w.reached w.scale };
+
+    ghost knows = { λ w a. (0 < a) × (a ≤ length w.reached.seats) };
+
+    fn may_meet(&self, a: u16, b: u16) -> bool {
+        self.context.rule().may_meet(a, b)
+    }
+
+    fn weight(&self, a: u16, b: u16) -> Wide {
+        self.pairs[place_of(self.context.len(), a, b)]
+    }
+
+    fn may_be_left(&self, a: u16) -> bool {
+        !self.context.reached().kind().ends_round() || self.context.rule().may_be_left(a)
+    }
+
+    fn left_cost(&self, a: u16) -> Wide {
+        self.down[usize::from(a) - 1]
+    }
+}
