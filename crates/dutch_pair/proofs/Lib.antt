@@ -84,6 +84,7 @@ pub mod C11StrongPreferences
 pub mod FreePlayers
 pub mod LegalPairs
 pub mod C10Lonely
+pub mod ScaleLemmas
 pub mod ShapeLaws
 pub mod BoardOrder
 pub mod GroupLaws

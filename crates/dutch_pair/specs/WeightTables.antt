@@ -1,8 +1,22 @@
--- Tables of what the pairs and the downfloaters of a bracket weigh. Only private functions' clauses cite these.
-use Rattle.std.specs.Prelude.{◌≡◌, ℕ, ◌-◌, ◌*◌, ◌<◌, ◌≤◌, List, length, slice_index}
+-- Parts of the digits of a quality, and tables of what the pairs and the downfloaters of a bracket weigh. Only private functions' clauses cite
+-- these.
+use Rattle.std.specs.Prelude.{◌≡◌, ℕ, ◌-◌, ◌*◌, ◌<◌, ◌≤◌, List, [], ◌∷◌, ◌++◌, length, slice_index}
 use Rattle.dutch_pair.specs.PairFacts.{place_of}
+use Rattle.dutch_pair.specs.Quality.{Quality}
 use Rattle.dutch_pair.specs.Reached.{Reached}
-use Rattle.dutch_pair.specs.Weights.{Weighing, weight_of_one_down, weight_of_pair}
+use Rattle.dutch_pair.specs.Weights.{Scale, Weighing, counts, weight_of_one_down, weight_of_pair}
+
+-- the digits of a quality that are numbers of players: C.8 to C.15
+abbrev pub player_digits : Quality → List ℕ
+player_digits q =
+    q.wide_differences ∷ q.third_colours ∷ q.missed_preferences ∷ q.missed_strong
+    ∷ q.down_again ∷ q.up_again ∷ q.down_again_before ∷ q.up_again_before ∷ []
+
+-- and those that are numbers of differences: C.16 to C.19
+abbrev pub float_digits : Scale → Quality → List ℕ
+float_digits scale q =
+    counts scale.floats q.down_again_by ++ (counts scale.floats q.up_again_by
+    ++ (counts scale.floats q.down_again_before_by ++ counts scale.floats q.up_again_before_by))
 
 -- a number of a bracket
 abbrev pub IsNumber : Reached → ℕ → Type 0
@@ -45,5 +59,5 @@ TellsDown w table = (a : ℕ) → IsNumber w.reached a → slice_index table (a 
 
 -- a pair, or a downfloater, weighs so much
 pub data IsHeavy (w : Weighing) (most : ℕ) : Type 0 where
-  pub pair : (a b : ℕ) → IsNumber w.reached a → IsNumber w.reached b → most ≤ pair_weight w a b → IsHeavy w most
-  pub one_down : (a : ℕ) → IsNumber w.reached a → most ≤ down_weight w a → IsHeavy w most
+  pair : (a b : ℕ) → IsNumber w.reached a → IsNumber w.reached b → most ≤ pair_weight w a b → IsHeavy w most
+  one_down : (a : ℕ) → IsNumber w.reached a → most ≤ down_weight w a → IsHeavy w most

@@ -69,10 +69,10 @@ pub struct Quality {
     up_again: usize,
     down_again_before: usize,
     up_again_before: usize,
-    down_again_by: Numbers,
-    up_again_by: Numbers,
-    down_again_before_by: Numbers,
-    up_again_before_by: Numbers,
+    pub(crate) down_again_by: Numbers,
+    pub(crate) up_again_by: Numbers,
+    pub(crate) down_again_before_by: Numbers,
+    pub(crate) up_again_before_by: Numbers,
 }
 
 impl Quality {
