@@ -88,6 +88,7 @@ pub mod FreePlayers
 pub mod LegalPairs
 pub mod C10Lonely
 pub mod ScaleLemmas
+pub mod WeighingLemmas
 pub mod ShapeLaws
 pub mod BoardOrder
 pub mod GroupLaws
