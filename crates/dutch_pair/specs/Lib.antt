@@ -50,3 +50,4 @@ pub mod Barriers
 pub mod WeightTables
 pub mod Weights
 pub mod WeightFloors
+pub mod Rests

@@ -12,6 +12,7 @@ use crate::begun::fixed_lists;
 use crate::context::Context;
 use crate::quality::Quality;
 use crate::scale::Scale;
+use crate::trail::Trail;
 use crate::weighing::Weighing;
 use dual::{Floor, Table};
 use dutch_order::{Filling, LIMIT, Prefix, Shape, numbered_from};
@@ -32,9 +33,10 @@ pub(crate) struct Bar {
 /// Floors of a bracket and a shape by weight, each by a certificate that was checked.
 #[derive(Drop)]
 pub(crate) struct WeightFloors<'a> {
-    weighing: Weighing<'a>,
+    pub(crate) weighing: Weighing<'a>,
     shape: Shape,
-    floors: Vec<Floor>,
+    pub(crate) floors: Vec<Floor>,
+    pub(crate) trail: Trail,
 }
 
 impl<'a> Model for WeightFloors<'a> {
@@ -198,11 +200,12 @@ impl<'a> WeightFloors<'a> {
         requires { length weighing.reached.seats < weighing.scale.base }
         ensures { result ≡ record { facts = weighing.entry.facts; reached = weighing.entry.reached; shape = shape; scale = weighing.entry.scale } }
     {
-        let floors = Vec::new(weighing.context().alloc());
+        let alloc = weighing.context().alloc();
         WeightFloors {
             weighing,
             shape,
-            floors,
+            floors: Vec::new(alloc),
+            trail: Trail::new(alloc),
         }
     }
 
