@@ -25,7 +25,8 @@ module _ (at slack : ℕ → ℕ) (asks : ℕ → Bool) (same : (v w : ℕ) → 
   abbrev Stands : List ℕ → ℕ → Type 0
   Stands extra v = asks v ≡ true → get_or extra (at v) 0 ≡ slack v
 
-  kept : (extra : List ℕ) (p s v : ℕ) → at p < length extra → s ≡ slack p → get_or extra (at v) 0 ≡ slack v → get_or (set extra (at p) s) (at v) 0 ≡ slack v
+  kept : (extra : List ℕ) (p s v : ℕ) → at p < length extra → s ≡ slack p
+      → get_or extra (at v) 0 ≡ slack v → get_or (set extra (at p) s) (at v) 0 ≡ slack v
   kept extra p s v inside e h = elim (cases_Bool (nat_eq (at v) (at p))) [
     | inl here ↦
         let is : v ≡ p = same v p (eqb-true (at v) (at p) here) in
@@ -39,12 +40,12 @@ module _ (at slack : ℕ → ℕ) (asks : ℕ → Bool) (same : (v w : ℕ) → 
       → new ≡ set extra k s → s ≡ slack (get_or players i 0) → All (Stands extra) (take i players) → All (Stands new) (take (i + 1) players)
   stands_more players i extra new k s lt inside place written e told =
       let p : ℕ = get_or players i 0 in
-      let there : at (get_or players i 0) < length extra = omega (arith, place, inside) in
-      let after : new ≡ set extra (at (get_or players i 0)) s = written ∙ ap (λ j. set extra j s) place in
+      let there : at p < length extra = omega (arith, place, inside) in
+      let after : new ≡ set extra (at p) s = written ∙ ap (λ j. set extra j s) place in
       subst (λ xs. All (Stands xs) (take (i + 1) players)) (sym after)
-      (All-more (Stands (set extra (at (get_or players i 0)) s)) players i 0 lt
-      (All-weaker (Stands extra) (Stands (set extra (at (get_or players i 0)) s)) (λ v h asked. kept extra (get_or players i 0) s v there e (h asked)) (take i players) told)
-      (λ asked. get_or-set_same extra (at (get_or players i 0)) s 0 there ∙ e))
+      (All-more (Stands (set extra (at p) s)) players i 0 lt
+      (All-weaker (Stands extra) (Stands (set extra (at p) s)) (λ v h asked. kept extra p s v there e (h asked)) (take i players) told)
+      (λ asked. get_or-set_same extra (at p) s 0 there ∙ e))
 
 -- ---- rows of a square
 
@@ -70,7 +71,8 @@ module _ (costs : Costs) (certificate : Certificate) (size : ℕ) (players : Lis
   abbrev Row : List ℕ → ℕ → Type 0
   Row extra u = HasSlacks costs certificate u players (u * size) extra
 
-  row_kept : (a u start : ℕ) (old new : List ℕ) → start ≡ a * size → ((k : ℕ) → All (λ v. ¬ (start + v ≡ k)) players → get_or new k 0 ≡ get_or old k 0)
+  row_kept : (a u start : ℕ) (old new : List ℕ) → start ≡ a * size
+      → ((k : ℕ) → All (λ v. ¬ (start + v ≡ k)) players → get_or new k 0 ≡ get_or old k 0)
       → HasSlacks costs certificate a players start new → Row old u → Row new u
   row_kept a u start old new begins others row h = elim (cases_Bool (nat_eq a u)) [
     | inl here ↦
@@ -79,7 +81,8 @@ module _ (costs : Costs) (certificate : Certificate) (size : ℕ) (players : Lis
     | inr other ↦ λ k d lt met.
         let ne : a ≢ u = λ is. cc (eq-eqb a u is, other) in
         let v : ℕ = get_or players k d in
-        others (u * size + get_or players k d) (λ j e there is. other_row a u (get_or players j e) (get_or players k d) size (below j e there) (below k d lt) ne (ap (λ n. n + get_or players j e) (sym begins) ∙ is))
+        others (u * size + v) (λ j e there is.
+        other_row a u (get_or players j e) v size (below j e there) (below k d lt) ne (ap (λ n. n + get_or players j e) (sym begins) ∙ is))
         ∙ h k d lt met
   ]
 
@@ -116,13 +119,15 @@ module _ (costs : Costs) (players : List ℕ) (certificate : Certificate) (floor
   stands v = 0 < sum_by (one v) players
 
   -- what the pairs of a matching add is their slack
-  pairs_told : All (λ u. All (TellsSlack costs certificate floor u) players) players → (pairs : List (ℕ × ℕ)) → ((x : ℕ) → 0 < sum_by (in_both (one x)) pairs → stands x)
+  pairs_told : All (λ u. All (TellsSlack costs certificate floor u) players) players → (pairs : List (ℕ × ℕ))
+      → ((x : ℕ) → 0 < sum_by (in_both (one x)) pairs → stands x)
       → All IsMet pairs → sum_by (λ pair. extra_in floor pair - slack costs certificate pair) pairs ≡ 0
   pairs_told told [] inside may = refl
   pairs_told told (pair ∷ pairs) inside may =
       let first : stands pair.0 = inside pair.0 (omega (arith, sum_by-cons (in_both (one pair.0)) pair pairs, one_itself pair.0)) in
       let second : stands pair.1 = inside pair.1 (omega (arith, sum_by-cons (in_both (one pair.1)) pair pairs, one_itself pair.1)) in
-      let row : All (TellsSlack costs certificate floor pair.0) players = of_member (λ u. All (TellsSlack costs certificate floor u) players) pair.0 players told first in
+      let row : All (TellsSlack costs certificate floor pair.0) players =
+      of_member (λ u. All (TellsSlack costs certificate floor u) players) pair.0 players told first in
       let here : extra_in floor pair ≡ slack costs certificate pair =
       of_member (TellsSlack costs certificate floor pair.0) pair.1 players row second (All-head IsMet pair pairs may) in
       omega (
@@ -133,7 +138,8 @@ module _ (costs : Costs) (players : List ℕ) (certificate : Certificate) (floor
       )
 
   -- what its players left over add is theirs
-  left_told : All (TellsSlackLeft costs certificate floor) players → (left : List ℕ) → ((x : ℕ) → 0 < sum_by (one x) left → stands x) → All MayStay left
+  left_told : All (TellsSlackLeft costs certificate floor) players → (left : List ℕ)
+      → ((x : ℕ) → 0 < sum_by (one x) left → stands x) → All MayStay left
       → sum_by (λ v. extra_left_in floor v - slack_left costs certificate v) left ≡ 0
   left_told told [] inside may = refl
   left_told told (v ∷ left) inside may =
@@ -148,7 +154,8 @@ module _ (costs : Costs) (players : List ℕ) (certificate : Certificate) (floor
       )
 
 -- the floor that a feasible certificate is, if it gains what it gives away, bounds every matching
-pub floor_least : (costs : Costs) (players : List ℕ) (left : ℕ) (certificate : Certificate) (floor : FloorTable) → IsFeasible costs players certificate
+pub floor_least : (costs : Costs) (players : List ℕ) (left : ℕ) (certificate : Certificate) (floor : FloorTable)
+    → IsFeasible costs players certificate
     → losses certificate players (pairs_of players left) left ≤ gains certificate players → IsFloorOf costs players left certificate floor
     → IsFloor costs players left floor
 floor_least costs players left certificate floor feasible whole told = λ pairs out matching e known known_left part part_left.
@@ -169,8 +176,9 @@ floor_least costs players left certificate floor feasible whole told = λ pairs 
 
 -- rows of a square, as a floor has them, tell the slacks
 pub rows_tell : (costs : Costs) (players : List ℕ) (certificate : Certificate) (floor : FloorTable) → All (λ v. v < floor.size) players
-    → All (λ u. HasSlacks costs certificate u players (u * floor.size) floor.extra) players → All (λ u. All (TellsSlack costs certificate floor u) players) players
+    → All (λ u. HasSlacks costs certificate u players (u * floor.size) floor.extra) players
+    → All (λ u. All (TellsSlack costs certificate floor u) players) players
 rows_tell costs players certificate floor below rows = λ k d lt j e there met.
     let u : ℕ = get_or players k d in
     let v : ℕ = get_or players j e in
-    ap (λ b. cond b (get_or floor.extra (get_or players k d * floor.size + get_or players j e) 0) 0) (lt-ltb (get_or players j e) floor.size (below j e there)) ∙ rows k d lt j e there met
+    ap (λ b. cond b (get_or floor.extra (u * floor.size + v) 0) 0) (lt-ltb v floor.size (below j e there)) ∙ rows k d lt j e there met

@@ -1,5 +1,6 @@
 // The check of a certificate, pair by pair: what each pair, and each player left over, could bear beyond its potentials.
-ghost use Rattle.std.specs.Prelude.{◌≡◌, ◌+◌, ◌*◌, ◌^◌, ◌<◌, ◌≤◌, ◌↔◌, ℕ, true, All, IfOk, IfSome, IsSome, IsTrue, SomeIff, length, sum_by, slice_index, vec_len};
+ghost use Rattle.std.specs.Prelude.{◌≡◌, ◌+◌, ◌*◌, ◌^◌, ◌<◌, ◌≤◌, ◌↔◌, ℕ, true, All, IfOk, IfSome, IsSome, IsTrue, SomeIff};
+ghost use Rattle.std.specs.Prelude.{length, sum_by, slice_index};
 ghost use Rattle.dual.specs.Duals.{IsFeasible, bears_left, slack, slack_left, losses, gains, pairs_of, toll};
 ghost use Rattle.dual.specs.Floors.{IsFloor, IsFloorOf, IsBelow};
 ghost use Rattle.dual.specs.Checks.{CanBear, CanBearLeft, AllBear, HasSlacks};
@@ -49,7 +50,8 @@ impl Table {
         requires { size ≤ MOST }
         ensures player { IfOk result (λ row. row.player ≡ player) }
         ensures start { IfOk result (λ row. row.start ≡ player * size) }
-        ensures sets { IfOk result (λ row. (v : ℕ) → sum_by (λ set. toll_of v set.now) row.sets.items ≡ sum_by (toll (player, v)) (certificate_in self.now).sets) }
+        ensures sets { IfOk result (λ row. (v : ℕ) → sum_by (λ set. toll_of v set.now) row.sets.items
+            ≡ sum_by (toll (player, v)) (certificate_in self.now).sets) }
     {
         let sets = self
             .sets
@@ -67,7 +69,8 @@ impl Table {
     fn slack<R: Rule>(&self, rule: &R, row: &Row<'_>, v: u16) -> Option<Wide>
         requires first { R.knows rule.now row.now.player }
         requires second { R.knows rule.now v }
-        requires sets { (v : ℕ) → sum_by (λ set. toll_of v set.now) row.now.sets.items ≡ sum_by (toll (row.now.player, v)) (certificate_in self.now).sets }
+        requires sets { (v : ℕ) → sum_by (λ set. toll_of v set.now) row.now.sets.items
+            ≡ sum_by (toll (row.now.player, v)) (certificate_in self.now).sets }
         ensures { SomeIff result (CanBear (R.costs rule.now) (certificate_in self.now) (2 ^ 256) row.now.player v)
             (slack (R.costs rule.now) (certificate_in self.now) (row.now.player, v)) }
     {
@@ -81,7 +84,8 @@ impl Table {
     // What a player left over could bear beyond the potential; none if the player cannot bear it.
     fn slack_left<R: Rule>(&self, rule: &R, v: u16) -> Option<Wide>
         requires { R.knows rule.now v }
-        ensures { SomeIff result (CanBearLeft (R.costs rule.now) (certificate_in self.now) (2 ^ 256) v) (slack_left (R.costs rule.now) (certificate_in self.now) v) }
+        ensures { SomeIff result (CanBearLeft (R.costs rule.now) (certificate_in self.now) (2 ^ 256) v)
+            (slack_left (R.costs rule.now) (certificate_in self.now) v) }
     {
         let bears = rule.left_cost(v).plus(self.given_left)?;
         bears.minus(self.potential(v))
@@ -93,7 +97,8 @@ impl Table {
         requires known { All (R.knows rule.now) players.now }
         requires within { All (λ v. row.now.start + v < length extra.old) players.now }
         requires few { length extra.old ≤ MOST * MOST }
-        requires sets { (v : ℕ) → sum_by (λ set. toll_of v set.now) row.now.sets.items ≡ sum_by (toll (row.now.player, v)) (certificate_in self.now).sets }
+        requires sets { (v : ℕ) → sum_by (λ set. toll_of v set.now) row.now.sets.items
+            ≡ sum_by (toll (row.now.player, v)) (certificate_in self.now).sets }
         ensures whole { IsTrue result ↔ AllBear (R.costs rule.now) (certificate_in self.now) (2 ^ 256) row.now.player players.now }
         ensures value { IsTrue result → HasSlacks (R.costs rule.now) (certificate_in self.now) row.now.player players.now row.now.start extra.new }
         ensures others { (k : ℕ) → (All (λ v. ¬ (row.now.start + v ≡ k)) players.now) → slice_index extra.new k ≡ slice_index extra.old k }
@@ -120,8 +125,10 @@ impl Table {
         requires known { All (R.knows rule.now) players.now }
         requires below { All (λ v. v < size) players.now }
         requires few { size ≤ MOST }
-        ensures whole { IfOk result (λ found. IsSome found ↔ All (λ u. AllBear (R.costs rule.now) (certificate_in self.now) (2 ^ 256) u players.now) players.now) }
-        ensures value { IfOk result (λ found. IfSome found (λ extra. All (λ u. HasSlacks (R.costs rule.now) (certificate_in self.now) u players.now (u * size) extra.items) players.now)) }
+        ensures whole { IfOk result (λ found. IsSome found
+            ↔ All (λ u. AllBear (R.costs rule.now) (certificate_in self.now) (2 ^ 256) u players.now) players.now) }
+        ensures value { IfOk result (λ found. IfSome found (λ extra.
+            All (λ u. HasSlacks (R.costs rule.now) (certificate_in self.now) u players.now (u * size) extra.items) players.now)) }
     {
         let mut extra = vec![in alloc; Wide::zero(); size * size]?;
         for a in players {

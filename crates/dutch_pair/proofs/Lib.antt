@@ -1,3 +1,4 @@
+pub mod AboveLemmas
 pub mod BoundSums
 pub mod WeightsBehind
 pub mod CandidateMatchings
@@ -87,6 +88,7 @@ pub mod FreePlayers
 pub mod LegalPairs
 pub mod C10Lonely
 pub mod ScaleLemmas
+pub mod WeighingLemmas
 pub mod ShapeLaws
 pub mod BoardOrder
 pub mod GroupLaws

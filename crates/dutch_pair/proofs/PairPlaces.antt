@@ -23,7 +23,7 @@ suits_sym facts reached x y =
 row : (n r s : ℕ) → r < s → r * n + n ≤ s * n
 row n r s lt = let le : (r + 1) * n ≤ s * n = mul-le-mul_right n (omega arith) in omega (arith, le)
 
-same_place : (n x y a b : ℕ) → (0 < x) × (x ≤ n) → (0 < y) × (y ≤ n) → (0 < a) × (a ≤ n) → (0 < b) × (b ≤ n)
+pub same_place : (n x y a b : ℕ) → (0 < x) × (x ≤ n) → (0 < y) × (y ≤ n) → (0 < a) × (a ≤ n) → (0 < b) × (b ≤ n)
     → place_of n a b ≡ place_of n x y → (a ≡ x) × (b ≡ y)
 same_place n x y a b p q u v e =
     elim (cases_lt (a - 1) (x - 1)) [

@@ -1,6 +1,7 @@
 -- Parts of the digits of a quality, and tables of what the pairs and the downfloaters of a bracket weigh. Only private functions' clauses cite
 -- these.
 use Rattle.std.specs.Prelude.{◌≡◌, ℕ, ◌-◌, ◌*◌, ◌<◌, ◌≤◌, List, [], ◌∷◌, ◌++◌, length, slice_index}
+use Rattle.dutch_pair.specs.Context.{Context}
 use Rattle.dutch_pair.specs.PairFacts.{place_of}
 use Rattle.dutch_pair.specs.Quality.{Quality}
 use Rattle.dutch_pair.specs.Reached.{Reached}
@@ -21,6 +22,10 @@ float_digits scale q =
 -- a number of a bracket
 abbrev pub IsNumber : Reached → ℕ → Type 0
 IsNumber reached a = (0 < a) × (a ≤ length reached.seats)
+
+-- a bracket of a field on a scale
+abbrev pub weighed_on : Context → Scale → Weighing
+weighed_on context scale = record { facts = context.facts; reached = context.reached; scale = scale }
 
 -- where a table of pairs has two numbers of a bracket
 abbrev pub place_in : Weighing → ℕ → ℕ → ℕ

@@ -5,8 +5,8 @@ ghost use Rattle.dutch_pair.specs.Beginnings.{seated_so};
 ghost use Rattle.dutch_pair.specs.NextBracket.{no_value};
 ghost use Rattle.dutch_pair.specs.Quality.{quality_with};
 ghost use Rattle.dutch_pair.specs.Seated.{HasSeats, seat_of};
-ghost use Rattle.dutch_pair.specs.WeightTables.{HasAll, HasPairs, IsHeavy, IsNumber, TellsDown, TellsPairs, TellsPairsUpto, down_weight, pair_weight, place_in};
-ghost use Rattle.dutch_pair.specs.Weights.{Weighing, weight_of};
+ghost use Rattle.dutch_pair.specs.WeightTables.{HasAll, HasPairs, IsHeavy, IsNumber, TellsDown, TellsPairs, TellsPairsUpto, down_weight, pair_weight, place_in, weighed_on};
+ghost use Rattle.dutch_pair.specs.Weights.{weight_of};
 
 use crate::context::Context;
 use crate::pair_facts::place_of;
@@ -31,16 +31,16 @@ pub(crate) struct Weighing<'a> {
 }
 
 impl<'a> Model for Weighing<'a> {
-    ghost use Rattle.dutch_pair.specs.WeightTables.{HasAll, HasPairs, TellsDown, TellsPairs};
+    ghost use Rattle.dutch_pair.specs.WeightTables.{HasAll, HasPairs, TellsDown, TellsPairs, weighed_on};
     ghost use Rattle.dutch_pair.specs.Weights.{Weighing};
 
     ghost Value = { Weighing };
 
-    ghost view = { λ w. record { facts = w.context.now.facts; reached = w.context.now.reached; scale = w.scale } };
+    ghost view = { λ w. weighed_on w.context.now w.scale };
 
     ghost invariant = { λ w.
-        let weighed : Weighing = record { facts = w.context.now.facts; reached = w.context.now.reached; scale = w.scale }
-        in (HasPairs weighed w.pairs.items × TellsPairs weighed w.pairs.items) × (HasAll weighed w.down.items × TellsDown weighed w.down.items) };
+        (HasPairs (weighed_on w.context.now w.scale) w.pairs.items × TellsPairs (weighed_on w.context.now w.scale) w.pairs.items)
+        × (HasAll (weighed_on w.context.now w.scale) w.down.items × TellsDown (weighed_on w.context.now w.scale) w.down.items) };
 }
 
 /// What the weights of a bracket are worked out by.
@@ -51,11 +51,12 @@ struct Weigher<'a> {
 }
 
 impl<'a> Model for Weigher<'a> {
+    ghost use Rattle.dutch_pair.specs.WeightTables.{weighed_on};
     ghost use Rattle.dutch_pair.specs.Weights.{Weighing};
 
     ghost Value = { Weighing };
 
-    ghost view = { λ w. record { facts = w.context.now.facts; reached = w.context.now.reached; scale = w.scale.now } };
+    ghost view = { λ w. weighed_on w.context.now w.scale.now };
 }
 
 /// Fills in two players who meet, by number.
@@ -191,10 +192,11 @@ fn weigh_pairs(
 {
     let count = weigher.context.len();
     let mut table = vec![in alloc; Wide::zero(); count * count]?;
-    if !weigher.put_pairs(room, &mut table) {
-        return Ok(None);
+    if weigher.put_pairs(room, &mut table) {
+        Ok(Some(table))
+    } else {
+        Ok(None)
     }
-    Ok(Some(table))
 }
 
 /// The weights of all downfloaters; none if one of them is 2^256 or more.
@@ -207,10 +209,11 @@ fn weigh_down(
         (λ table. HasAll weigher.now table.items × TellsDown weigher.now table.items)) }
 {
     let mut table = vec![in alloc; Wide::zero(); weigher.context.len()]?;
-    if !weigher.put_down(room, &mut table) {
-        return Ok(None);
+    if weigher.put_down(room, &mut table) {
+        Ok(Some(table))
+    } else {
+        Ok(None)
     }
-    Ok(Some(table))
 }
 
 impl<'a> Weighing<'a> {
@@ -219,12 +222,12 @@ impl<'a> Weighing<'a> {
         context: &'a Context<'a>,
         scale: Scale,
     ) -> Result<Option<Weighing<'a>>, AllocError>
-        ensures { let weighed = record { facts = context.now.facts; reached = context.now.reached; scale = scale }
+        ensures { let weighed = weighed_on context.now scale
             in IfOk result (λ read. MatchOption read (IsHeavy weighed (2 ^ 256)) (λ weighing. weighing ≡ weighed)) }
     {
         let mut room = Room::default();
         let weigher = Weigher {
-            context,
+            context: &*context,
             scale: &scale,
         };
         let Some(pairs) = weigh_pairs(context.alloc(), &weigher, &mut room)? else {

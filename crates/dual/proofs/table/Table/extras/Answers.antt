@@ -12,7 +12,8 @@ use Rattle.dual.proofs.table.Table.extras.Goals as goal
 pub fill-requires-clause-within : goal.fill-requires-clause-within
 fill-requires-clause-within g c = λ k d lt.
     let here : get_or c.args.players.now c.loop-a.a-index 0 < c.args.size = c.requires.below c.loop-a.a-index 0 c.loop-a-test.true in
-    let inside = inside_square (get_or c.args.players.now c.loop-a.a-index 0) (get_or c.args.players.now k d) c.args.size here (c.requires.below k d lt) in
+    let inside = inside_square (get_or c.args.players.now c.loop-a.a-index 0) (get_or c.args.players.now k d) c.args.size here
+    (c.requires.below k d lt) in
     omega (arith, inside, c.in_ok-row.ensures.start, c.loop-a.invariant.size, ap length c.deref_mut.ensures.value)
 
 pub loop-a-preserved : goal.loop-a-preserved
@@ -25,13 +26,15 @@ loop-a-preserved g c =
     let lt : i < length players = c.loop-a-test.true in
     let new : List ℕ = c.fill.new.extra in
     let old : List ℕ = c.loop-a.extra.items in
-    let count : length c.fill.new.extra ≡ c.loop-a.extra.len = omega (arith, ap length c.deref_mut.ensures.value, c.deref_mut.ensures.len, c.fill.auto.extra) in
+    let count : length c.fill.new.extra ≡ c.loop-a.extra.len =
+    omega (arith, ap length c.deref_mut.ensures.value, c.deref_mut.ensures.len, c.fill.auto.extra) in
     let same : take c.loop-a.extra.len (c.fill.new.extra ++ drop (length c.fill.new.extra) c.loop-a.extra.items) ≡ c.fill.new.extra =
     take_at c.fill.new.extra (drop (length c.fill.new.extra) c.loop-a.extra.items) c.loop-a.extra.len count in
     let bears : AllBear costs certificate (2 ^ 256) (get_or players i 0) players =
     subst (λ a. AllBear costs certificate (2 ^ 256) a players) c.in_ok-row.ensures.player (c.fill.ensures.whole.0 c.if-not-fill.false) in
     let row : HasSlacks costs certificate (get_or players i 0) players c.in_ok-row.row.start new =
-    subst (λ a. HasSlacks costs certificate a players c.in_ok-row.row.start new) c.in_ok-row.ensures.player (c.fill.ensures.value c.if-not-fill.false) in
+    subst (λ a. HasSlacks costs certificate a players c.in_ok-row.row.start new) c.in_ok-row.ensures.player
+    (c.fill.ensures.value c.if-not-fill.false) in
     record {
       size = omega (arith, ap length same, ap length c.deref_mut.ensures.value, c.fill.auto.extra, c.loop-a.invariant.size);
       bear = All-more (λ a. AllBear costs certificate (2 ^ 256) a players) players i 0 lt c.loop-a.invariant.bear bears;
@@ -48,6 +51,7 @@ returns-clause-whole g c =
 
 pub returns-clause-value : goal.returns-clause-value
 returns-clause-value g c =
+    let costs : Costs = g.R.Rule.costs c.args.rule.now in
     let all : take c.loop-a.a-index c.args.players.now ≡ c.args.players.now = take_all c.loop-a.a-index c.args.players.now c.loop-a-test.false in
-    subst (All (λ u. HasSlacks (g.R.Rule.costs c.args.rule.now) (certificate_in c.args.self.now) u c.args.players.now (u * c.args.size) c.loop-a.extra.items)) all
+    subst (All (λ u. HasSlacks costs (certificate_in c.args.self.now) u c.args.players.now (u * c.args.size) c.loop-a.extra.items)) all
     c.loop-a.invariant.told

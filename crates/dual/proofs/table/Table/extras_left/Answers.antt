@@ -26,8 +26,8 @@ loop-v-preserved g c =
             size = omega (arith, ap length written, length-set c.loop-v.extra.items w.from.result w.in-Some.slack, c.loop-v.invariant.size);
             bear = All-more (λ v. costs.may_be_left v ≡ true → CanBearLeft costs certificate (2 ^ 256) v) players i 0 lt c.loop-v.invariant.bear
                 (λ asked. w.in-Some.ensures.0);
-            told = stands_more (λ v. v) (slack_left costs certificate) costs.may_be_left (λ v x e. e) players i c.loop-v.extra.items c.if-may_be_left.extra.items
-                w.from.result w.in-Some.slack lt inside w.from.ensures written w.in-Some.ensures.1 c.loop-v.invariant.told;
+            told = stands_more (λ v. v) (slack_left costs certificate) costs.may_be_left (λ v x e. e) players i c.loop-v.extra.items
+                c.if-may_be_left.extra.items w.from.result w.in-Some.slack lt inside w.from.ensures written w.in-Some.ensures.1 c.loop-v.invariant.told;
           }
       | else-may_be_left w ↦
           record {
@@ -36,7 +36,8 @@ loop-v-preserved g c =
                 (λ asked. absurd (cc (asked, c.may_be_left.ensures, w.if-may_be_left.false)));
             told = subst (λ xs. All (λ v. costs.may_be_left v ≡ true → get_or xs v 0 ≡ slack_left costs certificate v) (take (i + 1) players))
                 (sym (ap (λ v. v.items) w.extra-is))
-                (All-more (λ v. costs.may_be_left v ≡ true → get_or c.loop-v.extra.items v 0 ≡ slack_left costs certificate v) players i 0 lt c.loop-v.invariant.told
+                (All-more (λ v. costs.may_be_left v ≡ true → get_or c.loop-v.extra.items v 0 ≡ slack_left costs certificate v) players i 0 lt
+                c.loop-v.invariant.told
                 (λ asked. absurd (cc (asked, c.may_be_left.ensures, w.if-may_be_left.false))));
           }
     ]
@@ -53,4 +54,5 @@ pub returns-clause-value : goal.returns-clause-value
 returns-clause-value g c =
     let costs : Costs = g.R.Rule.costs c.args.rule.now in
     let all : take c.loop-v.v-index c.args.players.now ≡ c.args.players.now = take_all c.loop-v.v-index c.args.players.now c.loop-v-test.false in
-    subst (All (λ v. costs.may_be_left v ≡ true → get_or c.loop-v.extra.items v 0 ≡ slack_left costs (certificate_in c.args.self.now) v)) all c.loop-v.invariant.told
+    subst (All (λ v. costs.may_be_left v ≡ true → get_or c.loop-v.extra.items v 0 ≡ slack_left costs (certificate_in c.args.self.now) v)) all
+    c.loop-v.invariant.told

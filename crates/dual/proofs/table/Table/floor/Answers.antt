@@ -12,7 +12,12 @@ returns-clause-least g c =
     let costs : Costs = g.R.Rule.costs c.args.rule.now in
     let certificate : Certificate = certificate_in c.args.self.now in
     let players : List ℕ = c.args.players.now in
-    let floor : FloorTable = record { base = c.in-Some.base; size = c.size_for-size.result; extra = c.in-Some-3.extra.items; extra_left = c.in-Some-2.extra_left.items } in
+    let floor : FloorTable = record {
+      base = c.in-Some.base;
+      size = c.size_for-size.result;
+      extra = c.in-Some-3.extra.items;
+      extra_left = c.in-Some-2.extra_left.items;
+    } in
     let bears = rw c.in-Some-3.is at c.in_ok-extra.ensures.whole in
     let rows = rw c.in-Some-3.is at c.in_ok-extra.ensures.value in
     let bears_left = rw c.in-Some-2.is at c.in_ok-extra_left.ensures.whole in
