@@ -20,16 +20,25 @@ use crate::floor::Floors;
 use crate::greatest::Lister;
 use crate::outlook::Outlook;
 use crate::pair_facts::PairFacts;
-use crate::quality::{Quality, Room};
+use crate::quality::{Quality, Room, fill_seated};
 use crate::reached::{ByNumber, Reached, Seats};
 use crate::remembered::{Judge, judge_candidate, look_below};
 use crate::shape::shape_of;
-use crate::skipper::{Pass, Skipper, known_with};
+use crate::seated::{Pair, Seated};
+use crate::skipper::{Pass, Skipper, bars_of, known_with};
+use crate::spending::spend;
+use crate::weight_floor::WeightFloors;
 use crate::wish::{Wish, is_wished};
-use dutch_order::{Budget, Candidate, Shape, Step, Stopped};
+use dutch_order::{Budget, Candidate, Filling, LIMIT, Shape, Step, Stopped};
 use dutch_player::Field;
 use std::alloc::Global;
 use std::mem::take;
+
+/// A pass is told more so many times at most.
+const MOST_TURNS: u32 = u32::MAX;
+
+/// The pairs of brackets with more players are not weighed.
+const MOST_WEIGHED: usize = 400;
 
 /// What is chosen in a bracket.
 #[derive(Debug, Drop)]
@@ -103,6 +112,71 @@ fn consider(
     Ok(())
 }
 
+/// What a pass seeks, beside the candidate that it keeps.
+#[derive(Clone, Copy)]
+struct Sought<'a, 'k> {
+    pass: &'a Pass<'a>,
+    kept: &'k Option<Best>,
+}
+
+/// Draws the next candidate that may be of interest.
+fn draw_once<'a>(
+    sought: Sought<'a, '_>,
+    lister: &mut Lister<'_, ByNumber<'_>>,
+    judge: &mut Judge<'_>,
+    budget: &mut Budget,
+) -> Step<()> {
+    let skipper = Skipper::new(sought.pass, sought.kept, &judge.weights);
+    lister
+        .listing
+        .put_next_within(&skipper, &mut judge.room, &mut lister.drawn, budget)
+}
+
+/// The steps of a turn: all that are left, or so many that it is worth while to be told more behind them.
+fn turn(weights: &Option<WeightFloors<'_>>, budget: &Budget) -> Budget {
+    let left = budget.limit - budget.used;
+    let steps = match weights {
+        Some(weights) => weights.patience().min(left),
+        None => left,
+    };
+    Budget {
+        used: budget.used,
+        limit: budget.used + steps,
+    }
+}
+
+/// Where steps are left behind a turn: tells the walk more, if floors are kept.
+fn go_on(sought: Sought<'_, '_>, judge: &mut Judge<'_>, budget: &mut Budget) -> Result<(), Stopped> {
+    if budget.used == budget.limit {
+        return Err(Stopped);
+    }
+    let bars = bars_of(sought.pass, sought.kept, &judge.weights);
+    match &mut judge.weights {
+        Some(weights) => weights.tell_more(&judge.room.seated.pairs, bars, budget),
+        None => Ok(()),
+    }
+}
+
+/// Draws the next candidate that may be of interest, in turns of steps if floors by weight are kept. No says that there is none.
+fn draw<'a>(
+    sought: Sought<'a, '_>,
+    lister: &mut Lister<'_, ByNumber<'_>>,
+    judge: &mut Judge<'_>,
+    budget: &mut Budget,
+) -> Result<bool, Stopped> {
+    for _ in 0..MOST_TURNS {
+        let mut turn = turn(&judge.weights, budget);
+        let step = draw_once(sought, lister, judge, &mut turn);
+        budget.used = turn.used;
+        match step {
+            Step::Found(()) => return Ok(true),
+            Step::End => return Ok(false),
+            Step::Undecided => go_on(sought, judge, budget)?,
+        }
+    }
+    Ok(draw_once(sought, lister, judge, budget).found()?.is_some())
+}
+
 /// Of the candidates that a pass seeks, and that can be chosen, the first that none is better than; none if there is no such candidate.
 fn best_near<'a>(
     pass: &'a Pass<'a>,
@@ -124,22 +198,10 @@ fn best_near<'a>(
 {
     lister.listing.restart(pass.shape);
     let mut kept = None;
-    loop {
-        let skipper = Skipper {
-            pass,
-            kept: &kept,
-            aim_bar: pass.aim_bar(),
-            kept_bar: pass.kept_bar(&kept),
-        };
-        match lister
-            .listing
-            .put_next_within(&skipper, &mut judge.room, &mut lister.drawn, budget)
-        {
-            Step::Found(()) => consider(pass, &lister.drawn, &mut kept, judge, budget)?,
-            Step::End => return Ok(kept),
-            Step::Undecided => return Err(Stopped),
-        }
+    while draw(Sought { pass, kept: &kept }, lister, judge, budget)? {
+        consider(pass, &lister.drawn, &mut kept, judge, budget)?;
     }
+    Ok(kept)
 }
 
 /// What a pass with an aim chooses: the best of all. The answer is none if there is no aim, or if the pass finds none that can be chosen,
@@ -196,6 +258,83 @@ fn best_in_passes(
     best_near(pass, &mut lister, judge, budget)
 }
 
+/// How many steps passes make before the bracket's pairs are weighed: most brackets end with fewer.
+fn few_steps(players: usize) -> u64 {
+    let players = players as u64;
+    64 * players + 2 * players * players
+}
+
+/// Fills in the pairs of a matching by number, and those whom it leaves over.
+fn seat_matching(context: &Context<'_>, pairs: &[Pair], seated: &mut Seated) {
+    let reached = context.reached();
+    seated.pairs.clear();
+    seated.down.clear();
+    seated.lowest = context.lowest();
+    for pair in pairs {
+        if reached.has(pair.0) && reached.has(pair.1) && seated.pairs.len() < LIMIT {
+            seated.pairs.push((reached.seat(pair.0), reached.seat(pair.1)));
+        }
+    }
+    for above in 0..context.len() {
+        let number = above as u16 + 1;
+        if !pairs.iter().any(|pair| pair.0 == number || pair.1 == number) && seated.down.len() < LIMIT {
+            seated.down.push(reached.seat(number));
+        }
+    }
+}
+
+/// The quality of a matching of a bracket by number, with the best that the next bracket can be: what a pass may aim at.
+fn aim_by(pass: &Pass<'_>, weights: &WeightFloors<'_>, pairs: &[Pair], room: &mut Room) -> Quality {
+    let context = pass.context;
+    seat_matching(context, pairs, &mut room.seated);
+    fill_seated(context.field(), &room.seated, &mut room.quality);
+    let next = pass.floors.awaited(Filling::S1, &[]);
+    room.quality.put_next(next.pairs, &next.psd);
+    let aim = take(&mut room.quality);
+    if weights.weighing.scale().measures(&aim) {
+        return aim;
+    }
+    aim.without_differences()
+}
+
+/// Weighs the pairs of a bracket, and keeps the floor of a cheapest matching, at whose quality the next pass aims.
+fn weigh<'a>(pass: &mut Pass<'a>, judge: &mut Judge<'a>, budget: &mut Budget) -> Result<(), Stopped> {
+    let context = pass.context;
+    pass.aim = pass.floors.aim(known_with(context, pass.wish));
+    let count = context.len();
+    if count > MOST_WEIGHED {
+        return Ok(());
+    }
+    spend((count * count) as u64, budget)?;
+    let Ok(Some(weights)) = WeightFloors::weighed(context, pass.shape) else {
+        return Ok(());
+    };
+    let mut weights = weights;
+    if let Some(pairs) = weights.ask(&[], budget)? {
+        if pass.wish.is_none() {
+            pass.aim = Some(aim_by(pass, &weights, &pairs, &mut judge.room));
+        }
+    }
+    judge.weights = Some(weights);
+    Ok(())
+}
+
+/// The same: first in few steps, which most brackets need no more of, and then with floors by weight.
+fn best_at_length<'a>(pass: &mut Pass<'a>, judge: &mut Judge<'a>, budget: &mut Budget) -> Result<Option<Best>, Stopped> {
+    let left = budget.limit - budget.used;
+    let mut few = Budget {
+        used: budget.used,
+        limit: budget.used + few_steps(pass.context.len()).min(left),
+    };
+    let found = best_in_passes(pass, judge, &mut few);
+    budget.used = few.used;
+    if found.is_ok() || budget.used == budget.limit {
+        return found;
+    }
+    weigh(pass, judge, budget)?;
+    best_in_passes(pass, judge, budget)
+}
+
 /// Of the candidates of a shape that can be chosen, and that grant the wish if there is one, the first that none of them is better than:
 /// what a pass with an aim ends with, or if that is nothing, one without. `End` says that there is none.
 pub(crate) fn best_of<'a>(
@@ -218,6 +357,7 @@ pub(crate) fn best_of<'a>(
         look: look_below(alloc, context)?,
         room: Room::default(),
         left: Seats::new(),
+        weights: None,
     };
     let Some(pairs) = PairFacts::read(alloc, context, budget)? else {
         return Ok(Step::Undecided);
@@ -233,9 +373,8 @@ pub(crate) fn best_of<'a>(
         wish,
         aim: floors.aim(known),
         floors,
-        weights: None,
     };
-    match best_in_passes(&mut pass, &mut judge, budget) {
+    match best_at_length(&mut pass, &mut judge, budget) {
         Ok(Some(best)) => Ok(Step::Found(best)),
         Ok(None) => Ok(Step::End),
         Err(Stopped) => Ok(Step::Undecided),

@@ -135,22 +135,6 @@ fn bound_behind(floor: &Floor, mdps: usize, prefix: &Prefix<'_>) -> Option<Wide>
     plus_left(floor, mdps, prefix, second)
 }
 
-/// The greater one of two numbers that may be there.
-fn greater(one: Option<Wide>, other: Option<Wide>) -> Option<Wide>
-    ensures { (result ≡ one) ⊎ (result ≡ other) }
-{
-    match (one, other) {
-        (Some(first), Some(second)) => {
-            if first.is_less(second) {
-                return other;
-            }
-            return one;
-        }
-        (None, _) => return other,
-        _ => return one,
-    }
-}
-
 /// Lets the oldest floor but the first one go if there is no room for one more.
 fn make_room(floors: &mut Vec<Floor>)
     ensures { (w : Weighed) → All (IsWeightFloor w) floors.old.items → All (IsWeightFloor w) floors.new.items }
@@ -225,6 +209,28 @@ impl<'a> WeightFloors<'a> {
         }
     }
 
+    /// The same with a digit for each difference of C.16 to C.19, if there is room for that beside what a matching of all pairs comes to.
+    pub(crate) fn weighed(context: &'a Context<'a>, shape: Shape) -> Result<Option<WeightFloors<'a>>, AllocError>
+        ensures { IfOk result (λ found. IfSome found (AreOf context.now.facts context.now.reached shape)) }
+    {
+        if let Some(weights) = WeightFloors::read(context, shape, true)? {
+            if weights.has_room() {
+                return Ok(Some(weights));
+            }
+        }
+        WeightFloors::read(context, shape, false)
+    }
+
+    /// Whether sums of the weights of all players fit, those twice over, and what it costs to be left over.
+    fn has_room(&self) -> bool {
+        self.weighing.scale().width() + 24 <= 250
+    }
+
+    /// How many steps a walk makes before it is told more.
+    pub(crate) fn patience(&self) -> u64 {
+        self.trail.patience(self.weighing.context().len())
+    }
+
     /// How many players the matchings leave over.
     fn left(&self) -> usize
         ensures { result ≡ length self.now.reached.seats - 2 * self.now.shape.pairs }
@@ -267,15 +273,11 @@ impl<'a> WeightFloors<'a> {
         Some(Bar { weight, above })
     }
 
-    /// The greatest bound that a floor gives behind a beginning; none if there is none that fits.
-    pub(crate) fn least(&self, prefix: &Prefix<'_>) -> Option<Wide>
+    /// The bound that a floor gives behind a beginning; none if it does not fit.
+    pub(crate) fn least_by(&self, floor: &Floor, prefix: &Prefix<'_>) -> Option<Wide>
         ensures { IfSome result (IsLeast self.now prefix.now) }
     {
         let mdps = self.weighing.context().reached().mdps();
-        let mut least = None;
-        for floor in &self.floors {
-            least = greater(least, bound_behind(floor, mdps, prefix));
-        }
-        least
+        bound_behind(floor, mdps, prefix)
     }
 }
