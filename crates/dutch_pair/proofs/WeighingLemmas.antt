@@ -6,7 +6,7 @@ use Rattle.dutch_player.specs.Facts.{Facts}
 use Rattle.dutch_pair.specs.NextBracket.{no_value}
 use Rattle.dutch_pair.specs.Quality.{NextValue, quality_with}
 use Rattle.dutch_pair.specs.Seated.{Seated}
-use Rattle.dutch_pair.specs.WeightTables.{HasAll, HasPairs, IsNumber, TellsDownUpto, TellsPairs, TellsPairsUpto, down_weight, pair_weight, place_in}
+use Rattle.dutch_pair.specs.WeightTables.{HasPairs, IsNumber, TellsDownUpto, TellsPairs, TellsPairsUpto, down_weight, pair_weight, place_in}
 use Rattle.dutch_pair.specs.Weights.{Scale, Weighing, weight_of}
 use Rattle.dutch_pair.proofs.PairPlaces.{inside, same_place}
 

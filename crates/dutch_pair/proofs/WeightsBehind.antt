@@ -1,6 +1,6 @@
 -- No candidate behind a beginning weighs less than a floor says (C.04.3 C.6, C.8 to C.19). So none is better than a quality that weighs no
 -- more, and one that weighs less is better than all.
-use Rattle.std.proofs.Common.{◌≡◌, ℕ, zero, suc, ◌+◌, ◌-◌, ◌*◌, ◌<◌, ◌≤◌, ◌⊎◌, Bool, true, false, not, cond, eqb, ◌||◌, List, [], ◌∷◌, ◌++◌, All, map, drop, get_or, length, sum_by, Option, Some, None, IfSome, inl, inr, refl, sym, ap, subst, ◌∙◌, arith}
+use Rattle.std.proofs.Common.{◌≡◌, ℕ, zero, suc, ◌+◌, ◌-◌, ◌*◌, ◌<◌, ◌≤◌, ◌⊎◌, true, false, not, cond, ◌||◌, List, [], ◌∷◌, All, map, drop, get_or, length, Option, Some, None, IfSome, inl, inr, refl, sym, ap, subst, ◌∙◌, arith}
 use Rattle.std.specs.List.{AllByRecursion}
 use Rattle.std.specs.Option.{ForSome}
 use Rattle.std.specs.declared.cmp.Ordering.{Ordering}
@@ -9,11 +9,10 @@ use Rattle.std.specs.Ordering.{nat_cmp, is_lt, ordering_reverse}
 use Rattle.std.specs.Cmp.Lexicographic.{slice_cmp}
 use Rattle.std.proofs.lemmas.Bool.{eq-eqb, false_from_ne_true, ne_eqb, true≢false}
 use Rattle.std.proofs.lemmas.Cmp.{nat_list_cmp_total}
-use Rattle.std.proofs.lemmas.List.{length-map}
 use Rattle.std.proofs.lemmas.List.Elements.{All-get_or}
 use Rattle.std.proofs.Math.Logic.{∥∥₁_elim}
 use mathlib.Core.Bool.{Bool-set}
-use Rattle.dual.specs.Floors.{FloorTable, IsFloor, extra_in, extra_left_in}
+use Rattle.dual.specs.Floors.{FloorTable, IsFloor}
 use Rattle.dual.specs.Matchings.{IsPartOf}
 use Rattle.dutch_order.specs.declared.bracket.Shape.{Shape}
 use Rattle.dutch_order.specs.declared.prefix.Filling.{Filling}
@@ -36,7 +35,6 @@ use Rattle.dutch_pair.specs.declared.quality.Quality.{Quality as Fields}
 use Rattle.dutch_pair.specs.declared.weight_floor.Bar.{Bar}
 use Rattle.dutch_pair.specs.Reached.{IsOf, Reached, frame_of}
 use Rattle.dutch_pair.specs.Round.{candidates_of, quality_of}
-use Rattle.dutch_pair.specs.Seated.{score_at}
 use Rattle.dutch_pair.specs.WeightFloors.{AreFloors, AreOf, HasBar, IsBar, IsLeast, IsNoBetter, IsWeightFloor, Weighed, bound_behind, is_first, kept_in, left_known, passed_over}
 use Rattle.dutch_pair.specs.Weights.{IsOn, IsScale, Scale, above_psd, number_pairs, numbers, weighing, weight_of}
 use Rattle.dutch_pair.proofs.ArrangementParts.{lists_of, numbers_above, numbers_rise, numbers_within, parts_of, subset_members, subset_whole}

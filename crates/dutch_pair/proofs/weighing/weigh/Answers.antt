@@ -1,5 +1,5 @@
 -- What is said of the next bracket has no part in a weight.
-use Rattle.std.proofs.Common.{◌≡◌, ◌^◌, ◌∙◌, ap}
+use Rattle.std.proofs.Common.{◌^◌, ◌∙◌, ap}
 use Rattle.dutch_pair.specs.NextBracket.{no_value}
 use Rattle.dutch_pair.specs.Quality.{quality_with}
 use Rattle.dutch_pair.specs.QualityIn.{next_in, quality_in}

@@ -1,5 +1,5 @@
 -- No pair is to come at the end of the shorter list.
-use Rattle.std.proofs.Common.{◌≡◌, ◌≤◌, length, min, subst, arith}
+use Rattle.std.proofs.Common.{◌≤◌, length, min, subst, arith}
 use Rattle.dual.specs.Floors.{extra_in}
 use Rattle.dutch_pair.proofs.BoundSums.{no_pair}
 use Rattle.dutch_pair.proofs.weight_floor.plus_pairs.Goals as goal

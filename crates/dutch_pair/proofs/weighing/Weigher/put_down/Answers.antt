@@ -1,6 +1,6 @@
 -- The number is one that weighs too much.
 use Rattle.std.proofs.Common.{◌≡◌, ◌+◌, ◌<◌, ◌≤◌, ◌^◌, ◌∙◌, length, ap, arith}
-use Rattle.dutch_pair.specs.WeightTables.{IsHeavy, down_weight, one_down}
+use Rattle.dutch_pair.specs.WeightTables.{down_weight, one_down}
 use Rattle.dutch_pair.specs.Weights.{Weighing}
 use Rattle.dutch_pair.proofs.WeighingLemmas.{at_least}
 use Rattle.dutch_pair.proofs.weighing.Weigher.put_down.Goals as goal

@@ -1,8 +1,7 @@
 -- One floor more holds.
-use Rattle.std.proofs.Common.{◌≡◌, ℕ, List, get_or, sym, ap, subst, ◌∙◌}
-use Rattle.dual.specs.Floors.{FloorTable}
+use Rattle.std.proofs.Common.{◌≡◌, sym, ap, subst, ◌∙◌}
 use Rattle.dutch_pair.specs.Reached.{Reached}
-use Rattle.dutch_pair.specs.WeightFloors.{AreFloors, bound_behind}
+use Rattle.dutch_pair.specs.WeightFloors.{AreFloors}
 use Rattle.dutch_pair.proofs.WeightsBehind.{one_holds, greater_holds}
 use Rattle.dutch_pair.proofs.weight_floor.WeightFloors.least.Goals as goal
 
