@@ -1,18 +1,8 @@
--- Certificates as tables.
-use Rattle.std.proofs.Common.{◌≡◌, ℕ, ◌-◌, ◌*◌, ◌/◌, ◌≤◌, List, [], length, sum_by, sym, ap, ◌∙◌, arith}
-use Rattle.dual.specs.declared.table.Table.{Table}
+-- The value of a certificate is a bound.
+use Rattle.std.proofs.Common.{◌≡◌, ℕ, ◌-◌, ◌/◌, ◌≤◌, List, [], length, sym, ap, ◌∙◌, arith}
 use Rattle.dual.specs.Matchings.{Costs, IsMatching, IsPartOf, cost}
-use Rattle.dual.specs.Duals.{Certificate, toll, IsFeasible, most_inside, losses, value}
-use Rattle.dual.specs.Tables.{priced_by, certificate_in, most_toll}
-use Rattle.dual.proofs.Sums.{sum_map}
+use Rattle.dual.specs.Duals.{Certificate, IsFeasible, losses, value}
 use Rattle.dual.proofs.WeakDuality.{bounded_beside, counted}
-
-pub tolls_are : (table : Table) (a b : ℕ) → sum_by (toll (a, b)) (certificate_in table).sets ≡ sum_by (λ set. toll (a, b) (priced_by set)) table.sets.items
-tolls_are table a b = sum_map (toll (a, b)) priced_by table.sets.items
-
-pub most_tolls_are : (table : Table) (players : List ℕ) → sum_by (λ set. set.price * most_inside players set) (certificate_in table).sets
-    ≡ sum_by (most_toll players) table.sets.items
-most_tolls_are table players = sum_map (λ set. set.price * most_inside players set) priced_by table.sets.items
 
 -- the number of pairs is known by that of the players left over
 pub least : (costs : Costs) (players : List ℕ) (certificate : Certificate) (left : ℕ) (known : List (ℕ × ℕ)) → IsFeasible costs players certificate

@@ -27,7 +27,8 @@ loop-v-preserved g c =
             bear = All-more (λ v. costs.may_be_left v ≡ true → CanBearLeft costs certificate (2 ^ 256) v) players i 0 lt c.loop-v.invariant.bear
                 (λ asked. w.in-Some.ensures.0);
             told = stands_more (λ v. v) (slack_left costs certificate) costs.may_be_left (λ v x e. e) players i c.loop-v.extra.items
-                c.if-may_be_left.extra.items w.from.result w.in-Some.slack lt inside w.from.ensures written w.in-Some.ensures.1 c.loop-v.invariant.told;
+                c.if-may_be_left.extra.items w.from.result w.in-Some.slack lt inside w.from.ensures written w.in-Some.ensures.1
+                c.loop-v.invariant.told;
           }
       | else-may_be_left w ↦
           record {

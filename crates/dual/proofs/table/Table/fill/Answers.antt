@@ -28,7 +28,8 @@ loop-v-preserved g c =
             bear = All-more (λ v. costs.meets u v ≡ true → CanBear costs certificate (2 ^ 256) u v) players i 0 lt c.loop-v.invariant.bear
                 (λ asked. w.in-Some.ensures.0);
             told = stands_more (λ v. start + v) (λ v. slack costs certificate (u, v)) (costs.meets u) (λ v x e. omega (arith, e)) players i
-                c.loop-v.extra c.if-may_meet.extra (start + w.from.result) w.in-Some.slack lt inside place w.extra-is w.in-Some.ensures.1 c.loop-v.invariant.told;
+                c.loop-v.extra c.if-may_meet.extra (start + w.from.result) w.in-Some.slack lt inside place w.extra-is w.in-Some.ensures.1
+                c.loop-v.invariant.told;
             others = λ k far.
                 let ne : k ≢ start + w.from.result = λ is. far i 0 lt (omega (arith, is, place)) in
                 ap (λ xs. get_or xs k 0) w.extra-is ∙ get_or-set_other c.loop-v.extra (start + w.from.result) k w.in-Some.slack 0 ne
