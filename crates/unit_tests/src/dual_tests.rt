@@ -207,7 +207,14 @@ fn known_pairs_bring_their_slack(rt: HostRuntime) -> Result<(), Fail> {
         return Err(Fail::new("a floor"));
     };
     assert_eq!(rt; floor.base(), Wide::from_u64(3));
-    for (a, b, extra) in [(5, 6, 2), (3, 4, 8), (1, 2, 1), (3, 5, 0), (7, 5, 0), (5, 7, 0)] {
+    for (a, b, extra) in [
+        (5, 6, 2),
+        (3, 4, 8),
+        (1, 2, 1),
+        (3, 5, 0),
+        (7, 5, 0),
+        (5, 7, 0),
+    ] {
         assert_eq!(rt; floor.extra(a, b), Wide::from_u64(extra));
     }
     for (a, extra) in [(6, 7), (5, 0), (700, 0)] {
