@@ -51,3 +51,4 @@ pub mod WeightTables
 pub mod Weights
 pub mod WeightFloors
 pub mod Rests
+pub mod Passes

@@ -2,8 +2,9 @@
 //
 // Whoever finds a matching is not trusted: of its certificate a floor is kept only if the check confirms it. A floor holds for all candidates of
 // the bracket; where it was asked for only makes it high there.
-ghost use Rattle.std.specs.Prelude.{◌≡◌, ◌≤◌};
+ghost use Rattle.std.specs.Prelude.{◌≡◌, ◌<◌, ◌≤◌, length};
 ghost use Rattle.std.specs.Result.{MatchResult};
+ghost use Rattle.dutch_order.specs.declared.numbers.TheConstants.{LIMIT};
 ghost use Rattle.dutch_order.specs.Steps.{Spends};
 
 use crate::rest::Rest;
@@ -17,6 +18,9 @@ use dual::Table;
 use dutch_order::{Budget, Stopped};
 use std::alloc::{AllocError, Global};
 use wide::Wide;
+
+/// The number of pairs of a beginning is halved so often at most.
+const MOST_HALVINGS: u32 = 16;
 
 /// A table to be checked, and the pairs by number of the matching that it comes with.
 #[derive(Drop)]
@@ -67,13 +71,21 @@ fn told_by(alloc: Global, rest: &Rest<'_, '_>, last: usize, found: &Found) -> Re
 }
 
 /// The number of a seat in a bracket; none if it is not there.
-fn number_of(seats: &[u16], seat: u16) -> Option<u16> {
-    let place = seats.iter().position(|other| *other == seat)?;
-    Some(place as u16 + 1)
+fn number_of(seats: &[u16], seat: u16) -> Option<u16>
+    requires { length seats.now ≤ LIMIT }
+{
+    for (place, other) in seats.iter().enumerate() {
+        if *other == seat {
+            return Some(place as u16 + 1);
+        }
+    }
+    None
 }
 
 /// The pairs by number of some pairs by seat, up to the first one that is not of the bracket.
-fn by_number(alloc: Global, seats: &[u16], pairs: &[Pair]) -> Result<Vec<Pair>, AllocError> {
+fn by_number(alloc: Global, seats: &[u16], pairs: &[Pair]) -> Result<Vec<Pair>, AllocError>
+    requires { length seats.now ≤ LIMIT }
+{
     let mut numbers = Vec::new(alloc);
     for pair in pairs {
         let (Some(first), Some(second)) = (number_of(seats, pair.0), number_of(seats, pair.1)) else {
@@ -87,7 +99,8 @@ fn by_number(alloc: Global, seats: &[u16], pairs: &[Pair]) -> Result<Vec<Pair>, 
 impl<'a> WeightFloors<'a> {
     /// What being left over costs beside half of a weight: more than any weight, so that as many pairs are made as can be.
     fn alone(&self) -> Option<Wide> {
-        Wide::power_of_two(self.weighing.scale().width() as u32)
+        let width = u32::try_from(self.weighing.scale().width()).ok()?;
+        Wide::power_of_two(width)
     }
 
     /// What is told of the players who are in none of some pairs; none if nothing was found, or memory was refused.
@@ -136,7 +149,7 @@ impl<'a> WeightFloors<'a> {
     }
 
     /// Whether the last floor says that all candidates with some pairs are behind one of the bars.
-    fn rules_out(&self, pairs: &[Pair], bars: Bars) -> bool {
+    fn rules_out(&self, pairs: &[Pair], bars: &Bars) -> bool {
         let Some(floor) = self.floors.last() else {
             return false;
         };
@@ -152,32 +165,31 @@ impl<'a> WeightFloors<'a> {
 
     /// Asks behind so many of the pairs where a walk is stuck, and where that is ruled out, behind fewer, until it is known how many are not
     /// ruled out. That number is answered.
-    fn ask_behind(&mut self, stuck: &Stuck, bars: Bars, budget: &mut Budget) -> Result<usize, Stopped>
+    fn ask_behind(&mut self, stuck: &Stuck, bars: &Bars, budget: &mut Budget) -> Result<usize, Stopped>
         requires within { budget.old.used ≤ budget.old.limit }
         ensures same { self.new ≡ self.old }
         ensures stopped { MatchResult result (λ _. Unit {0}) (λ _. budget.new.used ≡ budget.new.limit) }
         ensures spends { Spends budget.old budget.new }
     {
-        let (mut sound, mut depth) = (stuck.sound, stuck.depth);
-        let mut ruled_out = depth;
-        for _ in 0..16 {
-            let pairs = &stuck.pairs[..depth];
-            self.ask(pairs, budget)?;
-            if self.rules_out(pairs, bars) {
-                ruled_out = depth;
+        let (mut sound, mut ruled_out) = (stuck.sound, stuck.depth);
+        let mut depth = stuck.depth;
+        for _ in 0..MOST_HALVINGS {
+            self.ask(stuck.front(depth), budget)?;
+            (sound, ruled_out) = if self.rules_out(stuck.front(depth), bars) {
+                (sound, depth)
             } else {
-                sound = depth;
-            }
-            if ruled_out <= sound + 1 {
+                (depth, ruled_out)
+            };
+            if ruled_out <= sound.saturating_add(1) {
                 return Ok(sound);
             }
-            depth = sound + (ruled_out - sound) / 2;
+            depth = sound.saturating_add(ruled_out) / 2;
         }
         Ok(sound)
     }
 
     /// Tells a walk more that is stuck at the beginning with some pairs by seat. It takes no more than the steps that it counts.
-    pub(crate) fn tell_more(&mut self, pairs: &[Pair], bars: Bars, budget: &mut Budget) -> Result<(), Stopped>
+    pub(crate) fn tell_more(&mut self, pairs: &[Pair], bars: &Bars, budget: &mut Budget) -> Result<(), Stopped>
         requires within { budget.old.used ≤ budget.old.limit }
         ensures same { self.new ≡ self.old }
         ensures stopped { MatchResult result (λ _. Unit {0}) (λ _. budget.new.used ≡ budget.new.limit) }
@@ -190,7 +202,7 @@ impl<'a> WeightFloors<'a> {
         let stuck = self.trail.stuck_at(pairs);
         let before = budget.used;
         let asked = self.ask_behind(&stuck, bars, budget)?;
-        self.trail.go_on(stuck.pairs, asked, budget.used - before);
+        self.trail.go_on(stuck.pairs, asked, budget.used.saturating_sub(before));
         Ok(())
     }
 }

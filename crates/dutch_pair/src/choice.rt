@@ -1,8 +1,8 @@
 // The choice in a bracket (C.04.3 B.8): its shape, and the first candidate of it that none is better than.
-ghost use Rattle.std.specs.Prelude.{◌≡◌, ◌≤◌, ◌∷◌, true, false, Some, None, List, IfOk};
+ghost use Rattle.std.specs.Prelude.{◌≡◌, ◌≤◌, ◌∷◌, [], true, false, Some, None, List, IfOk};
 ghost use Rattle.std.specs.Result.{MatchResult};
 ghost use Rattle.dutch_order.specs.Arrangements.{Arrangement, Fits, down};
-ghost use Rattle.dutch_order.specs.Steps.{MatchFound, MatchStep, Spends};
+ghost use Rattle.dutch_order.specs.Steps.{MatchDrawn, MatchFound, MatchStep, Spends};
 ghost use Rattle.dutch_pair.specs.Reached.{IsAbove, frame_of};
 ghost use Rattle.dutch_pair.specs.NextBracket.{IsOfBracket};
 ghost use Rattle.dutch_pair.specs.QualityIn.{quality_in};
@@ -12,6 +12,9 @@ ghost use Rattle.dutch_pair.specs.Kept.{IsKept};
 ghost use Rattle.dutch_pair.specs.Aims.{aim_in, best_near, best_wished, best_yet, is_idle};
 ghost use Rattle.dutch_pair.specs.Outcomes.{IsChoice};
 ghost use Rattle.dutch_pair.specs.Remembered.{LooksBelow};
+ghost use Rattle.dutch_pair.specs.Passes.{HasWeights, PassesDull};
+ghost use Rattle.dutch_pair.specs.Seated.{HasSeats};
+ghost use Rattle.dutch_pair.specs.WeightFloors.{AreOf};
 
 use crate::context::Context;
 use crate::eligible::can_be_chosen;
@@ -24,6 +27,7 @@ use crate::quality::{Quality, Room, fill_seated};
 use crate::reached::{ByNumber, Reached, Seats};
 use crate::remembered::{Judge, judge_candidate, look_below};
 use crate::shape::shape_of;
+use crate::rest::is_in;
 use crate::seated::{Pair, Seated};
 use crate::skipper::{Pass, Skipper, bars_of, known_with};
 use crate::spending::spend;
@@ -95,6 +99,7 @@ fn consider(
         (λ _. budget.new.used ≡ budget.new.limit) }
     ensures kept { IsKept pass.now.context.now.facts pass.now.context.now.reached pass.now.context.now.lower kept.new }
     ensures look { LooksBelow pass.now.context.now.facts pass.now.context.now.reached pass.now.context.now.lower judge.new.look }
+    ensures weights { judge.new.weights ≡ judge.old.weights }
     ensures spends { Spends budget.old budget.new }
 {
     if !is_wished(pass.wish, candidate) {
@@ -125,7 +130,23 @@ fn draw_once<'a>(
     lister: &mut Lister<'_, ByNumber<'_>>,
     judge: &mut Judge<'_>,
     budget: &mut Budget,
-) -> Step<()> {
+) -> Step<()>
+    requires lists { Lists sought.pass.now.context.now.facts sought.pass.now.context.now.reached lister.old.listing }
+    requires shape { lister.old.listing.shape ≡ sought.pass.now.shape }
+    requires weights { HasWeights sought.pass.now judge.old.weights }
+    requires within { budget.old.used ≤ budget.old.limit }
+    ensures answer { MatchStep result
+        (λ _. PassesDull sought.entry.pass.now sought.entry.kept.now lister.old.listing.coming (lister.new.drawn.lists ∷ lister.new.listing.coming)
+        × (lister.new.drawn.down ≡ down lister.old.listing.frame lister.new.drawn.lists))
+        (PassesDull sought.entry.pass.now sought.entry.kept.now lister.old.listing.coming [])
+        (PassesDull sought.entry.pass.now sought.entry.kept.now lister.old.listing.coming lister.new.listing.coming × (budget.new.used ≡ budget.new.limit)) }
+    ensures frame { lister.new.listing.frame ≡ lister.old.listing.frame }
+    ensures shape { lister.new.listing.shape ≡ lister.old.listing.shape }
+    ensures rule { lister.new.listing.rule ≡ lister.old.listing.rule }
+    ensures look { judge.new.look ≡ judge.old.look }
+    ensures weights { judge.new.weights ≡ judge.old.weights }
+    ensures spends { Spends budget.old budget.new }
+{
     let skipper = Skipper::new(sought.pass, sought.kept, &judge.weights);
     lister
         .listing
@@ -133,7 +154,12 @@ fn draw_once<'a>(
 }
 
 /// The steps of a turn: all that are left, or so many that it is worth while to be told more behind them.
-fn turn(weights: &Option<WeightFloors<'_>>, budget: &Budget) -> Budget {
+fn turn(weights: &Option<WeightFloors<'_>>, budget: &Budget) -> Budget
+    requires within { budget.now.used ≤ budget.now.limit }
+    ensures used { result.used ≡ budget.now.used }
+    ensures limit { result.limit ≤ budget.now.limit }
+    ensures within { result.used ≤ result.limit }
+{
     let left = budget.limit - budget.used;
     let steps = match weights {
         Some(weights) => weights.patience().min(left),
@@ -145,14 +171,24 @@ fn turn(weights: &Option<WeightFloors<'_>>, budget: &Budget) -> Budget {
     }
 }
 
-/// Where steps are left behind a turn: tells the walk more, if floors are kept.
-fn go_on(sought: Sought<'_, '_>, judge: &mut Judge<'_>, budget: &mut Budget) -> Result<(), Stopped> {
+/// Behind a turn, where steps are left: tells the walk more, if floors are kept.
+fn go_on(
+    sought: Sought<'_, '_>,
+    judge: &mut Judge<'_>,
+    budget: &mut Budget,
+) -> Result<(), Stopped>
+    requires within { budget.old.used ≤ budget.old.limit }
+    ensures stopped { MatchResult result (λ _. Unit {0}) (λ _. budget.new.used ≡ budget.new.limit) }
+    ensures look { judge.new.look ≡ judge.old.look }
+    ensures weights { judge.new.weights ≡ judge.old.weights }
+    ensures spends { Spends budget.old budget.new }
+{
     if budget.used == budget.limit {
         return Err(Stopped);
     }
     let bars = bars_of(sought.pass, sought.kept, &judge.weights);
     match &mut judge.weights {
-        Some(weights) => weights.tell_more(&judge.room.seated.pairs, bars, budget),
+        Some(weights) => weights.tell_more(&judge.room.seated.pairs, &bars, budget),
         None => Ok(()),
     }
 }
@@ -163,7 +199,23 @@ fn draw<'a>(
     lister: &mut Lister<'_, ByNumber<'_>>,
     judge: &mut Judge<'_>,
     budget: &mut Budget,
-) -> Result<bool, Stopped> {
+) -> Result<bool, Stopped>
+    requires lists { Lists sought.pass.now.context.now.facts sought.pass.now.context.now.reached lister.old.listing }
+    requires shape { lister.old.listing.shape ≡ sought.pass.now.shape }
+    requires weights { HasWeights sought.pass.now judge.old.weights }
+    requires within { budget.old.used ≤ budget.old.limit }
+    ensures answer { MatchDrawn result
+        (PassesDull sought.entry.pass.now sought.entry.kept.now lister.old.listing.coming (lister.new.drawn.lists ∷ lister.new.listing.coming)
+        × (lister.new.drawn.down ≡ down lister.old.listing.frame lister.new.drawn.lists))
+        (PassesDull sought.entry.pass.now sought.entry.kept.now lister.old.listing.coming [])
+        (budget.new.used ≡ budget.new.limit) }
+    ensures frame { lister.new.listing.frame ≡ lister.old.listing.frame }
+    ensures shape { lister.new.listing.shape ≡ lister.old.listing.shape }
+    ensures rule { lister.new.listing.rule ≡ lister.old.listing.rule }
+    ensures look { judge.new.look ≡ judge.old.look }
+    ensures weights { judge.new.weights ≡ judge.old.weights }
+    ensures spends { Spends budget.old budget.new }
+{
     for _ in 0..MOST_TURNS {
         let mut turn = turn(&judge.weights, budget);
         let step = draw_once(sought, lister, judge, &mut turn);
@@ -174,7 +226,9 @@ fn draw<'a>(
             Step::Undecided => go_on(sought, judge, budget)?,
         }
     }
-    Ok(draw_once(sought, lister, judge, budget).found()?.is_some())
+    // (no limit of steps is so high)
+    budget.used = budget.limit;
+    Err(Stopped)
 }
 
 /// Of the candidates that a pass seeks, and that can be chosen, the first that none is better than; none if there is no such candidate.
@@ -186,6 +240,7 @@ fn best_near<'a>(
 ) -> Result<Option<Best>, Stopped>
     requires lists { Lists pass.now.context.now.facts pass.now.context.now.reached lister.old.listing }
     requires look { LooksBelow pass.now.context.now.facts pass.now.context.now.reached pass.now.context.now.lower judge.old.look }
+    requires weights { HasWeights pass.now judge.old.weights }
     requires within { budget.old.used ≤ budget.old.limit }
     ensures answer { MatchFound result
         (λ b. (best_near pass.now.context.now.facts pass.now.context.now.reached pass.now.context.now.lower pass.now.wish (aim_in pass.now.aim) pass.now.shape ≡ Some b.candidate.lists)
@@ -194,6 +249,7 @@ fn best_near<'a>(
         (budget.new.used ≡ budget.new.limit) }
     ensures lists { Lists pass.now.context.now.facts pass.now.context.now.reached lister.new.listing }
     ensures look { LooksBelow pass.now.context.now.facts pass.now.context.now.reached pass.now.context.now.lower judge.new.look }
+    ensures weights { judge.new.weights ≡ judge.old.weights }
     ensures spends { Spends budget.old budget.new }
 {
     lister.listing.restart(pass.shape);
@@ -214,6 +270,7 @@ fn best_by_aim<'a>(
 ) -> Result<Option<Best>, Stopped>
     requires lists { Lists pass.now.context.now.facts pass.now.context.now.reached lister.old.listing }
     requires look { LooksBelow pass.now.context.now.facts pass.now.context.now.reached pass.now.context.now.lower judge.old.look }
+    requires weights { HasWeights pass.now judge.old.weights }
     requires within { budget.old.used ≤ budget.old.limit }
     ensures answer { MatchFound result
         (λ b. (best_wished pass.now.context.now.facts pass.now.context.now.reached pass.now.context.now.lower pass.now.wish pass.now.shape ≡ Some b.candidate.lists)
@@ -222,6 +279,7 @@ fn best_by_aim<'a>(
         (budget.new.used ≡ budget.new.limit) }
     ensures lists { Lists pass.now.context.now.facts pass.now.context.now.reached lister.new.listing }
     ensures look { LooksBelow pass.now.context.now.facts pass.now.context.now.reached pass.now.context.now.lower judge.new.look }
+    ensures weights { judge.new.weights ≡ judge.old.weights }
     ensures spends { Spends budget.old budget.new }
 {
     if pass.aim.is_none() {
@@ -240,12 +298,17 @@ fn best_in_passes(
     budget: &mut Budget,
 ) -> Result<Option<Best>, Stopped>
     requires look { LooksBelow pass.old.context.now.facts pass.old.context.now.reached pass.old.context.now.lower judge.old.look }
+    requires weights { HasWeights pass.old judge.old.weights }
     requires within { budget.old.used ≤ budget.old.limit }
     ensures answer { MatchFound result
         (λ b. (best_wished pass.old.context.now.facts pass.old.context.now.reached pass.old.context.now.lower pass.old.wish pass.old.shape ≡ Some b.candidate.lists)
         × IsKept pass.old.context.now.facts pass.old.context.now.reached pass.old.context.now.lower (Some b))
         (best_wished pass.old.context.now.facts pass.old.context.now.reached pass.old.context.now.lower pass.old.wish pass.old.shape ≡ None)
         (budget.new.used ≡ budget.new.limit) }
+    ensures look { LooksBelow pass.old.context.now.facts pass.old.context.now.reached pass.old.context.now.lower judge.new.look }
+    ensures context { pass.new.context.now ≡ pass.old.context.now }
+    ensures shape { pass.new.shape ≡ pass.old.shape }
+    ensures wish { pass.new.wish ≡ pass.old.wish }
     ensures spends { Spends budget.old budget.new }
 {
     let rule = pass.context.rule();
@@ -258,69 +321,154 @@ fn best_in_passes(
     best_near(pass, &mut lister, judge, budget)
 }
 
-/// How many steps passes make before the bracket's pairs are weighed: most brackets end with fewer.
+/// How many steps passes make before the pairs of the bracket are weighed: most brackets want no more.
 fn few_steps(players: usize) -> u64 {
     let players = players as u64;
-    64 * players + 2 * players * players
+    players
+        .saturating_mul(2)
+        .saturating_add(64)
+        .saturating_mul(players)
 }
 
-/// Fills in the pairs of a matching by number, and those whom it leaves over.
-fn seat_matching(context: &Context<'_>, pairs: &[Pair], seated: &mut Seated) {
+/// Puts the pairs of a matching to others, as far as there is room.
+fn put_matched(context: &Context<'_>, pairs: &[Pair], seated: &mut Seated)
+    requires { HasSeats context.now.facts seated.old }
+    ensures { HasSeats context.now.facts seated.new }
+{
     let reached = context.reached();
-    seated.pairs.clear();
-    seated.down.clear();
-    seated.lowest = context.lowest();
     for pair in pairs {
-        if reached.has(pair.0) && reached.has(pair.1) && seated.pairs.len() < LIMIT {
-            seated.pairs.push((reached.seat(pair.0), reached.seat(pair.1)));
+        let has_room = seated.pairs.len() + seated.down.len() < LIMIT;
+        if has_room && reached.has(pair.0) && reached.has(pair.1) {
+            seated
+                .pairs
+                .push((reached.seat(pair.0), reached.seat(pair.1)));
         }
     }
+}
+
+/// Puts those to others who are in no pair of a matching, as far as there is room.
+fn put_unmatched(context: &Context<'_>, pairs: &[Pair], seated: &mut Seated)
+    requires { HasSeats context.now.facts seated.old }
+    ensures { HasSeats context.now.facts seated.new }
+{
+    let reached = context.reached();
     for above in 0..context.len() {
         let number = above as u16 + 1;
-        if !pairs.iter().any(|pair| pair.0 == number || pair.1 == number) && seated.down.len() < LIMIT {
+        let has_room = seated.pairs.len() + seated.down.len() < LIMIT;
+        if has_room && !is_in(pairs, number) {
             seated.down.push(reached.seat(number));
         }
     }
 }
 
+/// Fills in a matching by number: its pairs, and those whom it leaves over.
+fn seat_matching(context: &Context<'_>, pairs: &[Pair], seated: &mut Seated)
+    ensures { HasSeats context.now.facts seated.new }
+{
+    seated.pairs.clear();
+    seated.down.clear();
+    seated.lowest = context.lowest();
+    put_matched(context, pairs, seated);
+    put_unmatched(context, pairs, seated);
+}
+
 /// The quality of a matching of a bracket by number, with the best that the next bracket can be: what a pass may aim at.
-fn aim_by(pass: &Pass<'_>, weights: &WeightFloors<'_>, pairs: &[Pair], room: &mut Room) -> Quality {
+fn aim_by(
+    pass: &Pass<'_>,
+    weights: &WeightFloors<'_>,
+    pairs: &[Pair],
+    room: &mut Room,
+) -> Quality {
     let context = pass.context;
     seat_matching(context, pairs, &mut room.seated);
     fill_seated(context.field(), &room.seated, &mut room.quality);
     let next = pass.floors.awaited(Filling::S1, &[]);
     room.quality.put_next(next.pairs, &next.psd);
     let aim = take(&mut room.quality);
-    if weights.weighing.scale().measures(&aim) {
+    if weights.measures(&aim) {
         return aim;
     }
     aim.without_differences()
 }
 
-/// Weighs the pairs of a bracket, and keeps the floor of a cheapest matching, at whose quality the next pass aims.
-fn weigh<'a>(pass: &mut Pass<'a>, judge: &mut Judge<'a>, budget: &mut Budget) -> Result<(), Stopped> {
-    let context = pass.context;
-    pass.aim = pass.floors.aim(known_with(context, pass.wish));
-    let count = context.len();
-    if count > MOST_WEIGHED {
-        return Ok(());
-    }
-    spend((count * count) as u64, budget)?;
-    let Ok(Some(weights)) = WeightFloors::weighed(context, pass.shape) else {
-        return Ok(());
-    };
-    let mut weights = weights;
-    if let Some(pairs) = weights.ask(&[], budget)? {
-        if pass.wish.is_none() {
-            pass.aim = Some(aim_by(pass, &weights, &pairs, &mut judge.room));
-        }
-    }
-    judge.weights = Some(weights);
-    Ok(())
+/// What passes by weight begin with.
+#[derive(Drop)]
+struct Weighed<'a> {
+    weights: Option<WeightFloors<'a>>,
+    aim: Option<Quality>,
 }
 
-/// The same: first in few steps, which most brackets need no more of, and then with floors by weight.
-fn best_at_length<'a>(pass: &mut Pass<'a>, judge: &mut Judge<'a>, budget: &mut Budget) -> Result<Option<Best>, Stopped> {
+/// What a pass may aim at: the quality of a matching, if one was found and nothing is wished.
+fn aim_for(
+    pass: &Pass<'_>,
+    weights: &WeightFloors<'_>,
+    found: &Option<Vec<Pair>>,
+    room: &mut Room,
+) -> Option<Quality> {
+    match (found, pass.wish) {
+        (Some(pairs), None) => Some(aim_by(pass, weights, pairs, room)),
+        _ => pass.floors.aim(known_with(pass.context, pass.wish)),
+    }
+}
+
+/// The floor of a cheapest matching of a bracket whose pairs are weighed, and what to aim at.
+fn weighed_by<'a>(
+    pass: &Pass<'a>,
+    weights: WeightFloors<'a>,
+    room: &mut Room,
+    budget: &mut Budget,
+) -> Result<Weighed<'a>, Stopped>
+    requires of { AreOf pass.now.context.now.facts pass.now.context.now.reached pass.now.shape weights }
+    requires within { budget.old.used ≤ budget.old.limit }
+    ensures weights { IfOk result (λ weighed. HasWeights pass.now weighed.weights) }
+    ensures stopped { MatchResult result (λ _. Unit {0}) (λ _. budget.new.used ≡ budget.new.limit) }
+    ensures spends { Spends budget.old budget.new }
+{
+    let mut weights = weights;
+    let found = weights.ask(&[], budget)?;
+    let aim = aim_for(pass, &weights, &found, room);
+    let weights = Some(weights);
+    Ok(Weighed { weights, aim })
+}
+
+/// Weighs the pairs of a bracket. Of a bracket of many players, and where memory is refused or a weight does not fit, no floors are found.
+fn weigh<'a>(
+    pass: &Pass<'a>,
+    room: &mut Room,
+    budget: &mut Budget,
+) -> Result<Weighed<'a>, Stopped>
+    requires within { budget.old.used ≤ budget.old.limit }
+    ensures weights { IfOk result (λ weighed. HasWeights pass.now weighed.weights) }
+    ensures stopped { MatchResult result (λ _. Unit {0}) (λ _. budget.new.used ≡ budget.new.limit) }
+    ensures spends { Spends budget.old budget.new }
+{
+    let count = pass.context.len();
+    if count <= MOST_WEIGHED {
+        spend((count * count) as u64, budget)?;
+        if let Ok(Some(weights)) = WeightFloors::weighed(pass.context, pass.shape) {
+            return weighed_by(pass, weights, room, budget);
+        }
+    }
+    let aim = pass.floors.aim(known_with(pass.context, pass.wish));
+    Ok(Weighed { weights: None, aim })
+}
+
+/// The same: first in few steps, since most brackets want no more, and then with floors by weight.
+fn best_in_time<'a>(
+    pass: &mut Pass<'a>,
+    judge: &mut Judge<'a>,
+    budget: &mut Budget,
+) -> Result<Option<Best>, Stopped>
+    requires look { LooksBelow pass.old.context.now.facts pass.old.context.now.reached pass.old.context.now.lower judge.old.look }
+    requires weights { HasWeights pass.old judge.old.weights }
+    requires within { budget.old.used ≤ budget.old.limit }
+    ensures answer { MatchFound result
+        (λ b. (best_wished pass.old.context.now.facts pass.old.context.now.reached pass.old.context.now.lower pass.old.wish pass.old.shape ≡ Some b.candidate.lists)
+        × IsKept pass.old.context.now.facts pass.old.context.now.reached pass.old.context.now.lower (Some b))
+        (best_wished pass.old.context.now.facts pass.old.context.now.reached pass.old.context.now.lower pass.old.wish pass.old.shape ≡ None)
+        (budget.new.used ≡ budget.new.limit) }
+    ensures spends { Spends budget.old budget.new }
+{
     let left = budget.limit - budget.used;
     let mut few = Budget {
         used: budget.used,
@@ -328,10 +476,15 @@ fn best_at_length<'a>(pass: &mut Pass<'a>, judge: &mut Judge<'a>, budget: &mut B
     };
     let found = best_in_passes(pass, judge, &mut few);
     budget.used = few.used;
-    if found.is_ok() || budget.used == budget.limit {
-        return found;
+    if let Ok(found) = found {
+        return Ok(found);
     }
-    weigh(pass, judge, budget)?;
+    if budget.used == budget.limit {
+        return Err(Stopped);
+    }
+    let weighed = weigh(pass, &mut judge.room, budget)?;
+    judge.weights = weighed.weights;
+    pass.aim = weighed.aim;
     best_in_passes(pass, judge, budget)
 }
 
@@ -374,7 +527,7 @@ pub(crate) fn best_of<'a>(
         aim: floors.aim(known),
         floors,
     };
-    match best_at_length(&mut pass, &mut judge, budget) {
+    match best_in_time(&mut pass, &mut judge, budget) {
         Ok(Some(best)) => Ok(Step::Found(best)),
         Ok(None) => Ok(Step::End),
         Err(Stopped) => Ok(Step::Undecided),

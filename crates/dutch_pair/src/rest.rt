@@ -37,7 +37,7 @@ impl<'a, 'b> Model for Rest<'a, 'b> {
 }
 
 /// Whether a number is in one of some pairs.
-fn is_in(pairs: &[Pair], number: u16) -> bool {
+pub(crate) fn is_in(pairs: &[Pair], number: u16) -> bool {
     pairs
         .iter()
         .any(|pair| pair.0 == number || pair.1 == number)

@@ -304,6 +304,19 @@ impl<'a, 'k> Skipper<'a, 'k> {
             || (bar.is_reached(least) && has_no_better_next(self.pass, prefix, &best.quality))
     }
 
+    /// Whether no candidate with a beginning is of interest by what all of them weigh at least by one of the floors.
+    fn is_idle_by(&self, weights: &WeightFloors<'_>, place: usize, prefix: &Prefix<'_>) -> bool
+        requires { self.now.weights.now ≡ Some weights.now }
+        ensures { result ≡ true → (a : Arrangement) → IsIn a (candidates_of self.now.pass.now.context.now.facts self.now.pass.now.context.now.reached self.now.pass.now.shape)
+            → Begins prefix.now a → is_idle (aim_in self.now.pass.now.aim) self.now.kept.now
+            (quality_of self.now.pass.now.context.now.facts self.now.pass.now.context.now.reached self.now.pass.now.context.now.lower a) ≡ true }
+    {
+        let Some(least) = weights.least_by(place, prefix) else {
+            return false;
+        };
+        self.is_behind_kept(prefix, least) || self.is_behind_aim(prefix, least)
+    }
+
     /// Whether no candidate with a beginning is of interest by what all of them weigh at least.
     fn is_idle_by_weight(&self, prefix: &Prefix<'_>) -> bool
         ensures { result ≡ true → (a : Arrangement) → IsIn a (candidates_of self.now.pass.now.context.now.facts self.now.pass.now.context.now.reached self.now.pass.now.shape)
@@ -314,10 +327,9 @@ impl<'a, 'k> Skipper<'a, 'k> {
             return false;
         };
         // (the floor that was asked for last is the most likely to tell)
-        for floor in weights.floors.iter().rev() {
-            if let Some(least) = weights.least_by(floor, prefix)
-                && (self.is_behind_kept(prefix, least) || self.is_behind_aim(prefix, least))
-            {
+        let count = weights.len();
+        for before in 0..count {
+            if self.is_idle_by(weights, count - 1 - before, prefix) {
                 return true;
             }
         }

@@ -3,6 +3,8 @@
 // The certificate is of the players who are in none of some pairs; in the table all players of the bracket stand. Whoever is in one of the
 // pairs has a potential of 0, while all others have more, and pairs are given more. So nothing is wanted of the pairs that those players
 // make with others, and what the known pairs add is all that they cost. Nobody relies on a table that was not checked.
+ghost use Rattle.std.specs.Prelude.{◌<◌};
+
 use crate::rest::Rest;
 use cheapest::{Certificate, PricedSet};
 use dual::{MarkedSet, Table};

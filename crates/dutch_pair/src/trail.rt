@@ -1,6 +1,8 @@
 // Where a walk was when a floor was asked for last, by the pairs of its beginning.
 //
 // A walk goes through beginnings in order. So all beginnings between two of them have the pairs that both have in common.
+ghost use Rattle.std.specs.Prelude.{◌≤◌, length};
+
 use crate::seated::Pair;
 use std::alloc::{AllocError, Global};
 
@@ -18,6 +20,14 @@ pub(crate) struct Stuck {
     pub(crate) pairs: Vec<Pair>,
     pub(crate) sound: usize,
     pub(crate) depth: usize,
+}
+
+impl Stuck {
+    /// The first so many of the pairs, or all of them.
+    pub(crate) fn front(&self, count: usize) -> &[Pair] {
+        let count = count.min(self.pairs.len());
+        &self.pairs[..count]
+    }
 }
 
 /// How many pairs two lists begin with in common.
@@ -45,7 +55,7 @@ impl Trail {
 
     /// How many steps a walk makes before it is told more: the more, the dearer the last answer was.
     pub(crate) fn patience(&self, players: usize) -> u64 {
-        (self.steps / 4).max(16 * players as u64)
+        (self.steps / 4).max((players as u64).saturating_mul(16))
     }
 
     /// Where a walk is stuck that is at the beginning with these pairs: behind those that stood since it was told last. If that is where it was
@@ -53,7 +63,7 @@ impl Trail {
     pub(crate) fn stuck_at(&self, pairs: Vec<Pair>) -> Stuck {
         let stood = common(&self.pairs, &pairs);
         let sound = if stood < self.asked { 0 } else { self.asked };
-        let depth = if stood == self.asked { stood + 1 } else { stood };
+        let depth = if stood == self.asked { stood.saturating_add(1) } else { stood };
         let depth = depth.min(pairs.len());
         Stuck {
             pairs,

@@ -23,6 +23,9 @@ use wide::Wide;
 /// So many floors are kept. Each is asked at each beginning.
 const KEPT: usize = 4;
 
+/// Weights with so many bits leave room for what a matching of all players comes to.
+const MOST_BITS: usize = 226;
+
 /// What a quality weighs, and what all with a higher PSD weigh at least.
 #[derive(Clone, Copy, Debug)]
 pub(crate) struct Bar {
@@ -223,7 +226,7 @@ impl<'a> WeightFloors<'a> {
 
     /// Whether sums of the weights of all players fit, those twice over, and what it costs to be left over.
     fn has_room(&self) -> bool {
-        self.weighing.scale().width() + 24 <= 250
+        self.weighing.scale().width() <= MOST_BITS
     }
 
     /// How many steps a walk makes before it is told more.
@@ -273,11 +276,24 @@ impl<'a> WeightFloors<'a> {
         Some(Bar { weight, above })
     }
 
-    /// The bound that a floor gives behind a beginning; none if it does not fit.
-    pub(crate) fn least_by(&self, floor: &Floor, prefix: &Prefix<'_>) -> Option<Wide>
+    /// Whether the scale has a digit for each difference of a quality.
+    pub(crate) fn measures(&self, quality: &Quality) -> bool {
+        self.weighing.scale().measures(quality)
+    }
+
+    /// How many floors are kept.
+    pub(crate) fn len(&self) -> usize {
+        self.floors.len()
+    }
+
+    /// The bound that the floor at a place gives behind a beginning; none if there is none there, or if it does not fit.
+    pub(crate) fn least_by(&self, place: usize, prefix: &Prefix<'_>) -> Option<Wide>
         ensures { IfSome result (IsLeast self.now prefix.now) }
     {
+        if place >= self.floors.len() {
+            return None;
+        }
         let mdps = self.weighing.context().reached().mdps();
-        bound_behind(floor, mdps, prefix)
+        bound_behind(&self.floors[place], mdps, prefix)
     }
 }
