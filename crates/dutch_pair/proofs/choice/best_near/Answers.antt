@@ -13,18 +13,19 @@ use Rattle.dutch_pair.proofs.AimLemmas.{skipped_same}
 use Rattle.dutch_pair.proofs.SkippedLemmas.{left_was_there}
 use Rattle.std.proofs.lemmas.Bool.{true≢false}
 use Rattle.dutch_order.specs.Steps.{MatchDrawn}
-use Rattle.dutch_pair.specs.Passes.{HasWeights}
+use Rattle.dutch_order.specs.declared.steps.Stopped.{Stopped}
+use Rattle.dutch_pair.specs.Passes.{HasWeights, PassesDull}
 use Rattle.dutch_order.proofs.Spending.{spends-none, spends-more}
 use Rattle.dutch_pair.proofs.choice.best_near.Goals as goal
 
 -- what a draw gives, by its answer
-drawn_yes : {E A B C : Type 0} (b : Bool) → b ≡ true → MatchDrawn {E = E} (Ok b) A B C → A
-drawn_yes true is drawn = drawn
-drawn_yes false is drawn = absurd (true≢false (sym is))
+drawn_yes : (A B C : Type 0) (b : Bool) → b ≡ true → MatchDrawn {E = Stopped} (Ok b) A B C → A
+drawn_yes A B C true is drawn = drawn
+drawn_yes A B C false is drawn = absurd (true≢false (sym is))
 
-drawn_no : {E A B C : Type 0} (b : Bool) → b ≡ false → MatchDrawn {E = E} (Ok b) A B C → B
-drawn_no true is drawn = absurd (true≢false is)
-drawn_no false is drawn = drawn
+drawn_no : (A B C : Type 0) (b : Bool) → b ≡ false → MatchDrawn {E = Stopped} (Ok b) A B C → B
+drawn_no A B C true is drawn = absurd (true≢false is)
+drawn_no A B C false is drawn = drawn
 
 pub loop-kept-init : goal.loop-kept-init
 unfolding candidates_of best_near best_yet
@@ -59,7 +60,12 @@ consider-requires-clause-candidate c =
     let facts = pass.context.now.facts in
     let reached = pass.context.now.reached in
     let kept = c.loop-kept.kept in
-    let found = drawn_yes c.in_ok-draw.field-0 c.if-branch.true c.in_ok-draw.ensures.answer in
+    let lister = c.draw.new.lister in
+    let Found : Type 0 = PassesDull pass c.loop-kept.kept c.loop-kept.lister.listing.coming (lister.drawn.lists ∷ lister.listing.coming)
+        × (lister.drawn.down ≡ down c.loop-kept.lister.listing.frame lister.drawn.lists) in
+    let None' : Type 0 = PassesDull pass c.loop-kept.kept c.loop-kept.lister.listing.coming [] in
+    let Stop : Type 0 = c.draw.new.budget.used ≡ c.draw.new.budget.limit in
+    let found : Found = drawn_yes Found None' Stop c.in_ok-draw.field-0 c.if-branch.true c.in_ok-draw.ensures.answer in
     let lists = c.draw.new.lister.drawn.lists in
     let m : IsIn lists (candidates_of facts reached pass.shape) =
     c.loop-kept.invariant.inside lists
@@ -77,7 +83,12 @@ loop-kept-preserved c =
     let lower = pass.context.now.lower in
     let kept = c.loop-kept.kept in
     let aim = aim_in pass.aim in
-    let found = drawn_yes c.in_ok-draw.field-0 c.if-branch.true c.in_ok-draw.ensures.answer in
+    let lister = c.draw.new.lister in
+    let Found : Type 0 = PassesDull pass c.loop-kept.kept c.loop-kept.lister.listing.coming (lister.drawn.lists ∷ lister.listing.coming)
+        × (lister.drawn.down ≡ down c.loop-kept.lister.listing.frame lister.drawn.lists) in
+    let None' : Type 0 = PassesDull pass c.loop-kept.kept c.loop-kept.lister.listing.coming [] in
+    let Stop : Type 0 = c.draw.new.budget.used ≡ c.draw.new.budget.limit in
+    let found : Found = drawn_yes Found None' Stop c.in_ok-draw.field-0 c.if-branch.true c.in_ok-draw.ensures.answer in
     let before = c.loop-kept.lister.listing.coming in
     let after = c.draw.new.lister.drawn.lists ∷ c.draw.new.lister.listing.coming in
     record {
@@ -106,7 +117,12 @@ returns-clause-answer c =
     let lower = pass.context.now.lower in
     let kept = c.loop-kept.kept in
     let aim = aim_in pass.aim in
-    let ended = drawn_no c.in_ok-draw.field-0 c.if-branch.false c.in_ok-draw.ensures.answer in
+    let lister = c.draw.new.lister in
+    let Found : Type 0 = PassesDull pass c.loop-kept.kept c.loop-kept.lister.listing.coming (lister.drawn.lists ∷ lister.listing.coming)
+        × (lister.drawn.down ≡ down c.loop-kept.lister.listing.frame lister.drawn.lists) in
+    let None' : Type 0 = PassesDull pass c.loop-kept.kept c.loop-kept.lister.listing.coming [] in
+    let Stop : Type 0 = c.draw.new.budget.used ≡ c.draw.new.budget.limit in
+    let ended : None' = drawn_no Found None' Stop c.in_ok-draw.field-0 c.if-branch.false c.in_ok-draw.ensures.answer in
     let all = best_near facts reached lower pass.wish aim pass.shape in
     handed facts reached lower kept all c.loop-kept.invariant.kept
     (best_last facts reached lower pass.wish aim kept all
