@@ -1,5 +1,5 @@
 -- A list that goes on as another one, which goes on as a third one, goes on as the third: what is skipped on the way is idle.
-use Rattle.std.proofs.Common.{◌≡◌, List, ◌++◌, sym, ap, ◌∙◌}
+use Rattle.std.proofs.Common.{List, ◌++◌, sym, ap, ◌∙◌}
 use Rattle.std.proofs.lemmas.List.{append_assoc}
 use Rattle.dutch_order.specs.Steps.{Passes}
 use Rattle.dutch_pair.proofs.AllLemmas.{all_join}

@@ -1,5 +1,5 @@
 -- The players of a bracket who are in none of some pairs, as a graph (C.04.3 C.1 to C.3). Only private functions' clauses cite these.
-use Rattle.std.specs.Prelude.{ℕ, ◌<◌, ◌≤◌, Bool, List, All, length, slice_index}
+use Rattle.std.specs.Prelude.{ℕ, ◌≤◌, Bool, List, All, length, slice_index}
 use Rattle.dutch_order.specs.declared.numbers.TheConstants.{LIMIT}
 use Rattle.dutch_pair.specs.Reached.{numbers_meet}
 use Rattle.dutch_pair.specs.Weights.{Weighing}

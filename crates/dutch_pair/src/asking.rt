@@ -45,7 +45,11 @@ impl Bars {
 }
 
 /// The pairs of a matching by number, each once.
-fn made_pairs(rest: &Rest<'_, '_>, partners: &[Option<u16>], alloc: Global) -> Result<Vec<Pair>, AllocError> {
+fn made_pairs(
+    rest: &Rest<'_, '_>,
+    partners: &[Option<u16>],
+    alloc: Global,
+) -> Result<Vec<Pair>, AllocError> {
     let mut pairs = Vec::new(alloc);
     let numbers = rest.numbers();
     for (number, partner) in numbers.iter().zip(partners.iter()) {
@@ -60,7 +64,12 @@ fn made_pairs(rest: &Rest<'_, '_>, partners: &[Option<u16>], alloc: Global) -> R
 }
 
 /// What a matching of players tells; none if a sum does not fit.
-fn told_by(alloc: Global, rest: &Rest<'_, '_>, last: usize, found: &Found) -> Result<Option<Told>, AllocError>
+fn told_by(
+    alloc: Global,
+    rest: &Rest<'_, '_>,
+    last: usize,
+    found: &Found,
+) -> Result<Option<Told>, AllocError>
     requires { last < 65536 }
 {
     let Some(table) = table_of(alloc, rest, last, &found.certificate)? else {
@@ -88,7 +97,8 @@ fn by_number(alloc: Global, seats: &[u16], pairs: &[Pair]) -> Result<Vec<Pair>, 
 {
     let mut numbers = Vec::new(alloc);
     for pair in pairs {
-        let (Some(first), Some(second)) = (number_of(seats, pair.0), number_of(seats, pair.1)) else {
+        let (Some(first), Some(second)) = (number_of(seats, pair.0), number_of(seats, pair.1))
+        else {
             return Ok(numbers);
         };
         numbers.push((first, second))?;
@@ -124,7 +134,11 @@ impl<'a> WeightFloors<'a> {
 
     /// Looks for a cheapest matching of the players who are in none of some pairs, and keeps the floor that its certificate gives. It answers the pairs
     /// of the matching by number; none if it was not looked for, since too few steps are left, or nothing was confirmed.
-    pub(crate) fn ask(&mut self, pairs: &[Pair], budget: &mut Budget) -> Result<Option<Vec<Pair>>, Stopped>
+    pub(crate) fn ask(
+        &mut self,
+        pairs: &[Pair],
+        budget: &mut Budget,
+    ) -> Result<Option<Vec<Pair>>, Stopped>
         requires within { budget.old.used ≤ budget.old.limit }
         ensures same { self.new ≡ self.old }
         ensures stopped { MatchResult result (λ _. Unit {0}) (λ _. budget.new.used ≡ budget.new.limit) }
@@ -165,7 +179,12 @@ impl<'a> WeightFloors<'a> {
 
     /// Asks behind so many of the pairs where a walk is stuck, and where that is ruled out, behind fewer, until it is known how many are not
     /// ruled out. That number is answered.
-    fn ask_behind(&mut self, stuck: &Stuck, bars: &Bars, budget: &mut Budget) -> Result<usize, Stopped>
+    fn ask_behind(
+        &mut self,
+        stuck: &Stuck,
+        bars: &Bars,
+        budget: &mut Budget,
+    ) -> Result<usize, Stopped>
         requires within { budget.old.used ≤ budget.old.limit }
         ensures same { self.new ≡ self.old }
         ensures stopped { MatchResult result (λ _. Unit {0}) (λ _. budget.new.used ≡ budget.new.limit) }
@@ -189,7 +208,12 @@ impl<'a> WeightFloors<'a> {
     }
 
     /// Tells a walk more that is stuck at the beginning with some pairs by seat. It takes no more than the steps that it counts.
-    pub(crate) fn tell_more(&mut self, pairs: &[Pair], bars: &Bars, budget: &mut Budget) -> Result<(), Stopped>
+    pub(crate) fn tell_more(
+        &mut self,
+        pairs: &[Pair],
+        bars: &Bars,
+        budget: &mut Budget,
+    ) -> Result<(), Stopped>
         requires within { budget.old.used ≤ budget.old.limit }
         ensures same { self.new ≡ self.old }
         ensures stopped { MatchResult result (λ _. Unit {0}) (λ _. budget.new.used ≡ budget.new.limit) }
@@ -202,7 +226,8 @@ impl<'a> WeightFloors<'a> {
         let stuck = self.trail.stuck_at(pairs);
         let before = budget.used;
         let asked = self.ask_behind(&stuck, bars, budget)?;
-        self.trail.go_on(stuck.pairs, asked, budget.used.saturating_sub(before));
+        self.trail
+            .go_on(stuck.pairs, asked, budget.used.saturating_sub(before));
         Ok(())
     }
 }

@@ -26,9 +26,9 @@ use crate::pair_facts::PairFacts;
 use crate::quality::{Quality, Room, fill_seated};
 use crate::reached::{ByNumber, Reached, Seats};
 use crate::remembered::{Judge, judge_candidate, look_below};
-use crate::shape::shape_of;
 use crate::rest::is_in;
 use crate::seated::{Pair, Seated};
+use crate::shape::shape_of;
 use crate::skipper::{Pass, Skipper, bars_of, known_with};
 use crate::spending::spend;
 use crate::weight_floor::WeightFloors;
@@ -172,11 +172,7 @@ fn turn(weights: &Option<WeightFloors<'_>>, budget: &Budget) -> Budget
 }
 
 /// Behind a turn, where steps are left: tells the walk more, if floors are kept.
-fn go_on(
-    sought: Sought<'_, '_>,
-    judge: &mut Judge<'_>,
-    budget: &mut Budget,
-) -> Result<(), Stopped>
+fn go_on(sought: Sought<'_, '_>, judge: &mut Judge<'_>, budget: &mut Budget) -> Result<(), Stopped>
     requires within { budget.old.used ≤ budget.old.limit }
     ensures stopped { MatchResult result (λ _. Unit {0}) (λ _. budget.new.used ≡ budget.new.limit) }
     ensures look { judge.new.look ≡ judge.old.look }
@@ -373,12 +369,7 @@ fn seat_matching(context: &Context<'_>, pairs: &[Pair], seated: &mut Seated)
 }
 
 /// The quality of a matching of a bracket by number, with the best that the next bracket can be: what a pass may aim at.
-fn aim_by(
-    pass: &Pass<'_>,
-    weights: &WeightFloors<'_>,
-    pairs: &[Pair],
-    room: &mut Room,
-) -> Quality {
+fn aim_by(pass: &Pass<'_>, weights: &WeightFloors<'_>, pairs: &[Pair], room: &mut Room) -> Quality {
     let context = pass.context;
     seat_matching(context, pairs, &mut room.seated);
     fill_seated(context.field(), &room.seated, &mut room.quality);
@@ -432,11 +423,7 @@ fn weighed_by<'a>(
 }
 
 /// Weighs the pairs of a bracket. Of a bracket of many players, and where memory is refused or a weight does not fit, no floors are found.
-fn weigh<'a>(
-    pass: &Pass<'a>,
-    room: &mut Room,
-    budget: &mut Budget,
-) -> Result<Weighed<'a>, Stopped>
+fn weigh<'a>(pass: &Pass<'a>, room: &mut Room, budget: &mut Budget) -> Result<Weighed<'a>, Stopped>
     requires within { budget.old.used ≤ budget.old.limit }
     ensures weights { IfOk result (λ weighed. HasWeights pass.now weighed.weights) }
     ensures stopped { MatchResult result (λ _. Unit {0}) (λ _. budget.new.used ≡ budget.new.limit) }

@@ -22,12 +22,12 @@ ghost use Rattle.dutch_pair.specs.KnownBeside.{AreKnown, Holds, turned};
 ghost use Rattle.dutch_pair.specs.Wishes.{grants, is_wished};
 ghost use Rattle.dutch_pair.specs.declared.wish.Wish.TheVariants.{Over};
 
+use crate::asking::Bars;
 use crate::choice::{Best, is_idle};
 use crate::context::Context;
 use crate::floor::Floors;
 use crate::known::Known;
 use crate::quality::{Quality, Room};
-use crate::asking::Bars;
 use crate::weight_floor::{Bar, WeightFloors};
 use crate::wish::Wish;
 use dutch_order::{Bound, Prefix, Shape};
@@ -200,7 +200,11 @@ fn kept_bar(kept: &Option<Best>, weights: &Option<WeightFloors<'_>>) -> Option<B
 }
 
 /// The bars of the aim of a pass and of the candidate that is kept.
-pub(crate) fn bars_of(pass: &Pass<'_>, kept: &Option<Best>, weights: &Option<WeightFloors<'_>>) -> Bars
+pub(crate) fn bars_of(
+    pass: &Pass<'_>,
+    kept: &Option<Best>,
+    weights: &Option<WeightFloors<'_>>,
+) -> Bars
     ensures aim { HasBar weights.now (aim_in pass.now.aim) result.aim }
     ensures kept { HasBar weights.now (kept_in kept.now) result.kept }
 {
@@ -226,7 +230,11 @@ pub(crate) struct Skipper<'a, 'k> {
 
 impl<'a, 'k> Skipper<'a, 'k> {
     /// What tells by an aim, by what is kept and by weight.
-    pub(crate) fn new(pass: &'a Pass<'a>, kept: &'k Option<Best>, weights: &'k Option<WeightFloors<'k>>) -> Skipper<'a, 'k>
+    pub(crate) fn new(
+        pass: &'a Pass<'a>,
+        kept: &'k Option<Best>,
+        weights: &'k Option<WeightFloors<'k>>,
+    ) -> Skipper<'a, 'k>
         requires { ForSome weights.now (AreOf pass.now.context.now.facts pass.now.context.now.reached pass.now.shape) }
         ensures pass { result.pass.now ≡ pass.now }
         ensures kept { result.kept.now ≡ kept.now }

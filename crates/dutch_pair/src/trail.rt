@@ -63,7 +63,11 @@ impl Trail {
     pub(crate) fn stuck_at(&self, pairs: Vec<Pair>) -> Stuck {
         let stood = common(&self.pairs, &pairs);
         let sound = if stood < self.asked { 0 } else { self.asked };
-        let depth = if stood == self.asked { stood.saturating_add(1) } else { stood };
+        let depth = if stood == self.asked {
+            stood.saturating_add(1)
+        } else {
+            stood
+        };
         let depth = depth.min(pairs.len());
         Stuck {
             pairs,

@@ -213,7 +213,10 @@ impl<'a> WeightFloors<'a> {
     }
 
     /// The same with a digit for each difference of C.16 to C.19, if there is room for that beside what a matching of all pairs comes to.
-    pub(crate) fn weighed(context: &'a Context<'a>, shape: Shape) -> Result<Option<WeightFloors<'a>>, AllocError>
+    pub(crate) fn weighed(
+        context: &'a Context<'a>,
+        shape: Shape,
+    ) -> Result<Option<WeightFloors<'a>>, AllocError>
         ensures { IfOk result (λ found. IfSome found (AreOf context.now.facts context.now.reached shape)) }
     {
         if let Some(weights) = WeightFloors::read(context, shape, true)? {

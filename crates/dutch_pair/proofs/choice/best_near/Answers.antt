@@ -62,7 +62,7 @@ consider-requires-clause-candidate c =
     let kept = c.loop-kept.kept in
     let lister = c.draw.new.lister in
     let Found : Type 0 = PassesDull pass c.loop-kept.kept c.loop-kept.lister.listing.coming (lister.drawn.lists ∷ lister.listing.coming)
-        × (lister.drawn.down ≡ down c.loop-kept.lister.listing.frame lister.drawn.lists) in
+    × (lister.drawn.down ≡ down c.loop-kept.lister.listing.frame lister.drawn.lists) in
     let None' : Type 0 = PassesDull pass c.loop-kept.kept c.loop-kept.lister.listing.coming [] in
     let Stop : Type 0 = c.draw.new.budget.used ≡ c.draw.new.budget.limit in
     let found : Found = drawn_yes Found None' Stop c.in_ok-draw.field-0 c.if-branch.true c.in_ok-draw.ensures.answer in
@@ -85,7 +85,7 @@ loop-kept-preserved c =
     let aim = aim_in pass.aim in
     let lister = c.draw.new.lister in
     let Found : Type 0 = PassesDull pass c.loop-kept.kept c.loop-kept.lister.listing.coming (lister.drawn.lists ∷ lister.listing.coming)
-        × (lister.drawn.down ≡ down c.loop-kept.lister.listing.frame lister.drawn.lists) in
+    × (lister.drawn.down ≡ down c.loop-kept.lister.listing.frame lister.drawn.lists) in
     let None' : Type 0 = PassesDull pass c.loop-kept.kept c.loop-kept.lister.listing.coming [] in
     let Stop : Type 0 = c.draw.new.budget.used ≡ c.draw.new.budget.limit in
     let found : Found = drawn_yes Found None' Stop c.in_ok-draw.field-0 c.if-branch.true c.in_ok-draw.ensures.answer in
@@ -119,7 +119,7 @@ returns-clause-answer c =
     let aim = aim_in pass.aim in
     let lister = c.draw.new.lister in
     let Found : Type 0 = PassesDull pass c.loop-kept.kept c.loop-kept.lister.listing.coming (lister.drawn.lists ∷ lister.listing.coming)
-        × (lister.drawn.down ≡ down c.loop-kept.lister.listing.frame lister.drawn.lists) in
+    × (lister.drawn.down ≡ down c.loop-kept.lister.listing.frame lister.drawn.lists) in
     let None' : Type 0 = PassesDull pass c.loop-kept.kept c.loop-kept.lister.listing.coming [] in
     let Stop : Type 0 = c.draw.new.budget.used ≡ c.draw.new.budget.limit in
     let ended : None' = drawn_no Found None' Stop c.in_ok-draw.field-0 c.if-branch.false c.in_ok-draw.ensures.answer in
