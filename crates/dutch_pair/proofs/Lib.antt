@@ -1,3 +1,4 @@
+pub mod PassesTwice
 pub mod AboveLemmas
 pub mod BoundSums
 pub mod WeightsBehind

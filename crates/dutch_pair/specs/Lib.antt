@@ -50,3 +50,5 @@ pub mod Barriers
 pub mod WeightTables
 pub mod Weights
 pub mod WeightFloors
+pub mod Rests
+pub mod Passes

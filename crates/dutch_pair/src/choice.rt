@@ -1,8 +1,8 @@
 // The choice in a bracket (C.04.3 B.8): its shape, and the first candidate of it that none is better than.
-ghost use Rattle.std.specs.Prelude.{◌≡◌, ◌≤◌, ◌∷◌, true, false, Some, None, List, IfOk};
+ghost use Rattle.std.specs.Prelude.{◌≡◌, ◌≤◌, ◌∷◌, [], true, false, Some, None, List, IfOk};
 ghost use Rattle.std.specs.Result.{MatchResult};
 ghost use Rattle.dutch_order.specs.Arrangements.{Arrangement, Fits, down};
-ghost use Rattle.dutch_order.specs.Steps.{MatchFound, MatchStep, Spends};
+ghost use Rattle.dutch_order.specs.Steps.{MatchDrawn, MatchFound, MatchStep, Spends};
 ghost use Rattle.dutch_pair.specs.Reached.{IsAbove, frame_of};
 ghost use Rattle.dutch_pair.specs.NextBracket.{IsOfBracket};
 ghost use Rattle.dutch_pair.specs.QualityIn.{quality_in};
@@ -12,6 +12,9 @@ ghost use Rattle.dutch_pair.specs.Kept.{IsKept};
 ghost use Rattle.dutch_pair.specs.Aims.{aim_in, best_near, best_wished, best_yet, is_idle};
 ghost use Rattle.dutch_pair.specs.Outcomes.{IsChoice};
 ghost use Rattle.dutch_pair.specs.Remembered.{LooksBelow};
+ghost use Rattle.dutch_pair.specs.Passes.{HasWeights, PassesDull};
+ghost use Rattle.dutch_pair.specs.Seated.{HasSeats};
+ghost use Rattle.dutch_pair.specs.WeightFloors.{AreOf};
 
 use crate::context::Context;
 use crate::eligible::can_be_chosen;
@@ -20,16 +23,26 @@ use crate::floor::Floors;
 use crate::greatest::Lister;
 use crate::outlook::Outlook;
 use crate::pair_facts::PairFacts;
-use crate::quality::{Quality, Room};
+use crate::quality::{Quality, Room, fill_seated};
 use crate::reached::{ByNumber, Reached, Seats};
 use crate::remembered::{Judge, judge_candidate, look_below};
+use crate::rest::is_in;
+use crate::seated::{Pair, Seated};
 use crate::shape::shape_of;
-use crate::skipper::{Pass, Skipper, known_with};
+use crate::skipper::{Pass, Skipper, bars_of, known_with};
+use crate::spending::spend;
+use crate::weight_floor::WeightFloors;
 use crate::wish::{Wish, is_wished};
-use dutch_order::{Budget, Candidate, Shape, Step, Stopped};
+use dutch_order::{Budget, Candidate, Filling, LIMIT, Shape, Step, Stopped};
 use dutch_player::Field;
 use std::alloc::Global;
 use std::mem::take;
+
+/// A pass is told more so many times at most.
+const MOST_TURNS: u32 = u32::MAX;
+
+/// The pairs of brackets with more players are not weighed.
+const MOST_WEIGHED: usize = 400;
 
 /// What is chosen in a bracket.
 #[derive(Debug, Drop)]
@@ -86,6 +99,7 @@ fn consider(
         (λ _. budget.new.used ≡ budget.new.limit) }
     ensures kept { IsKept pass.now.context.now.facts pass.now.context.now.reached pass.now.context.now.lower kept.new }
     ensures look { LooksBelow pass.now.context.now.facts pass.now.context.now.reached pass.now.context.now.lower judge.new.look }
+    ensures weights { judge.new.weights ≡ judge.old.weights }
     ensures spends { Spends budget.old budget.new }
 {
     if !is_wished(pass.wish, candidate) {
@@ -103,6 +117,116 @@ fn consider(
     Ok(())
 }
 
+/// What a pass seeks, beside the candidate that it keeps.
+#[derive(Clone, Copy)]
+struct Sought<'a, 'k> {
+    pass: &'a Pass<'a>,
+    kept: &'k Option<Best>,
+}
+
+/// Draws the next candidate that may be of interest.
+fn draw_once<'a>(
+    sought: Sought<'a, '_>,
+    lister: &mut Lister<'_, ByNumber<'_>>,
+    judge: &mut Judge<'_>,
+    budget: &mut Budget,
+) -> Step<()>
+    requires lists { Lists sought.pass.now.context.now.facts sought.pass.now.context.now.reached lister.old.listing }
+    requires shape { lister.old.listing.shape ≡ sought.pass.now.shape }
+    requires weights { HasWeights sought.pass.now judge.old.weights }
+    requires within { budget.old.used ≤ budget.old.limit }
+    ensures answer { MatchStep result
+        (λ _. PassesDull sought.entry.pass.now sought.entry.kept.now lister.old.listing.coming (lister.new.drawn.lists ∷ lister.new.listing.coming)
+        × (lister.new.drawn.down ≡ down lister.old.listing.frame lister.new.drawn.lists))
+        (PassesDull sought.entry.pass.now sought.entry.kept.now lister.old.listing.coming [])
+        (PassesDull sought.entry.pass.now sought.entry.kept.now lister.old.listing.coming lister.new.listing.coming × (budget.new.used ≡ budget.new.limit)) }
+    ensures frame { lister.new.listing.frame ≡ lister.old.listing.frame }
+    ensures shape { lister.new.listing.shape ≡ lister.old.listing.shape }
+    ensures rule { lister.new.listing.rule ≡ lister.old.listing.rule }
+    ensures look { judge.new.look ≡ judge.old.look }
+    ensures weights { judge.new.weights ≡ judge.old.weights }
+    ensures spends { Spends budget.old budget.new }
+{
+    let skipper = Skipper::new(sought.pass, sought.kept, &judge.weights);
+    lister
+        .listing
+        .put_next_within(&skipper, &mut judge.room, &mut lister.drawn, budget)
+}
+
+/// The steps of a turn: all that are left, or so many that it is worth while to be told more behind them.
+fn turn(weights: &Option<WeightFloors<'_>>, budget: &Budget) -> Budget
+    requires within { budget.now.used ≤ budget.now.limit }
+    ensures used { result.used ≡ budget.now.used }
+    ensures limit { result.limit ≤ budget.now.limit }
+    ensures within { result.used ≤ result.limit }
+{
+    let left = budget.limit - budget.used;
+    let steps = match weights {
+        Some(weights) => weights.patience().min(left),
+        None => left,
+    };
+    Budget {
+        used: budget.used,
+        limit: budget.used + steps,
+    }
+}
+
+/// Behind a turn, where steps are left: tells the walk more, if floors are kept.
+fn go_on(sought: Sought<'_, '_>, judge: &mut Judge<'_>, budget: &mut Budget) -> Result<(), Stopped>
+    requires within { budget.old.used ≤ budget.old.limit }
+    ensures stopped { MatchResult result (λ _. Unit {0}) (λ _. budget.new.used ≡ budget.new.limit) }
+    ensures look { judge.new.look ≡ judge.old.look }
+    ensures weights { judge.new.weights ≡ judge.old.weights }
+    ensures spends { Spends budget.old budget.new }
+{
+    if budget.used == budget.limit {
+        return Err(Stopped);
+    }
+    let bars = bars_of(sought.pass, sought.kept, &judge.weights);
+    match &mut judge.weights {
+        Some(weights) => weights.tell_more(&judge.room.seated.pairs, &bars, budget),
+        None => Ok(()),
+    }
+}
+
+/// Draws the next candidate that may be of interest, in turns of steps if floors by weight are kept. No says that there is none.
+fn draw<'a>(
+    sought: Sought<'a, '_>,
+    lister: &mut Lister<'_, ByNumber<'_>>,
+    judge: &mut Judge<'_>,
+    budget: &mut Budget,
+) -> Result<bool, Stopped>
+    requires lists { Lists sought.pass.now.context.now.facts sought.pass.now.context.now.reached lister.old.listing }
+    requires shape { lister.old.listing.shape ≡ sought.pass.now.shape }
+    requires weights { HasWeights sought.pass.now judge.old.weights }
+    requires within { budget.old.used ≤ budget.old.limit }
+    ensures answer { MatchDrawn result
+        (PassesDull sought.entry.pass.now sought.entry.kept.now lister.old.listing.coming (lister.new.drawn.lists ∷ lister.new.listing.coming)
+        × (lister.new.drawn.down ≡ down lister.old.listing.frame lister.new.drawn.lists))
+        (PassesDull sought.entry.pass.now sought.entry.kept.now lister.old.listing.coming [])
+        (budget.new.used ≡ budget.new.limit) }
+    ensures frame { lister.new.listing.frame ≡ lister.old.listing.frame }
+    ensures shape { lister.new.listing.shape ≡ lister.old.listing.shape }
+    ensures rule { lister.new.listing.rule ≡ lister.old.listing.rule }
+    ensures look { judge.new.look ≡ judge.old.look }
+    ensures weights { judge.new.weights ≡ judge.old.weights }
+    ensures spends { Spends budget.old budget.new }
+{
+    for _ in 0..MOST_TURNS {
+        let mut turn = turn(&judge.weights, budget);
+        let step = draw_once(sought, lister, judge, &mut turn);
+        budget.used = turn.used;
+        match step {
+            Step::Found(()) => return Ok(true),
+            Step::End => return Ok(false),
+            Step::Undecided => go_on(sought, judge, budget)?,
+        }
+    }
+    // (no limit of steps is so high)
+    budget.used = budget.limit;
+    Err(Stopped)
+}
+
 /// Of the candidates that a pass seeks, and that can be chosen, the first that none is better than; none if there is no such candidate.
 fn best_near<'a>(
     pass: &'a Pass<'a>,
@@ -112,6 +236,7 @@ fn best_near<'a>(
 ) -> Result<Option<Best>, Stopped>
     requires lists { Lists pass.now.context.now.facts pass.now.context.now.reached lister.old.listing }
     requires look { LooksBelow pass.now.context.now.facts pass.now.context.now.reached pass.now.context.now.lower judge.old.look }
+    requires weights { HasWeights pass.now judge.old.weights }
     requires within { budget.old.used ≤ budget.old.limit }
     ensures answer { MatchFound result
         (λ b. (best_near pass.now.context.now.facts pass.now.context.now.reached pass.now.context.now.lower pass.now.wish (aim_in pass.now.aim) pass.now.shape ≡ Some b.candidate.lists)
@@ -120,26 +245,15 @@ fn best_near<'a>(
         (budget.new.used ≡ budget.new.limit) }
     ensures lists { Lists pass.now.context.now.facts pass.now.context.now.reached lister.new.listing }
     ensures look { LooksBelow pass.now.context.now.facts pass.now.context.now.reached pass.now.context.now.lower judge.new.look }
+    ensures weights { judge.new.weights ≡ judge.old.weights }
     ensures spends { Spends budget.old budget.new }
 {
     lister.listing.restart(pass.shape);
     let mut kept = None;
-    loop {
-        let skipper = Skipper {
-            pass,
-            kept: &kept,
-            aim_bar: pass.aim_bar(),
-            kept_bar: pass.kept_bar(&kept),
-        };
-        match lister
-            .listing
-            .put_next_within(&skipper, &mut judge.room, &mut lister.drawn, budget)
-        {
-            Step::Found(()) => consider(pass, &lister.drawn, &mut kept, judge, budget)?,
-            Step::End => return Ok(kept),
-            Step::Undecided => return Err(Stopped),
-        }
+    while draw(Sought { pass, kept: &kept }, lister, judge, budget)? {
+        consider(pass, &lister.drawn, &mut kept, judge, budget)?;
     }
+    Ok(kept)
 }
 
 /// What a pass with an aim chooses: the best of all. The answer is none if there is no aim, or if the pass finds none that can be chosen,
@@ -152,6 +266,7 @@ fn best_by_aim<'a>(
 ) -> Result<Option<Best>, Stopped>
     requires lists { Lists pass.now.context.now.facts pass.now.context.now.reached lister.old.listing }
     requires look { LooksBelow pass.now.context.now.facts pass.now.context.now.reached pass.now.context.now.lower judge.old.look }
+    requires weights { HasWeights pass.now judge.old.weights }
     requires within { budget.old.used ≤ budget.old.limit }
     ensures answer { MatchFound result
         (λ b. (best_wished pass.now.context.now.facts pass.now.context.now.reached pass.now.context.now.lower pass.now.wish pass.now.shape ≡ Some b.candidate.lists)
@@ -160,6 +275,7 @@ fn best_by_aim<'a>(
         (budget.new.used ≡ budget.new.limit) }
     ensures lists { Lists pass.now.context.now.facts pass.now.context.now.reached lister.new.listing }
     ensures look { LooksBelow pass.now.context.now.facts pass.now.context.now.reached pass.now.context.now.lower judge.new.look }
+    ensures weights { judge.new.weights ≡ judge.old.weights }
     ensures spends { Spends budget.old budget.new }
 {
     if pass.aim.is_none() {
@@ -178,12 +294,17 @@ fn best_in_passes(
     budget: &mut Budget,
 ) -> Result<Option<Best>, Stopped>
     requires look { LooksBelow pass.old.context.now.facts pass.old.context.now.reached pass.old.context.now.lower judge.old.look }
+    requires weights { HasWeights pass.old judge.old.weights }
     requires within { budget.old.used ≤ budget.old.limit }
     ensures answer { MatchFound result
         (λ b. (best_wished pass.old.context.now.facts pass.old.context.now.reached pass.old.context.now.lower pass.old.wish pass.old.shape ≡ Some b.candidate.lists)
         × IsKept pass.old.context.now.facts pass.old.context.now.reached pass.old.context.now.lower (Some b))
         (best_wished pass.old.context.now.facts pass.old.context.now.reached pass.old.context.now.lower pass.old.wish pass.old.shape ≡ None)
         (budget.new.used ≡ budget.new.limit) }
+    ensures look { LooksBelow pass.old.context.now.facts pass.old.context.now.reached pass.old.context.now.lower judge.new.look }
+    ensures context { pass.new.context.now ≡ pass.old.context.now }
+    ensures shape { pass.new.shape ≡ pass.old.shape }
+    ensures wish { pass.new.wish ≡ pass.old.wish }
     ensures spends { Spends budget.old budget.new }
 {
     let rule = pass.context.rule();
@@ -194,6 +315,164 @@ fn best_in_passes(
     }
     pass.aim = None;
     best_near(pass, &mut lister, judge, budget)
+}
+
+/// How many steps passes make before the pairs of the bracket are weighed: most brackets want no more.
+fn few_steps(players: usize) -> u64 {
+    let players = players as u64;
+    players
+        .saturating_mul(2)
+        .saturating_add(64)
+        .saturating_mul(players)
+}
+
+/// Puts the pairs of a matching to others, as far as there is room.
+fn put_matched(context: &Context<'_>, pairs: &[Pair], seated: &mut Seated)
+    requires { HasSeats context.now.facts seated.old }
+    ensures { HasSeats context.now.facts seated.new }
+{
+    let reached = context.reached();
+    for pair in pairs {
+        let has_room = seated.pairs.len() + seated.down.len() < LIMIT;
+        if has_room && reached.has(pair.0) && reached.has(pair.1) {
+            seated
+                .pairs
+                .push((reached.seat(pair.0), reached.seat(pair.1)));
+        }
+    }
+}
+
+/// Puts those to others who are in no pair of a matching, as far as there is room.
+fn put_unmatched(context: &Context<'_>, pairs: &[Pair], seated: &mut Seated)
+    requires { HasSeats context.now.facts seated.old }
+    ensures { HasSeats context.now.facts seated.new }
+{
+    let reached = context.reached();
+    for above in 0..context.len() {
+        let number = above as u16 + 1;
+        let has_room = seated.pairs.len() + seated.down.len() < LIMIT;
+        if has_room && !is_in(pairs, number) {
+            seated.down.push(reached.seat(number));
+        }
+    }
+}
+
+/// Fills in a matching by number: its pairs, and those whom it leaves over.
+fn seat_matching(context: &Context<'_>, pairs: &[Pair], seated: &mut Seated)
+    ensures { HasSeats context.now.facts seated.new }
+{
+    seated.pairs.clear();
+    seated.down.clear();
+    seated.lowest = context.lowest();
+    put_matched(context, pairs, seated);
+    put_unmatched(context, pairs, seated);
+}
+
+/// The quality of a matching of a bracket by number, with the best that the next bracket can be: what a pass may aim at.
+fn aim_by(pass: &Pass<'_>, weights: &WeightFloors<'_>, pairs: &[Pair], room: &mut Room) -> Quality {
+    let context = pass.context;
+    seat_matching(context, pairs, &mut room.seated);
+    fill_seated(context.field(), &room.seated, &mut room.quality);
+    let next = pass.floors.awaited(Filling::S1, &[]);
+    room.quality.put_next(next.pairs, &next.psd);
+    let aim = take(&mut room.quality);
+    if weights.measures(&aim) {
+        return aim;
+    }
+    aim.without_differences()
+}
+
+/// What passes by weight begin with.
+#[derive(Drop)]
+struct Weighed<'a> {
+    weights: Option<WeightFloors<'a>>,
+    aim: Option<Quality>,
+}
+
+/// What a pass may aim at: the quality of a matching, if one was found and nothing is wished.
+fn aim_for(
+    pass: &Pass<'_>,
+    weights: &WeightFloors<'_>,
+    found: &Option<Vec<Pair>>,
+    room: &mut Room,
+) -> Option<Quality> {
+    match (found, pass.wish) {
+        (Some(pairs), None) => Some(aim_by(pass, weights, pairs, room)),
+        _ => pass.floors.aim(known_with(pass.context, pass.wish)),
+    }
+}
+
+/// The floor of a cheapest matching of a bracket whose pairs are weighed, and what to aim at.
+fn weighed_by<'a>(
+    pass: &Pass<'a>,
+    weights: WeightFloors<'a>,
+    room: &mut Room,
+    budget: &mut Budget,
+) -> Result<Weighed<'a>, Stopped>
+    requires of { AreOf pass.now.context.now.facts pass.now.context.now.reached pass.now.shape weights }
+    requires within { budget.old.used ≤ budget.old.limit }
+    ensures weights { IfOk result (λ weighed. HasWeights pass.now weighed.weights) }
+    ensures stopped { MatchResult result (λ _. Unit {0}) (λ _. budget.new.used ≡ budget.new.limit) }
+    ensures spends { Spends budget.old budget.new }
+{
+    let mut weights = weights;
+    let found = weights.ask(&[], budget)?;
+    let aim = aim_for(pass, &weights, &found, room);
+    let weights = Some(weights);
+    Ok(Weighed { weights, aim })
+}
+
+/// Weighs the pairs of a bracket. Of a bracket of many players, and where memory is refused or a weight does not fit, no floors are found.
+fn weigh<'a>(pass: &Pass<'a>, room: &mut Room, budget: &mut Budget) -> Result<Weighed<'a>, Stopped>
+    requires within { budget.old.used ≤ budget.old.limit }
+    ensures weights { IfOk result (λ weighed. HasWeights pass.now weighed.weights) }
+    ensures stopped { MatchResult result (λ _. Unit {0}) (λ _. budget.new.used ≡ budget.new.limit) }
+    ensures spends { Spends budget.old budget.new }
+{
+    let count = pass.context.len();
+    if count <= MOST_WEIGHED {
+        spend((count * count) as u64, budget)?;
+        if let Ok(Some(weights)) = WeightFloors::weighed(pass.context, pass.shape) {
+            return weighed_by(pass, weights, room, budget);
+        }
+    }
+    let aim = pass.floors.aim(known_with(pass.context, pass.wish));
+    Ok(Weighed { weights: None, aim })
+}
+
+/// The same: first in few steps, since most brackets want no more, and then with floors by weight.
+fn best_in_time<'a>(
+    pass: &mut Pass<'a>,
+    judge: &mut Judge<'a>,
+    budget: &mut Budget,
+) -> Result<Option<Best>, Stopped>
+    requires look { LooksBelow pass.old.context.now.facts pass.old.context.now.reached pass.old.context.now.lower judge.old.look }
+    requires weights { HasWeights pass.old judge.old.weights }
+    requires within { budget.old.used ≤ budget.old.limit }
+    ensures answer { MatchFound result
+        (λ b. (best_wished pass.old.context.now.facts pass.old.context.now.reached pass.old.context.now.lower pass.old.wish pass.old.shape ≡ Some b.candidate.lists)
+        × IsKept pass.old.context.now.facts pass.old.context.now.reached pass.old.context.now.lower (Some b))
+        (best_wished pass.old.context.now.facts pass.old.context.now.reached pass.old.context.now.lower pass.old.wish pass.old.shape ≡ None)
+        (budget.new.used ≡ budget.new.limit) }
+    ensures spends { Spends budget.old budget.new }
+{
+    let left = budget.limit - budget.used;
+    let mut few = Budget {
+        used: budget.used,
+        limit: budget.used + few_steps(pass.context.len()).min(left),
+    };
+    let found = best_in_passes(pass, judge, &mut few);
+    budget.used = few.used;
+    if let Ok(found) = found {
+        return Ok(found);
+    }
+    if budget.used == budget.limit {
+        return Err(Stopped);
+    }
+    let weighed = weigh(pass, &mut judge.room, budget)?;
+    judge.weights = weighed.weights;
+    pass.aim = weighed.aim;
+    best_in_passes(pass, judge, budget)
 }
 
 /// Of the candidates of a shape that can be chosen, and that grant the wish if there is one, the first that none of them is better than:
@@ -218,6 +497,7 @@ pub(crate) fn best_of<'a>(
         look: look_below(alloc, context)?,
         room: Room::default(),
         left: Seats::new(),
+        weights: None,
     };
     let Some(pairs) = PairFacts::read(alloc, context, budget)? else {
         return Ok(Step::Undecided);
@@ -233,9 +513,8 @@ pub(crate) fn best_of<'a>(
         wish,
         aim: floors.aim(known),
         floors,
-        weights: None,
     };
-    match best_in_passes(&mut pass, &mut judge, budget) {
+    match best_in_time(&mut pass, &mut judge, budget) {
         Ok(Some(best)) => Ok(Step::Found(best)),
         Ok(None) => Ok(Step::End),
         Err(Stopped) => Ok(Step::Undecided),

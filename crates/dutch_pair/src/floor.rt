@@ -138,7 +138,7 @@ impl<'a> Floors<'a> {
     }
 
     /// The best that the next bracket can be behind arrangements with an S1 (C.7).
-    fn awaited(&self, filling: Filling, s1: &[u16]) -> &NextValue
+    pub(crate) fn awaited(&self, filling: Filling, s1: &[u16]) -> &NextValue
         ensures { result.now ≡ awaited self.now.facts self.now.reached self.now.shape self.now.outlook filling s1.now }
     {
         self.outlook

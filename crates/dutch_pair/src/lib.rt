@@ -14,6 +14,7 @@
 //! To mind: players are named by seat in a field, by number from 1 in a bracket, and by start rank on boards alone.
 #![tactic(auto)]
 
+mod asking;
 mod barrier;
 mod begun;
 mod bit_table;
@@ -55,6 +56,7 @@ mod psd_floor;
 mod quality;
 mod reached;
 mod remembered;
+mod rest;
 mod round;
 mod scale;
 mod seated;
@@ -64,7 +66,9 @@ mod skipper;
 mod spending;
 mod stage;
 mod takers;
+mod telling;
 mod told_shape;
+mod trail;
 mod walk;
 mod weighing;
 mod weight_floor;

@@ -108,6 +108,17 @@ impl Quality {
         push_all(psd, &mut self.next_psd);
     }
 
+    /// A quality that is worse than this one by one player at C.15, and has no differences of C.16 to C.19.
+    pub(crate) fn without_differences(self) -> Quality {
+        let mut quality = self;
+        quality.up_again_before = quality.up_again_before.saturating_add(1);
+        quality.down_again_by.clear();
+        quality.up_again_by.clear();
+        quality.down_again_before_by.clear();
+        quality.up_again_before_by.clear();
+        quality
+    }
+
     /// The same quality, but worse than any other one in the first item that floats decide (C.12), so that none of those counts.
     pub(crate) fn with_the_worst_floats(self) -> Quality {
         let mut worst = self;

@@ -20,6 +20,7 @@ use crate::fault::PairFault;
 use crate::lookahead::{Above, value_below};
 use crate::quality::{NextValue, Quality, Room, fill_quality};
 use crate::reached::{BracketKind, Reached, Seats, copied, push_all};
+use crate::weight_floor::WeightFloors;
 use dutch_order::{Budget, Candidate, LIMIT, Numbers, Stopped};
 use dutch_player::Field;
 use lru::LruCache;
@@ -272,6 +273,8 @@ pub(crate) struct Judge<'a> {
     pub(crate) look: Option<LookAhead<'a>>,
     pub(crate) room: Room,
     pub(crate) left: Seats,
+    /// Floors of the bracket by weight, where they were asked for.
+    pub(crate) weights: Option<WeightFloors<'a>>,
 }
 
 /// Fills the quality of a candidate above all lower seats, by the look-ahead of its bracket.
@@ -289,6 +292,7 @@ pub(crate) fn judge_candidate(
         (λ _. quality_in judge.new.room.quality ≡ quality_of context.now.facts context.now.reached context.now.lower candidate.now.lists)
         (λ _. budget.new.used ≡ budget.new.limit) }
     ensures look { LooksBelow context.now.facts context.now.reached context.now.lower judge.new.look }
+    ensures weights { judge.new.weights ≡ judge.old.weights }
     ensures spends { Spends budget.old budget.new }
 {
     let room = &mut judge.room;

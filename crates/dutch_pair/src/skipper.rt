@@ -22,6 +22,7 @@ ghost use Rattle.dutch_pair.specs.KnownBeside.{AreKnown, Holds, turned};
 ghost use Rattle.dutch_pair.specs.Wishes.{grants, is_wished};
 ghost use Rattle.dutch_pair.specs.declared.wish.Wish.TheVariants.{Over};
 
+use crate::asking::Bars;
 use crate::choice::{Best, is_idle};
 use crate::context::Context;
 use crate::floor::Floors;
@@ -41,10 +42,8 @@ pub(crate) struct Pass<'a> {
     pub(crate) wish: Option<Wish>,
     pub(crate) aim: Option<Quality>,
     pub(crate) floors: Floors<'a>,
-    pub(crate) weights: Option<WeightFloors<'a>>,
     ghost fits: { Fits (frame_of context.now.facts context.now.reached) shape },
     ghost basis: { IsBasis context.now.facts context.now.reached context.now.lower shape floors },
-    ghost weighed: { ForSome weights (AreOf context.now.facts context.now.reached shape) },
 }
 
 /// Fills a quality that no candidate with a beginning is better than. No says that none is known.
@@ -180,25 +179,38 @@ fn bar_of(weights: &Option<WeightFloors<'_>>, quality: &Quality) -> Option<Bar>
     }
 }
 
-impl<'a> Pass<'a> {
-    /// The bar of the aim.
-    pub(crate) fn aim_bar(&self) -> Option<Bar>
-        ensures { HasBar self.now.weights (aim_in self.now.aim) result }
-    {
-        match &self.aim {
-            Some(aim) => return bar_of(&self.weights, aim),
-            None => return None,
-        }
+/// The bar of the aim of a pass.
+fn aim_bar(pass: &Pass<'_>, weights: &Option<WeightFloors<'_>>) -> Option<Bar>
+    ensures { HasBar weights.now (aim_in pass.now.aim) result }
+{
+    match &pass.aim {
+        Some(aim) => return bar_of(weights, aim),
+        None => return None,
     }
+}
 
-    /// The bar of the candidate that is kept.
-    pub(crate) fn kept_bar(&self, kept: &Option<Best>) -> Option<Bar>
-        ensures { HasBar self.now.weights (kept_in kept.now) result }
-    {
-        match kept {
-            Some(best) => return bar_of(&self.weights, &best.quality),
-            None => return None,
-        }
+/// The bar of the candidate that is kept.
+fn kept_bar(kept: &Option<Best>, weights: &Option<WeightFloors<'_>>) -> Option<Bar>
+    ensures { HasBar weights.now (kept_in kept.now) result }
+{
+    match kept {
+        Some(best) => return bar_of(weights, &best.quality),
+        None => return None,
+    }
+}
+
+/// The bars of the aim of a pass and of the candidate that is kept.
+pub(crate) fn bars_of(
+    pass: &Pass<'_>,
+    kept: &Option<Best>,
+    weights: &Option<WeightFloors<'_>>,
+) -> Bars
+    ensures aim { HasBar weights.now (aim_in pass.now.aim) result.aim }
+    ensures kept { HasBar weights.now (kept_in kept.now) result.kept }
+{
+    Bars {
+        aim: aim_bar(pass, weights),
+        kept: kept_bar(kept, weights),
     }
 }
 
@@ -207,14 +219,35 @@ impl<'a> Pass<'a> {
 pub(crate) struct Skipper<'a, 'k> {
     pub(crate) pass: &'a Pass<'a>,
     pub(crate) kept: &'k Option<Best>,
+    /// What is known by weight.
+    pub(crate) weights: &'k Option<WeightFloors<'k>>,
     /// The bars of the aim and of the candidate that is kept.
-    pub(crate) aim_bar: Option<Bar>,
-    pub(crate) kept_bar: Option<Bar>,
-    ghost aim: { ∥ HasBar pass.now.weights (aim_in pass.now.aim) aim_bar ∥₁ },
-    ghost best: { ∥ HasBar pass.now.weights (kept_in kept.now) kept_bar ∥₁ },
+    pub(crate) bars: Bars,
+    ghost weighed: { ForSome weights.now (AreOf pass.now.context.now.facts pass.now.context.now.reached pass.now.shape) },
+    ghost aim: { ∥ HasBar weights.now (aim_in pass.now.aim) bars.aim ∥₁ },
+    ghost best: { ∥ HasBar weights.now (kept_in kept.now) bars.kept ∥₁ },
 }
 
 impl<'a, 'k> Skipper<'a, 'k> {
+    /// What tells by an aim, by what is kept and by weight.
+    pub(crate) fn new(
+        pass: &'a Pass<'a>,
+        kept: &'k Option<Best>,
+        weights: &'k Option<WeightFloors<'k>>,
+    ) -> Skipper<'a, 'k>
+        requires { ForSome weights.now (AreOf pass.now.context.now.facts pass.now.context.now.reached pass.now.shape) }
+        ensures pass { result.pass.now ≡ pass.now }
+        ensures kept { result.kept.now ≡ kept.now }
+    {
+        let bars = bars_of(pass, kept, weights);
+        Skipper {
+            pass,
+            kept,
+            weights,
+            bars,
+        }
+    }
+
     /// Whether no candidate with a beginning of which something more is known is of interest.
     #[tactic(auto, using(crate::proofs::AimLemmas::idle_floor))]
     fn is_idle_knowing(&self, known: Known, prefix: &Prefix<'_>, room: &mut Room) -> bool
@@ -246,13 +279,13 @@ impl<'a, 'k> Skipper<'a, 'k> {
 
     /// Whether the aim is better than all candidates with a beginning, where they weigh so much at least.
     fn is_behind_aim(&self, prefix: &Prefix<'_>, least: Wide) -> bool
-        requires { ForSome self.now.pass.now.weights (λ w. IsLeast w prefix.now least) }
+        requires { ForSome self.now.weights.now (λ w. IsLeast w prefix.now least) }
         ensures { result ≡ true → (a : Arrangement) → IsIn a (candidates_of self.now.pass.now.context.now.facts self.now.pass.now.context.now.reached self.now.pass.now.shape)
             → Begins prefix.now a → beats (aim_in self.now.pass.now.aim)
             (quality_of self.now.pass.now.context.now.facts self.now.pass.now.context.now.reached self.now.pass.now.context.now.lower a) ≡ true }
     {
         let _reached = self.pass.context.reached();
-        let Some(bar) = &self.aim_bar else {
+        let Some(bar) = &self.bars.aim else {
             return false;
         };
         let Some(aim) = &self.pass.aim else {
@@ -263,13 +296,13 @@ impl<'a, 'k> Skipper<'a, 'k> {
 
     /// Whether no candidate with a beginning is better than the one that is kept, where they weigh so much at least.
     fn is_behind_kept(&self, prefix: &Prefix<'_>, least: Wide) -> bool
-        requires { ForSome self.now.pass.now.weights (λ w. IsLeast w prefix.now least) }
+        requires { ForSome self.now.weights.now (λ w. IsLeast w prefix.now least) }
         ensures { result ≡ true → (a : Arrangement) → IsIn a (candidates_of self.now.pass.now.context.now.facts self.now.pass.now.context.now.reached self.now.pass.now.shape)
             → Begins prefix.now a → not (wins
             (quality_of self.now.pass.now.context.now.facts self.now.pass.now.context.now.reached self.now.pass.now.context.now.lower a) self.now.kept.now) ≡ true }
     {
         let _reached = self.pass.context.reached();
-        let Some(bar) = &self.kept_bar else {
+        let Some(bar) = &self.bars.kept else {
             return false;
         };
         let Some(best) = self.kept else {
@@ -279,22 +312,36 @@ impl<'a, 'k> Skipper<'a, 'k> {
             || (bar.is_reached(least) && has_no_better_next(self.pass, prefix, &best.quality))
     }
 
+    /// Whether no candidate with a beginning is of interest by what all of them weigh at least by one of the floors.
+    fn is_idle_by(&self, weights: &WeightFloors<'_>, place: usize, prefix: &Prefix<'_>) -> bool
+        requires { self.now.weights.now ≡ Some weights.now }
+        ensures { result ≡ true → (a : Arrangement) → IsIn a (candidates_of self.now.pass.now.context.now.facts self.now.pass.now.context.now.reached self.now.pass.now.shape)
+            → Begins prefix.now a → is_idle (aim_in self.now.pass.now.aim) self.now.kept.now
+            (quality_of self.now.pass.now.context.now.facts self.now.pass.now.context.now.reached self.now.pass.now.context.now.lower a) ≡ true }
+    {
+        let Some(least) = weights.least_by(place, prefix) else {
+            return false;
+        };
+        self.is_behind_kept(prefix, least) || self.is_behind_aim(prefix, least)
+    }
+
     /// Whether no candidate with a beginning is of interest by what all of them weigh at least.
     fn is_idle_by_weight(&self, prefix: &Prefix<'_>) -> bool
         ensures { result ≡ true → (a : Arrangement) → IsIn a (candidates_of self.now.pass.now.context.now.facts self.now.pass.now.context.now.reached self.now.pass.now.shape)
             → Begins prefix.now a → is_idle (aim_in self.now.pass.now.aim) self.now.kept.now
             (quality_of self.now.pass.now.context.now.facts self.now.pass.now.context.now.reached self.now.pass.now.context.now.lower a) ≡ true }
     {
-        let Some(weights) = &self.pass.weights else {
+        let Some(weights) = self.weights else {
             return false;
         };
-        if self.aim_bar.is_none() && self.kept_bar.is_none() {
-            return false;
+        // (the floor that was asked for last is the most likely to tell)
+        let count = weights.len();
+        for before in 0..count {
+            if self.is_idle_by(weights, count - 1 - before, prefix) {
+                return true;
+            }
         }
-        let Some(least) = weights.least(prefix) else {
-            return false;
-        };
-        self.is_behind_kept(prefix, least) || self.is_behind_aim(prefix, least)
+        false
     }
 
     /// Whether no candidate with a beginning that grants what is wished is of interest.
@@ -340,8 +387,8 @@ impl<'a, 'k> Bound for Skipper<'a, 'k> {
         if self.pass.aim.is_none() && self.kept.is_none() {
             return false;
         }
-        self.is_idle_all(prefix, room)
+        self.is_idle_by_weight(prefix)
+            || self.is_idle_all(prefix, room)
             || self.is_idle_granted(prefix, room)
-            || self.is_idle_by_weight(prefix)
     }
 }

@@ -12,6 +12,7 @@ use crate::begun::fixed_lists;
 use crate::context::Context;
 use crate::quality::Quality;
 use crate::scale::Scale;
+use crate::trail::Trail;
 use crate::weighing::Weighing;
 use dual::{Floor, Table};
 use dutch_order::{Filling, LIMIT, Prefix, Shape, numbered_from};
@@ -21,6 +22,9 @@ use wide::Wide;
 
 /// So many floors are kept. Each is asked at each beginning.
 const KEPT: usize = 4;
+
+/// Weights with so many bits leave room for what a matching of all players comes to.
+const MOST_BITS: usize = 226;
 
 /// What a quality weighs, and what all with a higher PSD weigh at least.
 #[derive(Clone, Copy, Debug)]
@@ -32,9 +36,10 @@ pub(crate) struct Bar {
 /// Floors of a bracket and a shape by weight, each by a certificate that was checked.
 #[derive(Drop)]
 pub(crate) struct WeightFloors<'a> {
-    weighing: Weighing<'a>,
+    pub(crate) weighing: Weighing<'a>,
     shape: Shape,
-    floors: Vec<Floor>,
+    pub(crate) floors: Vec<Floor>,
+    pub(crate) trail: Trail,
 }
 
 impl<'a> Model for WeightFloors<'a> {
@@ -133,22 +138,6 @@ fn bound_behind(floor: &Floor, mdps: usize, prefix: &Prefix<'_>) -> Option<Wide>
     plus_left(floor, mdps, prefix, second)
 }
 
-/// The greater one of two numbers that may be there.
-fn greater(one: Option<Wide>, other: Option<Wide>) -> Option<Wide>
-    ensures { (result ≡ one) ⊎ (result ≡ other) }
-{
-    match (one, other) {
-        (Some(first), Some(second)) => {
-            if first.is_less(second) {
-                return other;
-            }
-            return one;
-        }
-        (None, _) => return other,
-        _ => return one,
-    }
-}
-
 /// Lets the oldest floor but the first one go if there is no room for one more.
 fn make_room(floors: &mut Vec<Floor>)
     ensures { (w : Weighed) → All (IsWeightFloor w) floors.old.items → All (IsWeightFloor w) floors.new.items }
@@ -198,11 +187,12 @@ impl<'a> WeightFloors<'a> {
         requires { length weighing.reached.seats < weighing.scale.base }
         ensures { result ≡ record { facts = weighing.entry.facts; reached = weighing.entry.reached; shape = shape; scale = weighing.entry.scale } }
     {
-        let floors = Vec::new(weighing.context().alloc());
+        let alloc = weighing.context().alloc();
         WeightFloors {
             weighing,
             shape,
-            floors,
+            floors: Vec::new(alloc),
+            trail: Trail::new(alloc),
         }
     }
 
@@ -220,6 +210,31 @@ impl<'a> WeightFloors<'a> {
             Some(weighing) => return Ok(Some(WeightFloors::new(weighing, shape))),
             None => return Ok(None),
         }
+    }
+
+    /// The same with a digit for each difference of C.16 to C.19, if there is room for that beside what a matching of all pairs comes to.
+    pub(crate) fn weighed(
+        context: &'a Context<'a>,
+        shape: Shape,
+    ) -> Result<Option<WeightFloors<'a>>, AllocError>
+        ensures { IfOk result (λ found. IfSome found (AreOf context.now.facts context.now.reached shape)) }
+    {
+        if let Some(weights) = WeightFloors::read(context, shape, true)? {
+            if weights.has_room() {
+                return Ok(Some(weights));
+            }
+        }
+        WeightFloors::read(context, shape, false)
+    }
+
+    /// Whether sums of the weights of all players fit, those twice over, and what it costs to be left over.
+    fn has_room(&self) -> bool {
+        self.weighing.scale().width() <= MOST_BITS
+    }
+
+    /// How many steps a walk makes before it is told more.
+    pub(crate) fn patience(&self) -> u64 {
+        self.trail.patience(self.weighing.context().len())
     }
 
     /// How many players the matchings leave over.
@@ -264,15 +279,24 @@ impl<'a> WeightFloors<'a> {
         Some(Bar { weight, above })
     }
 
-    /// The greatest bound that a floor gives behind a beginning; none if there is none that fits.
-    pub(crate) fn least(&self, prefix: &Prefix<'_>) -> Option<Wide>
+    /// Whether the scale has a digit for each difference of a quality.
+    pub(crate) fn measures(&self, quality: &Quality) -> bool {
+        self.weighing.scale().measures(quality)
+    }
+
+    /// How many floors are kept.
+    pub(crate) fn len(&self) -> usize {
+        self.floors.len()
+    }
+
+    /// The bound that the floor at a place gives behind a beginning; none if there is none there, or if it does not fit.
+    pub(crate) fn least_by(&self, place: usize, prefix: &Prefix<'_>) -> Option<Wide>
         ensures { IfSome result (IsLeast self.now prefix.now) }
     {
-        let mdps = self.weighing.context().reached().mdps();
-        let mut least = None;
-        for floor in &self.floors {
-            least = greater(least, bound_behind(floor, mdps, prefix));
+        if place >= self.floors.len() {
+            return None;
         }
-        least
+        let mdps = self.weighing.context().reached().mdps();
+        bound_behind(&self.floors[place], mdps, prefix)
     }
 }

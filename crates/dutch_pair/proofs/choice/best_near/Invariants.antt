@@ -10,11 +10,11 @@ use Rattle.dutch_pair.specs.Remembered.{LooksBelow}
 use Rattle.dutch_order.specs.Steps.{Spends}
 use Rattle.dutch_pair.proofs.choice.best_near.Given as goal
 
-abbrev pub decreases-loop-lister : goal.decreases-loop-lister
-decreases-loop-lister l = length l.lister.listing.coming
+abbrev pub decreases-loop-kept : goal.decreases-loop-kept
+decreases-loop-kept l = length l.lister.listing.coming
 
-abbrev pub invariant-loop-lister : goal.invariant-loop-lister
-invariant-loop-lister l = record {
+abbrev pub invariant-loop-kept : goal.invariant-loop-kept
+invariant-loop-kept l = record {
   chosen : best_near l.pass.context.now.facts l.pass.context.now.reached l.pass.context.now.lower l.pass.wish (aim_in l.pass.aim) l.pass.shape
       ≡ best_yet l.pass.context.now.facts l.pass.context.now.reached l.pass.context.now.lower l.pass.wish (aim_in l.pass.aim) l.kept l.lister.listing.coming;
   kept : IsKept l.pass.context.now.facts l.pass.context.now.reached l.pass.context.now.lower l.kept;
@@ -22,5 +22,6 @@ invariant-loop-lister l = record {
   lists : Lists l.pass.context.now.facts l.pass.context.now.reached l.lister.listing;
   shape : l.lister.listing.shape ≡ l.pass.shape;
   look : LooksBelow l.pass.context.now.facts l.pass.context.now.reached l.pass.context.now.lower l.judge.look;
+  weights : l.judge.weights ≡ l.initial.judge.weights;
   spends : Spends l.initial.budget l.budget;
 }

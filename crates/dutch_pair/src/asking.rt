@@ -1,0 +1,233 @@
+// Floors of a bracket by weight, asked for where a walk is stuck (C.04.3 B.8).
+//
+// Whoever finds a matching is not trusted: of its certificate a floor is kept only if the check confirms it. A floor holds for all candidates of
+// the bracket; where it was asked for only makes it high there.
+ghost use Rattle.std.specs.Prelude.{◌≡◌, ◌<◌, ◌≤◌, length};
+ghost use Rattle.std.specs.Result.{MatchResult};
+ghost use Rattle.dutch_order.specs.declared.numbers.TheConstants.{LIMIT};
+ghost use Rattle.dutch_order.specs.Steps.{Spends};
+
+use crate::rest::Rest;
+use crate::seated::Pair;
+use crate::spending::spend;
+use crate::telling::table_of;
+use crate::trail::Stuck;
+use crate::weight_floor::{Bar, WeightFloors};
+use cheapest::{Fault, Found, cheapest};
+use dual::Table;
+use dutch_order::{Budget, Stopped};
+use std::alloc::{AllocError, Global};
+use wide::Wide;
+
+/// The number of pairs of a beginning is halved so often at most.
+const MOST_HALVINGS: u32 = 16;
+
+/// A table to be checked, and the pairs by number of the matching that it comes with.
+#[derive(Drop)]
+struct Told {
+    table: Table,
+    pairs: Vec<Pair>,
+}
+
+/// The bars of the aim of a pass and of what it keeps.
+#[derive(Clone, Copy)]
+pub(crate) struct Bars {
+    pub(crate) aim: Option<Bar>,
+    pub(crate) kept: Option<Bar>,
+}
+
+impl Bars {
+    /// Whether so much weight is beyond one of them.
+    fn are_passed(&self, weight: Wide) -> bool {
+        self.aim.is_some_and(|bar| bar.is_passed(weight))
+            || self.kept.is_some_and(|bar| bar.is_passed(weight))
+    }
+}
+
+/// The pairs of a matching by number, each once.
+fn made_pairs(
+    rest: &Rest<'_, '_>,
+    partners: &[Option<u16>],
+    alloc: Global,
+) -> Result<Vec<Pair>, AllocError> {
+    let mut pairs = Vec::new(alloc);
+    let numbers = rest.numbers();
+    for (number, partner) in numbers.iter().zip(partners.iter()) {
+        if let Some(partner) = partner
+            && let Some(other) = numbers.get(usize::from(*partner))
+            && number < other
+        {
+            pairs.push((*number, *other))?;
+        }
+    }
+    Ok(pairs)
+}
+
+/// What a matching of players tells; none if a sum does not fit.
+fn told_by(
+    alloc: Global,
+    rest: &Rest<'_, '_>,
+    last: usize,
+    found: &Found,
+) -> Result<Option<Told>, AllocError>
+    requires { last < 65536 }
+{
+    let Some(table) = table_of(alloc, rest, last, &found.certificate)? else {
+        return Ok(None);
+    };
+    let pairs = made_pairs(rest, &found.partners, alloc)?;
+    Ok(Some(Told { table, pairs }))
+}
+
+/// The number of a seat in a bracket; none if it is not there.
+fn number_of(seats: &[u16], seat: u16) -> Option<u16>
+    requires { length seats.now ≤ LIMIT }
+{
+    for (place, other) in seats.iter().enumerate() {
+        if *other == seat {
+            return Some(place as u16 + 1);
+        }
+    }
+    None
+}
+
+/// The pairs by number of some pairs by seat, up to the first one that is not of the bracket.
+fn by_number(alloc: Global, seats: &[u16], pairs: &[Pair]) -> Result<Vec<Pair>, AllocError>
+    requires { length seats.now ≤ LIMIT }
+{
+    let mut numbers = Vec::new(alloc);
+    for pair in pairs {
+        let (Some(first), Some(second)) = (number_of(seats, pair.0), number_of(seats, pair.1))
+        else {
+            return Ok(numbers);
+        };
+        numbers.push((first, second))?;
+    }
+    Ok(numbers)
+}
+
+impl<'a> WeightFloors<'a> {
+    /// What being left over costs beside half of a weight: more than any weight, so that as many pairs are made as can be.
+    fn alone(&self) -> Option<Wide> {
+        let width = u32::try_from(self.weighing.scale().width()).ok()?;
+        Wide::power_of_two(width)
+    }
+
+    /// What is told of the players who are in none of some pairs; none if nothing was found, or memory was refused.
+    fn told(&self, pairs: &[Pair], left: &mut u64) -> Result<Option<Told>, Stopped>
+        ensures falls { left.new ≤ left.old }
+        ensures stopped { MatchResult result (λ _. Unit {0}) (λ _. left.new ≡ 0) }
+    {
+        let context = self.weighing.context();
+        let Some(alone) = self.alone() else {
+            return Ok(None);
+        };
+        let Ok(rest) = Rest::beside(&self.weighing, pairs, alone) else {
+            return Ok(None);
+        };
+        match cheapest(context.alloc(), &rest, left) {
+            Ok(found) => Ok(told_by(context.alloc(), &rest, context.len(), &found).unwrap_or(None)),
+            Err(Fault::Stopped) => Err(Stopped),
+            Err(_) => Ok(None),
+        }
+    }
+
+    /// Looks for a cheapest matching of the players who are in none of some pairs, and keeps the floor that its certificate gives. It answers the pairs
+    /// of the matching by number; none if it was not looked for, since too few steps are left, or nothing was confirmed.
+    pub(crate) fn ask(
+        &mut self,
+        pairs: &[Pair],
+        budget: &mut Budget,
+    ) -> Result<Option<Vec<Pair>>, Stopped>
+        requires within { budget.old.used ≤ budget.old.limit }
+        ensures same { self.new ≡ self.old }
+        ensures stopped { MatchResult result (λ _. Unit {0}) (λ _. budget.new.used ≡ budget.new.limit) }
+        ensures spends { Spends budget.old budget.new }
+    {
+        let count = self.weighing.context().len();
+        let free = count.saturating_sub(2 * pairs.len()) as u64;
+        let mut left = budget.limit - budget.used;
+        if left < free.saturating_mul(free).saturating_mul(free) / 2 {
+            return Ok(None);
+        }
+        let told = self.told(pairs, &mut left);
+        budget.used = budget.limit - left;
+        let Some(told) = told? else {
+            return Ok(None);
+        };
+        spend((count * count) as u64, budget)?;
+        match self.put(&told.table) {
+            Ok(true) => Ok(Some(told.pairs)),
+            _ => Ok(None),
+        }
+    }
+
+    /// Whether the last floor says that all candidates with some pairs are behind one of the bars.
+    fn rules_out(&self, pairs: &[Pair], bars: &Bars) -> bool {
+        let Some(floor) = self.floors.last() else {
+            return false;
+        };
+        let mut sum = floor.base();
+        for pair in pairs {
+            let Some(more) = sum.plus(floor.extra(pair.0, pair.1)) else {
+                return false;
+            };
+            sum = more;
+        }
+        bars.are_passed(sum)
+    }
+
+    /// Asks behind so many of the pairs where a walk is stuck, and where that is ruled out, behind fewer, until it is known how many are not
+    /// ruled out. That number is answered.
+    fn ask_behind(
+        &mut self,
+        stuck: &Stuck,
+        bars: &Bars,
+        budget: &mut Budget,
+    ) -> Result<usize, Stopped>
+        requires within { budget.old.used ≤ budget.old.limit }
+        ensures same { self.new ≡ self.old }
+        ensures stopped { MatchResult result (λ _. Unit {0}) (λ _. budget.new.used ≡ budget.new.limit) }
+        ensures spends { Spends budget.old budget.new }
+    {
+        let (mut sound, mut ruled_out) = (stuck.sound, stuck.depth);
+        let mut depth = stuck.depth;
+        for _ in 0..MOST_HALVINGS {
+            self.ask(stuck.front(depth), budget)?;
+            (sound, ruled_out) = if self.rules_out(stuck.front(depth), bars) {
+                (sound, depth)
+            } else {
+                (depth, ruled_out)
+            };
+            if ruled_out <= sound.saturating_add(1) {
+                return Ok(sound);
+            }
+            depth = sound.saturating_add(ruled_out) / 2;
+        }
+        Ok(sound)
+    }
+
+    /// Tells a walk more that is stuck at the beginning with some pairs by seat. It takes no more than the steps that it counts.
+    pub(crate) fn tell_more(
+        &mut self,
+        pairs: &[Pair],
+        bars: &Bars,
+        budget: &mut Budget,
+    ) -> Result<(), Stopped>
+        requires within { budget.old.used ≤ budget.old.limit }
+        ensures same { self.new ≡ self.old }
+        ensures stopped { MatchResult result (λ _. Unit {0}) (λ _. budget.new.used ≡ budget.new.limit) }
+        ensures spends { Spends budget.old budget.new }
+    {
+        let context = self.weighing.context();
+        let Ok(pairs) = by_number(context.alloc(), context.reached().seats(), pairs) else {
+            return Ok(());
+        };
+        let stuck = self.trail.stuck_at(pairs);
+        let before = budget.used;
+        let asked = self.ask_behind(&stuck, bars, budget)?;
+        self.trail
+            .go_on(stuck.pairs, asked, budget.used.saturating_sub(before));
+        Ok(())
+    }
+}

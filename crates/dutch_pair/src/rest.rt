@@ -1,0 +1,115 @@
+// The players of a bracket who are in none of some pairs, as a graph with costs, for whoever looks for a cheapest matching of them (C.04.3 C.6,
+// C.8 to C.19).
+//
+// A pair costs half of what it weighs: whoever looks for the matching counts all costs twice. Whoever is left over costs so much more that
+// as many pairs are made as can be.
+ghost use Rattle.std.specs.Prelude.{◌≡◌, ◌≤◌, All, IfOk, length};
+ghost use Rattle.dutch_order.specs.declared.numbers.TheConstants.{LIMIT};
+ghost use Rattle.dutch_pair.specs.WeightTables.{IsNumber};
+
+use crate::context::Context;
+use crate::seated::Pair;
+use crate::weighing::Weighing;
+use cheapest::Costs;
+use dual::Rule;
+use std::alloc::{AllocError, Global};
+use std::marker::Model;
+use wide::Wide;
+
+/// The players of a bracket who are in none of some pairs.
+#[derive(Drop)]
+pub(crate) struct Rest<'a, 'b> {
+    weighing: &'b Weighing<'a>,
+    // the vertices, by number
+    numbers: Vec<u16>,
+    // what it costs to be left over, beside half of the weight
+    alone: Wide,
+}
+
+impl<'a, 'b> Model for Rest<'a, 'b> {
+    ghost use Rattle.dutch_pair.specs.Rests.{IsRest, Rest};
+
+    ghost Value = { Rest };
+
+    ghost view = { λ r. record { weighing = r.weighing.now; numbers = r.numbers.items } };
+
+    ghost invariant = { λ r. IsRest (record { weighing = r.weighing.now; numbers = r.numbers.items }) };
+}
+
+/// Whether a number is in one of some pairs.
+pub(crate) fn is_in(pairs: &[Pair], number: u16) -> bool {
+    pairs
+        .iter()
+        .any(|pair| pair.0 == number || pair.1 == number)
+}
+
+/// The numbers of a bracket that are in none of some pairs.
+fn numbers_beside(context: &Context<'_>, pairs: &[Pair]) -> Result<Vec<u16>, AllocError>
+    ensures inside { IfOk result (λ numbers. All (IsNumber context.now.reached) numbers.items) }
+    ensures few { IfOk result (λ numbers. length numbers.items ≤ LIMIT) }
+{
+    let mut numbers = Vec::new(context.alloc());
+    for above in 0..context.len() {
+        let number = above as u16 + 1;
+        if !is_in(pairs, number) {
+            numbers.push(number)?;
+        }
+    }
+    Ok(numbers)
+}
+
+impl<'a, 'b> Rest<'a, 'b> {
+    /// The players who are in none of some pairs of numbers. To be left over costs so much beside half of the weight.
+    pub(crate) fn beside(
+        weighing: &'b Weighing<'a>,
+        pairs: &[Pair],
+        alone: Wide,
+    ) -> Result<Rest<'a, 'b>, AllocError> {
+        let numbers = numbers_beside(weighing.context(), pairs)?;
+        Ok(Rest {
+            weighing,
+            numbers,
+            alone,
+        })
+    }
+
+    /// The numbers of the vertices.
+    pub(crate) fn numbers(&self) -> &[u16]
+        ensures { result.now ≡ self.now.numbers }
+    {
+        &self.numbers
+    }
+
+    /// What it costs to be left over, beside half of the weight.
+    pub(crate) fn alone(&self) -> Wide {
+        self.alone
+    }
+}
+
+impl<'a, 'b> Costs for Rest<'a, 'b> {
+    ghost use Rattle.dutch_pair.specs.Rests.{joined, vertices};
+
+    ghost vertices = { vertices };
+
+    ghost joined = { joined };
+
+    fn size(&self) -> u16 {
+        self.numbers.len() as u16
+    }
+
+    fn cost(&self, a: u16, b: u16) -> Option<Wide> {
+        let (a, b) = (self.numbers[usize::from(a)], self.numbers[usize::from(b)]);
+        if !self.weighing.may_meet(a, b) {
+            return None;
+        }
+        Some(self.weighing.weight(a, b).halved())
+    }
+
+    fn left_cost(&self, a: u16) -> Option<Wide> {
+        let a = self.numbers[usize::from(a)];
+        if !self.weighing.may_be_left(a) {
+            return None;
+        }
+        self.weighing.left_cost(a).halved().plus(self.alone)
+    }
+}

@@ -1,0 +1,85 @@
+// Where a walk was when a floor was asked for last, by the pairs of its beginning.
+//
+// A walk goes through beginnings in order. So all beginnings between two of them have the pairs that both have in common.
+ghost use Rattle.std.specs.Prelude.{◌≤◌, length};
+
+use crate::seated::Pair;
+use std::alloc::{AllocError, Global};
+
+/// The pairs of a beginning by number, and behind how many of them a floor was asked for that did not rule them out.
+#[derive(Drop)]
+pub(crate) struct Trail {
+    pairs: Vec<Pair>,
+    asked: usize,
+    steps: u64,
+}
+
+/// Pairs behind which a floor is to be asked for, and how many of them are known not to be ruled out.
+#[derive(Drop)]
+pub(crate) struct Stuck {
+    pub(crate) pairs: Vec<Pair>,
+    pub(crate) sound: usize,
+    pub(crate) depth: usize,
+}
+
+impl Stuck {
+    /// The first so many of the pairs, or all of them.
+    pub(crate) fn front(&self, count: usize) -> &[Pair] {
+        let count = count.min(self.pairs.len());
+        &self.pairs[..count]
+    }
+}
+
+/// How many pairs two lists begin with in common.
+fn common(first: &[Pair], second: &[Pair]) -> usize
+    ensures { result ≤ length second.now }
+{
+    let count = first.len().min(second.len());
+    for i in 0..count {
+        if first[i] != second[i] {
+            return i;
+        }
+    }
+    count
+}
+
+impl Trail {
+    /// The trail of a walk that did not begin.
+    pub(crate) fn new(alloc: Global) -> Trail {
+        Trail {
+            pairs: Vec::new(alloc),
+            asked: 0,
+            steps: 0,
+        }
+    }
+
+    /// How many steps a walk makes before it is told more: the more, the dearer the last answer was.
+    pub(crate) fn patience(&self, players: usize) -> u64 {
+        (self.steps / 4).max((players as u64).saturating_mul(16))
+    }
+
+    /// Where a walk is stuck that is at the beginning with these pairs: behind those that stood since it was told last. If that is where it was
+    /// told, it is to be told one pair further on.
+    pub(crate) fn stuck_at(&self, pairs: Vec<Pair>) -> Stuck {
+        let stood = common(&self.pairs, &pairs);
+        let sound = if stood < self.asked { 0 } else { self.asked };
+        let depth = if stood == self.asked {
+            stood.saturating_add(1)
+        } else {
+            stood
+        };
+        let depth = depth.min(pairs.len());
+        Stuck {
+            pairs,
+            sound,
+            depth,
+        }
+    }
+
+    /// Goes on from where a walk is, behind so many of whose pairs a floor did not rule them out. The answers took so many steps.
+    pub(crate) fn go_on(&mut self, pairs: Vec<Pair>, asked: usize, steps: u64) {
+        self.pairs = pairs;
+        self.asked = asked;
+        self.steps = steps;
+    }
+}
