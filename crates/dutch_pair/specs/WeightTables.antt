@@ -31,10 +31,11 @@ weighed_on context scale = record { facts = context.facts; reached = context.rea
 abbrev pub place_in : Weighing → ℕ → ℕ → ℕ
 place_in w a b = place_of (length w.reached.seats) a b
 
--- what two numbers weigh as a pair, and what one weighs as a downfloater
+-- what two numbers weigh as a pair
 abbrev pub pair_weight : Weighing → ℕ → ℕ → ℕ
 pair_weight w = weight_of_pair w.facts w.reached w.scale
 
+-- what a number weighs as a downfloater
 abbrev pub down_weight : Weighing → ℕ → ℕ
 down_weight w = weight_of_one_down w.facts w.reached w.scale
 
@@ -43,10 +44,11 @@ abbrev pub TellsPairsUpto : Weighing → List ℕ → ℕ → Type 0
 TellsPairsUpto w table end =
     (a b : ℕ) → IsNumber w.reached a → IsNumber w.reached b → place_in w a b < end → slice_index table (place_in w a b) ≡ pair_weight w a b
 
--- a table has a place for each pair, and one for each number
+-- a table has a place for each pair
 abbrev pub HasPairs : Weighing → List ℕ → Type 0
 HasPairs w table = length table ≡ length w.reached.seats * length w.reached.seats
 
+-- a table has a place for each number
 abbrev pub HasAll : Weighing → List ℕ → Type 0
 HasAll w table = length table ≡ length w.reached.seats
 

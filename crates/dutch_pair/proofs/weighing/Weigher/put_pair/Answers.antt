@@ -19,4 +19,5 @@ returns-in-Some-clause-told c =
 
 pub returns-in-None-clause-heavy : goal.returns-in-None-clause-heavy
 returns-in-None-clause-heavy c =
-    λ _. pair c.args.a c.args.b c.requires.first c.requires.second (at_least (pair_weight c.args.self.now c.args.a c.args.b) (2 ^ 256) c.in-None.ensures)
+    λ _. pair c.args.a c.args.b c.requires.first c.requires.second
+    (at_least (pair_weight c.args.self.now c.args.a c.args.b) (2 ^ 256) c.in-None.ensures)
