@@ -7,7 +7,7 @@ use Rattle.std.proofs.lemmas.List.Elements.{All-more, All-weaker, All-head, All-
 use Rattle.std.proofs.lemmas.List.Sums.{sum_by-cons, sum_by-drop_more, sum_by-le-sum_by}
 use Rattle.std.proofs.Math.Nat.{add-mul, mul-le-mul_right}
 use Rattle.dual.specs.Checks.{HasSlacks}
-use Rattle.dual.specs.Duals.{Certificate, IsFeasible, slack, slack_left, gains, losses, pairs_of}
+use Rattle.dual.specs.Duals.{Certificate, IsFeasible, slack, slack_left, losses, pairs_of}
 use Rattle.dual.specs.Floors.{FloorTable, extra_in, extra_left_in, IsFloor, IsFloorOf, TellsSlack, TellsSlackLeft}
 use Rattle.dual.specs.Matchings.{Costs, IsPartOf, in_both}
 use Rattle.dual.proofs.Sums.{sum_plus, one, one_itself, of_member}
@@ -154,20 +154,18 @@ module _ (costs : Costs) (players : List ℕ) (certificate : Certificate) (floor
         left_told told left (λ x some. inside x (omega (arith, some, sum_by-cons (one x) v left))) (All-tail MayStay v left may),
       )
 
--- the floor that a feasible certificate is, if it gains what it gives away, bounds every matching
+-- the floor that a feasible certificate is bounds every matching
 pub floor_least : (costs : Costs) (players : List ℕ) (left : ℕ) (certificate : Certificate) (floor : FloorTable)
-    → IsFeasible costs players certificate
-    → losses certificate players (pairs_of players left) left ≤ gains certificate players → IsFloorOf costs players left certificate floor
-    → IsFloor costs players left floor
-floor_least costs players left certificate floor feasible whole told = λ pairs out matching e known known_left part part_left.
+    → IsFeasible costs players certificate → IsFloorOf costs players left certificate floor → IsFloor costs players left floor
+floor_least costs players left certificate floor feasible told = λ pairs out matching e known known_left part part_left.
     let number : pairs_of players left ≡ length pairs = omega (arith, counted costs players pairs out matching, e) in
     let same : losses certificate players (pairs_of players left) left ≡ losses certificate players (length pairs) (length out) =
     ap (λ n. losses certificate players n left) number ∙ ap (losses certificate players (length pairs)) (sym e) in
     omega (
       arith,
       same,
-      whole,
       told.base,
+      told.debt,
       bounded_beside costs players certificate pairs out feasible matching known known_left part part_left,
       sum_within (extra_in floor) (slack costs certificate) known pairs part
           (pairs_told costs players certificate floor told.pairs pairs (λ x some. omega (arith, some, matching.whole (one x))) matching.may_meet),

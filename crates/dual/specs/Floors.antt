@@ -1,11 +1,12 @@
--- What every matching costs at least, and what known pairs and known players left over add to that.
-use Rattle.std.specs.Prelude.{◌≡◌, ℕ, ◌+◌, ◌*◌, ◌<◌, ◌≤◌, true, if◌then◌else◌, nat_lt, List, [], All, length, sum_by, slice_index_or}
+-- What every matching costs at least, beside what is owed, and what known pairs and known players left over add to that.
+use Rattle.std.specs.Prelude.{◌≡◌, ℕ, ◌+◌, ◌*◌, ◌<◌, ◌≤◌, true, if◌then◌else◌, nat_lt, List, All, length, sum_by, slice_index_or}
 use Rattle.dual.specs.Matchings.{Costs, IsMatching, IsPartOf, cost}
-use Rattle.dual.specs.Duals.{Certificate, bears, bears_left, slack, slack_left, gains, losses, pairs_of, value}
+use Rattle.dual.specs.Duals.{Certificate, bears, bears_left, slack, slack_left, gains, losses, pairs_of}
 
--- a base, and what each pair and each player left over adds: a pair's number stands in the row of its first player
+-- a base, a debt, and what each pair and each player left over adds: a pair's number stands in the row of its first player
 pub record FloorTable : Type 0 where
   pub base : ℕ
+  pub debt : ℕ
   pub size : ℕ
   pub extra : List ℕ
   pub extra_left : List ℕ
@@ -18,12 +19,13 @@ extra_in floor pair = if nat_lt pair.1 floor.size then slice_index_or floor.extr
 abbrev pub extra_left_in : FloorTable → ℕ → ℕ
 extra_left_in floor v = slice_index_or floor.extra_left v 0
 
--- no matching that leaves so many players over costs less than the base and what is known of it adds
+-- no matching that leaves so many players over costs less than the base and what is known of it adds, beside the debt:
+-- so much less it may cost
 abbrev pub IsFloor : Costs → List ℕ → ℕ → FloorTable → Type 0
 IsFloor costs players left floor =
     (pairs : List (ℕ × ℕ)) (out : List ℕ) → IsMatching costs players pairs out → length out ≡ left
     → (known : List (ℕ × ℕ)) (known_left : List ℕ) → IsPartOf known pairs → IsPartOf known_left out
-    → floor.base + (sum_by (extra_in floor) known + sum_by (extra_left_in floor) known_left) ≤ cost costs pairs out
+    → floor.base + (sum_by (extra_in floor) known + sum_by (extra_left_in floor) known_left) ≤ floor.debt + cost costs pairs out
 
 -- of two who may meet the table tells the slack, and so it does of one who may be left over
 abbrev pub TellsSlack : Costs → Certificate → FloorTable → ℕ → ℕ → Type 0
@@ -32,9 +34,11 @@ TellsSlack costs certificate floor u v = costs.meets u v ≡ true → extra_in f
 abbrev pub TellsSlackLeft : Costs → Certificate → FloorTable → ℕ → Type 0
 TellsSlackLeft costs certificate floor v = costs.may_be_left v ≡ true → extra_left_in floor v ≡ slack_left costs certificate v
 
--- the floor that a certificate is: its value, and on top the slack of each pair and of each player left over
+-- the floor that a certificate is: what its potentials come to, what is given away and paid at most, and the slack of
+-- each pair and of each player left over
 pub record IsFloorOf (costs : Costs) (players : List ℕ) (left : ℕ) (certificate : Certificate) (floor : FloorTable) : Type 0 where
-  pub base : floor.base ≡ value costs certificate players left []
+  pub base : floor.base ≡ gains certificate players
+  pub debt : floor.debt ≡ losses certificate players (pairs_of players left) left
   pub pairs : All (λ u. All (TellsSlack costs certificate floor u) players) players
   pub left_over : All (TellsSlackLeft costs certificate floor) players
 

@@ -1,7 +1,7 @@
 // The check of a certificate, pair by pair: what each pair, and each player left over, could bear beyond its potentials.
 ghost use Rattle.std.specs.Prelude.{◌≡◌, ◌+◌, ◌*◌, ◌^◌, ◌<◌, ◌≤◌, ◌↔◌, ℕ, true, All, IfOk, IfSome, IsSome, IsTrue, SomeIff};
 ghost use Rattle.std.specs.Prelude.{length, sum_by, slice_index};
-ghost use Rattle.dual.specs.Duals.{IsFeasible, bears_left, slack, slack_left, losses, gains, pairs_of, toll};
+ghost use Rattle.dual.specs.Duals.{IsFeasible, bears_left, slack, slack_left, toll};
 ghost use Rattle.dual.specs.Floors.{IsFloor, IsFloorOf, IsBelow};
 ghost use Rattle.dual.specs.Checks.{CanBear, CanBearLeft, AllBear, HasSlacks};
 ghost use Rattle.dual.specs.Tables.{toll_of, certificate_in};
@@ -167,8 +167,8 @@ impl Table {
         Ok(Some(extra))
     }
 
-    /// The floor that the certificate is, for matchings that leave so many players over. There is none if the certificate is not feasible, if it
-    /// gives away more than it gains, or if a sum of its numbers is 2^256 or more.
+    /// The floor that the certificate is, for matchings that leave so many players over. There is none if the
+    /// certificate is not feasible, or if a sum of its numbers is 2^256 or more.
     pub fn floor<R: Rule>(
         &self,
         alloc: Global,
@@ -180,12 +180,14 @@ impl Table {
         requires few { length players.now ≤ MOST }
         requires some { left ≤ length players.now }
         ensures whole { IfOk result (λ found. IsSome found ↔ (IsFeasible (R.costs rule.now) players.now (certificate_in self.now)
-            × IsBelow (R.costs rule.now) players.now left (certificate_in self.now) (2 ^ 256)
-            × (losses (certificate_in self.now) players.now (pairs_of players.now left) left ≤ gains (certificate_in self.now) players.now))) }
+            × IsBelow (R.costs rule.now) players.now left (certificate_in self.now) (2 ^ 256))) }
         ensures value { IfOk result (λ found. IfSome found (IsFloorOf (R.costs rule.now) players.now left (certificate_in self.now))) }
         ensures least { IfOk result (λ found. IfSome found (IsFloor (R.costs rule.now) players.now left)) }
     {
-        let Some(base) = self.value(players, left) else {
+        let Some(base) = self.gains(players) else {
+            return Ok(None);
+        };
+        let Some(debt) = self.losses(players, left) else {
             return Ok(None);
         };
         let size = size_for(players);
@@ -197,6 +199,7 @@ impl Table {
         };
         Ok(Some(Floor {
             base,
+            debt,
             size,
             extra,
             extra_left,

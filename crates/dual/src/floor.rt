@@ -1,14 +1,17 @@
-// A floor: what every matching costs at least, and what each pair and each player left over adds that is known of it.
+// A floor: what every matching costs at least, beside what is owed, and what each pair and each player left over adds
+// that is known of it.
 ghost use Rattle.std.specs.Prelude.{◌≡◌, slice_index_or};
 ghost use Rattle.dual.specs.Floors.{extra_in, extra_left_in};
 
 use std::marker::Model;
 use wide::Wide;
 
-/// What every matching costs at least, and what each pair and each player left over adds that is known of it.
+/// What every matching costs at least, beside what is owed, and what each pair and each player left over adds that is
+/// known of it: the base and all that is known come to no more than the debt and what the matching costs.
 #[derive(Debug, Drop)]
 pub struct Floor {
     pub(crate) base: Wide,
+    pub(crate) debt: Wide,
     pub(crate) size: usize,
     // by the first player's number times the size, and the second's
     pub(crate) extra: Vec<Wide>,
@@ -21,7 +24,7 @@ impl Model for Floor {
 
     ghost Value = { FloorTable };
 
-    ghost view = { λ f. record { base = f.base; size = f.size; extra = f.extra.items; extra_left = f.extra_left.items } };
+    ghost view = { λ f. record { base = f.base; debt = f.debt; size = f.size; extra = f.extra.items; extra_left = f.extra_left.items } };
 
     ghost invariant = { λ f. f.size ≤ 65536 };
 }
@@ -38,11 +41,18 @@ fn at(numbers: &[Wide], index: usize) -> Wide
 }
 
 impl Floor {
-    /// What every matching costs at least.
+    /// What every matching costs at least, beside what is owed.
     pub fn base(&self) -> Wide
         ensures { result ≡ self.now.base }
     {
         self.base
+    }
+
+    /// What is owed: whatever the base and all that is known come to, a matching may cost so much less.
+    pub fn debt(&self) -> Wide
+        ensures { result ≡ self.now.debt }
+    {
+        self.debt
     }
 
     /// What a pair adds, 0 outside of the table.

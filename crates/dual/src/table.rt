@@ -1,5 +1,5 @@
-// A certificate as tables by the players' numbers, and its value.
-ghost use Rattle.std.specs.Prelude.{◌≡◌, ◌+◌, ◌-◌, ◌*◌, ◌^◌, ◌<◌, ◌≤◌, SomeIff, length, count_by, if◌then◌else◌};
+// A certificate as tables by the players' numbers, what it gains and what it loses.
+ghost use Rattle.std.specs.Prelude.{◌≡◌, ◌+◌, ◌*◌, ◌^◌, ◌<◌, ◌≤◌, SomeIff, length, count_by, if◌then◌else◌};
 ghost use Rattle.dual.specs.Duals.{most_inside, gains, losses, pairs_of};
 ghost use Rattle.dual.specs.Tables.{has_mark, toll_of, potential_in, certificate_in, most_toll, most_tolls};
 
@@ -71,7 +71,7 @@ impl Table {
     }
 
     // What the potentials come to.
-    fn gains(&self, players: &[u16]) -> Option<Wide>
+    pub(crate) fn gains(&self, players: &[u16]) -> Option<Wide>
         ensures { SomeIff result (gains (certificate_in self.now) players.now < 2 ^ 256) (gains (certificate_in self.now) players.now) }
     {
         let mut sum = Wide::zero();
@@ -94,7 +94,7 @@ impl Table {
     }
 
     // What is given away, and what the tolls come to at most.
-    fn losses(&self, players: &[u16], left: usize) -> Option<Wide>
+    pub(crate) fn losses(&self, players: &[u16], left: usize) -> Option<Wide>
         requires few { length players.now ≤ MOST }
         requires some { left ≤ length players.now }
         ensures { let lost = losses (certificate_in self.now) players.now (pairs_of players.now left) left in SomeIff result (lost < 2 ^ 256) lost }
@@ -103,17 +103,5 @@ impl Table {
         let given = self.given.times(pairs as u32)?;
         let given_left = self.given_left.times(left as u32)?;
         given.plus(given_left)?.plus(self.most_tolls(players)?)
-    }
-
-    // The value of the certificate, unless it is negative.
-    pub(crate) fn value(&self, players: &[u16], left: usize) -> Option<Wide>
-        requires few { length players.now ≤ MOST }
-        requires some { left ≤ length players.now }
-        ensures { let gained = gains (certificate_in self.now) players.now in
-            let lost = losses (certificate_in self.now) players.now (pairs_of players.now left) left in
-            SomeIff result ((gained < 2 ^ 256) × (lost < 2 ^ 256) × (lost ≤ gained)) (gained - lost) }
-    {
-        let gains = self.gains(players)?;
-        gains.minus(self.losses(players, left)?)
     }
 }

@@ -114,7 +114,7 @@ module _ (facts : Facts) (reached : Reached) (scale : Scale) (lower : List ℕ) 
   among : length (frame_of facts reached).scores ≡ length reached.seats
   among = length-map reached.seats (score_at facts)
 
-  left_legal : AllByRecursion (λ v. (not (ends_round reached.kind) || number_may_be_left facts reached v) ≡ true) (down (frame_of facts reached) a)
+  pub left_legal : AllByRecursion (λ v. (not (ends_round reached.kind) || number_may_be_left facts reached v) ≡ true) (down (frame_of facts reached) a)
   unfolding candidates_of
   left_legal =
       let passes = in_passes (is_legal (numbers_meet facts reached) (number_may_be_left facts reached) (frame_of facts reached)) a (arrangements (frame_of facts reached) shape) m in

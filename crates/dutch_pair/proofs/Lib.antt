@@ -3,6 +3,8 @@ pub mod AboveLemmas
 pub mod BoundSums
 pub mod WeightsBehind
 pub mod CandidateMatchings
+pub mod ScopedMatchings
+pub mod SideTables
 pub mod WrittenNumbers
 pub mod C06ToC19Weights
 pub mod AimLemmas
@@ -18,6 +20,7 @@ pub mod C04Takers
 pub mod JoinedPairs
 pub mod JoinedMates
 pub mod BoundedShapes
+pub mod AlwaysShapes
 pub mod C07WeakerRules
 pub mod C07PsdFloor
 pub mod C07Ghosts

@@ -13,7 +13,7 @@ use Rattle.std.proofs.lemmas.List.Elements.{All-get_or}
 use Rattle.std.proofs.Math.Logic.{∥∥₁_elim}
 use mathlib.Core.Bool.{Bool-set}
 use Rattle.dual.specs.Floors.{FloorTable, IsFloor}
-use Rattle.dual.specs.Matchings.{IsPartOf}
+use Rattle.dual.specs.Matchings.{IsPartOf, cost}
 use Rattle.dutch_order.specs.declared.bracket.Shape.{Shape}
 use Rattle.dutch_order.specs.declared.prefix.Filling.{Filling}
 use Rattle.dutch_order.specs.declared.prefix.Filling.TheVariants.{S1, S2, S2r}
@@ -35,15 +35,17 @@ use Rattle.dutch_pair.specs.declared.quality.Quality.{Quality as Fields}
 use Rattle.dutch_pair.specs.declared.weight_floor.Bar.{Bar}
 use Rattle.dutch_pair.specs.Reached.{IsOf, Reached, frame_of}
 use Rattle.dutch_pair.specs.Round.{candidates_of, quality_of}
-use Rattle.dutch_pair.specs.WeightFloors.{AreFloors, AreOf, HasBar, IsBar, IsLeast, IsNoBetter, IsWeightFloor, Weighed, bound_behind, is_first, kept_in, left_known, passed_over}
+use Rattle.dutch_pair.specs.Scopes.{Covers, Scope, costs_in}
+use Rattle.dutch_pair.specs.WeightFloors.{AreFloors, AreOf, HasBar, IsBar, IsLeast, IsNoBetter, IsWeightFloor, ScopedFloor, Weighed, bound_behind, is_first, kept_in, left_known, passed_over, weighing_of}
 use Rattle.dutch_pair.specs.Weights.{IsOn, IsScale, Scale, above_psd, number_pairs, numbers, weighing, weight_of}
 use Rattle.dutch_pair.proofs.ArrangementParts.{lists_of, numbers_above, numbers_rise, numbers_within, parts_of, subset_members, subset_whole}
 use Rattle.dutch_pair.proofs.C06ToC19Weights.{candidate_ordered, candidate_weighs}
 use Rattle.dutch_pair.proofs.C07Outlook.{awaited_holds}
-use Rattle.dutch_pair.proofs.CandidateMatchings.{candidate_is_matching, digits_are_small, each, left_over, part_of, total_sum}
+use Rattle.dutch_pair.proofs.CandidateMatchings.{digits_are_small, each, left_over, part_of, total_sum}
 use Rattle.dutch_pair.proofs.FloorOfBeginning.{begun_pairs}
 use Rattle.dutch_pair.proofs.LegalPairs.{legal_of}
 use Rattle.dutch_pair.proofs.PsdParts.{down_parts}
+use Rattle.dutch_pair.proofs.ScopedMatchings.{is_matching_in}
 use Rattle.dutch_pair.proofs.QualityOrder.{less, lists_tied, total as in_order}
 use Rattle.dutch_pair.proofs.Totals.{total, total_append}
 use Rattle.dutch_pair.proofs.WrittenNumbers.{behind_psd, not_lighter}
@@ -150,12 +152,15 @@ none_better_on q next other first second = (
 module _ (facts : Facts) (reached : Reached) (scale : Scale) (lower : List ℕ) (shape : Shape) (a : Arrangement) (of' : IsOf facts reached)
     (fits : Fits (frame_of facts reached) shape) (m : IsIn a (candidates_of facts reached shape)) where
   -- C.6, C.8 to C.19: a candidate behind a beginning weighs no less than a floor says
-  pub weighs_more : (b : Beginning) → Begins b a → (floor : FloorTable)
-      → IsFloor (weighing facts reached scale) (numbers reached) (length reached.seats - 2 * shape.pairs) floor
-      → bound_behind floor reached.mdps b ≤ weight_of scale (quality_of facts reached lower a)
-  weighs_more b begins floor is =
+  pub weighs_more : (b : Beginning) → Begins b a → (scope : Scope) → Covers scope b → (floor : FloorTable)
+      → IsFloor (costs_in (record { weighing = record { facts = facts; reached = reached; scale = scale }; scope = scope })) (numbers reached)
+      (length reached.seats - 2 * shape.pairs) floor
+      → bound_behind floor reached.mdps b ≤ floor.debt + weight_of scale (quality_of facts reached lower a)
+  weighs_more b begins scope covers floor is =
       let frame : Frame = frame_of facts reached in
-      let bound = is (number_pairs a) (down frame a) (candidate_is_matching facts reached scale lower shape a of' fits m) (left_over facts reached scale lower shape a of' fits m)
+      let bound : bound_behind floor reached.mdps b ≤ floor.debt + cost (weighing facts reached scale) (number_pairs a) (down frame a) =
+      is (number_pairs a) (down frame a) (is_matching_in facts reached scale lower shape a of' fits m b begins scope covers)
+      (left_over facts reached scale lower shape a of' fits m)
       (number_pairs (fixed_lists b)) (left_known b.filling reached.mdps b.lists.s1)
       (part_of (fixed_lists b) a (begun_pairs b.filling b.lists a begins))
       (left_part frame shape a of'.sound.within (legal_of facts reached shape a m).arranged b.filling b.lists begins) in
@@ -192,29 +197,30 @@ module _ (facts : Facts) (reached : Reached) (scale : Scale) (lower : List ℕ) 
 pub numbers_known : (n : ℕ) → All (λ a. (0 < a) × (a ≤ n)) (numbers_from 1 n)
 numbers_known n = each (λ a. (0 < a) × (a ≤ n)) (numbers_from 1 n) (numbers_within 0 1 n n (omega arith) (omega arith))
 
-pub floor_put : (w : Weighed) (players : List ℕ) (left : ℕ) (floor : FloorTable) → players ≡ numbers w.reached → left ≡ length w.reached.seats - 2 * w.shape.pairs
-    → IsFloor (weighing w.facts w.reached w.scale) players left floor → IsWeightFloor w floor
-floor_put w players left floor same count is =
-    let costs = weighing w.facts w.reached w.scale in
+pub floor_put : (w : Weighed) (scope : Scope) (players : List ℕ) (left : ℕ) (floor : FloorTable) → players ≡ numbers w.reached
+    → left ≡ length w.reached.seats - 2 * w.shape.pairs → IsFloor (costs_in (record { weighing = weighing_of w; scope = scope })) players left floor
+    → IsWeightFloor w (record { scope = scope; floor = floor })
+floor_put w scope players left floor same count is =
+    let costs = costs_in (record { weighing = weighing_of w; scope = scope }) in
     subst (λ (n : ℕ). IsFloor costs (numbers w.reached) n floor) count (subst (λ (xs : List ℕ). IsFloor costs xs left floor) same is)
 
 -- ---- the greatest of the bounds
 
 -- one floor of several holds
-pub one_holds : (w : Weighed) (b : Beginning) (floors : List FloorTable) → AreFloors w floors → (floor : FloorTable) (i : ℕ) → i < length floors → floor ≡ get_or floors i floor
-    → (mdps : ℕ) → mdps ≡ w.reached.mdps → (bound : Option ℕ) → IfSome bound (λ n. n ≡ bound_behind floor mdps b) → IfSome bound (IsLeast w b)
-one_holds w b floors are floor i within at' mdps same None is = tt
-one_holds w b floors are floor i within at' mdps same (Some bound) is =
-    let P : FloorTable → Type 0 = IsFloor (weighing w.facts w.reached w.scale) (numbers w.reached) (length w.reached.seats - 2 * w.shape.pairs) in
-    let holds : P floor = subst P (sym at') (All-get_or P floors i floor within are.hold) in
+pub one_holds : (w : Weighed) (b : Beginning) (floors : List ScopedFloor) → AreFloors w floors → (kept : ScopedFloor) (i : ℕ) → i < length floors → kept ≡ get_or floors i kept
+    → Covers kept.scope b → (mdps : ℕ) → mdps ≡ w.reached.mdps → (bound : Option ℕ) → IfSome bound (λ n. n + kept.floor.debt ≡ bound_behind kept.floor mdps b)
+    → IfSome bound (IsLeast w b)
+one_holds w b floors are kept i within at' covers mdps same None is = tt
+one_holds w b floors are kept i within at' covers mdps same (Some bound) is =
+    let holds : IsWeightFloor w kept = subst (IsWeightFloor w) (sym at') (All-get_or (IsWeightFloor w) floors i kept within are.hold) in
     record {
       high = are.high;
       none_less = λ lower a of' fits m begins.
           omega (
             arith,
             is,
-            ap (λ n. bound_behind floor n b) same,
-            weighs_more w.facts w.reached w.scale lower w.shape a of' fits m b begins floor holds,
+            ap (λ n. bound_behind kept.floor n b) same,
+            weighs_more w.facts w.reached w.scale lower w.shape a of' fits m b begins kept.scope covers kept.floor holds,
           );
     }
 

@@ -8,7 +8,7 @@ use Rattle.dutch_order.specs.Choices.{numbers_from}
 use Rattle.dutch_order.specs.Arrangements.{Fits}
 use Rattle.dutch_player.specs.Facts.{Facts}
 use Rattle.dutch_pair.specs.Reached.{Reached, ends_round, frame_of, numbers_meet, number_may_be_left}
-use Rattle.dutch_pair.specs.Round.{candidates_of}
+use Rattle.dutch_pair.specs.Round.{candidates_of, is_penultimate, shape_of}
 use Rattle.dutch_pair.specs.Shapes.{has_member}
 
 -- a bracket of a field; whether two residents may be joined, or only a moved-down player and a resident; and whether there is a bye
@@ -63,6 +63,11 @@ abbrev pub IsMost : Facts → Reached → Shape → Type 0
 IsMost facts reached most =
     (shape : Shape) → Fits (frame_of facts reached) shape → has_member (candidates_of facts reached shape) ≡ true
     → (shape.pairs ≤ most.pairs) × (shape.mdps ≤ most.mdps)
+
+-- the shape of a bracket in which all candidates can be chosen, whatever seats are below it
+pub record IsAlwaysShape (facts : Facts) (reached : Reached) (shape : Shape) : Type 0 where
+  pub once : is_penultimate reached.kind ≡ false
+  pub always : (lower : List ℕ) → shape_of facts reached lower ≡ Some shape
 
 -- the mate of a number by a list of partners: whoever has no partner, or the bye, is their own mate
 abbrev pub mate_at : Option (Option ℕ) → ℕ → ℕ

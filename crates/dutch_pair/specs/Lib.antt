@@ -49,6 +49,7 @@ pub mod KnownBeside
 pub mod Barriers
 pub mod WeightTables
 pub mod Weights
+pub mod Scopes
 pub mod WeightFloors
 pub mod Rests
 pub mod Passes

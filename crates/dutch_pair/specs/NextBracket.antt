@@ -4,7 +4,7 @@ use Rattle.std.specs.List.Sorted.{IsStrictlyIncreasing}
 use Rattle.std.specs.Ordering.{nat_cmp, is_lt}
 use Rattle.std.specs.Cmp.Lexicographic.{slice_cmp}
 use Rattle.dutch_order.specs.declared.bracket.Shape.{Shape}
-use Rattle.dutch_order.specs.Arrangements.{Arrangement, down, arrangements, candidates}
+use Rattle.dutch_order.specs.Arrangements.{Arrangement, Frame, down, arrangements, candidates}
 use Rattle.dutch_order.specs.Keys.{IsIn}
 use Rattle.dutch_order.specs.Candidates.{Candidate}
 use Rattle.dutch_player.specs.Facts.{Facts}
@@ -38,6 +38,10 @@ next_bracket moved_down next = record { number = 0; kind = Ordinary; mdps = leng
 -- the arrangements of a bracket whose pairs meet C.1 and C.3; one that ends the round leaves over at most one player, who meets C.2
 abbrev pub legal_in : Facts → Reached → Shape → List Arrangement
 legal_in facts reached = candidates (numbers_meet facts reached) (number_may_be_left facts reached) (frame_of facts reached)
+
+-- those of a bracket that is known by scores
+abbrev pub legal_by : Facts → Reached → Frame → Shape → List Arrangement
+legal_by facts reached frame = candidates (numbers_meet facts reached) (number_may_be_left facts reached) frame
 
 -- C.6: the PSD of an arrangement of a bracket
 abbrev pub psd_in : Facts → Reached → Arrangement → List ℕ

@@ -1,24 +1,23 @@
 -- The players of a bracket who are in none of some pairs, as a graph (C.04.3 C.1 to C.3). Only private functions' clauses cite these.
 use Rattle.std.specs.Prelude.{ℕ, ◌≤◌, Bool, List, All, length, slice_index}
 use Rattle.dutch_order.specs.declared.numbers.TheConstants.{LIMIT}
-use Rattle.dutch_pair.specs.Reached.{numbers_meet}
-use Rattle.dutch_pair.specs.Weights.{Weighing}
+use Rattle.dutch_pair.specs.Scopes.{Scoped, costs_in}
 use Rattle.dutch_pair.specs.WeightTables.{IsNumber}
 
--- a bracket whose pairs are weighed, and numbers of some of its players, who are the vertices in this order
+-- a bracket whose pairs are weighed in a scope, and numbers of some of its players, who are the vertices in this order
 pub record Rest : Type 0 where
-  pub weighing : Weighing
+  pub scoped : Scoped
   pub numbers : List ℕ
 
 -- how many vertices there are
 abbrev pub vertices : Rest → ℕ
 vertices rest = length rest.numbers
 
--- two vertices are joined if their players may meet
+-- two vertices are joined if their players may meet in the arrangements of the scope
 abbrev pub joined : Rest → ℕ → ℕ → Bool
-joined rest a b = numbers_meet rest.weighing.facts rest.weighing.reached (slice_index rest.numbers a) (slice_index rest.numbers b)
+joined rest a b = (costs_in rest.scoped).meets (slice_index rest.numbers a) (slice_index rest.numbers b)
 
 -- the numbers are of players of the bracket, and not too many
 pub record IsRest (rest : Rest) : Type 0 where
-  pub inside : All (IsNumber rest.weighing.reached) rest.numbers
+  pub inside : All (IsNumber rest.scoped.weighing.reached) rest.numbers
   pub few : length rest.numbers ≤ LIMIT

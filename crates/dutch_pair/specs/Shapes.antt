@@ -1,5 +1,5 @@
 -- The shape of a bracket (C.04.3 C.5, B.1): as many pairs as there is an arrangement for, and in them as many moved-down players.
-use Rattle.std.specs.Prelude.{ℕ, zero, suc, ◌+◌, ◌-◌, ◌*◌, ◌/◌, ◌≡◌, ◌<◌, ◌⊎◌, Bool, true, false, not, ◌&&◌, nat_lt, if◌then◌else◌, List, [], ◌∷◌, map, filter, flat_map, length, Option, Some, None}
+use Rattle.std.specs.Prelude.{ℕ, zero, suc, ◌+◌, ◌-◌, ◌*◌, ◌/◌, ◌≡◌, ◌<◌, ◌⊎◌, Bool, true, false, not, ◌&&◌, nat_lt, if◌then◌else◌, List, [], ◌∷◌, map, filter, flat_map, length, Option, Some, None, MatchOption}
 use Rattle.dutch_order.specs.declared.bracket.Shape.{Shape}
 use Rattle.dutch_order.specs.Arrangements.{Frame, Arrangement, down, remainder_pairs}
 use Rattle.dutch_order.specs.Candidates.{Candidate}
@@ -46,6 +46,12 @@ first_with eligible (shape ∷ rest) = if has_member (eligible shape) then Some 
 -- C.5, B.1: the greatest number of pairs for which some arrangement is there, and for it the greatest number of moved-down players
 abbrev pub greatest_shape : (Shape → List Arrangement) → Frame → Option Shape
 greatest_shape eligible frame = first_with eligible (shapes frame)
+
+-- what is found is the greatest shape, and its first arrangement is drawn; nothing is found only if no shape has one
+abbrev pub IsFound : (Shape → List Arrangement) → Frame → Option Shape → Candidate → Type 0
+IsFound eligible frame found drawn =
+    MatchOption found (greatest_shape eligible frame ≡ None)
+    (λ shape. (greatest_shape eligible frame ≡ Some shape) × IsFirst (eligible shape) frame drawn)
 
 -- C.5, B.1: a shape is greater than another one: it has more pairs, or as many and more moved-down players in them
 abbrev pub IsGreater : Shape → Shape → Type 0

@@ -16,7 +16,8 @@ use Rattle.dutch_pair.specs.Quality.{NextValue, Quality}
 use Rattle.dutch_pair.specs.QualityIn.{quality_in}
 use Rattle.dutch_pair.specs.Reached.{IsOf, Reached, frame_of}
 use Rattle.dutch_pair.specs.Round.{candidates_of, quality_of}
-use Rattle.dutch_pair.specs.Weights.{IsOn, IsScale, Scale, above_psd, number_pairs, numbers, weighing, weight_of}
+use Rattle.dutch_pair.specs.Scopes.{Scope, costs_in}
+use Rattle.dutch_pair.specs.Weights.{IsOn, IsScale, Scale, Weighing, above_psd, number_pairs, numbers, weight_of}
 use Rattle.dutch_pair.specs.declared.weight_floor.Bar.{Bar}
 
 -- a bracket of a field, a shape of its arrangements, and a scale
@@ -25,6 +26,11 @@ pub record Weighed : Type 0 where
   pub reached : Reached
   pub shape : Shape
   pub scale : Scale
+
+-- a floor, and which arrangements it is for
+pub record ScopedFloor : Type 0 where
+  pub scope : Scope
+  pub floor : FloorTable
 
 -- a list begins with a number
 abbrev pub is_first : ℕ → List ℕ → Bool
@@ -43,18 +49,23 @@ left_known S1 mdps s1 = []
 left_known S2 mdps s1 = passed_over s1 1 mdps
 left_known S2r mdps s1 = passed_over s1 1 mdps
 
--- what a floor says behind a beginning: its base, and what the pairs of the beginning and those known to be left over add
+-- what a floor says behind a beginning, beside what it owes: its base, and what the pairs of the beginning and those known to be left over add
 abbrev pub bound_behind : FloorTable → ℕ → Beginning → ℕ
 bound_behind floor mdps b =
     floor.base + (sum_by (extra_in floor) (number_pairs (fixed_lists b)) + sum_by (extra_left_in floor) (left_known b.filling mdps b.lists.s1))
 
--- a floor of the weights of a bracket, for matchings with as many pairs as the shape has
-abbrev pub IsWeightFloor : Weighed → FloorTable → Type 0
-IsWeightFloor weighed floor =
-    IsFloor (weighing weighed.facts weighed.reached weighed.scale) (numbers weighed.reached) (length weighed.reached.seats - 2 * weighed.shape.pairs) floor
+-- a bracket of a field, and the scale on which its pairs and its downfloaters are weighed
+abbrev pub weighing_of : Weighed → Weighing
+weighing_of weighed = record { facts = weighed.facts; reached = weighed.reached; scale = weighed.scale }
+
+-- a floor of the weights of a bracket in a scope, for matchings with as many pairs as the shape has
+abbrev pub IsWeightFloor : Weighed → ScopedFloor → Type 0
+IsWeightFloor weighed kept =
+    IsFloor (costs_in (record { weighing = weighing_of weighed; scope = kept.scope })) (numbers weighed.reached)
+    (length weighed.reached.seats - 2 * weighed.shape.pairs) kept.floor
 
 -- floors of a bracket and a shape, on a scale whose base is above the number of players
-pub record AreFloors (weighed : Weighed) (floors : List FloorTable) : Type 0 where
+pub record AreFloors (weighed : Weighed) (floors : List ScopedFloor) : Type 0 where
   pub high : length weighed.reached.seats < weighed.scale.base
   pub hold : All (IsWeightFloor weighed) floors
 

@@ -8,6 +8,7 @@ ghost use Rattle.dutch_order.specs.declared.numbers.TheConstants.{LIMIT};
 ghost use Rattle.dutch_order.specs.Steps.{Spends};
 
 use crate::rest::Rest;
+use crate::scope::{Scope, Scoped};
 use crate::seated::Pair;
 use crate::spending::spend;
 use crate::telling::table_of;
@@ -27,6 +28,13 @@ const MOST_HALVINGS: u32 = 16;
 struct Told {
     table: Table,
     pairs: Vec<Pair>,
+}
+
+/// Where more is asked for: in the arrangements of a scope, behind some pairs.
+#[derive(Clone, Copy)]
+pub(crate) struct Asked<'s> {
+    pub(crate) scope: &'s Scope,
+    pub(crate) pairs: &'s [Pair],
 }
 
 /// The bars of the aim of a pass and of what it keeps.
@@ -113,8 +121,9 @@ impl<'a> WeightFloors<'a> {
         Wide::power_of_two(width)
     }
 
-    /// What is told of the players who are in none of some pairs; none if nothing was found, or memory was refused.
-    fn told(&self, pairs: &[Pair], left: &mut u64) -> Result<Option<Told>, Stopped>
+    /// What is told of the players who are in none of some pairs, for the arrangements of a scope; none if nothing was
+    /// found, or memory was refused.
+    fn told(&self, asked: &Asked<'_>, left: &mut u64) -> Result<Option<Told>, Stopped>
         ensures falls { left.new ≤ left.old }
         ensures stopped { MatchResult result (λ _. Unit {0}) (λ _. left.new ≡ 0) }
     {
@@ -122,7 +131,8 @@ impl<'a> WeightFloors<'a> {
         let Some(alone) = self.alone() else {
             return Ok(None);
         };
-        let Ok(rest) = Rest::beside(&self.weighing, pairs, alone) else {
+        let scoped = Scoped::new(&self.weighing, asked.scope);
+        let Ok(rest) = Rest::beside(&scoped, asked.pairs, alone) else {
             return Ok(None);
         };
         match cheapest(context.alloc(), &rest, left) {
@@ -136,7 +146,7 @@ impl<'a> WeightFloors<'a> {
     /// of the matching by number; none if it was not looked for, since too few steps are left, or nothing was confirmed.
     pub(crate) fn ask(
         &mut self,
-        pairs: &[Pair],
+        asked: &Asked<'_>,
         budget: &mut Budget,
     ) -> Result<Option<Vec<Pair>>, Stopped>
         requires within { budget.old.used ≤ budget.old.limit }
@@ -145,18 +155,18 @@ impl<'a> WeightFloors<'a> {
         ensures spends { Spends budget.old budget.new }
     {
         let count = self.weighing.context().len();
-        let free = count.saturating_sub(2 * pairs.len()) as u64;
+        let free = count.saturating_sub(2 * asked.pairs.len()) as u64;
         let mut left = budget.limit - budget.used;
         if left < free.saturating_mul(free).saturating_mul(free) / 2 {
             return Ok(None);
         }
-        let told = self.told(pairs, &mut left);
+        let told = self.told(asked, &mut left);
         budget.used = budget.limit - left;
         let Some(told) = told? else {
             return Ok(None);
         };
         spend((count * count) as u64, budget)?;
-        match self.put(&told.table) {
+        match self.put(&told.table, asked.scope) {
             Ok(true) => Ok(Some(told.pairs)),
             _ => Ok(None),
         }
@@ -164,9 +174,10 @@ impl<'a> WeightFloors<'a> {
 
     /// Whether the last floor says that all candidates with some pairs are behind one of the bars.
     fn rules_out(&self, pairs: &[Pair], bars: &Bars) -> bool {
-        let Some(floor) = self.floors.last() else {
+        let Some(last) = self.floors.last() else {
             return false;
         };
+        let floor = &last.floor;
         let mut sum = floor.base();
         for pair in pairs {
             let Some(more) = sum.plus(floor.extra(pair.0, pair.1)) else {
@@ -174,7 +185,10 @@ impl<'a> WeightFloors<'a> {
             };
             sum = more;
         }
-        bars.are_passed(sum)
+        match sum.minus(floor.debt()) {
+            Some(least) => bars.are_passed(least),
+            None => false,
+        }
     }
 
     /// Asks behind so many of the pairs where a walk is stuck, and where that is ruled out, behind fewer, until it is known how many are not
@@ -182,6 +196,7 @@ impl<'a> WeightFloors<'a> {
     fn ask_behind(
         &mut self,
         stuck: &Stuck,
+        scope: &Scope,
         bars: &Bars,
         budget: &mut Budget,
     ) -> Result<usize, Stopped>
@@ -193,7 +208,8 @@ impl<'a> WeightFloors<'a> {
         let (mut sound, mut ruled_out) = (stuck.sound, stuck.depth);
         let mut depth = stuck.depth;
         for _ in 0..MOST_HALVINGS {
-            self.ask(stuck.front(depth), budget)?;
+            let pairs = stuck.front(depth);
+            self.ask(&Asked { scope, pairs }, budget)?;
             (sound, ruled_out) = if self.rules_out(stuck.front(depth), bars) {
                 (sound, depth)
             } else {
@@ -207,10 +223,11 @@ impl<'a> WeightFloors<'a> {
         Ok(sound)
     }
 
-    /// Tells a walk more that is stuck at the beginning with some pairs by seat. It takes no more than the steps that it counts.
+    /// Tells a walk more that is stuck at the beginning with some pairs by seat, among the arrangements of a scope. It
+    /// takes no more than the steps that it counts.
     pub(crate) fn tell_more(
         &mut self,
-        pairs: &[Pair],
+        stuck: &Asked<'_>,
         bars: &Bars,
         budget: &mut Budget,
     ) -> Result<(), Stopped>
@@ -220,14 +237,15 @@ impl<'a> WeightFloors<'a> {
         ensures spends { Spends budget.old budget.new }
     {
         let context = self.weighing.context();
-        let Ok(pairs) = by_number(context.alloc(), context.reached().seats(), pairs) else {
+        let Ok(pairs) = by_number(context.alloc(), context.reached().seats(), stuck.pairs) else {
             return Ok(());
         };
-        let stuck = self.trail.stuck_at(pairs);
         let before = budget.used;
-        let asked = self.ask_behind(&stuck, bars, budget)?;
-        self.trail
-            .go_on(stuck.pairs, asked, budget.used.saturating_sub(before));
+        self.trail.turn_to(stuck.scope);
+        let place = self.trail.stuck_at(pairs);
+        let asked = self.ask_behind(&place, stuck.scope, bars, budget)?;
+        self.trail.go_on(place.pairs, asked);
+        self.trail.note(before, budget.used);
         Ok(())
     }
 }

@@ -11,13 +11,15 @@ ghost use Rattle.dutch_pair.specs.Eligible.{HasCandidate, Lists};
 ghost use Rattle.dutch_pair.specs.Kept.{IsKept};
 ghost use Rattle.dutch_pair.specs.Aims.{aim_in, best_near, best_wished, best_yet, is_idle};
 ghost use Rattle.dutch_pair.specs.Outcomes.{IsChoice};
+ghost use Rattle.dutch_pair.specs.Outlooks.{IsOutlook};
 ghost use Rattle.dutch_pair.specs.Remembered.{LooksBelow};
 ghost use Rattle.dutch_pair.specs.Passes.{HasWeights, PassesDull};
 ghost use Rattle.dutch_pair.specs.Seated.{HasSeats};
 ghost use Rattle.dutch_pair.specs.WeightFloors.{AreOf};
 
+use crate::asking::Asked;
 use crate::context::Context;
-use crate::eligible::can_be_chosen;
+use crate::eligible::{at_most, can_be_chosen};
 use crate::fault::PairFault;
 use crate::floor::Floors;
 use crate::greatest::Lister;
@@ -27,6 +29,7 @@ use crate::quality::{Quality, Room, fill_seated};
 use crate::reached::{ByNumber, Reached, Seats};
 use crate::remembered::{Judge, judge_candidate, look_below};
 use crate::rest::is_in;
+use crate::scope::Scope;
 use crate::seated::{Pair, Seated};
 use crate::shape::shape_of;
 use crate::skipper::{Pass, Skipper, bars_of, known_with};
@@ -162,7 +165,7 @@ fn turn(weights: &Option<WeightFloors<'_>>, budget: &Budget) -> Budget
 {
     let left = budget.limit - budget.used;
     let steps = match weights {
-        Some(weights) => weights.patience().min(left),
+        Some(weights) => weights.patience(budget.used).min(left),
         None => left,
     };
     Budget {
@@ -184,7 +187,13 @@ fn go_on(sought: Sought<'_, '_>, judge: &mut Judge<'_>, budget: &mut Budget) -> 
     }
     let bars = bars_of(sought.pass, sought.kept, &judge.weights);
     match &mut judge.weights {
-        Some(weights) => weights.tell_more(&judge.room.seated.pairs, &bars, budget),
+        Some(weights) => {
+            let stuck = Asked {
+                scope: &judge.room.scope,
+                pairs: &judge.room.seated.pairs,
+            };
+            weights.tell_more(&stuck, &bars, budget)
+        }
         None => Ok(()),
     }
 }
@@ -416,7 +425,13 @@ fn weighed_by<'a>(
     ensures spends { Spends budget.old budget.new }
 {
     let mut weights = weights;
-    let found = weights.ask(&[], budget)?;
+    let before = budget.used;
+    let all = Asked {
+        scope: &Scope::all(),
+        pairs: &[],
+    };
+    let found = weights.ask(&all, budget)?;
+    weights.trail.note(before, budget.used);
     let aim = aim_for(pass, &weights, &found, room);
     let weights = Some(weights);
     Ok(Weighed { weights, aim })
@@ -475,6 +490,26 @@ fn best_in_time<'a>(
     best_in_passes(pass, judge, budget)
 }
 
+/// The best that the next bracket can be, as far as a quarter of the steps that are left tells it.
+fn outlook_of(context: &Context<'_>, shape: Shape, budget: &mut Budget) -> Result<Outlook, Stopped>
+    requires fits { Fits (frame_of context.now.facts context.now.reached) shape }
+    requires within { budget.old.used ≤ budget.old.limit }
+    ensures answer { MatchResult result (IsOutlook context.now.facts context.now.reached context.now.lower shape)
+        (λ _. budget.new.used ≡ budget.new.limit) }
+    ensures spends { Spends budget.old budget.new }
+{
+    let mut few = at_most((budget.limit - budget.used) / 4, budget);
+    let found = Outlook::find(context, shape, &mut few);
+    budget.used = few.used;
+    if let Ok(outlook) = found {
+        return Ok(outlook);
+    }
+    if budget.used == budget.limit {
+        return Err(Stopped);
+    }
+    Ok(Outlook::by_counts(context, shape))
+}
+
 /// Of the candidates of a shape that can be chosen, and that grant the wish if there is one, the first that none of them is better than:
 /// what a pass with an aim ends with, or if that is nothing, one without. `End` says that there is none.
 pub(crate) fn best_of<'a>(
@@ -502,7 +537,7 @@ pub(crate) fn best_of<'a>(
     let Some(pairs) = PairFacts::read(alloc, context, budget)? else {
         return Ok(Step::Undecided);
     };
-    let Ok(outlook) = Outlook::find(context, shape, budget) else {
+    let Ok(outlook) = outlook_of(context, shape, budget) else {
         return Ok(Step::Undecided);
     };
     let floors = Floors::new(pairs, shape, outlook);

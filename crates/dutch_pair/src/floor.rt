@@ -83,7 +83,7 @@ fn is_uniform(context: &Context<'_>, shape: Shape) -> bool
 }
 
 /// S1 is chosen.
-fn has_s1(filling: Filling) -> bool
+pub(crate) fn has_s1(filling: Filling) -> bool
     ensures { result ≡ has_s1 filling }
 {
     match filling {

@@ -4,9 +4,8 @@
 // by vertex pairs as many of them as can be.
 ghost use Rattle.std.specs.Prelude.{◌≡◌, true, false, nat_le};
 ghost use Rattle.dutch_pair.specs.Joins.{AreAtMost, go_together, may_pair, takes_bye, joined, joins_of_all, joins_of_moved_down};
-ghost use Rattle.dutch_pair.specs.Reached.{IsOf};
 
-use crate::context::Context;
+use crate::reached::ByNumber;
 use dual::least_left;
 use dutch_order::{Rule, numbered_from};
 use matching::{Found, Graph};
@@ -15,18 +14,18 @@ use wide::Wide;
 
 /// The players of a bracket, joined if a pair of an arrangement may have both.
 #[derive(Drop)]
-pub(crate) struct Joins<'a, 'b> {
-    context: &'b Context<'a>,
+pub(crate) struct Joins<'a> {
+    rule: ByNumber<'a>,
     residents: bool,
     bye: bool,
 }
 
-impl<'a, 'b> Model for Joins<'a, 'b> {
+impl<'a> Model for Joins<'a> {
     ghost use Rattle.dutch_pair.specs.Joins.{Joins};
 
     ghost Value = { Joins };
 
-    ghost view = { λ j. record { facts = j.context.now.facts; reached = j.context.now.reached; residents = j.residents; bye = j.bye } };
+    ghost view = { λ j. record { facts = j.rule.field.now; reached = j.rule.reached.now; residents = j.residents; bye = j.bye } };
 }
 
 /// Of two players at most one was moved down, and where residents are not joined to one another, one was.
@@ -36,26 +35,25 @@ fn go_together(residents: bool, first: bool, second: bool) -> bool
     if first { !second } else { residents || second }
 }
 
-impl<'a, 'b> Joins<'a, 'b> {
+impl<'a> Joins<'a> {
     /// All who may be in a pair. In a bracket of an odd number that ends the round the residents who may have the bye are joined to it.
-    pub(crate) fn of_all(context: &'b Context<'a>) -> Joins<'a, 'b>
-        ensures value { result ≡ joins_of_all context.now.facts context.now.reached }
-        ensures sound { IsOf context.now.facts context.now.reached }
+    pub(crate) fn of_all(rule: ByNumber<'a>) -> Joins<'a>
+        ensures { result ≡ joins_of_all rule.entry.field.now rule.entry.reached.now }
     {
-        let bye = context.reached().kind().ends_round() && context.len() % 2 == 1;
+        let bye = rule.reached.kind().ends_round() && rule.len() % 2 == 1;
         Joins {
-            context,
+            rule,
             residents: true,
             bye,
         }
     }
 
     /// The moved-down players and the residents whom they may meet.
-    pub(crate) fn of_moved_down(context: &'b Context<'a>) -> Joins<'a, 'b>
-        ensures { result ≡ joins_of_moved_down context.now.facts context.now.reached }
+    pub(crate) fn of_moved_down(rule: ByNumber<'a>) -> Joins<'a>
+        ensures { result ≡ joins_of_moved_down rule.entry.field.now rule.entry.reached.now }
     {
         Joins {
-            context,
+            rule,
             residents: false,
             bye: false,
         }
@@ -64,33 +62,33 @@ impl<'a, 'b> Joins<'a, 'b> {
     fn is_moved_down(&self, a: u16) -> bool
         ensures { result ≡ nat_le a self.now.reached.mdps }
     {
-        usize::from(a) <= self.context.reached().mdps()
+        usize::from(a) <= self.rule.reached.mdps()
     }
 
     fn may_pair(&self, a: u16, b: u16) -> bool
         ensures { result ≡ may_pair self.now a b }
     {
-        self.context.rule().may_meet(a, b)
+        self.rule.may_meet(a, b)
             && go_together(self.residents, self.is_moved_down(a), self.is_moved_down(b))
     }
 
     fn takes_bye(&self, a: u16) -> bool
         ensures { result ≡ takes_bye self.now a }
     {
-        self.bye && !self.is_moved_down(a) && self.context.rule().may_be_left(a)
+        self.bye && !self.is_moved_down(a) && self.rule.may_be_left(a)
     }
 
     /// The most pairs by the labels of a matching, if they are a barrier: who is left over for want of blockers is in none.
     pub(crate) fn most_pairs(&self, found: &Found) -> usize
         ensures { AreAtMost self.now result }
     {
-        let count = self.context.len();
+        let count = self.rule.len();
         let numbers = numbered_from(1, count);
         count.saturating_sub(least_left(&found.labels, found.most, self, &numbers)) / 2
     }
 }
 
-impl<'a, 'b> Graph for Joins<'a, 'b> {
+impl<'a> Graph for Joins<'a> {
     ghost use Rattle.dutch_pair.specs.Joins.{vertices, joined};
 
     ghost vertices = { vertices };
@@ -98,7 +96,7 @@ impl<'a, 'b> Graph for Joins<'a, 'b> {
     ghost joined = { joined };
 
     fn size(&self) -> u16 {
-        self.context.len() as u16 + 1
+        self.rule.len() as u16 + 1
     }
 
     fn joins(&self, a: u16, b: u16) -> bool {
@@ -113,7 +111,7 @@ impl<'a, 'b> Graph for Joins<'a, 'b> {
 }
 
 // (for a barrier only who may be in a pair counts)
-impl<'a, 'b> dual::Rule for Joins<'a, 'b> {
+impl<'a> dual::Rule for Joins<'a> {
     ghost use Rattle.dutch_pair.specs.Joins.{pairs_cost_nothing};
 
     ghost costs = { pairs_cost_nothing };

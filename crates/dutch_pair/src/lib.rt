@@ -59,6 +59,7 @@ mod remembered;
 mod rest;
 mod round;
 mod scale;
+mod scope;
 mod seated;
 pub mod seats;
 mod shape;

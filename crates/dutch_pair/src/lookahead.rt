@@ -2,22 +2,30 @@
 //
 // All residents of the next bracket have one score, so within a shape the PSD depends on the scores of S1 alone, and article D lists
 // the sets with the higher scores first: the first candidate has the least PSD, and no other one is looked at.
-ghost use Rattle.std.specs.Prelude.{◌≡◌, map, ℕ, slice_index, ◌≤◌, MatchOption};
+//
+// Most shapes are found at once by listing candidates. But a listing that must rule out one pair more may be very
+// long, so after few steps matchings are asked, which soon tell that no candidate has more.
+ghost use Rattle.std.specs.Prelude.{◌≡◌, map, ℕ, slice_index, ◌≤◌, MatchOption, Some};
 ghost use Rattle.std.specs.Result.{MatchResult};
 ghost use Rattle.dutch_pair.specs.Seated.{seat_of};
 ghost use Rattle.dutch_pair.specs.declared.reached.BracketKind.TheVariants.{Ordinary};
-ghost use Rattle.dutch_pair.specs.Reached.{IsOf};
+ghost use Rattle.dutch_pair.specs.Reached.{IsOf, frame_of};
+ghost use Rattle.dutch_pair.specs.Joins.{IsAlwaysShape};
+ghost use Rattle.dutch_pair.specs.Shapes.{IsFound};
 ghost use Rattle.dutch_pair.specs.QualityIn.{quality_in};
-ghost use Rattle.dutch_pair.specs.NextBracket.{IsOfBracket, IsFlat, AreLeft, IsNext, next_bracket, value_in, value_of, quality};
-ghost use Rattle.dutch_order.specs.Steps.{Spends};
+ghost use Rattle.dutch_pair.specs.NextBracket.{IsOfBracket, IsFlat, AreLeft, IsNext, legal_by, next_bracket, value_in, value_of, quality};
+ghost use Rattle.dutch_order.specs.Steps.{MatchFound, Spends};
 
 use crate::differences::fill_psd;
-use crate::greatest::{Legal, Lister, greatest_shape};
+use crate::greatest::{Legal, Lister, Shapes, greatest_shape};
 use crate::quality::{NextValue, Quality, Room, fill_quality};
-use crate::reached::{BracketKind, Reached, push_all};
+use crate::reached::{BracketKind, ByNumber, Reached, push_all};
 use crate::seated::{by_seats, seats_of};
-use dutch_order::{Budget, Candidate, Numbers, Stopped};
+use crate::shape::told_by_few_steps;
+use crate::told_shape::told_by_matchings;
+use dutch_order::{Budget, Candidate, Numbers, Shape, Stopped};
 use dutch_player::Field;
+use std::alloc::Global;
 
 /// Scores are such as a `u16` holds.
 fn are_small(scores: &[u16])
@@ -26,10 +34,85 @@ fn are_small(scores: &[u16])
     let _count = scores.len();
 }
 
-/// What a bracket can be (C.7). (Apart from its caller, as a lister is large.)
+/// The shape of a bracket, as matchings tell it. None says that they do not, or that there is no memory for them.
+fn shape_by_matchings(
+    alloc: Option<Global>,
+    rule: ByNumber<'_>,
+    budget: &mut Budget,
+) -> Result<Option<Shape>, Stopped>
+    requires within { budget.old.used ≤ budget.old.limit }
+    ensures answer { MatchFound result (IsAlwaysShape rule.entry.field.now rule.entry.reached.now) (Unit {0})
+        (budget.new.used ≡ budget.new.limit) }
+    ensures spends { Spends budget.old budget.new }
+{
+    let Some(alloc) = alloc else {
+        return Ok(None);
+    };
+    match told_by_matchings(alloc, rule, budget)? {
+        Some(told) => Ok(told.shape),
+        None => Ok(None),
+    }
+}
+
+/// The greatest shape of a bracket, as matchings tell it. Its first arrangement is drawn. None says that they do not.
+fn drawn_by_matchings<'b>(
+    alloc: Option<Global>,
+    legal: &Legal<'_, ByNumber<'b>>,
+    lister: &mut Lister<'_, ByNumber<'b>>,
+    budget: &mut Budget,
+) -> Result<Option<Shape>, Stopped>
+    requires frame { legal.now.bracket.now ≡ frame_of legal.now.rule.now.field.now legal.now.rule.now.reached.now }
+    requires lists { (lister.old.listing.frame ≡ legal.now.bracket.now) × (lister.old.listing.rule ≡ legal.now.rule.now) }
+    requires within { budget.old.used ≤ budget.old.limit }
+    ensures answer { MatchFound result
+        (λ shape. IsFound (legal_by legal.now.rule.now.field.now legal.now.rule.now.reached.now legal.now.bracket.now)
+        legal.now.bracket.now (Some shape) lister.new.drawn)
+        (Unit {0})
+        (budget.new.used ≡ budget.new.limit) }
+    ensures lists { (lister.new.listing.frame ≡ legal.now.bracket.now) × (lister.new.listing.rule ≡ legal.now.rule.now) }
+    ensures spends { Spends budget.old budget.new }
+{
+    let Some(shape) = shape_by_matchings(alloc, *legal.rule, budget)? else {
+        return Ok(None);
+    };
+    if !legal.first(lister, shape, budget)? {
+        return Ok(None);
+    }
+    Ok(Some(shape))
+}
+
+/// The greatest shape of a bracket, the first arrangement of which is drawn: by a listing of few steps, then by
+/// matchings if they can be had, and where they do not tell it, by the whole listing, which may take very many steps.
+fn greatest_drawn<'b>(
+    alloc: Option<Global>,
+    legal: &Legal<'_, ByNumber<'b>>,
+    lister: &mut Lister<'_, ByNumber<'b>>,
+    budget: &mut Budget,
+) -> Result<Option<Shape>, Stopped>
+    requires frame { legal.now.bracket.now ≡ frame_of legal.now.rule.now.field.now legal.now.rule.now.reached.now }
+    requires lists { (lister.old.listing.frame ≡ legal.now.bracket.now) × (lister.old.listing.rule ≡ legal.now.rule.now) }
+    requires within { budget.old.used ≤ budget.old.limit }
+    ensures answer { MatchResult result
+        (λ found. IsFound (legal_by legal.now.rule.now.field.now legal.now.rule.now.reached.now legal.now.bracket.now)
+        legal.now.bracket.now found lister.new.drawn)
+        (λ _. budget.new.used ≡ budget.new.limit) }
+    ensures spends { Spends budget.old budget.new }
+{
+    if let Some(found) = told_by_few_steps(legal, lister, budget)? {
+        return Ok(found);
+    }
+    if let Some(shape) = drawn_by_matchings(alloc, legal, lister, budget)? {
+        return Ok(Some(shape));
+    }
+    greatest_shape(legal, lister, budget)
+}
+
+/// What a bracket can be (C.7). It is found sooner where there is memory for matchings. (Apart from its caller, as a
+/// lister is large.)
 #[inline(never)]
 #[tactic(auto, unfolding(crate::specs::NextBracket::value_of))]
 pub(crate) fn value_of(
+    alloc: Option<Global>,
     field: &Field,
     reached: &Reached,
     budget: &mut Budget,
@@ -48,7 +131,7 @@ pub(crate) fn value_of(
         rule: &rule,
     };
     let mut lister = Lister::new(&bracket, &rule);
-    let Some(shape) = greatest_shape(&legal, &mut lister, budget)? else {
+    let Some(shape) = greatest_drawn(alloc, &legal, &mut lister, budget)? else {
         return Ok(NextValue::none());
     };
     let first = by_seats(field, reached.seats(), &lister.drawn);
@@ -63,6 +146,8 @@ pub(crate) fn value_of(
 /// A bracket of a field above the next lower scoregroup.
 #[derive(Drop)]
 pub(crate) struct Above<'a> {
+    /// For matchings, where there is memory for them.
+    pub(crate) alloc: Option<Global>,
     pub(crate) field: &'a Field,
     pub(crate) reached: &'a Reached,
     pub(crate) next: &'a [u16],
@@ -101,7 +186,7 @@ pub(crate) fn value_below(
         (λ _. budget.new.used ≡ budget.new.limit) }
     ensures spends { Spends budget.old budget.new }
 {
-    value_of(above.field, &next_bracket(above, down), budget)
+    value_of(above.alloc, above.field, &next_bracket(above, down), budget)
 }
 
 /// The value of the next bracket for a candidate (C.7), which counts only in ordinary brackets.
@@ -143,6 +228,7 @@ pub fn quality(
     ensures spends { Spends budget.old budget.new }
 {
     let above = Above {
+        alloc: None,
         field,
         reached,
         next,

@@ -109,6 +109,33 @@ impl Outlook {
         }
     }
 
+    /// What counts alone tell of it.
+    #[tactic(auto, using(crate::proofs::C07Outlook::none_counts))]
+    pub(crate) fn by_counts(context: &Context<'_>, shape: Shape) -> Outlook
+        requires { Fits (frame_of context.now.facts context.now.reached) shape }
+        ensures { IsOutlook context.now.facts context.now.reached context.now.lower shape result }
+    {
+        match context.reached().kind() {
+            BracketKind::Ordinary => Outlook::ordinary_by_counts(context, shape),
+            BracketKind::Last | BracketKind::Penultimate | BracketKind::Collapsed => Outlook {
+                first: None,
+                any: NextValue::none(),
+            },
+        }
+    }
+
+    /// What counts alone tell of it in an ordinary bracket.
+    #[tactic(auto, using(crate::proofs::C07Outlook::by_counts))]
+    fn ordinary_by_counts(context: &Context<'_>, shape: Shape) -> Outlook
+        requires ordinary { context.now.reached.kind ≡ Ordinary }
+        requires fits { Fits (frame_of context.now.facts context.now.reached) shape }
+        ensures { IsOutlook context.now.facts context.now.reached context.now.lower shape result }
+    {
+        let _reached = context.reached();
+        let any = value_by_counts(context, shape);
+        Outlook { first: None, any }
+    }
+
     /// The same in an ordinary bracket.
     #[inline(never)]
     #[tactic(auto, using(crate::proofs::C07Outlook::by_counts, crate::proofs::C07Outlook::by_ghosts, crate::proofs::C07Outlook::flat_residents))]

@@ -226,3 +226,13 @@ impl<'a> Rule for ByNumber<'a> {
         self.reached.has(a) && self.field.may_bye(self.reached.seat(a))
     }
 }
+
+impl<'a> ByNumber<'a> {
+    /// How many players the bracket has.
+    pub(crate) fn len(&self) -> usize
+        ensures value { result ≡ length self.now.reached.now.seats }
+        ensures few { result ≤ LIMIT }
+    {
+        self.reached.seats().len()
+    }
+}

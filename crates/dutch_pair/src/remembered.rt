@@ -46,6 +46,8 @@ type Values = LruCache<Numbers, NextValue>;
 /// The values of the next bracket for downfloaters of one ordinary bracket, of which the last used are kept.
 #[derive(Drop)]
 pub struct LookAhead<'a> {
+    // for matchings of the next bracket
+    alloc: Global,
     field: &'a Field,
     reached: &'a Reached,
     next: Seats,
@@ -144,6 +146,7 @@ impl<'a> LookAhead<'a> {
         let mut seats = Seats::new();
         push_all(next, &mut seats);
         Ok(LookAhead {
+            alloc,
             field,
             reached,
             next: seats,
@@ -163,6 +166,7 @@ impl<'a> LookAhead<'a> {
         ensures spends { Spends budget.old budget.new }
     {
         let above = Above {
+            alloc: Some(self.alloc),
             field: self.field,
             reached: self.reached,
             next: &self.next,

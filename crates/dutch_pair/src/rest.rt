@@ -2,24 +2,27 @@
 // C.8 to C.19).
 //
 // A pair costs half of what it weighs: whoever looks for the matching counts all costs twice. Whoever is left over costs so much more that
-// as many pairs are made as can be.
+// as many pairs are made as can be; and far more whoever is in a pair in all arrangements that are looked at.
 ghost use Rattle.std.specs.Prelude.{◌≡◌, ◌≤◌, All, IfOk, length};
 ghost use Rattle.dutch_order.specs.declared.numbers.TheConstants.{LIMIT};
 ghost use Rattle.dutch_pair.specs.WeightTables.{IsNumber};
 
 use crate::context::Context;
+use crate::scope::Scoped;
 use crate::seated::Pair;
-use crate::weighing::Weighing;
 use cheapest::Costs;
 use dual::Rule;
 use std::alloc::{AllocError, Global};
 use std::marker::Model;
 use wide::Wide;
 
+/// Whoever is in a pair in all arrangements is left over at so many times what it costs others.
+const NEVER_LEFT: u32 = 2048;
+
 /// The players of a bracket who are in none of some pairs.
 #[derive(Drop)]
 pub(crate) struct Rest<'a, 'b> {
-    weighing: &'b Weighing<'a>,
+    scoped: &'b Scoped<'a, 'b>,
     // the vertices, by number
     numbers: Vec<u16>,
     // what it costs to be left over, beside half of the weight
@@ -31,9 +34,9 @@ impl<'a, 'b> Model for Rest<'a, 'b> {
 
     ghost Value = { Rest };
 
-    ghost view = { λ r. record { weighing = r.weighing.now; numbers = r.numbers.items } };
+    ghost view = { λ r. record { scoped = r.scoped.now; numbers = r.numbers.items } };
 
-    ghost invariant = { λ r. IsRest (record { weighing = r.weighing.now; numbers = r.numbers.items }) };
+    ghost invariant = { λ r. IsRest (record { scoped = r.scoped.now; numbers = r.numbers.items }) };
 }
 
 /// Whether a number is in one of some pairs.
@@ -61,13 +64,13 @@ fn numbers_beside(context: &Context<'_>, pairs: &[Pair]) -> Result<Vec<u16>, All
 impl<'a, 'b> Rest<'a, 'b> {
     /// The players who are in none of some pairs of numbers. To be left over costs so much beside half of the weight.
     pub(crate) fn beside(
-        weighing: &'b Weighing<'a>,
+        scoped: &'b Scoped<'a, 'b>,
         pairs: &[Pair],
         alone: Wide,
     ) -> Result<Rest<'a, 'b>, AllocError> {
-        let numbers = numbers_beside(weighing.context(), pairs)?;
+        let numbers = numbers_beside(scoped.weighing().context(), pairs)?;
         Ok(Rest {
-            weighing,
+            scoped,
             numbers,
             alone,
         })
@@ -99,17 +102,20 @@ impl<'a, 'b> Costs for Rest<'a, 'b> {
 
     fn cost(&self, a: u16, b: u16) -> Option<Wide> {
         let (a, b) = (self.numbers[usize::from(a)], self.numbers[usize::from(b)]);
-        if !self.weighing.may_meet(a, b) {
+        if !self.scoped.may_meet(a, b) {
             return None;
         }
-        Some(self.weighing.weight(a, b).halved())
+        Some(self.scoped.weight(a, b).halved())
     }
 
     fn left_cost(&self, a: u16) -> Option<Wide> {
         let a = self.numbers[usize::from(a)];
-        if !self.weighing.may_be_left(a) {
+        if self.scoped.must_meet(a) {
+            return self.alone.times(NEVER_LEFT);
+        }
+        if !self.scoped.may_be_left(a) {
             return None;
         }
-        self.weighing.left_cost(a).halved().plus(self.alone)
+        self.scoped.left_cost(a).halved().plus(self.alone)
     }
 }

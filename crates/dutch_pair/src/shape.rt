@@ -4,10 +4,10 @@ ghost use Rattle.std.specs.Result.{MatchResult};
 ghost use Rattle.dutch_order.specs.Arrangements.{Fits};
 ghost use Rattle.dutch_order.specs.Steps.{MatchDrawn, MatchFound, Spends};
 ghost use Rattle.dutch_pair.specs.Eligible.{Lists};
-ghost use Rattle.dutch_pair.specs.Joins.{IsMost};
+ghost use Rattle.dutch_pair.specs.Joins.{IsAlwaysShape, IsMost};
 ghost use Rattle.dutch_pair.specs.Reached.{frame_of};
 ghost use Rattle.dutch_pair.specs.Round.{eligible, shape_of};
-ghost use Rattle.dutch_pair.specs.Shapes.{first_with, fits, shapes_with};
+ghost use Rattle.dutch_pair.specs.Shapes.{IsFound, first_with, fits, shapes_with};
 
 use crate::context::Context;
 use crate::eligible::{at_most, first_eligible};
@@ -15,7 +15,7 @@ use crate::greatest::{Lister, Shapes, greatest_shape};
 use crate::reached::ByNumber;
 use crate::takers::can_go_out;
 use crate::told_shape::{Told, told_by_matchings};
-use dutch_order::{Bracket, Budget, Shape, Stopped};
+use dutch_order::{Bracket, Budget, Rule, Shape, Stopped};
 
 impl<'a, 'b> Shapes<ByNumber<'b>> for Context<'a> {
     ghost use Rattle.dutch_pair.specs.Eligible.{Lists};
@@ -34,8 +34,9 @@ impl<'a, 'b> Shapes<ByNumber<'b>> for Context<'a> {
         self.frame()
     }
 
-    // So many pairs leave so many downfloaters. If that many cannot be paired out with the lower players, whoever they are, no candidate of a
-    // penultimate bracket can be chosen (C.4).
+    // So many pairs leave so many downfloaters. If that many cannot be paired out with the lower players, whoever they
+    // are, no candidate of a penultimate bracket can be chosen (C.4). To rule this out may take very many steps, so only
+    // a part of those that are left goes into it.
     fn may_have(&self, pairs: usize, budget: &mut Budget) -> Result<bool, Stopped>
         requires small { 2 * pairs ≤ length (frame_of self.now.facts self.now.reached).scores }
         requires within { budget.old.used ≤ budget.old.limit }
@@ -47,7 +48,14 @@ impl<'a, 'b> Shapes<ByNumber<'b>> for Context<'a> {
         if !self.reached().kind().is_penultimate() {
             return Ok(true);
         }
-        can_go_out(self, self.len() - 2 * pairs, budget)
+        let mut some = at_most((budget.limit - budget.used) / 4, budget);
+        let told = can_go_out(self, self.len() - 2 * pairs, &mut some);
+        budget.used = some.used;
+        match told {
+            Ok(told) => Ok(told),
+            Err(Stopped) if budget.used == budget.limit => Err(Stopped),
+            Err(Stopped) => Ok(true),
+        }
     }
 
     fn first(
@@ -117,21 +125,25 @@ impl<'a, 'b, 'c> Shapes<ByNumber<'c>> for Bounded<'a, 'b> {
 /// The steps of the listing for each player that decide nearly all brackets.
 const FIRST_STEPS: u64 = 64;
 
-/// The shape by a listing of few steps. None says that they did not suffice.
-#[tactic(auto, unfolding(crate::specs::Round::shape_of))]
-fn told_by_few_steps<'b>(
-    context: &Context<'_>,
-    lister: &mut Lister<'_, ByNumber<'b>>,
+/// The greatest shape by a listing of few steps, the first arrangement of which is drawn. None says that they did not
+/// suffice.
+pub(crate) fn told_by_few_steps<R: Rule, S: Shapes<R>>(
+    asked: &S,
+    lister: &mut Lister<'_, R>,
     budget: &mut Budget,
 ) -> Result<Option<Option<Shape>>, Stopped>
-    requires lists { Lists context.now.facts context.now.reached lister.old.listing }
+    requires lists { S.lists asked.now lister.old.listing }
     requires within { budget.old.used ≤ budget.old.limit }
-    ensures answer { MatchFound result (λ shape. shape_of context.now.facts context.now.reached context.now.lower ≡ shape) (Unit {0}) (budget.new.used ≡ budget.new.limit) }
-    ensures lists { Lists context.now.facts context.now.reached lister.new.listing }
+    ensures answer { MatchFound result
+        (λ found. IsFound (S.counting asked.now) (S.frame asked.now) found lister.new.drawn)
+        (Unit {0})
+        (budget.new.used ≡ budget.new.limit) }
+    ensures lists { S.lists asked.now lister.new.listing }
     ensures spends { Spends budget.old budget.new }
 {
-    let mut few = at_most(FIRST_STEPS * context.len() as u64, budget);
-    let found = greatest_shape(context, lister, &mut few);
+    let steps = FIRST_STEPS.saturating_mul(asked.bracket().len() as u64);
+    let mut few = at_most(steps, budget);
+    let found = greatest_shape(asked, lister, &mut few);
     budget.used = few.used;
     match found {
         Ok(shape) => Ok(Some(shape)),
@@ -149,7 +161,7 @@ fn found_within<'b>(
     budget: &mut Budget,
 ) -> Result<Option<Shape>, Stopped>
     requires most { IsMost context.now.facts context.now.reached told.most }
-    requires shape { IfSome told.shape (λ shape. shape_of context.now.facts context.now.reached context.now.lower ≡ Some shape) }
+    requires shape { IfSome told.shape (IsAlwaysShape context.now.facts context.now.reached) }
     requires lists { Lists context.now.facts context.now.reached lister.old.listing }
     requires within { budget.old.used ≤ budget.old.limit }
     ensures answer { MatchResult result (λ shape. shape_of context.now.facts context.now.reached context.now.lower ≡ shape) (λ _. budget.new.used ≡ budget.new.limit) }
@@ -181,7 +193,7 @@ fn found_shape<'b>(
     if let Some(shape) = told_by_few_steps(context, lister, budget)? {
         return Ok(shape);
     }
-    if let Some(told) = told_by_matchings(context, budget)? {
+    if let Some(told) = told_by_matchings(context.alloc(), context.rule(), budget)? {
         return found_within(context, told, lister, budget);
     }
     greatest_shape(context, lister, budget)

@@ -383,6 +383,9 @@ impl<'a, 'k> Bound for Skipper<'a, 'k> {
         if is_barred(self.pass, prefix) {
             return true;
         }
+        if self.weights.is_some() {
+            room.scope.note(prefix);
+        }
         // then all others are of interest
         if self.pass.aim.is_none() && self.kept.is_none() {
             return false;

@@ -3,14 +3,18 @@
 // A walk goes through beginnings in order. So all beginnings between two of them have the pairs that both have in common.
 ghost use Rattle.std.specs.Prelude.{◌≤◌, length};
 
+use crate::scope::Scope;
 use crate::seated::Pair;
 use std::alloc::{AllocError, Global};
 
-/// The pairs of a beginning by number, and behind how many of them a floor was asked for that did not rule them out.
+/// The pairs of a beginning by number, and behind how many of them a floor was asked for that did not rule them out. And
+/// for which arrangements it was asked, when, and in how many steps.
 #[derive(Drop)]
 pub(crate) struct Trail {
+    scope: Scope,
     pairs: Vec<Pair>,
     asked: usize,
+    told_at: u64,
     steps: u64,
 }
 
@@ -47,15 +51,28 @@ impl Trail {
     /// The trail of a walk that did not begin.
     pub(crate) fn new(alloc: Global) -> Trail {
         Trail {
+            scope: Scope::all(),
             pairs: Vec::new(alloc),
             asked: 0,
+            told_at: 0,
             steps: 0,
         }
     }
 
-    /// How many steps a walk makes before it is told more: the more, the dearer the last answer was.
-    pub(crate) fn patience(&self, players: usize) -> u64 {
-        (self.steps / 4).max((players as u64).saturating_mul(16))
+    /// How many steps a walk still makes before it is told more, that has made so many: the more, the dearer the last
+    /// answer was.
+    pub(crate) fn patience(&self, players: usize, made: u64) -> u64 {
+        let steps = (self.steps / 4).max((players as u64).saturating_mul(16));
+        self.told_at.saturating_add(steps).saturating_sub(made)
+    }
+
+    /// Goes on in the arrangements of a scope: anew, if they are others than before.
+    pub(crate) fn turn_to(&mut self, scope: &Scope) {
+        if !self.scope.is(scope) {
+            self.scope = scope.copied();
+            self.pairs.clear();
+            self.asked = 0;
+        }
     }
 
     /// Where a walk is stuck that is at the beginning with these pairs: behind those that stood since it was told last. If that is where it was
@@ -76,10 +93,15 @@ impl Trail {
         }
     }
 
-    /// Goes on from where a walk is, behind so many of whose pairs a floor did not rule them out. The answers took so many steps.
-    pub(crate) fn go_on(&mut self, pairs: Vec<Pair>, asked: usize, steps: u64) {
+    /// Goes on from where a walk is, behind so many of whose pairs a floor did not rule them out.
+    pub(crate) fn go_on(&mut self, pairs: Vec<Pair>, asked: usize) {
         self.pairs = pairs;
         self.asked = asked;
-        self.steps = steps;
+    }
+
+    /// Notes that a walk was told more between two numbers of steps.
+    pub(crate) fn note(&mut self, from: u64, to: u64) {
+        self.told_at = to;
+        self.steps = to.saturating_sub(from);
     }
 }

@@ -12,6 +12,7 @@ use crate::begun::fixed_lists;
 use crate::context::Context;
 use crate::quality::Quality;
 use crate::scale::Scale;
+use crate::scope::{Scope, Scoped};
 use crate::trail::Trail;
 use crate::weighing::Weighing;
 use dual::{Floor, Table};
@@ -33,12 +34,27 @@ pub(crate) struct Bar {
     above: Wide,
 }
 
-/// Floors of a bracket and a shape by weight, each by a certificate that was checked.
+/// A floor by a certificate that was checked, and which arrangements it is for.
+#[derive(Drop)]
+pub(crate) struct ScopedFloor {
+    pub(crate) scope: Scope,
+    pub(crate) floor: Floor,
+}
+
+impl Model for ScopedFloor {
+    ghost use Rattle.dutch_pair.specs.WeightFloors.{ScopedFloor};
+
+    ghost Value = { ScopedFloor };
+
+    ghost view = { λ f. record { scope = f.scope; floor = f.floor } };
+}
+
+/// Floors of a bracket and a shape by weight.
 #[derive(Drop)]
 pub(crate) struct WeightFloors<'a> {
     pub(crate) weighing: Weighing<'a>,
     shape: Shape,
-    pub(crate) floors: Vec<Floor>,
+    pub(crate) floors: Vec<ScopedFloor>,
     pub(crate) trail: Trail,
 }
 
@@ -123,10 +139,10 @@ fn plus_left(floor: &Floor, mdps: usize, prefix: &Prefix<'_>, sum: Wide) -> Opti
     }
 }
 
-/// What a floor says behind a beginning; none if it does not fit.
+/// What a floor says behind a beginning; none if that is nothing, or if it does not fit.
 fn bound_behind(floor: &Floor, mdps: usize, prefix: &Prefix<'_>) -> Option<Wide>
     requires { mdps ≤ LIMIT }
-    ensures { IfSome result (λ n. n ≡ bound_behind floor.now mdps prefix.now) }
+    ensures { IfSome result (λ n. n + floor.now.debt ≡ bound_behind floor.now mdps prefix.now) }
 {
     let begun = fixed_lists(prefix);
     let Some(first) = plus_pairs(floor, begun.s1, begun.s2, floor.base()) else {
@@ -135,11 +151,14 @@ fn bound_behind(floor: &Floor, mdps: usize, prefix: &Prefix<'_>) -> Option<Wide>
     let Some(second) = plus_pairs(floor, begun.s1r, begun.s2r, first) else {
         return None;
     };
-    plus_left(floor, mdps, prefix, second)
+    let Some(all) = plus_left(floor, mdps, prefix, second) else {
+        return None;
+    };
+    all.minus(floor.debt())
 }
 
 /// Lets the oldest floor but the first one go if there is no room for one more.
-fn make_room(floors: &mut Vec<Floor>)
+fn make_room(floors: &mut Vec<ScopedFloor>)
     ensures { (w : Weighed) → All (IsWeightFloor w) floors.old.items → All (IsWeightFloor w) floors.new.items }
 {
     if floors.len() >= KEPT {
@@ -148,7 +167,7 @@ fn make_room(floors: &mut Vec<Floor>)
 }
 
 /// Keeps one floor more.
-fn keep(floors: &mut Vec<Floor>, floor: Floor) -> Result<(), AllocError>
+fn keep(floors: &mut Vec<ScopedFloor>, floor: ScopedFloor) -> Result<(), AllocError>
     ensures { (w : Weighed) → All (IsWeightFloor w) floors.old.items → IsWeightFloor w floor → All (IsWeightFloor w) floors.new.items }
 {
     make_room(floors);
@@ -232,9 +251,9 @@ impl<'a> WeightFloors<'a> {
         self.weighing.scale().width() <= MOST_BITS
     }
 
-    /// How many steps a walk makes before it is told more.
-    pub(crate) fn patience(&self) -> u64 {
-        self.trail.patience(self.weighing.context().len())
+    /// How many steps a walk still makes before it is told more, that has made so many.
+    pub(crate) fn patience(&self, made: u64) -> u64 {
+        self.trail.patience(self.weighing.context().len(), made)
     }
 
     /// How many players the matchings leave over.
@@ -248,14 +267,27 @@ impl<'a> WeightFloors<'a> {
             .saturating_sub(self.shape.pairs)
     }
 
-    /// Checks a certificate, and keeps its floor in place of the oldest but the first one if there is no room. A no says that it gives none.
-    pub(crate) fn put(&mut self, table: &Table) -> Result<bool, AllocError>
-        ensures { self.new ≡ self.old }
+    /// Checks a certificate for the arrangements of a scope. None says that it gives no floor.
+    fn check(&self, table: &Table, scope: &Scope) -> Result<Option<ScopedFloor>, AllocError>
+        ensures { IfOk result (λ found. IfSome found (IsWeightFloor self.now)) }
     {
         let context = self.weighing.context();
         let players = numbered_from(1, context.len());
         let left = self.left();
-        let Some(floor) = table.floor(context.alloc(), &self.weighing, &players, left)? else {
+        let scoped = Scoped::new(&self.weighing, scope);
+        let Some(floor) = table.floor(context.alloc(), &scoped, &players, left)? else {
+            return Ok(None);
+        };
+        let scope = scope.copied();
+        Ok(Some(ScopedFloor { scope, floor }))
+    }
+
+    /// Checks a certificate for the arrangements of a scope, and keeps its floor in place of the oldest but the first one
+    /// if there is no room. A no says that it gives none.
+    pub(crate) fn put(&mut self, table: &Table, scope: &Scope) -> Result<bool, AllocError>
+        ensures { self.new ≡ self.old }
+    {
+        let Some(floor) = self.check(table, scope)? else {
             return Ok(false);
         };
         keep(&mut self.floors, floor)?;
@@ -289,14 +321,19 @@ impl<'a> WeightFloors<'a> {
         self.floors.len()
     }
 
-    /// The bound that the floor at a place gives behind a beginning; none if there is none there, or if it does not fit.
+    /// The bound that the floor at a place gives behind a beginning; none if there is none there, or if it tells
+    /// nothing.
     pub(crate) fn least_by(&self, place: usize, prefix: &Prefix<'_>) -> Option<Wide>
         ensures { IfSome result (IsLeast self.now prefix.now) }
     {
         if place >= self.floors.len() {
             return None;
         }
+        let kept = &self.floors[place];
+        if !kept.scope.covers(prefix) {
+            return None;
+        }
         let mdps = self.weighing.context().reached().mdps();
-        bound_behind(&self.floors[place], mdps, prefix)
+        bound_behind(&kept.floor, mdps, prefix)
     }
 }

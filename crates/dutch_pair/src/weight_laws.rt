@@ -1,6 +1,6 @@
 // Laws of the weight of a candidate: its items that are sums, C.6 and C.8 to C.19, as the digits of one number (C.04.3). A certificate bounds
 // it for all candidates with a beginning, and that bound is a floor: a quality that none of them is better than.
-ghost use Rattle.std.specs.Prelude.{◌≡◌, ◌-◌, ◌*◌, ◌<◌, ◌≤◌, ◌||◌, ℕ, List, true, false, length, nat_lt};
+ghost use Rattle.std.specs.Prelude.{◌≡◌, ◌+◌, ◌-◌, ◌*◌, ◌<◌, ◌≤◌, ◌||◌, ℕ, List, true, false, length, nat_lt};
 ghost use Rattle.dual.specs.Duals.{Certificate, IsFeasible};
 ghost use Rattle.dutch_order.specs.declared.bracket.Shape.{Shape};
 ghost use Rattle.dutch_order.specs.Arrangements.{Arrangement, Fits, down};
@@ -16,6 +16,7 @@ ghost use Rattle.dutch_pair.specs.QualityIn.{next_in};
 ghost use Rattle.dutch_pair.specs.Reached.{IsOf, Reached, frame_of};
 ghost use Rattle.dutch_pair.specs.Round.{candidates_of, quality_of};
 ghost use Rattle.dutch_pair.specs.Weights.{HasDigits, IsOn, IsScale, Scale, above_psd, least_weight, number_pairs, numbers, weighing, weight_of};
+ghost use Rattle.dutch_pair.specs.Scopes.{Covers, Scope, costs_in};
 ghost use Rattle.dutch_pair.specs.WeightFloors.{bound_behind};
 ghost use Rattle.dual.specs.Floors.{FloorTable, IsFloor};
 ghost use Rattle.dual.specs.Matchings.{cost};
@@ -78,14 +79,17 @@ pub fn a_beginning_has_a_floor_by_weight()
         → next_in f ≡ awaited facts reached shape outlook b.filling (fixed_lists b).s1 → is_better (quality_of facts reached lower a) f ≡ false }
 {}
 
-/// C.6, C.8 to C.19: no candidate behind a beginning weighs less than a floor says: its base, and what the pairs of the beginning and the
-/// moved-down players outside of S1 add, each once.
+/// C.6, C.8 to C.19: no candidate behind a beginning weighs less than a floor says that is for all arrangements with that
+/// beginning: its base, and what the pairs of the beginning and the moved-down players outside of S1 add, each once,
+/// without its debt.
 #[tactic(auto, using(crate::proofs::WeightsBehind::weighs_more))]
 pub fn a_floor_bounds_the_weight()
     ensures { (facts : Facts) (reached : Reached) (scale : Scale) (lower : List ℕ) (shape : Shape) (a : Arrangement) → IsOf facts reached
         → Fits (frame_of facts reached) shape → IsIn a (candidates_of facts reached shape) → (b : Beginning) → Begins b a
-        → (floor : FloorTable) → IsFloor (weighing facts reached scale) (numbers reached) (length reached.seats - 2 * shape.pairs) floor
-        → bound_behind floor reached.mdps b ≤ weight_of scale (quality_of facts reached lower a) }
+        → (scope : Scope) → Covers scope b → (floor : FloorTable)
+        → IsFloor (costs_in (record { weighing = record { facts = facts; reached = reached; scale = scale }; scope = scope }))
+        (numbers reached) (length reached.seats - 2 * shape.pairs) floor
+        → bound_behind floor reached.mdps b ≤ floor.debt + weight_of scale (quality_of facts reached lower a) }
 {}
 
 /// C.6 to C.19: a quality is better than a candidate that weighs more and has no better value of the next bracket.

@@ -14,7 +14,7 @@ by_seats-first-requires-clause-candidate c =
     let facts = c.args.field.now in
     let reached = c.args.reached.now in
     let shape = c.in-Some.shape in
-    let first = c.greatest_shape.new.lister.drawn in
+    let first = c.greatest_drawn.new.lister.drawn in
     let known = greatest_as facts c.rule-rule.result.field.now reached c.rule-rule.result.reached.now c.frame-bracket.result shape first
     c.rule-rule.ensures.field c.rule-rule.ensures.reached c.frame-bracket.ensures (MatchOption-at_some _ _ c.in-Some.shape c.in-Some.is c.in_ok-shape.ensures.answer) in
     subst (λ seats. IsCandidate seats first) (sym c.seats.ensures)
@@ -26,7 +26,7 @@ returns-clause-answer c =
     let facts = c.args.field.now in
     let reached = c.args.reached.now in
     let shape = c.in-Some.shape in
-    let first = c.greatest_shape.new.lister.drawn in
+    let first = c.greatest_drawn.new.lister.drawn in
     let known = greatest_as facts c.rule-rule.result.field.now reached c.rule-rule.result.reached.now c.frame-bracket.result shape first
     c.rule-rule.ensures.field c.rule-rule.ensures.reached c.frame-bracket.ensures (MatchOption-at_some _ _ c.in-Some.shape c.in-Some.is c.in_ok-shape.ensures.answer) in
     value_found facts reached shape first known.1.others c.fill_psd.new.numbers.items c.requires.of c.requires.flat

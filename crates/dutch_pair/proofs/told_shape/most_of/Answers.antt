@@ -8,9 +8,9 @@ use Rattle.dutch_pair.proofs.told_shape.most_of.Goals as goal
 
 pub returns : goal.returns
 returns c =
-    let facts = c.args.context.now.facts in
-    let reached = c.args.context.now.reached in
-    let within : reached.mdps ≤ length reached.seats = omega (arith, c.of_all.ensures.sound.sound.within, length-map reached.seats (score_at facts)) in
+    let facts = c.args.rule.field.now in
+    let reached = c.args.rule.reached.now in
+    let within : reached.mdps ≤ length reached.seats = omega (arith, c.args.rule.sound.sound.within, length-map reached.seats (score_at facts)) in
     most_by_barriers facts reached (joins_of_all facts reached) (joins_of_moved_down facts reached) c.most_pairs.result c.most_pairs-2.result within refl refl refl refl refl
-    (subst (λ joins. AreAtMost joins c.most_pairs.result) c.of_all.ensures.value c.most_pairs.ensures)
+    (subst (λ joins. AreAtMost joins c.most_pairs.result) c.of_all.ensures c.most_pairs.ensures)
     (subst (λ joins. AreAtMost joins c.most_pairs-2.result) c.of_moved_down.ensures c.most_pairs-2.ensures)

@@ -9,12 +9,16 @@ use Rattle.dutch_pair.proofs.told_shape.shape_by.Goals as goal
 
 pub returns : goal.returns
 returns c =
-    let facts = c.args.context.now.facts in
-    let reached = c.args.context.now.reached in
+    let facts = c.args.rule.field.now in
+    let reached = c.args.rule.reached.now in
     let partners = c.args.found.now.partners.items in
-    let again : is_penultimate reached.kind ≡ false = search rules in
+    let once : is_penultimate reached.kind ≡ false = search rules in
     let last : ends_round reached.kind ≡ true → AreMatched reached partners = search rules in
     let same : matched_shape reached partners ≡ c.args.most = search rules in
     let shape : matched_shape reached partners ≡ c.matched_shape-shape.result = search rules in
-    shape_matched facts reached c.args.context.now.lower partners c.args.most again c.reached.ensures.sound last c.requires.matching c.requires.most same
-    ∙ ap (λ (s : Shape). Some s) shape
+    record {
+      once = once;
+      always = λ lower.
+          shape_matched facts reached lower partners c.args.most once c.args.rule.sound last c.requires.matching c.requires.most same
+          ∙ ap (λ (s : Shape). Some s) shape;
+    }

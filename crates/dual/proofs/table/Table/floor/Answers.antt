@@ -1,5 +1,5 @@
 -- Each matching costs the floor at least, by weak duality.
-use Rattle.std.proofs.Common.{ℕ, List, refl, arith}
+use Rattle.std.proofs.Common.{ℕ, List, refl}
 use Rattle.dual.specs.Duals.{Certificate, IsFeasible}
 use Rattle.dual.specs.Floors.{FloorTable, IsFloorOf}
 use Rattle.dual.specs.Matchings.{Costs}
@@ -14,6 +14,7 @@ returns-clause-least g c =
     let players : List ℕ = c.args.players.now in
     let floor : FloorTable = record {
       base = c.in-Some.base;
+      debt = c.in-Some-losses.debt;
       size = c.size_for-size.result;
       extra = c.in-Some-3.extra.items;
       extra_left = c.in-Some-2.extra_left.items;
@@ -27,8 +28,9 @@ returns-clause-least g c =
       left = λ k d lt may. (bears_left.0 refl k d lt may).1;
     } in
     let told : IsFloorOf costs players c.args.left certificate floor = record {
-      base = omega (arith, c.in-Some.ensures.1);
+      base = c.in-Some.ensures.1;
+      debt = c.in-Some-losses.ensures.1;
       pairs = rows_tell costs players certificate floor c.size_for-size.ensures.above rows;
       left_over = told_left;
     } in
-    floor_least costs players c.args.left certificate floor feasible c.in-Some.ensures.0.2 told
+    floor_least costs players c.args.left certificate floor feasible told

@@ -1,55 +1,22 @@
--- The floor of a certificate is one of the bracket's weights.
-use Rattle.std.proofs.Common.{◌≡◌, ℕ, ◌-◌, ◌*◌, ◌<◌, ◌≤◌, List, All, length, Option, IfSome, sym, ap, subst, ◌∙◌, arith}
-use Rattle.dual.specs.Floors.{FloorTable, IsFloor}
-use Rattle.dutch_order.specs.Choices.{numbers_from}
-use Rattle.dutch_order.proofs.Members.{length-numbers}
-use Rattle.dutch_pair.specs.Reached.{Reached}
-use Rattle.dutch_pair.specs.WeightFloors.{Weighed}
-use Rattle.dutch_pair.specs.Weights.{weighing}
-use Rattle.dutch_pair.proofs.WeightsBehind.{floor_put, numbers_known}
+-- The floor that was checked is one of the bracket's weights in its scope.
+use Rattle.std.proofs.Common.{Option, IfSome, sym, subst}
+use Rattle.dutch_pair.specs.WeightFloors.{IsWeightFloor, ScopedFloor, Weighed}
 use Rattle.dutch_pair.proofs.weight_floor.WeightFloors.put.Goals as goal
-
-pub floor-requires-clause-known : goal.floor-requires-clause-known
-floor-requires-clause-known c =
-    let n : ℕ = length c.self.inside.weighing.reached.seats in
-    let count : c.len.result ≡ n = c.len.ensures.value ∙ ap (λ (r : Reached). length r.seats) c.context-context.ensures.reached in
-    let same : numbers_from 1 n ≡ c.deref.result.now = ap (numbers_from 1) (sym count) ∙ sym c.numbered_from-players.ensures.items ∙ sym c.deref.ensures.0 in
-    subst (λ (xs : List ℕ). All (λ a. (0 < a) × (a ≤ n)) xs) same (numbers_known n)
-
-pub floor-requires-clause-some : goal.floor-requires-clause-some
-floor-requires-clause-some c =
-    let count = c.len.ensures.value ∙ ap (λ (r : Reached). length r.seats) c.context-context.ensures.reached ∙ ap (λ (w : Weighed). length w.reached.seats) c.self.view_is in
-    omega (
-      arith,
-      c.left-left.ensures,
-      count,
-      ap length c.deref.ensures.0,
-      ap length c.numbered_from-players.ensures.items,
-      length-numbers 1 c.len.result,
-    )
 
 pub invariant_of-self : goal.invariant_of-self
 invariant_of-self c =
-    let n : ℕ = length c.self.inside.weighing.reached.seats in
-    let count : c.len.result ≡ n = c.len.ensures.value ∙ ap (λ (r : Reached). length r.seats) c.context-context.ensures.reached in
-    let same : c.deref.result.now ≡ numbers_from 1 n = c.deref.ensures.0 ∙ c.numbered_from-players.ensures.items ∙ ap (numbers_from 1) count in
     let w : Weighed = record { facts = c.self.inside.weighing.facts; reached = c.self.inside.weighing.reached; shape = c.self.inside.shape; scale = c.self.inside.weighing.scale } in
-    let left = c.left-left.ensures ∙ ap (λ (v : Weighed). length v.reached.seats - 2 * v.shape.pairs) (sym c.self.view_is) in
-    let is = subst (λ (o : Option FloorTable). IfSome o (IsFloor (weighing w.facts w.reached w.scale) c.deref.result.now c.left-left.result)) c.in-Some.is c.in_ok-floor.ensures.least in
+    let is = subst (λ (o : Option ScopedFloor). IfSome o (IsWeightFloor c.args.self.now)) c.in-Some.is c.in_ok-floor.ensures in
     record {
       high = c.self.invariant.high;
-      hold = c.keep.ensures w c.self.invariant.hold (floor_put w c.deref.result.now c.left-left.result c.in-Some.floor same left is);
+      hold = c.keep.ensures w c.self.invariant.hold (subst (λ (v : Weighed). IsWeightFloor v c.in-Some.floor) (sym c.self.view_is) is);
     }
 
 pub invariant_of-self-2 : goal.invariant_of-self-2
 invariant_of-self-2 c =
-    let n : ℕ = length c.self.inside.weighing.reached.seats in
-    let count : c.len.result ≡ n = c.len.ensures.value ∙ ap (λ (r : Reached). length r.seats) c.context-context.ensures.reached in
-    let same : c.deref.result.now ≡ numbers_from 1 n = c.deref.ensures.0 ∙ c.numbered_from-players.ensures.items ∙ ap (numbers_from 1) count in
     let w : Weighed = record { facts = c.self.inside.weighing.facts; reached = c.self.inside.weighing.reached; shape = c.self.inside.shape; scale = c.self.inside.weighing.scale } in
-    let left = c.left-left.ensures ∙ ap (λ (v : Weighed). length v.reached.seats - 2 * v.shape.pairs) (sym c.self.view_is) in
-    let is = subst (λ (o : Option FloorTable). IfSome o (IsFloor (weighing w.facts w.reached w.scale) c.deref.result.now c.left-left.result)) c.in-Some.is c.in_ok-floor.ensures.least in
+    let is = subst (λ (o : Option ScopedFloor). IfSome o (IsWeightFloor c.args.self.now)) c.in-Some.is c.in_ok-floor.ensures in
     record {
       high = c.self.invariant.high;
-      hold = c.keep.ensures w c.self.invariant.hold (floor_put w c.deref.result.now c.left-left.result c.in-Some.floor same left is);
+      hold = c.keep.ensures w c.self.invariant.hold (subst (λ (v : Weighed). IsWeightFloor v c.in-Some.floor) (sym c.self.view_is) is);
     }
