@@ -145,7 +145,7 @@ fn table(
     })
 }
 
-// The base of the floor, if there is one.
+// The base of the floor less its debt; none where that is negative, or where there is no floor.
 fn base(
     alloc: Global,
     table: &Table,
@@ -156,8 +156,10 @@ fn base(
     requires few { length players.now ≤ 65536 }
     requires some { left ≤ length players.now }
 {
-    let floor = table.floor(alloc, rule, players, left)?;
-    Ok(floor.map(|floor| floor.base()))
+    let Some(floor) = table.floor(alloc, rule, players, left)? else {
+        return Ok(None);
+    };
+    Ok(floor.base().minus(floor.debt()))
 }
 
 fn number(value: u64) -> Option<Wide> {
@@ -206,7 +208,8 @@ fn known_pairs_bring_their_slack(rt: HostRuntime) -> Result<(), Fail> {
     let Some(floor) = floor else {
         return Err(Fail::new("a floor"));
     };
-    assert_eq!(rt; floor.base(), Wide::from_u64(3));
+    assert_eq!(rt; floor.base(), Wide::from_u64(6));
+    assert_eq!(rt; floor.debt(), Wide::from_u64(3));
     for (a, b, extra) in [
         (5, 6, 2),
         (3, 4, 8),
@@ -240,13 +243,41 @@ fn one_is_left_over(rt: HostRuntime) -> Result<(), Fail> {
     Ok(())
 }
 
-// A certificate that gives away more than it gains is no floor, and none is one of which a sum does not fit.
+// 1 meets 2, for 7, and 3 is left over. A certificate that gives away more than it gains is a floor too: alone it tells
+// nothing, but a pair that is known pays its debt, and all that the pair costs is told then.
+#[test]
+fn a_known_pair_pays_the_debt(rt: HostRuntime) -> Result<(), Fail> {
+    let three = [1, 2, 3];
+    let rule = Fours {
+        near: 7,
+        leaves: 3,
+        left: 0,
+    };
+    let giving = table(rt.alloc(), &[0, 1, 1, 1], (4, 1), (&THREE, 2))?;
+    let Some(floor) = giving.floor(rt.alloc(), &rule, &three, 1)? else {
+        return Err(Fail::new("a floor"));
+    };
+    assert_eq!(rt; floor.base(), Wide::from_u64(3));
+    assert_eq!(rt; floor.debt(), Wide::from_u64(7));
+    assert!(rt; floor.base().is_less(floor.debt()));
+    assert_eq!(rt; base(rt.alloc(), &giving, &rule, &three, 1)?, None);
+    assert_eq!(rt; floor.extra(1, 2), Wide::from_u64(11));
+    assert_eq!(rt; floor.extra_left(3), Wide::zero());
+    let Some(bound) = floor.base().plus(floor.extra(1, 2)) else {
+        return Err(Fail::new("a bound"));
+    };
+    assert_eq!(rt; bound.minus(floor.debt()), number(7));
+    Ok(())
+}
+
+// Of a certificate that is not feasible there is no floor, and there is none where a sum does not fit.
 #[test]
 fn some_certificates_are_no_floor(rt: HostRuntime) -> Result<(), Fail> {
     let three = [1, 2, 3];
     let rule = leaving(3);
-    let giving = table(rt.alloc(), &[0, 1, 1, 1], (4, 0), (&THREE, 0))?;
-    assert_eq!(rt; base(rt.alloc(), &giving, &rule, &three, 1)?, None);
+    let greedy = table(rt.alloc(), &[0, 1, 1, 1], (4, 0), (&THREE, 0))?;
+    let none = greedy.floor(rt.alloc(), &rule, &three, 1)?;
+    assert!(rt; none.is_none());
     let mut great = table(rt.alloc(), &[], (0, 0), (&THREE, 0))?;
     assert_eq!(rt; base(rt.alloc(), &great, &rule, &three, 1)?, number(0));
     let half = Wide::power_of_two(255).unwrap_or(Wide::zero());
@@ -254,6 +285,7 @@ fn some_certificates_are_no_floor(rt: HostRuntime) -> Result<(), Fail> {
     for set in &mut great.sets {
         set.price = half;
     }
-    assert_eq!(rt; base(rt.alloc(), &great, &rule, &three, 1)?, None);
+    let none = great.floor(rt.alloc(), &rule, &three, 1)?;
+    assert!(rt; none.is_none());
     Ok(())
 }
