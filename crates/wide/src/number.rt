@@ -1,13 +1,14 @@
-// Numbers of two halves of 128 bits each. A carry of the lower halves goes into the upper ones.
+// Numbers of two halves of 256 bits each. A carry of the lower halves goes into the upper ones.
 ghost use Rattle.std.specs.Prelude.{◌≡◌, ◌≤◌, ◌<◌, ◌+◌, ◌-◌, ◌*◌, ◌/◌, ◌^◌, ◌↔◌, SomeIff, IsTrue};
 
+use crate::half::Half;
 use std::marker::Model;
 
-/// A natural number below 2^256.
+/// A natural number below 2^512.
 #[derive(Debug, Clone, Copy, PartialEq, Eq)]
 pub struct Wide {
-    high: u128,
-    low: u128,
+    high: Half,
+    low: Half,
 }
 
 impl Model for Wide {
@@ -18,15 +19,15 @@ impl Model for Wide {
 
     ghost Value = { ℕ };
 
-    ghost view = { λ w. w.high * 2 ^ 128 + w.low };
+    ghost view = { λ w. w.high * 2 ^ 256 + w.low };
 
-    ghost invariant = { λ w. w.low < 2 ^ 128 };
+    ghost invariant = { λ w. (w.high < 2 ^ 256) × (w.low < 2 ^ 256) };
 
-    ghost inverse = { λ n. record { high = n / 2 ^ 128; low = n % 2 ^ 128 } };
+    ghost inverse = { λ n. record { high = n / 2 ^ 256; low = n % 2 ^ 256 } };
 
     ghost inverse_ok = { λ w h i. record {
-      high = div-mul-add w.high (2 ^ 128) w.low h i;
-      low = (mul-add-mod_self_right w.high (2 ^ 128) w.low ∙ mod-eq_of_lt h) i;
+      high = div-mul-add w.high (2 ^ 256) w.low h.1 i;
+      low = (mul-add-mod_self_right w.high (2 ^ 256) w.low ∙ mod-eq_of_lt h.1) i;
     } };
 }
 
@@ -35,7 +36,10 @@ impl Wide {
     pub fn zero() -> Wide
         ensures { result ≡ 0 }
     {
-        Wide { high: 0, low: 0 }
+        Wide {
+            high: Half::zero(),
+            low: Half::zero(),
+        }
     }
 
     /// The number that a `u64` is.
@@ -43,24 +47,24 @@ impl Wide {
         ensures { result ≡ number }
     {
         Wide {
-            high: 0,
-            low: u128::from(number),
+            high: Half::zero(),
+            low: Half::from_u64(number),
         }
     }
 
-    /// 2 to the power of `bit`; none from 256 on.
+    /// 2 to the power of `bit`; none from 512 on.
     pub fn power_of_two(bit: u32) -> Option<Wide>
-        ensures { SomeIff result (bit < 256) (2 ^ bit) }
+        ensures { SomeIff result (bit < 512) (2 ^ bit) }
     {
-        if bit < 128 {
+        if bit < 256 {
             Some(Wide {
-                high: 0,
-                low: 1 << bit,
+                high: Half::zero(),
+                low: Half::power_of_two(bit),
             })
-        } else if bit < 256 {
+        } else if bit < 512 {
             Some(Wide {
-                high: 1 << (bit - 128),
-                low: 0,
+                high: Half::power_of_two(bit - 256),
+                low: Half::zero(),
             })
         } else {
             None
@@ -71,19 +75,19 @@ impl Wide {
     pub fn is_zero(self) -> bool
         ensures { IsTrue result ↔ (self ≡ 0) }
     {
-        self.high == 0 && self.low == 0
+        self.high.is_zero() && self.low.is_zero()
     }
 
     /// Whether it is less than another number.
     pub fn is_less(self, other: Wide) -> bool
         ensures { IsTrue result ↔ (self < other) }
     {
-        self.high < other.high || (self.high == other.high && self.low < other.low)
+        self.high.is_less(other.high) || (self.high == other.high && self.low.is_less(other.low))
     }
 
-    /// The sum; none if it is 2^256 or more.
+    /// The sum; none if it is 2^512 or more.
     pub fn plus(self, other: Wide) -> Option<Wide>
-        ensures { SomeIff result (self + other < 2 ^ 256) (self + other) }
+        ensures { SomeIff result (self + other < 2 ^ 512) (self + other) }
     {
         let (low, carry) = self.low.carrying_add(other.low, false);
         let (high, is_over) = self.high.carrying_add(other.high, carry);
@@ -107,9 +111,9 @@ impl Wide {
         }
     }
 
-    /// Twice the number; none if that is 2^256 or more.
+    /// Twice the number; none if that is 2^512 or more.
     pub fn doubled(self) -> Option<Wide>
-        ensures { SomeIff result (2 * self < 2 ^ 256) (2 * self) }
+        ensures { SomeIff result (2 * self < 2 ^ 512) (2 * self) }
     {
         self.plus(self)
     }
@@ -118,16 +122,12 @@ impl Wide {
     pub fn halved(self) -> Wide
         ensures { result ≡ self / 2 }
     {
-        let carried = if self.high % 2 == 1 { 1 << 127 } else { 0 };
-        Wide {
-            high: self.high / 2,
-            low: self.low / 2 + carried,
-        }
+        self.shifted_by_few(1)
     }
 
-    /// So many times the number; none if that is 2^256 or more.
+    /// So many times the number; none if that is 2^512 or more.
     pub fn times(self, count: u32) -> Option<Wide>
-        ensures { SomeIff result (self * count < 2 ^ 256) (self * count) }
+        ensures { SomeIff result (self * count < 2 ^ 512) (self * count) }
     {
         let count = u128::from(count);
         let (low, carry) = self.low.carrying_mul(count, 0);
@@ -136,6 +136,57 @@ impl Wide {
             Some(Wide { high, low })
         } else {
             None
+        }
+    }
+
+    /// What is left if it is divided by 2 to the power of `bits`, rounded down.
+    pub fn shifted_down(self, bits: u32) -> Wide
+        ensures { result ≡ self / (2 ^ bits) }
+    {
+        // Opened for its invariant: nothing of a number below 2^512 is left from 512 bits on.
+        let _ = &self.high;
+        if bits < 128 {
+            self.shifted_by_few(bits)
+        } else if bits < 256 {
+            self.shifted_by_part().shifted_by_few(bits - 128)
+        } else if bits < 384 {
+            self.upper_half().shifted_by_few(bits - 256)
+        } else if bits < 512 {
+            self.upper_half()
+                .shifted_by_part()
+                .shifted_by_few(bits - 384)
+        } else {
+            Wide::zero()
+        }
+    }
+
+    // Divided by 2 to the power of `bits`, below 128, and rounded down.
+    fn shifted_by_few(self, bits: u32) -> Wide
+        requires { bits < 128 }
+        ensures { result ≡ self / (2 ^ bits) }
+    {
+        let (high, rest) = self.high.carrying_shift(bits, 0);
+        let (low, _) = self.low.carrying_shift(bits, rest);
+        Wide { high, low }
+    }
+
+    // Divided by 2^128 and rounded down: each part comes in place of the one below it.
+    fn shifted_by_part(self) -> Wide
+        ensures { result ≡ self / 2 ^ 128 }
+    {
+        Wide {
+            high: self.high.lower_part_dropped(0),
+            low: self.low.lower_part_dropped(self.high.lower_part()),
+        }
+    }
+
+    // Divided by 2^256 and rounded down.
+    fn upper_half(self) -> Wide
+        ensures { result ≡ self / 2 ^ 256 }
+    {
+        Wide {
+            high: Half::zero(),
+            low: self.high,
         }
     }
 }

@@ -1,6 +1,10 @@
 -- A power in the upper half.
-use Rattle.wide.proofs.Products.{power}
+use Rattle.std.proofs.Common.{arith}
+use Rattle.wide.proofs.Powers.{raised}
 use Rattle.wide.proofs.number.Wide.power_of_two.Goals as goal
 
-pub returns-then-bit-lt256 : goal.returns-then-bit-lt256
-returns-then-bit-lt256 c = (c.if-bit-lt256.true, power c.args.bit c.if-bit-lt128.false c.if-bit-lt256.true)
+pub returns-then-bit-lt512 : goal.returns-then-bit-lt512
+returns-then-bit-lt512 c =
+    let whole = raised 256 c.args.bit c.if-bit-lt256.false in
+    let high = c.power_of_two-then-bit-lt512.ensures.value in
+    (c.if-bit-lt512.true, omega (arith, whole, high, c.zero-then-bit-lt512.ensures))
