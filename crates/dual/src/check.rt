@@ -23,7 +23,7 @@ struct Row<'a> {
 impl Row<'_> {
     // What a pair of the row's player pays.
     fn tolls(&self, v: u16) -> Option<Wide>
-        ensures { let tolls = sum_by (λ set. toll_of v set.now) self.now.sets.items in SomeIff result (tolls < 2 ^ 256) tolls }
+        ensures { let tolls = sum_by (λ set. toll_of v set.now) self.now.sets.items in SomeIff result (tolls < 2 ^ 512) tolls }
     {
         let mut sum = Wide::zero();
         for set in &self.sets {
@@ -71,7 +71,7 @@ impl Table {
         requires second { R.knows rule.now v }
         requires sets { (v : ℕ) → sum_by (λ set. toll_of v set.now) row.now.sets.items
             ≡ sum_by (toll (row.now.player, v)) (certificate_in self.now).sets }
-        ensures { SomeIff result (CanBear (R.costs rule.now) (certificate_in self.now) (2 ^ 256) row.now.player v)
+        ensures { SomeIff result (CanBear (R.costs rule.now) (certificate_in self.now) (2 ^ 512) row.now.player v)
             (slack (R.costs rule.now) (certificate_in self.now) (row.now.player, v)) }
     {
         let weight = rule.weight(row.player, v);
@@ -84,7 +84,7 @@ impl Table {
     // What a player left over could bear beyond the potential; none if the player cannot bear it.
     fn slack_left<R: Rule>(&self, rule: &R, v: u16) -> Option<Wide>
         requires { R.knows rule.now v }
-        ensures { SomeIff result (CanBearLeft (R.costs rule.now) (certificate_in self.now) (2 ^ 256) v)
+        ensures { SomeIff result (CanBearLeft (R.costs rule.now) (certificate_in self.now) (2 ^ 512) v)
             (slack_left (R.costs rule.now) (certificate_in self.now) v) }
     {
         let bears = rule.left_cost(v).plus(self.given_left)?;
@@ -99,7 +99,7 @@ impl Table {
         requires few { length extra.old ≤ MOST * MOST }
         requires sets { (v : ℕ) → sum_by (λ set. toll_of v set.now) row.now.sets.items
             ≡ sum_by (toll (row.now.player, v)) (certificate_in self.now).sets }
-        ensures whole { IsTrue result ↔ AllBear (R.costs rule.now) (certificate_in self.now) (2 ^ 256) row.now.player players.now }
+        ensures whole { IsTrue result ↔ AllBear (R.costs rule.now) (certificate_in self.now) (2 ^ 512) row.now.player players.now }
         ensures value { IsTrue result → HasSlacks (R.costs rule.now) (certificate_in self.now) row.now.player players.now row.now.start extra.new }
         ensures others { (k : ℕ) → (All (λ v. ¬ (row.now.start + v ≡ k)) players.now) → slice_index extra.new k ≡ slice_index extra.old k }
     {
@@ -126,7 +126,7 @@ impl Table {
         requires below { All (λ v. v < size) players.now }
         requires few { size ≤ MOST }
         ensures whole { IfOk result (λ found. IsSome found
-            ↔ All (λ u. AllBear (R.costs rule.now) (certificate_in self.now) (2 ^ 256) u players.now) players.now) }
+            ↔ All (λ u. AllBear (R.costs rule.now) (certificate_in self.now) (2 ^ 512) u players.now) players.now) }
         ensures value { IfOk result (λ found. IfSome found (λ extra.
             All (λ u. HasSlacks (R.costs rule.now) (certificate_in self.now) u players.now (u * size) extra.items) players.now)) }
     {
@@ -151,7 +151,7 @@ impl Table {
         requires known { All (R.knows rule.now) players.now }
         requires below { All (λ v. v < size) players.now }
         ensures whole { IfOk result (λ found. IsSome found ↔ All (λ v. (R.costs rule.now).may_be_left v ≡ true
-            → CanBearLeft (R.costs rule.now) (certificate_in self.now) (2 ^ 256) v) players.now) }
+            → CanBearLeft (R.costs rule.now) (certificate_in self.now) (2 ^ 512) v) players.now) }
         ensures value { IfOk result (λ found. IfSome found (λ extra. All (λ v. (R.costs rule.now).may_be_left v ≡ true
             → slice_index extra.items v ≡ slack_left (R.costs rule.now) (certificate_in self.now) v) players.now)) }
     {
@@ -168,7 +168,7 @@ impl Table {
     }
 
     /// The floor that the certificate is, for matchings that leave so many players over. There is none if the
-    /// certificate is not feasible, or if a sum of its numbers is 2^256 or more.
+    /// certificate is not feasible, or if a sum of its numbers is 2^512 or more.
     pub fn floor<R: Rule>(
         &self,
         alloc: Global,
@@ -180,7 +180,7 @@ impl Table {
         requires few { length players.now ≤ MOST }
         requires some { left ≤ length players.now }
         ensures whole { IfOk result (λ found. IsSome found ↔ (IsFeasible (R.costs rule.now) players.now (certificate_in self.now)
-            × IsBelow (R.costs rule.now) players.now left (certificate_in self.now) (2 ^ 256))) }
+            × IsBelow (R.costs rule.now) players.now left (certificate_in self.now) (2 ^ 512))) }
         ensures value { IfOk result (λ found. IfSome found (IsFloorOf (R.costs rule.now) players.now left (certificate_in self.now))) }
         ensures least { IfOk result (λ found. IfSome found (IsFloor (R.costs rule.now) players.now left)) }
     {

@@ -12,7 +12,7 @@
 //! takes memory, a number for each pair. A check takes time with the square of the number of players, for a certificate times the number of
 //! its sets.
 //!
-//! To mind: certificates are natural numbers below 2^256. Potentials below 0, and a multiplier of the number left over, are had by giving more.
+//! To mind: certificates are natural numbers below 2^512. Potentials below 0, and a multiplier of the number left over, are had by giving more.
 #![tactic(auto)]
 
 mod barrier;

@@ -30,14 +30,14 @@ loop-a-preserved g c =
     omega (arith, ap length c.deref_mut.ensures.value, c.deref_mut.ensures.len, c.fill.auto.extra) in
     let same : take c.loop-a.extra.len (c.fill.new.extra ++ drop (length c.fill.new.extra) c.loop-a.extra.items) ≡ c.fill.new.extra =
     take_at c.fill.new.extra (drop (length c.fill.new.extra) c.loop-a.extra.items) c.loop-a.extra.len count in
-    let bears : AllBear costs certificate (2 ^ 256) (get_or players i 0) players =
-    subst (λ a. AllBear costs certificate (2 ^ 256) a players) c.in_ok-row.ensures.player (c.fill.ensures.whole.0 c.if-not-fill.false) in
+    let bears : AllBear costs certificate (2 ^ 512) (get_or players i 0) players =
+    subst (λ a. AllBear costs certificate (2 ^ 512) a players) c.in_ok-row.ensures.player (c.fill.ensures.whole.0 c.if-not-fill.false) in
     let row : HasSlacks costs certificate (get_or players i 0) players c.in_ok-row.row.start new =
     subst (λ a. HasSlacks costs certificate a players c.in_ok-row.row.start new) c.in_ok-row.ensures.player
     (c.fill.ensures.value c.if-not-fill.false) in
     record {
       size = omega (arith, ap length same, ap length c.deref_mut.ensures.value, c.fill.auto.extra, c.loop-a.invariant.size);
-      bear = All-more (λ a. AllBear costs certificate (2 ^ 256) a players) players i 0 lt c.loop-a.invariant.bear bears;
+      bear = All-more (λ a. AllBear costs certificate (2 ^ 512) a players) players i 0 lt c.loop-a.invariant.bear bears;
       told = subst (λ xs. All (λ a. HasSlacks costs certificate a players (a * size) xs) (take (i + 1) players)) (sym same)
           (rows_more costs certificate size players c.requires.below i c.in_ok-row.row.start old new lt c.in_ok-row.ensures.start
           (λ k far. c.fill.ensures.others k far ∙ ap (λ xs. get_or xs k 0) c.deref_mut.ensures.value) row c.loop-a.invariant.told);
@@ -47,7 +47,7 @@ pub returns-clause-whole : goal.returns-clause-whole
 returns-clause-whole g c =
     let costs : Costs = g.R.Rule.costs c.args.rule.now in
     let all : take c.loop-a.a-index c.args.players.now ≡ c.args.players.now = take_all c.loop-a.a-index c.args.players.now c.loop-a-test.false in
-    (λ _. subst (All (λ u. AllBear costs (certificate_in c.args.self.now) (2 ^ 256) u c.args.players.now)) all c.loop-a.invariant.bear, λ _. refl)
+    (λ _. subst (All (λ u. AllBear costs (certificate_in c.args.self.now) (2 ^ 512) u c.args.players.now)) all c.loop-a.invariant.bear, λ _. refl)
 
 pub returns-clause-value : goal.returns-clause-value
 returns-clause-value g c =

@@ -24,7 +24,7 @@ loop-v-preserved g c =
           let inside : w.from.result < length c.loop-v.extra.items = omega (arith, below, w.from.ensures, c.loop-v.invariant.size) in
           record {
             size = omega (arith, ap length written, length-set c.loop-v.extra.items w.from.result w.in-Some.slack, c.loop-v.invariant.size);
-            bear = All-more (λ v. costs.may_be_left v ≡ true → CanBearLeft costs certificate (2 ^ 256) v) players i 0 lt c.loop-v.invariant.bear
+            bear = All-more (λ v. costs.may_be_left v ≡ true → CanBearLeft costs certificate (2 ^ 512) v) players i 0 lt c.loop-v.invariant.bear
                 (λ asked. w.in-Some.ensures.0);
             told = stands_more (λ v. v) (slack_left costs certificate) costs.may_be_left (λ v x e. e) players i c.loop-v.extra.items
                 c.if-may_be_left.extra.items w.from.result w.in-Some.slack lt inside w.from.ensures written w.in-Some.ensures.1
@@ -33,7 +33,7 @@ loop-v-preserved g c =
       | else-may_be_left w ↦
           record {
             size = ap (λ v. length v.items) w.extra-is ∙ c.loop-v.invariant.size;
-            bear = All-more (λ v. costs.may_be_left v ≡ true → CanBearLeft costs certificate (2 ^ 256) v) players i 0 lt c.loop-v.invariant.bear
+            bear = All-more (λ v. costs.may_be_left v ≡ true → CanBearLeft costs certificate (2 ^ 512) v) players i 0 lt c.loop-v.invariant.bear
                 (λ asked. absurd (cc (asked, c.may_be_left.ensures, w.if-may_be_left.false)));
             told = subst (λ xs. All (λ v. costs.may_be_left v ≡ true → get_or xs v 0 ≡ slack_left costs certificate v) (take (i + 1) players))
                 (sym (ap (λ v. v.items) w.extra-is))
@@ -47,7 +47,7 @@ pub returns-clause-whole : goal.returns-clause-whole
 returns-clause-whole g c =
     let costs : Costs = g.R.Rule.costs c.args.rule.now in
     let all : take c.loop-v.v-index c.args.players.now ≡ c.args.players.now = take_all c.loop-v.v-index c.args.players.now c.loop-v-test.false in (
-      λ _. subst (All (λ v. costs.may_be_left v ≡ true → CanBearLeft costs (certificate_in c.args.self.now) (2 ^ 256) v)) all c.loop-v.invariant.bear,
+      λ _. subst (All (λ v. costs.may_be_left v ≡ true → CanBearLeft costs (certificate_in c.args.self.now) (2 ^ 512) v)) all c.loop-v.invariant.bear,
       λ _. refl,
     )
 

@@ -9,7 +9,7 @@ abbrev pub invariant-loop-v : goal.invariant-loop-v
 invariant-loop-v g l = record {
   size : length l.extra.items ≡ l.size;
   bear : All (λ v. (g.R.Rule.costs l.rule).may_be_left v ≡ true
-      → CanBearLeft (g.R.Rule.costs l.rule) (certificate_in l.self) (2 ^ 256) v) (take l.v-index l.players);
+      → CanBearLeft (g.R.Rule.costs l.rule) (certificate_in l.self) (2 ^ 512) v) (take l.v-index l.players);
   told : All (λ v. (g.R.Rule.costs l.rule).may_be_left v ≡ true
       → get_or l.extra.items v 0 ≡ slack_left (g.R.Rule.costs l.rule) (certificate_in l.self) v)
       (take l.v-index l.players);

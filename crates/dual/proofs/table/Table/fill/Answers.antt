@@ -25,7 +25,7 @@ loop-v-preserved g c =
           let place : start + w.from.result ≡ start + get_or players i 0 = ap (λ v. start + v) w.from.ensures in
           let inside : start + w.from.result < length c.loop-v.extra = omega (arith, within, place, c.loop-v.auto.extra) in
           record {
-            bear = All-more (λ v. costs.meets u v ≡ true → CanBear costs certificate (2 ^ 256) u v) players i 0 lt c.loop-v.invariant.bear
+            bear = All-more (λ v. costs.meets u v ≡ true → CanBear costs certificate (2 ^ 512) u v) players i 0 lt c.loop-v.invariant.bear
                 (λ asked. w.in-Some.ensures.0);
             told = stands_more (λ v. start + v) (λ v. slack costs certificate (u, v)) (costs.meets u) (λ v x e. omega (arith, e)) players i
                 c.loop-v.extra c.if-may_meet.extra (start + w.from.result) w.in-Some.slack lt inside place w.extra-is w.in-Some.ensures.1
@@ -37,7 +37,7 @@ loop-v-preserved g c =
           }
       | else-may_meet w ↦
           record {
-            bear = All-more (λ v. costs.meets u v ≡ true → CanBear costs certificate (2 ^ 256) u v) players i 0 lt c.loop-v.invariant.bear
+            bear = All-more (λ v. costs.meets u v ≡ true → CanBear costs certificate (2 ^ 512) u v) players i 0 lt c.loop-v.invariant.bear
                 (λ asked. absurd (cc (asked, c.may_meet.ensures, w.if-may_meet.false)));
             told = subst (λ xs. HasSlacks costs certificate u (take (i + 1) players) start xs) (sym w.extra-is)
                 (All-more (λ v. costs.meets u v ≡ true → get_or c.loop-v.extra (start + v) 0 ≡ slack costs certificate (u, v)) players i 0 lt
@@ -52,7 +52,7 @@ returns-clause-whole g c =
     let costs : Costs = g.R.Rule.costs c.args.rule.now in
     let all : take c.loop-v.v-index c.args.players.now ≡ c.args.players.now = take_all c.loop-v.v-index c.args.players.now c.loop-v-test.false in
     let u : ℕ = c.args.row.now.player in (
-      λ _. subst (All (λ v. costs.meets u v ≡ true → CanBear costs (certificate_in c.args.self.now) (2 ^ 256) u v)) all c.loop-v.invariant.bear,
+      λ _. subst (All (λ v. costs.meets u v ≡ true → CanBear costs (certificate_in c.args.self.now) (2 ^ 512) u v)) all c.loop-v.invariant.bear,
       λ _. refl,
     )
 
