@@ -86,45 +86,45 @@ fn seat_one_down(context: &Context<'_>, a: u16, seated: &mut Seated)
     seated.lowest = context.lowest();
 }
 
-/// The weight of some pairs and downfloaters by seats; none if it is 2^256 or more.
+/// The weight of some pairs and downfloaters by seats; none if it is 2^512 or more.
 fn weigh(field: &Field, scale: &Scale, seated: &Seated, quality: &mut Quality) -> Option<Wide>
     requires { HasSeats field.now seated.now }
-    ensures { let weight = weight_of scale.now (quality_with field.now seated.now no_value) in SomeIff result (weight < 2 ^ 256) weight }
+    ensures { let weight = weight_of scale.now (quality_with field.now seated.now no_value) in SomeIff result (weight < 2 ^ 512) weight }
 {
     fill_seated(field, seated, quality);
     scale.weigh(quality)
 }
 
 impl Weigher<'_> {
-    /// What a pair weighs alone; none if it is 2^256 or more.
+    /// What a pair weighs alone; none if it is 2^512 or more.
     fn pair(&self, a: u16, b: u16, room: &mut Room) -> Option<Wide>
         requires first { IsNumber self.now.reached a }
         requires second { IsNumber self.now.reached b }
-        ensures { SomeIff result (pair_weight self.now a b < 2 ^ 256) (pair_weight self.now a b) }
+        ensures { SomeIff result (pair_weight self.now a b < 2 ^ 512) (pair_weight self.now a b) }
     {
         seat_pair(self.context, a, b, &mut room.seated);
         let field = self.context.field();
         weigh(field, self.scale, &room.seated, &mut room.quality)
     }
 
-    /// What a downfloater weighs alone; none if it is 2^256 or more.
+    /// What a downfloater weighs alone; none if it is 2^512 or more.
     fn one_down(&self, a: u16, room: &mut Room) -> Option<Wide>
         requires { IsNumber self.now.reached a }
-        ensures { SomeIff result (down_weight self.now a < 2 ^ 256) (down_weight self.now a) }
+        ensures { SomeIff result (down_weight self.now a < 2 ^ 512) (down_weight self.now a) }
     {
         seat_one_down(self.context, a, &mut room.seated);
         let field = self.context.field();
         weigh(field, self.scale, &room.seated, &mut room.quality)
     }
 
-    /// Puts what a pair weighs into a table; no if it is 2^256 or more.
+    /// Puts what a pair weighs into a table; no if it is 2^512 or more.
     fn put_pair(&self, a: u16, b: u16, room: &mut Room, table: &mut [Wide]) -> bool
         requires first { IsNumber self.now.reached a }
         requires second { IsNumber self.now.reached b }
         requires room { HasPairs self.now table.old }
         requires told { TellsPairsUpto self.now table.old (place_in self.now a b) }
         ensures told { result ≡ true → TellsPairsUpto self.now table.new (place_in self.now a b + 1) }
-        ensures heavy { result ≡ false → IsHeavy self.now (2 ^ 256) }
+        ensures heavy { result ≡ false → IsHeavy self.now (2 ^ 512) }
     {
         match self.pair(a, b, room) {
             Some(weight) => {
@@ -141,7 +141,7 @@ impl Weigher<'_> {
         requires room { HasPairs self.now table.old }
         requires told { TellsPairsUpto self.now table.old (place_in self.now a 1) }
         ensures told { result ≡ true → TellsPairsUpto self.now table.new (length self.now.reached.seats * a) }
-        ensures heavy { result ≡ false → IsHeavy self.now (2 ^ 256) }
+        ensures heavy { result ≡ false → IsHeavy self.now (2 ^ 512) }
     {
         for b in 0..self.context.len() {
             if !self.put_pair(a, b as u16 + 1, room, table) {
@@ -155,7 +155,7 @@ impl Weigher<'_> {
     fn put_pairs(&self, room: &mut Room, table: &mut [Wide]) -> bool
         requires { HasPairs self.now table.old }
         ensures told { result ≡ true → TellsPairs self.now table.new }
-        ensures heavy { result ≡ false → IsHeavy self.now (2 ^ 256) }
+        ensures heavy { result ≡ false → IsHeavy self.now (2 ^ 512) }
     {
         for a in 0..self.context.len() {
             if !self.put_row(a as u16 + 1, room, table) {
@@ -169,7 +169,7 @@ impl Weigher<'_> {
     fn put_down(&self, room: &mut Room, table: &mut [Wide]) -> bool
         requires { HasAll self.now table.old }
         ensures told { result ≡ true → TellsDown self.now table.new }
-        ensures heavy { result ≡ false → IsHeavy self.now (2 ^ 256) }
+        ensures heavy { result ≡ false → IsHeavy self.now (2 ^ 512) }
     {
         for a in 0..self.context.len() {
             match self.one_down(a as u16 + 1, room) {
@@ -181,13 +181,13 @@ impl Weigher<'_> {
     }
 }
 
-/// The weights of all pairs, row by row; none if one of them is 2^256 or more.
+/// The weights of all pairs, row by row; none if one of them is 2^512 or more.
 fn weigh_pairs(
     alloc: Global,
     weigher: &Weigher<'_>,
     room: &mut Room,
 ) -> Result<Option<Vec<Wide>>, AllocError>
-    ensures { IfOk result (λ weighed. MatchOption weighed (IsHeavy weigher.now (2 ^ 256))
+    ensures { IfOk result (λ weighed. MatchOption weighed (IsHeavy weigher.now (2 ^ 512))
         (λ table. HasPairs weigher.now table.items × TellsPairs weigher.now table.items)) }
 {
     let count = weigher.context.len();
@@ -199,13 +199,13 @@ fn weigh_pairs(
     }
 }
 
-/// The weights of all downfloaters; none if one of them is 2^256 or more.
+/// The weights of all downfloaters; none if one of them is 2^512 or more.
 fn weigh_down(
     alloc: Global,
     weigher: &Weigher<'_>,
     room: &mut Room,
 ) -> Result<Option<Vec<Wide>>, AllocError>
-    ensures { IfOk result (λ weighed. MatchOption weighed (IsHeavy weigher.now (2 ^ 256))
+    ensures { IfOk result (λ weighed. MatchOption weighed (IsHeavy weigher.now (2 ^ 512))
         (λ table. HasAll weigher.now table.items × TellsDown weigher.now table.items)) }
 {
     let mut table = vec![in alloc; Wide::zero(); weigher.context.len()]?;
@@ -217,13 +217,13 @@ fn weigh_down(
 }
 
 impl<'a> Weighing<'a> {
-    /// Works out all weights of a bracket; none if one of them is 2^256 or more.
+    /// Works out all weights of a bracket; none if one of them is 2^512 or more.
     pub(crate) fn read(
         context: &'a Context<'a>,
         scale: Scale,
     ) -> Result<Option<Weighing<'a>>, AllocError>
         ensures { let weighed = weighed_on context.now scale
-            in IfOk result (λ read. MatchOption read (IsHeavy weighed (2 ^ 256)) (λ weighing. weighing ≡ weighed)) }
+            in IfOk result (λ read. MatchOption read (IsHeavy weighed (2 ^ 512)) (λ weighing. weighing ≡ weighed)) }
     {
         let mut room = Room::default();
         let weigher = Weigher {

@@ -25,7 +25,7 @@ use wide::Wide;
 const KEPT: usize = 4;
 
 /// Weights with so many bits leave room for what a matching of all players comes to.
-const MOST_BITS: usize = 226;
+const MOST_BITS: usize = 482;
 
 /// What a quality weighs, and what all with a higher PSD weigh at least.
 #[derive(Clone, Copy, Debug)]

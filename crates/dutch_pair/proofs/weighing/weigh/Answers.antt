@@ -13,6 +13,6 @@ returns c =
     let scale = c.args.scale.now in
     let facts = c.args.field.now in
     let seated = c.args.seated.now in
-    some_of_same c.weigh.result (2 ^ 256) (weight_of scale (quality_in c.fill_seated.new.quality))
+    some_of_same c.weigh.result (2 ^ 512) (weight_of scale (quality_in c.fill_seated.new.quality))
     (weight_of scale (quality_with facts seated no_value))
     (ap (weight_of scale) c.fill_seated.ensures ∙ next_is_idle scale facts seated (next_in (quality_in c.args.quality.now))) c.weigh.ensures

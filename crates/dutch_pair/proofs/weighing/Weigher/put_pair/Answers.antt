@@ -20,4 +20,4 @@ returns-in-Some-clause-told c =
 pub returns-in-None-clause-heavy : goal.returns-in-None-clause-heavy
 returns-in-None-clause-heavy c =
     λ _. pair c.args.a c.args.b c.requires.first c.requires.second
-    (at_least (pair_weight c.args.self.now c.args.a c.args.b) (2 ^ 256) c.in-None.ensures)
+    (at_least (pair_weight c.args.self.now c.args.a c.args.b) (2 ^ 512) c.in-None.ensures)
