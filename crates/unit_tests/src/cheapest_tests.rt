@@ -298,13 +298,50 @@ fn triangles_and_steps(rt: HostRuntime) -> Result<(), Fail> {
 }
 
 #[test]
-fn numbers_below_2_to_the_256(rt: HostRuntime) -> Result<(), Fail> {
-    let Some(top) = Wide::power_of_two(255) else {
+fn numbers_below_2_to_the_512(rt: HostRuntime) -> Result<(), Fail> {
+    let Some(top) = Wide::power_of_two(511) else {
         return Err(Fail::new("a power that fits"));
     };
-    assert!(rt; top.doubled().is_none() && Wide::power_of_two(256).is_none());
+    assert!(rt; top.doubled().is_none() && Wide::power_of_two(512).is_none());
     assert!(rt; top.halved().doubled() == Some(top));
     assert!(rt; Wide::from_u64(1).minus(top).is_none() && Wide::from_u64(1).is_less(top));
     assert!(rt; Wide::from_u64(3).times(5) == Some(Wide::from_u64(15)));
+    assert!(rt; top.times(2).is_none() && top.times(1) == Some(top));
+    Ok(())
+}
+
+#[test]
+fn carries_go_from_half_to_half(rt: HostRuntime) -> Result<(), Fail> {
+    let one = Wide::from_u64(1);
+    let (Some(lower), Some(upper)) = (Wide::power_of_two(255), Wide::power_of_two(256)) else {
+        return Err(Fail::new("powers that fit"));
+    };
+    assert!(rt;
+        lower.doubled() == Some(upper) && upper.halved() == lower && lower.times(2) == Some(upper)
+    );
+    let Some(below) = upper.minus(one) else {
+        return Err(Fail::new("a power less one"));
+    };
+    assert!(rt;
+        below.is_less(upper) && below.plus(one) == Some(upper) && below.halved().is_less(lower)
+    );
+    Ok(())
+}
+
+#[test]
+fn wide_numbers_are_shifted_down(rt: HostRuntime) -> Result<(), Fail> {
+    let one = Wide::from_u64(1);
+    let Some(top) = Wide::power_of_two(511) else {
+        return Err(Fail::new("a power that fits"));
+    };
+    assert!(rt; top.shifted_down(0) == top && top.shifted_down(511) == one);
+    assert!(rt; top.shifted_down(512).is_zero() && one.shifted_down(1).is_zero());
+    for bits in [1, 127, 128, 129, 255, 256, 257, 383, 384, 385] {
+        assert!(rt; Some(top.shifted_down(bits)) == Wide::power_of_two(511 - bits));
+    }
+    let Some(low_ones) = top.minus(one) else {
+        return Err(Fail::new("a power less one"));
+    };
+    assert!(rt; low_ones.shifted_down(500) == Wide::from_u64(2047));
     Ok(())
 }
