@@ -42,6 +42,10 @@ pub(crate) struct Forest {
     pub(crate) nearest: Places<Option<u16>>,
     pub(crate) marks: Places<Mark>,
     pub(crate) scanned: Places<bool>,
+    /// Outer vertices of which others know how near they are, while they do not know themselves who is nearest.
+    pub(crate) left_to_others: Places<bool>,
+    /// How many vertices each outer blossom has, when they were counted last.
+    pub(crate) counts: Places<u16>,
     pub(crate) live: Places<bool>,
     /// The nodes on the way from a vertex to the root, for the folding of a blossom.
     pub(crate) on_way: Places<bool>,
@@ -70,6 +74,8 @@ impl Forest {
             nearest: Places::new(alloc, count, None)?,
             marks: Places::new(alloc, count, Mark::Free)?,
             scanned: Places::new(alloc, count, false)?,
+            left_to_others: Places::new(alloc, count, false)?,
+            counts: Places::new(alloc, count, 0)?,
             live: Places::new(alloc, count, false)?,
             on_way: Places::new(alloc, count, false)?,
         })

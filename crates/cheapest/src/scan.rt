@@ -96,17 +96,78 @@ impl Forest {
         Ok(())
     }
 
-    /// Looks anew for each vertex whose nearest one is in a common blossom with it.
+    // Leaves to others whoever is in a common blossom with the vertex nearest to it; whether there is anyone.
+    fn leave_stale(&mut self) -> bool {
+        let mut is_any = false;
+        for v in 0..self.size {
+            let place = usize::from(v);
+            if let Some(nearest) = self.nearest.at(place)
+                && self.is_stale(v, nearest)
+            {
+                self.nearest.put(place, None);
+                self.left_to_others.put(place, true);
+                is_any = true;
+            }
+        }
+        is_any
+    }
+
+    // Counts the vertices of each outer blossom.
+    fn count_vertices(&mut self) {
+        self.counts.clear();
+        for v in 0..self.size {
+            let node = usize::from(self.outer_of(v));
+            if self.mark_of(v) == Mark::Outer && self.live.at(node) {
+                self.counts.put(node, self.counts.at(node).saturating_add(1));
+            }
+        }
+    }
+
+    // The outer blossom with the most vertices.
+    fn greatest_blossom(&mut self) -> Option<u16> {
+        self.count_vertices();
+        let mut greatest = None;
+        let mut most = 0;
+        for node in self.size..self.nodes {
+            let count = self.counts.at(usize::from(node));
+            if count > most {
+                greatest = Some(node);
+                most = count;
+            }
+        }
+        greatest
+    }
+
+    // Looks anew for a vertex that was left to others, unless it is in a blossom.
+    fn look_beside(
+        &mut self,
+        v: u16,
+        blossom: Option<u16>,
+        left: &mut u64,
+    ) -> Result<(), Fault>
+        ensures falls { left.new ≤ left.old }
+        ensures stopped { IfErr result (λ fault. fault ≡ Stopped → left.new ≡ 0) }
+    {
+        let place = usize::from(v);
+        if !self.left_to_others.at(place) || Some(self.outer_of(v)) == blossom {
+            return Ok(());
+        }
+        self.left_to_others.put(place, false);
+        self.look_anew(v, left)
+    }
+
+    /// Looks anew for each vertex whose nearest one is in a common blossom with it, but for those of the greatest blossom: of two outer
+    /// vertices it is enough that one knows how near the other is.
     pub(crate) fn look_anew_at_all(&mut self, left: &mut u64) -> Result<(), Fault>
         ensures falls { left.new ≤ left.old }
         ensures stopped { IfErr result (λ fault. fault ≡ Stopped → left.new ≡ 0) }
     {
+        if !self.leave_stale() {
+            return Ok(());
+        }
+        let greatest = self.greatest_blossom();
         for v in 0..self.size {
-            if let Some(nearest) = self.nearest.at(usize::from(v)) {
-                if self.is_stale(v, nearest) {
-                    self.look_anew(v, left)?;
-                }
-            }
+            self.look_beside(v, greatest, left)?;
         }
         Ok(())
     }

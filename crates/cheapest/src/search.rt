@@ -89,6 +89,7 @@ impl Forest {
     fn forget_tree(&mut self) {
         self.marks.clear();
         self.scanned.clear();
+        self.left_to_others.clear();
         self.nearest.clear();
         self.reached.clear();
     }
