@@ -10,7 +10,8 @@ product b h l k c l1 c1 h1 o low high =
 
 -- where nothing is over, the halves are those of the product
 pub fits : (h l k l1 c1 h1 o s : ℕ) → h * 2 ^ 256 + l ≡ s → l1 + c1 * 2 ^ 256 ≡ l * k + 0 →
-    h1 + o * 2 ^ 256 ≡ h * k + c1 → o ≡ 0 → h1 < 2 ^ 256 → l1 < 2 ^ 256 → (s * k < 2 ^ 512) × (h1 * 2 ^ 256 + l1 ≡ s * k)
+    h1 + o * 2 ^ 256 ≡ h * k + c1 → o ≡ 0 → h1 < 2 ^ 256 → l1 < 2 ^ 256 →
+    (s * k < 2 ^ 512) × (h1 * 2 ^ 256 + l1 ≡ s * k)
 fits h l k l1 c1 h1 o s whole low high none upper lower =
     let value : h1 * 2 ^ 256 + l1 + o * 2 ^ 512 ≡ (h * 2 ^ 256 + l) * k + 0 =
     product (2 ^ 256) h l k 0 l1 c1 h1 o low high in

@@ -10,5 +10,6 @@ returns c =
     let low = c.carrying_shift-low in
     let p = 2 ^ c.args.bits in
     let whole = shifted (2 ^ 256) p 0 _ _ _ _ _ _ high.ensures.value low.ensures.value in
-    let same : (high.result.0 * 2 ^ 256 + low.result.0) * p + low.result.1 ≡ c.args.self = omega (arith, whole, c.self.view_is) in
+    let same : (high.result.0 * 2 ^ 256 + low.result.0) * p + low.result.1 ≡ c.args.self =
+    omega (arith, whole, c.self.view_is) in
     sym (div-mul-add _ p _ low.ensures.rest) ∙ ap (λ n. n / p) same
