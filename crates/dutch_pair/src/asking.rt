@@ -114,6 +114,12 @@ fn by_number(alloc: Global, seats: &[u16], pairs: &[Pair]) -> Result<Vec<Pair>, 
     Ok(numbers)
 }
 
+/// How many steps have to be left for a matching of so many players to be looked for: an eighth of their cube, since most take less.
+fn steps_for(players: usize) -> u64 {
+    let players = players as u64;
+    players.saturating_mul(players).saturating_mul(players) / 8
+}
+
 impl<'a> WeightFloors<'a> {
     /// What being left over costs beside half of a weight: more than any weight, so that as many pairs are made as can be.
     fn alone(&self) -> Option<Wide> {
@@ -155,9 +161,9 @@ impl<'a> WeightFloors<'a> {
         ensures spends { Spends budget.old budget.new }
     {
         let count = self.weighing.context().len();
-        let free = count.saturating_sub(2 * asked.pairs.len()) as u64;
+        let free = count.saturating_sub(2 * asked.pairs.len());
         let mut left = budget.limit - budget.used;
-        if left < free.saturating_mul(free).saturating_mul(free) / 2 {
+        if left < steps_for(free) {
             return Ok(None);
         }
         let told = self.told(asked, &mut left);
