@@ -118,7 +118,8 @@ impl Forest {
         for v in 0..self.size {
             let node = usize::from(self.outer_of(v));
             if self.mark_of(v) == Mark::Outer && self.live.at(node) {
-                self.counts.put(node, self.counts.at(node).saturating_add(1));
+                self.counts
+                    .put(node, self.counts.at(node).saturating_add(1));
             }
         }
     }
@@ -139,12 +140,7 @@ impl Forest {
     }
 
     // Looks anew for a vertex that was left to others, unless it is in a blossom.
-    fn look_beside(
-        &mut self,
-        v: u16,
-        blossom: Option<u16>,
-        left: &mut u64,
-    ) -> Result<(), Fault>
+    fn look_beside(&mut self, v: u16, blossom: Option<u16>, left: &mut u64) -> Result<(), Fault>
         ensures falls { left.new ≤ left.old }
         ensures stopped { IfErr result (λ fault. fault ≡ Stopped → left.new ≡ 0) }
     {
