@@ -246,7 +246,7 @@ module _ (pool : List ℕ) (k : ℕ) (rises : IsStrictlyIncreasing pool) (enough
         let out_room : 0 + length outs' ≤ k = Climbs-length 0 k outs' (omega arith) e'.outs_climb in
         let in_room : 0 + length ins' ≤ length pool - k = Climbs-length 0 (length pool - k) ins' (omega arith) e'.ins_climb in
         in-sizes pool k rises enough small (most_exchanged pool k - size) (suc size) size' x (omega (arith, less)) (omega (arith, less, e'.outs_size, e'.ins_size))
-        (in-stages pool k rises enough small (stages_of pool k size') size' (least_difference pool k size') difference' (least_difference pool k size') (Some (least_difference pool k size')) x outs' ins' e' refl (omega arith) (omega (arith, least, e'.differs)) (omega (arith, least, greatest, e'.differs)))
+        (in-stages pool k rises enough small (stages_of pool k size') size' (least_difference pool k size') difference' (least_difference pool k size') (Some (least_difference pool k size')) x outs' ins' e' refl (omega (arith, least, e'.differs)) (omega (arith, least, e'.differs)) (omega (arith, least, greatest, e'.differs)))
 
     late-parts : (x : List ℕ) → IsIn x (filter late (exchanges pool k)) → IsIn x (first_sets ++ (second_sets ++ third_sets))
     late-parts x m =

@@ -349,28 +349,28 @@ module _ (pool : List ℕ) (k : ℕ) (rises : IsStrictlyIncreasing pool) (enough
         | inr (inr later) ↦ let rest = stages-in count size (suc first) next set later.1 in (rest.0, omega (arith, rest.1), omega (arith, rest.2), rest.3)
       ]
 
-  pub in-stages : (count size first difference n : ℕ) (next : Option ℕ) (set outs ins : List ℕ) → Exchange pool k size difference set outs ins → next ≡ Some n → first ≤ n → n ≤ difference → difference < first + count → IsIn set (sets_of_stages pool k count size first next)
+  pub in-stages : (count size first difference n : ℕ) (next : Option ℕ) (set outs ins : List ℕ) → Exchange pool k size difference set outs ins → next ≡ Some n → first ≤ difference → n ≤ difference → difference < first + count → IsIn set (sets_of_stages pool k count size first next)
   unfolding sets_of_stages AtMost
   in-stages zero size first difference n next set outs ins e is from to below' = absurd (omega arith)
   in-stages (suc count) size first difference n next set outs ins e is from to below' =
       let here : List (List ℕ) = stage_sets pool k size first [] 0 in
       let found_next : Option ℕ = lowest (ahead (exchange_plan pool k size first) [] 0) in
-      elim (cases_eq n first) [
+      elim (cases_Bool (nat_le n first)) [
         | inl same ↦
-            let yes' : is_next first next ≡ true = ap (is_next first) is ∙ eq-eqb n first same in
+            let yes' : is_next first next ≡ true = ap (is_next first) is ∙ same in
             subst (λ c. IsIn set (if c then (here ++ sets_of_stages pool k count size (suc first) found_next) else sets_of_stages pool k count size (suc first) next)) (sym yes')
             (elim (cases_eq difference first) [
               | inl now' ↦ IsIn-front set here (sets_of_stages pool k count size (suc first) found_next) (subst (λ d. IsIn set (stage_sets pool k size d [] 0)) now' (exchange-stage size difference set outs ins e))
               | inr later ↦
-                  let less : first < difference = omega (arith, same, later) in
+                  let less : first < difference = omega (arith, from, later) in
                   let most = next_reaches size first difference set outs ins e less in
                   IsIn-back set here (sets_of_stages pool k count size (suc first) found_next)
-                  (in-stages count size (suc first) difference most.0 found_next set outs ins e most.1 (next_above size first most.0 most.1) most.2 (omega arith))
+                  (in-stages count size (suc first) difference most.0 found_next set outs ins e most.1 (omega (arith, less)) most.2 (omega arith))
             ])
         | inr other ↦
-            let no' : is_next first next ≡ false = ap (is_next first) is ∙ ne_eqb n first other in
+            let no' : is_next first next ≡ false = ap (is_next first) is ∙ other in
             subst (λ c. IsIn set (if c then (here ++ sets_of_stages pool k count size (suc first) found_next) else sets_of_stages pool k count size (suc first) next)) (sym no')
-            (in-stages count size (suc first) difference n next set outs ins e is (omega (arith, other)) to (omega arith))
+            (in-stages count size (suc first) difference n next set outs ins e is (omega (arith, leb-false n first other, to)) to (omega arith))
       ]
 
   pub stages-ascend : (count size first : ℕ) (next : Option ℕ) → ((difference : ℕ) → first ≤ difference → difference < first + count → size ≡ 0 → difference ≡ 0) → Ascends key (sets_of_stages pool k count size first next)
@@ -464,7 +464,7 @@ module _ (pool : List ℕ) (k : ℕ) (rises : IsStrictlyIncreasing pool) (enough
         ins_size = sym e.4;
         differs = refl;
         is_set = e.5;
-      }) refl (omega arith) least (omega arith))
+      }) refl least least (omega arith))
 
   pub pool-ascend : Ascends (λ set. set) (subsets pool k)
   pool-ascend =

@@ -9,6 +9,7 @@ pub mod Transposition
 pub mod Halves
 pub mod Limbo
 pub mod Exchange
+pub mod Exchanged
 pub mod Stages
 pub mod Sides
 pub mod TranspositionSearch

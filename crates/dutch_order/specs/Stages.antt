@@ -1,6 +1,6 @@
 -- How exchanges are searched, stage by stage, one for each number of exchanged players and each difference of the sums: a model that
 -- carries the search, and which a reader of the promises may pass by.
-use Rattle.std.specs.Prelude.{ℕ, zero, suc, ◌+◌, ◌-◌, ◌≤◌, Bool, false, not, ◌&&◌, ◌==◌, nat_lt, nat_le, min, List, [], ◌∷◌, ◌++◌, map, filter, reverse, take, drop, length, slice_index, if◌then◌else◌, Option, Some, None}
+use Rattle.std.specs.Prelude.{ℕ, zero, suc, ◌+◌, ◌-◌, ◌≤◌, Bool, false, not, ◌&&◌, nat_lt, nat_le, min, List, [], ◌∷◌, ◌++◌, map, filter, reverse, take, drop, length, slice_index, if◌then◌else◌, Option, Some, None}
 use Rattle.dutch_order.specs.Choices.{is_member, numbers_from}
 use Rattle.dutch_order.specs.declared.exchange.Place.{Place}
 use Rattle.dutch_order.specs.declared.exchange.Side.{Side}
@@ -15,16 +15,18 @@ abbrev pub total : (ℕ → ℕ) → List ℕ → ℕ
 total f [] = 0
 total f (x ∷ xs) = f x + total f xs
 
--- whether a difference is the next one
+-- whether a difference is to be searched, if it is known below which difference no set lies
 abbrev pub is_next : ℕ → Option ℕ → Bool
 is_next difference None = false
-is_next difference (Some next) = next == difference
+is_next difference (Some next) = nat_le next difference
 
--- the next difference after one, up to a greatest one
+-- the next difference to be searched after one, up to a greatest one
 abbrev pub following : ℕ → ℕ → Option ℕ → Option ℕ
 following difference greatest None = None
 following difference greatest (Some next) =
-    if nat_lt difference next && nat_le next greatest then Some next else None
+    if nat_lt difference next
+    then (if nat_le next greatest then Some next else None)
+    else (if nat_lt difference greatest then Some (suc difference) else None)
 
 module _ (pool : List ℕ) (k : ℕ) where
   -- a number of the original set by its place from the highest, and one of the others by its place from the lowest

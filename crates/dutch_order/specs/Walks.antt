@@ -1,6 +1,7 @@
 -- Where a search may stand: a model that carries the search, and which a reader of the promises may pass by.
-use Rattle.std.specs.Prelude.{◌≡◌, ℕ, ◌-◌, ◌<◌, ◌≤◌, List, [], ◌∷◌, ◌++◌, length}
-use Rattle.dutch_order.specs.Trials.{Plan, below}
+use Rattle.std.specs.Prelude.{◌≡◌, ◌⊎◌, ℕ, ◌-◌, ◌<◌, ◌≤◌, List, [], ◌∷◌, ◌++◌, length, Option, Some}
+use Rattle.dutch_order.specs.Trials.{Plan, below, ahead, lower, lowest}
+use Rattle.dutch_order.specs.declared.search.Walk.{Walk}
 
 -- each number of a path, after what has begun, is below the end of the numbers that its place tries
 abbrev pub Walked : Plan → List ℕ → List ℕ → Type 0
@@ -22,3 +23,11 @@ IsSpent plan path number = below plan (plan.places - length path) path number �
 -- nothing is idle, so nothing is ever left out
 abbrev pub NoneIdle : {T : Type 0} → (T → Type 0) → Type 0
 NoneIdle {T} Idle = (x : T) → Idle x → ⊥
+
+-- what lies beyond the trials of a search, those made and those to come, if anything was noted
+abbrev pub beyond_all : Plan → Walk → Option ℕ
+beyond_all plan walk = lower walk.beyond (lowest (ahead plan walk.path.items walk.number))
+
+-- a walk keeps what lies beyond its trials, or it has left some without a trial, and nothing is known
+abbrev pub KeepsBeyond : Plan → Walk → Walk → Type 0
+KeepsBeyond plan old new = (beyond_all plan new ≡ Some 0) ⊎ (beyond_all plan new ≡ beyond_all plan old)

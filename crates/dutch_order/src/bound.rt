@@ -1,10 +1,12 @@
 // What can tell that no candidate with a given beginning is of interest. Then a listing may leave them all out.
 ghost use Rattle.std.specs.Prelude.{◌≡◌, ℕ, Bool, true};
 ghost use Rattle.dutch_order.specs.Arrangements.{Arrangement, Frame, candidates};
+ghost use Rattle.dutch_order.specs.Exchanged.{IsExchange};
 ghost use Rattle.dutch_order.specs.Keys.{IsIn};
 ghost use Rattle.dutch_order.specs.Prefixes.{Begins};
 ghost use Rattle.dutch_order.specs.declared.bracket.Shape.{Shape};
 
+use crate::exchanged::Exchange;
 use crate::prefix::Prefix;
 
 /// Tells by how candidates of a bracket and a shape begin that they are without interest. It answers for all beginnings.
@@ -31,4 +33,15 @@ pub trait Bound {
     fn cannot_win(&self, prefix: &Prefix<'_>, room: &mut Self::Room) -> bool
         ensures { result ≡ true → (a : Arrangement) → IsIn a (candidates (meets self.now) (may_be_left self.now) (frame self.now) (shape self.now))
             → Begins prefix.now a → is_dull self.now a ≡ true };
+
+    /// Whether it knows that every candidate with this beginning, whose S1 and S2 are chosen, and with such an S1R is without interest. A
+    /// no says nothing.
+    fn cannot_win_with(
+        &self,
+        prefix: &Prefix<'_>,
+        exchange: &Exchange<'_>,
+        room: &mut Self::Room,
+    ) -> bool
+        ensures { result ≡ true → (a : Arrangement) → IsIn a (candidates (meets self.now) (may_be_left self.now) (frame self.now) (shape self.now))
+            → Begins prefix.now a → IsExchange exchange.now a.s1r → is_dull self.now a ≡ true };
 }

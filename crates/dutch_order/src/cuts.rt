@@ -1,11 +1,13 @@
 // What the levels of a listing and the search of their lists see of a bound: which beginnings lead to nothing of interest.
 ghost use Rattle.std.specs.Prelude.{◌≡◌, ℕ, List, true};
 ghost use Rattle.dutch_order.specs.Arrangements.{Arrangement, candidates};
+ghost use Rattle.dutch_order.specs.Exchanged.{IsExchange};
 ghost use Rattle.dutch_order.specs.Keys.{IsIn};
 ghost use Rattle.dutch_order.specs.Levels.{arranged};
 ghost use Rattle.dutch_order.specs.Prefixes.{Begins, GoesOn};
 
 use crate::bound::Bound;
+use crate::exchanged::Exchange;
 use crate::numbers::Numbers;
 use crate::prefix::{Filling, Prefix};
 
@@ -20,6 +22,28 @@ pub trait Cuts {
     /// Whether all arrangements that begin so are known to be idle.
     fn cuts(&self, prefix: &Prefix<'_>, room: &mut Self::Room) -> bool
         ensures { result ≡ true → (a : Arrangement) → Begins prefix.now a → Idle self.now a };
+
+    /// Whether all arrangements that begin so, and whose S1R is such an exchange, are known to be idle.
+    fn cuts_exchange(
+        &self,
+        prefix: &Prefix<'_>,
+        exchange: &Exchange<'_>,
+        room: &mut Self::Room,
+    ) -> bool
+        ensures { result ≡ true → (a : Arrangement) → Begins prefix.now a → IsExchange exchange.now a.s1r → Idle self.now a };
+}
+
+/// Tells of an exchange whether all sets that are such are idle.
+pub trait CutsExchanges {
+    /// What a question is worked out in.
+    type Room;
+
+    /// A set is idle.
+    ghost Idle: { Self → List ℕ → Type 0 };
+
+    /// Whether all sets that are such an exchange are known to be idle.
+    fn cuts(&self, exchange: &Exchange<'_>, room: &mut Self::Room) -> bool
+        ensures { result ≡ true → (set : List ℕ) → IsExchange exchange.now set → Idle self.now set };
 }
 
 /// Tells of a beginning of tuples whether all tuples that begin so are idle.
@@ -47,6 +71,15 @@ impl Cuts for NoCuts {
     fn cuts(&self, _prefix: &Prefix<'_>, _room: &mut ()) -> bool {
         false
     }
+
+    fn cuts_exchange(
+        &self,
+        _prefix: &Prefix<'_>,
+        _exchange: &Exchange<'_>,
+        _room: &mut (),
+    ) -> bool {
+        false
+    }
 }
 
 /// What a bound tells: an arrangement is idle if it is no candidate, or one without interest.
@@ -64,6 +97,15 @@ impl<'b, B: Bound> Cuts for Within<'b, B> {
 
     fn cuts(&self, prefix: &Prefix<'_>, room: &mut Self::Room) -> bool {
         self.bound.cannot_win(prefix, room)
+    }
+
+    fn cuts_exchange(
+        &self,
+        prefix: &Prefix<'_>,
+        exchange: &Exchange<'_>,
+        room: &mut Self::Room,
+    ) -> bool {
+        self.bound.cannot_win_with(prefix, exchange, room)
     }
 }
 
@@ -88,6 +130,31 @@ impl<'c, C: Cuts> CutsTuples for OfS2<'c, C> {
             s2r: &[],
         };
         self.cuts.cuts(&prefix, room)
+    }
+}
+
+/// What is told of arrangements, told of their S1R, once S1 and S2 are chosen.
+#[derive(Drop)]
+pub struct OfS1r<'c, C> {
+    pub cuts: &'c C,
+    pub s1: &'c Numbers,
+    pub s2: &'c Numbers,
+}
+
+impl<'c, C: Cuts> CutsExchanges for OfS1r<'c, C> {
+    type Room = C::Room;
+
+    ghost Idle = { λ o s1r. (a : Arrangement) → o.s1.now.items ≡ a.s1 → o.s2.now.items ≡ a.s2 → s1r ≡ a.s1r → C.Idle o.cuts.now a };
+
+    fn cuts(&self, exchange: &Exchange<'_>, room: &mut Self::Room) -> bool {
+        let prefix = Prefix {
+            filling: Filling::S2,
+            s1: self.s1,
+            s2: self.s2,
+            s1r: &[],
+            s2r: &[],
+        };
+        self.cuts.cuts_exchange(&prefix, exchange, room)
     }
 }
 

@@ -191,8 +191,21 @@ fn following_of(difference: usize, greatest: usize, beyond: Option<usize>) -> Op
     ensures { result ≡ following difference greatest beyond }
 {
     match beyond {
-        Some(next) if difference < next && next <= greatest => Some(next),
-        _ => None,
+        None => None,
+        Some(next) if difference < next => {
+            if next <= greatest {
+                Some(next)
+            } else {
+                None
+            }
+        }
+        Some(_) => {
+            if difference < greatest {
+                Some(difference + 1)
+            } else {
+                None
+            }
+        }
     }
 }
 

@@ -4,12 +4,12 @@
 // A beginning that leads to nothing of interest is left: if the caller knows that every whole path which begins so is idle, all of them
 // are passed over. So only idle paths are ever passed over, and it costs no step. When you change it, keep this: a path is left only by
 // setting its next number past all that its place tries, and if nothing is idle, each trial is still made and counted.
-ghost use Rattle.std.specs.Prelude.{◌≡◌, ◌+◌, ◌-◌, ◌<◌, ◌≤◌, ℕ, List, None, [], ◌∷◌, ◌++◌, length, true, false};
+ghost use Rattle.std.specs.Prelude.{◌≡◌, ◌+◌, ◌-◌, ◌<◌, ◌≤◌, ◌⊎◌, ℕ, List, None, Some, [], ◌∷◌, ◌++◌, length, true, false};
 ghost use Rattle.dutch_order.specs.Trials.{Plan, Tried, entry, below, ahead, hits, trials, lower, lowest};
 ghost use Rattle.dutch_order.specs.Hints.{hint_after, first_hint};
 ghost use Rattle.dutch_order.specs.Prefixes.{GoesOn};
 ghost use Rattle.dutch_order.specs.Steps.{MatchDrawn, Passes, Spends};
-ghost use Rattle.dutch_order.specs.Walks.{Stands, IsOpen, IsSpent, NoneIdle};
+ghost use Rattle.dutch_order.specs.Walks.{Stands, IsOpen, IsSpent, KeepsBeyond, NoneIdle};
 
 use crate::numbers::{LIMIT, Numbers};
 use crate::steps::{Budget, Drawn, Stopped};
@@ -159,7 +159,8 @@ impl<'a, T: Tree> Tree for Hinted<'a, T> {
 }
 
 /// Where a search stands: the numbers at the places filled, and the next number to try at the place after them. At a whole path
-/// the next number is 0 until the path has been handed out. And the least that lies beyond the numbers that were tried.
+/// the next number is 0 until the path has been handed out. And what lies beyond the numbers that were tried is no less than `beyond`,
+/// if anything does; where some were left without a trial, that is 0, so that nothing is known.
 #[derive(Drop)]
 pub struct Walk {
     pub path: Path,
@@ -231,19 +232,20 @@ fn end_number<T: Tree>(tree: &T, path: &[u16]) -> usize
     }
 }
 
-/// Leaves out all that is still to come below a path, if all of it is known to be idle.
+/// Leaves out all that is still to come below a path, if all of it is known to be idle. What lies beyond it is not known then.
 fn leave_idle<T: Tree, C: CutsPaths>(tree: &T, cuts: &C, room: &mut C::Room, walk: &mut Walk)
     requires standing { Stands (T.plan tree.now) walk.old.path.items }
     requires may_ask { (path : List ℕ) → Stands (T.plan tree.now) path → C.MayAsk cuts.now path }
     ensures path { walk.new.path.items ≡ walk.old.path.items }
-    ensures beyond { walk.new.beyond ≡ walk.old.beyond }
     ensures passes { Passes (C.Idle cuts.now) (hits (ahead (T.plan tree.now) walk.old.path.items walk.old.number))
         (hits (ahead (T.plan tree.now) walk.new.path.items walk.new.number)) }
-    ensures number { NoneIdle (C.Idle cuts.now) → walk.new.number ≡ walk.old.number }
+    ensures same { NoneIdle (C.Idle cuts.now) → (walk.new.number ≡ walk.old.number) × (walk.new.beyond ≡ walk.old.beyond) }
+    ensures known { (walk.new.beyond ≡ Some 0) ⊎ ((walk.new.number ≡ walk.old.number) × (walk.new.beyond ≡ walk.old.beyond)) }
 {
     let end = end_number(tree, &walk.path);
     if walk.number < end && cuts.cuts(&walk.path, &mut walk.room, room) {
         walk.number = end;
+        walk.beyond = Some(0);
     }
 }
 
@@ -321,6 +323,7 @@ pub fn climb_past<T: Tree, C: CutsPaths>(
         ≡ budget.old.used + trials (ahead (T.plan tree.now) walk.old.path.items walk.old.number) }
     ensures beyond { NoneIdle (C.Idle cuts.now) → lower walk.new.beyond (lowest (ahead (T.plan tree.now) walk.new.path.items walk.new.number))
         ≡ lower walk.old.beyond (lowest (ahead (T.plan tree.now) walk.old.path.items walk.old.number)) }
+    ensures known { KeepsBeyond (T.plan tree.now) walk.old walk.new }
     ensures spends { Spends budget.old budget.new }
 {
     leave_idle(tree, cuts, room, walk);

@@ -1,10 +1,10 @@
 use Rattle.dutch_order.proofs.Skipping.{passes-none}
 use Rattle.dutch_order.proofs.Spending.{spends-none, spends-step}
-use Rattle.std.proofs.Common.{◌∙◌, ◌∷◌, sym, ap, arith, refl, rules, subst}
+use Rattle.std.proofs.Common.{◌∙◌, ◌∷◌, sym, ap, arith, inr, refl, rules, subst}
 use Rattle.dutch_order.specs.Trials.{Tried, ahead, hits, trials, lower, lowest}
 use Rattle.dutch_order.specs.Walks.{Stands}
 use Rattle.dutch_order.proofs.LeftOut.{passes-more, passes-same}
-use Rattle.dutch_order.proofs.Moves.{ahead-same, beyond-tried, beyond-same, ahead-whole, trials-positive, spent-place, spent-whole}
+use Rattle.dutch_order.proofs.Moves.{ahead-same, beyond-tried, beyond-same, keeps-more, leave-keeps, ahead-whole, trials-positive, spent-place, spent-whole}
 use Rattle.dutch_order.proofs.search.climb_past.Goals as goal
 use Rattle.dutch_order.proofs.search.climb_past.Goals.{then-len-places+else-walk-eq0, else-len-places+else-walk-stop}
 
@@ -18,7 +18,7 @@ pub returns-then-walk-eq0-clause-steps : goal.returns-then-walk-eq0-clause-steps
 returns-then-walk-eq0-clause-steps g c = λ none.
     let plan = g.T.Tree.plan c.args.tree.now in
     let whole = ahead-whole plan c.loop-walk.walk.path.items c.loop-walk.walk.number (search rules) c.if-walk-eq0.true in
-    let first = ahead-same plan _ _ _ _ c.leave_idle.ensures.path (c.leave_idle.ensures.number none) in
+    let first = ahead-same plan _ _ _ _ c.leave_idle.ensures.path (c.leave_idle.ensures.same none).0 in
     omega (arith, ap trials whole, c.loop-walk.invariant.trials none, ap trials first)
 
 pub returns-then-walk-eq0-clause-beyond : goal.returns-then-walk-eq0-clause-beyond
@@ -29,7 +29,7 @@ returns-then-walk-eq0-clause-beyond g c = λ none.
     ∙ c.loop-walk.invariant.beyond none
     ∙ beyond-same c.args.walk.now.beyond c.leave_idle.new.walk.beyond
     (ahead plan c.args.walk.now.path.items c.args.walk.now.number) (ahead plan c.leave_idle.new.walk.path.items c.leave_idle.new.walk.number)
-    c.leave_idle.ensures.beyond (ahead-same plan _ _ _ _ c.leave_idle.ensures.path (c.leave_idle.ensures.number none))
+    (c.leave_idle.ensures.same none).1 (ahead-same plan _ _ _ _ c.leave_idle.ensures.path (c.leave_idle.ensures.same none).0)
 
 pub returns-then-budget-clause-answer : goal.returns-then-budget-clause-answer
 returns-then-budget-clause-answer g c =
@@ -52,12 +52,17 @@ loop-walk-preserved-then-try_number g c =
     record {
       stands = subst (Stands plan) (sym left.path) tried.stands;
       passes = passes-more Idle _ _ _ (passes-same Idle _ _ _ c.loop-walk.invariant.passes (ap hits tried.goes_on)) left.passes;
-      trials = λ none. omega (arith, ap trials (ahead-same plan _ _ _ _ left.path (left.number none)), ap trials tried.goes_on, c.loop-walk.invariant.trials none);
+      trials = λ none. omega (arith, ap trials (ahead-same plan _ _ _ _ left.path (left.same none).0), ap trials tried.goes_on, c.loop-walk.invariant.trials none);
       beyond = λ none.
           beyond-tried c.loop-walk.walk.beyond c.leave_idle-then-try_number.new.walk.beyond (plan.beyond c.loop-walk.walk.path.items c.loop-walk.walk.number)
           (ahead plan c.loop-walk.walk.path.items c.loop-walk.walk.number) (ahead plan c.leave_idle-then-try_number.new.walk.path.items c.leave_idle-then-try_number.new.walk.number)
-          (left.beyond ∙ tried.beyond) (tried.goes_on ∙ ap (λ events. Tried (plan.beyond c.loop-walk.walk.path.items c.loop-walk.walk.number) ∷ events) (sym (ahead-same plan _ _ _ _ left.path (left.number none))))
+          ((left.same none).1 ∙ tried.beyond) (tried.goes_on ∙ ap (λ events. Tried (plan.beyond c.loop-walk.walk.path.items c.loop-walk.walk.number) ∷ events) (sym (ahead-same plan _ _ _ _ left.path (left.same none).0)))
           ∙ c.loop-walk.invariant.beyond none;
+      known = keeps-more _ _ _ c.loop-walk.invariant.known
+          (keeps-more _ _ _ (inr (beyond-tried c.loop-walk.walk.beyond c.try_number.new.walk.beyond (plan.beyond c.loop-walk.walk.path.items c.loop-walk.walk.number)
+          (ahead plan c.loop-walk.walk.path.items c.loop-walk.walk.number) (ahead plan c.try_number.new.walk.path.items c.try_number.new.walk.number)
+          tried.beyond tried.goes_on))
+          (leave-keeps plan _ _ _ _ _ _ left.path left.known));
       spends = spends-step c.loop-walk.invariant.spends c.if-budget.false;
     }
 
@@ -70,12 +75,17 @@ loop-walk-preserved g c =
     record {
       stands = subst (Stands plan) (sym left.path) back.stands;
       passes = passes-more Idle _ _ _ (passes-same Idle _ _ _ c.loop-walk.invariant.passes (ap hits (sym back.same))) left.passes;
-      trials = λ none. omega (arith, ap trials (ahead-same plan _ _ _ _ left.path (left.number none)), ap trials back.same, c.loop-walk.invariant.trials none);
+      trials = λ none. omega (arith, ap trials (ahead-same plan _ _ _ _ left.path (left.same none).0), ap trials back.same, c.loop-walk.invariant.trials none);
       beyond = λ none.
           beyond-same c.loop-walk.walk.beyond c.leave_idle-in-loop-walk.new.walk.beyond
           (ahead plan c.loop-walk.walk.path.items c.loop-walk.walk.number) (ahead plan c.leave_idle-in-loop-walk.new.walk.path.items c.leave_idle-in-loop-walk.new.walk.number)
-          (left.beyond ∙ back.beyond) (ahead-same plan _ _ _ _ left.path (left.number none) ∙ back.same)
+          ((left.same none).1 ∙ back.beyond) (ahead-same plan _ _ _ _ left.path (left.same none).0 ∙ back.same)
           ∙ c.loop-walk.invariant.beyond none;
+      known = keeps-more _ _ _ c.loop-walk.invariant.known
+          (keeps-more _ _ _ (inr (beyond-same c.loop-walk.walk.beyond c.go_back.new.walk.beyond
+          (ahead plan c.loop-walk.walk.path.items c.loop-walk.walk.number) (ahead plan c.go_back.new.walk.path.items c.go_back.new.walk.number)
+          back.beyond back.same))
+          (leave-keeps plan _ _ _ _ _ _ left.path left.known));
       spends = c.loop-walk.invariant.spends;
     }
 
@@ -85,6 +95,7 @@ loop-walk-init g c = record {
   passes = passes-none (g.C.CutsPaths.Idle c.args.cuts.now) _ _ refl;
   trials = λ none. refl;
   beyond = λ none. refl;
+  known = inr refl;
   spends = spends-none _ c.requires.within;
 }
 
@@ -101,12 +112,16 @@ loop-walk-preserved-else-try_number g c =
           (ahead plan c.loop-walk.walk.path.items c.loop-walk.walk.number) (ahead plan c.try_number.new.walk.path.items c.try_number.new.walk.number)
           tried.beyond tried.goes_on
           ∙ c.loop-walk.invariant.beyond none;
+      known = keeps-more _ _ _ c.loop-walk.invariant.known
+          (inr (beyond-tried c.loop-walk.walk.beyond c.try_number.new.walk.beyond (plan.beyond c.loop-walk.walk.path.items c.loop-walk.walk.number)
+          (ahead plan c.loop-walk.walk.path.items c.loop-walk.walk.number) (ahead plan c.try_number.new.walk.path.items c.try_number.new.walk.number)
+          tried.beyond tried.goes_on));
       spends = spends-step c.loop-walk.invariant.spends c.if-budget.false;
     }
 
 pub returns-then-budget-clause-steps : goal.returns-then-budget-clause-steps
 returns-then-budget-clause-steps g c = λ none.
-    let first = ahead-same (g.T.Tree.plan c.args.tree.now) _ _ _ _ c.leave_idle.ensures.path (c.leave_idle.ensures.number none) in
+    let first = ahead-same (g.T.Tree.plan c.args.tree.now) _ _ _ _ c.leave_idle.ensures.path (c.leave_idle.ensures.same none).0 in
     omega (arith, c.loop-walk.invariant.trials none, ap trials first)
 
 pub returns-then-budget-clause-beyond : goal.returns-then-budget-clause-beyond
@@ -115,7 +130,7 @@ returns-then-budget-clause-beyond g c = λ none.
     c.loop-walk.invariant.beyond none
     ∙ beyond-same c.args.walk.now.beyond c.leave_idle.new.walk.beyond
     (ahead plan c.args.walk.now.path.items c.args.walk.now.number) (ahead plan c.leave_idle.new.walk.path.items c.leave_idle.new.walk.number)
-    c.leave_idle.ensures.beyond (ahead-same plan _ _ _ _ c.leave_idle.ensures.path (c.leave_idle.ensures.number none))
+    (c.leave_idle.ensures.same none).1 (ahead-same plan _ _ _ _ c.leave_idle.ensures.path (c.leave_idle.ensures.same none).0)
 
 pub returns-then-not-go_back-clause-answer : goal.returns-then-not-go_back-clause-answer
 returns-then-not-go_back-clause-answer g c =
@@ -125,7 +140,7 @@ returns-then-not-go_back-clause-answer g c =
 
 pub returns-then-not-go_back-clause-steps : goal.returns-then-not-go_back-clause-steps
 returns-then-not-go_back-clause-steps g c = λ none.
-    let first = ahead-same (g.T.Tree.plan c.args.tree.now) _ _ _ _ c.leave_idle.ensures.path (c.leave_idle.ensures.number none) in
+    let first = ahead-same (g.T.Tree.plan c.args.tree.now) _ _ _ _ c.leave_idle.ensures.path (c.leave_idle.ensures.same none).0 in
     omega (arith, ap trials c.go_back.ensures.same, c.loop-walk.invariant.trials none, ap trials first)
 
 pub returns-then-not-go_back-clause-beyond : goal.returns-then-not-go_back-clause-beyond
@@ -137,4 +152,24 @@ returns-then-not-go_back-clause-beyond g c = λ none.
     ∙ c.loop-walk.invariant.beyond none
     ∙ beyond-same c.args.walk.now.beyond c.leave_idle.new.walk.beyond
     (ahead plan c.args.walk.now.path.items c.args.walk.now.number) (ahead plan c.leave_idle.new.walk.path.items c.leave_idle.new.walk.number)
-    c.leave_idle.ensures.beyond (ahead-same plan _ _ _ _ c.leave_idle.ensures.path (c.leave_idle.ensures.number none))
+    (c.leave_idle.ensures.same none).1 (ahead-same plan _ _ _ _ c.leave_idle.ensures.path (c.leave_idle.ensures.same none).0)
+
+pub returns-then-walk-eq0-clause-known : goal.returns-then-walk-eq0-clause-known
+returns-then-walk-eq0-clause-known g c =
+    let plan = g.T.Tree.plan c.args.tree.now in
+    let whole = ahead-whole plan c.loop-walk.walk.path.items c.loop-walk.walk.number (search rules) c.if-walk-eq0.true in
+    keeps-more _ _ _ (leave-keeps plan _ _ _ _ _ _ c.leave_idle.ensures.path c.leave_idle.ensures.known)
+    (keeps-more _ _ _ c.loop-walk.invariant.known (inr (sym (ap (λ o. lower c.loop-walk.walk.beyond o) (ap lowest whole)))))
+
+pub returns-then-budget-clause-known : goal.returns-then-budget-clause-known
+returns-then-budget-clause-known g c =
+    keeps-more _ _ _ (leave-keeps (g.T.Tree.plan c.args.tree.now) _ _ _ _ _ _ c.leave_idle.ensures.path c.leave_idle.ensures.known) c.loop-walk.invariant.known
+
+pub returns-then-not-go_back-clause-known : goal.returns-then-not-go_back-clause-known
+returns-then-not-go_back-clause-known g c =
+    let plan = g.T.Tree.plan c.args.tree.now in
+    keeps-more _ _ _ (leave-keeps plan _ _ _ _ _ _ c.leave_idle.ensures.path c.leave_idle.ensures.known)
+    (keeps-more _ _ _ c.loop-walk.invariant.known
+    (inr (beyond-same c.loop-walk.walk.beyond c.go_back.new.walk.beyond
+    (ahead plan c.loop-walk.walk.path.items c.loop-walk.walk.number) (ahead plan c.go_back.new.walk.path.items c.go_back.new.walk.number)
+    c.go_back.ensures.beyond c.go_back.ensures.same)))

@@ -11,7 +11,7 @@ returns-then-cuts-clause-passes g c =
     (subst (λ path. IsSpent (g.T.Tree.plan c.args.tree.now) path c.end_number-end.result) c.deref.ensures.0 c.end_number-end.ensures)
     (subst (λ path. (whole : List ℕ) → GoesOn path whole → g.C.CutsPaths.Idle c.args.cuts.now whole) c.deref-then-walk-end.ensures.0 (c.cuts.ensures c.if-cuts.true))
 
-pub returns-then-cuts-clause-number : goal.returns-then-cuts-clause-number
-returns-then-cuts-clause-number g c = λ none.
+pub returns-then-cuts-clause-same : goal.returns-then-cuts-clause-same
+returns-then-cuts-clause-same g c = λ none.
     let here : List ℕ = c.deref-then-walk-end.result.now in
     absurd (none here (c.cuts.ensures c.if-cuts.true here (record { rest = []; is = sym (append-nil here) })))
