@@ -45,7 +45,7 @@ filter-false t low bound (x ∷ xs) climbs each =
     ap (λ b. cond b (x ∷ filter t xs) (filter t xs)) (each x climbs.0 climbs.1)
     ∙ filter-false t (suc x) bound xs climbs.2 (λ y from below. each y (omega (arith, climbs.0)) below)
 
-sum_of-append : (xs ys : List ℕ) → sum_of (xs ++ ys) ≡ sum_of xs + sum_of ys
+pub sum_of-append : (xs ys : List ℕ) → sum_of (xs ++ ys) ≡ sum_of xs + sum_of ys
 sum_of-append [] ys = omega arith
 sum_of-append (x ∷ xs) ys = omega (arith, sum_of-append xs ys)
 
@@ -106,7 +106,7 @@ module _ (pool : List ℕ) (k : ℕ) (rises : IsStrictlyIncreasing pool) (enough
   pub pool-is : pool ≡ map v (numbers_from 0 (length pool))
   pool-is = sym (map-numbers_from v pool 0 (λ j lt. ap v (let e : 0 + j ≡ j = omega arith in e)))
 
-  front-is : take k pool ≡ map v (numbers_from 0 k)
+  pub front-is : take k pool ≡ map v (numbers_from 0 k)
   front-is =
       sym (map-numbers_from v (take k pool) 0 (λ j lt. ap v (let e : 0 + j ≡ j = omega arith in e) ∙ sym (get_or-take k pool j 0 (omega (arith, length-take-le k pool enough)))))
       ∙ ap (λ n. map v (numbers_from 0 n)) (length-take-le k pool enough)
@@ -144,7 +144,7 @@ module _ (pool : List ℕ) (k : ℕ) (rises : IsStrictlyIncreasing pool) (enough
   pub places-climb : (outs ins : List ℕ) → Climbs 0 (length pool - k) ins → Climbs 0 (length pool) (places outs ins)
   places-climb outs ins climbs = Climbs-append 0 k (length pool) (low_places outs) (map (λ place. k + place) ins) (omega arith) enough (low-climbs outs) (high-climbs ins climbs)
 
-  outs-again : (outs : List ℕ) → Climbs 0 k outs → filter (λ i. is_member i outs) (numbers_from 0 k) ≡ outs
+  pub outs-again : (outs : List ℕ) → Climbs 0 k outs → filter (λ i. is_member i outs) (numbers_from 0 k) ≡ outs
   outs-again outs climbs = climbs-filter 0 k outs (subst (λ b. Climbs 0 b outs) (let e : k ≡ 0 + k = omega arith in e) climbs)
 
   low-length : (outs : List ℕ) → Climbs 0 k outs → length (low_places outs) + length outs ≡ k

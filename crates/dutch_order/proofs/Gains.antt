@@ -21,7 +21,7 @@ subset-short (x ∷ pool) (suc k) set m =
     ]
 
 -- as many numbers, each of which is at least each of the others
-total-pairs : (f g : ℕ → ℕ) (bound bound' low low' : ℕ) → ((i j : ℕ) → i < bound → j < bound' → f i ≤ g j) → (xs ys : List ℕ) → Climbs low bound xs → Climbs low' bound' ys → length xs ≡ length ys → total f xs ≤ total g ys
+pub total-pairs : (f g : ℕ → ℕ) (bound bound' low low' : ℕ) → ((i j : ℕ) → i < bound → j < bound' → f i ≤ g j) → (xs ys : List ℕ) → Climbs low bound xs → Climbs low' bound' ys → length xs ≡ length ys → total f xs ≤ total g ys
 total-pairs f g bound bound' low low' over [] ys p q same = omega arith
 total-pairs f g bound bound' low low' over (x ∷ xs) [] p q same = absurd (omega (arith, same))
 total-pairs f g bound bound' low low' over (x ∷ xs) (y ∷ ys) p q same =

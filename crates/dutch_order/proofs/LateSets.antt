@@ -3,7 +3,7 @@ use Rattle.std.proofs.Common.{◌≡◌, ℕ, suc, ◌+◌, ◌-◌, ◌<◌, �
 use Rattle.std.specs.List.Sorted.{IsStrictlyIncreasing}
 use Rattle.std.proofs.lemmas.Bool.{true≢false, cases_order, not_from_true, not_from_false}
 use Rattle.dutch_order.specs.declared.exchange.Side.TheVariants.{Out, In}
-use Rattle.dutch_order.specs.Trials.{Plan, entry, ahead, lower, lowest}
+use Rattle.dutch_order.specs.Trials.{Plan, entry, ahead, hits, lower, lowest}
 use Rattle.std.specs.List.{filter}
 use Rattle.dutch_order.specs.Choices.{subsets, from_on}
 use Rattle.dutch_order.specs.Hints.{hinted, first_hint}
@@ -19,7 +19,8 @@ use Rattle.dutch_order.proofs.Hinted.{hinted-ahead, hinted-hits}
 use Rattle.dutch_order.proofs.FromOn.{is_late, from_on-filter, order-same, admitted-length, admitted-reaches}
 use Rattle.dutch_order.proofs.ExchangeSets.{set-in_pool, exchange-of, places-of_exchange}
 use Rattle.dutch_order.proofs.Reach.{difference-least, difference-greatest}
-use Rattle.dutch_order.proofs.StageSets.{Climbs-length, Exchange, path-set, no_difference, path-exchange, stage-exchange, exchange-admitted, key-at, stage-order, beyond_above, below_above, stages-in, in-stages, stages-ascend, in-sizes, size-exchange, sizes-ascend, sizes-sorted}
+use Rattle.dutch_order.proofs.StageSets.{Climbs-length, Exchange, path-set, no_difference, path-exchange, stage-exchange, stage-hits, exchange-admitted, key-at, stage-order, beyond_above, below_above, stages-in, in-stages, stages-ascend, in-sizes, size-exchange, sizes-ascend, sizes-sorted}
+use Rattle.dutch_order.proofs.StageMoves.{sets-low}
 use Rattle.dutch_order.proofs.ByKeys.{is_before, Ascends, turned, exchange_key}
 
 module _ (pool : List ℕ) (k : ℕ) (rises : IsStrictlyIncreasing pool) (enough : k ≤ length pool) (small : (i : ℕ) → slice_index pool i ≤ 65535) where
@@ -269,6 +270,18 @@ module _ (pool : List ℕ) (k : ℕ) (rises : IsStrictlyIncreasing pool) (enough
           | inr (inl less) ↦ IsIn-back x first_sets (second_sets ++ third_sets) (IsIn-back x second_sets third_sets (late-third size' difference' x outs' ins' e' less))
           | inr (inr more) ↦ absurd (not-late x (before-larger size' size difference' difference x set outs' ins' outs ins more e' e) kept.1)
         ]
+
+    -- no set is passed over, and each path to come is one of its stage
+    pub late-known : sets_of_stages pool k (greatest_difference pool k size - difference) size (suc difference) (lower (Some (suc difference)) (lowest (ahead (hinted hint stage) [] (first_hint hint)))) ≡ sets_of_stages pool k (greatest_difference pool k size - difference) size (suc difference) (Some 0)
+    late-known =
+        ap (sets_of_stages pool k (greatest_difference pool k size - difference) size (suc difference)) next-from
+        ∙ sets-low pool k size (greatest_difference pool k size - difference) (suc difference) (suc difference) 0 (omega arith) (omega arith)
+
+    pub late-own : (x : List ℕ) → IsIn x (hits (ahead (hinted hint stage) [] (first_hint hint))) → IsIn x (hits (ahead stage [] 0))
+    late-own x m =
+        subst (IsIn x) (sym (stage-hits pool k rises enough small size difference))
+        (IsIn-filter (λ path. not (is_before path hint)) x (found stage (size + size) [])
+        (subst (IsIn x) (hinted-hits stage hint whole (admitted-reaches stage (size + size) [] hint admitted)) m)).0
 
     -- a search that begins at a set finds those from it on
     pub exchanges-from : sets_ahead pool k hint size difference [] (first_hint hint) (Some (suc difference)) ≡ from_on set (exchanges pool k)

@@ -13,7 +13,7 @@ use Rattle.dutch_order.specs.Exchange.{exchanges, exchange_cmp}
 use Rattle.dutch_order.specs.Halves.{half_start}
 use Rattle.dutch_order.specs.Stages.{total, value_of, within_reach, beyond_reach, exchange_plan, kept_of, set_of, stage_sets, stage_left, sets_of_stages, sets_of_sizes, stages_of, least_difference, greatest_difference, most_exchanged, sets_ahead, is_next, least_at, greatest_at}
 use Rattle.dutch_order.proofs.HalfWalks.{Climbs, AllFit, Admitted, halves-split, halves-join, Climbs-room}
-use Rattle.dutch_order.proofs.Orders.{is_before-lower, is_before-equal, is_before-cases, is_before-irreflexive, IsIn-map, map-IsIn, IsIn-append, IsIn-front, IsIn-back, Ascends-append, member_has}
+use Rattle.dutch_order.proofs.Orders.{is_before-lower, is_before-equal, is_before-cases, is_before-irreflexive, IsIn-map, map-IsIn, IsIn-append, IsIn-front, IsIn-back, Ascends-append, Ascends-unique, member_has}
 use Rattle.dutch_order.proofs.Found.{found, ahead-new}
 use Rattle.dutch_order.proofs.FoundPaths.{in-numbers, found-admitted, admitted-found, found-ascends, is_before-begun}
 use Rattle.dutch_order.proofs.LimboSets.{is_before-split, is_before-join, drop_front}
@@ -92,6 +92,11 @@ module _ (pool : List ℕ) (k : ℕ) (rises : IsStrictlyIncreasing pool) (enough
   stage-is size difference =
       ap (λ place. map (set_of pool k size) (hits (ahead (exchange_plan pool k size difference) [] place))) (sym (starts_at_none size difference (size + size)))
       ∙ ap (λ events. map (set_of pool k size) (hits events)) (ahead-new (exchange_plan pool k size difference))
+
+  pub stage-hits : (size difference : ℕ) → hits (ahead (exchange_plan pool k size difference) [] 0) ≡ found (exchange_plan pool k size difference) (size + size) []
+  stage-hits size difference =
+      ap (λ place. hits (ahead (exchange_plan pool k size difference) [] place)) (sym (starts_at_none size difference (size + size)))
+      ∙ ap hits (ahead-new (exchange_plan pool k size difference))
 
   pub path-set : (size : ℕ) (outs ins : List ℕ) → length outs ≡ size → set_of pool k size (outs ++ ins) ≡ kept_of pool k outs ++ map inn ins
   path-set size outs ins whole =
@@ -393,6 +398,24 @@ module _ (pool : List ℕ) (k : ℕ) (rises : IsStrictlyIncreasing pool) (enough
       (subst (λ z. is_before (size ∷ first ∷ one) z ≡ true) (sym (key-at size later.0 y there.0 there.1 there.2))
       (is_before-equal size (first ∷ one) (later.0 ∷ two) ∙ is_before-lower first later.0 one two (omega (arith, later.1))))))
       (stages-ascend count size (suc first) next more)
+
+  -- whatever is known of what lies beyond a stage, the same sets follow
+  pub stages-known : (count size first : ℕ) → (size ≡ 0 → count ≡ 0) → sets_of_stages pool k count size (suc first) (lowest (ahead (exchange_plan pool k size first) [] 0)) ≡ sets_of_stages pool k count size (suc first) (Some 0)
+  unfolding AtMost
+  stages-known count size first none =
+      let found_next : Option ℕ = lowest (ahead (exchange_plan pool k size first) [] 0) in
+      let none' : (difference : ℕ) → suc first ≤ difference → difference < suc first + count → size ≡ 0 → difference ≡ 0 = λ difference from below' empty. absurd (omega (arith, none empty)) in
+      Ascends-unique key (sets_of_stages pool k count size (suc first) found_next) (sets_of_stages pool k count size (suc first) (Some 0))
+      (stages-ascend count size (suc first) found_next none') (stages-ascend count size (suc first) (Some 0) none')
+      (λ x m.
+      let there = stages-in count size (suc first) found_next x m in
+      let e = stage-exchange size there.0 (none' there.0 there.1 there.2) x there.3 in
+      in-stages count size (suc first) there.0 0 (Some 0) x e.0 e.1 e.2 refl there.1 (omega arith) there.2)
+      (λ x m.
+      let there = stages-in count size (suc first) (Some 0) x m in
+      let e = stage-exchange size there.0 (none' there.0 there.1 there.2) x there.3 in
+      let most = next_reaches size first there.0 x e.0 e.1 e.2 (omega (arith, there.1)) in
+      in-stages count size (suc first) there.0 most.0 found_next x e.0 e.1 e.2 most.1 there.1 most.2 there.2)
 
   -- where nothing is exchanged, nothing differs
   none_at : (size difference : ℕ) → least_difference pool k size ≤ difference → difference < least_difference pool k size + stages_of pool k size → size ≡ 0 → difference ≡ 0

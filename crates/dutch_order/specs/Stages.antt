@@ -1,14 +1,18 @@
 -- How exchanges are searched, stage by stage, one for each number of exchanged players and each difference of the sums: a model that
 -- carries the search, and which a reader of the promises may pass by.
-use Rattle.std.specs.Prelude.{ℕ, zero, suc, ◌+◌, ◌-◌, ◌≤◌, Bool, false, not, ◌&&◌, nat_lt, nat_le, min, List, [], ◌∷◌, ◌++◌, map, filter, reverse, take, drop, length, slice_index, if◌then◌else◌, Option, Some, None}
+use Rattle.std.specs.Prelude.{◌≡◌, ℕ, zero, suc, ◌+◌, ◌-◌, ◌≤◌, Bool, true, false, not, ◌&&◌, nat_lt, nat_le, min, List, [], ◌∷◌, ◌++◌, map, filter, reverse, take, drop, length, slice_index, if◌then◌else◌, Option, Some, None}
 use Rattle.dutch_order.specs.Choices.{is_member, numbers_from}
+use Rattle.dutch_order.specs.Exchanged.{KnownExchange}
+use Rattle.dutch_order.specs.Keys.{IsIn}
 use Rattle.dutch_order.specs.declared.exchange.Place.{Place}
 use Rattle.dutch_order.specs.declared.exchange.Side.{Side}
 use Rattle.dutch_order.specs.declared.exchange.Side.TheVariants.{Out, In}
 use Rattle.dutch_order.specs.Trials.{Plan, hits, trials, lower, lowest, ahead}
-use Rattle.dutch_order.specs.Halves.{two_halves}
+use Rattle.dutch_order.specs.Halves.{half_start, two_halves}
+use Rattle.dutch_order.specs.Sides.{count_of}
 use Rattle.dutch_order.specs.Hints.{hinted}
-use Rattle.dutch_order.specs.Walks.{Stands}
+use Rattle.dutch_order.specs.Walks.{Stands, beyond_all}
+use Rattle.std.specs.List.{AllByRecursion}
 
 -- the sum of what a function gives for the members of a list
 abbrev pub total : (ℕ → ℕ) → List ℕ → ℕ
@@ -27,6 +31,11 @@ following difference greatest (Some next) =
     if nat_lt difference next
     then (if nat_le next greatest then Some next else None)
     else (if nat_lt difference greatest then Some (suc difference) else None)
+
+-- whether it is known of a place of a half that it is chosen, or else that it is not: those chosen are, and of those below a limit it is
+-- known that no other one is
+abbrev pub is_told : List ℕ → ℕ → Bool → ℕ → Bool
+is_told taken limit chosen place = if is_member place taken then chosen else (not chosen && nat_lt place limit)
 
 module _ (pool : List ℕ) (k : ℕ) where
   -- a number of the original set by its place from the highest, and one of the others by its place from the lowest
@@ -100,6 +109,48 @@ module _ (pool : List ℕ) (k : ℕ) where
   abbrev pub exchange_difference : List ℕ → ℕ
   exchange_difference set = total (value_of In) (in_places set) - total (value_of Out) (out_places set)
 
+  -- below which place it is known who is moved out in all paths that begin so
+  unfoldable pub out_limit : ℕ → List ℕ → ℕ
+  out_limit size begun = if nat_lt (length begun) size then half_start size begun else k
+
+  -- and who is moved in
+  unfoldable pub in_limit : ℕ → List ℕ → ℕ
+  in_limit size begun =
+      if nat_lt (length begun) size then 0 else (if nat_lt (length begun) (size + size) then half_start size begun else (length pool - k))
+
+  -- the numbers of a side of whose places it is known that they are chosen, or else that they are not
+  abbrev pub told_numbers : Side → List ℕ → ℕ → Bool → List ℕ
+  told_numbers side taken limit chosen = map (value_of side) (filter (is_told taken limit chosen) (numbers_from 0 (count_of pool k side)))
+
+  -- who is in the set of each path that begins so: those who are not moved out, and those who are moved in
+  abbrev pub held_numbers : ℕ → List ℕ → List ℕ
+  held_numbers size begun =
+      told_numbers Out (take size begun) (out_limit size begun) false ++ told_numbers In (drop size begun) (in_limit size begun) true
+
+  -- and who is in none of them
+  abbrev pub barred_numbers : ℕ → List ℕ → List ℕ
+  barred_numbers size begun =
+      told_numbers Out (take size begun) (out_limit size begun) true ++ told_numbers In (drop size begun) (in_limit size begun) false
+
+  -- what is known of the sets of a stage whose paths begin so
+  abbrev pub known_exchange : ℕ → ℕ → List ℕ → KnownExchange
+  known_exchange size difference begun = record {
+    original = take k pool;
+    others = drop k pool;
+    size = size;
+    difference = difference;
+    held = held_numbers size begun;
+    barred = barred_numbers size begun;
+  }
+
+  -- a path is one of those that a stage finds
+  abbrev pub IsOfStage : ℕ → ℕ → List ℕ → Type 0
+  IsOfStage size difference path = IsIn path (hits (ahead (exchange_plan size difference) [] 0))
+
+  -- a path is idle if its set is
+  abbrev pub IdleAt : (List ℕ → Type 0) → ℕ → ℕ → List ℕ → Type 0
+  IdleAt Idle size difference path = IsOfStage size difference path → Idle (set_of size path)
+
   -- the least difference of exchanges of so many
   abbrev pub least_difference : ℕ → ℕ
   least_difference size = run In 0 size - run Out 0 size
@@ -168,11 +219,25 @@ module _ (pool : List ℕ) (k : ℕ) where
   stages_ahead size difference =
       (greatest_difference size - difference) + stages_of_sizes (most_exchanged - size) (suc size)
 
-  -- where a search may stand: so many can be exchanged, and its path is one of its stage
+  -- what is known of what lies beyond a search's stage passes over no set: the same follow as if nothing were known
+  abbrev pub IsKnown : Place → Type 0
+  IsKnown place =
+      sets_of_stages (greatest_difference place.size - place.difference) place.size (suc place.difference) (beyond_all (hinted place.hint.items (exchange_plan place.size place.difference)) place.walk)
+      ≡ sets_of_stages (greatest_difference place.size - place.difference) place.size (suc place.difference) (Some 0)
+
+  -- each path to come is one of its stage
+  abbrev pub IsOwn : Place → Type 0
+  IsOwn place =
+      AllByRecursion (IsOfStage place.size place.difference)
+      (hits (ahead (hinted place.hint.items (exchange_plan place.size place.difference)) place.walk.path.items place.walk.number))
+
+  -- where a search may stand: so many can be exchanged; its path is one of its stage; no set is passed over, and each path to come is
+  -- one of its stage
   abbrev pub IsPlace : Place → Type 0
   IsPlace place =
       (place.size ≤ k) × (place.size ≤ length pool - k)
       × Stands (hinted place.hint.items (exchange_plan place.size place.difference)) place.walk.path.items
+      × IsKnown place × IsOwn place
 
   -- the sets to come from where it stands
   abbrev pub sets_from : Place → List (List ℕ)

@@ -9,22 +9,27 @@
 // A search that begins at a set begins in that set's stage, at the set's own path, and then tries the very next difference, since
 // what lies beyond the paths before the set was not seen.
 ghost use Rattle.dutch_order.specs.declared.numbers.TheConstants.{LIMIT};
-ghost use Rattle.std.specs.Prelude.{◌≡◌, ◌+◌, ◌*◌, ◌-◌, ◌<◌, ◌≤◌, ℕ, suc, true, false, Some, [], ◌∷◌, ◌++◌, length, map, take, drop};
+ghost use Rattle.std.specs.Prelude.{◌≡◌, ◌+◌, ◌*◌, ◌-◌, ◌<◌, ◌≤◌, ℕ, List, suc, true, false, Some, [], ◌∷◌, ◌++◌, length, map, take, drop, slice_index};
 ghost use Rattle.std.specs.List.{AllByRecursion};
-ghost use Rattle.dutch_order.specs.Stages.{least_at, greatest_at, least_difference, greatest_difference, exchange_plan, IsPlace, sets_from, trials_from, stages_ahead, set_of, kept_of, value_of, following, out_places, in_places, exchange_path, exchange_difference};
+ghost use Rattle.std.specs.Result.{IsErr};
+ghost use Rattle.dutch_order.specs.Prefixes.{GoesOn};
+ghost use Rattle.dutch_order.specs.Sides.{count_of};
+ghost use Rattle.dutch_order.specs.Stages.{IdleAt, barred_numbers, held_numbers, in_limit, is_told, out_limit, told_numbers, least_at, greatest_at, least_difference, greatest_difference, exchange_plan, IsPlace, sets_from, trials_from, stages_ahead, set_of, kept_of, value_of, following, out_places, in_places, exchange_path, exchange_difference};
 ghost use Rattle.dutch_order.specs.Exchange.{exchanges};
 ghost use Rattle.dutch_order.specs.Choices.{subsets, from_on, numbers_from};
 ghost use Rattle.dutch_order.specs.Keys.{IsIn};
 ghost use Rattle.std.specs.List.Sorted.{IsStrictlyIncreasing};
-ghost use Rattle.dutch_order.specs.declared.exchange.Side.TheVariants.{In};
-ghost use Rattle.dutch_order.specs.Steps.{MatchDrawn, MatchStep, Spends};
-ghost use Rattle.dutch_order.specs.Walks.{IsOpen};
-ghost use Rattle.dutch_order.specs.Trials.{ahead};
+ghost use Rattle.dutch_order.specs.declared.exchange.Side.TheVariants.{In, Out};
+ghost use Rattle.dutch_order.specs.Steps.{MatchDrawn, MatchStep, Passes, Spends};
+ghost use Rattle.dutch_order.specs.Walks.{IsOpen, KeepsBeyond, Stands};
+ghost use Rattle.dutch_order.specs.Trials.{ahead, hits};
 ghost use Rattle.dutch_order.specs.Hints.{hinted, first_hint};
 
+use crate::cuts::CutsExchanges;
+use crate::exchanged::Exchange;
 use crate::halves::{end_of_half, first_of_half};
 use crate::numbers::{LIMIT, Numbers, fill};
-use crate::search::{Hinted, Path, Tree, Walk, climb_on, first_hint, put_behind};
+use crate::search::{CutsPaths, Hinted, Path, Tree, Walk, climb_on, climb_past, end_number, first_hint, put_behind};
 use crate::steps::{Budget, Drawn, Step, Stopped};
 use crate::sums::{run_of, total_of, value_at};
 use arrayvec::ArrayVec;
@@ -293,6 +298,7 @@ fn enter_at(pool: &[u16], k: usize, set: &[u16], place: &mut Place)
 /// Goes on to the next stage, if there is one.
 #[tactic(auto, unfolding(crate::specs::Stages::stages_ahead))]
 fn next_stage(pool: &[u16], k: usize, place: &mut Place) -> bool
+    requires ascends { IsStrictlyIncreasing pool.now }
     requires few { length pool.now ≤ LIMIT }
     requires enough { k ≤ length pool.now }
     requires spent { ahead (hinted place.old.hint.items (exchange_plan pool.now k place.old.size place.old.difference)) place.old.walk.path.items place.old.walk.number ≡ [] }
@@ -322,6 +328,7 @@ fn next_stage(pool: &[u16], k: usize, place: &mut Place) -> bool
 /// Goes on to the next set, whose path the walk then has, unless the budget or the search ends before it.
 #[tactic(auto, unfolding(crate::specs::Stages::trials_ahead))]
 fn next_set(pool: &[u16], k: usize, place: &mut Place, budget: &mut Budget) -> Drawn
+    requires ascends { IsStrictlyIncreasing pool.now }
     requires few { length pool.now ≤ LIMIT }
     requires enough { k ≤ length pool.now }
     requires standing { IsPlace pool.now k place.old }
@@ -347,6 +354,284 @@ fn next_set(pool: &[u16], k: usize, place: &mut Place, budget: &mut Budget) -> D
             hint: &place.hint,
         };
         if climb_on(&tree, &mut place.walk, budget)? {
+            return Ok(true);
+        }
+        if !next_stage(pool, k, place) {
+            return Ok(false);
+        }
+    }
+}
+
+/// What a path that has begun tells of one side: the places that it has chosen, and below which place it is known of all others that
+/// they are not chosen.
+#[derive(Drop)]
+struct Told<'a> {
+    side: Side,
+    taken: &'a [u16],
+    limit: usize,
+}
+
+/// How many numbers a side has.
+fn count_at(stage: &Stage<'_>, side: Side) -> usize
+    ensures { result ≡ count_of stage.now.pool.now stage.now.k side }
+{
+    match side {
+        Side::Out => stage.k,
+        Side::In => stage.pool.len() - stage.k,
+    }
+}
+
+/// Whether it is known of a place that it is chosen, or else that it is not.
+fn is_told(told: &Told<'_>, chosen: bool, place: usize) -> bool
+    requires small { place ≤ 65535 }
+    ensures { result ≡ is_told told.now.taken.now told.now.limit chosen place }
+{
+    if told.taken.contains(&(place as u16)) {
+        chosen
+    } else {
+        !chosen && place < told.limit
+    }
+}
+
+/// Puts the numbers behind others of whose places it is known that they are chosen, or else that they are not.
+fn put_told(stage: &Stage<'_>, told: &Told<'_>, chosen: bool, numbers: &mut Numbers)
+    requires room { length numbers.old.items
+        + length (told_numbers stage.now.pool.now stage.now.k told.now.side told.now.taken.now told.now.limit chosen) ≤ LIMIT }
+    ensures { numbers.new.items ≡ numbers.old.items
+        ++ told_numbers stage.now.pool.now stage.now.k told.now.side told.now.taken.now told.now.limit chosen }
+{
+    for place in 0..count_at(stage, told.side) {
+        if is_told(told, chosen, place) {
+            numbers.push(value_at(stage.pool, stage.k, told.side, place) as u16);
+        }
+    }
+}
+
+/// What a path tells of those moved out.
+#[tactic(auto, unfolding(crate::specs::Stages::out_limit))]
+fn told_out<'a>(stage: &Stage<'_>, begun: &'a [u16]) -> Told<'a>
+    ensures side { result.side ≡ Out }
+    ensures taken { result.taken.now ≡ take stage.now.size begun.now }
+    ensures limit { result.limit ≡ out_limit stage.now.pool.now stage.now.k stage.now.size begun.now }
+{
+    if begun.len() < stage.size {
+        Told {
+            side: Side::Out,
+            taken: begun,
+            limit: first_of_half(stage.size, begun),
+        }
+    } else {
+        Told {
+            side: Side::Out,
+            taken: &begun[..stage.size],
+            limit: stage.k,
+        }
+    }
+}
+
+/// And of those moved in.
+#[tactic(auto, unfolding(crate::specs::Stages::in_limit))]
+fn told_in<'a>(stage: &Stage<'_>, begun: &'a [u16]) -> Told<'a>
+    ensures side { result.side ≡ In }
+    ensures taken { result.taken.now ≡ drop stage.now.size begun.now }
+    ensures limit { result.limit ≡ in_limit stage.now.pool.now stage.now.k stage.now.size begun.now }
+{
+    if begun.len() < stage.size {
+        return Told {
+            side: Side::In,
+            taken: &[],
+            limit: 0,
+        };
+    }
+    let limit = if begun.len() < stage.size + stage.size {
+        first_of_half(stage.size, begun)
+    } else {
+        stage.pool.len() - stage.k
+    };
+    Told {
+        side: Side::In,
+        taken: begun.split_at(stage.size).1,
+        limit,
+    }
+}
+
+/// Fills a list with who is in the set of each path that begins so, and behind them with who is in none. The answer is how many the first
+/// are.
+fn put_known(stage: &Stage<'_>, begun: &[u16], numbers: &mut Numbers) -> usize
+    ensures held { take result numbers.new.items ≡ held_numbers stage.now.pool.now stage.now.k stage.now.size begun.now }
+    ensures barred { drop result numbers.new.items ≡ barred_numbers stage.now.pool.now stage.now.k stage.now.size begun.now }
+    ensures within { result ≤ length numbers.new.items }
+{
+    let outs = told_out(stage, begun);
+    let ins = told_in(stage, begun);
+    numbers.clear();
+    put_told(stage, &outs, false, numbers);
+    put_told(stage, &ins, true, numbers);
+    let held = numbers.len();
+    put_told(stage, &outs, true, numbers);
+    put_told(stage, &ins, false, numbers);
+    held
+}
+
+/// Whether the cuts know that the sets of all paths of a stage are idle that begin so. The original set is not asked about: it is one
+/// set, and no stage of others.
+fn cuts_begun<C: CutsExchanges>(
+    stage: &Stage<'_>,
+    cuts: &C,
+    begun: &[u16],
+    numbers: &mut Numbers,
+    room: &mut C::Room,
+) -> bool
+    requires ascends { IsStrictlyIncreasing stage.now.pool.now }
+    requires small { (i : ℕ) → slice_index stage.now.pool.now i ≤ 65535 }
+    ensures { result ≡ true → (path : List ℕ) → GoesOn begun.now path
+        → IdleAt stage.now.pool.now stage.now.k (C.Idle cuts.now) stage.now.size stage.now.difference path }
+{
+    if stage.size == 0 {
+        return false;
+    }
+    let count = put_known(stage, begun, numbers);
+    let (held, barred) = numbers.split_at(count);
+    let (original, others) = stage.pool.split_at(stage.k);
+    let exchange = Exchange {
+        original,
+        others,
+        size: stage.size,
+        difference: stage.difference,
+        held,
+        barred,
+    };
+    cuts.cuts(&exchange, room)
+}
+
+/// What is told of exchanges, told of the paths of a stage that have begun.
+#[derive(Drop)]
+struct OfStage<'c, C> {
+    stage: &'c Stage<'c>,
+    cuts: &'c C,
+    ghost ascends: { IsStrictlyIncreasing stage.now.pool.now },
+    ghost small: { (i : ℕ) → slice_index stage.now.pool.now i ≤ 65535 },
+}
+
+impl<'c, C: CutsExchanges> CutsPaths for OfStage<'c, C> {
+    ghost use Rattle.dutch_order.specs.Stages.{IdleAt};
+
+    type Room = C::Room;
+
+    ghost Idle = { λ t path. IdleAt t.stage.now.pool.now t.stage.now.k (C.Idle t.cuts.now) t.stage.now.size t.stage.now.difference path };
+
+    ghost MayAsk = { λ _ _. Unit {0} };
+
+    fn cuts(&self, begun: &[u16], numbers: &mut Numbers, room: &mut C::Room) -> bool {
+        // a whole stage is asked about where it begins, since that is a step
+        !begun.is_empty() && cuts_begun(self.stage, self.cuts, begun, numbers, room)
+    }
+}
+
+/// Leaves a stage in which nothing is chosen, if all its sets are known to be idle. That is a step, so the budget is asked first.
+fn leave_stage<C: CutsExchanges>(
+    tree: &Hinted<'_, Stage<'_>>,
+    cuts: &C,
+    room: &mut C::Room,
+    walk: &mut Walk,
+    budget: &mut Budget,
+) -> Result<(), Stopped>
+    requires ascends { IsStrictlyIncreasing tree.now.tree.pool.now }
+    requires small { (i : ℕ) → slice_index tree.now.tree.pool.now i ≤ 65535 }
+    requires standing { Stands (hinted tree.now.hint.now.items (exchange_plan tree.now.tree.pool.now tree.now.tree.k tree.now.tree.size tree.now.tree.difference)) walk.old.path.items }
+    requires within { budget.old.used ≤ budget.old.limit }
+    ensures path { walk.new.path.items ≡ walk.old.path.items }
+    ensures passes { Passes (IdleAt tree.now.tree.pool.now tree.now.tree.k (C.Idle cuts.now) tree.now.tree.size tree.now.tree.difference)
+        (hits (ahead (hinted tree.now.hint.now.items (exchange_plan tree.now.tree.pool.now tree.now.tree.k tree.now.tree.size tree.now.tree.difference)) walk.old.path.items walk.old.number))
+        (hits (ahead (hinted tree.now.hint.now.items (exchange_plan tree.now.tree.pool.now tree.now.tree.k tree.now.tree.size tree.now.tree.difference)) walk.new.path.items walk.new.number)) }
+    ensures known { KeepsBeyond (hinted tree.now.hint.now.items (exchange_plan tree.now.tree.pool.now tree.now.tree.k tree.now.tree.size tree.now.tree.difference)) walk.old walk.new }
+    ensures stopped { IsErr result → budget.new.used ≡ budget.new.limit }
+    ensures spends { Spends budget.old budget.new }
+{
+    let stop = end_number(tree, &walk.path);
+    if tree.tree.size == 0 || !walk.path.is_empty() || stop <= walk.number {
+        return Ok(());
+    }
+    if budget.used == budget.limit {
+        return Err(Stopped);
+    }
+    if cuts_begun(&tree.tree, cuts, &walk.path, &mut walk.room, room) {
+        budget.used += 1;
+        walk.number = stop;
+        walk.beyond = Some(0);
+    }
+    Ok(())
+}
+
+/// Goes on to the next whole path of a stage, or leaves out such as are known to be idle.
+fn climb_stage<C: CutsExchanges>(
+    tree: &Hinted<'_, Stage<'_>>,
+    cuts: &C,
+    room: &mut C::Room,
+    walk: &mut Walk,
+    budget: &mut Budget,
+) -> Drawn
+    requires ascends { IsStrictlyIncreasing tree.now.tree.pool.now }
+    requires small { (i : ℕ) → slice_index tree.now.tree.pool.now i ≤ 65535 }
+    requires standing { Stands (hinted tree.now.hint.now.items (exchange_plan tree.now.tree.pool.now tree.now.tree.k tree.now.tree.size tree.now.tree.difference)) walk.old.path.items }
+    requires within { budget.old.used ≤ budget.old.limit }
+    ensures stands { Stands (hinted tree.now.hint.now.items (exchange_plan tree.now.tree.pool.now tree.now.tree.k tree.now.tree.size tree.now.tree.difference)) walk.new.path.items }
+    ensures answer { MatchDrawn result
+        (Passes (IdleAt tree.now.tree.pool.now tree.now.tree.k (C.Idle cuts.now) tree.now.tree.size tree.now.tree.difference)
+        (hits (ahead (hinted tree.now.hint.now.items (exchange_plan tree.now.tree.pool.now tree.now.tree.k tree.now.tree.size tree.now.tree.difference)) walk.old.path.items walk.old.number))
+        (walk.new.path.items ∷ hits (ahead (hinted tree.now.hint.now.items (exchange_plan tree.now.tree.pool.now tree.now.tree.k tree.now.tree.size tree.now.tree.difference)) walk.new.path.items walk.new.number))
+        × (length walk.new.path.items ≡ tree.now.tree.size + tree.now.tree.size))
+        (Passes (IdleAt tree.now.tree.pool.now tree.now.tree.k (C.Idle cuts.now) tree.now.tree.size tree.now.tree.difference)
+        (hits (ahead (hinted tree.now.hint.now.items (exchange_plan tree.now.tree.pool.now tree.now.tree.k tree.now.tree.size tree.now.tree.difference)) walk.old.path.items walk.old.number)) []
+        × (ahead (hinted tree.now.hint.now.items (exchange_plan tree.now.tree.pool.now tree.now.tree.k tree.now.tree.size tree.now.tree.difference)) walk.new.path.items walk.new.number ≡ []))
+        (Passes (IdleAt tree.now.tree.pool.now tree.now.tree.k (C.Idle cuts.now) tree.now.tree.size tree.now.tree.difference)
+        (hits (ahead (hinted tree.now.hint.now.items (exchange_plan tree.now.tree.pool.now tree.now.tree.k tree.now.tree.size tree.now.tree.difference)) walk.old.path.items walk.old.number))
+        (hits (ahead (hinted tree.now.hint.now.items (exchange_plan tree.now.tree.pool.now tree.now.tree.k tree.now.tree.size tree.now.tree.difference)) walk.new.path.items walk.new.number))
+        × (budget.new.used ≡ budget.new.limit)) }
+    ensures known { KeepsBeyond (hinted tree.now.hint.now.items (exchange_plan tree.now.tree.pool.now tree.now.tree.k tree.now.tree.size tree.now.tree.difference)) walk.old walk.new }
+    ensures spends { Spends budget.old budget.new }
+{
+    leave_stage(tree, cuts, room, walk, budget)?;
+    let paths = OfStage {
+        stage: &tree.tree,
+        cuts,
+    };
+    climb_past(tree, &paths, room, walk, budget)
+}
+
+/// Goes on to the next set, whose path the walk then has, past such as are known to be idle. All that was passed over is idle.
+fn next_set_past<C: CutsExchanges>(
+    pool: &[u16],
+    k: usize,
+    cuts: &C,
+    room: &mut C::Room,
+    place: &mut Place,
+    budget: &mut Budget,
+) -> Drawn
+    requires ascends { IsStrictlyIncreasing pool.now }
+    requires few { length pool.now ≤ LIMIT }
+    requires enough { k ≤ length pool.now }
+    requires standing { IsPlace pool.now k place.old }
+    requires within { budget.old.used ≤ budget.old.limit }
+    ensures stands { IsPlace pool.now k place.new }
+    ensures answer { MatchDrawn result
+        (Passes (C.Idle cuts.now) (sets_from pool.now k place.old) (set_of pool.now k place.new.size place.new.walk.path.items ∷ sets_from pool.now k place.new)
+        × (length place.new.walk.path.items ≡ place.new.size + place.new.size))
+        (Passes (C.Idle cuts.now) (sets_from pool.now k place.old) [] × (sets_from pool.now k place.new ≡ []))
+        (Passes (C.Idle cuts.now) (sets_from pool.now k place.old) (sets_from pool.now k place.new) × (budget.new.used ≡ budget.new.limit)) }
+    ensures spends { Spends budget.old budget.new }
+{
+    loop {
+        let tree = Hinted {
+            tree: Stage {
+                pool,
+                k,
+                size: place.size,
+                difference: place.difference,
+            },
+            hint: &place.hint,
+        };
+        if climb_stage(&tree, cuts, room, &mut place.walk, budget)? {
             return Ok(true);
         }
         if !next_stage(pool, k, place) {
@@ -411,6 +696,7 @@ pub struct Exchanges {
 impl Model for Exchanges {
     ghost use Rattle.dutch_order.specs.declared.numbers.TheConstants.{LIMIT};
     ghost use Rattle.std.specs.Prelude.{◌≤◌, ◌-◌, length};
+    ghost use Rattle.std.specs.List.Sorted.{IsStrictlyIncreasing};
     ghost use Rattle.dutch_order.specs.Steps.{Ahead};
     ghost use Rattle.dutch_order.specs.Stages.{IsPlace, sets_from, trials_from};
 
@@ -422,7 +708,8 @@ impl Model for Exchanges {
     } };
 
     ghost invariant = { λ t.
-        (length t.pool.items ≤ LIMIT) × (t.k ≤ length t.pool.items) × IsPlace t.pool.items t.k t.place };
+        (length t.pool.items ≤ LIMIT) × (t.k ≤ length t.pool.items) × IsStrictlyIncreasing t.pool.items
+        × IsPlace t.pool.items t.k t.place };
 }
 
 impl Exchanges {
@@ -524,6 +811,30 @@ impl Exchanges {
         ensures spends { Spends budget.old budget.new }
     {
         if !next_set(&self.pool, self.k, &mut self.place, budget)? {
+            return Ok(false);
+        }
+        put_set(&self.pool, self.k, &self.place, numbers);
+        Ok(true)
+    }
+
+    /// Fills a list with the next one, but sets that the cuts know to be idle may be skipped: they are asked about each stage where it
+    /// begins, which is a step if it is left, and about each beginning at which the search arrives, at no step. All that was skipped is idle,
+    /// whatever the answer.
+    pub(crate) fn put_next_past<C: CutsExchanges>(
+        &mut self,
+        cuts: &C,
+        room: &mut C::Room,
+        numbers: &mut Numbers,
+        budget: &mut Budget,
+    ) -> Drawn
+        requires { budget.old.used ≤ budget.old.limit }
+        ensures answer { MatchDrawn result
+            (Passes (C.Idle cuts.now) self.old.coming (numbers.new.items ∷ self.new.coming))
+            (Passes (C.Idle cuts.now) self.old.coming [] × (self.new.coming ≡ []))
+            (Passes (C.Idle cuts.now) self.old.coming self.new.coming × (budget.new.used ≡ budget.new.limit)) }
+        ensures spends { Spends budget.old budget.new }
+    {
+        if !next_set_past(&self.pool, self.k, cuts, room, &mut self.place, budget)? {
             return Ok(false);
         }
         put_set(&self.pool, self.k, &self.place, numbers);

@@ -221,7 +221,7 @@ fn lower_of(one: Option<usize>, other: Option<usize>) -> Option<usize>
 }
 
 /// The end of the numbers to try after a path; 1 if the path is whole.
-fn end_number<T: Tree>(tree: &T, path: &[u16]) -> usize
+pub fn end_number<T: Tree>(tree: &T, path: &[u16]) -> usize
     requires { Stands (T.plan tree.now) path.now }
     ensures { IsSpent (T.plan tree.now) path.now result }
 {

@@ -1,6 +1,10 @@
-use Rattle.std.proofs.Common.{◌≡◌, ◌+◌, ◌<◌, ℕ, suc, ◌∙◌, ap, subst, sym, arith, rules}
+use Rattle.std.proofs.Common.{◌≡◌, ◌+◌, ◌<◌, ℕ, suc, [], length, ◌∙◌, ap, subst, sym, arith, rules}
 use Rattle.dutch_order.specs.Stages.{least_difference, stages_ahead}
 use Rattle.dutch_order.proofs.StageMoves.{sets-entered, trials-entered, sets-next, trials-next, sets-larger, trials-larger, stages-larger, sets-none, trials-none}
+use Rattle.dutch_order.specs.Hints.{hinted}
+use Rattle.dutch_order.specs.Stages.{exchange_plan, most_exchanged}
+use Rattle.dutch_order.specs.Walks.{Walked}
+use Rattle.dutch_order.proofs.Places.{new-place}
 use Rattle.dutch_order.proofs.exchange.next_stage.Goals as goal
 
 one_up : (n : ℕ) → n + 1 ≡ suc n
@@ -51,4 +55,29 @@ returns-clause-ended c _ =
     let p = c.args.place.now in (
       sets-none c.args.pool.now c.args.k p.hint.items p.size p.difference p.walk.path.items p.walk.number p.walk.beyond c.requires.spent (search rules) (search rules),
       trials-none c.args.pool.now c.args.k p.hint.items p.size p.difference p.walk.path.items p.walk.number p.walk.beyond c.requires.spent (search rules) (search rules),
+    )
+
+pub returns-in-Some-clause-stands : goal.returns-in-Some-clause-stands
+returns-in-Some-clause-stands c =
+    let entered = c.enter.ensures in
+    let place = c.enter.new.self in
+    let new = new-place c.args.pool.now c.args.k c.requires.ascends c.requires.enough (λ i. omega (arith, c.type_inv.pool i)) place entered.hint entered.path entered.number entered.beyond in (
+      omega (arith, entered.size, c.requires.standing.0),
+      omega (arith, entered.size, c.requires.standing.1),
+      (omega (arith, ap length entered.path), subst (Walked (hinted place.hint.items (exchange_plan c.args.pool.now c.args.k place.size place.difference)) []) (sym entered.path) tt),
+      new.0,
+      new.1,
+    )
+
+pub returns-then-place-min-clause-stands : goal.returns-then-place-min-clause-stands
+returns-then-place-min-clause-stands c =
+    let entered = c.enter-then-place-min.ensures in
+    let place = c.enter-then-place-min.new.self in
+    let larger : c.args.place.now.size < most_exchanged c.args.pool.now c.args.k = search rules in
+    let new = new-place c.args.pool.now c.args.k c.requires.ascends c.requires.enough (λ i. omega (arith, c.type_inv.pool i)) place entered.hint entered.path entered.number entered.beyond in (
+      omega (arith, entered.size, larger),
+      omega (arith, entered.size, larger),
+      (omega (arith, ap length entered.path), subst (Walked (hinted place.hint.items (exchange_plan c.args.pool.now c.args.k place.size place.difference)) []) (sym entered.path) tt),
+      new.0,
+      new.1,
     )

@@ -1,4 +1,8 @@
-use Rattle.std.proofs.Common.{◌≡◌, ap, refl, arith, ◌-◌, [], None}
+use Rattle.std.proofs.Common.{◌≡◌, ap, refl, sym, subst, arith, ◌-◌, [], None, length, slice_index}
+use Rattle.std.specs.List.Sorted.{IsStrictlyIncreasing}
+use Rattle.dutch_order.specs.Hints.{hinted}
+use Rattle.dutch_order.specs.Walks.{Walked}
+use Rattle.dutch_order.proofs.Places.{new-place}
 use Rattle.dutch_order.specs.Stages.{exchange_plan, trials_ahead, trials_of_stages, trials_of_sizes, most_exchanged}
 use Rattle.dutch_order.proofs.StageSets.{exchanges-found}
 use Rattle.dutch_order.proofs.Moves.{trials-nothing}
@@ -16,3 +20,22 @@ returns-clause-nothing c none =
     ap (λ count. trials_of_sizes c.args.pool.now c.args.k count 1) (let e : most_exchanged c.args.pool.now c.args.k - 0 ≡ 0 = omega (arith, none) in e) in
     let none : trials_ahead c.args.pool.now c.args.k [] 0 0 [] 0 None ≡ 0 = omega (arith, here, sizes) in
     cc
+
+pub invariant_of-self : goal.invariant_of-self
+invariant_of-self c =
+    let entered = c.enter.ensures in
+    let place = c.enter.new.self in
+    let long = ap length c.fill.ensures in
+    let pool = c.fill.new.list.items in
+    let new = new-place pool c.args.k (subst IsStrictlyIncreasing (sym c.fill.ensures) c.requires.ascends) (omega (arith, long, c.requires.enough)) (λ i. omega (arith, ap (λ p. slice_index p i) c.fill.ensures, c.type_inv.pool i)) place entered.hint entered.path entered.number entered.beyond in (
+      omega (arith, long, c.requires.few),
+      omega (arith, long, c.requires.enough),
+      subst IsStrictlyIncreasing (sym c.fill.ensures) c.requires.ascends,
+      (
+        omega (arith, entered.size),
+        omega (arith, entered.size),
+        (omega (arith, ap length entered.path), subst (Walked (hinted place.hint.items (exchange_plan pool c.args.k place.size place.difference)) []) (sym entered.path) tt),
+        new.0,
+        new.1,
+      ),
+    )

@@ -1,0 +1,14 @@
+use Rattle.std.proofs.Common.{◌≡◌, ◌+◌}
+use Rattle.dutch_order.specs.Stages.{IsPlace, sets_from, stages_ahead}
+use Rattle.dutch_order.specs.Steps.{Passes, Spends}
+use Rattle.dutch_order.proofs.exchange.next_set_past.Given as goal
+
+abbrev pub invariant-loop-place : goal.invariant-loop-place
+invariant-loop-place g l = record {
+  stands : IsPlace l.pool l.k l.place;
+  passes : Passes (g.C.CutsExchanges.Idle l.cuts) (sets_from l.pool l.k l.initial.place) (sets_from l.pool l.k l.place);
+  spends : Spends l.initial.budget l.budget;
+}
+
+abbrev pub decreases-loop-place : goal.decreases-loop-place
+decreases-loop-place g l = stages_ahead l.pool l.k l.place.size l.place.difference
