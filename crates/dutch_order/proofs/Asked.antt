@@ -9,7 +9,7 @@ use Rattle.std.proofs.lemmas.List.Folds.{list_any-append}
 use Rattle.std.proofs.lemmas.Bool.{true≢false, cases_Bool, and_parts, or_from, or_left, ltb-true, ltb-false}
 use Rattle.dutch_order.specs.Choices.{is_member, numbers_from, subsets}
 use Rattle.dutch_order.specs.Exchange.{moved_in, sum_of}
-use Rattle.dutch_order.specs.Exchanged.{IsExchange}
+use Rattle.dutch_order.specs.Exchanged.{IsExchange, KnownExchange}
 use Rattle.dutch_order.specs.Prefixes.{GoesOn}
 use Rattle.dutch_order.specs.Sides.{count_of}
 use Rattle.dutch_order.specs.declared.exchange.Side.{Side}
@@ -290,3 +290,11 @@ told-room pool k side taken limit =
     let all : List ℕ = numbers_from 0 (count_of pool k side) in
     omega (arith, told-apart taken limit all, length-numbers 0 (count_of pool k side),
     length-map (filter (is_told taken limit true) all) (value_of pool k side), length-map (filter (is_told taken limit false) all) (value_of pool k side))
+
+-- the same exchange, at the lists that the code has
+pub exchange-at : (e : KnownExchange) (set original others held barred : List ℕ) → IsExchange e set → original ≡ e.original → others ≡ e.others → held ≡ e.held → barred ≡ e.barred → IsExchange (record { original = original; others = others; size = e.size; difference = e.difference; held = held; barred = barred }) set
+exchange-at e set original others held barred is is_original is_others is_held is_barred =
+    subst (λ l. IsExchange (record { original = l; others = others; size = e.size; difference = e.difference; held = held; barred = barred }) set) (sym is_original)
+    (subst (λ l. IsExchange (record { original = e.original; others = l; size = e.size; difference = e.difference; held = held; barred = barred }) set) (sym is_others)
+    (subst (λ l. IsExchange (record { original = e.original; others = e.others; size = e.size; difference = e.difference; held = l; barred = barred }) set) (sym is_held)
+    (subst (λ l. IsExchange (record { original = e.original; others = e.others; size = e.size; difference = e.difference; held = e.held; barred = l }) set) (sym is_barred) is)))

@@ -1,17 +1,88 @@
-use Rattle.std.proofs.Common.{rules, ◌≡◌, ◌+◌, ◌≤◌, ◌++◌, ℕ, length, true, false, ap, sym, ◌∙◌, arith}
+use Rattle.std.proofs.Common.{rules, ◌≡◌, ◌+◌, ◌-◌, ◌≤◌, ◌++◌, ℕ, List, length, take, drop, true, false, ap, sym, ◌∙◌, append_assoc, arith, length-append}
+use Rattle.dutch_order.specs.Sides.{count_of}
+use Rattle.dutch_order.specs.Stages.{in_limit, out_limit, told_numbers}
+use Rattle.dutch_order.specs.declared.exchange.Side.TheVariants.{In, Out}
+use Rattle.dutch_order.specs.declared.numbers.TheConstants.{LIMIT}
+use Rattle.dutch_order.proofs.Asked.{told-room}
+use Rattle.dutch_order.proofs.Reach.{take_front_of}
 use Rattle.dutch_order.proofs.exchange.put_known.Goals as goal
 
 pub put_told-requires : goal.put_told-requires
-put_told-requires c = ?
+put_told-requires c =
+    let pool = c.args.stage.now.pool.now in
+    let k = c.args.stage.now.k in
+    let enough : k ≤ length pool = search rules in
+    let few : length pool ≤ LIMIT = search rules in
+    let o = c.told_out-outs.result in
+    let i = c.told_in-ins.result in
+    let outs = told-room pool k o.side o.taken.now o.limit in
+    let out_count : count_of pool k o.side ≡ k = ap (count_of pool k) c.told_out-outs.ensures.side in
+    let ins = told-room pool k i.side i.taken.now i.limit in
+    let in_count : count_of pool k i.side ≡ length pool - k = ap (count_of pool k) c.told_in-ins.ensures.side in
+    record { room = omega (arith, ap length c.clear.ensures, outs, out_count, ins, in_count, enough, few) }
 
 pub put_told-requires-2 : goal.put_told-requires-2
-put_told-requires-2 c = ?
+put_told-requires-2 c =
+    let pool = c.args.stage.now.pool.now in
+    let k = c.args.stage.now.k in
+    let enough : k ≤ length pool = search rules in
+    let few : length pool ≤ LIMIT = search rules in
+    let o = c.told_out-outs.result in
+    let i = c.told_in-ins.result in
+    let outs = told-room pool k o.side o.taken.now o.limit in
+    let out_count : count_of pool k o.side ≡ k = ap (count_of pool k) c.told_out-outs.ensures.side in
+    let ins = told-room pool k i.side i.taken.now i.limit in
+    let in_count : count_of pool k i.side ≡ length pool - k = ap (count_of pool k) c.told_in-ins.ensures.side in
+    record { room = omega (arith, ap length c.clear.ensures, outs, out_count, ins, in_count, enough, few, ap length c.put_told.ensures, length-append c.clear.new.self.items (told_numbers pool k o.side o.taken.now o.limit false)) }
 
 pub put_told-requires-3 : goal.put_told-requires-3
-put_told-requires-3 c = ?
+put_told-requires-3 c =
+    let pool = c.args.stage.now.pool.now in
+    let k = c.args.stage.now.k in
+    let enough : k ≤ length pool = search rules in
+    let few : length pool ≤ LIMIT = search rules in
+    let o = c.told_out-outs.result in
+    let i = c.told_in-ins.result in
+    let outs = told-room pool k o.side o.taken.now o.limit in
+    let out_count : count_of pool k o.side ≡ k = ap (count_of pool k) c.told_out-outs.ensures.side in
+    let ins = told-room pool k i.side i.taken.now i.limit in
+    let in_count : count_of pool k i.side ≡ length pool - k = ap (count_of pool k) c.told_in-ins.ensures.side in
+    record { room = omega (arith, ap length c.clear.ensures, outs, out_count, ins, in_count, enough, few, ap length c.put_told.ensures, length-append c.clear.new.self.items (told_numbers pool k o.side o.taken.now o.limit false), ap length c.put_told-2.ensures, length-append c.put_told.new.numbers.items (told_numbers pool k i.side i.taken.now i.limit true)) }
 
 pub put_told-requires-4 : goal.put_told-requires-4
-put_told-requires-4 c = ?
+put_told-requires-4 c =
+    let pool = c.args.stage.now.pool.now in
+    let k = c.args.stage.now.k in
+    let enough : k ≤ length pool = search rules in
+    let few : length pool ≤ LIMIT = search rules in
+    let o = c.told_out-outs.result in
+    let i = c.told_in-ins.result in
+    let outs = told-room pool k o.side o.taken.now o.limit in
+    let out_count : count_of pool k o.side ≡ k = ap (count_of pool k) c.told_out-outs.ensures.side in
+    let ins = told-room pool k i.side i.taken.now i.limit in
+    let in_count : count_of pool k i.side ≡ length pool - k = ap (count_of pool k) c.told_in-ins.ensures.side in
+    record { room = omega (arith, ap length c.clear.ensures, outs, out_count, ins, in_count, enough, few, ap length c.put_told.ensures, length-append c.clear.new.self.items (told_numbers pool k o.side o.taken.now o.limit false), ap length c.put_told-2.ensures, length-append c.put_told.new.numbers.items (told_numbers pool k i.side i.taken.now i.limit true), ap length c.put_told-3.ensures, length-append c.put_told-2.new.numbers.items (told_numbers pool k o.side o.taken.now o.limit true)) }
 
 pub returns-clause-held : goal.returns-clause-held
-returns-clause-held c = ?
+returns-clause-held c =
+    let pool = c.args.stage.now.pool.now in
+    let k = c.args.stage.now.k in
+    let size = c.args.stage.now.size in
+    let begun = c.args.begun.now in
+    let o = c.told_out-outs.result in
+    let i = c.told_in-ins.result in
+    let both : List ℕ = c.put_told-2.new.numbers.items in
+    let third : List ℕ = told_numbers pool k o.side o.taken.now o.limit true in
+    let fourth : List ℕ = told_numbers pool k i.side i.taken.now i.limit false in
+    let second : List ℕ = told_numbers pool k i.side i.taken.now i.limit true in
+    let first : List ℕ = told_numbers pool k Out (take size begun) (out_limit pool k size begun) false in
+    ap (take c.len-held.result) (c.put_told-4.ensures ∙ ap (λ l. l ++ fourth) c.put_told-3.ensures ∙ append_assoc both third fourth)
+    ∙ take_front_of both (third ++ fourth) c.len-held.result (sym c.len-held.ensures.value)
+    ∙ c.put_told-2.ensures
+    ∙ ap (λ l. l ++ second) (c.put_told.ensures ∙ ap (λ l. l ++ told_numbers pool k o.side o.taken.now o.limit false) c.clear.ensures)
+    ∙ ap (λ s. told_numbers pool k s o.taken.now o.limit false ++ second) c.told_out-outs.ensures.side
+    ∙ ap (λ t. told_numbers pool k Out t o.limit false ++ second) c.told_out-outs.ensures.taken
+    ∙ ap (λ l. told_numbers pool k Out (take size begun) l false ++ second) c.told_out-outs.ensures.limit
+    ∙ ap (λ s. first ++ told_numbers pool k s i.taken.now i.limit true) c.told_in-ins.ensures.side
+    ∙ ap (λ t. first ++ told_numbers pool k In t i.limit true) c.told_in-ins.ensures.taken
+    ∙ ap (λ l. first ++ told_numbers pool k In (drop size begun) l true) c.told_in-ins.ensures.limit
