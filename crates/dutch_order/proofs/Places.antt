@@ -5,11 +5,13 @@ use Rattle.std.specs.List.Sorted.{IsStrictlyIncreasing}
 use Rattle.dutch_order.specs.Choices.{subsets}
 use Rattle.dutch_order.specs.Hints.{hinted, first_hint}
 use Rattle.dutch_order.specs.Keys.{IsIn}
-use Rattle.dutch_order.specs.Stages.{IsKnown, IsOfStage, IsOwn, IsPlace, exchange_difference, exchange_path, exchange_plan, greatest_difference, out_places, sets_of_stages}
+use Rattle.dutch_order.specs.Stages.{IdleAt, IsKnown, IsOfStage, IsOwn, exchange_difference, exchange_path, exchange_plan, greatest_difference, most_exchanged, out_places, set_of, sets_ahead, sets_of_sizes, sets_of_stages, stage_left}
+use Rattle.dutch_order.specs.Steps.{Passes}
 use Rattle.dutch_order.specs.Trials.{Plan, after, ahead, below, hits, lower, lowest}
 use Rattle.dutch_order.specs.declared.exchange.Place.{Place}
 use Rattle.dutch_order.proofs.LateSets.{late-known, late-own}
-use Rattle.dutch_order.proofs.Skipping.{all-members}
+use Rattle.dutch_order.proofs.LeftOut.{passes-same}
+use Rattle.dutch_order.proofs.Skipping.{all-members, passes-before, passes-weaker, passes-map}
 use Rattle.dutch_order.proofs.StageSets.{stages-known}
 
 -- where nothing is exchanged, no stage follows
@@ -74,3 +76,35 @@ ended-hits pool hint path number no_pool no_hint no_path is_number =
     ∙ ap (λ path. hits (ahead (exchange_plan [] 0 0 0) path number)) no_path
     ∙ ap (λ number. hits (ahead (exchange_plan [] 0 0 0) [] number)) is_number
     ∙ none
+
+-- what is passed over of a stage's paths is passed over of its sets, and the same sets follow
+module _ (pool : List ℕ) (k : ℕ) (hint : List ℕ) (size difference : ℕ) (Idle : List ℕ → Type 0) (path path' : List ℕ) (number number' : ℕ) (beyond beyond' : Option ℕ) where
+  abbrev plan : Plan
+  plan = hinted hint (exchange_plan pool k size difference)
+
+  abbrev following_sets : Option ℕ → List (List ℕ)
+  following_sets next = sets_of_stages pool k (greatest_difference pool k size - difference) size (suc difference) next
+
+  abbrev larger : List (List ℕ)
+  larger = sets_of_sizes pool k (most_exchanged pool k - size) (suc size)
+
+  module _ (known : following_sets (lower beyond (lowest (ahead plan path number))) ≡ following_sets (Some 0)) (known' : following_sets (lower beyond' (lowest (ahead plan path' number'))) ≡ following_sets (Some 0)) (own : AllByRecursion (IsOfStage pool k size difference) (hits (ahead plan path number))) where
+    passed-list : (ys : List (List ℕ)) → Passes (IdleAt pool k Idle size difference) (hits (ahead plan path number)) ys → Passes Idle (sets_ahead pool k hint size difference path number beyond) (map (set_of pool k size) ys ++ (following_sets (lower beyond' (lowest (ahead plan path' number'))) ++ larger))
+    unfolding stage_left sets_ahead
+    passed-list ys passes =
+        let xs : List (List ℕ) = hits (ahead plan path number) in
+        let sets = set_of pool k size in
+        let there : Passes (λ p. Idle (sets p)) xs ys = passes-weaker (IdleAt pool k Idle size difference) (λ p. Idle (sets p)) (IsOfStage pool k size difference) xs ys (λ p of idle. idle of) own passes in
+        passes-same Idle (map sets xs ++ (following_sets (lower beyond (lowest (ahead plan path number))) ++ larger)) (map sets ys ++ (following_sets (lower beyond (lowest (ahead plan path number))) ++ larger))
+        (map sets ys ++ (following_sets (lower beyond' (lowest (ahead plan path' number'))) ++ larger))
+        (passes-before Idle (map sets xs) (map sets ys) (following_sets (lower beyond (lowest (ahead plan path number))) ++ larger)
+        (passes-map (λ p. Idle (sets p)) Idle sets xs ys (λ p idle. idle) there))
+        (ap (λ later. map sets ys ++ (later ++ larger)) (known ∙ sym known'))
+
+    pub passed-on : Passes (IdleAt pool k Idle size difference) (hits (ahead plan path number)) (hits (ahead plan path' number')) → Passes Idle (sets_ahead pool k hint size difference path number beyond) (sets_ahead pool k hint size difference path' number' beyond')
+    unfolding stage_left sets_ahead
+    passed-on passes = passed-list (hits (ahead plan path' number')) passes
+
+    pub passed-found : Passes (IdleAt pool k Idle size difference) (hits (ahead plan path number)) (path' ∷ hits (ahead plan path' number')) → Passes Idle (sets_ahead pool k hint size difference path number beyond) (set_of pool k size path' ∷ sets_ahead pool k hint size difference path' number' beyond')
+    unfolding stage_left sets_ahead
+    passed-found passes = passed-list (path' ∷ hits (ahead plan path' number')) passes
