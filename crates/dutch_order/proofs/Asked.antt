@@ -1,5 +1,5 @@
 -- What a path that has begun tells of the sets of its stage: who is in each of them, and who is in none.
-use Rattle.std.proofs.Common.{◌≡◌, ℕ, zero, suc, ◌+◌, ◌-◌, ◌<◌, ◌≤◌, Bool, true, false, not, ◌&&◌, ◌||◌, nat_lt, eqb, cond, slice_index, List, [], ◌∷◌, ◌++◌, map, length, take, drop, refl, sym, ◌∙◌, ap, append_assoc, append-nil, arith, subst, ◌⊎◌, inl, inr, if◌then◌else◌, length-append}
+use Rattle.std.proofs.Common.{◌≡◌, ℕ, zero, suc, ◌+◌, ◌-◌, ◌<◌, ◌≤◌, Bool, true, false, not, ◌&&◌, nat_lt, eqb, cond, slice_index, List, [], ◌∷◌, ◌++◌, map, length, take, drop, refl, sym, ◌∙◌, ap, append_assoc, append-nil, arith, subst, ◌⊎◌, inl, inr, if◌then◌else◌, length-append}
 use Rattle.std.specs.List.{AllByRecursion, filter}
 use Rattle.std.specs.List.Sorted.{IsStrictlyIncreasing}
 use Rattle.std.proofs.lemmas.List.Kept.{AllPairs-from_increasing}
@@ -193,8 +193,18 @@ module _ (pool : List ℕ) (k : ℕ) (rises : IsStrictlyIncreasing pool) (enough
         let le : total out outs ≤ total inn ins =
         total-pairs out inn k (length pool - k) 0 0 (λ i j below within. omega (arith, AllPairs-from_increasing pool rises (k - 1 - i) (k + j) 0 (omega arith) (omega arith)))
         outs ins e.outs_climb e.ins_climb (e.outs_size ∙ sym e.ins_size) in
-        omega (arith, ap sum_of e.is_set, sum_of-append (kept_of pool k outs) (map inn ins), sum_of-map inn ins, kept_sum, moved,
-        total-split out (λ place. is_member place outs) (numbers_from 0 k), le, original-sum, e.differs)
+        omega (
+          arith,
+          ap sum_of e.is_set,
+          sum_of-append (kept_of pool k outs) (map inn ins),
+          sum_of-map inn ins,
+          kept_sum,
+          moved,
+          total-split out (λ place. is_member place outs) (numbers_from 0 k),
+          le,
+          original-sum,
+          e.differs,
+        )
 
     exchange-set : IsIn set (subsets (take k pool ++ drop k pool) (length (take k pool)))
     exchange-set =
@@ -261,8 +271,13 @@ filter-room q i count low passes =
     let split : numbers_from 0 count ≡ numbers_from 0 i ++ numbers_from (0 + i) (suc m) = ap (numbers_from 0) (let e : count ≡ i + suc m = omega arith in e) ∙ numbers-append 0 i (suc m) in
     let at : filter q (numbers_from (0 + i) (suc m)) ≡ (0 + i) ∷ filter q (numbers_from (suc (0 + i)) m) =
     ap (λ b. cond b ((0 + i) ∷ filter q (numbers_from (suc (0 + i)) m)) (filter q (numbers_from (suc (0 + i)) m))) (ap q (let e : 0 + i ≡ i = omega arith in e) ∙ passes) in
-    omega (arith, ap (λ l. length (filter q l)) split, ap length (filter-append q (numbers_from 0 i) (numbers_from (0 + i) (suc m))),
-    length-append (filter q (numbers_from 0 i)) (filter q (numbers_from (0 + i) (suc m))), ap length at)
+    omega (
+      arith,
+      ap (λ l. length (filter q l)) split,
+      ap length (filter-append q (numbers_from 0 i) (numbers_from (0 + i) (suc m))),
+      length-append (filter q (numbers_from 0 i)) (filter q (numbers_from (0 + i) (suc m))),
+      ap length at,
+    )
 
 length-cond : (b : Bool) (x : ℕ) (xs : List ℕ) → length (cond b (x ∷ xs) xs) ≤ suc (length xs)
 length-cond true x xs = omega arith
@@ -275,21 +290,33 @@ told-apart taken limit (x ∷ xs) =
     let rest = told-apart taken limit xs in
     elim (cases_Bool (is_member x taken)) [
       | inl yes' ↦
-          omega (arith, rest,
-          ap (λ b. length (cond (if b then true else (not true && nat_lt x limit)) (x ∷ filter (is_told taken limit true) xs) (filter (is_told taken limit true) xs))) yes',
-          ap (λ b. length (cond (if b then false else (not false && nat_lt x limit)) (x ∷ filter (is_told taken limit false) xs) (filter (is_told taken limit false) xs))) yes')
+          omega (
+            arith,
+            rest,
+            ap (λ b. length (cond (if b then true else (not true && nat_lt x limit)) (x ∷ filter (is_told taken limit true) xs) (filter (is_told taken limit true) xs))) yes',
+            ap (λ b. length (cond (if b then false else (not false && nat_lt x limit)) (x ∷ filter (is_told taken limit false) xs) (filter (is_told taken limit false) xs))) yes',
+          )
       | inr no' ↦
-          omega (arith, rest, length-cond (nat_lt x limit) x (filter (is_told taken limit false) xs),
-          ap (λ b. length (cond (if b then true else (not true && nat_lt x limit)) (x ∷ filter (is_told taken limit true) xs) (filter (is_told taken limit true) xs))) no',
-          ap (λ b. length (cond (if b then false else (not false && nat_lt x limit)) (x ∷ filter (is_told taken limit false) xs) (filter (is_told taken limit false) xs))) no')
+          omega (
+            arith,
+            rest,
+            length-cond (nat_lt x limit) x (filter (is_told taken limit false) xs),
+            ap (λ b. length (cond (if b then true else (not true && nat_lt x limit)) (x ∷ filter (is_told taken limit true) xs) (filter (is_told taken limit true) xs))) no',
+            ap (λ b. length (cond (if b then false else (not false && nat_lt x limit)) (x ∷ filter (is_told taken limit false) xs) (filter (is_told taken limit false) xs))) no',
+          )
     ]
 
 -- so both lists are no more than there are
 pub told-room : (pool : List ℕ) (k : ℕ) (side : Side) (taken : List ℕ) (limit : ℕ) → length (told_numbers pool k side taken limit true) + length (told_numbers pool k side taken limit false) ≤ count_of pool k side
 told-room pool k side taken limit =
     let all : List ℕ = numbers_from 0 (count_of pool k side) in
-    omega (arith, told-apart taken limit all, length-numbers 0 (count_of pool k side),
-    length-map (filter (is_told taken limit true) all) (value_of pool k side), length-map (filter (is_told taken limit false) all) (value_of pool k side))
+    omega (
+      arith,
+      told-apart taken limit all,
+      length-numbers 0 (count_of pool k side),
+      length-map (filter (is_told taken limit true) all) (value_of pool k side),
+      length-map (filter (is_told taken limit false) all) (value_of pool k side),
+    )
 
 -- the same exchange, at the lists that the code has
 pub exchange-at : (e : KnownExchange) (set original others held barred : List ℕ) → IsExchange e set → original ≡ e.original → others ≡ e.others → held ≡ e.held → barred ≡ e.barred → IsExchange (record { original = original; others = others; size = e.size; difference = e.difference; held = held; barred = barred }) set

@@ -121,3 +121,30 @@ pub stops-s2 : (Idle : Arrangement → Type 0) (meets : ℕ → ℕ → Bool) (k
 stops-s2 Idle meets k s1 residents None xs ys passes very = passes-s2 Idle meets k s1 s1 residents None refl refl xs ys passes
 stops-s2 Idle meets k s1 residents (Some own) xs ys passes very =
     passes-none (AllByRecursion Idle) _ _ (ap (s2_blocks meets k s1 residents (Some own)) (sym (very refl)))
+
+-- the same of S1R, where S1 and S2 are chosen
+module _ (Idle : Arrangement → Type 0) (meets : ℕ → ℕ → Bool) (s1 s2 remainder : List ℕ) where
+  abbrev idle_s1r : List ℕ → Type 0
+  idle_s1r s1r = (a : Arrangement) → s1 ≡ a.s1 → s2 ≡ a.s2 → s1r ≡ a.s1r → Idle a
+
+  passes-s1r : (xs ys : List (List ℕ)) → Passes idle_s1r xs ys → Passes (AllByRecursion Idle) (s1r_blocks meets s1 s2 remainder None xs) (s1r_blocks meets s1 s2 remainder None ys)
+  unfolding in_s1r
+  passes-s1r xs ys passes =
+      passes-map idle_s1r (AllByRecursion Idle) (in_s1r meets s1 s2 remainder None) xs ys
+      (λ s1r each. all-made Idle (arranged s1 s2 s1r) _ (λ s2r. each (arranged s1 s2 s1r s2r) refl refl refl))
+      passes
+
+  pub comes-s1r : (own : Option Arrangement) (xs ys : List (List ℕ)) (s1r : List ℕ) → Passes idle_s1r xs (s1r ∷ ys) → (is_some own ≡ true → xs ≡ s1r ∷ ys) → Passes (AllByRecursion Idle) (s1r_blocks meets s1 s2 remainder own xs) (in_s1r meets s1 s2 remainder (if_own (λ a. a.s1r) own s1r) s1r ∷ s1r_blocks meets s1 s2 remainder None ys)
+  comes-s1r None xs ys s1r passes very = passes-s1r xs (s1r ∷ ys) passes
+  comes-s1r (Some own) xs ys s1r passes very =
+      passes-none (AllByRecursion Idle) _ _ (block-comes (λ a. a.s1r) (in_s1r meets s1 s2 remainder) (Some own) s1r xs ys (very refl))
+
+  pub ends-s1r : (own : Option Arrangement) (xs : List (List ℕ)) → Passes idle_s1r xs [] → (is_some own ≡ true → xs ≡ []) → Passes (AllByRecursion Idle) (s1r_blocks meets s1 s2 remainder own xs) []
+  ends-s1r None xs passes very = passes-s1r xs [] passes
+  ends-s1r (Some own) xs passes very =
+      passes-none (AllByRecursion Idle) _ _ (ap (s1r_blocks meets s1 s2 remainder (Some own)) (very refl))
+
+  pub stops-s1r : (own : Option Arrangement) (xs ys : List (List ℕ)) → Passes idle_s1r xs ys → (is_some own ≡ true → ys ≡ xs) → Passes (AllByRecursion Idle) (s1r_blocks meets s1 s2 remainder own xs) (s1r_blocks meets s1 s2 remainder own ys)
+  stops-s1r None xs ys passes very = passes-s1r xs ys passes
+  stops-s1r (Some own) xs ys passes very =
+      passes-none (AllByRecursion Idle) _ _ (ap (s1r_blocks meets s1 s2 remainder (Some own)) (sym (very refl)))

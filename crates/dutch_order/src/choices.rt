@@ -15,7 +15,7 @@ ghost use Rattle.dutch_order.specs.Steps.{MatchDrawn, Passes, Spends};
 use crate::arrangement::Arrangement;
 use crate::bracket::{Bracket, Shape};
 use crate::cursor::Cursor;
-use crate::cuts::{Cuts, CutsTuples, OfS2, OfS2r};
+use crate::cuts::{Cuts, CutsExchanges, CutsTuples, OfS1r, OfS2, OfS2r};
 use crate::exchange::Exchanges;
 use crate::levels::{Arranges, Blocks, Level};
 use crate::limbo::LimboExchanges;
@@ -234,6 +234,33 @@ impl<'a, R: Rule> ByS1r<'a, R> {
     }
 }
 
+/// Fills a list with the next set: the very next, or one before which only such were skipped as the cuts know to be idle.
+fn put_next_set<C: CutsExchanges>(
+    sets: &mut Exchanges,
+    very: bool,
+    cuts: &C,
+    room: &mut C::Room,
+    numbers: &mut Numbers,
+    budget: &mut Budget,
+) -> Drawn
+    requires { budget.old.used ≤ budget.old.limit }
+    ensures answer { MatchDrawn result
+        (Passes (C.Idle cuts.now) sets.old.coming (numbers.new.items ∷ sets.new.coming))
+        (Passes (C.Idle cuts.now) sets.old.coming [] × (sets.new.coming ≡ []))
+        (Passes (C.Idle cuts.now) sets.old.coming sets.new.coming × (budget.new.used ≡ budget.new.limit)) }
+    ensures very { very ≡ true → MatchDrawn result
+        (sets.old.coming ≡ numbers.new.items ∷ sets.new.coming)
+        (sets.old.coming ≡ [])
+        (sets.new.coming ≡ sets.old.coming) }
+    ensures spends { Spends budget.old budget.new }
+{
+    if very {
+        sets.put_next(numbers, budget)
+    } else {
+        sets.put_next_past(cuts, room, numbers, budget)
+    }
+}
+
 /// The cursor, if an S1R is its own.
 fn take_by_s1r<'a>(resume: &mut Option<&'a Cursor>, s1r: &Numbers) -> Option<&'a Cursor>
     ensures own { option_copied result ≡ if_own (λ a. a.s1r) (option_copied resume.old) s1r.now.items }
@@ -263,7 +290,19 @@ impl<'a, R: Rule> Blocks for ByS1r<'a, R> {
         if tuples.cuts(&self.s2, room) {
             return Ok(false);
         }
-        if !self.sets.put_next(&mut self.s1r, budget)? {
+        let exchanges = OfS1r {
+            cuts,
+            s1: &self.s1,
+            s2: &self.s2,
+        };
+        if !put_next_set(
+            &mut self.sets,
+            self.resume.is_some(),
+            &exchanges,
+            room,
+            &mut self.s1r,
+            budget,
+        )? {
             return Ok(false);
         }
         let own = take_by_s1r(&mut self.resume, &self.s1r);

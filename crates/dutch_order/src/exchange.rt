@@ -29,7 +29,9 @@ use crate::cuts::CutsExchanges;
 use crate::exchanged::Exchange;
 use crate::halves::{end_of_half, first_of_half};
 use crate::numbers::{LIMIT, Numbers, fill};
-use crate::search::{CutsPaths, Hinted, Path, Tree, Walk, climb_on, climb_past, end_number, first_hint, put_behind};
+use crate::search::{
+    CutsPaths, Hinted, Path, Tree, Walk, climb_on, climb_past, end_number, first_hint, put_behind,
+};
 use crate::steps::{Budget, Drawn, Step, Stopped};
 use crate::sums::{run_of, total_of, value_at};
 use arrayvec::ArrayVec;
@@ -197,13 +199,7 @@ fn following_of(difference: usize, greatest: usize, beyond: Option<usize>) -> Op
 {
     match beyond {
         None => None,
-        Some(next) if difference < next => {
-            if next <= greatest {
-                Some(next)
-            } else {
-                None
-            }
-        }
+        Some(next) if difference < next => { if next <= greatest { Some(next) } else { None } }
         Some(_) => {
             if difference < greatest {
                 Some(difference + 1)

@@ -1,4 +1,4 @@
-use Rattle.std.proofs.Common.{◌≡◌, ◌-◌, ℕ, suc, ◌∙◌, ap, sym}
+use Rattle.std.proofs.Common.{◌-◌, suc, ◌∙◌, ap, sym}
 use Rattle.dutch_order.specs.Stages.{IdleAt, IsOfStage, greatest_difference}
 use Rattle.dutch_order.specs.Trials.{hits}
 use Rattle.dutch_order.proofs.LeftOut.{passes-same}

@@ -1,4 +1,3 @@
-use Rattle.std.proofs.Common.{◌≡◌, ◌+◌}
 use Rattle.dutch_order.specs.Stages.{IsPlace, sets_from, stages_ahead}
 use Rattle.dutch_order.specs.Steps.{Passes, Spends}
 use Rattle.dutch_order.proofs.exchange.next_set_past.Given as goal

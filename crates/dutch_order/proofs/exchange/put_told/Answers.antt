@@ -1,4 +1,4 @@
-use Rattle.std.proofs.Common.{◌≡◌, ◌<◌, ◌++◌, ℕ, Bool, true, false, List, [], ◌∷◌, map, length, length-append, sym, ◌∙◌, ap, append_assoc, arith}
+use Rattle.std.proofs.Common.{◌≡◌, ◌++◌, ℕ, Bool, true, false, List, [], ◌∷◌, map, length, length-append, sym, ◌∙◌, ap, append_assoc, arith}
 use Rattle.std.specs.List.{filter}
 use Rattle.std.proofs.lemmas.List.{length-map, map-append}
 use Rattle.dutch_order.specs.Choices.{numbers_from}
@@ -18,8 +18,15 @@ push-requires c =
     let n : ℕ = c.loop-place.place in
     let count : ℕ = count_of stage.pool.now stage.k told.side in
     let room = filter-room test n count (omega (arith, c.count_at-place-end.ensures)) (sym c.is_told.ensures ∙ c.if-is_told.true) in
-    omega (arith, ap length c.loop-place.invariant.so_far, length-append c.args.numbers.now.items (map value (filter test (numbers_from 0 n))),
-    length-map (filter test (numbers_from 0 n)) value, length-map (filter test (numbers_from 0 count)) value, room, c.requires.room)
+    omega (
+      arith,
+      ap length c.loop-place.invariant.so_far,
+      length-append c.args.numbers.now.items (map value (filter test (numbers_from 0 n))),
+      length-map (filter test (numbers_from 0 n)) value,
+      length-map (filter test (numbers_from 0 count)) value,
+      room,
+      c.requires.room,
+    )
 
 pub loop-place-preserved : goal.loop-place-preserved
 loop-place-preserved c =
