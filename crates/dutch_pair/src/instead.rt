@@ -20,7 +20,7 @@ use crate::quality::Quality;
 use crate::skipper::rules_out;
 use crate::stage::Stage;
 use crate::wish::Wish;
-use dutch_order::{Bound, Budget, Candidate, Candidates, Prefix, Shape, Step, Stopped};
+use dutch_order::{Bound, Budget, Candidate, Candidates, Exchange, Prefix, Shape, Step, Stopped};
 use dutch_player::Field;
 use std::alloc::Global;
 
@@ -76,6 +76,15 @@ impl<'a> Bound for Wished<'a> {
     #[tactic(auto, unfolding(crate::specs::Round::candidates_of))]
     fn cannot_win(&self, prefix: &Prefix<'_>, _room: &mut ()) -> bool {
         rules_out(self.context, self.shape, self.wish, prefix)
+    }
+
+    fn cannot_win_with(
+        &self,
+        _prefix: &Prefix<'_>,
+        _exchange: &Exchange<'_>,
+        _room: &mut (),
+    ) -> bool {
+        false
     }
 }
 

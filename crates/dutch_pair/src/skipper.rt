@@ -30,7 +30,7 @@ use crate::known::Known;
 use crate::quality::{Quality, Room};
 use crate::weight_floor::{Bar, WeightFloors};
 use crate::wish::Wish;
-use dutch_order::{Bound, Prefix, Shape};
+use dutch_order::{Bound, Exchange, Prefix, Shape};
 use wide::Wide;
 
 /// One pass over the candidates of a shape, in a bracket above all lower seats by rank. With an aim it seeks those alone that the aim
@@ -393,5 +393,14 @@ impl<'a, 'k> Bound for Skipper<'a, 'k> {
         self.is_idle_by_weight(prefix)
             || self.is_idle_all(prefix, room)
             || self.is_idle_granted(prefix, room)
+    }
+
+    fn cannot_win_with(
+        &self,
+        _prefix: &Prefix<'_>,
+        _exchange: &Exchange<'_>,
+        _room: &mut Room,
+    ) -> bool {
+        false
     }
 }

@@ -4,7 +4,7 @@ ghost use Rattle.dutch_order.specs.Arrangements.{Fits};
 
 use crate::barred::{AMPLE, Barred, FREE, raised};
 use dutch_order::{
-    Bound, Bracket, Budget, Candidate, Candidates, Filling, Prefix, Rule, Shape, Step,
+    Bound, Bracket, Budget, Candidate, Candidates, Exchange, Filling, Prefix, Rule, Shape, Step,
 };
 use std::alloc::Global;
 use std::test::Fail;
@@ -252,6 +252,53 @@ impl<'a> Bound for Keeps<'a> {
         };
         *one != 1 || *two != 2
     }
+
+    fn cannot_win_with(
+        &self,
+        _prefix: &Prefix<'_>,
+        _exchange: &Exchange<'_>,
+        _room: &mut (),
+    ) -> bool {
+        false
+    }
+}
+
+// A bound that knows of S1R by their exchange alone: those of 1 and 2 whose sum is greater by 2 are dull.
+#[derive(Drop)]
+struct ByDifference<'a> {
+    bracket: &'a Bracket,
+    shape: Shape,
+    rule: &'a Barred,
+}
+
+impl<'a> Bound for ByDifference<'a> {
+    type Room = ();
+
+    ghost use Rattle.std.specs.Prelude.{◌==◌};
+    ghost use Rattle.dutch_order.specs.Exchange.{sum_of};
+
+    ghost frame = { λ b. b.bracket.now };
+
+    ghost shape = { λ b. b.shape };
+
+    ghost meets = { λ b. ⟦<Barred as Rule>⟧.meets b.rule.now };
+
+    ghost may_be_left = { λ b. ⟦<Barred as Rule>⟧.may_be_left b.rule.now };
+
+    ghost is_dull = { λ _ a. sum_of a.s1r == 5 };
+
+    fn cannot_win(&self, _prefix: &Prefix<'_>, _room: &mut ()) -> bool {
+        false
+    }
+
+    fn cannot_win_with(
+        &self,
+        _prefix: &Prefix<'_>,
+        exchange: &Exchange<'_>,
+        _room: &mut (),
+    ) -> bool {
+        exchange.original() == [1, 2] && exchange.difference() == 2
+    }
 }
 
 // Whether a listing within a bound gives candidates with these numbers and then ends.
@@ -310,6 +357,25 @@ fn a_bound_that_always_says_no_leaves_all(rt: HostRuntime) -> Result<(), Fail> {
     };
     let candidates = Candidates::new(&bracket, shape, &FREE);
     assert!(rt; are_left(rt.alloc(), candidates, &bound, &mut (), &FOUR)?);
+    Ok(())
+}
+
+// Of the S1R 1 and 4, and 2 and 3, nothing comes, and all others do.
+const FOUR_WITHOUT_A_STAGE: [u16; 32] = [
+    1, 2, 3, 4, 1, 2, 4, 3, 1, 3, 2, 4, 1, 3, 4, 2, 2, 4, 1, 3, 2, 4, 3, 1, 3, 4, 1, 2, 3, 4, 2, 1,
+];
+
+#[test]
+fn a_bound_leaves_out_a_stage_of_exchanges(rt: HostRuntime) -> Result<(), Fail> {
+    let bracket = Bracket::new(&[0, 0, 0, 0], 0, true);
+    let shape = Shape { pairs: 2, mdps: 0 };
+    let bound = ByDifference {
+        bracket: &bracket,
+        shape,
+        rule: &FREE,
+    };
+    let candidates = Candidates::new(&bracket, shape, &FREE);
+    assert!(rt; are_left(rt.alloc(), candidates, &bound, &mut (), &FOUR_WITHOUT_A_STAGE)?);
     Ok(())
 }
 
