@@ -34,14 +34,15 @@ pub trait Bound {
         ensures { result ≡ true → (a : Arrangement) → IsIn a (candidates (meets self.now) (may_be_left self.now) (frame self.now) (shape self.now))
             → Begins prefix.now a → is_dull self.now a ≡ true };
 
-    /// Whether it knows that every candidate with this beginning, whose S1 and S2 are chosen, and with such an S1R is without interest. A
-    /// no says nothing.
+    /// Whether it knows that every candidate with this beginning, whose S1 and S2 are chosen, and with such an S1R is
+    /// without interest. A no says nothing.
     fn cannot_win_with(
         &self,
         prefix: &Prefix<'_>,
         exchange: &Exchange<'_>,
         room: &mut Self::Room,
     ) -> bool
-        ensures { result ≡ true → (a : Arrangement) → IsIn a (candidates (meets self.now) (may_be_left self.now) (frame self.now) (shape self.now))
+        ensures { result ≡ true → (a : Arrangement)
+            → IsIn a (candidates (meets self.now) (may_be_left self.now) (frame self.now) (shape self.now))
             → Begins prefix.now a → IsExchange exchange.now a.s1r → is_dull self.now a ≡ true };
 }

@@ -402,11 +402,13 @@ impl<'a, R: Rule> Candidates<'a, R> {
     }
 
     /// Fills `candidate` with the next one, and may leave out those that the bound knows to be without interest. The bound is asked about
-    /// beginnings of arrangements, which takes no step: about the empty one at each call, and about others while a list is filled.
-    /// `Found` says that `candidate` has one; all that were to come before it are without interest, and those behind it are still to
-    /// come. `End` says that all that were to come are without interest; then none is to come. `Undecided` says that the budget was used
-    /// up first; then a part of what was to come is without interest, and the rest is still to come. After `End` every further call
-    /// answers `End` without a step.
+    /// beginnings of arrangements, which takes no step: about the empty one at each call, and about others while a list
+    /// is filled. And once S1 and S2 are chosen it is asked about exchanges: about all of one number and one
+    /// difference, which is a step if they are left out, and about those that begin alike, which is none. `Found` says
+    /// that `candidate` has one; all that were to come before it are without interest, and those behind it are still to
+    /// come. `End` says that all that were to come are without interest; then none is to come. `Undecided` says that
+    /// the budget was used up first; then a part of what was to come is without interest, and the rest is still to
+    /// come. After `End` every further call answers `End` without a step.
     pub fn put_next_within<B: Bound>(
         &mut self,
         bound: &B,

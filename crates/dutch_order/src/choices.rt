@@ -234,7 +234,8 @@ impl<'a, R: Rule> ByS1r<'a, R> {
     }
 }
 
-/// Fills a list with the next set: the very next, or one before which only such were skipped as the cuts know to be idle.
+/// Fills a list with the next set: the very next, or one before which only such were skipped as the cuts know to be
+/// idle.
 fn put_next_set<C: CutsExchanges>(
     sets: &mut Exchanges,
     very: bool,

@@ -30,7 +30,8 @@ pub trait Cuts {
         exchange: &Exchange<'_>,
         room: &mut Self::Room,
     ) -> bool
-        ensures { result ≡ true → (a : Arrangement) → Begins prefix.now a → IsExchange exchange.now a.s1r → Idle self.now a };
+        ensures { result ≡ true → (a : Arrangement) → Begins prefix.now a → IsExchange exchange.now a.s1r
+            → Idle self.now a };
 }
 
 /// Tells of an exchange whether all sets that are such are idle.
@@ -144,7 +145,8 @@ pub struct OfS1r<'c, C> {
 impl<'c, C: Cuts> CutsExchanges for OfS1r<'c, C> {
     type Room = C::Room;
 
-    ghost Idle = { λ o s1r. (a : Arrangement) → o.s1.now.items ≡ a.s1 → o.s2.now.items ≡ a.s2 → s1r ≡ a.s1r → C.Idle o.cuts.now a };
+    ghost Idle = { λ o s1r.
+        (a : Arrangement) → o.s1.now.items ≡ a.s1 → o.s2.now.items ≡ a.s2 → s1r ≡ a.s1r → C.Idle o.cuts.now a };
 
     fn cuts(&self, exchange: &Exchange<'_>, room: &mut Self::Room) -> bool {
         let prefix = Prefix {

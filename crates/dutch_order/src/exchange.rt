@@ -8,13 +8,19 @@
 //
 // A search that begins at a set begins in that set's stage, at the set's own path, and then tries the very next difference, since
 // what lies beyond the paths before the set was not seen.
+//
+// A search past idle sets asks about a whole stage where it begins, and about each path of a stage as far as it has
+// begun: what it tells is who is in each set whose path begins so, and who is in none. What lies beyond paths that were
+// left is not known, so then it tries the very next difference too.
 ghost use Rattle.dutch_order.specs.declared.numbers.TheConstants.{LIMIT};
 ghost use Rattle.std.specs.Prelude.{◌≡◌, ◌+◌, ◌*◌, ◌-◌, ◌<◌, ◌≤◌, ℕ, List, suc, true, false, Some, [], ◌∷◌, ◌++◌, length, map, take, drop, slice_index};
 ghost use Rattle.std.specs.List.{AllByRecursion};
 ghost use Rattle.std.specs.Result.{IsErr};
 ghost use Rattle.dutch_order.specs.Prefixes.{GoesOn};
 ghost use Rattle.dutch_order.specs.Sides.{count_of};
-ghost use Rattle.dutch_order.specs.Stages.{IdleAt, barred_numbers, held_numbers, in_limit, is_told, out_limit, told_numbers, least_at, greatest_at, least_difference, greatest_difference, exchange_plan, IsPlace, sets_from, trials_from, stages_ahead, set_of, kept_of, value_of, following, out_places, in_places, exchange_path, exchange_difference};
+ghost use Rattle.dutch_order.specs.Stages.{IdleAt, barred_numbers, held_numbers, in_limit};
+ghost use Rattle.dutch_order.specs.Stages.{is_told, out_limit, told_numbers};
+ghost use Rattle.dutch_order.specs.Stages.{least_at, greatest_at, least_difference, greatest_difference, exchange_plan, IsPlace, sets_from, trials_from, stages_ahead, set_of, kept_of, value_of, following, out_places, in_places, exchange_path, exchange_difference};
 ghost use Rattle.dutch_order.specs.Exchange.{exchanges};
 ghost use Rattle.dutch_order.specs.Choices.{subsets, from_on, numbers_from};
 ghost use Rattle.dutch_order.specs.Keys.{IsIn};
@@ -358,8 +364,8 @@ fn next_set(pool: &[u16], k: usize, place: &mut Place, budget: &mut Budget) -> D
     }
 }
 
-/// What a path that has begun tells of one side: the places that it has chosen, and below which place it is known of all others that
-/// they are not chosen.
+/// What a path that has begun tells of one side: the places that it has chosen, and below which place it is known of
+/// all others that they are not chosen.
 #[derive(Drop)]
 struct Told<'a> {
     side: Side,
@@ -392,7 +398,8 @@ fn is_told(told: &Told<'_>, chosen: bool, place: usize) -> bool
 /// Puts the numbers behind others of whose places it is known that they are chosen, or else that they are not.
 fn put_told(stage: &Stage<'_>, told: &Told<'_>, chosen: bool, numbers: &mut Numbers)
     requires room { length numbers.old.items
-        + length (told_numbers stage.now.pool.now stage.now.k told.now.side told.now.taken.now told.now.limit chosen) ≤ LIMIT }
+        + length (told_numbers stage.now.pool.now stage.now.k told.now.side told.now.taken.now told.now.limit chosen)
+        ≤ LIMIT }
     ensures { numbers.new.items ≡ numbers.old.items
         ++ told_numbers stage.now.pool.now stage.now.k told.now.side told.now.taken.now told.now.limit chosen }
 {
@@ -451,11 +458,13 @@ fn told_in<'a>(stage: &Stage<'_>, begun: &'a [u16]) -> Told<'a>
     }
 }
 
-/// Fills a list with who is in the set of each path that begins so, and behind them with who is in none. The answer is how many the first
-/// are.
+/// Fills a list with who is in the set of each path that begins so, and behind them with who is in none. The answer is
+/// how many the first are.
 fn put_known(stage: &Stage<'_>, begun: &[u16], numbers: &mut Numbers) -> usize
-    ensures held { take result numbers.new.items ≡ held_numbers stage.now.pool.now stage.now.k stage.now.size begun.now }
-    ensures barred { drop result numbers.new.items ≡ barred_numbers stage.now.pool.now stage.now.k stage.now.size begun.now }
+    ensures held { take result numbers.new.items ≡ held_numbers stage.now.pool.now stage.now.k stage.now.size
+        begun.now }
+    ensures barred { drop result numbers.new.items ≡ barred_numbers stage.now.pool.now stage.now.k stage.now.size
+        begun.now }
     ensures within { result ≤ length numbers.new.items }
 {
     let outs = told_out(stage, begun);
@@ -469,8 +478,8 @@ fn put_known(stage: &Stage<'_>, begun: &[u16], numbers: &mut Numbers) -> usize
     held
 }
 
-/// Whether the cuts know that the sets of all paths of a stage are idle that begin so. The original set is not asked about: it is one
-/// set, and no stage of others.
+/// Whether the cuts know that the sets of all paths of a stage are idle that begin so. The original set is not asked
+/// about: it is one set, and no stage of others.
 fn cuts_begun<C: CutsExchanges>(
     stage: &Stage<'_>,
     cuts: &C,
@@ -514,7 +523,8 @@ impl<'c, C: CutsExchanges> CutsPaths for OfStage<'c, C> {
 
     type Room = C::Room;
 
-    ghost Idle = { λ t path. IdleAt t.stage.now.pool.now t.stage.now.k (C.Idle t.cuts.now) t.stage.now.size t.stage.now.difference path };
+    ghost Idle = { λ t path. IdleAt t.stage.now.pool.now t.stage.now.k (C.Idle t.cuts.now) t.stage.now.size
+        t.stage.now.difference path };
 
     ghost MayAsk = { λ _ _. Unit {0} };
 
@@ -524,7 +534,8 @@ impl<'c, C: CutsExchanges> CutsPaths for OfStage<'c, C> {
     }
 }
 
-/// Leaves a stage in which nothing is chosen, if all its sets are known to be idle. That is a step, so the budget is asked first.
+/// Leaves a stage in which nothing is chosen, if all its sets are known to be idle. That is a step, so the budget is
+/// asked first.
 fn leave_stage<C: CutsExchanges>(
     tree: &Hinted<'_, Stage<'_>>,
     cuts: &C,
@@ -534,13 +545,18 @@ fn leave_stage<C: CutsExchanges>(
 ) -> Result<(), Stopped>
     requires ascends { IsStrictlyIncreasing tree.now.tree.pool.now }
     requires small { (i : ℕ) → slice_index tree.now.tree.pool.now i ≤ 65535 }
-    requires standing { Stands (hinted tree.now.hint.now.items (exchange_plan tree.now.tree.pool.now tree.now.tree.k tree.now.tree.size tree.now.tree.difference)) walk.old.path.items }
+    requires standing { Stands (hinted tree.now.hint.now.items (exchange_plan tree.now.tree.pool.now tree.now.tree.k
+        tree.now.tree.size tree.now.tree.difference)) walk.old.path.items }
     requires within { budget.old.used ≤ budget.old.limit }
     ensures path { walk.new.path.items ≡ walk.old.path.items }
-    ensures passes { Passes (IdleAt tree.now.tree.pool.now tree.now.tree.k (C.Idle cuts.now) tree.now.tree.size tree.now.tree.difference)
-        (hits (ahead (hinted tree.now.hint.now.items (exchange_plan tree.now.tree.pool.now tree.now.tree.k tree.now.tree.size tree.now.tree.difference)) walk.old.path.items walk.old.number))
-        (hits (ahead (hinted tree.now.hint.now.items (exchange_plan tree.now.tree.pool.now tree.now.tree.k tree.now.tree.size tree.now.tree.difference)) walk.new.path.items walk.new.number)) }
-    ensures known { KeepsBeyond (hinted tree.now.hint.now.items (exchange_plan tree.now.tree.pool.now tree.now.tree.k tree.now.tree.size tree.now.tree.difference)) walk.old walk.new }
+    ensures passes { Passes (IdleAt tree.now.tree.pool.now tree.now.tree.k (C.Idle cuts.now) tree.now.tree.size
+        tree.now.tree.difference)
+        (hits (ahead (hinted tree.now.hint.now.items (exchange_plan tree.now.tree.pool.now tree.now.tree.k
+        tree.now.tree.size tree.now.tree.difference)) walk.old.path.items walk.old.number))
+        (hits (ahead (hinted tree.now.hint.now.items (exchange_plan tree.now.tree.pool.now tree.now.tree.k
+        tree.now.tree.size tree.now.tree.difference)) walk.new.path.items walk.new.number)) }
+    ensures known { KeepsBeyond (hinted tree.now.hint.now.items (exchange_plan tree.now.tree.pool.now tree.now.tree.k
+        tree.now.tree.size tree.now.tree.difference)) walk.old walk.new }
     ensures stopped { IsErr result → budget.new.used ≡ budget.new.limit }
     ensures spends { Spends budget.old budget.new }
 {
@@ -569,22 +585,34 @@ fn climb_stage<C: CutsExchanges>(
 ) -> Drawn
     requires ascends { IsStrictlyIncreasing tree.now.tree.pool.now }
     requires small { (i : ℕ) → slice_index tree.now.tree.pool.now i ≤ 65535 }
-    requires standing { Stands (hinted tree.now.hint.now.items (exchange_plan tree.now.tree.pool.now tree.now.tree.k tree.now.tree.size tree.now.tree.difference)) walk.old.path.items }
+    requires standing { Stands (hinted tree.now.hint.now.items (exchange_plan tree.now.tree.pool.now tree.now.tree.k
+        tree.now.tree.size tree.now.tree.difference)) walk.old.path.items }
     requires within { budget.old.used ≤ budget.old.limit }
-    ensures stands { Stands (hinted tree.now.hint.now.items (exchange_plan tree.now.tree.pool.now tree.now.tree.k tree.now.tree.size tree.now.tree.difference)) walk.new.path.items }
+    ensures stands { Stands (hinted tree.now.hint.now.items (exchange_plan tree.now.tree.pool.now tree.now.tree.k
+        tree.now.tree.size tree.now.tree.difference)) walk.new.path.items }
     ensures answer { MatchDrawn result
-        (Passes (IdleAt tree.now.tree.pool.now tree.now.tree.k (C.Idle cuts.now) tree.now.tree.size tree.now.tree.difference)
-        (hits (ahead (hinted tree.now.hint.now.items (exchange_plan tree.now.tree.pool.now tree.now.tree.k tree.now.tree.size tree.now.tree.difference)) walk.old.path.items walk.old.number))
-        (walk.new.path.items ∷ hits (ahead (hinted tree.now.hint.now.items (exchange_plan tree.now.tree.pool.now tree.now.tree.k tree.now.tree.size tree.now.tree.difference)) walk.new.path.items walk.new.number))
+        (Passes (IdleAt tree.now.tree.pool.now tree.now.tree.k (C.Idle cuts.now) tree.now.tree.size
+        tree.now.tree.difference)
+        (hits (ahead (hinted tree.now.hint.now.items (exchange_plan tree.now.tree.pool.now tree.now.tree.k
+        tree.now.tree.size tree.now.tree.difference)) walk.old.path.items walk.old.number))
+        (walk.new.path.items ∷ hits (ahead (hinted tree.now.hint.now.items (exchange_plan tree.now.tree.pool.now
+        tree.now.tree.k tree.now.tree.size tree.now.tree.difference)) walk.new.path.items walk.new.number))
         × (length walk.new.path.items ≡ tree.now.tree.size + tree.now.tree.size))
-        (Passes (IdleAt tree.now.tree.pool.now tree.now.tree.k (C.Idle cuts.now) tree.now.tree.size tree.now.tree.difference)
-        (hits (ahead (hinted tree.now.hint.now.items (exchange_plan tree.now.tree.pool.now tree.now.tree.k tree.now.tree.size tree.now.tree.difference)) walk.old.path.items walk.old.number)) []
-        × (ahead (hinted tree.now.hint.now.items (exchange_plan tree.now.tree.pool.now tree.now.tree.k tree.now.tree.size tree.now.tree.difference)) walk.new.path.items walk.new.number ≡ []))
-        (Passes (IdleAt tree.now.tree.pool.now tree.now.tree.k (C.Idle cuts.now) tree.now.tree.size tree.now.tree.difference)
-        (hits (ahead (hinted tree.now.hint.now.items (exchange_plan tree.now.tree.pool.now tree.now.tree.k tree.now.tree.size tree.now.tree.difference)) walk.old.path.items walk.old.number))
-        (hits (ahead (hinted tree.now.hint.now.items (exchange_plan tree.now.tree.pool.now tree.now.tree.k tree.now.tree.size tree.now.tree.difference)) walk.new.path.items walk.new.number))
+        (Passes (IdleAt tree.now.tree.pool.now tree.now.tree.k (C.Idle cuts.now) tree.now.tree.size
+        tree.now.tree.difference)
+        (hits (ahead (hinted tree.now.hint.now.items (exchange_plan tree.now.tree.pool.now tree.now.tree.k
+        tree.now.tree.size tree.now.tree.difference)) walk.old.path.items walk.old.number)) []
+        × (ahead (hinted tree.now.hint.now.items (exchange_plan tree.now.tree.pool.now tree.now.tree.k
+        tree.now.tree.size tree.now.tree.difference)) walk.new.path.items walk.new.number ≡ []))
+        (Passes (IdleAt tree.now.tree.pool.now tree.now.tree.k (C.Idle cuts.now) tree.now.tree.size
+        tree.now.tree.difference)
+        (hits (ahead (hinted tree.now.hint.now.items (exchange_plan tree.now.tree.pool.now tree.now.tree.k
+        tree.now.tree.size tree.now.tree.difference)) walk.old.path.items walk.old.number))
+        (hits (ahead (hinted tree.now.hint.now.items (exchange_plan tree.now.tree.pool.now tree.now.tree.k
+        tree.now.tree.size tree.now.tree.difference)) walk.new.path.items walk.new.number))
         × (budget.new.used ≡ budget.new.limit)) }
-    ensures known { KeepsBeyond (hinted tree.now.hint.now.items (exchange_plan tree.now.tree.pool.now tree.now.tree.k tree.now.tree.size tree.now.tree.difference)) walk.old walk.new }
+    ensures known { KeepsBeyond (hinted tree.now.hint.now.items (exchange_plan tree.now.tree.pool.now tree.now.tree.k
+        tree.now.tree.size tree.now.tree.difference)) walk.old walk.new }
     ensures spends { Spends budget.old budget.new }
 {
     leave_stage(tree, cuts, room, walk, budget)?;
@@ -595,7 +623,8 @@ fn climb_stage<C: CutsExchanges>(
     climb_past(tree, &paths, room, walk, budget)
 }
 
-/// Goes on to the next set, whose path the walk then has, past such as are known to be idle. All that was passed over is idle.
+/// Goes on to the next set, whose path the walk then has, past such as are known to be idle. All that was passed over
+/// is idle.
 fn next_set_past<C: CutsExchanges>(
     pool: &[u16],
     k: usize,
@@ -611,10 +640,12 @@ fn next_set_past<C: CutsExchanges>(
     requires within { budget.old.used ≤ budget.old.limit }
     ensures stands { IsPlace pool.now k place.new }
     ensures answer { MatchDrawn result
-        (Passes (C.Idle cuts.now) (sets_from pool.now k place.old) (set_of pool.now k place.new.size place.new.walk.path.items ∷ sets_from pool.now k place.new)
+        (Passes (C.Idle cuts.now) (sets_from pool.now k place.old) (set_of pool.now k place.new.size
+        place.new.walk.path.items ∷ sets_from pool.now k place.new)
         × (length place.new.walk.path.items ≡ place.new.size + place.new.size))
         (Passes (C.Idle cuts.now) (sets_from pool.now k place.old) [] × (sets_from pool.now k place.new ≡ []))
-        (Passes (C.Idle cuts.now) (sets_from pool.now k place.old) (sets_from pool.now k place.new) × (budget.new.used ≡ budget.new.limit)) }
+        (Passes (C.Idle cuts.now) (sets_from pool.now k place.old) (sets_from pool.now k place.new) × (budget.new.used
+        ≡ budget.new.limit)) }
     ensures spends { Spends budget.old budget.new }
 {
     loop {
@@ -813,9 +844,9 @@ impl Exchanges {
         Ok(true)
     }
 
-    /// Fills a list with the next one, but sets that the cuts know to be idle may be skipped: they are asked about each stage where it
-    /// begins, which is a step if it is left, and about each beginning at which the search arrives, at no step. All that was skipped is idle,
-    /// whatever the answer.
+    /// Fills a list with the next one, but sets that the cuts know to be idle may be skipped: they are asked about each
+    /// stage where it begins, which is a step if it is left, and about each beginning at which the search arrives, at
+    /// no step. All that was skipped is idle, whatever the answer.
     pub(crate) fn put_next_past<C: CutsExchanges>(
         &mut self,
         cuts: &C,

@@ -3,9 +3,9 @@ ghost use Rattle.std.specs.Prelude.{◌≡◌};
 
 use std::marker::Model;
 
-/// What is known of the S1R of arrangements whose S1 and S2 are chosen (C.04.3 D.2): by how many players it differs from the original
-/// one, and by how much the sum of its numbers is greater; some who are in it; and some who are not. Players are named by their numbers
-/// in the bracket.
+/// What is known of the S1R of arrangements whose S1 and S2 are chosen (C.04.3 D.2): by how many players it differs
+/// from the original one, and by how much the sum of its numbers is greater; some who are in it; and some who are not.
+/// Players are named by their numbers in the bracket.
 #[derive(Drop)]
 pub struct Exchange<'a> {
     pub(crate) original: &'a [u16],

@@ -159,8 +159,8 @@ impl<'a, T: Tree> Tree for Hinted<'a, T> {
 }
 
 /// Where a search stands: the numbers at the places filled, and the next number to try at the place after them. At a whole path
-/// the next number is 0 until the path has been handed out. And what lies beyond the numbers that were tried is no less than `beyond`,
-/// if anything does; where some were left without a trial, that is 0, so that nothing is known.
+/// the next number is 0 until the path has been handed out. And what lies beyond the numbers that were tried is no less
+/// than `beyond`, if anything does; where some were left without a trial, that is 0, so that nothing is known.
 #[derive(Drop)]
 pub struct Walk {
     pub path: Path,
@@ -232,15 +232,18 @@ pub fn end_number<T: Tree>(tree: &T, path: &[u16]) -> usize
     }
 }
 
-/// Leaves out all that is still to come below a path, if all of it is known to be idle. What lies beyond it is not known then.
+/// Leaves out all that is still to come below a path, if all of it is known to be idle. What lies beyond it is not
+/// known then.
 fn leave_idle<T: Tree, C: CutsPaths>(tree: &T, cuts: &C, room: &mut C::Room, walk: &mut Walk)
     requires standing { Stands (T.plan tree.now) walk.old.path.items }
     requires may_ask { (path : List ℕ) → Stands (T.plan tree.now) path → C.MayAsk cuts.now path }
     ensures path { walk.new.path.items ≡ walk.old.path.items }
     ensures passes { Passes (C.Idle cuts.now) (hits (ahead (T.plan tree.now) walk.old.path.items walk.old.number))
         (hits (ahead (T.plan tree.now) walk.new.path.items walk.new.number)) }
-    ensures same { NoneIdle (C.Idle cuts.now) → (walk.new.number ≡ walk.old.number) × (walk.new.beyond ≡ walk.old.beyond) }
-    ensures known { (walk.new.beyond ≡ Some 0) ⊎ ((walk.new.number ≡ walk.old.number) × (walk.new.beyond ≡ walk.old.beyond)) }
+    ensures same { NoneIdle (C.Idle cuts.now)
+        → (walk.new.number ≡ walk.old.number) × (walk.new.beyond ≡ walk.old.beyond) }
+    ensures known { (walk.new.beyond ≡ Some 0)
+        ⊎ ((walk.new.number ≡ walk.old.number) × (walk.new.beyond ≡ walk.old.beyond)) }
 {
     let end = end_number(tree, &walk.path);
     if walk.number < end && cuts.cuts(&walk.path, &mut walk.room, room) {

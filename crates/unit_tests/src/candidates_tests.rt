@@ -297,7 +297,10 @@ impl<'a> Bound for ByDifference<'a> {
         exchange: &Exchange<'_>,
         _room: &mut (),
     ) -> bool {
-        exchange.original() == [1, 2] && exchange.difference() == 2
+        let [one, two] = exchange.original() else {
+            return false;
+        };
+        *one == 1 && *two == 2 && exchange.difference() == 2
     }
 }
 
@@ -375,7 +378,15 @@ fn a_bound_leaves_out_a_stage_of_exchanges(rt: HostRuntime) -> Result<(), Fail> 
         rule: &FREE,
     };
     let candidates = Candidates::new(&bracket, shape, &FREE);
-    assert!(rt; are_left(rt.alloc(), candidates, &bound, &mut (), &FOUR_WITHOUT_A_STAGE)?);
+    assert!(rt;
+        are_left(
+            rt.alloc(),
+            candidates,
+            &bound,
+            &mut (),
+            &FOUR_WITHOUT_A_STAGE
+        )?
+    );
     Ok(())
 }
 
