@@ -280,7 +280,7 @@ fn some_certificates_are_no_floor(rt: HostRuntime) -> Result<(), Fail> {
     assert!(rt; none.is_none());
     let mut great = table(rt.alloc(), &[], (0, 0), (&THREE, 0))?;
     assert_eq!(rt; base(rt.alloc(), &great, &rule, &three, 1)?, number(0));
-    let half = Wide::power_of_two(255).unwrap_or(Wide::zero());
+    let half = Wide::power_of_two(511).unwrap_or(Wide::zero());
     great.given = half;
     for set in &mut great.sets {
         set.price = half;
