@@ -247,6 +247,7 @@ module _ (pool : List ℕ) (k : ℕ) (rises : IsStrictlyIncreasing pool) (enough
 
       exchange-is_known : IsExchange (known_exchange pool k size difference begun) set
       exchange-is_known = record {
+        ascends = subst IsStrictlyIncreasing (sym (take-append-drop k pool)) rises;
         set = exchange-set;
         size = exchange-size;
         sum = exchange-sum;

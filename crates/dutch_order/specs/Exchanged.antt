@@ -1,6 +1,7 @@
 -- What is known of the S1R of arrangements whose S1 and S2 are chosen: how far it is from the original one (C.04.3 D.2).
 use Rattle.std.specs.Prelude.{◌≡◌, ℕ, ◌+◌, not, List, ◌++◌, filter, length}
 use Rattle.std.specs.List.{AllByRecursion}
+use Rattle.std.specs.List.Sorted.{IsStrictlyIncreasing}
 use Rattle.dutch_order.specs.Choices.{is_member, subsets}
 use Rattle.dutch_order.specs.Exchange.{sum_of}
 use Rattle.dutch_order.specs.Keys.{IsIn}
@@ -15,9 +16,10 @@ pub record KnownExchange : Type 0 where
   pub held : List ℕ
   pub barred : List ℕ
 
--- D.2: an S1R is such an exchange: it is as many players of the remainder as the original one; so many of them are not in the original
--- one; the sum of its numbers is so much greater; and it has those who are held, and none of those who are barred
+-- D.2: an S1R is such an exchange: the remainder ascends; S1R is as many players of it as the original one; so many of them are not in the
+-- original one; the sum of its numbers is so much greater; and it has those who are held, and none of those who are barred
 pub record IsExchange (exchange : KnownExchange) (s1r : List ℕ) : Type 0 where
+  pub ascends : IsStrictlyIncreasing (exchange.original ++ exchange.others)
   pub set : IsIn s1r (subsets (exchange.original ++ exchange.others) (length exchange.original))
   pub size : length (filter (λ x. not (is_member x exchange.original)) s1r) ≡ exchange.size
   pub sum : sum_of s1r ≡ sum_of exchange.original + exchange.difference
