@@ -1,6 +1,6 @@
 // A floor: what every matching costs at least, beside what is owed, and what each pair and each player left over adds
 // that is known of it.
-ghost use Rattle.std.specs.Prelude.{◌≡◌, slice_index_or};
+ghost use Rattle.std.specs.Prelude.{◌≡◌, [], slice_index_or};
 ghost use Rattle.dual.specs.Floors.{extra_in, extra_left_in};
 
 use std::marker::Model;
@@ -65,6 +65,21 @@ impl Floor {
         } else {
             Wide::zero()
         }
+    }
+
+    /// The same floor, that adds nothing for players left over.
+    pub fn without_left(self) -> Floor
+        ensures { result ≡ record {
+          base = self.base;
+          debt = self.debt;
+          size = self.size;
+          extra = self.extra;
+          extra_left = [];
+        } }
+    {
+        let mut floor = self;
+        floor.extra_left.clear();
+        floor
     }
 
     /// What a player left over adds, 0 outside of the table.

@@ -194,7 +194,7 @@ fn a_priced_set_of_four(rt: HostRuntime) -> Result<(), Fail> {
 }
 
 // Each pair that is known adds what it costs, less its potentials, and the price of the set that it is inside. Two who may not meet add
-// nothing, and nobody does who is not in the table.
+// nothing, and nobody does who is not in the table. Without those left over they add as much, and who is left over adds nothing.
 #[test]
 fn known_pairs_bring_their_slack(rt: HostRuntime) -> Result<(), Fail> {
     let six = [1, 2, 3, 4, 5, 6];
@@ -223,6 +223,9 @@ fn known_pairs_bring_their_slack(rt: HostRuntime) -> Result<(), Fail> {
     for (a, extra) in [(6, 7), (5, 0), (700, 0)] {
         assert_eq!(rt; floor.extra_left(a), Wide::from_u64(extra));
     }
+    let without_left = floor.without_left();
+    assert_eq!(rt; without_left.extra(3, 4), Wide::from_u64(8));
+    assert_eq!(rt; without_left.extra_left(6), Wide::zero());
     Ok(())
 }
 
