@@ -197,18 +197,21 @@ module _ (facts : Facts) (reached : Reached) (lower : List ℕ) where
         sym (unfit_passed (is_better_in facts reached lower) (order_in facts reached lower) (is_sought facts reached lower wish aim) (kept_lists kept) d rest
         (and_left _ (is_near facts reached lower aim d) (and_right (can_be_chosen facts reached lower d) (is_wished wish d) unwished)))
 
-    dull_passed : (aim : Option Quality) (kept : Option Best) (d : Arrangement) (rest : List Arrangement) (t : Bool) → is_wished wish d ≡ t
+    dull_passed : (aim : Option Quality) (kept : Option Best) (d : Arrangement) (rest : List Arrangement) (t : Bool) → is_open facts reached lower wish d ≡ t
         → IsKept facts reached lower kept → (not t || is_idle aim kept (quality_of facts reached lower d)) ≡ true
         → best_yet facts reached lower wish aim kept (d ∷ rest) ≡ best_yet facts reached lower wish aim kept rest
-    dull_passed aim kept d rest true wished h dull = sym (idle_passed aim kept (quality_of facts reached lower d) d rest h refl dull)
-    dull_passed aim kept d rest false unwished h dull = sym (unwished_passed aim kept d rest unwished)
+    unfolding best_yet
+    dull_passed aim kept d rest true open' h dull = sym (idle_passed aim kept (quality_of facts reached lower d) d rest h refl dull)
+    dull_passed aim kept d rest false shut h dull =
+        unfit_passed (is_better_in facts reached lower) (order_in facts reached lower) (is_sought facts reached lower wish aim) (kept_lists kept) d rest
+        (and_left _ (is_near facts reached lower aim d) shut)
 
     dull_front_passed : (aim : Option Quality) (kept : Option Best) (skipped rest : List Arrangement) → IsKept facts reached lower kept
         → AllByRecursion (λ a. is_dull facts reached lower wish aim kept a ≡ true) skipped
         → best_yet facts reached lower wish aim kept (skipped ++ rest) ≡ best_yet facts reached lower wish aim kept rest
     dull_front_passed aim kept [] rest h dull = refl
     dull_front_passed aim kept (d ∷ skipped) rest h dull =
-        dull_passed aim kept d (skipped ++ rest) (is_wished wish d) refl h dull.0 ∙ dull_front_passed aim kept skipped rest h dull.1
+        dull_passed aim kept d (skipped ++ rest) (is_open facts reached lower wish d) refl h dull.0 ∙ dull_front_passed aim kept skipped rest h dull.1
 
     -- what a listing skips changes nothing
     pub skipped_same : (aim : Option Quality) (kept : Option Best) (before after : List Arrangement) → IsKept facts reached lower kept
@@ -217,12 +220,16 @@ module _ (facts : Facts) (reached : Reached) (lower : List ℕ) where
     skipped_same aim kept before after h (skipped, same, dull) =
         ap (λ coming. best_yet facts reached lower wish aim kept coming) same ∙ dull_front_passed aim kept skipped after h dull
 
--- who does not grant the wish is of no interest, and whose quality is of none
-pub unwished_is_dull : (wished idle : Bool) → wished ≡ false → (not wished || idle) ≡ true
-unwished_is_dull wished idle h = ap (λ t. not t || idle) h
+-- who does not grant the wish is of no interest, and whose quality is of none, or is if it can be chosen
+pub unwished_is_dull : (fit wished idle : Bool) → wished ≡ false → (not (fit && wished) || idle) ≡ true
+unwished_is_dull fit wished idle h = ap (λ t. not t || idle) (and_right fit wished h)
 
-pub idle_is_dull : (wished idle : Bool) → idle ≡ true → (not wished || idle) ≡ true
-idle_is_dull wished idle h = or_right (not wished) idle h
+pub idle_is_dull : (fit wished idle : Bool) → idle ≡ true → (not (fit && wished) || idle) ≡ true
+idle_is_dull fit wished idle h = or_right (not (fit && wished)) idle h
+
+pub idle_if_fit_is_dull : (fit wished idle : Bool) → (fit ≡ true → idle ≡ true) → (not (fit && wished) || idle) ≡ true
+idle_if_fit_is_dull true wished idle h = or_right (not wished) idle (h refl)
+idle_if_fit_is_dull false wished idle h = refl
 
 beyond_aim : (aim : Option Quality) (floor q : Quality) → is_better q floor ≡ false → beats aim floor ≡ true → beats aim q ≡ true
 beyond_aim None floor q low won = won

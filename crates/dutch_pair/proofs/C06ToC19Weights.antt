@@ -5,7 +5,7 @@ use Rattle.std.specs.Prelude.{◌==◌, count_by}
 use Rattle.std.specs.List.{AllByRecursion, zip}
 use Rattle.std.proofs.lemmas.List.{length-map, map-append}
 use Rattle.std.proofs.lemmas.List.Sums.{sum_by-cons, sum_by-append}
-use Rattle.std.proofs.Math.Nat.{mul-add}
+use Rattle.std.proofs.Math.Nat.{mul-add, mul-zero}
 use Rattle.trf16.specs.declared.cell.Colour.{Colour}
 use Rattle.trf16.specs.declared.cell.Colour.TheVariants.{White, Black}
 use Rattle.dutch_order.specs.Arrangements.{Arrangement, down}
@@ -329,13 +329,17 @@ module _ (facts : Facts) (reached : Reached) (scale : Scale) where
   weight_more : (q q1 q2 : Quality) → AllByRecursion (λ (digit : Quality → ℕ). digit q ≡ digit q1 + digit q2) (readers scale)
       → weight_of scale q ≡ weight_of scale q1 + weight_of scale q2
   weight_more q q1 q2 sums =
-      omega (arith, written_sum scale.base (readers scale) q q1 q2 0 0 sums, weight_read q scale, weight_read q1 scale, weight_read q2 scale)
+      let read : Quality → ℕ = λ r. read_off scale.base 0 (readers scale) r in
+      let both : scale.unit * read q ≡ scale.unit * (read q1 + read q2) =
+      ap (λ n. scale.unit * n) (written_sum scale.base (readers scale) q q1 q2 0 0 sums) in
+      omega (arith, both, mul-add scale.unit (read q1) (read q2), weight_read q scale, weight_read q1 scale, weight_read q2 scale)
 
   pub weight_sum : (pairs : List (ℕ × ℕ)) (down : List ℕ) (next : NextValue) → weight_of scale (of facts reached pairs down next) ≡ sum_by pair_alone pairs + sum_by down_alone down
   weight_sum [] [] next =
       weight_read (of facts reached [] [] next) scale
-      ∙ ap (λ n. 2 * n) (written_none scale.base (readers scale) (of facts reached [] [] next)
+      ∙ ap (λ n. scale.unit * n) (written_none scale.base (readers scale) (of facts reached [] [] next)
       (all_so (IsSum facts reached) _ (λ digit sum. none_of_none facts reached digit sum next) (readers scale) (all_sums facts reached scale)))
+      ∙ mul-zero scale.unit
   weight_sum [] (seat ∷ down) next =
       let more = weight_more (of facts reached [] (seat ∷ down) next) (of facts reached [] (seat ∷ []) no_value) (of facts reached [] down next)
       (all_so (IsSum facts reached) _ (λ digit sum. down_more facts reached digit sum seat down next) (readers scale) (all_sums facts reached scale)) in

@@ -1,9 +1,12 @@
 pub mod PassesTwice
 pub mod AboveLemmas
 pub mod BoundSums
+pub mod OrderLemmas
+pub mod D02Orders
 pub mod WeightsBehind
 pub mod CandidateMatchings
 pub mod ScopedMatchings
+pub mod C04Lower
 pub mod SideTables
 pub mod WrittenNumbers
 pub mod C06ToC19Weights

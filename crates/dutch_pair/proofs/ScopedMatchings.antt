@@ -17,8 +17,10 @@ use Rattle.dutch_order.proofs.CursorSets.{in-member, member-in}
 use Rattle.dutch_order.proofs.HalfWalks.{Climbs}
 use Rattle.dutch_order.proofs.Orders.{IsIn-filter, all_members, member_has}
 use Rattle.dutch_player.specs.Facts.{Facts}
+use Rattle.dutch_pair.specs.declared.scope.Reach.TheVariants.{Bracket}
 use Rattle.dutch_pair.specs.declared.scope.Side.{Side}
 use Rattle.dutch_pair.specs.declared.scope.Side.TheVariants.{Any, Outside, First, Resident, FirstResident, OtherResident}
+use Rattle.dutch_pair.specs.Orders.{Order}
 use Rattle.dutch_pair.specs.Reached.{IsOf, Reached, frame_of, numbers_meet}
 use Rattle.dutch_pair.specs.Round.{candidates_of}
 use Rattle.dutch_pair.specs.Scopes.{Covers, CoversBy, Scope, costs_in, is_joined, may_stay, moved_down_side, resident_side}
@@ -145,6 +147,15 @@ neither : (s t : Bool) → (s || t) ≡ false → (s ≡ false) × (t ≡ false)
 neither true t e = absurd (true≢false e)
 neither false t e = (refl, e)
 
+-- the members of S1 are moved-down players
+pub s1_moved_down : (frame : Frame) (shape : Shape) (a : Arrangement) → frame.mdps ≤ length frame.scores → IsIn a (arrangements frame shape)
+    → AllByRecursion (λ x. x ≤ frame.mdps) a.s1
+s1_moved_down frame shape a within m =
+    all_members (λ x. x ≤ frame.mdps) a.s1
+    (λ x i.
+    let below : x < 1 + frame.mdps = member_has (λ y. y < 1 + frame.mdps) a.s1 (climbs_below 1 (1 + frame.mdps) a.s1 (parts_of frame shape a within m).s1) x i in
+    omega (arith, below))
+
 module _ (frame : Frame) (shape : Shape) (a : Arrangement) (within : frame.mdps ≤ length frame.scores) (m : IsIn a (arrangements frame shape))
     (f : Filling) (s1 s1r : List ℕ) (has : HasLists f s1 s1r a) where
   abbrev S : ℕ → Side
@@ -229,10 +240,11 @@ all_stay stay may (x ∷ xs) first second = (ap (λ b. b && may x) first.0 ∙ s
 -- B.3, B.6, B.7: the pairs of a candidate behind a beginning, and those whom it leaves over, are a matching in each scope that covers the
 -- beginning
 pub is_matching_in : (facts : Facts) (reached : Reached) (scale : Scale) (lower : List ℕ) (shape : Shape) (a : Arrangement) → IsOf facts reached
-    → Fits (frame_of facts reached) shape → IsIn a (candidates_of facts reached shape) → (b : Beginning) → Begins b a → (scope : Scope) → Covers scope b
-    → IsMatching (costs_in (record { weighing = record { facts = facts; reached = reached; scale = scale }; scope = scope })) (numbers reached) (number_pairs a)
+    → Fits (frame_of facts reached) shape → IsIn a (candidates_of facts reached shape) → (b : Beginning) → Begins b a → (scope : Scope) → Covers scope b → (order : Order)
+    → IsMatching (costs_in (record { weighing = record { facts = facts; reached = reached; lower = lower; scale = scale }; scope = scope; reach = Bracket; order = order }))
+    (numbers reached) (number_pairs a)
     (down (frame_of facts reached) a)
-is_matching_in facts reached scale lower shape a of' fits m b begins scope covers =
+is_matching_in facts reached scale lower shape a of' fits m b begins scope covers order =
     let frame : Frame = frame_of facts reached in
     let costs : Costs = weighing facts reached scale in
     let plain = candidate_is_matching facts reached scale lower shape a of' fits m in

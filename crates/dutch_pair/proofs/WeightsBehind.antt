@@ -1,19 +1,17 @@
 -- No candidate behind a beginning weighs less than a floor says (C.04.3 C.6, C.8 to C.19). So none is better than a quality that weighs no
 -- more, and one that weighs less is better than all.
-use Rattle.std.proofs.Common.{◌≡◌, ℕ, zero, suc, ◌+◌, ◌-◌, ◌*◌, ◌<◌, ◌≤◌, ◌⊎◌, true, false, not, cond, ◌||◌, List, [], ◌∷◌, All, map, drop, get_or, length, Option, Some, None, IfSome, inl, inr, refl, sym, ap, subst, ◌∙◌, arith}
+use Rattle.std.proofs.Common.{◌≡◌, ℕ, zero, suc, ◌+◌, ◌-◌, ◌*◌, ◌<◌, ◌≤◌, ◌⊎◌, true, false, not, cond, ◌||◌, List, [], ◌∷◌, All, map, drop, length, Option, Some, None, inl, inr, refl, sym, ap, subst, ◌∙◌, arith}
 use Rattle.std.specs.List.{AllByRecursion}
-use Rattle.std.specs.Option.{ForSome}
 use Rattle.std.specs.declared.cmp.Ordering.{Ordering}
 use Rattle.std.specs.declared.cmp.Ordering.TheVariants.{Less, Equal, Greater}
 use Rattle.std.specs.Ordering.{nat_cmp, is_lt, ordering_reverse}
 use Rattle.std.specs.Cmp.Lexicographic.{slice_cmp}
 use Rattle.std.proofs.lemmas.Bool.{eq-eqb, false_from_ne_true, ne_eqb, true≢false}
 use Rattle.std.proofs.lemmas.Cmp.{nat_list_cmp_total}
-use Rattle.std.proofs.lemmas.List.Elements.{All-get_or}
 use Rattle.std.proofs.Math.Logic.{∥∥₁_elim}
 use mathlib.Core.Bool.{Bool-set}
 use Rattle.dual.specs.Floors.{FloorTable, IsFloor}
-use Rattle.dual.specs.Matchings.{IsPartOf, cost}
+use Rattle.dual.specs.Matchings.{Costs, IsPartOf, cost}
 use Rattle.dutch_order.specs.declared.bracket.Shape.{Shape}
 use Rattle.dutch_order.specs.declared.prefix.Filling.{Filling}
 use Rattle.dutch_order.specs.declared.prefix.Filling.TheVariants.{S1, S2, S2r}
@@ -25,6 +23,7 @@ use Rattle.dutch_order.proofs.Orders.{IsIn-append, IsIn-map}
 use Rattle.dutch_player.specs.Facts.{Facts}
 use Rattle.dutch_pair.specs.FloorOf.{Basis, IsBasis, fixed_lists, has_s1, is_uniform}
 use Rattle.dutch_pair.specs.NextBracket.{is_lower}
+use Rattle.dutch_pair.specs.Orders.{Order}
 use Rattle.dutch_pair.specs.Outlooks.{HasNoBetter, awaited}
 use Rattle.dutch_pair.specs.Quality.{NextValue, Quality, is_better}
 use Rattle.dutch_pair.specs.QualityIn.{next_in, quality_in}
@@ -32,20 +31,22 @@ use Rattle.dutch_pair.specs.Aims.{aim_in, beats}
 use Rattle.dutch_pair.specs.Kept.{wins}
 use Rattle.dutch_pair.specs.declared.choice.Best.{Best}
 use Rattle.dutch_pair.specs.declared.quality.Quality.{Quality as Fields}
+use Rattle.dutch_pair.specs.declared.scope.Reach.TheVariants.{Bracket}
 use Rattle.dutch_pair.specs.declared.weight_floor.Bar.{Bar}
 use Rattle.dutch_pair.specs.Reached.{IsOf, Reached, frame_of}
-use Rattle.dutch_pair.specs.Round.{candidates_of, quality_of}
+use Rattle.dutch_pair.specs.Round.{can_be_chosen, candidates_of, quality_of}
 use Rattle.dutch_pair.specs.Scopes.{Covers, Scope, costs_in}
-use Rattle.dutch_pair.specs.WeightFloors.{AreFloors, AreOf, HasBar, IsBar, IsLeast, IsNoBetter, IsWeightFloor, ScopedFloor, Weighed, bound_behind, is_first, kept_in, left_known, passed_over, weighing_of}
+use Rattle.dutch_pair.specs.WeightFloors.{AreOf, HasBar, IsBar, IsLeastOf, IsNoBetter, IsWeightFloor, WeighsNoLess, Weighed, added_in, bound_behind, is_first, kept_in, left_known, passed_over, weighing_of}
 use Rattle.dutch_pair.specs.Weights.{IsOn, IsScale, Scale, above_psd, number_pairs, numbers, weighing, weight_of}
 use Rattle.dutch_pair.proofs.ArrangementParts.{lists_of, numbers_above, numbers_rise, numbers_within, parts_of, subset_members, subset_whole}
 use Rattle.dutch_pair.proofs.C06ToC19Weights.{candidate_ordered, candidate_weighs}
 use Rattle.dutch_pair.proofs.C07Outlook.{awaited_holds}
 use Rattle.dutch_pair.proofs.CandidateMatchings.{digits_are_small, each, left_over, part_of, total_sum}
+use Rattle.dutch_pair.proofs.D02Orders.{pairs_cost}
 use Rattle.dutch_pair.proofs.FloorOfBeginning.{begun_pairs}
 use Rattle.dutch_pair.proofs.LegalPairs.{legal_of}
 use Rattle.dutch_pair.proofs.PsdParts.{down_parts}
-use Rattle.dutch_pair.proofs.ScopedMatchings.{is_matching_in}
+use Rattle.dutch_pair.proofs.ScopedMatchings.{is_matching_in, s1_moved_down}
 use Rattle.dutch_pair.proofs.QualityOrder.{less, lists_tied, total as in_order}
 use Rattle.dutch_pair.proofs.Totals.{total, total_append}
 use Rattle.dutch_pair.proofs.WrittenNumbers.{behind_psd, not_lighter}
@@ -152,19 +153,25 @@ none_better_on q next other first second = (
 module _ (facts : Facts) (reached : Reached) (scale : Scale) (lower : List ℕ) (shape : Shape) (a : Arrangement) (of' : IsOf facts reached)
     (fits : Fits (frame_of facts reached) shape) (m : IsIn a (candidates_of facts reached shape)) where
   -- C.6, C.8 to C.19: a candidate behind a beginning weighs no less than a floor says
-  pub weighs_more : (b : Beginning) → Begins b a → (scope : Scope) → Covers scope b → (floor : FloorTable)
-      → IsFloor (costs_in (record { weighing = record { facts = facts; reached = reached; scale = scale }; scope = scope })) (numbers reached)
-      (length reached.seats - 2 * shape.pairs) floor
-      → bound_behind floor reached.mdps b ≤ floor.debt + weight_of scale (quality_of facts reached lower a)
-  weighs_more b begins scope covers floor is =
+  pub weighs_more : (b : Beginning) → Begins b a → (scope : Scope) → Covers scope b → (order : Order) → (floor : FloorTable)
+      → IsFloor (costs_in (record { weighing = record { facts = facts; reached = reached; lower = lower; scale = scale }; scope = scope; reach = Bracket; order = order }))
+      (numbers reached) (length reached.seats - 2 * shape.pairs) floor
+      → bound_behind floor reached.mdps b ≤ floor.debt + (weight_of scale (quality_of facts reached lower a) + added_in order a)
+  weighs_more b begins scope covers order floor is =
       let frame : Frame = frame_of facts reached in
-      let bound : bound_behind floor reached.mdps b ≤ floor.debt + cost (weighing facts reached scale) (number_pairs a) (down frame a) =
-      is (number_pairs a) (down frame a) (is_matching_in facts reached scale lower shape a of' fits m b begins scope covers)
+      let costs : Costs = costs_in (record { weighing = record { facts = facts; reached = reached; lower = lower; scale = scale }; scope = scope; reach = Bracket; order = order }) in
+      let bound : bound_behind floor reached.mdps b ≤ floor.debt + cost costs (number_pairs a) (down frame a) =
+      is (number_pairs a) (down frame a) (is_matching_in facts reached scale lower shape a of' fits m b begins scope covers order)
       (left_over facts reached scale lower shape a of' fits m)
       (number_pairs (fixed_lists b)) (left_known b.filling reached.mdps b.lists.s1)
       (part_of (fixed_lists b) a (begun_pairs b.filling b.lists a begins))
       (left_part frame shape a of'.sound.within (legal_of facts reached shape a m).arranged b.filling b.lists begins) in
-      omega (arith, bound, candidate_weighs facts reached scale lower a)
+      omega (
+        arith,
+        bound,
+        candidate_weighs facts reached scale lower a,
+        pairs_cost reached.mdps order (weighing facts reached scale).weight a (s1_moved_down frame shape a of'.sound.within (legal_of facts reached shape a m).arranged),
+      )
 
   module _ (falls : IsScale scale) (high : length reached.seats < scale.base) (f : Quality) (on : IsOn scale f) where
     abbrev here : Quality
@@ -197,47 +204,29 @@ module _ (facts : Facts) (reached : Reached) (scale : Scale) (lower : List ℕ) 
 pub numbers_known : (n : ℕ) → All (λ a. (0 < a) × (a ≤ n)) (numbers_from 1 n)
 numbers_known n = each (λ a. (0 < a) × (a ≤ n)) (numbers_from 1 n) (numbers_within 0 1 n n (omega arith) (omega arith))
 
-pub floor_put : (w : Weighed) (scope : Scope) (players : List ℕ) (left : ℕ) (floor : FloorTable) → players ≡ numbers w.reached
-    → left ≡ length w.reached.seats - 2 * w.shape.pairs → IsFloor (costs_in (record { weighing = weighing_of w; scope = scope })) players left floor
-    → IsWeightFloor w (record { scope = scope; floor = floor })
-floor_put w scope players left floor same count is =
-    let costs = costs_in (record { weighing = weighing_of w; scope = scope }) in
-    subst (λ (n : ℕ). IsFloor costs (numbers w.reached) n floor) count (subst (λ (xs : List ℕ). IsFloor costs xs left floor) same is)
-
--- ---- the greatest of the bounds
-
--- one floor of several holds
-pub one_holds : (w : Weighed) (b : Beginning) (floors : List ScopedFloor) → AreFloors w floors → (kept : ScopedFloor) (i : ℕ) → i < length floors → kept ≡ get_or floors i kept
-    → Covers kept.scope b → (mdps : ℕ) → mdps ≡ w.reached.mdps → (bound : Option ℕ) → IfSome bound (λ n. n + kept.floor.debt ≡ bound_behind kept.floor mdps b)
-    → IfSome bound (IsLeast w b)
-one_holds w b floors are kept i within at' covers mdps same None is = tt
-one_holds w b floors are kept i within at' covers mdps same (Some bound) is =
-    let holds : IsWeightFloor w kept = subst (IsWeightFloor w) (sym at') (All-get_or (IsWeightFloor w) floors i kept within are.hold) in
-    record {
-      high = are.high;
-      none_less = λ lower a of' fits m begins.
-          omega (
-            arith,
-            is,
-            ap (λ n. bound_behind kept.floor n b) same,
-            weighs_more w.facts w.reached w.scale lower w.shape a of' fits m b begins kept.scope covers kept.floor holds,
-          );
-    }
-
-pub greater_holds : (w : Weighed) (b : Beginning) (one other found : Option ℕ) → (found ≡ one) ⊎ (found ≡ other) → IfSome one (IsLeast w b) → IfSome other (IsLeast w b)
-    → IfSome found (IsLeast w b)
-greater_holds w b one other found (inl same) first second = subst (λ (o : Option ℕ). IfSome o (IsLeast w b)) (sym same) first
-greater_holds w b one other found (inr same) first second = subst (λ (o : Option ℕ). IfSome o (IsLeast w b)) (sym same) second
+pub floor_put : (w : Weighed) (scope : Scope) (order : Order) (players : List ℕ) (left : ℕ) (floor : FloorTable) → players ≡ numbers w.reached
+    → left ≡ length w.reached.seats - 2 * w.shape.pairs → IsFloor (costs_in (record { weighing = weighing_of w; scope = scope; reach = Bracket; order = order })) players left floor
+    → IsWeightFloor w (record { scope = scope; order = order; floor = floor })
+floor_put w scope order players left floor same count is = λ b a is_one begins covers.
+    let costs = costs_in (record { weighing = weighing_of w; scope = scope; reach = Bracket; order = order }) in
+    let held = subst (λ (n : ℕ). IsFloor costs (numbers w.reached) n floor) count (subst (λ (xs : List ℕ). IsFloor costs xs left floor) same is) in
+    weighs_more w.facts w.reached w.scale w.lower w.shape a is_one.of is_one.fits is_one.listed b begins scope covers order floor held
 
 -- ---- what bars tell
 
--- floors of a bracket and a shape, as they are of these
-made_of : (facts : Facts) (reached : Reached) (shape : Shape) (w : Weighed) → AreOf facts reached shape w
-    → w ≡ record { facts = facts; reached = reached; shape = shape; scale = w.scale }
-made_of facts reached shape w are = λ i. record { facts = are.facts_are i; reached = are.reached_is i; shape = are.shape_is i; scale = w.scale }
+-- floors of a bracket above lower seats and a shape, as they are of these
+made_of : (facts : Facts) (reached : Reached) (lower : List ℕ) (shape : Shape) (w : Weighed) → AreOf facts reached lower shape w
+    → w ≡ record { facts = facts; reached = reached; lower = lower; shape = shape; scale = w.scale }
+made_of facts reached lower shape w are = λ i. record {
+  facts = are.facts_are i;
+  reached = are.reached_is i;
+  lower = are.lower_are i;
+  shape = are.shape_is i;
+  scale = w.scale;
+}
 
 module _ (facts : Facts) (reached : Reached) (lower : List ℕ) (shape : Shape) (a : Arrangement) (of' : IsOf facts reached)
-    (fits : Fits (frame_of facts reached) shape) (m : IsIn a (candidates_of facts reached shape)) (b : Beginning) (begins : Begins b a) (least : ℕ) where
+    (fits : Fits (frame_of facts reached) shape) (m : IsIn a (candidates_of facts reached shape)) (least : ℕ) where
   abbrev it : Quality
   it = quality_of facts reached lower a
 
@@ -245,13 +234,8 @@ module _ (facts : Facts) (reached : Reached) (lower : List ℕ) (shape : Shape) 
   abbrev pub Reaches : Bar → Quality → Type 0
   Reaches bar f = (bar.above ≤ least) ⊎ ((bar.weight ≤ least) × HasNoBetter it (next_in f))
 
-  module _ (w : Weighed) (are : AreOf facts reached shape w) (is : IsLeast w b least) (f : Quality) (bar : Bar) (at' : IsBar w.scale f bar) where
-    weighs : least ≤ weight_of w.scale it
-    weighs = (subst (λ v. IsLeast v b least) (made_of facts reached shape w are) is).none_less lower a of' fits m begins
-
-    high_here : length reached.seats < w.scale.base
-    high_here = (subst (λ v. IsLeast v b least) (made_of facts reached shape w are) is).high
-
+  module _ (w : Weighed) (high_here : length reached.seats < w.scale.base) (weighs : least ≤ weight_of w.scale it) (f : Quality) (bar : Bar)
+      (at' : IsBar w.scale f bar) where
     no_better_here : Reaches bar f → is_better it f ≡ false
     no_better_here (inl above) =
         behind_all facts reached w.scale lower shape a of' fits m at'.falls high_here f at'.on (omega (arith, at'.above, above, weighs))
@@ -262,19 +246,19 @@ module _ (facts : Facts) (reached : Reached) (lower : List ℕ) (shape : Shape) 
     better_here passed reaches =
         then_worse facts reached w.scale lower shape a of' fits m at'.falls high_here f at'.on (omega (arith, at'.weight, passed, weighs)) (no_better_here reaches)
 
-  module _ (weights : Option Weighed) (of_weights : ForSome weights (AreOf facts reached shape)) (leasts : ForSome weights (λ w. IsLeast w b least)) (bar : Bar) where
+  module _ (weights : Option Weighed) (weighs : WeighsNoLess weights (length reached.seats) least it) (bar : Bar) where
     kept_by : (weights' : Option Weighed) → weights ≡ weights' → (best : Best) → Reaches bar (quality_in best.quality)
         → HasBar weights' (Some (quality_in best.quality)) (Some bar) → not (wins it (Some best)) ≡ true
     kept_by None same best reaches at' = absurd at'
     kept_by (Some w) same best reaches at' =
-        ap not (no_better_here w (of_weights w same) (leasts w same) (quality_in best.quality) bar at' reaches)
+        ap not (no_better_here w (weighs w same).0 (weighs w same).1 (quality_in best.quality) bar at' reaches)
 
     aim_by : (weights' : Option Weighed) → weights ≡ weights' → (aim : Quality) → bar.weight < least → Reaches bar aim
         → HasBar weights' (Some aim) (Some bar) → is_better aim it ≡ true
     aim_by None same aim passed reaches at' = absurd at'
-    aim_by (Some w) same aim passed reaches at' = better_here w (of_weights w same) (leasts w same) aim bar at' passed reaches
+    aim_by (Some w) same aim passed reaches at' = better_here w (weighs w same).0 (weighs w same).1 aim bar at' passed reaches
 
-    -- the kept candidate is not worse than one behind its bar
+    -- the kept candidate is not worse than one that its bar reaches
     pub behind_kept : (kept : Option Best) (found : Option Bar) (best : Best) → kept ≡ Some best → found ≡ Some bar → ∥ HasBar weights (kept_in kept) found ∥₁
         → Reaches bar (quality_in best.quality) → not (wins it kept) ≡ true
     behind_kept kept found best there bar_is at' reaches =
@@ -291,6 +275,18 @@ module _ (facts : Facts) (reached : Reached) (lower : List ℕ) (shape : Shape) 
         let here' : HasBar weights (Some (quality_in aim)) (Some bar) =
         subst (λ (o : Option Bar). HasBar weights (Some (quality_in aim)) o) bar_is (subst (λ (o : Option Fields). HasBar weights (aim_in o) found) there has) in
         ap (λ (o : Option Fields). beats (aim_in o) it) there ∙ aim_by weights refl (quality_in aim) passed reaches here')
+
+-- what weighs no less, on the scale of the floors that are there
+pub weighs_behind : (facts : Facts) (reached : Reached) (lower : List ℕ) (shape : Shape) (of' : IsOf facts reached) (fits : Fits (frame_of facts reached) shape)
+    (w : Weighed) → AreOf facts reached lower shape w → (Among : Arrangement → Type 0) (least : ℕ) → IsLeastOf Among w least
+    → (a : Arrangement) → IsIn a (candidates_of facts reached shape) → Among a → can_be_chosen facts reached lower a ≡ true
+    → (weights : Option Weighed) → weights ≡ Some w → WeighsNoLess weights (length reached.seats) least (quality_of facts reached lower a)
+weighs_behind facts reached lower shape of' fits w are Among least is a m among can weights same = λ v there.
+    let made = made_of facts reached lower shape w are in
+    let here : IsLeastOf Among (record { facts = facts; reached = reached; lower = lower; shape = shape; scale = w.scale }) least = subst (λ u. IsLeastOf Among u least) made is in
+    let one : v ≡ w = let e : Some v ≡ Some w = sym there ∙ same in cc in
+    subst (λ (u : Weighed). (length reached.seats < u.scale.base) × (least ≤ weight_of u.scale (quality_of facts reached lower a))) (sym one)
+    (here.high, here.none_less a (record { of = of'; fits = fits; listed = m; can = can }) among)
 
 -- ---- what is awaited
 

@@ -12,7 +12,7 @@ use Rattle.std.proofs.lemmas.Bool.Decides.{nat_tests}
 use Rattle.std.proofs.lemmas.Cmp.{tied_itself, nat_list_cmp_total}
 use Rattle.std.proofs.lemmas.List.{map-append}
 use Rattle.std.proofs.lemmas.List.Sums.{sum_by-cons}
-use Rattle.std.proofs.Math.Nat.{mul-add, mul-le-mul_left}
+use Rattle.std.proofs.Math.Nat.{le_of_mul-le-mul_left, mul-add, mul-le-mul_left}
 use Rattle.dutch_order.specs.Keys.{IsIn}
 use Rattle.dutch_order.proofs.Comparing.{lists_tied}
 use Rattle.dutch_pair.specs.NextBracket.{is_lower}
@@ -113,10 +113,10 @@ module _ (q : Quality) where
   written_read base front [] = refl
   written_read base front (digit ∷ digits) = written_read base (base * front + digit q) digits
 
-  -- the weight is twice the number that is read
-  pub weight_read : (scale : Scale) → weight_of scale q ≡ 2 * read_off scale.base 0 (readers scale) q
+  -- the weight is so many units as the number that is read
+  pub weight_read : (scale : Scale) → weight_of scale q ≡ scale.unit * read_off scale.base 0 (readers scale) q
   unfolding weight_of
-  weight_read scale = ap (λ n. 2 * n) (ap (written scale.base 0) (sym (digits_read scale)) ∙ written_read scale.base 0 (readers scale))
+  weight_read scale = ap (λ n. scale.unit * n) (ap (written scale.base 0) (sym (digits_read scale)) ∙ written_read scale.base 0 (readers scale))
 
   each_read : (base : ℕ) (digits : List (Quality → ℕ)) → AllByRecursion (λ n. n < base) (reading digits) → AllByRecursion (λ (digit : Quality → ℕ). digit q < base) digits
   each_read base [] all = tt
@@ -254,10 +254,17 @@ module _ (scale : Scale) (falls : IsScale scale) (f a : Quality) (on : IsOn scal
       let n8 = next scale.base f a (λ q. q.up_again_before) _ (n7.1 s7) in
       number_not a.up_again_before f.up_again_before _ n8.0 (λ s8. differences_not (n8.1 s8)))))))))
 
+  -- what weighs no more has no greater number
+  none_above : (g : Quality) → HasDigits scale a → weight_of scale g ≤ weight_of scale a → NotAbove scale.base g a (readers scale)
+  none_above g small heavy =
+      let units : scale.unit * read_off scale.base 0 (readers scale) g ≤ scale.unit * read_off scale.base 0 (readers scale) a =
+      omega (arith, heavy, weight_read g scale, weight_read a scale) in
+      record { front = 0; is = le_of_mul-le-mul_left units falls.some; small = small_read a scale small }
+
   -- C.6 to C.19: a quality that weighs no less, and has no better value of the next bracket, is not better
   pub not_lighter : HasDigits scale a → weight_of scale f ≤ weight_of scale a → HasNoBetter a (next_in f) → is_better a f ≡ false
   not_lighter small heavy next_not =
-      let top = list_next scale.base f a (λ q. q.psd) scale.psd _ falls.psd on.psd ordered.psd (record { front = 0; is = omega (arith, heavy, weight_read f scale, weight_read a scale); small = small_read a scale small }) in
+      let top = list_next scale.base f a (λ q. q.psd) scale.psd _ falls.psd on.psd ordered.psd (none_above f small heavy) in
       better_in_turn a f
       ∙ list_not a.psd f.psd _ top.0 (λ same.
       number_not f.next_pairs a.next_pairs _ next_not.0 (λ pairs.
@@ -267,8 +274,7 @@ module _ (scale : Scale) (falls : IsScale scale) (f a : Quality) (on : IsOn scal
   pub behind_psd : HasDigits scale a → weight_of scale (above_psd scale f) ≤ weight_of scale a → is_better a f ≡ false
   behind_psd small heavy =
       let g : Quality = above_psd scale f in
-      let top = list_next scale.base g a (λ q. q.psd) scale.psd _ falls.psd on.psd ordered.psd
-      (record { front = 0; is = omega (arith, heavy, weight_read g scale, weight_read a scale); small = small_read a scale small }) in
+      let top = list_next scale.base g a (λ q. q.psd) scale.psd _ falls.psd on.psd ordered.psd (none_above g small heavy) in
       better_in_turn a f
       ∙ list_not a.psd f.psd _ top.0 (λ same.
       let rest = top.1 same in

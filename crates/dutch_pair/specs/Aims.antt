@@ -34,13 +34,13 @@ abbrev pub is_near : Facts → Reached → List ℕ → Option Quality → Arran
 is_near facts reached lower aim c = not (beats aim (quality_of facts reached lower c))
 
 module _ (facts : Facts) (reached : Reached) (lower : List ℕ) (wish : Option Wish) where
-  -- a candidate is of no interest: it does not grant the wish, or its quality is of none
-  abbrev pub is_dull : Option Quality → Option Best → Arrangement → Bool
-  is_dull aim kept c = not (is_wished wish c) || is_idle aim kept (quality_of facts reached lower c)
-
   -- a candidate that can be chosen and grants the wish
   abbrev pub is_open : Arrangement → Bool
   is_open c = can_be_chosen facts reached lower c && is_wished wish c
+
+  -- a candidate is of no interest: it cannot be chosen, it does not grant the wish, or its quality is of none
+  abbrev pub is_dull : Option Quality → Option Best → Arrangement → Bool
+  is_dull aim kept c = not (is_open c) || is_idle aim kept (quality_of facts reached lower c)
 
   -- and that the aim is not better than
   abbrev pub is_sought : Option Quality → Arrangement → Bool

@@ -51,5 +51,6 @@ pub mod WeightTables
 pub mod Weights
 pub mod Scopes
 pub mod WeightFloors
+pub mod Orders
 pub mod Rests
 pub mod Passes

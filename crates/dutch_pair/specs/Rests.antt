@@ -1,8 +1,8 @@
--- The players of a bracket who are in none of some pairs, as a graph (C.04.3 C.1 to C.3). Only private functions' clauses cite these.
+-- The players of a bracket, or all lower ones too, who are in none of some pairs, as a graph (C.04.3 C.1 to C.4). Only private functions'
+-- clauses cite these.
 use Rattle.std.specs.Prelude.{ℕ, ◌≤◌, Bool, List, All, length, slice_index}
 use Rattle.dutch_order.specs.declared.numbers.TheConstants.{LIMIT}
-use Rattle.dutch_pair.specs.Scopes.{Scoped, costs_in}
-use Rattle.dutch_pair.specs.WeightTables.{IsNumber}
+use Rattle.dutch_pair.specs.Scopes.{IsReached, Scoped, costs_in}
 
 -- a bracket whose pairs are weighed in a scope, and numbers of some of its players, who are the vertices in this order
 pub record Rest : Type 0 where
@@ -17,7 +17,7 @@ vertices rest = length rest.numbers
 abbrev pub joined : Rest → ℕ → ℕ → Bool
 joined rest a b = (costs_in rest.scoped).meets (slice_index rest.numbers a) (slice_index rest.numbers b)
 
--- the numbers are of players of the bracket, and not too many
+-- the numbers are of players over whom the matchings go, and not too many
 pub record IsRest (rest : Rest) : Type 0 where
-  pub inside : All (IsNumber rest.scoped.weighing.reached) rest.numbers
+  pub inside : All (IsReached rest.scoped) rest.numbers
   pub few : length rest.numbers ≤ LIMIT

@@ -1,35 +1,40 @@
 -- What floors by weight say behind a beginning (C.04.3 C.6, C.8 to C.19), and from which weight on nothing is better than a quality. What
 -- bounds the choice by beginnings stands on these; a reader of its promise may pass them by.
-use Rattle.std.specs.Prelude.{◌≡◌, ℕ, zero, suc, ◌+◌, ◌-◌, ◌*◌, ◌<◌, ◌≤◌, ◌==◌, false, Bool, if◌then◌else◌, List, [], ◌∷◌, All, drop, length, sum_by, Option, Some, None, option_map}
-use Rattle.dual.specs.Floors.{FloorTable, IsFloor, extra_in, extra_left_in}
+use Rattle.std.specs.Prelude.{◌≡◌, ℕ, zero, suc, ◌+◌, ◌<◌, ◌≤◌, ◌==◌, true, false, Bool, if◌then◌else◌, List, [], ◌∷◌, All, drop, length, sum_by, Option, Some, None, option_map}
+use Rattle.std.specs.Option.{ForSome}
+use Rattle.dual.specs.Floors.{FloorTable, extra_in, extra_left_in}
 use Rattle.dutch_order.specs.declared.bracket.Shape.{Shape}
 use Rattle.dutch_order.specs.declared.prefix.Filling.{Filling}
 use Rattle.dutch_order.specs.declared.prefix.Filling.TheVariants.{S1, S2, S2r}
 use Rattle.dutch_order.specs.Arrangements.{Arrangement, Fits}
+use Rattle.dutch_order.specs.Exchanged.{IsExchange, KnownExchange}
 use Rattle.dutch_order.specs.Keys.{IsIn}
 use Rattle.dutch_order.specs.Prefixes.{Begins, Beginning}
 use Rattle.dutch_player.specs.Facts.{Facts}
 use Rattle.dutch_pair.specs.declared.choice.Best.{Best}
 use Rattle.dutch_pair.specs.FloorOf.{fixed_lists}
+use Rattle.dutch_pair.specs.Orders.{Order, added}
 use Rattle.dutch_pair.specs.NextBracket.{is_lower}
 use Rattle.dutch_pair.specs.Quality.{NextValue, Quality}
 use Rattle.dutch_pair.specs.QualityIn.{quality_in}
 use Rattle.dutch_pair.specs.Reached.{IsOf, Reached, frame_of}
-use Rattle.dutch_pair.specs.Round.{candidates_of, quality_of}
-use Rattle.dutch_pair.specs.Scopes.{Scope, costs_in}
-use Rattle.dutch_pair.specs.Weights.{IsOn, IsScale, Scale, Weighing, above_psd, number_pairs, numbers, weight_of}
+use Rattle.dutch_pair.specs.Round.{can_be_chosen, candidates_of, quality_of}
+use Rattle.dutch_pair.specs.Scopes.{Covers, Scope}
+use Rattle.dutch_pair.specs.Weights.{IsOn, IsScale, Scale, Weighing, above_psd, number_pairs, weight_of}
 use Rattle.dutch_pair.specs.declared.weight_floor.Bar.{Bar}
 
--- a bracket of a field, a shape of its arrangements, and a scale
+-- a bracket of a field above lower seats, a shape of its arrangements, and a scale
 pub record Weighed : Type 0 where
   pub facts : Facts
   pub reached : Reached
+  pub lower : List ℕ
   pub shape : Shape
   pub scale : Scale
 
--- a floor, and which arrangements it is for
+-- a floor, which arrangements it is for, and what the members of their S1R add to it
 pub record ScopedFloor : Type 0 where
   pub scope : Scope
+  pub order : Order
   pub floor : FloorTable
 
 -- a list begins with a number
@@ -56,31 +61,66 @@ bound_behind floor mdps b =
 
 -- a bracket of a field, and the scale on which its pairs and its downfloaters are weighed
 abbrev pub weighing_of : Weighed → Weighing
-weighing_of weighed = record { facts = weighed.facts; reached = weighed.reached; scale = weighed.scale }
+weighing_of weighed = record { facts = weighed.facts; reached = weighed.reached; lower = weighed.lower; scale = weighed.scale }
 
--- a floor of the weights of a bracket in a scope, for matchings with as many pairs as the shape has
+-- what a candidate weighs
+abbrev pub weight_in : Weighed → Arrangement → ℕ
+weight_in w a = weight_of w.scale (quality_of w.facts w.reached w.lower a)
+
+-- an arrangement is a candidate of a bracket's shape that can be chosen
+pub record IsChoosable (w : Weighed) (a : Arrangement) : Type 0 where
+  pub of : IsOf w.facts w.reached
+  pub fits : Fits (frame_of w.facts w.reached) w.shape
+  pub listed : IsIn a (candidates_of w.facts w.reached w.shape)
+  pub can : can_be_chosen w.facts w.reached w.lower a ≡ true
+
+-- what the members of its S1R add (D.2)
+abbrev pub added_in : Order → Arrangement → ℕ
+added_in order a = sum_by (added order) a.s1r
+
+-- a floor of the weights of a bracket in a scope: behind a beginning that the scope covers no candidate that can be chosen weighs less, with what
+-- the members of its S1R add
 abbrev pub IsWeightFloor : Weighed → ScopedFloor → Type 0
-IsWeightFloor weighed kept =
-    IsFloor (costs_in (record { weighing = weighing_of weighed; scope = kept.scope })) (numbers weighed.reached)
-    (length weighed.reached.seats - 2 * weighed.shape.pairs) kept.floor
+IsWeightFloor w kept =
+    (b : Beginning) (a : Arrangement) → IsChoosable w a → Begins b a → Covers kept.scope b
+    → bound_behind kept.floor w.reached.mdps b ≤ kept.floor.debt + (weight_in w a + added_in kept.order a)
+
+-- the most that members of an S1R add behind a beginning
+abbrev pub IsMostAdded : Order → Beginning → ℕ → Type 0
+IsMostAdded order b most = (a : Arrangement) → Begins b a → added_in order a ≤ most
 
 -- floors of a bracket and a shape, on a scale whose base is above the number of players
 pub record AreFloors (weighed : Weighed) (floors : List ScopedFloor) : Type 0 where
   pub high : length weighed.reached.seats < weighed.scale.base
   pub hold : All (IsWeightFloor weighed) floors
 
--- no candidate behind a beginning weighs less, on a scale whose base is above the number of players
-pub record IsLeast (weighed : Weighed) (b : Beginning) (least : ℕ) : Type 0 where
+-- of some arrangements no candidate that can be chosen weighs less, on a scale whose base is above the number of players
+pub record IsLeastOf (Among : Arrangement → Type 0) (weighed : Weighed) (least : ℕ) : Type 0 where
   pub high : length weighed.reached.seats < weighed.scale.base
-  pub none_less : (lower : List ℕ) (a : Arrangement) → IsOf weighed.facts weighed.reached → Fits (frame_of weighed.facts weighed.reached) weighed.shape
-      → IsIn a (candidates_of weighed.facts weighed.reached weighed.shape) → Begins b a
-      → least ≤ weight_of weighed.scale (quality_of weighed.facts weighed.reached lower a)
+  pub none_less : (a : Arrangement) → IsChoosable weighed a → Among a → least ≤ weight_in weighed a
 
--- floors by weight are those of a bracket and a shape
-pub record AreOf (facts : Facts) (reached : Reached) (shape : Shape) (weighed : Weighed) : Type 0 where
+-- the same of all with a beginning
+abbrev pub IsLeast : Weighed → Beginning → ℕ → Type 0
+IsLeast weighed b = IsLeastOf (Begins b) weighed
+
+-- an arrangement goes on from a beginning, with an S1R that is such an exchange
+abbrev pub BeginsWith : Beginning → KnownExchange → Arrangement → Type 0
+BeginsWith b exchange a = Begins b a × IsExchange exchange a.s1r
+
+-- and of all of those
+abbrev pub IsLeastWith : Weighed → Beginning → KnownExchange → ℕ → Type 0
+IsLeastWith weighed b exchange = IsLeastOf (BeginsWith b exchange) weighed
+
+-- floors by weight are those of a bracket above lower seats and a shape
+pub record AreOf (facts : Facts) (reached : Reached) (lower : List ℕ) (shape : Shape) (weighed : Weighed) : Type 0 where
   pub facts_are : weighed.facts ≡ facts
   pub reached_is : weighed.reached ≡ reached
+  pub lower_are : weighed.lower ≡ lower
   pub shape_is : weighed.shape ≡ shape
+
+-- if there are floors by weight, a quality weighs no less than this on their scale, whose base is above a number of players
+abbrev pub WeighsNoLess : Option Weighed → ℕ → ℕ → Quality → Type 0
+WeighsNoLess weights players least quality = ForSome weights (λ w. (players < w.scale.base) × (least ≤ weight_of w.scale quality))
 
 -- C.7: a value of the next bracket is not better than another
 abbrev pub IsNoBetter : NextValue → NextValue → Type 0

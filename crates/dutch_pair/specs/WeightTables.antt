@@ -25,7 +25,7 @@ IsNumber reached a = (0 < a) × (a ≤ length reached.seats)
 
 -- a bracket of a field on a scale
 abbrev pub weighed_on : Context → Scale → Weighing
-weighed_on context scale = record { facts = context.facts; reached = context.reached; scale = scale }
+weighed_on context scale = record { facts = context.facts; reached = context.reached; lower = context.lower; scale = scale }
 
 -- where a table of pairs has two numbers of a bracket
 abbrev pub place_in : Weighing → ℕ → ℕ → ℕ

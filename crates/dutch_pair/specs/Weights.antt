@@ -21,6 +21,8 @@ pub record Scale : Type 0 where
   pub psd : List ℕ
   pub floats : List ℕ
   pub base : ℕ
+  -- what the last digit is worth: an even number, so that half of a weight is whole
+  pub unit : ℕ
 
 -- how often each of some differences stands in a list
 abbrev pub counts : List ℕ → List ℕ → List ℕ
@@ -40,9 +42,9 @@ abbrev pub written : ℕ → ℕ → List ℕ → ℕ
 written base front [] = front
 written base front (digit ∷ digits) = written base (base * front + digit) digits
 
--- twice the number with the digits of a quality, so that half of a weight is whole
+-- so many units as the number with the digits of a quality says
 unfoldable pub weight_of : Scale → Quality → ℕ
-weight_of scale quality = 2 * written scale.base 0 (digits scale quality)
+weight_of scale quality = scale.unit * written scale.base 0 (digits scale quality)
 
 -- a quality that weighs more than any with the PSD of another and digits below the base, and no more than any with a higher PSD
 abbrev pub above_psd : Scale → Quality → Quality
@@ -83,10 +85,11 @@ weighing facts reached scale = record {
   left_cost = weight_of_one_down facts reached scale;
 }
 
--- a bracket of a field, and the scale on which its pairs and its downfloaters are weighed
+-- a bracket of a field above lower seats, and the scale on which its pairs and its downfloaters are weighed
 pub record Weighing : Type 0 where
   pub facts : Facts
   pub reached : Reached
+  pub lower : List ℕ
   pub scale : Scale
 
 -- all numbers of a bracket
@@ -106,10 +109,11 @@ least_weight facts reached scale certificate shape b =
 abbrev pub IsAmong : List ℕ → List ℕ → Type 0
 IsAmong differences list = (highest_first list ≡ list) × AllByRecursion (λ by. IsIn by differences) list
 
--- a scale names differences from the highest on
+-- a scale names differences from the highest on, and its last digit is worth something
 pub record IsScale (scale : Scale) : Type 0 where
   pub psd : highest_first scale.psd ≡ scale.psd
   pub floats : highest_first scale.floats ≡ scale.floats
+  pub some : 0 < scale.unit
 
 -- a scale has a digit for each difference of a quality
 pub record IsOn (scale : Scale) (quality : Quality) : Type 0 where

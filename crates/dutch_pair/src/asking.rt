@@ -7,7 +7,8 @@ ghost use Rattle.std.specs.Result.{MatchResult};
 ghost use Rattle.dutch_order.specs.declared.numbers.TheConstants.{LIMIT};
 ghost use Rattle.dutch_order.specs.Steps.{Spends};
 
-use crate::rest::Rest;
+use crate::order::{Halves, Order};
+use crate::rest::{Rest, is_in};
 use crate::scope::{Scope, Scoped};
 use crate::seated::Pair;
 use crate::spending::spend;
@@ -30,7 +31,7 @@ struct Told {
     pairs: Vec<Pair>,
 }
 
-/// Where more is asked for: in the arrangements of a scope, behind some pairs.
+/// Where more is asked for: in the arrangements of a scope, behind some pairs by number.
 #[derive(Clone, Copy)]
 pub(crate) struct Asked<'s> {
     pub(crate) scope: &'s Scope,
@@ -52,7 +53,7 @@ impl Bars {
     }
 }
 
-/// The pairs of a matching by number, each once.
+/// The pairs of the bracket in a matching by number, each once.
 fn made_pairs(
     rest: &Rest<'_, '_>,
     partners: &[Option<u16>],
@@ -64,6 +65,7 @@ fn made_pairs(
         if let Some(partner) = partner
             && let Some(other) = numbers.get(usize::from(*partner))
             && number < other
+            && rest.may_pair(*number, *other)
         {
             pairs.push((*number, *other))?;
         }
@@ -114,7 +116,23 @@ fn by_number(alloc: Global, seats: &[u16], pairs: &[Pair]) -> Result<Vec<Pair>, 
     Ok(numbers)
 }
 
-/// How many steps have to be left for a matching of so many players to be looked for: an eighth of their cube, since most take less.
+/// The resident at a place among those who are in none of some pairs, counted from 1; none if it is no place, or the last one.
+fn nth_resident(mdps: usize, count: usize, pairs: &[Pair], place: usize) -> Option<usize>
+    requires { count ≤ LIMIT }
+{
+    let mut before = place.checked_sub(1)?;
+    for above in mdps..count.saturating_sub(1) {
+        if !is_in(pairs, above as u16 + 1) {
+            if before == 0 {
+                return Some(above + 1);
+            }
+            before -= 1;
+        }
+    }
+    None
+}
+
+/// How many steps have to be left for a matching of so many players to be looked for: an eighth of their cube. Some take more.
 fn steps_for(players: usize) -> u64 {
     let players = players as u64;
     players.saturating_mul(players).saturating_mul(players) / 8
@@ -129,7 +147,12 @@ impl<'a> WeightFloors<'a> {
 
     /// What is told of the players who are in none of some pairs, for the arrangements of a scope; none if nothing was
     /// found, or memory was refused.
-    fn told(&self, asked: &Asked<'_>, left: &mut u64) -> Result<Option<Told>, Stopped>
+    fn told(
+        &self,
+        asked: &Asked<'_>,
+        order: &Order,
+        left: &mut u64,
+    ) -> Result<Option<Told>, Stopped>
         ensures falls { left.new ≤ left.old }
         ensures stopped { MatchResult result (λ _. Unit {0}) (λ _. left.new ≡ 0) }
     {
@@ -137,12 +160,12 @@ impl<'a> WeightFloors<'a> {
         let Some(alone) = self.alone() else {
             return Ok(None);
         };
-        let scoped = Scoped::new(&self.weighing, asked.scope);
+        let scoped = Scoped::new(&self.weighing, asked.scope, self.reach(), order);
         let Ok(rest) = Rest::beside(&scoped, asked.pairs, alone) else {
             return Ok(None);
         };
         match cheapest(context.alloc(), &rest, left) {
-            Ok(found) => Ok(told_by(context.alloc(), &rest, context.len(), &found).unwrap_or(None)),
+            Ok(found) => Ok(told_by(context.alloc(), &rest, scoped.size(), &found).unwrap_or(None)),
             Err(Fault::Stopped) => Err(Stopped),
             Err(_) => Ok(None),
         }
@@ -150,6 +173,36 @@ impl<'a> WeightFloors<'a> {
 
     /// Looks for a cheapest matching of the players who are in none of some pairs, and keeps the floor that its certificate gives. It answers the pairs
     /// of the matching by number; none if it was not looked for, since too few steps are left, or nothing was confirmed.
+    fn ask_with(
+        &mut self,
+        asked: &Asked<'_>,
+        order: Order,
+        budget: &mut Budget,
+    ) -> Result<Option<Vec<Pair>>, Stopped>
+        requires within { budget.old.used ≤ budget.old.limit }
+        ensures same { self.new ≡ self.old }
+        ensures stopped { MatchResult result (λ _. Unit {0}) (λ _. budget.new.used ≡ budget.new.limit) }
+        ensures spends { Spends budget.old budget.new }
+    {
+        let count = self.size();
+        let free = count.saturating_sub(2 * asked.pairs.len());
+        let mut left = budget.limit - budget.used;
+        if left < steps_for(free) {
+            return Ok(None);
+        }
+        let told = self.told(asked, &order, &mut left);
+        budget.used = budget.limit - left;
+        let Some(told) = told? else {
+            return Ok(None);
+        };
+        spend((count * count) as u64, budget)?;
+        match self.put(&told.table, asked.scope, order) {
+            Ok(true) => Ok(Some(told.pairs)),
+            _ => Ok(None),
+        }
+    }
+
+    /// The same where nothing is added for the order of S1R.
     pub(crate) fn ask(
         &mut self,
         asked: &Asked<'_>,
@@ -160,22 +213,8 @@ impl<'a> WeightFloors<'a> {
         ensures stopped { MatchResult result (λ _. Unit {0}) (λ _. budget.new.used ≡ budget.new.limit) }
         ensures spends { Spends budget.old budget.new }
     {
-        let count = self.weighing.context().len();
-        let free = count.saturating_sub(2 * asked.pairs.len());
-        let mut left = budget.limit - budget.used;
-        if left < steps_for(free) {
-            return Ok(None);
-        }
-        let told = self.told(asked, &mut left);
-        budget.used = budget.limit - left;
-        let Some(told) = told? else {
-            return Ok(None);
-        };
-        spend((count * count) as u64, budget)?;
-        match self.put(&told.table, asked.scope) {
-            Ok(true) => Ok(Some(told.pairs)),
-            _ => Ok(None),
-        }
+        let order = Order::none(self.weighing.context().alloc());
+        self.ask_with(asked, order, budget)
     }
 
     /// Whether the last floor says that all candidates with some pairs are behind one of the bars.
@@ -229,6 +268,53 @@ impl<'a> WeightFloors<'a> {
         Ok(sound)
     }
 
+    /// The order of the S1R behind the pairs of an S1 and its S2 (D.2); none if there is no choice of S1R, or no room for it below the weights.
+    fn order_behind(&self, front: &[Pair]) -> Option<Order> {
+        let context = self.weighing.context();
+        let mdps = context.reached().mdps();
+        let count = context.len();
+        let places = self.shape.pairs.checked_sub(front.len())?;
+        let half = nth_resident(mdps, count, front, places)?;
+        let spare = self.weighing.scale().spare();
+        let halves = Halves::new(count, mdps, half)?;
+        if spare < halves.width() {
+            return None;
+        }
+        Order::by_exchanges(context.alloc(), &halves).unwrap_or(None)
+    }
+
+    /// Asks for a floor that counts the order of S1R where a walk has chosen all of S2, once behind each. A no says that nothing was asked.
+    fn tell_order(
+        &mut self,
+        scope: &Scope,
+        pairs: &[Pair],
+        budget: &mut Budget,
+    ) -> Result<bool, Stopped>
+        requires within { budget.old.used ≤ budget.old.limit }
+        ensures same { self.new ≡ self.old }
+        ensures stopped { MatchResult result (λ _. Unit {0}) (λ _. budget.new.used ≡ budget.new.limit) }
+        ensures spends { Spends budget.old budget.new }
+    {
+        let Some(count) = scope.pairs_of_s1(pairs.len()) else {
+            return Ok(false);
+        };
+        let front = &pairs[..count];
+        if self.trail.knows_order_behind(front) {
+            return Ok(false);
+        }
+        self.trail
+            .note_order(self.weighing.context().alloc(), front);
+        let Some(order) = self.order_behind(front) else {
+            return Ok(false);
+        };
+        let asked = Asked {
+            scope: &scope.of_s1(),
+            pairs: front,
+        };
+        self.ask_with(&asked, order, budget)?;
+        Ok(true)
+    }
+
     /// Tells a walk more that is stuck at the beginning with some pairs by seat, among the arrangements of a scope. It
     /// takes no more than the steps that it counts.
     pub(crate) fn tell_more(
@@ -247,6 +333,10 @@ impl<'a> WeightFloors<'a> {
             return Ok(());
         };
         let before = budget.used;
+        if self.tell_order(stuck.scope, &pairs, budget)? {
+            self.trail.note(before, budget.used);
+            return Ok(());
+        }
         self.trail.turn_to(stuck.scope);
         let place = self.trail.stuck_at(pairs);
         let asked = self.ask_behind(&place, stuck.scope, bars, budget)?;

@@ -398,7 +398,8 @@ struct Weighed<'a> {
     aim: Option<Quality>,
 }
 
-/// What a pass may aim at: the quality of a matching, if one was found and nothing is wished.
+/// What a pass may aim at: the quality of a matching, if one was found that has as many pairs as the shape, and nothing is
+/// wished.
 fn aim_for(
     pass: &Pass<'_>,
     weights: &WeightFloors<'_>,
@@ -406,7 +407,9 @@ fn aim_for(
     room: &mut Room,
 ) -> Option<Quality> {
     match (found, pass.wish) {
-        (Some(pairs), None) => Some(aim_by(pass, weights, pairs, room)),
+        (Some(pairs), None) if pairs.len() == pass.shape.pairs => Some(aim_by(
+            pass, weights, pairs, room,
+        )),
         _ => pass.floors.aim(known_with(pass.context, pass.wish)),
     }
 }
@@ -418,7 +421,7 @@ fn weighed_by<'a>(
     room: &mut Room,
     budget: &mut Budget,
 ) -> Result<Weighed<'a>, Stopped>
-    requires of { AreOf pass.now.context.now.facts pass.now.context.now.reached pass.now.shape weights }
+    requires of { AreOf pass.now.context.now.facts pass.now.context.now.reached pass.now.context.now.lower pass.now.shape weights }
     requires within { budget.old.used ≤ budget.old.limit }
     ensures weights { IfOk result (λ weighed. HasWeights pass.now weighed.weights) }
     ensures stopped { MatchResult result (λ _. Unit {0}) (λ _. budget.new.used ≡ budget.new.limit) }

@@ -49,6 +49,7 @@ pub mod lookahead;
 mod lower;
 mod matched;
 mod meetings;
+mod order;
 pub mod order_laws;
 mod outlook;
 mod pair_facts;

@@ -12,7 +12,7 @@ use crate::seats::seats;
 use dual::{tells_completable, tells_incompletable};
 use dutch_order::{Budget, LIMIT, Stopped};
 use dutch_player::Field;
-use matching::{Fault, Found, greatest};
+use matching::{Found, greatest};
 use std::alloc::{AllocError, Global};
 
 /// Pairs of seats, and the seat that has the bye, if one has.
@@ -96,14 +96,14 @@ fn confirmed(
     Ok(None)
 }
 
-/// The most steps that a matching of so many seats, and the bye, may take.
-fn most_steps(players: &[u16]) -> u64 {
+/// The fewest steps in which a matching of so many seats, and the bye, is worth a try.
+fn few_steps(players: &[u16]) -> u64 {
     let size = players.len() as u64 + 1;
-    size.saturating_mul(size).saturating_mul(size + 1)
+    size.saturating_mul(size)
 }
 
-/// Whether seats can be paired out, told by a greatest matching. It is looked for only if the most steps that it may take are left. None
-/// says that it was not looked for, that it was not confirmed, or that memory was refused.
+/// Whether seats can be paired out, told by a greatest matching in half of the steps that are left. None says that it was not looked for,
+/// since they are too few, that it was not found in them, or not confirmed, or that memory was refused.
 pub(crate) fn told_by_matching(
     alloc: Global,
     field: &Field,
@@ -115,15 +115,15 @@ pub(crate) fn told_by_matching(
     ensures answer { MatchFound result (λ yes. yes ≡ completable field.now players.now) (Unit {0}) (budget.new.used ≡ budget.new.limit) }
     ensures spends { Spends budget.old budget.new }
 {
-    let mut left = budget.limit - budget.used;
-    if left < most_steps(players) {
+    let half = (budget.limit - budget.used) / 2;
+    if half < few_steps(players) {
         return Ok(None);
     }
+    let mut left = half;
     let found = greatest(alloc, &Meetings::new(field, players), &mut left);
-    budget.used = budget.limit - left;
+    budget.used += half - left;
     match found {
         Ok(found) => Ok(confirmed(alloc, field, players, &found).unwrap_or(None)),
-        Err(Fault::Stopped) => Err(Stopped),
-        Err(Fault::OutOfMemory) => Ok(None),
+        Err(_) => Ok(None),
     }
 }

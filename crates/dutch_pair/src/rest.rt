@@ -1,25 +1,24 @@
-// The players of a bracket who are in none of some pairs, as a graph with costs, for whoever looks for a cheapest matching of them (C.04.3 C.6,
-// C.8 to C.19).
+// The players of a bracket, or all lower ones too, who are in none of some pairs, as a graph with costs, for whoever
+// looks for a cheapest matching of them (C.04.3 C.4, C.6, C.8 to C.19).
 //
 // A pair costs half of what it weighs: whoever looks for the matching counts all costs twice. Whoever is left over costs so much more that
 // as many pairs are made as can be; and far more whoever is in a pair in all arrangements that are looked at.
 ghost use Rattle.std.specs.Prelude.{◌≡◌, ◌≤◌, All, IfOk, length};
 ghost use Rattle.dutch_order.specs.declared.numbers.TheConstants.{LIMIT};
-ghost use Rattle.dutch_pair.specs.WeightTables.{IsNumber};
+ghost use Rattle.dutch_pair.specs.Scopes.{IsReached};
 
-use crate::context::Context;
 use crate::scope::Scoped;
 use crate::seated::Pair;
 use cheapest::Costs;
 use dual::Rule;
-use std::alloc::{AllocError, Global};
+use std::alloc::AllocError;
 use std::marker::Model;
 use wide::Wide;
 
 /// Whoever is in a pair in all arrangements is left over at so many times what it costs others.
 const NEVER_LEFT: u32 = 2048;
 
-/// The players of a bracket who are in none of some pairs.
+/// The players over whom matchings go, without those who are in some pairs.
 #[derive(Drop)]
 pub(crate) struct Rest<'a, 'b> {
     scoped: &'b Scoped<'a, 'b>,
@@ -46,13 +45,13 @@ pub(crate) fn is_in(pairs: &[Pair], number: u16) -> bool {
         .any(|pair| pair.0 == number || pair.1 == number)
 }
 
-/// The numbers of a bracket that are in none of some pairs.
-fn numbers_beside(context: &Context<'_>, pairs: &[Pair]) -> Result<Vec<u16>, AllocError>
-    ensures inside { IfOk result (λ numbers. All (IsNumber context.now.reached) numbers.items) }
+/// The numbers over which the matchings go that are in none of some pairs.
+fn numbers_beside(scoped: &Scoped<'_, '_>, pairs: &[Pair]) -> Result<Vec<u16>, AllocError>
+    ensures inside { IfOk result (λ numbers. All (IsReached scoped.now) numbers.items) }
     ensures few { IfOk result (λ numbers. length numbers.items ≤ LIMIT) }
 {
-    let mut numbers = Vec::new(context.alloc());
-    for above in 0..context.len() {
+    let mut numbers = Vec::new(scoped.weighing().context().alloc());
+    for above in 0..scoped.size() {
         let number = above as u16 + 1;
         if !is_in(pairs, number) {
             numbers.push(number)?;
@@ -68,7 +67,7 @@ impl<'a, 'b> Rest<'a, 'b> {
         pairs: &[Pair],
         alone: Wide,
     ) -> Result<Rest<'a, 'b>, AllocError> {
-        let numbers = numbers_beside(scoped.weighing().context(), pairs)?;
+        let numbers = numbers_beside(scoped, pairs)?;
         Ok(Rest {
             scoped,
             numbers,
@@ -81,6 +80,11 @@ impl<'a, 'b> Rest<'a, 'b> {
         ensures { result.now ≡ self.now.numbers }
     {
         &self.numbers
+    }
+
+    /// Whether two numbers may be a pair of the bracket.
+    pub(crate) fn may_pair(&self, a: u16, b: u16) -> bool {
+        self.scoped.may_pair(a, b)
     }
 
     /// What it costs to be left over, beside half of the weight.

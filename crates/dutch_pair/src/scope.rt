@@ -3,17 +3,25 @@
 //
 // Behind an S1 no other moved-down player is in a pair. Behind an S1R each pair of residents is one of a member and one
 // of another resident. So fewer pairs are possible than in all arrangements, and a floor can be higher.
-ghost use Rattle.std.specs.Prelude.{◌≡◌, true};
+//
+// In the penultimate bracket a candidate can be chosen only if those who go down can be paired out with all lower
+// players (C.4). There the matchings go over these too. Whoever goes down is paired out in them, and weighs what a
+// downfloater does; lower players weigh nothing.
+ghost use Rattle.std.specs.Prelude.{◌≡◌, ◌+◌, ◌<◌, ◌≤◌, ◌^◌, IfSome, true, length, min, slice_index, if◌then◌else◌, nat_lt};
 ghost use Rattle.dutch_order.specs.declared.prefix.Filling.TheVariants.{S2r};
 ghost use Rattle.dutch_pair.specs.FloorOf.{has_s1};
 ghost use Rattle.dutch_order.specs.declared.numbers.TheConstants.{LIMIT};
 ghost use Rattle.dutch_order.specs.Choices.{is_member};
-ghost use Rattle.dutch_pair.specs.Scopes.{Covers, TellsSides, is_joined, may_stay, side_in, side_of};
-ghost use Rattle.dutch_pair.specs.Scopes.{moved_down_side, resident_side};
+ghost use Rattle.dutch_pair.specs.Scopes.{Covers, TellsSides, any_seat, both_go, bracket_costs};
+ghost use Rattle.dutch_pair.specs.Scopes.{going_weight, goes_down, is_inside, is_joined, lower_costs, may_pair_out};
+ghost use Rattle.dutch_pair.specs.Scopes.{may_stay, moved_down_side, resident_side, side_in, side_of, size_by};
+ghost use Rattle.dutch_pair.specs.WeightTables.{IsNumber};
 
 use crate::context::Context;
 use crate::floor::has_s1;
+use crate::order::Order;
 use crate::reached::copied;
+use crate::seats::{BySeat, seats};
 use crate::weighing::Weighing;
 use arrayvec::ArrayVec;
 use dual::Rule;
@@ -121,6 +129,31 @@ impl Scope {
         refill(&mut self.s1r, prefix.s1r());
     }
 
+    /// How many of so many pairs of a beginning are those of its S1, if all of these are there.
+    pub(crate) fn pairs_of_s1(&self, count: usize) -> Option<usize>
+        ensures { IfSome result (λ n. n ≤ count) }
+    {
+        match self.filling {
+            Filling::S1 => None,
+            Filling::S2 | Filling::S2r => {
+                if self.s1.len() <= count {
+                    Some(self.s1.len())
+                } else {
+                    None
+                }
+            }
+        }
+    }
+
+    /// All arrangements with its S1.
+    pub(crate) fn of_s1(&self) -> Scope {
+        Scope {
+            filling: Filling::S2,
+            s1: copied(&self.s1),
+            s1r: Numbers::new(),
+        }
+    }
+
     /// The same scope once more.
     pub(crate) fn copied(&self) -> Scope
         ensures { result ≡ self.now }
@@ -210,11 +243,24 @@ impl Scope {
     }
 }
 
-/// What pairs and downfloaters weigh in the arrangements of a scope.
+/// Over whom the matchings of a floor go.
+#[derive(Debug, Default, Clone, Copy, PartialEq, Eq)]
+pub(crate) enum Reach {
+    /// The bracket's players alone.
+    #[default]
+    Bracket,
+    /// All lower players too, with whom those who go down are paired out.
+    Lower,
+}
+
+/// What pairs and downfloaters weigh in the arrangements of a scope, and what an order adds to pairs of residents (D.2).
 #[derive(Drop)]
 pub(crate) struct Scoped<'a, 'b> {
     weighing: &'b Weighing<'a>,
     scope: &'b Scope,
+    reach: Reach,
+    // what is added to pairs of residents
+    order: &'b Order,
     // where each number of the bracket stands
     sides: ArrayVec<Side, LIMIT>,
 }
@@ -224,7 +270,7 @@ impl<'a, 'b> Model for Scoped<'a, 'b> {
 
     ghost Value = { Scoped };
 
-    ghost view = { λ s. record { weighing = s.weighing.now; scope = s.scope.now } };
+    ghost view = { λ s. record { weighing = s.weighing.now; scope = s.scope.now; reach = s.reach; order = s.order.now } };
 
     ghost invariant = { λ s. TellsSides s.weighing.now.reached.mdps s.scope.now s.sides.items };
 }
@@ -241,15 +287,46 @@ fn sides(context: &Context<'_>, scope: &Scope) -> ArrayVec<Side, LIMIT>
     sides
 }
 
+/// A number of a list, 0 past its end.
+fn at(list: &[u16], place: usize) -> u16
+    ensures { result ≡ slice_index list.now place }
+{
+    if place < list.len() { list[place] } else { 0 }
+}
+
+/// The lesser of two.
+fn lesser(one: Wide, other: Wide) -> Wide
+    ensures { result ≡ min one other }
+{
+    if one.is_less(other) { one } else { other }
+}
+
+/// A sum, or the first of the two if it does not fit.
+fn sum_or_first(one: Wide, other: Wide) -> Wide
+    ensures { result ≡ (if nat_lt (one + other) (2 ^ 512) then one + other else one) }
+{
+    match one.plus(other) {
+        Some(sum) => sum,
+        None => one,
+    }
+}
+
 impl<'a, 'b> Scoped<'a, 'b> {
-    /// What they weigh in the arrangements of a scope.
-    pub(crate) fn new(weighing: &'b Weighing<'a>, scope: &'b Scope) -> Scoped<'a, 'b>
-        ensures { result ≡ record { weighing = weighing.now; scope = scope.now } }
+    /// What they weigh in the arrangements of a scope, with what an order adds to pairs of residents.
+    pub(crate) fn new(
+        weighing: &'b Weighing<'a>,
+        scope: &'b Scope,
+        reach: Reach,
+        order: &'b Order,
+    ) -> Scoped<'a, 'b>
+        ensures { result ≡ record { weighing = weighing.now; scope = scope.now; reach = reach; order = order.now } }
     {
         let sides = sides(weighing.context(), scope);
         Scoped {
             weighing,
             scope,
+            reach,
+            order,
             sides,
         }
     }
@@ -261,7 +338,19 @@ impl<'a, 'b> Scoped<'a, 'b> {
         self.weighing
     }
 
-    /// Where a number stands.
+    /// How many players its matchings go over.
+    pub(crate) fn size(&self) -> usize
+        ensures value { result ≡ size_by self.now.reach self.now.weighing }
+        ensures few { result ≤ LIMIT }
+    {
+        let context = self.weighing.context();
+        match self.reach {
+            Reach::Bracket => context.len(),
+            Reach::Lower => context.len() + context.lower().len(),
+        }
+    }
+
+    /// Where a number of the bracket stands.
     fn side(&self, number: u16) -> Side
         ensures { result ≡ side_in self.now number }
     {
@@ -274,33 +363,160 @@ impl<'a, 'b> Scoped<'a, 'b> {
         }
     }
 
+    /// Whether a number is that of a resident.
+    fn is_resident(&self, number: u16) -> bool
+        ensures { result ≡ nat_lt self.now.weighing.reached.mdps number }
+    {
+        self.weighing.context().reached().mdps() < usize::from(number)
+    }
+
+    /// Whether a number is one of the bracket's, or less.
+    fn is_inside(&self, number: u16) -> bool
+        ensures { result ≡ is_inside self.now number }
+    {
+        usize::from(number) <= self.weighing.context().len()
+    }
+
     /// Whether a number is in a pair in each arrangement of the scope.
     pub(crate) fn must_meet(&self, number: u16) -> bool {
-        !self.side(number).may_stay()
+        !self.goes_down(number)
+    }
+
+    /// Whether two may be a pair of the bracket.
+    #[tactic(auto, unfolding(crate::specs::Reached::numbers_meet))]
+    pub(crate) fn may_pair(&self, a: u16, b: u16) -> bool
+        ensures value { result ≡ (bracket_costs self.now).meets a b }
+        ensures first { result ≡ true → IsNumber self.now.weighing.reached a }
+        ensures second { result ≡ true → IsNumber self.now.weighing.reached b }
+    {
+        self.side(a).is_joined(self.side(b)) && self.weighing.may_meet(a, b)
+    }
+
+    /// Whether a number is a lower player's, or may be in no pair of the bracket.
+    fn goes_down(&self, number: u16) -> bool
+        ensures { result ≡ goes_down self.now number }
+    {
+        !self.is_inside(number) || self.side(number).may_stay()
+    }
+
+    /// Whether two are both of those who may go down.
+    fn both_go(&self, a: u16, b: u16) -> bool
+        ensures { result ≡ both_go self.now a b }
+    {
+        self.goes_down(a) && self.goes_down(b)
+    }
+
+    /// The seat of a number; behind those of the bracket come the lower players by rank.
+    fn seat(&self, number: u16) -> u16
+        ensures { result ≡ any_seat self.now number }
+    {
+        let context = self.weighing.context();
+        let place = usize::from(number).saturating_sub(1);
+        if place < context.len() {
+            at(context.reached().seats(), place)
+        } else {
+            at(context.lower(), place - context.len())
+        }
+    }
+
+    /// Who may meet, and who may have the bye, by seat.
+    fn by_seat(&self) -> BySeat<'a>
+        ensures { result ≡ self.now.weighing.facts }
+    {
+        seats(self.weighing.context().field())
+    }
+
+    /// Whether two may be paired once all who go down are paired out.
+    fn may_pair_out(&self, a: u16, b: u16) -> bool
+        ensures { result ≡ may_pair_out self.now a b }
+    {
+        self.both_go(a, b) && self.by_seat().may_meet(self.seat(a), self.seat(b))
+    }
+
+    /// Whether one may have the bye once all who go down are paired out.
+    fn may_have_bye(&self, number: u16) -> bool
+        ensures { result ≡ (lower_costs self.now).may_be_left number }
+    {
+        self.goes_down(number) && self.by_seat().may_be_left(self.seat(number))
+    }
+
+    /// What one who goes down weighs; a lower player weighs nothing.
+    fn going_weight(&self, number: u16) -> Wide
+        requires { 0 < number }
+        ensures { result ≡ going_weight self.now number }
+    {
+        if self.is_inside(number) {
+            self.weighing.left_cost(number)
+        } else {
+            Wide::zero()
+        }
+    }
+
+    /// What two of the bracket cost as a pair.
+    fn ordered(&self, a: u16, b: u16) -> Wide
+        requires first { IsNumber self.now.weighing.reached a }
+        requires second { IsNumber self.now.weighing.reached b }
+        ensures { result ≡ (bracket_costs self.now).weight a b }
+    {
+        let weight = self.weighing.weight(a, b);
+        if self.is_resident(a) && self.is_resident(b) {
+            self.order.with_lesser(weight, a, b)
+        } else {
+            weight
+        }
+    }
+
+    /// What two weigh at least, as a pair of the bracket or as two who go down.
+    fn least_weight(&self, a: u16, b: u16) -> Wide
+        requires first { 0 < a }
+        requires second { 0 < b }
+        ensures { result ≡ (lower_costs self.now).weight a b }
+    {
+        let going = sum_or_first(self.going_weight(a), self.going_weight(b));
+        if !self.may_pair(a, b) {
+            return going;
+        }
+        let pair = self.ordered(a, b);
+        if self.both_go(a, b) {
+            lesser(pair, going)
+        } else {
+            pair
+        }
     }
 }
 
 impl Rule for Scoped<'_, '_> {
-    ghost use Rattle.dutch_pair.specs.Scopes.{costs_in};
-    ghost use Rattle.dutch_pair.specs.WeightTables.{IsNumber};
+    ghost use Rattle.dutch_pair.specs.Scopes.{IsReached, costs_in};
 
     ghost costs = { costs_in };
 
-    ghost knows = { λ s. IsNumber s.weighing.reached };
+    ghost knows = { IsReached };
 
     fn may_meet(&self, a: u16, b: u16) -> bool {
-        self.side(a).is_joined(self.side(b)) && self.weighing.may_meet(a, b)
+        match self.reach {
+            Reach::Bracket => self.may_pair(a, b),
+            Reach::Lower => self.may_pair(a, b) || self.may_pair_out(a, b),
+        }
     }
 
     fn weight(&self, a: u16, b: u16) -> Wide {
-        self.weighing.weight(a, b)
+        match self.reach {
+            Reach::Bracket => self.ordered(a, b),
+            Reach::Lower => self.least_weight(a, b),
+        }
     }
 
     fn may_be_left(&self, a: u16) -> bool {
-        self.side(a).may_stay() && self.weighing.may_be_left(a)
+        match self.reach {
+            Reach::Bracket => self.side(a).may_stay() && self.weighing.may_be_left(a),
+            Reach::Lower => self.may_have_bye(a),
+        }
     }
 
     fn left_cost(&self, a: u16) -> Wide {
-        self.weighing.left_cost(a)
+        match self.reach {
+            Reach::Bracket => self.weighing.left_cost(a),
+            Reach::Lower => self.going_weight(a),
+        }
     }
 }

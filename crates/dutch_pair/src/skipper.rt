@@ -4,7 +4,7 @@
 // the candidate that is kept. The first is true of each candidate with a beginning that rules the wish out. The others are true of each
 // candidate with a beginning if they are true of its floor, a quality that none of these candidates is better than. With a wish, a floor is
 // enough that holds only for those that grant it: it counts the pair that is wished, or the one who is to go down, from the first question on.
-ghost use Rattle.std.specs.Prelude.{◌≡◌, ◌⊎◌, IfSome, Some, not, true, false};
+ghost use Rattle.std.specs.Prelude.{◌≡◌, ◌⊎◌, IfSome, Some, length, not, true, false};
 ghost use Rattle.std.specs.Option.{ForSome};
 ghost use Rattle.dutch_order.specs.Arrangements.{Arrangement, Fits};
 ghost use Rattle.dutch_order.specs.Keys.{IsIn};
@@ -15,8 +15,8 @@ ghost use Rattle.dutch_pair.specs.Quality.{is_better};
 ghost use Rattle.dutch_pair.specs.QualityIn.{next_in, quality_in};
 ghost use Rattle.dutch_pair.specs.Kept.{wins};
 ghost use Rattle.dutch_pair.specs.Outlooks.{HasNoBetter};
-ghost use Rattle.dutch_pair.specs.WeightFloors.{AreOf, HasBar, IsLeast, kept_in};
-ghost use Rattle.dutch_pair.specs.Round.{candidates_of, quality_of};
+ghost use Rattle.dutch_pair.specs.WeightFloors.{AreOf, BeginsWith, HasBar, WeighsNoLess, kept_in};
+ghost use Rattle.dutch_pair.specs.Round.{can_be_chosen, candidates_of, quality_of};
 ghost use Rattle.dutch_pair.specs.Aims.{aim_in, beats, is_dull, is_idle};
 ghost use Rattle.dutch_pair.specs.KnownBeside.{AreKnown, Holds, turned};
 ghost use Rattle.dutch_pair.specs.Wishes.{grants, is_wished};
@@ -223,7 +223,7 @@ pub(crate) struct Skipper<'a, 'k> {
     pub(crate) weights: &'k Option<WeightFloors<'k>>,
     /// The bars of the aim and of the candidate that is kept.
     pub(crate) bars: Bars,
-    ghost weighed: { ForSome weights.now (AreOf pass.now.context.now.facts pass.now.context.now.reached pass.now.shape) },
+    ghost weighed: { ForSome weights.now (AreOf pass.now.context.now.facts pass.now.context.now.reached pass.now.context.now.lower pass.now.shape) },
     ghost aim: { ∥ HasBar weights.now (aim_in pass.now.aim) bars.aim ∥₁ },
     ghost best: { ∥ HasBar weights.now (kept_in kept.now) bars.kept ∥₁ },
 }
@@ -235,7 +235,7 @@ impl<'a, 'k> Skipper<'a, 'k> {
         kept: &'k Option<Best>,
         weights: &'k Option<WeightFloors<'k>>,
     ) -> Skipper<'a, 'k>
-        requires { ForSome weights.now (AreOf pass.now.context.now.facts pass.now.context.now.reached pass.now.shape) }
+        requires { ForSome weights.now (AreOf pass.now.context.now.facts pass.now.context.now.reached pass.now.context.now.lower pass.now.shape) }
         ensures pass { result.pass.now ≡ pass.now }
         ensures kept { result.kept.now ≡ kept.now }
     {
@@ -277,11 +277,12 @@ impl<'a, 'k> Skipper<'a, 'k> {
         is_idle(&room.quality, &self.pass.aim, self.kept)
     }
 
-    /// Whether the aim is better than all candidates with a beginning, where they weigh so much at least.
+    /// Whether the aim is better than all candidates with a beginning that weigh so much at least.
     fn is_behind_aim(&self, prefix: &Prefix<'_>, least: Wide) -> bool
-        requires { ForSome self.now.weights.now (λ w. IsLeast w prefix.now least) }
         ensures { result ≡ true → (a : Arrangement) → IsIn a (candidates_of self.now.pass.now.context.now.facts self.now.pass.now.context.now.reached self.now.pass.now.shape)
-            → Begins prefix.now a → beats (aim_in self.now.pass.now.aim)
+            → Begins prefix.now a → WeighsNoLess self.now.weights.now (length self.now.pass.now.context.now.reached.seats) least
+            (quality_of self.now.pass.now.context.now.facts self.now.pass.now.context.now.reached self.now.pass.now.context.now.lower a)
+            → beats (aim_in self.now.pass.now.aim)
             (quality_of self.now.pass.now.context.now.facts self.now.pass.now.context.now.reached self.now.pass.now.context.now.lower a) ≡ true }
     {
         let _reached = self.pass.context.reached();
@@ -294,11 +295,12 @@ impl<'a, 'k> Skipper<'a, 'k> {
         bar.is_passed(least) && (bar.is_above(least) || has_no_better_next(self.pass, prefix, aim))
     }
 
-    /// Whether no candidate with a beginning is better than the one that is kept, where they weigh so much at least.
+    /// Whether no candidate with a beginning that weighs so much at least is better than the one that is kept.
     fn is_behind_kept(&self, prefix: &Prefix<'_>, least: Wide) -> bool
-        requires { ForSome self.now.weights.now (λ w. IsLeast w prefix.now least) }
         ensures { result ≡ true → (a : Arrangement) → IsIn a (candidates_of self.now.pass.now.context.now.facts self.now.pass.now.context.now.reached self.now.pass.now.shape)
-            → Begins prefix.now a → not (wins
+            → Begins prefix.now a → WeighsNoLess self.now.weights.now (length self.now.pass.now.context.now.reached.seats) least
+            (quality_of self.now.pass.now.context.now.facts self.now.pass.now.context.now.reached self.now.pass.now.context.now.lower a)
+            → not (wins
             (quality_of self.now.pass.now.context.now.facts self.now.pass.now.context.now.reached self.now.pass.now.context.now.lower a) self.now.kept.now) ≡ true }
     {
         let _reached = self.pass.context.reached();
@@ -312,23 +314,26 @@ impl<'a, 'k> Skipper<'a, 'k> {
             || (bar.is_reached(least) && has_no_better_next(self.pass, prefix, &best.quality))
     }
 
-    /// Whether no candidate with a beginning is of interest by what all of them weigh at least by one of the floors.
+    /// Whether no candidate with a beginning that can be chosen is of interest by what all of them weigh at least by one of the floors.
     fn is_idle_by(&self, weights: &WeightFloors<'_>, place: usize, prefix: &Prefix<'_>) -> bool
         requires { self.now.weights.now ≡ Some weights.now }
         ensures { result ≡ true → (a : Arrangement) → IsIn a (candidates_of self.now.pass.now.context.now.facts self.now.pass.now.context.now.reached self.now.pass.now.shape)
-            → Begins prefix.now a → is_idle (aim_in self.now.pass.now.aim) self.now.kept.now
+            → Begins prefix.now a → can_be_chosen self.now.pass.now.context.now.facts self.now.pass.now.context.now.reached self.now.pass.now.context.now.lower a ≡ true
+            → is_idle (aim_in self.now.pass.now.aim) self.now.kept.now
             (quality_of self.now.pass.now.context.now.facts self.now.pass.now.context.now.reached self.now.pass.now.context.now.lower a) ≡ true }
     {
+        let _reached = self.pass.context.reached();
         let Some(least) = weights.least_by(place, prefix) else {
             return false;
         };
         self.is_behind_kept(prefix, least) || self.is_behind_aim(prefix, least)
     }
 
-    /// Whether no candidate with a beginning is of interest by what all of them weigh at least.
+    /// Whether no candidate with a beginning that can be chosen is of interest by what all of them weigh at least.
     fn is_idle_by_weight(&self, prefix: &Prefix<'_>) -> bool
         ensures { result ≡ true → (a : Arrangement) → IsIn a (candidates_of self.now.pass.now.context.now.facts self.now.pass.now.context.now.reached self.now.pass.now.shape)
-            → Begins prefix.now a → is_idle (aim_in self.now.pass.now.aim) self.now.kept.now
+            → Begins prefix.now a → can_be_chosen self.now.pass.now.context.now.facts self.now.pass.now.context.now.reached self.now.pass.now.context.now.lower a ≡ true
+            → is_idle (aim_in self.now.pass.now.aim) self.now.kept.now
             (quality_of self.now.pass.now.context.now.facts self.now.pass.now.context.now.reached self.now.pass.now.context.now.lower a) ≡ true }
     {
         let Some(weights) = self.weights else {
@@ -338,6 +343,45 @@ impl<'a, 'k> Skipper<'a, 'k> {
         let count = weights.len();
         for before in 0..count {
             if self.is_idle_by(weights, count - 1 - before, prefix) {
+                return true;
+            }
+        }
+        false
+    }
+
+    /// Whether no candidate with a beginning that can be chosen, and with such an S1R, is of interest by one of the floors.
+    fn is_idle_with(
+        &self,
+        weights: &WeightFloors<'_>,
+        place: usize,
+        prefix: &Prefix<'_>,
+        exchange: &Exchange<'_>,
+    ) -> bool
+        requires { self.now.weights.now ≡ Some weights.now }
+        ensures { result ≡ true → (a : Arrangement) → IsIn a (candidates_of self.now.pass.now.context.now.facts self.now.pass.now.context.now.reached self.now.pass.now.shape)
+            → BeginsWith prefix.now exchange.now a → can_be_chosen self.now.pass.now.context.now.facts self.now.pass.now.context.now.reached self.now.pass.now.context.now.lower a ≡ true
+            → is_idle (aim_in self.now.pass.now.aim) self.now.kept.now
+            (quality_of self.now.pass.now.context.now.facts self.now.pass.now.context.now.reached self.now.pass.now.context.now.lower a) ≡ true }
+    {
+        let _reached = self.pass.context.reached();
+        let Some(least) = weights.least_with(place, prefix, exchange) else {
+            return false;
+        };
+        self.is_behind_kept(prefix, least) || self.is_behind_aim(prefix, least)
+    }
+
+    /// Whether no candidate with a beginning that can be chosen, and with such an S1R, is of interest by a floor that counts the order of S1R.
+    fn is_idle_by_order(&self, prefix: &Prefix<'_>, exchange: &Exchange<'_>) -> bool
+        ensures { result ≡ true → (a : Arrangement) → IsIn a (candidates_of self.now.pass.now.context.now.facts self.now.pass.now.context.now.reached self.now.pass.now.shape)
+            → BeginsWith prefix.now exchange.now a → can_be_chosen self.now.pass.now.context.now.facts self.now.pass.now.context.now.reached self.now.pass.now.context.now.lower a ≡ true
+            → is_idle (aim_in self.now.pass.now.aim) self.now.kept.now
+            (quality_of self.now.pass.now.context.now.facts self.now.pass.now.context.now.reached self.now.pass.now.context.now.lower a) ≡ true }
+    {
+        let Some(weights) = self.weights else {
+            return false;
+        };
+        for place in 0..weights.len() {
+            if self.is_idle_with(weights, place, prefix, exchange) {
                 return true;
             }
         }
@@ -378,7 +422,7 @@ impl<'a, 'k> Bound for Skipper<'a, 'k> {
 
     ghost is_dull = { λ s. is_dull s.pass.now.context.now.facts s.pass.now.context.now.reached s.pass.now.context.now.lower s.pass.now.wish (aim_in s.pass.now.aim) s.kept.now };
 
-    #[tactic(auto, using(crate::proofs::AimLemmas::unwished_is_dull, crate::proofs::AimLemmas::idle_is_dull), unfolding(crate::specs::Round::candidates_of))]
+    #[tactic(auto, using(crate::proofs::AimLemmas::unwished_is_dull, crate::proofs::AimLemmas::idle_is_dull, crate::proofs::AimLemmas::idle_if_fit_is_dull), unfolding(crate::specs::Round::candidates_of))]
     fn cannot_win(&self, prefix: &Prefix<'_>, room: &mut Room) -> bool {
         if is_barred(self.pass, prefix) {
             return true;
@@ -395,12 +439,16 @@ impl<'a, 'k> Bound for Skipper<'a, 'k> {
             || self.is_idle_granted(prefix, room)
     }
 
+    #[tactic(auto, using(crate::proofs::AimLemmas::idle_if_fit_is_dull), unfolding(crate::specs::Round::candidates_of))]
     fn cannot_win_with(
         &self,
-        _prefix: &Prefix<'_>,
-        _exchange: &Exchange<'_>,
+        prefix: &Prefix<'_>,
+        exchange: &Exchange<'_>,
         _room: &mut Room,
     ) -> bool {
-        false
+        if self.pass.aim.is_none() && self.kept.is_none() {
+            return false;
+        }
+        self.is_idle_by_order(prefix, exchange)
     }
 }

@@ -1,8 +1,9 @@
 // Tables for the check, made of the certificate that comes with a cheapest matching (C.04.3 C.6, C.8 to C.19).
 //
-// The certificate is of the players who are in none of some pairs; in the table all players of the bracket stand. Whoever is in one of the
-// pairs has a potential of 0, while all others have more, and pairs are given more. So nothing is wanted of the pairs that those players
-// make with others, and what the known pairs add is all that they cost. Nobody relies on a table that was not checked.
+// The certificate is of the players who are in none of some pairs; in the table all players stand over whom the matching
+// goes. Whoever is in one of the pairs has a potential of 0, while all others have more, and pairs are given more. So
+// nothing is wanted of the pairs that those players make with others, and what the known pairs add is all that they cost.
+// Nobody relies on a table that was not checked.
 ghost use Rattle.std.specs.Prelude.{◌<◌};
 
 use crate::rest::Rest;
@@ -89,7 +90,7 @@ fn given_left(certificate: &Certificate, more: Wide, alone: Wide) -> Option<Wide
     certificate.given_left.plus(more)?.plus(alone)?.plus(alone)
 }
 
-/// The table of all players of a bracket, up to the last number, by the certificate of some of them; none if a sum does not fit.
+/// The table of all players, up to the last number, by the certificate of some of them; none if a sum does not fit.
 pub(crate) fn table_of(
     alloc: Global,
     rest: &Rest<'_, '_>,

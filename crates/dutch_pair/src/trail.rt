@@ -16,6 +16,8 @@ pub(crate) struct Trail {
     asked: usize,
     told_at: u64,
     steps: u64,
+    // behind which pairs of S1 and S2 the order of S1R was asked for, if it was
+    ordered: Option<Vec<Pair>>,
 }
 
 /// Pairs behind which a floor is to be asked for, and how many of them are known not to be ruled out.
@@ -56,6 +58,7 @@ impl Trail {
             asked: 0,
             told_at: 0,
             steps: 0,
+            ordered: None,
         }
     }
 
@@ -64,6 +67,25 @@ impl Trail {
     pub(crate) fn patience(&self, players: usize, made: u64) -> u64 {
         let steps = (self.steps / 4).max((players as u64).saturating_mul(16));
         self.told_at.saturating_add(steps).saturating_sub(made)
+    }
+
+    /// Whether the order of S1R was asked for behind these pairs of S1 and S2 last.
+    pub(crate) fn knows_order_behind(&self, pairs: &[Pair]) -> bool {
+        match &self.ordered {
+            Some(ordered) => ordered.as_slice() == pairs,
+            None => false,
+        }
+    }
+
+    /// Notes that it was. (Where memory is refused, nothing is noted.)
+    pub(crate) fn note_order(&mut self, alloc: Global, pairs: &[Pair]) {
+        let mut ordered = Vec::new(alloc);
+        for pair in pairs {
+            if ordered.push(*pair).is_err() {
+                return;
+            }
+        }
+        self.ordered = Some(ordered);
     }
 
     /// Goes on in the arrangements of a scope: anew, if they are others than before.

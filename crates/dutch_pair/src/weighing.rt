@@ -255,6 +255,7 @@ impl<'a> Weighing<'a> {
     pub(crate) fn context(&self) -> &'a Context<'a>
         ensures facts { result.now.facts ≡ self.now.facts }
         ensures reached { result.now.reached ≡ self.now.reached }
+        ensures lower { result.now.lower ≡ self.now.lower }
     {
         self.context
     }

@@ -1,28 +1,35 @@
 // Floors of a bracket by the weight of its candidates (C.04.3 C.6, C.8 to C.19), and what they say behind a beginning. They are asked at each
 // beginning that a choice comes to, so an answer takes no memory, and looks at each pair of the beginning once for each floor.
-ghost use Rattle.std.specs.Prelude.{◌≡◌, ◌+◌, ◌-◌, ◌*◌, ◌<◌, ◌≤◌, ◌⊎◌, ◌↔◌, All, IfOk, IfSome, IsTrue, drop, length, sum_by, if◌then◌else◌};
+ghost use Rattle.std.specs.Prelude.{◌≡◌, ◌+◌, ◌-◌, ◌*◌, ◌<◌, ◌≤◌, ◌⊎◌, ◌↔◌, All, IfOk, IfSome, IsTrue, true, drop, length, sum_by, if◌then◌else◌};
 ghost use Rattle.std.specs.List.{zip};
 ghost use Rattle.dual.specs.Floors.{extra_in, extra_left_in};
 ghost use Rattle.dutch_order.specs.declared.numbers.TheConstants.{LIMIT};
+ghost use Rattle.dutch_pair.specs.declared.scope.Reach.TheVariants.{Lower};
 ghost use Rattle.dutch_pair.specs.Quality.{one_if};
 ghost use Rattle.dutch_pair.specs.QualityIn.{quality_in};
-ghost use Rattle.dutch_pair.specs.WeightFloors.{IsWeightFloor, Weighed, bound_behind, is_first, left_known, passed_over};
+ghost use Rattle.dutch_pair.specs.Round.{is_penultimate};
+ghost use Rattle.dutch_pair.specs.WeightFloors.{IsMostAdded, IsWeightFloor, Weighed, bound_behind, is_first, left_known, passed_over};
 
 use crate::begun::fixed_lists;
 use crate::context::Context;
+use crate::order::{Halves, Order};
 use crate::quality::Quality;
 use crate::scale::Scale;
-use crate::scope::{Scope, Scoped};
+use crate::scope::{Reach, Scope, Scoped};
 use crate::trail::Trail;
 use crate::weighing::Weighing;
 use dual::{Floor, Table};
-use dutch_order::{Filling, LIMIT, Prefix, Shape, numbered_from};
+use dutch_order::{Exchange, Filling, LIMIT, Prefix, Shape, numbered_from};
 use std::alloc::AllocError;
 use std::marker::Model;
 use wide::Wide;
 
 /// So many floors are kept. Each is asked at each beginning.
 const KEPT: usize = 4;
+
+/// The matchings go over lower players too only if all together are no more than so many: each floor takes steps with
+/// the square of their number.
+const MOST_REACHED: usize = 400;
 
 /// Weights with so many bits leave room for what a matching of all players comes to.
 const MOST_BITS: usize = 482;
@@ -34,10 +41,11 @@ pub(crate) struct Bar {
     above: Wide,
 }
 
-/// A floor by a certificate that was checked, and which arrangements it is for.
+/// A floor by a certificate that was checked, which arrangements it is for, and what it counts of their order (D.2).
 #[derive(Drop)]
 pub(crate) struct ScopedFloor {
     pub(crate) scope: Scope,
+    pub(crate) order: Order,
     pub(crate) floor: Floor,
 }
 
@@ -46,14 +54,14 @@ impl Model for ScopedFloor {
 
     ghost Value = { ScopedFloor };
 
-    ghost view = { λ f. record { scope = f.scope; floor = f.floor } };
+    ghost view = { λ f. record { scope = f.scope; order = f.order; floor = f.floor } };
 }
 
 /// Floors of a bracket and a shape by weight.
 #[derive(Drop)]
 pub(crate) struct WeightFloors<'a> {
     pub(crate) weighing: Weighing<'a>,
-    shape: Shape,
+    pub(crate) shape: Shape,
     pub(crate) floors: Vec<ScopedFloor>,
     pub(crate) trail: Trail,
 }
@@ -63,9 +71,21 @@ impl<'a> Model for WeightFloors<'a> {
 
     ghost Value = { Weighed };
 
-    ghost view = { λ w. record { facts = w.weighing.facts; reached = w.weighing.reached; shape = w.shape; scale = w.weighing.scale } };
+    ghost view = { λ w. record {
+      facts = w.weighing.facts;
+      reached = w.weighing.reached;
+      lower = w.weighing.lower;
+      shape = w.shape;
+      scale = w.weighing.scale;
+    } };
 
-    ghost invariant = { λ w. AreFloors (record { facts = w.weighing.facts; reached = w.weighing.reached; shape = w.shape; scale = w.weighing.scale }) w.floors.items };
+    ghost invariant = { λ w. AreFloors (record {
+      facts = w.weighing.facts;
+      reached = w.weighing.reached;
+      lower = w.weighing.lower;
+      shape = w.shape;
+      scale = w.weighing.scale;
+    }) w.floors.items };
 }
 
 /// A sum with what the pairs of two lists add to a floor; none if it does not fit.
@@ -157,20 +177,57 @@ fn bound_behind(floor: &Floor, mdps: usize, prefix: &Prefix<'_>) -> Option<Wide>
     all.minus(floor.debt())
 }
 
-/// Lets the oldest floor but the first one go if there is no room for one more.
-fn make_room(floors: &mut Vec<ScopedFloor>)
-    ensures { (w : Weighed) → All (IsWeightFloor w) floors.old.items → All (IsWeightFloor w) floors.new.items }
-{
-    if floors.len() >= KEPT {
-        floors.remove(1);
+impl ScopedFloor {
+    /// At most so much of what the floor says behind a beginning is of the order; none if that is not known.
+    #[tactic(auto, using(crate::proofs::D02Orders::nothing_added))]
+    fn of_order(&self, prefix: &Prefix<'_>) -> Option<Wide>
+        ensures { IfSome result (IsMostAdded self.now.order prefix.now) }
+    {
+        if self.order.is_none() {
+            return Some(Wide::zero());
+        }
+        match prefix.filling() {
+            Filling::S1 | Filling::S2 => None,
+            Filling::S2r => self.order.of(prefix.s1r()),
+        }
     }
 }
 
-/// Keeps one floor more.
+/// Lets the floor go that counts an order, if there is one.
+fn drop_ordered(floors: &mut Vec<ScopedFloor>)
+    ensures { (w : Weighed) → All (IsWeightFloor w) floors.old.items → All (IsWeightFloor w) floors.new.items }
+{
+    if let Some(place) = floors.iter().position(|kept| !kept.order.is_none()) {
+        floors.remove(place);
+    }
+}
+
+/// Lets the oldest floor go that counts no order, but for the first one, if there is no room for one more.
+fn drop_oldest(floors: &mut Vec<ScopedFloor>)
+    ensures { (w : Weighed) → All (IsWeightFloor w) floors.old.items → All (IsWeightFloor w) floors.new.items }
+{
+    if floors.len() < KEPT {
+        return;
+    }
+    let place = if floors[1].order.is_none() { 1 } else { 2 };
+    floors.remove(place);
+}
+
+/// Makes room for a floor that counts an order, or for one that counts none.
+fn make_room(floors: &mut Vec<ScopedFloor>, counts_order: bool)
+    ensures { (w : Weighed) → All (IsWeightFloor w) floors.old.items → All (IsWeightFloor w) floors.new.items }
+{
+    if counts_order {
+        drop_ordered(floors);
+    }
+    drop_oldest(floors);
+}
+
+/// Keeps one floor more, in place of another one if there is no room, or if both count an order.
 fn keep(floors: &mut Vec<ScopedFloor>, floor: ScopedFloor) -> Result<(), AllocError>
     ensures { (w : Weighed) → All (IsWeightFloor w) floors.old.items → IsWeightFloor w floor → All (IsWeightFloor w) floors.new.items }
 {
-    make_room(floors);
+    make_room(floors, !floor.order.is_none());
     floors.push(floor)?;
     Ok(())
 }
@@ -198,13 +255,45 @@ impl Bar {
     }
 }
 
+/// How many bits the order of S1R takes; none if there is no resident.
+fn order_bits(context: &Context<'_>) -> u32 {
+    let mdps = context.reached().mdps();
+    match Halves::new(context.len(), mdps, mdps + 1) {
+        Some(halves) => halves.width(),
+        None => 0,
+    }
+}
+
+/// A scale with digits for C.16 to C.19 and room for the order of S1R (D.2), as far as sums of the weights of all players fit, those twice over,
+/// and what it costs to be left over.
+fn scale_for(context: &Context<'_>) -> Scale
+    ensures high { length context.now.reached.seats < result.base }
+{
+    let order = order_bits(context);
+    for with_floats in [true, false] {
+        for spare in [order, 0] {
+            let scale = Scale::of(context, with_floats, spare);
+            if scale.width() <= MOST_BITS {
+                return scale;
+            }
+        }
+    }
+    Scale::of(context, false, 0)
+}
+
 impl<'a> WeightFloors<'a> {
-    ghost use Rattle.dutch_pair.specs.WeightFloors.{AreOf, IsBar, IsLeast};
+    ghost use Rattle.dutch_pair.specs.WeightFloors.{AreOf, IsBar, IsLeast, IsLeastWith};
 
     /// The floors of a bracket and a shape: none so far.
     fn new(weighing: Weighing<'a>, shape: Shape) -> WeightFloors<'a>
         requires { length weighing.reached.seats < weighing.scale.base }
-        ensures { result ≡ record { facts = weighing.entry.facts; reached = weighing.entry.reached; shape = shape; scale = weighing.entry.scale } }
+        ensures { result ≡ record {
+          facts = weighing.entry.facts;
+          reached = weighing.entry.reached;
+          lower = weighing.entry.lower;
+          shape = shape;
+          scale = weighing.entry.scale;
+        } }
     {
         let alloc = weighing.context().alloc();
         WeightFloors {
@@ -215,40 +304,30 @@ impl<'a> WeightFloors<'a> {
         }
     }
 
-    /// Weighs a bracket's pairs and downfloaters for floors of a shape, of which there are none so far; none if a weight does not fit. It takes
-    /// steps with the square of the number of players.
+    /// Weighs a bracket's pairs and downfloaters on a scale for floors of a shape, of which there are none so far; none if a weight does not
+    /// fit. It takes steps with the square of the number of players.
     pub(crate) fn read(
         context: &'a Context<'a>,
         shape: Shape,
-        with_floats: bool,
+        scale: Scale,
     ) -> Result<Option<WeightFloors<'a>>, AllocError>
-        ensures { IfOk result (λ found. IfSome found (AreOf context.now.facts context.now.reached shape)) }
+        requires high { length context.now.reached.seats < scale.base }
+        ensures { IfOk result (λ found. IfSome found (AreOf context.now.facts context.now.reached context.now.lower shape)) }
     {
-        let scale = Scale::of(context, with_floats);
         match Weighing::read(context, scale)? {
             Some(weighing) => return Ok(Some(WeightFloors::new(weighing, shape))),
             None => return Ok(None),
         }
     }
 
-    /// The same with a digit for each difference of C.16 to C.19, if there is room for that beside what a matching of all pairs comes to.
+    /// The same on a scale with as many digits as there is room for.
     pub(crate) fn weighed(
         context: &'a Context<'a>,
         shape: Shape,
     ) -> Result<Option<WeightFloors<'a>>, AllocError>
-        ensures { IfOk result (λ found. IfSome found (AreOf context.now.facts context.now.reached shape)) }
+        ensures { IfOk result (λ found. IfSome found (AreOf context.now.facts context.now.reached context.now.lower shape)) }
     {
-        if let Some(weights) = WeightFloors::read(context, shape, true)? {
-            if weights.has_room() {
-                return Ok(Some(weights));
-            }
-        }
-        WeightFloors::read(context, shape, false)
-    }
-
-    /// Whether sums of the weights of all players fit, those twice over, and what it costs to be left over.
-    fn has_room(&self) -> bool {
-        self.weighing.scale().width() <= MOST_BITS
+        WeightFloors::read(context, shape, scale_for(context))
     }
 
     /// How many steps a walk still makes before it is told more, that has made so many.
@@ -256,7 +335,31 @@ impl<'a> WeightFloors<'a> {
         self.trail.patience(self.weighing.context().len(), made)
     }
 
-    /// How many players the matchings leave over.
+    /// Over whom the matchings go: in the penultimate bracket over all lower players too (C.4), unless they are too many.
+    pub(crate) fn reach(&self) -> Reach
+        ensures { result ≡ Lower → is_penultimate self.now.reached.kind ≡ true }
+    {
+        let context = self.weighing.context();
+        let is_penultimate = context.reached().kind().is_penultimate();
+        if is_penultimate && context.len() + context.lower().len() <= MOST_REACHED {
+            Reach::Lower
+        } else {
+            Reach::Bracket
+        }
+    }
+
+    /// How many players the matchings go over.
+    pub(crate) fn size(&self) -> usize
+        ensures { result ≤ LIMIT }
+    {
+        let context = self.weighing.context();
+        match self.reach() {
+            Reach::Bracket => context.len(),
+            Reach::Lower => context.len() + context.lower().len(),
+        }
+    }
+
+    /// How many players the matchings of the bracket alone leave over.
     fn left(&self) -> usize
         ensures { result ≡ length self.now.reached.seats - 2 * self.now.shape.pairs }
     {
@@ -267,27 +370,83 @@ impl<'a> WeightFloors<'a> {
             .saturating_sub(self.shape.pairs)
     }
 
-    /// Checks a certificate for the arrangements of a scope. None says that it gives no floor.
-    fn check(&self, table: &Table, scope: &Scope) -> Result<Option<ScopedFloor>, AllocError>
+    /// Checks a certificate for the arrangements of a scope, with what an order adds. None says that it gives no floor.
+    fn check(
+        &self,
+        table: &Table,
+        scope: &Scope,
+        order: Order,
+    ) -> Result<Option<ScopedFloor>, AllocError>
+        ensures { IfOk result (λ found. IfSome found (IsWeightFloor self.now)) }
+    {
+        match self.reach() {
+            Reach::Bracket => self.check_bracket(table, scope, order),
+            Reach::Lower => self.check_lower(table, scope, order),
+        }
+    }
+
+    /// The same by matchings of all lower players too.
+    fn check_lower(
+        &self,
+        table: &Table,
+        scope: &Scope,
+        order: Order,
+    ) -> Result<Option<ScopedFloor>, AllocError>
+        requires { is_penultimate self.now.reached.kind ≡ true }
+        ensures { IfOk result (λ found. IfSome found (IsWeightFloor self.now)) }
+    {
+        let context = self.weighing.context();
+        let scoped = Scoped::new(&self.weighing, scope, Reach::Lower, &order);
+        let players = numbered_from(1, scoped.size());
+        let left = players.len() % 2;
+        let Some(floor) = table.floor(context.alloc(), &scoped, &players, left)? else {
+            return Ok(None);
+        };
+        // (who goes down may be in a pair here)
+        let floor = floor.without_left();
+        let scope = scope.copied();
+        Ok(Some(ScopedFloor {
+            scope,
+            order,
+            floor,
+        }))
+    }
+
+    /// The same by matchings of the bracket alone.
+    fn check_bracket(
+        &self,
+        table: &Table,
+        scope: &Scope,
+        order: Order,
+    ) -> Result<Option<ScopedFloor>, AllocError>
         ensures { IfOk result (λ found. IfSome found (IsWeightFloor self.now)) }
     {
         let context = self.weighing.context();
         let players = numbered_from(1, context.len());
         let left = self.left();
-        let scoped = Scoped::new(&self.weighing, scope);
+        let scoped = Scoped::new(&self.weighing, scope, Reach::Bracket, &order);
         let Some(floor) = table.floor(context.alloc(), &scoped, &players, left)? else {
             return Ok(None);
         };
         let scope = scope.copied();
-        Ok(Some(ScopedFloor { scope, floor }))
+        Ok(Some(ScopedFloor {
+            scope,
+            order,
+            floor,
+        }))
     }
 
-    /// Checks a certificate for the arrangements of a scope, and keeps its floor in place of the oldest but the first one
-    /// if there is no room. A no says that it gives none.
-    pub(crate) fn put(&mut self, table: &Table, scope: &Scope) -> Result<bool, AllocError>
+    /// Checks a certificate for the arrangements of a scope, with what an order adds, and keeps its floor in place of
+    /// another one if there is no room. A no says that it gives none.
+    pub(crate) fn put(
+        &mut self,
+        table: &Table,
+        scope: &Scope,
+        order: Order,
+    ) -> Result<bool, AllocError>
         ensures { self.new ≡ self.old }
     {
-        let Some(floor) = self.check(table, scope)? else {
+        let Some(floor) = self.check(table, scope, order)? else {
             return Ok(false);
         };
         keep(&mut self.floors, floor)?;
@@ -334,6 +493,28 @@ impl<'a> WeightFloors<'a> {
             return None;
         }
         let mdps = self.weighing.context().reached().mdps();
-        bound_behind(&kept.floor, mdps, prefix)
+        let order = kept.of_order(prefix)?;
+        bound_behind(&kept.floor, mdps, prefix)?.minus(order)
+    }
+
+    /// The same behind a beginning of which more is known of the S1R that are to come; none if the floor counts no order.
+    pub(crate) fn least_with(
+        &self,
+        place: usize,
+        prefix: &Prefix<'_>,
+        exchange: &Exchange<'_>,
+    ) -> Option<Wide>
+        ensures { IfSome result (IsLeastWith self.now prefix.now exchange.now) }
+    {
+        if place >= self.floors.len() {
+            return None;
+        }
+        let kept = &self.floors[place];
+        if kept.order.is_none() || !kept.scope.covers(prefix) {
+            return None;
+        }
+        let mdps = self.weighing.context().reached().mdps();
+        let order = kept.order.most(exchange)?;
+        bound_behind(&kept.floor, mdps, prefix)?.minus(order)
     }
 }

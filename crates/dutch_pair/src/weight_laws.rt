@@ -1,9 +1,10 @@
 // Laws of the weight of a candidate: its items that are sums, C.6 and C.8 to C.19, as the digits of one number (C.04.3). A certificate bounds
 // it for all candidates with a beginning, and that bound is a floor: a quality that none of them is better than.
-ghost use Rattle.std.specs.Prelude.{◌≡◌, ◌+◌, ◌-◌, ◌*◌, ◌<◌, ◌≤◌, ◌||◌, ℕ, List, true, false, length, nat_lt};
+ghost use Rattle.std.specs.Prelude.{◌≡◌, ◌+◌, ◌-◌, ◌*◌, ◌<◌, ◌≤◌, ◌||◌, ◌++◌, ◌%◌, ℕ, List, true, false, length, sum_by, nat_lt};
 ghost use Rattle.dual.specs.Duals.{Certificate, IsFeasible};
 ghost use Rattle.dutch_order.specs.declared.bracket.Shape.{Shape};
 ghost use Rattle.dutch_order.specs.Arrangements.{Arrangement, Fits, down};
+ghost use Rattle.dutch_order.specs.Choices.{numbers_from};
 ghost use Rattle.dutch_order.specs.Keys.{IsIn};
 ghost use Rattle.dutch_order.specs.Prefixes.{Begins, Beginning};
 ghost use Rattle.dutch_player.specs.Facts.{Facts};
@@ -14,11 +15,13 @@ ghost use Rattle.dutch_pair.specs.FloorOf.{fixed_lists, has_s1, is_uniform};
 ghost use Rattle.dutch_pair.specs.Quality.{Quality, is_better};
 ghost use Rattle.dutch_pair.specs.QualityIn.{next_in};
 ghost use Rattle.dutch_pair.specs.Reached.{IsOf, Reached, frame_of};
-ghost use Rattle.dutch_pair.specs.Round.{candidates_of, quality_of};
+ghost use Rattle.dutch_pair.specs.Round.{candidates_of, completable, downfloaters, quality_of};
 ghost use Rattle.dutch_pair.specs.Weights.{HasDigits, IsOn, IsScale, Scale, above_psd, least_weight, number_pairs, numbers, weighing, weight_of};
+ghost use Rattle.dutch_pair.specs.declared.scope.Reach.TheVariants.{Bracket, Lower};
 ghost use Rattle.dutch_pair.specs.Scopes.{Covers, Scope, costs_in};
-ghost use Rattle.dutch_pair.specs.WeightFloors.{bound_behind};
-ghost use Rattle.dual.specs.Floors.{FloorTable, IsFloor};
+ghost use Rattle.dutch_pair.specs.Orders.{Order};
+ghost use Rattle.dutch_pair.specs.WeightFloors.{added_in, bound_behind};
+ghost use Rattle.dual.specs.Floors.{FloorTable, IsFloor, extra_in};
 ghost use Rattle.dual.specs.Matchings.{cost};
 
 /// C.6, C.8 to C.19: the weight of a candidate is the sum of what each of its pairs and each of its downfloaters weighs alone.
@@ -81,15 +84,30 @@ pub fn a_beginning_has_a_floor_by_weight()
 
 /// C.6, C.8 to C.19: no candidate behind a beginning weighs less than a floor says that is for all arrangements with that
 /// beginning: its base, and what the pairs of the beginning and the moved-down players outside of S1 add, each once,
-/// without its debt.
+/// without its debt. Where the floor counts an order of S1R (D.2), a candidate weighs no less with what the members of its
+/// S1R add.
 #[tactic(auto, using(crate::proofs::WeightsBehind::weighs_more))]
 pub fn a_floor_bounds_the_weight()
     ensures { (facts : Facts) (reached : Reached) (scale : Scale) (lower : List ℕ) (shape : Shape) (a : Arrangement) → IsOf facts reached
         → Fits (frame_of facts reached) shape → IsIn a (candidates_of facts reached shape) → (b : Beginning) → Begins b a
-        → (scope : Scope) → Covers scope b → (floor : FloorTable)
-        → IsFloor (costs_in (record { weighing = record { facts = facts; reached = reached; scale = scale }; scope = scope }))
+        → (scope : Scope) → Covers scope b → (order : Order) → (floor : FloorTable)
+        → IsFloor (costs_in (record { weighing = record { facts = facts; reached = reached; lower = lower; scale = scale }; scope = scope; reach = Bracket; order = order }))
         (numbers reached) (length reached.seats - 2 * shape.pairs) floor
-        → bound_behind floor reached.mdps b ≤ floor.debt + weight_of scale (quality_of facts reached lower a) }
+        → bound_behind floor reached.mdps b ≤ floor.debt + (weight_of scale (quality_of facts reached lower a) + added_in order a) }
+{}
+
+/// C.4, C.6, C.8 to C.19: a candidate that leaves over players who can be paired out with all lower ones weighs no less
+/// than a floor says that goes over these lower players too: its base, and what the pairs of the beginning add, each once,
+/// without its debt.
+#[tactic(auto, using(crate::proofs::C04Lower::weighs_more_below))]
+pub fn a_floor_for_lower_players_bounds_the_weight()
+    ensures { (facts : Facts) (reached : Reached) (scale : Scale) (lower : List ℕ) (scope : Scope) (order : Order) (shape : Shape)
+        (a : Arrangement) → IsOf facts reached → Fits (frame_of facts reached) shape → IsIn a (candidates_of facts reached shape)
+        → (b : Beginning) → Begins b a → Covers scope b
+        → completable facts (downfloaters facts reached a ++ lower) ≡ true → (floor : FloorTable)
+        → IsFloor (costs_in (record { weighing = record { facts = facts; reached = reached; lower = lower; scale = scale }; scope = scope; reach = Lower; order = order }))
+        (numbers_from 1 (length reached.seats + length lower)) ((length reached.seats + length lower) % 2) floor
+        → floor.base + sum_by (extra_in floor) (number_pairs (fixed_lists b)) ≤ floor.debt + (weight_of scale (quality_of facts reached lower a) + added_in order a) }
 {}
 
 /// C.6 to C.19: a quality is better than a candidate that weighs more and has no better value of the next bracket.

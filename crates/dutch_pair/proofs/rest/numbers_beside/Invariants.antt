@@ -1,10 +1,10 @@
 -- The numbers that were put are those of players, and no more than were looked at.
 use Rattle.std.proofs.Common.{◌≤◌, All, length}
-use Rattle.dutch_pair.specs.WeightTables.{IsNumber}
+use Rattle.dutch_pair.specs.Scopes.{IsReached}
 use Rattle.dutch_pair.proofs.rest.numbers_beside.Given as goal
 
 abbrev pub invariant-loop-above : goal.invariant-loop-above
 invariant-loop-above l = record {
-  inside : All (IsNumber l.context.reached) l.numbers.items;
+  inside : All (IsReached l.scoped) l.numbers.items;
   few : length l.numbers.items ≤ l.above;
 }

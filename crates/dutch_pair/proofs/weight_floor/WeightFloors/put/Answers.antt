@@ -5,7 +5,13 @@ use Rattle.dutch_pair.proofs.weight_floor.WeightFloors.put.Goals as goal
 
 pub invariant_of-self : goal.invariant_of-self
 invariant_of-self c =
-    let w : Weighed = record { facts = c.self.inside.weighing.facts; reached = c.self.inside.weighing.reached; shape = c.self.inside.shape; scale = c.self.inside.weighing.scale } in
+    let w : Weighed = record {
+      facts = c.self.inside.weighing.facts;
+      reached = c.self.inside.weighing.reached;
+      lower = c.self.inside.weighing.lower;
+      shape = c.self.inside.shape;
+      scale = c.self.inside.weighing.scale;
+    } in
     let is = subst (λ (o : Option ScopedFloor). IfSome o (IsWeightFloor c.args.self.now)) c.in-Some.is c.in_ok-floor.ensures in
     record {
       high = c.self.invariant.high;
@@ -14,7 +20,13 @@ invariant_of-self c =
 
 pub invariant_of-self-2 : goal.invariant_of-self-2
 invariant_of-self-2 c =
-    let w : Weighed = record { facts = c.self.inside.weighing.facts; reached = c.self.inside.weighing.reached; shape = c.self.inside.shape; scale = c.self.inside.weighing.scale } in
+    let w : Weighed = record {
+      facts = c.self.inside.weighing.facts;
+      reached = c.self.inside.weighing.reached;
+      lower = c.self.inside.weighing.lower;
+      shape = c.self.inside.shape;
+      scale = c.self.inside.weighing.scale;
+    } in
     let is = subst (λ (o : Option ScopedFloor). IfSome o (IsWeightFloor c.args.self.now)) c.in-Some.is c.in_ok-floor.ensures in
     record {
       high = c.self.invariant.high;

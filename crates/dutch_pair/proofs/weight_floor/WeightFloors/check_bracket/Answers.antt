@@ -4,18 +4,17 @@ use Rattle.dual.specs.Floors.{FloorTable, IsFloor}
 use Rattle.dutch_order.specs.Choices.{numbers_from}
 use Rattle.dutch_order.proofs.Members.{length-numbers}
 use Rattle.dutch_pair.specs.Reached.{Reached}
-use Rattle.dutch_pair.specs.Scopes.{Scope, Scoped, costs_in}
+use Rattle.dutch_pair.specs.Scopes.{IsReached, Scope, Scoped, costs_in}
 use Rattle.dutch_pair.specs.WeightFloors.{IsWeightFloor, Weighed}
-use Rattle.dutch_pair.specs.WeightTables.{IsNumber}
 use Rattle.dutch_pair.proofs.WeightsBehind.{floor_put, numbers_known}
-use Rattle.dutch_pair.proofs.weight_floor.WeightFloors.check.Goals as goal
+use Rattle.dutch_pair.proofs.weight_floor.WeightFloors.check_bracket.Goals as goal
 
 pub floor-requires-clause-known : goal.floor-requires-clause-known
 floor-requires-clause-known c =
     let n : ℕ = length c.self.inside.weighing.reached.seats in
     let count : c.len.result ≡ n = c.len.ensures.value ∙ ap (λ (r : Reached). length r.seats) c.context-context.ensures.reached in
     let same : numbers_from 1 n ≡ c.deref.result.now = ap (numbers_from 1) (sym count) ∙ sym c.numbered_from-players.ensures.items ∙ sym c.deref.ensures.0 in
-    subst (λ (s : Scoped). All (IsNumber s.weighing.reached) c.deref.result.now) (sym c.new-scoped.ensures)
+    subst (λ (s : Scoped). All (IsReached s) c.deref.result.now) (sym c.new-scoped.ensures)
     (subst (λ (xs : List ℕ). All (λ a. (0 < a) × (a ≤ n)) xs) same (numbers_known n))
 
 pub floor-requires-clause-some : goal.floor-requires-clause-some
@@ -35,10 +34,16 @@ returns c =
     let n : ℕ = length c.self.inside.weighing.reached.seats in
     let count : c.len.result ≡ n = c.len.ensures.value ∙ ap (λ (r : Reached). length r.seats) c.context-context.ensures.reached in
     let same : c.deref.result.now ≡ numbers_from 1 n = c.deref.ensures.0 ∙ c.numbered_from-players.ensures.items ∙ ap (numbers_from 1) count in
-    let w : Weighed = record { facts = c.self.inside.weighing.facts; reached = c.self.inside.weighing.reached; shape = c.self.inside.shape; scale = c.self.inside.weighing.scale } in
+    let w : Weighed = record {
+      facts = c.self.inside.weighing.facts;
+      reached = c.self.inside.weighing.reached;
+      lower = c.self.inside.weighing.lower;
+      shape = c.self.inside.shape;
+      scale = c.self.inside.weighing.scale;
+    } in
     let left = c.left-left.ensures ∙ ap (λ (v : Weighed). length v.reached.seats - 2 * v.shape.pairs) (sym c.self.view_is) in
     let is = subst (λ (o : Option FloorTable). IfSome o (IsFloor (costs_in c.new-scoped.result) c.deref.result.now c.left-left.result)) c.in-Some.is c.in_ok-floor.ensures.least in
     let held = subst (λ (s : Scoped). IsFloor (costs_in s) c.deref.result.now c.left-left.result c.in-Some.floor) c.new-scoped.ensures is in
-    let put = floor_put w c.args.scope.now c.deref.result.now c.left-left.result c.in-Some.floor same left held in
-    subst (λ (v : Weighed). IsWeightFloor v (record { scope = c.copied-scope.result; floor = c.in-Some.floor })) c.self.view_is
-    (subst (λ (s : Scope). IsWeightFloor w (record { scope = s; floor = c.in-Some.floor })) (sym c.copied-scope.ensures) put)
+    let put = floor_put w c.args.scope.now c.args.order c.deref.result.now c.left-left.result c.in-Some.floor same left held in
+    subst (λ (v : Weighed). IsWeightFloor v (record { scope = c.copied-scope.result; order = c.args.order; floor = c.in-Some.floor })) c.self.view_is
+    (subst (λ (s : Scope). IsWeightFloor w (record { scope = s; order = c.args.order; floor = c.in-Some.floor })) (sym c.copied-scope.ensures) put)
