@@ -1,13 +1,13 @@
 -- What is written of a checked certificate, and that it is a floor.
-use Rattle.std.proofs.Common.{◌≡◌, ◌≢◌, ℕ, ◌+◌, ◌-◌, ◌*◌, ◌<◌, ◌≤◌, Bool, true, cond, nat_eq, List, [], ◌∷◌, All, length}
-use Rattle.std.proofs.Common.{take, drop, get_or, set, sum_by, refl, inl, inr, sym, ap, subst, ◌∙◌, arith}
+use Rattle.std.proofs.Common.{◌≡◌, ◌≢◌, ℕ, ◌+◌, ◌-◌, ◌*◌, ◌%◌, ◌<◌, ◌≤◌, Bool, true, cond, nat_eq, List, [], ◌∷◌, All, length}
+use Rattle.std.proofs.Common.{take, drop, get_or, set, sum_by, Option, Some, None, IfSome, IsSome, Result, Ok, Err, IfOk, refl, inl, inr, sym, ap, subst, ◌∙◌, arith}
 use Rattle.std.proofs.lemmas.Bool.{cases_Bool, cases_lt, eqb-true, eq-eqb, lt-ltb}
 use Rattle.std.proofs.lemmas.List.{get_or-set_same, get_or-set_other}
 use Rattle.std.proofs.lemmas.List.Elements.{All-more, All-weaker, All-head, All-tail}
 use Rattle.std.proofs.lemmas.List.Sums.{sum_by-cons, sum_by-drop_more, sum_by-le-sum_by}
-use Rattle.std.proofs.Math.Nat.{add-mul, mul-le-mul_right}
+use Rattle.std.proofs.Math.Nat.{add-mul, mul-add, mul-le-mul_right}
 use Rattle.dual.specs.Checks.{HasSlacks}
-use Rattle.dual.specs.Duals.{Certificate, IsFeasible, slack, slack_left, losses, pairs_of}
+use Rattle.dual.specs.Duals.{Certificate, GivesEvenly, IsFeasible, slack, slack_left, losses, pairs_of}
 use Rattle.dual.specs.Floors.{FloorTable, extra_in, extra_left_in, IsFloor, IsFloorOf, TellsSlack, TellsSlackLeft}
 use Rattle.dual.specs.Matchings.{Costs, IsPartOf, in_both}
 use Rattle.dual.proofs.Sums.{sum_plus, one, one_itself, of_member}
@@ -172,6 +172,43 @@ floor_least costs players left certificate floor feasible told = λ pairs out ma
       sum_within (extra_left_in floor) (slack_left costs certificate) known_left out part_left
           (left_told costs players certificate floor told.left_over out (λ x some. omega (arith, some, matching.whole (one x))) matching.may_be_left),
     )
+
+-- where a pair is given twice what a player left over is, it comes to the same for each number of pairs and of players left over
+given_same : (certificate : Certificate) → GivesEvenly certificate → (pairs left count : ℕ) → 2 * pairs + left ≡ count
+    → certificate.given * pairs + certificate.given_left * left ≡ certificate.given_left * count
+given_same certificate even pairs left count e =
+    let gift : ℕ = certificate.given_left in
+    let twice : certificate.given * pairs ≡ gift * pairs + gift * pairs =
+    ap (λ n. n * pairs) (let two : certificate.given ≡ gift + gift = omega (arith, even) in two) ∙ add-mul gift gift pairs in
+    let all : gift * count ≡ gift * (pairs + (pairs + left)) = ap (λ n. gift * n) (let n : count ≡ pairs + (pairs + left) = omega (arith, e) in n) in
+    omega (arith, twice, all, mul-add gift pairs (pairs + left), mul-add gift pairs left)
+
+-- so the floor bounds all matchings, however many they leave over
+pub floor_for_each : (costs : Costs) (players : List ℕ) (certificate : Certificate) (floor : FloorTable) → GivesEvenly certificate
+    → IsFeasible costs players certificate → IsFloorOf costs players (length players % 2) certificate floor
+    → (left : ℕ) → IsFloor costs players left floor
+floor_for_each costs players certificate floor even feasible told left = λ pairs out matching e known known_left part part_left.
+    let here : floor.debt ≡ losses certificate players (pairs_of players left) left =
+    let half : 2 * pairs_of players (length players % 2) + length players % 2 ≡ length players = omega arith in
+    let number : 2 * pairs_of players left + left ≡ length players = omega (arith, counted costs players pairs out matching, e) in
+    omega (
+      arith,
+      told.debt,
+      given_same certificate even (pairs_of players (length players % 2)) (length players % 2) (length players) half,
+      given_same certificate even (pairs_of players left) left (length players) number,
+    ) in
+    floor_least costs players left certificate floor feasible
+    (record { base = told.base; debt = here; pairs = told.pairs; left_over = told.left_over }) pairs out matching e known known_left part part_left
+
+pub for_each_left : {E : Type 0} (costs : Costs) (players : List ℕ) (certificate : Certificate) (below : Type 0) → GivesEvenly certificate
+    → (result : Result (Option FloorTable) E)
+    → IfOk result (λ found. (IsSome found → IsFeasible costs players certificate × below) × (IsFeasible costs players certificate × below → IsSome found))
+    → IfOk result (λ found. IfSome found (IsFloorOf costs players (length players % 2) certificate))
+    → IfOk result (λ found. IfSome found (λ floor. (left : ℕ) → IsFloor costs players left floor))
+for_each_left costs players certificate below even (Err e) whole told = tt
+for_each_left costs players certificate below even (Ok None) whole told = tt
+for_each_left costs players certificate below even (Ok (Some floor)) whole told =
+    floor_for_each costs players certificate floor even (whole.0 refl).0 told
 
 -- rows of a square, as a floor has them, tell the slacks
 pub rows_tell : (costs : Costs) (players : List ℕ) (certificate : Certificate) (floor : FloorTable) → All (λ v. v < floor.size) players

@@ -63,6 +63,10 @@ losses certificate players pairs left =
 abbrev pub pairs_of : List ℕ → ℕ → ℕ
 pairs_of players left = (length players - left) / 2
 
+-- a pair is given twice what a player left over is: so it comes to the same however many are left over
+abbrev pub GivesEvenly : Certificate → Type 0
+GivesEvenly certificate = certificate.given ≡ 2 * certificate.given_left
+
 -- the value of a certificate for so many players left over, with the slack of known pairs; 0 where it is negative
 abbrev pub value : Costs → Certificate → List ℕ → ℕ → List (ℕ × ℕ) → ℕ
 value costs certificate players left known =

@@ -1,7 +1,7 @@
 // The check of a certificate, pair by pair: what each pair, and each player left over, could bear beyond its potentials.
-ghost use Rattle.std.specs.Prelude.{◌≡◌, ◌+◌, ◌*◌, ◌^◌, ◌<◌, ◌≤◌, ◌↔◌, ℕ, true, All, IfOk, IfSome, IsSome, IsTrue, SomeIff};
+ghost use Rattle.std.specs.Prelude.{◌≡◌, ◌+◌, ◌*◌, ◌^◌, ◌<◌, ◌≤◌, ◌%◌, ◌↔◌, ℕ, true, All, IfOk, IfSome, IsSome, IsTrue, SomeIff};
 ghost use Rattle.std.specs.Prelude.{length, sum_by, slice_index};
-ghost use Rattle.dual.specs.Duals.{IsFeasible, bears_left, slack, slack_left, toll};
+ghost use Rattle.dual.specs.Duals.{GivesEvenly, IsFeasible, bears_left, slack, slack_left, toll};
 ghost use Rattle.dual.specs.Floors.{IsFloor, IsFloorOf, IsBelow};
 ghost use Rattle.dual.specs.Checks.{CanBear, CanBearLeft, AllBear, HasSlacks};
 ghost use Rattle.dual.specs.Tables.{toll_of, certificate_in};
@@ -204,5 +204,39 @@ impl Table {
             extra,
             extra_left,
         }))
+    }
+
+    // A pair is given twice what a player left over is: so it comes to the same however many are left over.
+    fn gives_evenly(&self) -> bool
+        ensures { IsTrue result ↔ GivesEvenly (certificate_in self.now) }
+    {
+        match self.given.minus(self.given_left) {
+            Some(rest) => rest == self.given_left,
+            None => false,
+        }
+    }
+
+    /// The floor that the certificate is for all matchings, however many they leave over. There is none if the certificate
+    /// gives a pair another thing than twice what it gives a player left over, if it is not feasible, or if a sum of its
+    /// numbers is 2^512 or more.
+    #[tactic(auto, using(crate::proofs::FloorLemmas::for_each_left))]
+    pub fn floor_for_any<R: Rule>(
+        &self,
+        alloc: Global,
+        rule: &R,
+        players: &[u16],
+    ) -> Result<Option<Floor>, AllocError>
+        requires known { All (R.knows rule.now) players.now }
+        requires few { length players.now ≤ MOST }
+        ensures whole { IfOk result (λ found. IsSome found ↔ (GivesEvenly (certificate_in self.now)
+            × IsFeasible (R.costs rule.now) players.now (certificate_in self.now)
+            × IsBelow (R.costs rule.now) players.now (length players.now % 2) (certificate_in self.now) (2 ^ 512))) }
+        ensures value { IfOk result (λ found. IfSome found (IsFloorOf (R.costs rule.now) players.now (length players.now % 2) (certificate_in self.now))) }
+        ensures least { IfOk result (λ found. IfSome found (λ floor. (left : ℕ) → IsFloor (R.costs rule.now) players.now left floor)) }
+    {
+        if !self.gives_evenly() {
+            return Ok(None);
+        }
+        self.floor(alloc, rule, players, players.len() % 2)
     }
 }

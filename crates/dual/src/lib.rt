@@ -4,7 +4,8 @@
 //! A `Table` holds a certificate: a potential for each player, and priced sets of players. `Table::floor` checks it and
 //! makes a `Floor` of it: what every matching costs at least, beside what is owed, and what each pair and each player
 //! left over adds that is known of it. Of a certificate that is not feasible no floor is made; of one that gives away
-//! more than it gains there is one, and what is known may pay for it. `tells_incompletable` checks a barrier (after
+//! more than it gains there is one, and what is known may pay for it. `Table::floor_for_any` makes one for matchings that
+//! leave any number over. `tells_incompletable` checks a barrier (after
 //! Tutte and Berge), `least_left` says how many it leaves over, `tells_completable` checks a witness. Whoever finds them
 //! need not be trusted.
 //!

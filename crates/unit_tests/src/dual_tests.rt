@@ -1,7 +1,7 @@
 // Certificates, barriers and witnesses of a few players, worked by hand.
 ghost use Rattle.std.specs.Prelude.{◌≤◌, IfOk, length};
 
-use dual::{MarkedSet, Rule, Table, tells_completable, tells_incompletable};
+use dual::{Floor, MarkedSet, Rule, Table, tells_completable, tells_incompletable};
 use std::alloc::Global;
 use std::test::Fail;
 use wide::Wide;
@@ -290,5 +290,56 @@ fn some_certificates_are_no_floor(rt: HostRuntime) -> Result<(), Fail> {
     }
     let none = great.floor(rt.alloc(), &rule, &three, 1)?;
     assert!(rt; none.is_none());
+    Ok(())
+}
+
+// The base of a floor and its debt; none where there is no floor.
+fn sums(floor: &Option<Floor>) -> Option<(Wide, Wide)> {
+    match floor {
+        Some(floor) => Some((floor.base(), floor.debt())),
+        None => None,
+    }
+}
+
+// 1, 2 and 3 meet each other for 4, and meet 4 for 10; to leave 3 over costs 2. A certificate that gives a pair 10, and a player left over 5,
+// gains 34 of the four and owes 20, whether nobody is left over or two are; of 1, 2 and 3 it gains 21 and owes 15.
+#[test]
+fn as_much_is_owed_however_many_are_left_over(rt: HostRuntime) -> Result<(), Fail> {
+    let four = [1, 2, 3, 4];
+    let rule = Fours {
+        near: 4,
+        leaves: 3,
+        left: 2,
+    };
+    let even = table(rt.alloc(), &[0, 7, 7, 7, 13], (10, 5), (&THREE, 0))?;
+    let all = Some((Wide::from_u64(34), Wide::from_u64(20)));
+    let for_any = even.floor_for_any(rt.alloc(), &rule, &four)?;
+    assert_eq!(rt; sums(&for_any), all);
+    for left in [0, 2] {
+        let floor = even.floor(rt.alloc(), &rule, &four, left)?;
+        assert_eq!(rt; sums(&floor), all, "{left} left over");
+    }
+    let three = Some((Wide::from_u64(21), Wide::from_u64(15)));
+    let for_any = even.floor_for_any(rt.alloc(), &rule, &four[..3])?;
+    assert_eq!(rt; sums(&for_any), three);
+    Ok(())
+}
+
+// One that gives a pair more or less than twice what it gives a player left over is a floor where nobody is left over, but none for any number.
+#[test]
+fn what_gives_unevenly_is_no_floor_for_any_number(rt: HostRuntime) -> Result<(), Fail> {
+    let four = [1, 2, 3, 4];
+    let rule = Fours {
+        near: 4,
+        leaves: 3,
+        left: 2,
+    };
+    for given in [(11, 5), (10, 6)] {
+        let uneven = table(rt.alloc(), &[0, 7, 7, 7, 13], given, (&THREE, 0))?;
+        let floor = uneven.floor(rt.alloc(), &rule, &four, 0)?;
+        assert!(rt; floor.is_some());
+        let for_any = uneven.floor_for_any(rt.alloc(), &rule, &four)?;
+        assert!(rt; for_any.is_none());
+    }
     Ok(())
 }
