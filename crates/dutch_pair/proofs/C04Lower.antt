@@ -44,7 +44,7 @@ use Rattle.dutch_pair.proofs.ScopedMatchings.{is_matching_in, s1_moved_down}
 
 -- ---- what holds of all members
 
-one_by_one : {X : Type 0} (P : X → Type 0) (xs : List X) → All P xs → AllByRecursion P xs
+pub one_by_one : {X : Type 0} (P : X → Type 0) (xs : List X) → All P xs → AllByRecursion P xs
 one_by_one P [] all = tt
 one_by_one P (x ∷ xs) all = (All-head P x xs all, one_by_one P xs (All-tail P x xs all))
 
@@ -52,7 +52,7 @@ both_parts : (P : ℕ → Type 0) (xs ys : List ℕ) → AllByRecursion P (xs ++
 both_parts P [] ys all = (tt, all)
 both_parts P (x ∷ xs) ys all = let rest = both_parts P xs ys all.1 in ((all.0, rest.0), rest.1)
 
-sums_same : (f g : ℕ → ℕ) (xs : List ℕ) → AllByRecursion (λ x. f x ≡ g x) xs → sum_by f xs ≡ sum_by g xs
+pub sums_same : (f g : ℕ → ℕ) (xs : List ℕ) → AllByRecursion (λ x. f x ≡ g x) xs → sum_by f xs ≡ sum_by g xs
 sums_same f g [] all = refl
 sums_same f g (x ∷ xs) all = omega (arith, sum_by-cons f x xs, sum_by-cons g x xs, all.0, sums_same f g xs all.1)
 

@@ -1,7 +1,8 @@
 -- The pairs of a candidate, and those whom it leaves over, are a matching of the numbers of its bracket that has the pairs of each beginning
 -- of it. So a certificate bounds its weight, and a quality that weighs no more than the bound is a floor.
-use Rattle.std.proofs.Common.{◌≡◌, ℕ, ◌+◌, ◌-◌, ◌*◌, ◌<◌, ◌≤◌, ◌⊎◌, Bool, true, false, not, ◌||◌, List, [], ◌∷◌, ◌++◌, All, length, sum_by, inl, inr, refl, sym, ap, subst, ◌∙◌, arith}
+use Rattle.std.proofs.Common.{◌≡◌, ℕ, ◌+◌, ◌-◌, ◌*◌, ◌≤◌, ◌⊎◌, Bool, true, false, not, ◌||◌, List, [], ◌∷◌, ◌++◌, All, length, sum_by, Option, None, Some, inl, inr, refl, sym, ap, subst, ◌∙◌, arith}
 use Rattle.std.specs.List.{AllByRecursion, zip}
+use Rattle.std.specs.Option.{ForSome}
 use Rattle.std.proofs.lemmas.Bool.{and_parts}
 use Rattle.std.proofs.lemmas.List.{length-map}
 use Rattle.std.proofs.lemmas.List.Elements.{All-nil, All-cons}
@@ -9,30 +10,29 @@ use Rattle.std.proofs.lemmas.List.Sums.{sum_by-cons, sum_by-append}
 use Rattle.dual.specs.Duals.{Certificate, IsFeasible}
 use Rattle.dual.specs.Matchings.{IsMatching, IsPartOf, in_both}
 use Rattle.dual.proofs.TableLemmas.{least}
-use Rattle.dual.proofs.WeakDuality.{counted}
 use Rattle.dutch_order.specs.declared.bracket.Shape.{Shape}
 use Rattle.dutch_order.specs.Arrangements.{Arrangement, Fits, arrangements, down, is_legal, leaves_one}
 use Rattle.dutch_order.specs.Choices.{all_meet, numbers_from}
 use Rattle.dutch_order.specs.Keys.{IsIn}
 use Rattle.dutch_order.specs.Prefixes.{Begins, Beginning, GoesOn}
-use Rattle.dutch_order.proofs.Members.{length-numbers}
 use Rattle.dutch_player.specs.Facts.{Facts}
 use Rattle.dutch_pair.specs.Beginnings.{HasPairsOf}
 use Rattle.dutch_pair.specs.ColourFloors.{beyond}
 use Rattle.dutch_pair.specs.declared.outlook.Outlook.{Outlook}
 use Rattle.dutch_pair.specs.FloorOf.{fixed_lists, has_s1, is_uniform}
 use Rattle.dutch_pair.specs.Outlooks.{HasNoBetter, IsOutlook, awaited}
-use Rattle.dutch_pair.specs.Quality.{Quality, is_better}
+use Rattle.dutch_pair.specs.Quality.{NextValue, Quality, is_better}
 use Rattle.dutch_pair.specs.QualityIn.{next_in}
 use Rattle.dutch_pair.specs.Reached.{IsOf, Reached, ends_round, frame_of, number_may_be_left, numbers_meet}
 use Rattle.dutch_pair.specs.Round.{candidates_of, quality_of}
 use Rattle.dutch_pair.specs.Seated.{score_at}
-use Rattle.dutch_pair.specs.Weights.{HasDigits, IsOn, IsScale, Scale, above_psd, least_weight, number_pairs, numbers, weighing, weight_of}
+use Rattle.dutch_pair.specs.WeightFloors.{HasNoBetterOn}
+use Rattle.dutch_pair.specs.Weights.{HasDigits, IsOn, IsScale, IsScaleFor, NextScale, Scale, least_weight, number_pairs, numbers, weighing, weight_above, weight_of}
 use Rattle.dutch_pair.proofs.AllLemmas.{all_join}
 use Rattle.dutch_pair.proofs.ArrangementParts.{parts_of}
-use Rattle.dutch_pair.proofs.C06ToC19Weights.{candidate_digits, candidate_ordered, candidate_weighs}
+use Rattle.dutch_pair.proofs.C06ToC19Weights.{IsSmallBelow, candidate_digits, candidate_ordered, candidate_weighs}
 use Rattle.dutch_pair.proofs.C07Outlook.{awaited_holds}
-use Rattle.dutch_pair.proofs.Everybody.{arranged}
+use Rattle.dutch_pair.proofs.Everybody.{arranged, bracket_whole}
 use Rattle.dutch_pair.proofs.FloorOfBeginning.{begun_pairs}
 use Rattle.dutch_pair.proofs.GhostPairs.{down_count}
 use Rattle.dutch_pair.proofs.LegalPairs.{in_passes, legal_of}
@@ -47,13 +47,14 @@ pub each : {X : Type 0} (P : X → Type 0) (xs : List X) → AllByRecursion P xs
 each P [] all = All-nil P
 each P (x ∷ xs) all = All-cons P x xs all.0 (each P xs all.1)
 
-zip_sum : (w : ℕ → ℕ) (xs ys : List ℕ) → length xs ≡ length ys → sum_by (in_both w) (zip xs ys) ≡ total w xs + total w ys
+pub zip_sum : (w : ℕ → ℕ) (xs ys : List ℕ) → length xs ≡ length ys → sum_by (in_both w) (zip xs ys) ≡ total w xs + total w ys
 zip_sum w [] [] same = refl
 zip_sum w [] (y ∷ ys) same = absurd (omega arith)
 zip_sum w (x ∷ xs) [] same = absurd (omega arith)
 zip_sum w (x ∷ xs) (y ∷ ys) same = omega (arith, sum_by-cons (in_both w) (x, y) (zip xs ys), zip_sum w xs ys (omega arith))
 
-zip_meets : (meets : ℕ → ℕ → Bool) (xs ys : List ℕ) → all_meet meets xs ys ≡ true → AllByRecursion (λ (pair : ℕ × ℕ). meets pair.0 pair.1 ≡ true) (zip xs ys)
+pub zip_meets : (meets : ℕ → ℕ → Bool) (xs ys : List ℕ) → all_meet meets xs ys ≡ true
+    → AllByRecursion (λ (pair : ℕ × ℕ). meets pair.0 pair.1 ≡ true) (zip xs ys)
 zip_meets meets [] ys e = tt
 zip_meets meets (x ∷ xs) [] e = tt
 zip_meets meets (x ∷ xs) (y ∷ ys) e =
@@ -109,6 +110,11 @@ part_of b a begins =
       );
     }
 
+-- a value of the next bracket that is no better is none on a scale either
+pub no_better_on : (next : Option NextScale) (q : Quality) (value : NextValue) → HasNoBetter q value → HasNoBetterOn next q value
+no_better_on None q value better = better
+no_better_on (Some next) q value better = tt {0}
+
 module _ (facts : Facts) (reached : Reached) (scale : Scale) (lower : List ℕ) (shape : Shape) (a : Arrangement) (of' : IsOf facts reached)
     (fits : Fits (frame_of facts reached) shape) (m : IsIn a (candidates_of facts reached shape)) where
   among : length (frame_of facts reached).scores ≡ length reached.seats
@@ -155,41 +161,41 @@ module _ (facts : Facts) (reached : Reached) (scale : Scale) (lower : List ℕ) 
       (down (frame_of facts reached) a) candidate_is_matching (part_of b a begins) left_over in
       omega (arith, bound, candidate_weighs facts reached scale lower a)
 
-  numbers_counted : length (numbers reached) ≡ length reached.seats
-  numbers_counted = length-numbers 1 (length reached.seats)
+  -- what C.7 says of a candidate is small, if a scale measures it
+  module _ (scaled : IsScaleFor facts reached lower shape scale)
+      (next_small : ForSome scale.next (IsSmallBelow (quality_of facts reached lower a))) where
+    pub digits_are_small : HasDigits scale (quality_of facts reached lower a)
+    digits_are_small =
+        candidate_digits facts reached scale lower a
+        (λ w. bracket_whole w facts reached shape a (let within = of'.sound.within in omega (arith, within, among))
+        (legal_of facts reached shape a m).arranged)
+        scaled.high scaled.floats next_small (λ n e. (scaled.next n e).high)
 
-  pub digits_are_small : length reached.seats < scale.base → HasDigits scale (quality_of facts reached lower a)
-  digits_are_small high =
-      candidate_digits facts reached scale lower a (omega (
-        arith,
-        high,
-        length-numbers 1 (length reached.seats),
-        counted (weighing facts reached scale) (numbers reached) (number_pairs a) (down (frame_of facts reached) a) candidate_is_matching,
-      ))
+    -- C.6 to C.19: a quality that weighs no more than the bound, with no worse value of the next bracket than a candidate has, is a floor
+    pub bound_is_floor : (b : Arrangement) → HasPairsOf b a → (certificate : Certificate)
+        → IsFeasible (weighing facts reached scale) (numbers reached) certificate
+        → IsScale scale → (f : Quality) → IsOn scale f → weight_of scale f ≤ least_weight facts reached scale certificate shape b
+        → HasNoBetterOn scale.next (quality_of facts reached lower a) (next_in f) → is_better (quality_of facts reached lower a) f ≡ false
+    bound_is_floor b begins certificate feasible falls f on weighs next =
+        not_lighter scale falls f (quality_of facts reached lower a) on (candidate_ordered facts reached scale lower a next_small) digits_are_small
+        (omega (arith, weighs, weighs_no_less b begins certificate feasible)) next
 
-  -- C.6 to C.19: a quality that weighs no more than the bound, with no worse value of the next bracket than a candidate has, is a floor
-  pub bound_is_floor : (b : Arrangement) → HasPairsOf b a → (certificate : Certificate) → IsFeasible (weighing facts reached scale) (numbers reached) certificate
-      → IsScale scale → length reached.seats < scale.base → (f : Quality) → IsOn scale f → weight_of scale f ≤ least_weight facts reached scale certificate shape b
-      → HasNoBetter (quality_of facts reached lower a) (next_in f) → is_better (quality_of facts reached lower a) f ≡ false
-  bound_is_floor b begins certificate feasible falls high f on weighs next =
-      not_lighter scale falls f (quality_of facts reached lower a) on (candidate_ordered facts reached scale lower a) (digits_are_small high)
-      (omega (arith, weighs, weighs_no_less b begins certificate feasible)) next
+    -- C.6: and one above whose PSD the bound lies, whatever the next bracket can be
+    pub bound_is_above : (b : Arrangement) → HasPairsOf b a → (certificate : Certificate)
+        → IsFeasible (weighing facts reached scale) (numbers reached) certificate
+        → IsScale scale → (f : Quality) → IsOn scale f → weight_above scale f ≤ least_weight facts reached scale certificate shape b
+        → is_better (quality_of facts reached lower a) f ≡ false
+    bound_is_above b begins certificate feasible falls f on weighs =
+        behind_psd scale falls f (quality_of facts reached lower a) on (candidate_ordered facts reached scale lower a next_small) digits_are_small
+        (omega (arith, weighs, weighs_no_less b begins certificate feasible))
 
-  -- C.6: and one above whose PSD the bound lies, whatever the next bracket can be
-  pub bound_is_above : (b : Arrangement) → HasPairsOf b a → (certificate : Certificate) → IsFeasible (weighing facts reached scale) (numbers reached) certificate
-      → IsScale scale → length reached.seats < scale.base → (f : Quality) → IsOn scale f
-      → weight_of scale (above_psd scale f) ≤ least_weight facts reached scale certificate shape b → is_better (quality_of facts reached lower a) f ≡ false
-  bound_is_above b begins certificate feasible falls high f on weighs =
-      behind_psd scale falls f (quality_of facts reached lower a) on (candidate_ordered facts reached scale lower a) (digits_are_small high)
-      (omega (arith, weighs, weighs_no_less b begins certificate feasible))
-
-  -- the same behind a beginning, with what the next bracket is known to be at best
-  pub beginning_has_floor : (outlook : Outlook) → IsOutlook facts reached lower shape outlook → (b : Beginning) → Begins b a
-      → (has_s1 b.filling || is_uniform facts reached shape) ≡ true → (certificate : Certificate) → IsFeasible (weighing facts reached scale) (numbers reached) certificate
-      → IsScale scale → length reached.seats < scale.base → (f : Quality) → IsOn scale f
-      → weight_of scale f ≤ least_weight facts reached scale certificate shape (fixed_lists b)
-      → next_in f ≡ awaited facts reached shape outlook b.filling (fixed_lists b).s1 → is_better (quality_of facts reached lower a) f ≡ false
-  beginning_has_floor outlook is b begins known certificate feasible falls high f on weighs next =
-      bound_is_floor (fixed_lists b) (begun_pairs b.filling b.lists a begins) certificate feasible falls high f on weighs
-      (subst (HasNoBetter (quality_of facts reached lower a)) (sym next)
-      (awaited_holds facts reached lower shape outlook of' is b.filling b.lists a (legal_of facts reached shape a m).arranged begins known))
+    -- the same behind a beginning, with what the next bracket is known to be at best
+    pub beginning_has_floor : (outlook : Outlook) → IsOutlook facts reached lower shape outlook → (b : Beginning) → Begins b a
+        → (has_s1 b.filling || is_uniform facts reached shape) ≡ true → (certificate : Certificate)
+        → IsFeasible (weighing facts reached scale) (numbers reached) certificate
+        → IsScale scale → (f : Quality) → IsOn scale f → weight_of scale f ≤ least_weight facts reached scale certificate shape (fixed_lists b)
+        → next_in f ≡ awaited facts reached shape outlook b.filling (fixed_lists b).s1 → is_better (quality_of facts reached lower a) f ≡ false
+    beginning_has_floor outlook is b begins known certificate feasible falls f on weighs next =
+        bound_is_floor (fixed_lists b) (begun_pairs b.filling b.lists a begins) certificate feasible falls f on weighs
+        (no_better_on scale.next (quality_of facts reached lower a) (next_in f) (subst (HasNoBetter (quality_of facts reached lower a)) (sym next)
+        (awaited_holds facts reached lower shape outlook of' is b.filling b.lists a (legal_of facts reached shape a m).arranged begins known)))

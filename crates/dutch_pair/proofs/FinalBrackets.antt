@@ -21,7 +21,7 @@ use Rattle.dutch_pair.proofs.ShapeLaws.{none_has_one}
 
 -- ---- where a seat stands
 
-abbrev place_of : ℕ → List ℕ → ℕ
+abbrev pub place_of : ℕ → List ℕ → ℕ
 place_of s [] = 0
 place_of s (x ∷ xs) = cond (x == s) 0 (suc (place_of s xs))
 
@@ -47,7 +47,7 @@ get_in [] i lt = absurd (omega (arith, lt))
 get_in (x ∷ xs) zero lt = inl refl
 get_in (x ∷ xs) (suc i) lt = inr (get_in xs i (omega (arith, lt)))
 
-get_place : (xs : List ℕ) (i : ℕ) → NoneTwice xs → i < length xs → place_of (get_or xs i 0) xs ≡ i
+pub get_place : (xs : List ℕ) (i : ℕ) → NoneTwice xs → i < length xs → place_of (get_or xs i 0) xs ≡ i
 get_place [] i twice lt = absurd (omega (arith, lt))
 get_place (x ∷ xs) zero twice lt = place_here x x xs refl
 get_place (x ∷ xs) (suc i) twice lt =

@@ -28,6 +28,8 @@ pub mod C07WeakerRules
 pub mod C07PsdFloor
 pub mod C07Ghosts
 pub mod C07GhostValues
+pub mod C07NextMatchings
+pub mod C07NextWeights
 pub mod GhostBrackets
 pub mod GhostPairs
 pub mod RepeatedLemmas
@@ -39,6 +41,7 @@ pub mod BoardLemmas
 pub mod C06Psd
 pub mod C08ToC19Fixed
 pub mod C10Preferences
+pub mod CertificateFloors
 pub mod ChoiceLemmas
 pub mod ColourSeats
 pub mod Copies

@@ -1,19 +1,20 @@
 -- Tables of weights that are filled place by place.
-use Rattle.std.proofs.Common.{◌≡◌, ℕ, ◌+◌, ◌-◌, ◌*◌, ◌<◌, ◌≤◌, List, length, get_or, set, Option, None, MatchOption, inl, inr, refl, sym, ap, subst, ◌∙◌, arith}
+use Rattle.std.proofs.Common.{◌≡◌, ℕ, ◌+◌, ◌<◌, ◌≤◌, List, [], length, get_or, set, Option, None, MatchOption}
+use Rattle.std.proofs.Common.{inl, inr, refl, sym, ap, subst, ◌∙◌, arith}
 use Rattle.std.proofs.lemmas.Bool.{cases_eq}
 use Rattle.std.proofs.lemmas.List.{get_or-set_other, get_or-set_same}
 use Rattle.dutch_player.specs.Facts.{Facts}
 use Rattle.dutch_pair.specs.NextBracket.{no_value}
 use Rattle.dutch_pair.specs.Quality.{NextValue, quality_with}
 use Rattle.dutch_pair.specs.Seated.{Seated}
-use Rattle.dutch_pair.specs.WeightTables.{HasPairs, IsNumber, TellsDownUpto, TellsPairs, TellsPairsUpto, down_weight, pair_weight, place_in}
-use Rattle.dutch_pair.specs.Weights.{Scale, Weighing, weight_of}
+use Rattle.dutch_pair.specs.WeightTables.{HasPairs, IsNumber, TellsPairsUpto, pair_weight, place_in}
+use Rattle.dutch_pair.specs.Weights.{Scale, Weighing, weight_with}
 use Rattle.dutch_pair.proofs.PairPlaces.{inside, same_place}
 
--- what the next bracket can be has no part in a weight
+-- what is said of the next bracket has no part in what weighs without it
 pub next_is_idle : (scale : Scale) (facts : Facts) (seated : Seated) (next : NextValue)
-    → weight_of scale (quality_with facts seated next) ≡ weight_of scale (quality_with facts seated no_value)
-unfolding weight_of quality_with
+    → weight_with scale 0 [] (quality_with facts seated next) ≡ weight_with scale 0 [] (quality_with facts seated no_value)
+unfolding weight_with quality_with
 next_is_idle scale facts seated next = refl
 
 pub at_least : (n most : ℕ) → ¬ (n < most) → most ≤ n
@@ -23,19 +24,13 @@ pub at_none : {X : Type 0} (o : Option X) (P : Type 0) (Q : X → Type 0) → o 
 at_none o P Q none given = subst (λ (q : Option _). MatchOption q P Q) none given
 
 module _ (w : Weighing) where
-  -- a table tells of no pair before its first place, and of all before its last one
-  pub none_told : (table : List ℕ) (end : ℕ) → end ≡ 0 → TellsPairsUpto w table end
-  none_told table end none a b p q less = absurd (omega arith)
-
+  -- an end by another name
   pub told_same : (table : List ℕ) (from end : ℕ) → from ≡ end → TellsPairsUpto w table from → TellsPairsUpto w table end
   told_same table from end same told = subst (TellsPairsUpto w table) same told
 
-  pub told_all : (table : List ℕ) (end : ℕ) → end ≡ length w.reached.seats * length w.reached.seats → TellsPairsUpto w table end → TellsPairs w table
-  told_all table end same told a b p q = told a b p q (omega (arith, same, inside (length w.reached.seats) a b p q))
-
   -- one place more
-  pub told_more : (table : List ℕ) (x y weight : ℕ) → IsNumber w.reached x → IsNumber w.reached y → HasPairs w table → weight ≡ pair_weight w x y
-      → TellsPairsUpto w table (place_in w x y) → TellsPairsUpto w (set table (place_in w x y) weight) (place_in w x y + 1)
+  pub told_more : (table : List ℕ) (x y weight : ℕ) → IsNumber w.reached x → IsNumber w.reached y → HasPairs w table
+      → weight ≡ pair_weight w x y → TellsPairsUpto w table (place_in w x y) → TellsPairsUpto w (set table (place_in w x y) weight) (place_in w x y + 1)
   told_more table x y weight p q room is told a b u v less =
       let n : ℕ = length w.reached.seats in
       let place : ℕ = place_in w x y in
@@ -47,15 +42,4 @@ module _ (w : Weighing) where
             ap (λ (i : ℕ). get_or (set table place weight) i 0) same
             ∙ (here ∙ (is ∙ (ap (λ (k : ℕ). pair_weight w k y) (sym both.0) ∙ ap (λ (k : ℕ). pair_weight w a k) (sym both.1))))
         | inr other ↦ get_or-set_other table place (place_in w a b) weight 0 other ∙ told a b u v (omega arith)
-      ]
-
-  -- and one downfloater more
-  pub down_more : (table : List ℕ) (i weight : ℕ) → i < length table → weight ≡ down_weight w (i + 1)
-      → TellsDownUpto w table i → TellsDownUpto w (set table i weight) (i + 1)
-  down_more table i weight room is told a u less =
-      elim (cases_eq (a - 1) i) [
-        | inl same ↦
-            let number : i + 1 ≡ a = omega (arith, same, u.0) in
-            ap (λ (k : ℕ). get_or (set table i weight) k 0) same ∙ (get_or-set_same table i weight 0 room ∙ (is ∙ ap (down_weight w) number))
-        | inr other ↦ get_or-set_other table i (a - 1) weight 0 other ∙ told a u (let le : a ≤ i = grind arith in le)
       ]

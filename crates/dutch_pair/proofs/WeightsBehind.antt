@@ -2,6 +2,7 @@
 -- more, and one that weighs less is better than all.
 use Rattle.std.proofs.Common.{◌≡◌, ℕ, zero, suc, ◌+◌, ◌-◌, ◌*◌, ◌<◌, ◌≤◌, ◌⊎◌, true, false, not, cond, ◌||◌, List, [], ◌∷◌, All, map, drop, length, Option, Some, None, inl, inr, refl, sym, ap, subst, ◌∙◌, arith}
 use Rattle.std.specs.List.{AllByRecursion}
+use Rattle.std.specs.Option.{ForSome}
 use Rattle.std.specs.declared.cmp.Ordering.{Ordering}
 use Rattle.std.specs.declared.cmp.Ordering.TheVariants.{Less, Equal, Greater}
 use Rattle.std.specs.Ordering.{nat_cmp, is_lt, ordering_reverse}
@@ -24,6 +25,7 @@ use Rattle.dutch_player.specs.Facts.{Facts}
 use Rattle.dutch_pair.specs.FloorOf.{Basis, IsBasis, fixed_lists, has_s1, is_uniform}
 use Rattle.dutch_pair.specs.NextBracket.{is_lower}
 use Rattle.dutch_pair.specs.Orders.{Order}
+use Rattle.dutch_pair.specs.Context.{Context}
 use Rattle.dutch_pair.specs.Outlooks.{HasNoBetter, awaited}
 use Rattle.dutch_pair.specs.Quality.{NextValue, Quality, is_better}
 use Rattle.dutch_pair.specs.QualityIn.{next_in, quality_in}
@@ -36,10 +38,11 @@ use Rattle.dutch_pair.specs.declared.weight_floor.Bar.{Bar}
 use Rattle.dutch_pair.specs.Reached.{IsOf, Reached, frame_of}
 use Rattle.dutch_pair.specs.Round.{can_be_chosen, candidates_of, quality_of}
 use Rattle.dutch_pair.specs.Scopes.{Covers, Scope, costs_in}
-use Rattle.dutch_pair.specs.WeightFloors.{AreOf, HasBar, IsBar, IsLeastOf, IsNoBetter, IsWeightFloor, WeighsNoLess, Weighed, added_in, bound_behind, is_first, kept_in, left_known, passed_over, weighing_of}
-use Rattle.dutch_pair.specs.Weights.{IsOn, IsScale, Scale, above_psd, number_pairs, numbers, weighing, weight_of}
+use Rattle.dutch_pair.specs.WeightFloors.{AreOf, HasBar, HasNoBetterOn, KnowsNext, IsBar, IsLeastOf, IsNoBetter, IsWeightFloor, WeighsNoLess, Weighed, added_in, bound_behind, is_first, kept_in, left_known, passed_over, weighing_of}
+use Rattle.dutch_pair.specs.Weights.{HasDigits, IsOn, IsScale, IsScaleFor, NextScale, Scale, number_pairs, numbers, weighing, weight_above, weight_of}
 use Rattle.dutch_pair.proofs.ArrangementParts.{lists_of, numbers_above, numbers_rise, numbers_within, parts_of, subset_members, subset_whole}
-use Rattle.dutch_pair.proofs.C06ToC19Weights.{candidate_ordered, candidate_weighs}
+use Rattle.dutch_pair.proofs.C06ToC19Weights.{IsSmallBelow, candidate_ordered, candidate_weighs}
+use Rattle.dutch_pair.proofs.C07NextWeights.{small_below}
 use Rattle.dutch_pair.proofs.C07Outlook.{awaited_holds}
 use Rattle.dutch_pair.proofs.CandidateMatchings.{digits_are_small, each, left_over, part_of, total_sum}
 use Rattle.dutch_pair.proofs.D02Orders.{pairs_cost}
@@ -173,30 +176,36 @@ module _ (facts : Facts) (reached : Reached) (scale : Scale) (lower : List ℕ) 
         pairs_cost reached.mdps order (weighing facts reached scale).weight a (s1_moved_down frame shape a of'.sound.within (legal_of facts reached shape a m).arranged),
       )
 
-  module _ (falls : IsScale scale) (high : length reached.seats < scale.base) (f : Quality) (on : IsOn scale f) where
-    abbrev here : Quality
-    here = quality_of facts reached lower a
+module _ (facts : Facts) (reached : Reached) (scale : Scale) (lower : List ℕ) (shape : Shape) (a : Arrangement) (of' : IsOf facts reached)
+    (fits : Fits (frame_of facts reached) shape) (m : IsIn a (candidates_of facts reached shape)) (falls : IsScale scale)
+    (scaled : IsScaleFor facts reached lower shape scale) (f : Quality) (on : IsOn scale f) where
+  abbrev here : Quality
+  here = quality_of facts reached lower a
 
-    -- C.6 to C.19: where it weighs no less than a quality, and has no better value of the next bracket, it is not better
-    pub no_lighter : weight_of scale f ≤ weight_of scale here → HasNoBetter here (next_in f) → is_better here f ≡ false
-    no_lighter heavy next =
-        not_lighter scale falls f here on (candidate_ordered facts reached scale lower a) (digits_are_small facts reached scale lower shape a of' fits m high) heavy next
+  small : ForSome scale.next (IsSmallBelow here)
+  small = small_below facts reached lower shape scale a m scaled
 
-    -- C.6: nor is it where it weighs no less than all with a higher PSD
-    pub behind_all : weight_of scale (above_psd scale f) ≤ weight_of scale here → is_better here f ≡ false
-    behind_all heavy =
-        behind_psd scale falls f here on (candidate_ordered facts reached scale lower a) (digits_are_small facts reached scale lower shape a of' fits m high) heavy
+  has_digits : HasDigits scale here
+  has_digits = digits_are_small facts reached scale lower shape a of' fits m scaled small
 
-    -- and if it weighs more, the quality is better than it
-    pub then_worse : weight_of scale f < weight_of scale here → is_better here f ≡ false → is_better f here ≡ true
-    then_worse heavier not = elim (in_order f here) [
-      | inl same ↦ absurd (omega (arith, heavier, ap (weight_of scale) same))
-      | inr (inl better) ↦ better
-      | inr (inr worse) ↦ absurd (let bad : true ≡ false = sym worse ∙ not in cc)
-    ]
+  -- C.6 to C.19: where it weighs no less than a quality, and has no better value of the next bracket, it is not better
+  pub no_lighter : weight_of scale f ≤ weight_of scale here → HasNoBetterOn scale.next here (next_in f) → is_better here f ≡ false
+  no_lighter heavy next = not_lighter scale falls f here on (candidate_ordered facts reached scale lower a small) has_digits heavy next
 
-    pub lighter : weight_of scale f < weight_of scale here → HasNoBetter here (next_in f) → is_better f here ≡ true
-    lighter heavier next = then_worse heavier (no_lighter (omega (arith, heavier)) next)
+  -- C.6: nor is it where it weighs no less than all with a higher PSD
+  pub behind_all : weight_above scale f ≤ weight_of scale here → is_better here f ≡ false
+  behind_all heavy = behind_psd scale falls f here on (candidate_ordered facts reached scale lower a small) has_digits heavy
+
+  -- and if it weighs more, the quality is better than it
+  pub then_worse : weight_of scale f < weight_of scale here → is_better here f ≡ false → is_better f here ≡ true
+  then_worse heavier not = elim (in_order f here) [
+    | inl same ↦ absurd (omega (arith, heavier, ap (weight_of scale) same))
+    | inr (inl better) ↦ better
+    | inr (inr worse) ↦ absurd (let bad : true ≡ false = sym worse ∙ not in cc)
+  ]
+
+  pub lighter : weight_of scale f < weight_of scale here → HasNoBetterOn scale.next here (next_in f) → is_better f here ≡ true
+  lighter heavier next = then_worse heavier (no_lighter (omega (arith, heavier)) next)
 
 -- ---- floors that are put
 
@@ -225,42 +234,52 @@ made_of facts reached lower shape w are = λ i. record {
   scale = w.scale;
 }
 
-module _ (facts : Facts) (reached : Reached) (lower : List ℕ) (shape : Shape) (a : Arrangement) (of' : IsOf facts reached)
-    (fits : Fits (frame_of facts reached) shape) (m : IsIn a (candidates_of facts reached shape)) (least : ℕ) where
+module _ (context : Context) (shape : Shape) (a : Arrangement) (of' : IsOf context.facts context.reached)
+    (fits : Fits (frame_of context.facts context.reached) shape) (m : IsIn a (candidates_of context.facts context.reached shape)) (least : ℕ) where
   abbrev it : Quality
-  it = quality_of facts reached lower a
+  it = quality_of context.facts context.reached context.lower a
 
   -- so much weight is no less than all of a PSD, or no less than that of a quality, where the next bracket is not better
-  abbrev pub Reaches : Bar → Quality → Type 0
-  Reaches bar f = (bar.above ≤ least) ⊎ ((bar.weight ≤ least) × HasNoBetter it (next_in f))
+  abbrev pub Reaches : Option NextScale → Bar → Quality → Type 0
+  Reaches next bar f = (bar.above ≤ least) ⊎ ((bar.weight ≤ least) × HasNoBetterOn next it (next_in f))
 
-  module _ (w : Weighed) (high_here : length reached.seats < w.scale.base) (weighs : least ≤ weight_of w.scale it) (f : Quality) (bar : Bar)
-      (at' : IsBar w.scale f bar) where
-    no_better_here : Reaches bar f → is_better it f ≡ false
-    no_better_here (inl above) =
-        behind_all facts reached w.scale lower shape a of' fits m at'.falls high_here f at'.on (omega (arith, at'.above, above, weighs))
+  module _ (w : Weighed) (scaled : IsScaleFor context.facts context.reached context.lower shape w.scale) (weighs : least ≤ weight_of w.scale it)
+      (f : Quality) (bar : Bar) (at' : IsBar w.scale f bar) where
+    no_better_here : Reaches w.scale.next bar f → is_better it f ≡ false
+    no_better_here (inl beyond) =
+        behind_all context.facts context.reached w.scale context.lower shape a of' fits m at'.falls scaled f at'.on (omega (arith, at'.above, beyond, weighs))
     no_better_here (inr both) =
-        no_lighter facts reached w.scale lower shape a of' fits m at'.falls high_here f at'.on (omega (arith, at'.weight, both.0, weighs)) both.1
+        no_lighter context.facts context.reached w.scale context.lower shape a of' fits m at'.falls scaled f at'.on (omega (arith, at'.weight, both.0, weighs)) both.1
 
-    better_here : bar.weight < least → Reaches bar f → is_better f it ≡ true
+    better_here : bar.weight < least → Reaches w.scale.next bar f → is_better f it ≡ true
     better_here passed reaches =
-        then_worse facts reached w.scale lower shape a of' fits m at'.falls high_here f at'.on (omega (arith, at'.weight, passed, weighs)) (no_better_here reaches)
+        then_worse context.facts context.reached w.scale context.lower shape a of' fits m at'.falls scaled f at'.on (omega (arith, at'.weight, passed, weighs))
+        (no_better_here reaches)
 
-  module _ (weights : Option Weighed) (weighs : WeighsNoLess weights (length reached.seats) least it) (bar : Bar) where
-    kept_by : (weights' : Option Weighed) → weights ≡ weights' → (best : Best) → Reaches bar (quality_in best.quality)
+  -- so much weight is beyond the bar on the scale of the floors that are there
+  abbrev pub ReachesOn : Option Weighed → Bar → Quality → Type 0
+  ReachesOn weights bar f = (bar.above ≤ least) ⊎ ((bar.weight ≤ least) × KnowsNext weights it (next_in f))
+
+  module _ (weights : Option Weighed) (weighs : WeighsNoLess context shape weights least it) (bar : Bar) where
+    reached_on : (w : Weighed) → weights ≡ Some w → (f : Quality) → ReachesOn weights bar f → Reaches w.scale.next bar f
+    reached_on w same f (inl beyond) = inl beyond
+    reached_on w same f (inr both) = inr (both.0, both.1 w same)
+
+    kept_by : (weights' : Option Weighed) → weights ≡ weights' → (best : Best) → ReachesOn weights bar (quality_in best.quality)
         → HasBar weights' (Some (quality_in best.quality)) (Some bar) → not (wins it (Some best)) ≡ true
     kept_by None same best reaches at' = absurd at'
     kept_by (Some w) same best reaches at' =
-        ap not (no_better_here w (weighs w same).0 (weighs w same).1 (quality_in best.quality) bar at' reaches)
+        ap not (no_better_here w (weighs w same).0 (weighs w same).1 (quality_in best.quality) bar at' (reached_on w same (quality_in best.quality) reaches))
 
-    aim_by : (weights' : Option Weighed) → weights ≡ weights' → (aim : Quality) → bar.weight < least → Reaches bar aim
+    aim_by : (weights' : Option Weighed) → weights ≡ weights' → (aim : Quality) → bar.weight < least → ReachesOn weights bar aim
         → HasBar weights' (Some aim) (Some bar) → is_better aim it ≡ true
     aim_by None same aim passed reaches at' = absurd at'
-    aim_by (Some w) same aim passed reaches at' = better_here w (weighs w same).0 (weighs w same).1 aim bar at' passed reaches
+    aim_by (Some w) same aim passed reaches at' =
+        better_here w (weighs w same).0 (weighs w same).1 aim bar at' passed (reached_on w same aim reaches)
 
     -- the kept candidate is not worse than one that its bar reaches
     pub behind_kept : (kept : Option Best) (found : Option Bar) (best : Best) → kept ≡ Some best → found ≡ Some bar → ∥ HasBar weights (kept_in kept) found ∥₁
-        → Reaches bar (quality_in best.quality) → not (wins it kept) ≡ true
+        → ReachesOn weights bar (quality_in best.quality) → not (wins it kept) ≡ true
     behind_kept kept found best there bar_is at' reaches =
         ∥∥₁_elim at' (Bool-set _ _) (λ has.
         let here' : HasBar weights (Some (quality_in best.quality)) (Some bar) =
@@ -269,7 +288,7 @@ module _ (facts : Facts) (reached : Reached) (lower : List ℕ) (shape : Shape) 
 
     -- the aim is better than one beyond its bar
     pub behind_aim : (aims : Option Fields) (found : Option Bar) (aim : Fields) → aims ≡ Some aim → found ≡ Some bar → ∥ HasBar weights (aim_in aims) found ∥₁
-        → bar.weight < least → Reaches bar (quality_in aim) → beats (aim_in aims) it ≡ true
+        → bar.weight < least → ReachesOn weights bar (quality_in aim) → beats (aim_in aims) it ≡ true
     behind_aim aims found aim there bar_is at' passed reaches =
         ∥∥₁_elim at' (Bool-set _ _) (λ has.
         let here' : HasBar weights (Some (quality_in aim)) (Some bar) =
@@ -277,16 +296,20 @@ module _ (facts : Facts) (reached : Reached) (lower : List ℕ) (shape : Shape) 
         ap (λ (o : Option Fields). beats (aim_in o) it) there ∙ aim_by weights refl (quality_in aim) passed reaches here')
 
 -- what weighs no less, on the scale of the floors that are there
-pub weighs_behind : (facts : Facts) (reached : Reached) (lower : List ℕ) (shape : Shape) (of' : IsOf facts reached) (fits : Fits (frame_of facts reached) shape)
-    (w : Weighed) → AreOf facts reached lower shape w → (Among : Arrangement → Type 0) (least : ℕ) → IsLeastOf Among w least
-    → (a : Arrangement) → IsIn a (candidates_of facts reached shape) → Among a → can_be_chosen facts reached lower a ≡ true
-    → (weights : Option Weighed) → weights ≡ Some w → WeighsNoLess weights (length reached.seats) least (quality_of facts reached lower a)
-weighs_behind facts reached lower shape of' fits w are Among least is a m among can weights same = λ v there.
-    let made = made_of facts reached lower shape w are in
-    let here : IsLeastOf Among (record { facts = facts; reached = reached; lower = lower; shape = shape; scale = w.scale }) least = subst (λ u. IsLeastOf Among u least) made is in
+pub weighs_behind : (context : Context) (shape : Shape) (of' : IsOf context.facts context.reached)
+    (fits : Fits (frame_of context.facts context.reached) shape) (w : Weighed) → AreOf context.facts context.reached context.lower shape w
+    → (Among : Arrangement → Type 0) (least : ℕ) → IsLeastOf Among w least
+    → (a : Arrangement) → IsIn a (candidates_of context.facts context.reached shape) → Among a
+    → can_be_chosen context.facts context.reached context.lower a ≡ true
+    → (weights : Option Weighed) → weights ≡ Some w → WeighsNoLess context shape weights least (quality_of context.facts context.reached context.lower a)
+weighs_behind context shape of' fits w are Among least is a m among can weights same = λ v there.
+    let made = made_of context.facts context.reached context.lower shape w are in
+    let here : IsLeastOf Among (record { facts = context.facts; reached = context.reached; lower = context.lower; shape = shape; scale = w.scale }) least =
+    subst (λ u. IsLeastOf Among u least) made is in
     let one : v ≡ w = let e : Some v ≡ Some w = sym there ∙ same in cc in
-    subst (λ (u : Weighed). (length reached.seats < u.scale.base) × (least ≤ weight_of u.scale (quality_of facts reached lower a))) (sym one)
-    (here.high, here.none_less a (record { of = of'; fits = fits; listed = m; can = can }) among)
+    subst (λ (u : Weighed). IsScaleFor context.facts context.reached context.lower shape u.scale
+    × (least ≤ weight_of u.scale (quality_of context.facts context.reached context.lower a))) (sym one)
+    (here.scaled, here.none_less a (record { of = of'; fits = fits; listed = m; can = can }) among)
 
 -- ---- what is awaited
 

@@ -4,6 +4,7 @@ pub mod Shapes
 pub mod Quality
 pub mod QualityIn
 pub mod NextBracket
+pub mod NextMatchings
 pub mod Items
 pub mod Completion
 pub mod CompletionSearch

@@ -1,21 +1,24 @@
 -- Which arrangements of a bracket a floor is for, and what pairs and downfloaters weigh in them (C.04.3 B.3, B.6, B.7), also where those who go
 -- down are paired out with all lower players (C.4). What bounds the choice by beginnings stands on these; a reader of its promise may pass them
 -- by.
-use Rattle.std.specs.Prelude.{◌≡◌, ℕ, ◌+◌, ◌-◌, ◌^◌, ◌<◌, ◌≤◌, length, min, Bool, true, false, ◌&&◌, ◌||◌, not, if◌then◌else◌, nat_lt, nat_le, List, ◌++◌, slice_index_or}
+use Rattle.std.specs.Prelude.{◌≡◌, ℕ, ◌+◌, ◌-◌, ◌^◌, ◌<◌, ◌≤◌, length, min, Bool, true, false, ◌&&◌, ◌||◌, not, ◌==◌, if◌then◌else◌, nat_lt, nat_le, List, ◌++◌, slice_index_or, is_some}
 use Rattle.dual.specs.Matchings.{Costs}
 use Rattle.dutch_order.specs.declared.prefix.Filling.{Filling}
 use Rattle.dutch_order.specs.declared.prefix.Filling.TheVariants.{S1, S2, S2r}
 use Rattle.dutch_order.specs.Choices.{is_member}
 use Rattle.dutch_order.specs.Prefixes.{Beginning}
+use Rattle.dutch_player.specs.Meetings.{may_meet}
 use Rattle.dutch_pair.specs.declared.scope.Reach.{Reach}
-use Rattle.dutch_pair.specs.declared.scope.Reach.TheVariants.{Bracket, Lower}
+use Rattle.dutch_pair.specs.declared.scope.Reach.TheVariants.{Bracket, Lower, Next}
 use Rattle.dutch_pair.specs.declared.scope.Side.{Side}
 use Rattle.dutch_pair.specs.declared.scope.Side.TheVariants.{Any, Outside, First, Resident, FirstResident, OtherResident}
 use Rattle.dutch_pair.specs.FloorOf.{has_s1}
 use Rattle.dutch_pair.specs.Orders.{Order, with_lesser}
 use Rattle.dutch_pair.specs.Seated.{seat_of}
 use Rattle.dutch_pair.specs.Seats.{seats_meet, seats_may_be_left}
-use Rattle.dutch_pair.specs.Weights.{Weighing, weighing}
+use Rattle.dutch_pair.specs.NextMatchings.{count_below, seat_below}
+use Rattle.dutch_pair.specs.WeightTables.{alone_weight, met_weight}
+use Rattle.dutch_pair.specs.Weights.{Scale, Weighing, weighing}
 
 -- all arrangements, or those with an S1, or those with an S1 and an S1R: as far as a list is being filled
 pub record Scope : Type 0 where
@@ -141,11 +144,46 @@ lower_costs s =
       left_cost = going_weight s;
     }
 
+-- ---- C.7: over the next lower scoregroup too
+
+-- both of two are numbers of the bracket
+abbrev pub are_inside : Scoped → ℕ → ℕ → Bool
+are_inside s a b = is_inside s a && is_inside s b
+
+-- a number of the bracket or of the next lower scoregroup
+abbrev pub is_number_below : Weighing → ℕ → Bool
+is_number_below w a = nat_le 1 a && nat_le a (count_below w.facts w.reached w.lower)
+
+-- C.7: two who go down may meet in the next bracket (C.1, C.3)
+abbrev pub may_meet_below : Scoped → ℕ → ℕ → Bool
+may_meet_below s a b =
+    (both_go s a b && (is_number_below s.weighing a && is_number_below s.weighing b))
+    && (not (a == b)
+    && may_meet s.weighing.facts (seat_below s.weighing.facts s.weighing.reached s.weighing.lower a)
+    (seat_below s.weighing.facts s.weighing.reached s.weighing.lower b))
+
+-- what two weigh as a pair of the next bracket
+abbrev pub pair_weight_below : Scoped → ℕ → ℕ → ℕ
+pair_weight_below s a b = if is_inside s a then met_weight s.weighing a else met_weight s.weighing b
+
+-- C.1 to C.3, C.7: two of the bracket are a pair of it, and others one of the next bracket; whoever goes down, and is in no pair there, is left
+-- over there
+abbrev pub next_costs : Scoped → Costs
+next_costs s =
+    let inside = bracket_costs s in
+    record {
+      meets = λ a b. if are_inside s a b then inside.meets a b else may_meet_below s a b;
+      weight = λ a b. if are_inside s a b then inside.weight a b else pair_weight_below s a b;
+      may_be_left = goes_down s;
+      left_cost = alone_weight s.weighing;
+    }
+
 -- ---- over whom the matchings go
 
 abbrev pub costs_by : Reach → Scoped → Costs
 costs_by Bracket = bracket_costs
 costs_by Lower = lower_costs
+costs_by Next = next_costs
 
 abbrev pub costs_in : Scoped → Costs
 costs_in s = costs_by s.reach s
@@ -154,10 +192,17 @@ costs_in s = costs_by s.reach s
 abbrev pub size_by : Reach → Weighing → ℕ
 size_by Bracket w = length w.reached.seats
 size_by Lower w = length w.reached.seats + length w.lower
+size_by Next w = count_below w.facts w.reached w.lower
 
 -- a number of one of them
 abbrev pub IsReached : Scoped → ℕ → Type 0
 IsReached s a = (0 < a) × (a ≤ size_by s.reach s.weighing)
+
+-- matchings go over the next lower scoregroup only where a scale measures it
+abbrev pub MeasuresNext : Reach → Scale → Type 0
+MeasuresNext Bracket scale = Unit {0}
+MeasuresNext Lower scale = Unit {0}
+MeasuresNext Next scale = is_some scale.next ≡ true
 
 -- a table tells where each of the first numbers stands
 abbrev pub TellsSides : ℕ → Scope → List Side → Type 0

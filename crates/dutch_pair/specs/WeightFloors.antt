@@ -1,6 +1,6 @@
 -- What floors by weight say behind a beginning (C.04.3 C.6, C.8 to C.19), and from which weight on nothing is better than a quality. What
 -- bounds the choice by beginnings stands on these; a reader of its promise may pass them by.
-use Rattle.std.specs.Prelude.{◌≡◌, ℕ, zero, suc, ◌+◌, ◌<◌, ◌≤◌, ◌==◌, true, false, Bool, if◌then◌else◌, List, [], ◌∷◌, All, drop, length, sum_by, Option, Some, None, option_map}
+use Rattle.std.specs.Prelude.{◌≡◌, ℕ, zero, suc, ◌+◌, ◌≤◌, ◌==◌, true, false, Bool, if◌then◌else◌, List, [], ◌∷◌, All, drop, sum_by, Option, Some, None, option_map}
 use Rattle.std.specs.Option.{ForSome}
 use Rattle.dual.specs.Floors.{FloorTable, extra_in, extra_left_in}
 use Rattle.dutch_order.specs.declared.bracket.Shape.{Shape}
@@ -12,15 +12,17 @@ use Rattle.dutch_order.specs.Keys.{IsIn}
 use Rattle.dutch_order.specs.Prefixes.{Begins, Beginning}
 use Rattle.dutch_player.specs.Facts.{Facts}
 use Rattle.dutch_pair.specs.declared.choice.Best.{Best}
+use Rattle.dutch_pair.specs.Context.{Context}
 use Rattle.dutch_pair.specs.FloorOf.{fixed_lists}
 use Rattle.dutch_pair.specs.Orders.{Order, added}
 use Rattle.dutch_pair.specs.NextBracket.{is_lower}
 use Rattle.dutch_pair.specs.Quality.{NextValue, Quality}
-use Rattle.dutch_pair.specs.QualityIn.{quality_in}
+use Rattle.dutch_pair.specs.QualityIn.{next_in, quality_in}
 use Rattle.dutch_pair.specs.Reached.{IsOf, Reached, frame_of}
 use Rattle.dutch_pair.specs.Round.{can_be_chosen, candidates_of, quality_of}
 use Rattle.dutch_pair.specs.Scopes.{Covers, Scope}
-use Rattle.dutch_pair.specs.Weights.{IsOn, IsScale, Scale, Weighing, above_psd, number_pairs, weight_of}
+use Rattle.dutch_pair.specs.Outlooks.{HasNoBetter}
+use Rattle.dutch_pair.specs.Weights.{IsOn, IsScale, IsScaleFor, NextScale, Scale, Weighing, number_pairs, weight_above, weight_of}
 use Rattle.dutch_pair.specs.declared.weight_floor.Bar.{Bar}
 
 -- a bracket of a field above lower seats, a shape of its arrangements, and a scale
@@ -89,14 +91,18 @@ IsWeightFloor w kept =
 abbrev pub IsMostAdded : Order → Beginning → ℕ → Type 0
 IsMostAdded order b most = (a : Arrangement) → Begins b a → added_in order a ≤ most
 
--- floors of a bracket and a shape, on a scale whose base is above the number of players
+-- the scale is one for candidates of the shape
+abbrev pub IsScaled : Weighed → Type 0
+IsScaled w = IsScaleFor w.facts w.reached w.lower w.shape w.scale
+
+-- floors of a bracket and a shape, on a scale for it
 pub record AreFloors (weighed : Weighed) (floors : List ScopedFloor) : Type 0 where
-  pub high : length weighed.reached.seats < weighed.scale.base
+  pub scaled : IsScaled weighed
   pub hold : All (IsWeightFloor weighed) floors
 
--- of some arrangements no candidate that can be chosen weighs less, on a scale whose base is above the number of players
+-- of some arrangements no candidate that can be chosen weighs less, on a scale for them
 pub record IsLeastOf (Among : Arrangement → Type 0) (weighed : Weighed) (least : ℕ) : Type 0 where
-  pub high : length weighed.reached.seats < weighed.scale.base
+  pub scaled : IsScaled weighed
   pub none_less : (a : Arrangement) → IsChoosable weighed a → Among a → least ≤ weight_in weighed a
 
 -- the same of all with a beginning
@@ -118,19 +124,34 @@ pub record AreOf (facts : Facts) (reached : Reached) (lower : List ℕ) (shape :
   pub lower_are : weighed.lower ≡ lower
   pub shape_is : weighed.shape ≡ shape
 
--- if there are floors by weight, a quality weighs no less than this on their scale, whose base is above a number of players
-abbrev pub WeighsNoLess : Option Weighed → ℕ → ℕ → Quality → Type 0
-WeighsNoLess weights players least quality = ForSome weights (λ w. (players < w.scale.base) × (least ≤ weight_of w.scale quality))
+-- if there are floors by weight, a quality weighs no less than this on their scale, which is one for the candidates of a shape
+abbrev pub WeighsNoLess : Context → Shape → Option Weighed → ℕ → Quality → Type 0
+WeighsNoLess context shape weights least quality =
+    ForSome weights (λ w. IsScaleFor context.facts context.reached context.lower shape w.scale × (least ≤ weight_of w.scale quality))
 
 -- C.7: a value of the next bracket is not better than another
 abbrev pub IsNoBetter : NextValue → NextValue → Type 0
 IsNoBetter next other = (next.pairs ≤ other.pairs) × (next.pairs ≡ other.pairs → is_lower next.psd other.psd ≡ false)
 
+-- C.7: a candidate has no better value of the next bracket than another one; where the scale measures it, its weight tells
+abbrev pub HasNoBetterOn : Option NextScale → Quality → NextValue → Type 0
+HasNoBetterOn None quality other = HasNoBetter quality other
+HasNoBetterOn (Some next) quality other = Unit {0}
+
+-- if there are floors by weight, a candidate has no better value of the next bracket than another one, or the weights tell of it
+abbrev pub KnowsNext : Option Weighed → Quality → NextValue → Type 0
+KnowsNext weights quality other = ForSome weights (λ w. HasNoBetterOn w.scale.next quality other)
+
+-- two qualities have one value of the next bracket, or the scale measures it (C.7)
+abbrev pub HasSameNextOn : Option NextScale → Quality → Quality → Type 0
+HasSameNextOn None q r = next_in q ≡ next_in r
+HasSameNextOn (Some next) q r = Unit {0}
+
 -- a bar is that of a quality, on a scale with a digit for each of its differences: what it weighs, and what all with a higher PSD weigh at
 -- least
 pub record IsBar (scale : Scale) (quality : Quality) (bar : Bar) : Type 0 where
   pub weight : bar.weight ≡ weight_of scale quality
-  pub above : bar.above ≡ weight_of scale (above_psd scale quality)
+  pub above : bar.above ≡ weight_above scale quality
   pub on : IsOn scale quality
   pub falls : IsScale scale
 

@@ -8,7 +8,7 @@ ghost use Rattle.dutch_order.specs.declared.numbers.TheConstants.{LIMIT};
 ghost use Rattle.dutch_order.specs.Steps.{Spends};
 
 use crate::order::{Halves, Order};
-use crate::rest::{Rest, is_in};
+use crate::rest::{Alone, Rest, is_in};
 use crate::scope::{Scope, Scoped};
 use crate::seated::Pair;
 use crate::spending::spend;
@@ -24,11 +24,21 @@ use wide::Wide;
 /// The number of pairs of a beginning is halved so often at most.
 const MOST_HALVINGS: u32 = 16;
 
-/// A table to be checked, and the pairs by number of the matching that it comes with.
+/// The pairs of a matching by number: those of the bracket, and those of the next bracket, where C.7 is measured.
+#[derive(Drop)]
+pub(crate) struct Matched {
+    pub(crate) pairs: Vec<Pair>,
+    pub(crate) below: Vec<Pair>,
+}
+
+/// Whoever is in a pair in all arrangements is left over at so many times what is more than any weight.
+const NEVER_LEFT: u32 = 2048;
+
+/// A table to be checked, and the matching that it comes with.
 #[derive(Drop)]
 struct Told {
     table: Table,
-    pairs: Vec<Pair>,
+    matched: Matched,
 }
 
 /// Where more is asked for: in the arrangements of a scope, behind some pairs by number.
@@ -53,10 +63,11 @@ impl Bars {
     }
 }
 
-/// The pairs of the bracket in a matching by number, each once.
+/// The pairs of a matching by number, each once: those of the bracket, or those that are not.
 fn made_pairs(
     rest: &Rest<'_, '_>,
     partners: &[Option<u16>],
+    inside: bool,
     alloc: Global,
 ) -> Result<Vec<Pair>, AllocError> {
     let mut pairs = Vec::new(alloc);
@@ -65,7 +76,7 @@ fn made_pairs(
         if let Some(partner) = partner
             && let Some(other) = numbers.get(usize::from(*partner))
             && number < other
-            && rest.may_pair(*number, *other)
+            && rest.may_pair(*number, *other) == inside
         {
             pairs.push((*number, *other))?;
         }
@@ -85,8 +96,10 @@ fn told_by(
     let Some(table) = table_of(alloc, rest, last, &found.certificate)? else {
         return Ok(None);
     };
-    let pairs = made_pairs(rest, &found.partners, alloc)?;
-    Ok(Some(Told { table, pairs }))
+    let pairs = made_pairs(rest, &found.partners, true, alloc)?;
+    let below = made_pairs(rest, &found.partners, false, alloc)?;
+    let matched = Matched { pairs, below };
+    Ok(Some(Told { table, matched }))
 }
 
 /// The number of a seat in a bracket; none if it is not there.
@@ -139,10 +152,18 @@ fn steps_for(players: usize) -> u64 {
 }
 
 impl<'a> WeightFloors<'a> {
-    /// What being left over costs beside half of a weight: more than any weight, so that as many pairs are made as can be.
-    fn alone(&self) -> Option<Wide> {
+    /// What being left over costs beside half of a weight: more than any weight, so that as many pairs are made as can be;
+    /// nothing where C.7 is measured, since there the weights tell of it.
+    fn alone(&self) -> Option<Alone> {
         let width = u32::try_from(self.weighing.scale().width()).ok()?;
-        Wide::power_of_two(width)
+        let most = Wide::power_of_two(width)?;
+        let never = most.times(NEVER_LEFT)?;
+        let cost = if self.counts_next() {
+            Wide::zero()
+        } else {
+            most
+        };
+        Some(Alone { cost, never })
     }
 
     /// What is told of the players who are in none of some pairs, for the arrangements of a scope; none if nothing was
@@ -171,14 +192,14 @@ impl<'a> WeightFloors<'a> {
         }
     }
 
-    /// Looks for a cheapest matching of the players who are in none of some pairs, and keeps the floor that its certificate gives. It answers the pairs
-    /// of the matching by number; none if it was not looked for, since too few steps are left, or nothing was confirmed.
+    /// Looks for a cheapest matching of the players who are in none of some pairs, and keeps the floor that its certificate gives. It answers the
+    /// matching; none if it was not looked for, since too few steps are left, or nothing was confirmed.
     fn ask_with(
         &mut self,
         asked: &Asked<'_>,
         order: Order,
         budget: &mut Budget,
-    ) -> Result<Option<Vec<Pair>>, Stopped>
+    ) -> Result<Option<Matched>, Stopped>
         requires within { budget.old.used ≤ budget.old.limit }
         ensures same { self.new ≡ self.old }
         ensures stopped { MatchResult result (λ _. Unit {0}) (λ _. budget.new.used ≡ budget.new.limit) }
@@ -197,7 +218,7 @@ impl<'a> WeightFloors<'a> {
         };
         spend((count * count) as u64, budget)?;
         match self.put(&told.table, asked.scope, order) {
-            Ok(true) => Ok(Some(told.pairs)),
+            Ok(true) => Ok(Some(told.matched)),
             _ => Ok(None),
         }
     }
@@ -207,7 +228,7 @@ impl<'a> WeightFloors<'a> {
         &mut self,
         asked: &Asked<'_>,
         budget: &mut Budget,
-    ) -> Result<Option<Vec<Pair>>, Stopped>
+    ) -> Result<Option<Matched>, Stopped>
         requires within { budget.old.used ≤ budget.old.limit }
         ensures same { self.new ≡ self.old }
         ensures stopped { MatchResult result (λ _. Unit {0}) (λ _. budget.new.used ≡ budget.new.limit) }

@@ -1,5 +1,5 @@
 // The choice in a bracket (C.04.3 B.8): its shape, and the first candidate of it that none is better than.
-ghost use Rattle.std.specs.Prelude.{◌≡◌, ◌≤◌, ◌∷◌, [], true, false, Some, None, List, IfOk};
+ghost use Rattle.std.specs.Prelude.{◌≡◌, ◌≤◌, ◌∷◌, [], true, false, Some, None, List, IfOk, IfSome};
 ghost use Rattle.std.specs.Result.{MatchResult};
 ghost use Rattle.dutch_order.specs.Arrangements.{Arrangement, Fits, down};
 ghost use Rattle.dutch_order.specs.Steps.{MatchDrawn, MatchFound, MatchStep, Spends};
@@ -13,10 +13,10 @@ ghost use Rattle.dutch_pair.specs.Aims.{aim_in, best_near, best_wished, best_yet
 ghost use Rattle.dutch_pair.specs.Outcomes.{IsChoice};
 ghost use Rattle.dutch_pair.specs.Outlooks.{IsOutlook};
 ghost use Rattle.dutch_pair.specs.Remembered.{LooksBelow};
-ghost use Rattle.dutch_pair.specs.Passes.{HasWeights, PassesDull};
-ghost use Rattle.dutch_pair.specs.Seated.{HasSeats};
+ghost use Rattle.dutch_pair.specs.Passes.{HasWeights, IsEnd, PassesDull};
 ghost use Rattle.dutch_pair.specs.WeightFloors.{AreOf};
 
+use crate::aiming::aim_for;
 use crate::asking::Asked;
 use crate::context::Context;
 use crate::eligible::{at_most, can_be_chosen};
@@ -25,18 +25,16 @@ use crate::floor::Floors;
 use crate::greatest::Lister;
 use crate::outlook::Outlook;
 use crate::pair_facts::PairFacts;
-use crate::quality::{Quality, Room, fill_seated};
-use crate::reached::{ByNumber, Reached, Seats};
+use crate::quality::{Quality, Room};
+use crate::reached::{BracketKind, ByNumber, Reached, Seats};
 use crate::remembered::{Judge, judge_candidate, look_below};
-use crate::rest::is_in;
 use crate::scope::Scope;
-use crate::seated::{Pair, Seated};
 use crate::shape::shape_of;
 use crate::skipper::{Pass, Skipper, bars_of, known_with};
 use crate::spending::spend;
 use crate::weight_floor::WeightFloors;
 use crate::wish::{Wish, is_wished};
-use dutch_order::{Budget, Candidate, Filling, LIMIT, Shape, Step, Stopped};
+use dutch_order::{Budget, Candidate, Shape, Step, Stopped};
 use dutch_player::Field;
 use std::alloc::Global;
 use std::mem::take;
@@ -305,11 +303,7 @@ fn best_in_passes(
     requires look { LooksBelow pass.old.context.now.facts pass.old.context.now.reached pass.old.context.now.lower judge.old.look }
     requires weights { HasWeights pass.old judge.old.weights }
     requires within { budget.old.used ≤ budget.old.limit }
-    ensures answer { MatchFound result
-        (λ b. (best_wished pass.old.context.now.facts pass.old.context.now.reached pass.old.context.now.lower pass.old.wish pass.old.shape ≡ Some b.candidate.lists)
-        × IsKept pass.old.context.now.facts pass.old.context.now.reached pass.old.context.now.lower (Some b))
-        (best_wished pass.old.context.now.facts pass.old.context.now.reached pass.old.context.now.lower pass.old.wish pass.old.shape ≡ None)
-        (budget.new.used ≡ budget.new.limit) }
+    ensures answer { MatchResult result (IsEnd pass.old) (λ _. budget.new.used ≡ budget.new.limit) }
     ensures look { LooksBelow pass.old.context.now.facts pass.old.context.now.reached pass.old.context.now.lower judge.new.look }
     ensures context { pass.new.context.now ≡ pass.old.context.now }
     ensures shape { pass.new.shape ≡ pass.old.shape }
@@ -335,83 +329,11 @@ fn few_steps(players: usize) -> u64 {
         .saturating_mul(players)
 }
 
-/// Puts the pairs of a matching to others, as far as there is room.
-fn put_matched(context: &Context<'_>, pairs: &[Pair], seated: &mut Seated)
-    requires { HasSeats context.now.facts seated.old }
-    ensures { HasSeats context.now.facts seated.new }
-{
-    let reached = context.reached();
-    for pair in pairs {
-        let has_room = seated.pairs.len() + seated.down.len() < LIMIT;
-        if has_room && reached.has(pair.0) && reached.has(pair.1) {
-            seated
-                .pairs
-                .push((reached.seat(pair.0), reached.seat(pair.1)));
-        }
-    }
-}
-
-/// Puts those to others who are in no pair of a matching, as far as there is room.
-fn put_unmatched(context: &Context<'_>, pairs: &[Pair], seated: &mut Seated)
-    requires { HasSeats context.now.facts seated.old }
-    ensures { HasSeats context.now.facts seated.new }
-{
-    let reached = context.reached();
-    for above in 0..context.len() {
-        let number = above as u16 + 1;
-        let has_room = seated.pairs.len() + seated.down.len() < LIMIT;
-        if has_room && !is_in(pairs, number) {
-            seated.down.push(reached.seat(number));
-        }
-    }
-}
-
-/// Fills in a matching by number: its pairs, and those whom it leaves over.
-fn seat_matching(context: &Context<'_>, pairs: &[Pair], seated: &mut Seated)
-    ensures { HasSeats context.now.facts seated.new }
-{
-    seated.pairs.clear();
-    seated.down.clear();
-    seated.lowest = context.lowest();
-    put_matched(context, pairs, seated);
-    put_unmatched(context, pairs, seated);
-}
-
-/// The quality of a matching of a bracket by number, with the best that the next bracket can be: what a pass may aim at.
-fn aim_by(pass: &Pass<'_>, weights: &WeightFloors<'_>, pairs: &[Pair], room: &mut Room) -> Quality {
-    let context = pass.context;
-    seat_matching(context, pairs, &mut room.seated);
-    fill_seated(context.field(), &room.seated, &mut room.quality);
-    let next = pass.floors.awaited(Filling::S1, &[]);
-    room.quality.put_next(next.pairs, &next.psd);
-    let aim = take(&mut room.quality);
-    if weights.measures(&aim) {
-        return aim;
-    }
-    aim.without_differences()
-}
-
 /// What passes by weight begin with.
 #[derive(Drop)]
 struct Weighed<'a> {
     weights: Option<WeightFloors<'a>>,
     aim: Option<Quality>,
-}
-
-/// What a pass may aim at: the quality of a matching, if one was found that has as many pairs as the shape, and nothing is
-/// wished.
-fn aim_for(
-    pass: &Pass<'_>,
-    weights: &WeightFloors<'_>,
-    found: &Option<Vec<Pair>>,
-    room: &mut Room,
-) -> Option<Quality> {
-    match (found, pass.wish) {
-        (Some(pairs), None) if pairs.len() == pass.shape.pairs => Some(aim_by(
-            pass, weights, pairs, room,
-        )),
-        _ => pass.floors.aim(known_with(pass.context, pass.wish)),
-    }
 }
 
 /// The floor of a cheapest matching of a bracket whose pairs are weighed, and what to aim at.
@@ -440,17 +362,34 @@ fn weighed_by<'a>(
     Ok(Weighed { weights, aim })
 }
 
-/// Weighs the pairs of a bracket. Of a bracket of many players, and where memory is refused or a weight does not fit, no floors are found.
-fn weigh<'a>(pass: &Pass<'a>, room: &mut Room, budget: &mut Budget) -> Result<Weighed<'a>, Stopped>
+/// Whether the pairs of a bracket are weighed: not of one of many players, nor with the next lower scoregroup, if its
+/// weights are to tell of that.
+fn is_weighed(context: &Context<'_>, next: bool) -> bool {
+    let players = if next {
+        context.len_below()
+    } else {
+        context.len()
+    };
+    players <= MOST_WEIGHED
+}
+
+/// Weighs the pairs of a bracket, and, if that is wanted, the next bracket (C.7). Of a bracket of many players, and where memory is refused or a
+/// weight does not fit, no floors are found.
+fn weigh<'a>(
+    pass: &Pass<'a>,
+    next: bool,
+    room: &mut Room,
+    budget: &mut Budget,
+) -> Result<Weighed<'a>, Stopped>
     requires within { budget.old.used ≤ budget.old.limit }
     ensures weights { IfOk result (λ weighed. HasWeights pass.now weighed.weights) }
     ensures stopped { MatchResult result (λ _. Unit {0}) (λ _. budget.new.used ≡ budget.new.limit) }
     ensures spends { Spends budget.old budget.new }
 {
     let count = pass.context.len();
-    if count <= MOST_WEIGHED {
+    if is_weighed(pass.context, next) {
         spend((count * count) as u64, budget)?;
-        if let Ok(Some(weights)) = WeightFloors::weighed(pass.context, pass.shape) {
+        if let Ok(Some(weights)) = WeightFloors::weighed(pass.context, pass.shape, next) {
             return weighed_by(pass, weights, room, budget);
         }
     }
@@ -458,7 +397,75 @@ fn weigh<'a>(pass: &Pass<'a>, room: &mut Room, budget: &mut Budget) -> Result<We
     Ok(Weighed { weights: None, aim })
 }
 
-/// The same: first in few steps, since most brackets want no more, and then with floors by weight.
+/// What the passes end with in so many steps; none if these do not suffice.
+fn best_within<'a>(
+    pass: &mut Pass<'a>,
+    judge: &mut Judge<'a>,
+    steps: u64,
+    budget: &mut Budget,
+) -> Result<Option<Option<Best>>, Stopped>
+    requires look { LooksBelow pass.old.context.now.facts pass.old.context.now.reached pass.old.context.now.lower judge.old.look }
+    requires weights { HasWeights pass.old judge.old.weights }
+    requires within { budget.old.used ≤ budget.old.limit }
+    ensures answer { MatchResult result (λ found. IfSome found (IsEnd pass.old)) (λ _. budget.new.used ≡ budget.new.limit) }
+    ensures look { LooksBelow pass.old.context.now.facts pass.old.context.now.reached pass.old.context.now.lower judge.new.look }
+    ensures context { pass.new.context.now ≡ pass.old.context.now }
+    ensures shape { pass.new.shape ≡ pass.old.shape }
+    ensures wish { pass.new.wish ≡ pass.old.wish }
+    ensures spends { Spends budget.old budget.new }
+{
+    let mut few = at_most(steps, budget);
+    let found = best_in_passes(pass, judge, &mut few);
+    budget.used = few.used;
+    match found {
+        Ok(found) => Ok(Some(found)),
+        Err(Stopped) if budget.used == budget.limit => Err(Stopped),
+        Err(Stopped) => Ok(None),
+    }
+}
+
+/// What the passes end with by weights that are found now; none if the steps for it do not suffice. Where C.7 counts and
+/// they do not tell of the next bracket, these are a quarter of the steps that are left, else all.
+fn best_by_weight<'a>(
+    pass: &mut Pass<'a>,
+    judge: &mut Judge<'a>,
+    next: bool,
+    budget: &mut Budget,
+) -> Result<Option<Option<Best>>, Stopped>
+    requires look { LooksBelow pass.old.context.now.facts pass.old.context.now.reached pass.old.context.now.lower judge.old.look }
+    requires within { budget.old.used ≤ budget.old.limit }
+    ensures answer { MatchResult result (λ found. IfSome found (IsEnd pass.old)) (λ _. budget.new.used ≡ budget.new.limit) }
+    ensures look { LooksBelow pass.old.context.now.facts pass.old.context.now.reached pass.old.context.now.lower judge.new.look }
+    ensures context { pass.new.context.now ≡ pass.old.context.now }
+    ensures shape { pass.new.shape ≡ pass.old.shape }
+    ensures wish { pass.new.wish ≡ pass.old.wish }
+    ensures spends { Spends budget.old budget.new }
+{
+    let left = budget.limit - budget.used;
+    // (weights are large: those of before go first)
+    judge.weights = None;
+    let weighed = weigh(pass, next, &mut judge.room, budget)?;
+    judge.weights = weighed.weights;
+    pass.aim = weighed.aim;
+    let steps = if tells_next(pass) && !next {
+        left / 4
+    } else {
+        left
+    };
+    best_within(pass, judge, steps, budget)
+}
+
+/// Whether weights can tell more of the bracket of a pass that wishes nothing: C.7 counts there, and the next lower
+/// scoregroup is not too large.
+fn tells_next(pass: &Pass<'_>) -> bool {
+    match (pass.context.reached().kind(), pass.wish) {
+        (BracketKind::Ordinary, None) => is_weighed(pass.context, true),
+        _ => false,
+    }
+}
+
+/// What the passes end with: first in few steps, since most brackets want no more; then with floors by weight; and where
+/// C.7 counts and a quarter of the steps does not suffice, with weights that tell of the next bracket too.
 fn best_in_time<'a>(
     pass: &mut Pass<'a>,
     judge: &mut Judge<'a>,
@@ -467,30 +474,23 @@ fn best_in_time<'a>(
     requires look { LooksBelow pass.old.context.now.facts pass.old.context.now.reached pass.old.context.now.lower judge.old.look }
     requires weights { HasWeights pass.old judge.old.weights }
     requires within { budget.old.used ≤ budget.old.limit }
-    ensures answer { MatchFound result
-        (λ b. (best_wished pass.old.context.now.facts pass.old.context.now.reached pass.old.context.now.lower pass.old.wish pass.old.shape ≡ Some b.candidate.lists)
-        × IsKept pass.old.context.now.facts pass.old.context.now.reached pass.old.context.now.lower (Some b))
-        (best_wished pass.old.context.now.facts pass.old.context.now.reached pass.old.context.now.lower pass.old.wish pass.old.shape ≡ None)
-        (budget.new.used ≡ budget.new.limit) }
+    ensures answer { MatchResult result (IsEnd pass.old) (λ _. budget.new.used ≡ budget.new.limit) }
     ensures spends { Spends budget.old budget.new }
 {
-    let left = budget.limit - budget.used;
-    let mut few = Budget {
-        used: budget.used,
-        limit: budget.used + few_steps(pass.context.len()).min(left),
-    };
-    let found = best_in_passes(pass, judge, &mut few);
-    budget.used = few.used;
-    if let Ok(found) = found {
+    let few = few_steps(pass.context.len());
+    if let Some(found) = best_within(pass, judge, few, budget)? {
         return Ok(found);
     }
-    if budget.used == budget.limit {
-        return Err(Stopped);
+    if let Some(found) = best_by_weight(pass, judge, false, budget)? {
+        return Ok(found);
     }
-    let weighed = weigh(pass, &mut judge.room, budget)?;
-    judge.weights = weighed.weights;
-    pass.aim = weighed.aim;
-    best_in_passes(pass, judge, budget)
+    match best_by_weight(pass, judge, true, budget)? {
+        Some(found) => Ok(found),
+        None => {
+            budget.used = budget.limit;
+            Err(Stopped)
+        }
+    }
 }
 
 /// The best that the next bracket can be, as far as a quarter of the steps that are left tells it.

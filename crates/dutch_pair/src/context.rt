@@ -3,6 +3,7 @@
 ghost use Rattle.std.specs.Prelude.{◌≡◌, ◌+◌, ◌*◌, ◌<◌, ◌≤◌, length};
 ghost use Rattle.trf16.specs.declared.limits.TheConstants.{MOST_ROUNDS};
 ghost use Rattle.dutch_pair.specs.declared.colours_missed.Miss.TheVariants.{Preference};
+ghost use Rattle.dutch_pair.specs.declared.reached.BracketKind.TheVariants.{Ordinary};
 ghost use Rattle.dutch_pair.specs.Quality.{one_if, misses, count_in};
 ghost use Rattle.arrayvec.specs.ArrayVec.{array_vec_len};
 ghost use Rattle.dutch_order.specs.Choices.{numbers_from};
@@ -12,6 +13,7 @@ ghost use Rattle.dutch_pair.specs.ColourFloors.{is_firm, wants, wants_firmly, su
 ghost use Rattle.dutch_pair.specs.PairFacts.{collide};
 ghost use Rattle.dutch_pair.specs.Round.{first_group, scoregroups};
 ghost use Rattle.dutch_pair.specs.NextBracket.{IsNext};
+ghost use Rattle.dutch_pair.specs.NextMatchings.{count_below, group_below, score_below, seat_below};
 
 use crate::colours_missed::is_same;
 use crate::group::split_first_group;
@@ -126,6 +128,40 @@ impl<'a> Context<'a> {
         ensures sound { IsNext self.now.facts self.now.reached result.now }
     {
         self.next
+    }
+
+    /// The score of the next lower scoregroup, in half points; 0 if there is none.
+    pub(crate) fn score_below(&self) -> u16
+        ensures { 0 < length (group_below self.now.facts self.now.lower) → result ≡ score_below self.now.facts self.now.lower }
+    {
+        match self.next().first() {
+            Some(seat) => self.field.score(*seat),
+            None => 0,
+        }
+    }
+
+    /// The seat of a number; behind those of the bracket come those of the next lower scoregroup.
+    pub(crate) fn seat_below(&self, number: u16) -> u16
+        requires { (0 < number) × (number ≤ count_below self.now.facts self.now.reached self.now.lower) }
+        ensures value { result ≡ seat_below self.now.facts self.now.reached self.now.lower number }
+        ensures inside { result < length self.now.facts.seats }
+    {
+        let place = usize::from(number) - 1;
+        let seats = self.reached().seats();
+        if place < seats.len() {
+            seats[place]
+        } else {
+            self.next()[place - seats.len()]
+        }
+    }
+
+    /// How many numbers the bracket and the next lower scoregroup have.
+    pub(crate) fn len_below(&self) -> usize
+        ensures value { result ≡ count_below self.now.facts self.now.reached self.now.lower }
+        ensures few { result ≤ LIMIT }
+        ensures more { self.now.reached.kind ≡ Ordinary → length self.now.reached.seats < result }
+    {
+        self.len() + self.next().len()
     }
 
     /// The bracket by scores.

@@ -8,12 +8,14 @@
 //! proved that some number of steps decides a bracket.
 //!
 //! Lists are arrays with room for 1,024 numbers on the stack, some 2 MiB of it for a round. On the heap are the boards, the last 64
-//! values of C.7, for a bracket some bits for each two players, and a matching while it is looked for. If memory is refused, a call says so;
-//! only a value of C.7 is then merely not kept, and players are paired out by the search without a matching.
+//! values of C.7, for a bracket some bits for each two players, where its pairs are weighed also what these weigh and a few floors as large, and
+//! a matching while it is looked for. If memory is refused, a call says so; only a value of C.7 is then merely not kept, players are paired out
+//! by the search without a matching, and no floor by weight is found.
 //!
 //! To mind: players are named by seat in a field, by number from 1 in a bracket, and by start rank on boards alone.
 #![tactic(auto)]
 
+mod aiming;
 mod asking;
 mod barrier;
 mod begun;

@@ -75,7 +75,7 @@ impl NextValue {
 pub struct Quality {
     pub(crate) psd: Numbers,
     next_pairs: Reverse<usize>,
-    next_psd: Numbers,
+    pub(crate) next_psd: Numbers,
     wide_differences: u16,
     third_colours: u16,
     pub(crate) missed_preferences: u16,

@@ -1,8 +1,9 @@
-// The players of a bracket, or all lower ones too, who are in none of some pairs, as a graph with costs, for whoever
-// looks for a cheapest matching of them (C.04.3 C.4, C.6, C.8 to C.19).
+// The players of a bracket, and all lower ones or those of the next lower scoregroup too, who are in none of some pairs, as a graph with costs,
+// for whoever looks for a cheapest matching of them (C.04.3 C.4, C.6 to C.19).
 //
 // A pair costs half of what it weighs: whoever looks for the matching counts all costs twice. Whoever is left over costs so much more that
-// as many pairs are made as can be; and far more whoever is in a pair in all arrangements that are looked at.
+// as many pairs are made as can be, or no more where the weights tell of the next bracket (C.7); and far more whoever is in a pair in all
+// arrangements that are looked at.
 ghost use Rattle.std.specs.Prelude.{◌≡◌, ◌≤◌, All, IfOk, length};
 ghost use Rattle.dutch_order.specs.declared.numbers.TheConstants.{LIMIT};
 ghost use Rattle.dutch_pair.specs.Scopes.{IsReached};
@@ -15,8 +16,12 @@ use std::alloc::AllocError;
 use std::marker::Model;
 use wide::Wide;
 
-/// Whoever is in a pair in all arrangements is left over at so many times what it costs others.
-const NEVER_LEFT: u32 = 2048;
+/// What it costs to be left over, beside half of the weight, and what it costs whoever is in a pair in all arrangements.
+#[derive(Clone, Copy)]
+pub(crate) struct Alone {
+    pub(crate) cost: Wide,
+    pub(crate) never: Wide,
+}
 
 /// The players over whom matchings go, without those who are in some pairs.
 #[derive(Drop)]
@@ -24,8 +29,7 @@ pub(crate) struct Rest<'a, 'b> {
     scoped: &'b Scoped<'a, 'b>,
     // the vertices, by number
     numbers: Vec<u16>,
-    // what it costs to be left over, beside half of the weight
-    alone: Wide,
+    alone: Alone,
 }
 
 impl<'a, 'b> Model for Rest<'a, 'b> {
@@ -61,11 +65,11 @@ fn numbers_beside(scoped: &Scoped<'_, '_>, pairs: &[Pair]) -> Result<Vec<u16>, A
 }
 
 impl<'a, 'b> Rest<'a, 'b> {
-    /// The players who are in none of some pairs of numbers. To be left over costs so much beside half of the weight.
+    /// The players who are in none of some pairs of numbers, and what it costs to be left over.
     pub(crate) fn beside(
         scoped: &'b Scoped<'a, 'b>,
         pairs: &[Pair],
-        alone: Wide,
+        alone: Alone,
     ) -> Result<Rest<'a, 'b>, AllocError> {
         let numbers = numbers_beside(scoped, pairs)?;
         Ok(Rest {
@@ -89,7 +93,7 @@ impl<'a, 'b> Rest<'a, 'b> {
 
     /// What it costs to be left over, beside half of the weight.
     pub(crate) fn alone(&self) -> Wide {
-        self.alone
+        self.alone.cost
     }
 }
 
@@ -115,11 +119,11 @@ impl<'a, 'b> Costs for Rest<'a, 'b> {
     fn left_cost(&self, a: u16) -> Option<Wide> {
         let a = self.numbers[usize::from(a)];
         if self.scoped.must_meet(a) {
-            return self.alone.times(NEVER_LEFT);
+            return Some(self.alone.never);
         }
         if !self.scoped.may_be_left(a) {
             return None;
         }
-        self.scoped.left_cost(a).halved().plus(self.alone)
+        self.scoped.left_cost(a).halved().plus(self.alone.cost)
     }
 }

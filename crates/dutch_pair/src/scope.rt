@@ -7,12 +7,17 @@
 // In the penultimate bracket a candidate can be chosen only if those who go down can be paired out with all lower
 // players (C.4). There the matchings go over these too. Whoever goes down is paired out in them, and weighs what a
 // downfloater does; lower players weigh nothing.
+//
+// In an ordinary bracket they can go over the next lower scoregroup (C.7). There those who go down meet its members, and
+// what is in no pair, and the differences, weigh by the digits of C.7.
 ghost use Rattle.std.specs.Prelude.{◌≡◌, ◌+◌, ◌<◌, ◌≤◌, ◌^◌, IfSome, true, length, min, slice_index, if◌then◌else◌, nat_lt};
 ghost use Rattle.dutch_order.specs.declared.prefix.Filling.TheVariants.{S2r};
 ghost use Rattle.dutch_pair.specs.FloorOf.{has_s1};
 ghost use Rattle.dutch_order.specs.declared.numbers.TheConstants.{LIMIT};
 ghost use Rattle.dutch_order.specs.Choices.{is_member};
-ghost use Rattle.dutch_pair.specs.Scopes.{Covers, TellsSides, any_seat, both_go, bracket_costs};
+ghost use Rattle.dutch_pair.specs.declared.scope.Reach.TheVariants.{Next};
+ghost use Rattle.dutch_pair.specs.Scopes.{Covers, IsReached, MeasuresNext, TellsSides, any_seat, are_inside, both_go, bracket_costs};
+ghost use Rattle.dutch_pair.specs.Scopes.{is_number_below, may_meet_below, pair_weight_below};
 ghost use Rattle.dutch_pair.specs.Scopes.{going_weight, goes_down, is_inside, is_joined, lower_costs, may_pair_out};
 ghost use Rattle.dutch_pair.specs.Scopes.{may_stay, moved_down_side, resident_side, side_in, side_of, size_by};
 ghost use Rattle.dutch_pair.specs.WeightTables.{IsNumber};
@@ -251,6 +256,8 @@ pub(crate) enum Reach {
     Bracket,
     /// All lower players too, with whom those who go down are paired out.
     Lower,
+    /// The next lower scoregroup too, whom those who go down can meet in the next bracket.
+    Next,
 }
 
 /// What pairs and downfloaters weigh in the arrangements of a scope, and what an order adds to pairs of residents (D.2).
@@ -266,13 +273,14 @@ pub(crate) struct Scoped<'a, 'b> {
 }
 
 impl<'a, 'b> Model for Scoped<'a, 'b> {
-    ghost use Rattle.dutch_pair.specs.Scopes.{Scoped, TellsSides};
+    ghost use Rattle.dutch_pair.specs.Scopes.{MeasuresNext, Scoped, TellsSides};
 
     ghost Value = { Scoped };
 
     ghost view = { λ s. record { weighing = s.weighing.now; scope = s.scope.now; reach = s.reach; order = s.order.now } };
 
-    ghost invariant = { λ s. TellsSides s.weighing.now.reached.mdps s.scope.now s.sides.items };
+    ghost invariant = { λ s.
+        TellsSides s.weighing.now.reached.mdps s.scope.now s.sides.items × MeasuresNext s.reach s.weighing.now.scale };
 }
 
 /// Where each number of a bracket stands in the arrangements of a scope.
@@ -319,6 +327,7 @@ impl<'a, 'b> Scoped<'a, 'b> {
         reach: Reach,
         order: &'b Order,
     ) -> Scoped<'a, 'b>
+        requires { MeasuresNext reach weighing.now.scale }
         ensures { result ≡ record { weighing = weighing.now; scope = scope.now; reach = reach; order = order.now } }
     {
         let sides = sides(weighing.context(), scope);
@@ -347,6 +356,7 @@ impl<'a, 'b> Scoped<'a, 'b> {
         match self.reach {
             Reach::Bracket => context.len(),
             Reach::Lower => context.len() + context.lower().len(),
+            Reach::Next => context.len_below(),
         }
     }
 
@@ -466,6 +476,46 @@ impl<'a, 'b> Scoped<'a, 'b> {
         }
     }
 
+    /// Whether two are both numbers of the bracket.
+    fn are_inside(&self, a: u16, b: u16) -> bool
+        ensures { result ≡ are_inside self.now a b }
+    {
+        self.is_inside(a) && self.is_inside(b)
+    }
+
+    /// Whether a number is one of the bracket's or of the next lower scoregroup's.
+    fn is_number_below(&self, a: u16) -> bool
+        ensures { result ≡ is_number_below self.now.weighing a }
+    {
+        0 < a && usize::from(a) <= self.weighing.context().len_below()
+    }
+
+    /// Whether two may meet in the next bracket (C.1, C.3, C.7).
+    fn may_meet_below(&self, a: u16, b: u16) -> bool
+        ensures { result ≡ may_meet_below self.now a b }
+    {
+        if !self.both_go(a, b) || !self.is_number_below(a) || !self.is_number_below(b) {
+            return false;
+        }
+        let context = self.weighing.context();
+        let field = context.field();
+        a != b && field.may_meet(context.seat_below(a), context.seat_below(b))
+    }
+
+    /// What two weigh as a pair of the next bracket (C.7).
+    fn weight_below(&self, a: u16, b: u16) -> Wide
+        requires next { self.now.reach ≡ Next }
+        requires first { IsReached self.now a }
+        requires second { IsReached self.now b }
+        ensures { result ≡ pair_weight_below self.now a b }
+    {
+        if self.is_inside(a) {
+            self.weighing.met(a)
+        } else {
+            self.weighing.met(b)
+        }
+    }
+
     /// What two weigh at least, as a pair of the bracket or as two who go down.
     fn least_weight(&self, a: u16, b: u16) -> Wide
         requires first { 0 < a }
@@ -496,6 +546,13 @@ impl Rule for Scoped<'_, '_> {
         match self.reach {
             Reach::Bracket => self.may_pair(a, b),
             Reach::Lower => self.may_pair(a, b) || self.may_pair_out(a, b),
+            Reach::Next => {
+                if self.are_inside(a, b) {
+                    self.may_pair(a, b)
+                } else {
+                    self.may_meet_below(a, b)
+                }
+            }
         }
     }
 
@@ -503,6 +560,13 @@ impl Rule for Scoped<'_, '_> {
         match self.reach {
             Reach::Bracket => self.ordered(a, b),
             Reach::Lower => self.least_weight(a, b),
+            Reach::Next => {
+                if self.are_inside(a, b) {
+                    self.ordered(a, b)
+                } else {
+                    self.weight_below(a, b)
+                }
+            }
         }
     }
 
@@ -510,6 +574,7 @@ impl Rule for Scoped<'_, '_> {
         match self.reach {
             Reach::Bracket => self.side(a).may_stay() && self.weighing.may_be_left(a),
             Reach::Lower => self.may_have_bye(a),
+            Reach::Next => self.goes_down(a),
         }
     }
 
@@ -517,6 +582,7 @@ impl Rule for Scoped<'_, '_> {
         match self.reach {
             Reach::Bracket => self.weighing.left_cost(a),
             Reach::Lower => self.going_weight(a),
+            Reach::Next => self.weighing.alone(a),
         }
     }
 }

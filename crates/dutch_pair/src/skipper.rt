@@ -15,7 +15,7 @@ ghost use Rattle.dutch_pair.specs.Quality.{is_better};
 ghost use Rattle.dutch_pair.specs.QualityIn.{next_in, quality_in};
 ghost use Rattle.dutch_pair.specs.Kept.{wins};
 ghost use Rattle.dutch_pair.specs.Outlooks.{HasNoBetter};
-ghost use Rattle.dutch_pair.specs.WeightFloors.{AreOf, BeginsWith, HasBar, WeighsNoLess, kept_in};
+ghost use Rattle.dutch_pair.specs.WeightFloors.{AreOf, BeginsWith, HasBar, KnowsNext, WeighsNoLess, kept_in};
 ghost use Rattle.dutch_pair.specs.Round.{can_be_chosen, candidates_of, quality_of};
 ghost use Rattle.dutch_pair.specs.Aims.{aim_in, beats, is_dull, is_idle};
 ghost use Rattle.dutch_pair.specs.KnownBeside.{AreKnown, Holds, turned};
@@ -277,10 +277,24 @@ impl<'a, 'k> Skipper<'a, 'k> {
         is_idle(&room.quality, &self.pass.aim, self.kept)
     }
 
+    /// Whether no candidate with a beginning has a better value of the next bracket than a quality says, or the weights tell
+    /// of that (C.7).
+    fn knows_next(&self, prefix: &Prefix<'_>, quality: &Quality) -> bool
+        ensures { result ≡ true → (a : Arrangement) → IsIn a (candidates_of self.now.pass.now.context.now.facts self.now.pass.now.context.now.reached self.now.pass.now.shape)
+            → Begins prefix.now a → KnowsNext self.now.weights.now
+            (quality_of self.now.pass.now.context.now.facts self.now.pass.now.context.now.reached self.now.pass.now.context.now.lower a) (next_in (quality_in quality.now)) }
+    {
+        let _reached = self.pass.context.reached();
+        match self.weights {
+            Some(weights) if weights.counts_next() => true,
+            _ => has_no_better_next(self.pass, prefix, quality),
+        }
+    }
+
     /// Whether the aim is better than all candidates with a beginning that weigh so much at least.
     fn is_behind_aim(&self, prefix: &Prefix<'_>, least: Wide) -> bool
         ensures { result ≡ true → (a : Arrangement) → IsIn a (candidates_of self.now.pass.now.context.now.facts self.now.pass.now.context.now.reached self.now.pass.now.shape)
-            → Begins prefix.now a → WeighsNoLess self.now.weights.now (length self.now.pass.now.context.now.reached.seats) least
+            → Begins prefix.now a → WeighsNoLess self.now.pass.now.context.now self.now.pass.now.shape self.now.weights.now least
             (quality_of self.now.pass.now.context.now.facts self.now.pass.now.context.now.reached self.now.pass.now.context.now.lower a)
             → beats (aim_in self.now.pass.now.aim)
             (quality_of self.now.pass.now.context.now.facts self.now.pass.now.context.now.reached self.now.pass.now.context.now.lower a) ≡ true }
@@ -292,13 +306,13 @@ impl<'a, 'k> Skipper<'a, 'k> {
         let Some(aim) = &self.pass.aim else {
             return false;
         };
-        bar.is_passed(least) && (bar.is_above(least) || has_no_better_next(self.pass, prefix, aim))
+        bar.is_passed(least) && (bar.is_above(least) || self.knows_next(prefix, aim))
     }
 
     /// Whether no candidate with a beginning that weighs so much at least is better than the one that is kept.
     fn is_behind_kept(&self, prefix: &Prefix<'_>, least: Wide) -> bool
         ensures { result ≡ true → (a : Arrangement) → IsIn a (candidates_of self.now.pass.now.context.now.facts self.now.pass.now.context.now.reached self.now.pass.now.shape)
-            → Begins prefix.now a → WeighsNoLess self.now.weights.now (length self.now.pass.now.context.now.reached.seats) least
+            → Begins prefix.now a → WeighsNoLess self.now.pass.now.context.now self.now.pass.now.shape self.now.weights.now least
             (quality_of self.now.pass.now.context.now.facts self.now.pass.now.context.now.reached self.now.pass.now.context.now.lower a)
             → not (wins
             (quality_of self.now.pass.now.context.now.facts self.now.pass.now.context.now.reached self.now.pass.now.context.now.lower a) self.now.kept.now) ≡ true }
@@ -310,8 +324,7 @@ impl<'a, 'k> Skipper<'a, 'k> {
         let Some(best) = self.kept else {
             return false;
         };
-        bar.is_above(least)
-            || (bar.is_reached(least) && has_no_better_next(self.pass, prefix, &best.quality))
+        bar.is_above(least) || (bar.is_reached(least) && self.knows_next(prefix, &best.quality))
     }
 
     /// Whether no candidate with a beginning that can be chosen is of interest by what all of them weigh at least by one of the floors.

@@ -1,4 +1,4 @@
-// Tables for the check, made of the certificate that comes with a cheapest matching (C.04.3 C.6, C.8 to C.19).
+// Tables for the check, made of the certificate that comes with a cheapest matching (C.04.3 C.6 to C.19).
 //
 // The certificate is of the players who are in none of some pairs; in the table all players stand over whom the matching
 // goes. Whoever is in one of the pairs has a potential of 0, while all others have more, and pairs are given more. So

@@ -1,18 +1,23 @@
-// What each pair and each downfloater of a bracket weighs alone (C.04.3 C.6, C.8 to C.19), worked out once for all certificates of the bracket.
-ghost use Rattle.std.specs.Prelude.{◌≡◌, ◌+◌, ◌*◌, ◌<◌, ◌≤◌, ◌^◌, true, false, [], ◌∷◌, IfOk, MatchOption, length};
-ghost use Rattle.std.specs.Option.{SomeIff};
+// What each pair and each downfloater of a bracket weighs alone (C.04.3 C.6, C.8 to C.19), and what each number weighs in the next bracket, where
+// that is measured (C.7), worked out once for all certificates of the bracket.
+ghost use Rattle.std.specs.Prelude.{◌≡◌, ◌+◌, ◌*◌, ◌<◌, ◌≤◌, ◌^◌, true, false, [], ◌∷◌, IfOk, MatchOption, is_some, length, slice_index};
+ghost use Rattle.std.specs.Option.{ForSome, SomeIff};
+ghost use Rattle.dutch_pair.specs.declared.reached.BracketKind.TheVariants.{Ordinary};
 ghost use Rattle.dutch_pair.specs.Beginnings.{seated_so};
 ghost use Rattle.dutch_pair.specs.NextBracket.{no_value};
 ghost use Rattle.dutch_pair.specs.Quality.{quality_with};
 ghost use Rattle.dutch_pair.specs.Seated.{HasSeats, seat_of};
-ghost use Rattle.dutch_pair.specs.WeightTables.{HasAll, HasPairs, IsHeavy, IsNumber, TellsDown, TellsPairs, TellsPairsUpto, down_weight, pair_weight, place_in, weighed_on};
-ghost use Rattle.dutch_pair.specs.Weights.{weight_of};
+ghost use Rattle.dutch_pair.specs.NextMatchings.{count_below};
+ghost use Rattle.dutch_pair.specs.WeightTables.{HasAll, HasBelow, HasPairs, IsHeavy, IsNumber, IsNumberBelow, TellsAlone, TellsBelow};
+ghost use Rattle.dutch_pair.specs.WeightTables.{TellsDown, TellsMet, TellsPairs, TellsPairsUpto, alone_weight, down_weight, met_weight, own_weight};
+ghost use Rattle.dutch_pair.specs.WeightTables.{pair_weight, place_in, weighed_on};
+ghost use Rattle.dutch_pair.specs.Weights.{weight_with};
 
 use crate::context::Context;
 use crate::pair_facts::place_of;
 use crate::quality::{Quality, Room, fill_seated};
 use crate::scale::Scale;
-use crate::seated::Seated;
+use crate::seated::{Seated, difference_down};
 use dutch_order::Rule;
 use dutch_player::Field;
 use std::alloc::{AllocError, Global};
@@ -28,10 +33,19 @@ pub(crate) struct Weighing<'a> {
     pairs: Vec<Wide>,
     // of each number
     down: Vec<Wide>,
+    // of each number of the bracket and the next lower scoregroup, if C.7 is measured
+    below: Below,
+}
+
+/// What numbers weigh that meet somebody in the next bracket, and what they weigh that are in no pair there (C.7).
+#[derive(Drop)]
+struct Below {
+    met: Vec<Wide>,
+    alone: Vec<Wide>,
 }
 
 impl<'a> Model for Weighing<'a> {
-    ghost use Rattle.dutch_pair.specs.WeightTables.{HasAll, HasPairs, TellsDown, TellsPairs, weighed_on};
+    ghost use Rattle.dutch_pair.specs.WeightTables.{HasAll, HasPairs, TellsBelow, TellsDown, TellsPairs, weighed_on};
     ghost use Rattle.dutch_pair.specs.Weights.{Weighing};
 
     ghost Value = { Weighing };
@@ -40,7 +54,8 @@ impl<'a> Model for Weighing<'a> {
 
     ghost invariant = { λ w.
         (HasPairs (weighed_on w.context.now w.scale) w.pairs.items × TellsPairs (weighed_on w.context.now w.scale) w.pairs.items)
-        × (HasAll (weighed_on w.context.now w.scale) w.down.items × TellsDown (weighed_on w.context.now w.scale) w.down.items) };
+        × (HasAll (weighed_on w.context.now w.scale) w.down.items × TellsDown (weighed_on w.context.now w.scale) w.down.items)
+        × TellsBelow (weighed_on w.context.now w.scale) w.below.met.items w.below.alone.items };
 }
 
 /// What the weights of a bracket are worked out by.
@@ -86,13 +101,13 @@ fn seat_one_down(context: &Context<'_>, a: u16, seated: &mut Seated)
     seated.lowest = context.lowest();
 }
 
-/// The weight of some pairs and downfloaters by seats; none if it is 2^512 or more.
+/// What some pairs and downfloaters by seats weigh, whatever the next bracket is; none if it is 2^512 or more.
 fn weigh(field: &Field, scale: &Scale, seated: &Seated, quality: &mut Quality) -> Option<Wide>
     requires { HasSeats field.now seated.now }
-    ensures { let weight = weight_of scale.now (quality_with field.now seated.now no_value) in SomeIff result (weight < 2 ^ 512) weight }
+    ensures { let weight = weight_with scale.now 0 [] (quality_with field.now seated.now no_value) in SomeIff result (weight < 2 ^ 512) weight }
 {
     fill_seated(field, seated, quality);
-    scale.weigh(quality)
+    scale.weigh_alone(quality)
 }
 
 impl Weigher<'_> {
@@ -181,6 +196,87 @@ impl Weigher<'_> {
     }
 }
 
+impl Weigher<'_> {
+    /// What a number weighs as a downfloater, if it is one of the bracket.
+    fn own(&self, a: u16, down: &[Wide]) -> Wide
+        requires number { IsNumberBelow self.now a }
+        requires room { HasAll self.now down.now }
+        requires told { TellsDown self.now down.now }
+        ensures { result ≡ own_weight self.now a }
+    {
+        if usize::from(a) <= self.context.len() {
+            down[usize::from(a) - 1]
+        } else {
+            Wide::zero()
+        }
+    }
+
+    /// What a number weighs that meets one of the next lower scoregroup; none if it is 2^512 or more.
+    fn met(&self, a: u16, down: &[Wide]) -> Option<Wide>
+        requires number { IsNumberBelow self.now a }
+        requires group { length self.now.reached.seats < count_below self.now.facts self.now.reached self.now.lower }
+        requires room { HasAll self.now down.now }
+        requires told { TellsDown self.now down.now }
+        ensures { SomeIff result (met_weight self.now a < 2 ^ 512) (met_weight self.now a) }
+    {
+        let score = self.context.field().score(self.context.seat_below(a));
+        let difference = score.saturating_sub(self.context.score_below());
+        let below = self.scale.weigh_below(0, difference)?;
+        self.own(a, down).plus(below)
+    }
+
+    /// What a number weighs that is in no pair of the next bracket; none if it is 2^512 or more.
+    fn alone(&self, a: u16, down: &[Wide]) -> Option<Wide>
+        requires number { IsNumberBelow self.now a }
+        requires group { length self.now.reached.seats < count_below self.now.facts self.now.reached self.now.lower }
+        requires room { HasAll self.now down.now }
+        requires told { TellsDown self.now down.now }
+        ensures { SomeIff result (alone_weight self.now a < 2 ^ 512) (alone_weight self.now a) }
+    {
+        let field = self.context.field();
+        let seat = self.context.seat_below(a);
+        let difference = difference_down(field, self.context.score_below(), seat);
+        let below = self.scale.weigh_below(1, difference)?;
+        self.own(a, down).plus(below)
+    }
+
+    /// Puts what all numbers weigh that meet one of the next lower scoregroup into a table.
+    fn put_met(&self, down: &[Wide], table: &mut [Wide]) -> bool
+        requires group { length self.now.reached.seats < count_below self.now.facts self.now.reached self.now.lower }
+        requires room { HasAll self.now down.now }
+        requires told { TellsDown self.now down.now }
+        requires table { HasBelow self.now table.old }
+        ensures told { result ≡ true → TellsMet self.now table.new }
+        ensures heavy { result ≡ false → IsHeavy self.now (2 ^ 512) }
+    {
+        for a in 0..self.context.len_below() {
+            match self.met(a as u16 + 1, down) {
+                Some(weight) => table[a] = weight,
+                None => return false,
+            }
+        }
+        true
+    }
+
+    /// Puts what all numbers weigh that are in no pair of the next bracket into a table.
+    fn put_alone(&self, down: &[Wide], table: &mut [Wide]) -> bool
+        requires group { length self.now.reached.seats < count_below self.now.facts self.now.reached self.now.lower }
+        requires room { HasAll self.now down.now }
+        requires told { TellsDown self.now down.now }
+        requires table { HasBelow self.now table.old }
+        ensures told { result ≡ true → TellsAlone self.now table.new }
+        ensures heavy { result ≡ false → IsHeavy self.now (2 ^ 512) }
+    {
+        for a in 0..self.context.len_below() {
+            match self.alone(a as u16 + 1, down) {
+                Some(weight) => table[a] = weight,
+                None => return false,
+            }
+        }
+        true
+    }
+}
+
 /// The weights of all pairs, row by row; none if one of them is 2^512 or more.
 fn weigh_pairs(
     alloc: Global,
@@ -216,12 +312,78 @@ fn weigh_down(
     }
 }
 
+/// What all numbers weigh that meet one of the next lower scoregroup; none if one of them is 2^512 or more.
+fn weigh_met(
+    alloc: Global,
+    weigher: &Weigher<'_>,
+    down: &[Wide],
+) -> Result<Option<Vec<Wide>>, AllocError>
+    requires ordinary { weigher.now.reached.kind ≡ Ordinary }
+    requires room { HasAll weigher.now down.now }
+    requires told { TellsDown weigher.now down.now }
+    ensures { IfOk result (λ weighed. MatchOption weighed (IsHeavy weigher.now (2 ^ 512)) (λ table. TellsMet weigher.now table.items)) }
+{
+    let mut table = vec![in alloc; Wide::zero(); weigher.context.len_below()]?;
+    if weigher.put_met(down, &mut table) {
+        Ok(Some(table))
+    } else {
+        Ok(None)
+    }
+}
+
+/// What all numbers weigh that are in no pair of the next bracket; none if one of them is 2^512 or more.
+fn weigh_alone(
+    alloc: Global,
+    weigher: &Weigher<'_>,
+    down: &[Wide],
+) -> Result<Option<Vec<Wide>>, AllocError>
+    requires ordinary { weigher.now.reached.kind ≡ Ordinary }
+    requires room { HasAll weigher.now down.now }
+    requires told { TellsDown weigher.now down.now }
+    ensures { IfOk result (λ weighed. MatchOption weighed (IsHeavy weigher.now (2 ^ 512)) (λ table. TellsAlone weigher.now table.items)) }
+{
+    let mut table = vec![in alloc; Wide::zero(); weigher.context.len_below()]?;
+    if weigher.put_alone(down, &mut table) {
+        Ok(Some(table))
+    } else {
+        Ok(None)
+    }
+}
+
+/// What all numbers weigh in the next bracket, if C.7 is measured; none if one of them weighs 2^512 or more.
+fn weigh_next(
+    alloc: Global,
+    weigher: &Weigher<'_>,
+    down: &[Wide],
+) -> Result<Option<Below>, AllocError>
+    requires room { HasAll weigher.now down.now }
+    requires told { TellsDown weigher.now down.now }
+    requires next { ForSome weigher.now.scale.next (λ _. weigher.now.reached.kind ≡ Ordinary) }
+    ensures { IfOk result (λ weighed. MatchOption weighed (IsHeavy weigher.now (2 ^ 512))
+        (λ below. TellsBelow weigher.now below.met.items below.alone.items)) }
+{
+    if !weigher.scale.counts_next() {
+        return Ok(Some(Below {
+            met: Vec::new(alloc),
+            alone: Vec::new(alloc),
+        }));
+    }
+    let Some(met) = weigh_met(alloc, weigher, down)? else {
+        return Ok(None);
+    };
+    let Some(alone) = weigh_alone(alloc, weigher, down)? else {
+        return Ok(None);
+    };
+    Ok(Some(Below { met, alone }))
+}
+
 impl<'a> Weighing<'a> {
     /// Works out all weights of a bracket; none if one of them is 2^512 or more.
     pub(crate) fn read(
         context: &'a Context<'a>,
         scale: Scale,
     ) -> Result<Option<Weighing<'a>>, AllocError>
+        requires { ForSome scale.next (λ _. context.now.reached.kind ≡ Ordinary) }
         ensures { let weighed = weighed_on context.now scale
             in IfOk result (λ read. MatchOption read (IsHeavy weighed (2 ^ 512)) (λ weighing. weighing ≡ weighed)) }
     {
@@ -236,11 +398,15 @@ impl<'a> Weighing<'a> {
         let Some(down) = weigh_down(context.alloc(), &weigher, &mut room)? else {
             return Ok(None);
         };
+        let Some(below) = weigh_next(context.alloc(), &weigher, &down)? else {
+            return Ok(None);
+        };
         Ok(Some(Weighing {
             context,
             scale,
             pairs,
             down,
+            below,
         }))
     }
 
@@ -258,6 +424,37 @@ impl<'a> Weighing<'a> {
         ensures lower { result.now.lower ≡ self.now.lower }
     {
         self.context
+    }
+}
+
+impl Weighing<'_> {
+    /// What a number weighs that meets one of the next lower scoregroup (C.7).
+    pub(crate) fn met(&self, a: u16) -> Wide
+        requires number { IsNumberBelow self.now a }
+        requires some { is_some self.now.scale.next ≡ true }
+        ensures { result ≡ met_weight self.now a }
+    {
+        at(&self.below.met, usize::from(a) - 1)
+    }
+
+    /// What a number weighs that is in no pair of the next bracket (C.7).
+    pub(crate) fn alone(&self, a: u16) -> Wide
+        requires number { IsNumberBelow self.now a }
+        requires some { is_some self.now.scale.next ≡ true }
+        ensures { result ≡ alone_weight self.now a }
+    {
+        at(&self.below.alone, usize::from(a) - 1)
+    }
+}
+
+/// A weight of a table, 0 past its end.
+fn at(table: &[Wide], place: usize) -> Wide
+    ensures { result ≡ slice_index table.now place }
+{
+    if place < table.len() {
+        table[place]
+    } else {
+        Wide::zero()
     }
 }
 

@@ -1,20 +1,22 @@
-// Floors of a bracket by the weight of its candidates (C.04.3 C.6, C.8 to C.19), and what they say behind a beginning. They are asked at each
-// beginning that a choice comes to, so an answer takes no memory, and looks at each pair of the beginning once for each floor.
-ghost use Rattle.std.specs.Prelude.{◌≡◌, ◌+◌, ◌-◌, ◌*◌, ◌<◌, ◌≤◌, ◌⊎◌, ◌↔◌, All, IfOk, IfSome, IsTrue, true, drop, length, sum_by, if◌then◌else◌};
+// Floors of a bracket by the weight of its candidates (C.04.3 C.6, C.8 to C.19, and C.7 where that is measured), and what they say behind a
+// beginning. They are asked at each beginning that a choice comes to, so an answer takes no memory, and looks at each pair of the beginning once
+// for each floor.
+ghost use Rattle.std.specs.Prelude.{◌≡◌, ◌+◌, ◌-◌, ◌*◌, ◌<◌, ◌≤◌, ◌⊎◌, ◌↔◌, All, IfOk, IfSome, IsTrue, is_some, true, drop, length, sum_by, if◌then◌else◌};
 ghost use Rattle.std.specs.List.{zip};
 ghost use Rattle.dual.specs.Floors.{extra_in, extra_left_in};
 ghost use Rattle.dutch_order.specs.declared.numbers.TheConstants.{LIMIT};
-ghost use Rattle.dutch_pair.specs.declared.scope.Reach.TheVariants.{Lower};
+ghost use Rattle.dutch_pair.specs.declared.scope.Reach.TheVariants.{Lower, Next};
 ghost use Rattle.dutch_pair.specs.Quality.{one_if};
 ghost use Rattle.dutch_pair.specs.QualityIn.{quality_in};
 ghost use Rattle.dutch_pair.specs.Round.{is_penultimate};
+ghost use Rattle.dutch_pair.specs.Weights.{IsScaleFor};
 ghost use Rattle.dutch_pair.specs.WeightFloors.{IsMostAdded, IsWeightFloor, Weighed, bound_behind, is_first, left_known, passed_over};
 
 use crate::begun::fixed_lists;
 use crate::context::Context;
 use crate::order::{Halves, Order};
 use crate::quality::Quality;
-use crate::scale::Scale;
+use crate::scale::{Extent, Scale};
 use crate::scope::{Reach, Scope, Scoped};
 use crate::trail::Trail;
 use crate::weighing::Weighing;
@@ -266,19 +268,24 @@ fn order_bits(context: &Context<'_>) -> u32 {
 
 /// A scale with digits for C.16 to C.19 and room for the order of S1R (D.2), as far as sums of the weights of all players fit, those twice over,
 /// and what it costs to be left over.
-fn scale_for(context: &Context<'_>) -> Scale
-    ensures high { length context.now.reached.seats < result.base }
+fn scale_for(context: &Context<'_>, shape: Shape, next: bool) -> Scale
+    ensures { IsScaleFor context.now.facts context.now.reached context.now.lower shape result }
 {
     let order = order_bits(context);
-    for with_floats in [true, false] {
+    for floats in [true, false] {
         for spare in [order, 0] {
-            let scale = Scale::of(context, with_floats, spare);
+            let extent = Extent {
+                next,
+                floats,
+                spare,
+            };
+            let scale = Scale::of(context, shape, extent);
             if scale.width() <= MOST_BITS {
                 return scale;
             }
         }
     }
-    Scale::of(context, false, 0)
+    Scale::of(context, shape, Extent::least(next))
 }
 
 impl<'a> WeightFloors<'a> {
@@ -286,7 +293,7 @@ impl<'a> WeightFloors<'a> {
 
     /// The floors of a bracket and a shape: none so far.
     fn new(weighing: Weighing<'a>, shape: Shape) -> WeightFloors<'a>
-        requires { length weighing.reached.seats < weighing.scale.base }
+        requires { IsScaleFor weighing.facts weighing.reached weighing.lower shape weighing.scale }
         ensures { result ≡ record {
           facts = weighing.entry.facts;
           reached = weighing.entry.reached;
@@ -311,7 +318,7 @@ impl<'a> WeightFloors<'a> {
         shape: Shape,
         scale: Scale,
     ) -> Result<Option<WeightFloors<'a>>, AllocError>
-        requires high { length context.now.reached.seats < scale.base }
+        requires { IsScaleFor context.now.facts context.now.reached context.now.lower shape scale }
         ensures { IfOk result (λ found. IfSome found (AreOf context.now.facts context.now.reached context.now.lower shape)) }
     {
         match Weighing::read(context, scale)? {
@@ -320,14 +327,15 @@ impl<'a> WeightFloors<'a> {
         }
     }
 
-    /// The same on a scale with as many digits as there is room for.
+    /// The same on a scale with as many digits as there is room for, and with those of C.7 if they are wanted.
     pub(crate) fn weighed(
         context: &'a Context<'a>,
         shape: Shape,
+        next: bool,
     ) -> Result<Option<WeightFloors<'a>>, AllocError>
         ensures { IfOk result (λ found. IfSome found (AreOf context.now.facts context.now.reached context.now.lower shape)) }
     {
-        WeightFloors::read(context, shape, scale_for(context))
+        WeightFloors::read(context, shape, scale_for(context, shape, next))
     }
 
     /// How many steps a walk still makes before it is told more, that has made so many.
@@ -335,10 +343,15 @@ impl<'a> WeightFloors<'a> {
         self.trail.patience(self.weighing.context().len(), made)
     }
 
-    /// Over whom the matchings go: in the penultimate bracket over all lower players too (C.4), unless they are too many.
+    /// Over whom the matchings go: over the next lower scoregroup too if C.7 is measured; in the penultimate bracket over
+    /// all lower players too (C.4), unless they are too many.
     pub(crate) fn reach(&self) -> Reach
-        ensures { result ≡ Lower → is_penultimate self.now.reached.kind ≡ true }
+        ensures lower { result ≡ Lower → is_penultimate self.now.reached.kind ≡ true }
+        ensures next { result ≡ Next → is_some self.now.scale.next ≡ true }
     {
+        if self.weighing.scale().counts_next() {
+            return Reach::Next;
+        }
         let context = self.weighing.context();
         let is_penultimate = context.reached().kind().is_penultimate();
         if is_penultimate && context.len() + context.lower().len() <= MOST_REACHED {
@@ -356,6 +369,7 @@ impl<'a> WeightFloors<'a> {
         match self.reach() {
             Reach::Bracket => context.len(),
             Reach::Lower => context.len() + context.lower().len(),
+            Reach::Next => context.len_below(),
         }
     }
 
@@ -382,6 +396,7 @@ impl<'a> WeightFloors<'a> {
         match self.reach() {
             Reach::Bracket => self.check_bracket(table, scope, order),
             Reach::Lower => self.check_lower(table, scope, order),
+            Reach::Next => self.check_next(table, scope, order),
         }
     }
 
@@ -400,6 +415,32 @@ impl<'a> WeightFloors<'a> {
         let players = numbered_from(1, scoped.size());
         let left = players.len() % 2;
         let Some(floor) = table.floor(context.alloc(), &scoped, &players, left)? else {
+            return Ok(None);
+        };
+        // (who goes down may be in a pair here)
+        let floor = floor.without_left();
+        let scope = scope.copied();
+        Ok(Some(ScopedFloor {
+            scope,
+            order,
+            floor,
+        }))
+    }
+
+    /// The same by matchings of the next lower scoregroup too, however many of them are left over.
+    fn check_next(
+        &self,
+        table: &Table,
+        scope: &Scope,
+        order: Order,
+    ) -> Result<Option<ScopedFloor>, AllocError>
+        requires { is_some self.now.scale.next ≡ true }
+        ensures { IfOk result (λ found. IfSome found (IsWeightFloor self.now)) }
+    {
+        let context = self.weighing.context();
+        let scoped = Scoped::new(&self.weighing, scope, Reach::Next, &order);
+        let players = numbered_from(1, scoped.size());
+        let Some(floor) = table.floor_for_any(context.alloc(), &scoped, &players)? else {
             return Ok(None);
         };
         // (who goes down may be in a pair here)
@@ -473,6 +514,13 @@ impl<'a> WeightFloors<'a> {
     /// Whether the scale has a digit for each difference of a quality.
     pub(crate) fn measures(&self, quality: &Quality) -> bool {
         self.weighing.scale().measures(quality)
+    }
+
+    /// Whether its weights tell of the next bracket (C.7).
+    pub(crate) fn counts_next(&self) -> bool
+        ensures { result ≡ is_some self.now.scale.next }
+    {
+        self.weighing.scale().counts_next()
     }
 
     /// How many floors are kept.

@@ -1,6 +1,7 @@
-// Laws of the weight of a candidate: its items that are sums, C.6 and C.8 to C.19, as the digits of one number (C.04.3). A certificate bounds
-// it for all candidates with a beginning, and that bound is a floor: a quality that none of them is better than.
-ghost use Rattle.std.specs.Prelude.{◌≡◌, ◌+◌, ◌-◌, ◌*◌, ◌<◌, ◌≤◌, ◌||◌, ◌++◌, ◌%◌, ℕ, List, true, false, length, sum_by, nat_lt};
+// Laws of the weight of a candidate: its items that are sums, C.6 and C.8 to C.19, and what the next bracket can be where that is measured, C.7,
+// as the digits of one number (C.04.3). A certificate bounds it for all candidates with a beginning, and that bound is a floor: a quality that
+// none of them is better than.
+ghost use Rattle.std.specs.Prelude.{◌≡◌, ◌+◌, ◌-◌, ◌*◌, ◌<◌, ◌≤◌, ◌||◌, ◌++◌, ◌%◌, ℕ, List, true, false, is_some, length, sum_by, nat_lt};
 ghost use Rattle.dual.specs.Duals.{Certificate, IsFeasible};
 ghost use Rattle.dutch_order.specs.declared.bracket.Shape.{Shape};
 ghost use Rattle.dutch_order.specs.Arrangements.{Arrangement, Fits, down};
@@ -9,34 +10,41 @@ ghost use Rattle.dutch_order.specs.Keys.{IsIn};
 ghost use Rattle.dutch_order.specs.Prefixes.{Begins, Beginning};
 ghost use Rattle.dutch_player.specs.Facts.{Facts};
 ghost use Rattle.dutch_pair.specs.Beginnings.{HasPairsOf};
-ghost use Rattle.dutch_pair.specs.Outlooks.{HasNoBetter, IsOutlook, awaited};
+ghost use Rattle.dutch_pair.specs.Outlooks.{IsOutlook, awaited};
 ghost use Rattle.dutch_pair.specs.declared.outlook.Outlook.{Outlook};
 ghost use Rattle.dutch_pair.specs.FloorOf.{fixed_lists, has_s1, is_uniform};
 ghost use Rattle.dutch_pair.specs.Quality.{Quality, is_better};
 ghost use Rattle.dutch_pair.specs.QualityIn.{next_in};
-ghost use Rattle.dutch_pair.specs.Reached.{IsOf, Reached, frame_of};
+ghost use Rattle.dutch_order.specs.Forms.{NoneTwice};
+ghost use Rattle.dutch_pair.specs.NextMatchings.{IsSmall, JoinsBelow, MayPairBelow, count_below, players_below, seat_below};
+ghost use Rattle.dutch_pair.specs.Seats.{seats_meet};
+ghost use Rattle.dutch_pair.specs.declared.reached.BracketKind.TheVariants.{Ordinary};
+ghost use Rattle.dutch_pair.specs.Reached.{IsAbove, IsOf, Reached, frame_of};
 ghost use Rattle.dutch_pair.specs.Round.{candidates_of, completable, downfloaters, quality_of};
-ghost use Rattle.dutch_pair.specs.Weights.{HasDigits, IsOn, IsScale, Scale, above_psd, least_weight, number_pairs, numbers, weighing, weight_of};
-ghost use Rattle.dutch_pair.specs.declared.scope.Reach.TheVariants.{Bracket, Lower};
+ghost use Rattle.dutch_pair.specs.Weights.{HasDigits, IsOn, IsScale, IsScaleFor, Scale, alone_by, least_weight, number_pairs, numbers};
+ghost use Rattle.dutch_pair.specs.Weights.{weighing, weight_above, weight_below, weight_of};
+ghost use Rattle.dutch_pair.specs.declared.scope.Reach.TheVariants.{Bracket, Lower, Next};
 ghost use Rattle.dutch_pair.specs.Scopes.{Covers, Scope, costs_in};
 ghost use Rattle.dutch_pair.specs.Orders.{Order};
-ghost use Rattle.dutch_pair.specs.WeightFloors.{added_in, bound_behind};
+ghost use Rattle.dutch_pair.specs.WeightFloors.{HasNoBetterOn, HasSameNextOn, added_in, bound_behind};
 ghost use Rattle.dual.specs.Floors.{FloorTable, IsFloor, extra_in};
 ghost use Rattle.dual.specs.Matchings.{cost};
 
-/// C.6, C.8 to C.19: the weight of a candidate is the sum of what each of its pairs and each of its downfloaters weighs alone.
+/// C.6 to C.19: the weight of a candidate is the sum of what each of its pairs and each of its downfloaters weighs alone, and, where C.7 is
+/// measured, of what its value of the next bracket weighs.
 #[tactic(auto, using(crate::proofs::C06ToC19Weights::candidate_weighs))]
 pub fn a_weight_is_a_sum()
     ensures { (facts : Facts) (reached : Reached) (scale : Scale) (lower : List ℕ) (a : Arrangement)
-        → weight_of scale (quality_of facts reached lower a) ≡ cost (weighing facts reached scale) (number_pairs a) (down (frame_of facts reached) a) }
+        → weight_of scale (quality_of facts reached lower a) ≡ cost (weighing facts reached scale) (number_pairs a) (down (frame_of facts reached) a)
+        + weight_below scale (alone_by scale.next (quality_of facts reached lower a).next_pairs) (quality_of facts reached lower a).next_psd }
 {}
 
-/// C.6, C.8 to C.19: of two qualities with one value of the next bracket (C.7) the better one is the one that weighs less, on a scale that
-/// has a digit for each of their differences and a base above each of their digits.
+/// C.6 to C.19: of two qualities with one value of the next bracket, or on a scale that measures that (C.7), the better one is the one that
+/// weighs less, if the scale has a digit for each of their differences and a base above each of their digits.
 #[tactic(auto, using(crate::proofs::WrittenNumbers::lighter_is_better))]
 pub fn the_lighter_is_better()
     ensures { (scale : Scale) → IsScale scale → (q r : Quality) → IsOn scale q → IsOn scale r → HasDigits scale q → HasDigits scale r
-        → next_in q ≡ next_in r → is_better q r ≡ nat_lt (weight_of scale q) (weight_of scale r) }
+        → HasSameNextOn scale.next q r → is_better q r ≡ nat_lt (weight_of scale q) (weight_of scale r) }
 {}
 
 /// C.6, C.8 to C.19: no candidate with a beginning weighs less than a feasible certificate says, with the slack of the pairs that the beginning
@@ -55,8 +63,8 @@ pub fn a_certificate_gives_floors()
     ensures { (facts : Facts) (reached : Reached) (scale : Scale) (lower : List ℕ) (shape : Shape) (a : Arrangement) → IsOf facts reached
         → Fits (frame_of facts reached) shape → IsIn a (candidates_of facts reached shape) → (b : Arrangement) → HasPairsOf b a
         → (certificate : Certificate) → IsFeasible (weighing facts reached scale) (numbers reached) certificate
-        → IsScale scale → length reached.seats < scale.base → (f : Quality) → IsOn scale f
-        → weight_of scale f ≤ least_weight facts reached scale certificate shape b → HasNoBetter (quality_of facts reached lower a) (next_in f)
+        → IsScale scale → IsScaleFor facts reached lower shape scale → (f : Quality) → IsOn scale f
+        → weight_of scale f ≤ least_weight facts reached scale certificate shape b → HasNoBetterOn scale.next (quality_of facts reached lower a) (next_in f)
         → is_better (quality_of facts reached lower a) f ≡ false }
 {}
 
@@ -65,19 +73,19 @@ pub fn a_certificate_tells_of_the_psd()
     ensures { (facts : Facts) (reached : Reached) (scale : Scale) (lower : List ℕ) (shape : Shape) (a : Arrangement) → IsOf facts reached
         → Fits (frame_of facts reached) shape → IsIn a (candidates_of facts reached shape) → (b : Arrangement) → HasPairsOf b a
         → (certificate : Certificate) → IsFeasible (weighing facts reached scale) (numbers reached) certificate
-        → IsScale scale → length reached.seats < scale.base → (f : Quality) → IsOn scale f
-        → weight_of scale (above_psd scale f) ≤ least_weight facts reached scale certificate shape b → is_better (quality_of facts reached lower a) f ≡ false }
+        → IsScale scale → IsScaleFor facts reached lower shape scale → (f : Quality) → IsOn scale f
+        → weight_above scale f ≤ least_weight facts reached scale certificate shape b → is_better (quality_of facts reached lower a) f ≡ false }
 {}
 
 /// C.6 to C.19: the same behind a beginning that the search comes to, where the floor has the best that the next bracket is known to be.
-#[tactic(auto, using(crate::proofs::CandidateMatchings::beginning_has_floor))]
+#[tactic(auto, using(crate::proofs::CertificateFloors::behind_beginning))]
 pub fn a_beginning_has_a_floor_by_weight()
     ensures { (facts : Facts) (reached : Reached) (scale : Scale) (lower : List ℕ) (shape : Shape) (a : Arrangement) → IsOf facts reached
         → Fits (frame_of facts reached) shape → IsIn a (candidates_of facts reached shape)
         → (outlook : Outlook) → IsOutlook facts reached lower shape outlook → (b : Beginning) → Begins b a
         → (has_s1 b.filling || is_uniform facts reached shape) ≡ true
         → (certificate : Certificate) → IsFeasible (weighing facts reached scale) (numbers reached) certificate
-        → IsScale scale → length reached.seats < scale.base → (f : Quality) → IsOn scale f
+        → IsScale scale → IsScaleFor facts reached lower shape scale → (f : Quality) → IsOn scale f
         → weight_of scale f ≤ least_weight facts reached scale certificate shape (fixed_lists b)
         → next_in f ≡ awaited facts reached shape outlook b.filling (fixed_lists b).s1 → is_better (quality_of facts reached lower a) f ≡ false }
 {}
@@ -110,12 +118,49 @@ pub fn a_floor_for_lower_players_bounds_the_weight()
         → floor.base + sum_by (extra_in floor) (number_pairs (fixed_lists b)) ≤ floor.debt + (weight_of scale (quality_of facts reached lower a) + added_in order a) }
 {}
 
+/// C.6 to C.19: on a scale that measures the next bracket (C.7), a candidate of an ordinary bracket weighs no less than a floor says that goes
+/// over the next lower scoregroup too, however many are left over there: its base, and what the pairs of the beginning add, each once, without its
+/// debt.
+#[tactic(auto, using(crate::proofs::C07NextWeights::weighs_more_next))]
+pub fn a_floor_for_the_next_group_bounds_the_weight()
+    ensures { (facts : Facts) (reached : Reached) (scale : Scale) (lower : List ℕ) (scope : Scope) (order : Order) (shape : Shape)
+        (a : Arrangement) → Fits (frame_of facts reached) shape → IsIn a (candidates_of facts reached shape)
+        → (b : Beginning) → Begins b a → Covers scope b → is_some scale.next ≡ true → IsScaleFor facts reached lower shape scale
+        → (floor : FloorTable)
+        → ((left : ℕ) → IsFloor (costs_in (record { weighing = record { facts = facts; reached = reached; lower = lower; scale = scale }; scope = scope; reach = Next; order = order }))
+        (numbers_from 1 (count_below facts reached lower)) left floor)
+        → floor.base + sum_by (extra_in floor) (number_pairs (fixed_lists b)) ≤ floor.debt + (weight_of scale (quality_of facts reached lower a) + added_in order a) }
+{}
+
 /// C.6 to C.19: a quality is better than a candidate that weighs more and has no better value of the next bracket.
 #[tactic(auto, using(crate::proofs::WeightsBehind::lighter))]
 pub fn a_lighter_quality_is_better()
     ensures { (facts : Facts) (reached : Reached) (scale : Scale) (lower : List ℕ) (shape : Shape) (a : Arrangement) → IsOf facts reached
         → Fits (frame_of facts reached) shape → IsIn a (candidates_of facts reached shape)
-        → IsScale scale → length reached.seats < scale.base → (f : Quality) → IsOn scale f
-        → weight_of scale f < weight_of scale (quality_of facts reached lower a) → HasNoBetter (quality_of facts reached lower a) (next_in f)
+        → IsScale scale → IsScaleFor facts reached lower shape scale → (f : Quality) → IsOn scale f
+        → weight_of scale f < weight_of scale (quality_of facts reached lower a) → HasNoBetterOn scale.next (quality_of facts reached lower a) (next_in f)
         → is_better f (quality_of facts reached lower a) ≡ true }
+{}
+
+/// C.7: what the next bracket can be at best below a candidate of an ordinary bracket is the value of pairs by number: with the pairs of the
+/// candidate, and those who are in none, they are all numbers of the bracket and the next lower scoregroup.
+#[tactic(auto, using(crate::proofs::C07NextMatchings::joins_below))]
+pub fn the_next_value_is_that_of_a_matching()
+    ensures { (facts : Facts) (reached : Reached) (lower : List ℕ) (shape : Shape) (a : Arrangement) → IsAbove facts reached lower
+        → reached.kind ≡ Ordinary → IsIn a (candidates_of facts reached shape) → JoinsBelow facts reached lower a }
+{}
+
+/// C.7: so it has no more pairs than half the players of the next bracket, and no more differences than players, the highest first.
+pub fn the_next_value_is_small()
+    ensures { (facts : Facts) (reached : Reached) (lower : List ℕ) (shape : Shape) (a : Arrangement) → IsAbove facts reached lower
+        → reached.kind ≡ Ordinary → IsIn a (candidates_of facts reached shape)
+        → IsSmall (players_below facts reached lower shape) (next_in (quality_of facts reached lower a)) }
+{}
+
+/// C.1, C.3: where no lower player comes twice, two who may be a pair of the next bracket are two seats that meet.
+#[tactic(auto, using(crate::proofs::C07NextMatchings::seats_meet_below))]
+pub fn pairs_of_the_next_bracket_meet()
+    ensures { (facts : Facts) (reached : Reached) (lower : List ℕ) (a : Arrangement) → IsAbove facts reached lower → NoneTwice lower
+        → (pair : ℕ × ℕ) → MayPairBelow facts reached lower a pair
+        → seats_meet facts (seat_below facts reached lower pair.0) (seat_below facts reached lower pair.1) ≡ true }
 {}

@@ -2,7 +2,7 @@
 use Rattle.std.proofs.Common.{◌≡◌, sum_by, ap, arith, ◌∙◌}
 use Rattle.std.specs.List.{zip}
 use Rattle.std.proofs.lemmas.List.Sums.{sum_by-append}
-use Rattle.dual.specs.Floors.{extra_in, extra_left_in}
+use Rattle.dual.specs.Floors.{extra_in}
 use Rattle.dutch_order.specs.Arrangements.{Arrangement}
 use Rattle.dutch_pair.specs.FloorOf.{fixed_lists}
 use Rattle.dutch_pair.specs.WeightFloors.{bound_behind}

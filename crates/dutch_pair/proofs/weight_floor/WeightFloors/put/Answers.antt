@@ -14,7 +14,7 @@ invariant_of-self c =
     } in
     let is = subst (λ (o : Option ScopedFloor). IfSome o (IsWeightFloor c.args.self.now)) c.in-Some.is c.in_ok-floor.ensures in
     record {
-      high = c.self.invariant.high;
+      scaled = c.self.invariant.scaled;
       hold = c.keep.ensures w c.self.invariant.hold (subst (λ (v : Weighed). IsWeightFloor v c.in-Some.floor) (sym c.self.view_is) is);
     }
 
@@ -29,6 +29,6 @@ invariant_of-self-2 c =
     } in
     let is = subst (λ (o : Option ScopedFloor). IfSome o (IsWeightFloor c.args.self.now)) c.in-Some.is c.in_ok-floor.ensures in
     record {
-      high = c.self.invariant.high;
+      scaled = c.self.invariant.scaled;
       hold = c.keep.ensures w c.self.invariant.hold (subst (λ (v : Weighed). IsWeightFloor v c.in-Some.floor) (sym c.self.view_is) is);
     }
