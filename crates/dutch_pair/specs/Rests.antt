@@ -1,5 +1,5 @@
--- The players of a bracket, or all lower ones too, who are in none of some pairs, as a graph (C.04.3 C.1 to C.4). Only private functions'
--- clauses cite these.
+-- The players of a bracket, and all lower ones or those of the next lower scoregroup too, who are in none of some pairs, as a graph (C.04.3 C.1
+-- to C.4, C.7). Only private functions' clauses cite these.
 use Rattle.std.specs.Prelude.{ℕ, ◌≤◌, Bool, List, All, length, slice_index}
 use Rattle.dutch_order.specs.declared.numbers.TheConstants.{LIMIT}
 use Rattle.dutch_pair.specs.Scopes.{IsReached, Scoped, costs_in}

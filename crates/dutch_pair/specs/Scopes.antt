@@ -1,6 +1,6 @@
 -- Which arrangements of a bracket a floor is for, and what pairs and downfloaters weigh in them (C.04.3 B.3, B.6, B.7), also where those who go
--- down are paired out with all lower players (C.4). What bounds the choice by beginnings stands on these; a reader of its promise may pass them
--- by.
+-- down are paired out with all lower players (C.4), or meet the next lower scoregroup (C.7). What bounds the choice by beginnings stands on
+-- these; a reader of its promise may pass them by.
 use Rattle.std.specs.Prelude.{◌≡◌, ℕ, ◌+◌, ◌-◌, ◌^◌, ◌<◌, ◌≤◌, length, min, Bool, true, false, ◌&&◌, ◌||◌, not, ◌==◌, if◌then◌else◌, nat_lt, nat_le, List, ◌++◌, slice_index_or, is_some}
 use Rattle.dual.specs.Matchings.{Costs}
 use Rattle.dutch_order.specs.declared.prefix.Filling.{Filling}

@@ -1,4 +1,4 @@
--- What floors by weight say behind a beginning (C.04.3 C.6, C.8 to C.19), and from which weight on nothing is better than a quality. What
+-- What floors by weight say behind a beginning (C.04.3 C.6 to C.19), and from which weight on nothing is better than a quality. What
 -- bounds the choice by beginnings stands on these; a reader of its promise may pass them by.
 use Rattle.std.specs.Prelude.{◌≡◌, ℕ, zero, suc, ◌+◌, ◌≤◌, ◌==◌, true, false, Bool, if◌then◌else◌, List, [], ◌∷◌, All, drop, sum_by, Option, Some, None, option_map}
 use Rattle.std.specs.Option.{ForSome}

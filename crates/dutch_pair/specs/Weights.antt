@@ -1,6 +1,7 @@
--- The items of a quality that are sums over pairs and downfloaters (C.04.3 C.6, C.8 to C.19), and of the next bracket's (C.7) where that is
--- measured, written as the digits of one number: its weight. It is the sum of what each pair and each downfloater weighs alone, so a certificate bounds it. What bounds the choice by beginnings
--- stands on these; a reader of its promise may pass them by.
+-- The items of a quality that are sums over pairs and downfloaters (C.04.3 C.6, C.8 to C.19), and what the next bracket can be (C.7) where that is
+-- measured, written as the digits of one number: its weight. It is the sum of what each pair and each downfloater weighs alone, and of what the
+-- next bracket weighs, so a certificate bounds it. What bounds the choice by beginnings stands on these; a reader of its promise may pass them
+-- by.
 use Rattle.std.specs.Prelude.{◌≡◌, ℕ, ◌+◌, ◌-◌, ◌*◌, ◌<◌, ◌≤◌, not, ◌||◌, ◌==◌, List, [], ◌∷◌, ◌++◌, map, length, count_by, Option, Some, None}
 use Rattle.std.specs.List.{AllByRecursion, zip}
 use Rattle.std.specs.Option.{ForSome}
@@ -199,7 +200,7 @@ pub record IsOn (scale : Scale) (quality : Quality) : Type 0 where
   pub down_again_before_by : IsAmong scale.floats quality.down_again_before_by
   pub up_again_before_by : IsAmong scale.floats quality.up_again_before_by
 
--- each digit of a quality is less than its base
+-- each digit of a quality is less than its base, and it has no more pairs of the next bracket than that has players for (C.7)
 pub record HasDigits (scale : Scale) (quality : Quality) : Type 0 where
   pub small : AllByRecursion (λ digit. digit.1 < digit.0) (digits scale quality)
   pub within : IsWithin scale.next quality
