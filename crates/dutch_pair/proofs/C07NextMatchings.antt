@@ -1,6 +1,6 @@
 -- What the next bracket can be at best below a candidate of an ordinary bracket is the value of pairs by number (C.04.3 C.7): those of an arrangement
 -- of the next bracket with the least PSD, by the numbers of the bracket and of the next lower scoregroup behind it.
-use Rattle.std.proofs.Common.{◌≡◌, ℕ, zero, suc, ◌+◌, ◌-◌, ◌*◌, ◌<◌, ◌≤◌, true, false, not, ◌&&◌, cond, nat_le, nat_lt, List, [], ◌∷◌, ◌++◌, All, map, length, get_or, sum_by, Option, Some, None, inl, inr, refl, sym, ap, subst, ◌∙◌, arith, length-append}
+use Rattle.std.proofs.Common.{◌≡◌, ℕ, zero, suc, ◌+◌, ◌-◌, ◌*◌, ◌<◌, ◌≤◌, true, not, ◌&&◌, nat_le, nat_lt, List, [], ◌∷◌, ◌++◌, All, map, length, get_or, sum_by, Option, Some, None, inl, inr, refl, sym, ap, subst, ◌∙◌, arith, length-append}
 use Rattle.std.specs.Prelude.{◌==◌, slice_index}
 use Rattle.std.specs.List.{AllByRecursion, concat, zip}
 use Rattle.std.proofs.lemmas.Bool.{and_from, and_parts, cases_lt, cases_order, eq-eqb, ne_eqb, not_from_false, not-true, true≢false}
@@ -24,7 +24,7 @@ use Rattle.dutch_player.specs.Facts.{Facts}
 use Rattle.dutch_player.specs.Meetings.{may_meet}
 use Rattle.dutch_pair.specs.declared.reached.BracketKind.{BracketKind}
 use Rattle.dutch_pair.specs.declared.reached.BracketKind.TheVariants.{Ordinary}
-use Rattle.dutch_pair.specs.NextBracket.{AreLeft, IsFlat, IsNext, is_lower, legal_in, lowest_list, lowest_list_upto, next_bracket, psd_in, quality, value_in, value_of, value_of_shape}
+use Rattle.dutch_pair.specs.NextBracket.{AreLeft, IsFlat, IsNext, legal_in, next_bracket, psd_in, quality, value_in, value_of, value_of_shape}
 use Rattle.dutch_pair.specs.NextMatchings.{GoesBelow, IsSmall, JoinsBelow, MayPairBelow, count_below, group_below, players_below, score_below, seat_below, value_below}
 use Rattle.dutch_pair.specs.Quality.{NextValue, highest_first, psd, quality_with}
 use Rattle.dutch_pair.specs.QualityIn.{next_in}
@@ -32,7 +32,7 @@ use Rattle.dutch_pair.specs.Reached.{IsAbove, IsOf, Reached, frame_of, is_number
 use Rattle.dutch_pair.specs.Round.{candidates_of, downfloaters, first_group, quality_of, scoregroups}
 use Rattle.dutch_pair.specs.Seated.{all_pairs, difference, difference_down, lowest, score_at, seat_of}
 use Rattle.dutch_pair.specs.Seats.{is_seat, seats_meet}
-use Rattle.dutch_pair.specs.Shapes.{greatest_shape, has_member, shapes}
+use Rattle.dutch_pair.specs.Shapes.{greatest_shape, shapes}
 use Rattle.dutch_pair.specs.Weights.{number_pairs}
 use Rattle.dutch_pair.proofs.AllLemmas.{all_join}
 use Rattle.dutch_pair.proofs.ArrangementParts.{numbers_above, numbers_rise, numbers_within, parts_of}
@@ -47,40 +47,13 @@ use Rattle.dutch_pair.proofs.FlatBrackets.{one_score_of}
 use Rattle.dutch_pair.proofs.GroupLemmas.{concat_scoregroups}
 use Rattle.dutch_pair.proofs.LeastPsd.{in_filter}
 use Rattle.dutch_pair.proofs.LegalPairs.{in_passes, legal_of}
+use Rattle.dutch_pair.proofs.LowestLists.{lowest_is_one}
 use Rattle.dutch_pair.proofs.NextBrackets.{left_by_candidate, next_flat, next_of}
 use Rattle.dutch_pair.proofs.NextGroups.{first_is_next}
 use Rattle.dutch_pair.proofs.Places.{length_placed_all}
 use Rattle.dutch_pair.proofs.ScaleLemmas.{in_order}
 use Rattle.dutch_pair.proofs.ShapeSearch.{first_has, fits_by_test}
 use Rattle.dutch_pair.proofs.Totals.{total}
-
--- ---- the lowest of some lists is one of them
-
-record IsOneOfThem (f : Arrangement → List ℕ) (all : List Arrangement) (low : List ℕ) : Type 0 where
-  lists : Arrangement
-  listed : IsIn lists all
-  is : low ≡ f lists
-
-skipping : (b c a : Arrangement) (others : List Arrangement) → IsIn b (a ∷ others) → IsIn b (a ∷ c ∷ others)
-skipping b c a others (inl same) = inl same
-skipping b c a others (inr later) = inr (inr later)
-
-lowest_upto_is_one : (f : Arrangement → List ℕ) (a : Arrangement) (others : List Arrangement)
-    → IsOneOfThem f (a ∷ others) (lowest_list_upto (f a) (map f others))
-lowest_upto_is_one f a [] = record { lists = a; listed = inl refl; is = refl }
-lowest_upto_is_one f a (c ∷ others) =
-    elim (is_lower (f c) (f a)) as (λ t. IsOneOfThem f (a ∷ c ∷ others) (lowest_list_upto (cond t (f c) (f a)) (map f others))) [
-      | true ↦
-          let later = lowest_upto_is_one f c others in
-          record { lists = later.lists; listed = inr later.listed; is = later.is }
-      | false ↦
-          let later = lowest_upto_is_one f a others in
-          record { lists = later.lists; listed = skipping later.lists c a others later.listed; is = later.is }
-    ]
-
-lowest_is_one : (f : Arrangement → List ℕ) (all : List Arrangement) → has_member all ≡ true → IsOneOfThem f all (lowest_list (map f all))
-lowest_is_one f [] has = absurd (let bad : false ≡ true = has in cc)
-lowest_is_one f (a ∷ others) has = lowest_upto_is_one f a others
 
 -- ---- pairs of two lists
 

@@ -93,9 +93,9 @@ module _ (facts : Facts) (reached : Reached) where
   missed_by x y = missed_in (seat_of reached.seats x, seat_of reached.seats y)
 
   -- two who may meet and do not suit each other miss a preference
-  unsuited_at : (meet : Bool) (n : ℕ) → meet ≡ true → one_if (not (meet && (n == 0))) ≤ n
+  unsuited_at : (meet : Bool) (n : ℕ) → meet ≡ true → one_if (not ((n == 0) && meet)) ≤ n
   unsuited_at true zero e = omega arith
-  unsuited_at true (suc n) e = omega (arith, at_most_one (not (suc n == 0)))
+  unsuited_at true (suc n) e = omega (arith, at_most_one (not ((suc n == 0) && true)))
   unsuited_at false n e = absurd (cc)
 
   unsuited : (x y : ℕ) → numbers_meet facts reached x y ≡ true → one_if (not (suits facts reached x y)) ≤ missed_by x y

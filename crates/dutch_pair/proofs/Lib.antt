@@ -54,6 +54,8 @@ pub mod Descents
 pub mod DownLemmas
 pub mod EligibleLemmas
 pub mod LeastPsd
+pub mod LowestLists
+pub mod UniformShapes
 pub mod FlatBrackets
 pub mod FloorOrder
 pub mod GroupLemmas

@@ -10,7 +10,7 @@ use Rattle.dutch_player.specs.Colours.{granted, with_colour, colour_of_higher, c
 use Rattle.dutch_player.proofs.LawLemmas.{granted-pair, same_comm}
 use Rattle.dutch_pair.specs.declared.colours_missed.Miss.TheVariants.{Preference, StrongPreference}
 use Rattle.dutch_pair.specs.Quality.{one_if, is_strong, misses, count_of_both, count_in}
-use Rattle.dutch_pair.specs.PairFacts.{collide}
+use Rattle.dutch_pair.specs.ColourFloors.{collide}
 
 -- a colour is not that of a preference
 abbrev unmet : Option Pref → Colour → Bool

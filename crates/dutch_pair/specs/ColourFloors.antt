@@ -1,11 +1,12 @@
 -- How many players miss their colour preference at least, whatever pairs are added to a beginning (C.04.3 C.10, C.11).
-use Rattle.std.specs.Prelude.{ℕ, ◌+◌, ◌-◌, ◌*◌, ◌==◌, Bool, true, false, not, ◌&&◌, List, [], ◌∷◌, filter, length, max}
+use Rattle.std.specs.Prelude.{ℕ, ◌+◌, ◌-◌, ◌*◌, ◌==◌, Bool, true, false, not, ◌&&◌, List, [], ◌∷◌, filter, length, max, Option, Some}
 use Rattle.std.specs.List.{list_any}
 use Rattle.std.specs.Option.{option_map_or}
 use Rattle.trf16.specs.declared.cell.Colour.{Colour}
 use Rattle.trf16.specs.declared.cell.Colour.TheVariants.{White, Black}
 use Rattle.dutch_order.specs.declared.bracket.Shape.{Shape}
 use Rattle.dutch_order.specs.Arrangements.{Arrangement, left_of, residents_of, remainder_pairs}
+use Rattle.dutch_player.specs.declared.preference.Pref.{Pref}
 use Rattle.dutch_player.specs.declared.preference.Strength.{Strength}
 use Rattle.dutch_player.specs.declared.preference.Strength.TheVariants.{Absolute, Strong, Mild}
 use Rattle.dutch_player.specs.Preferences.{is_same, preference}
@@ -58,10 +59,15 @@ beyond [] xs = xs
 beyond (y ∷ part) [] = []
 beyond (y ∷ part) (x ∷ xs) = beyond part xs
 
--- two numbers may meet, and neither misses a preference
+-- two preferences are for one colour, so that one of the two misses theirs
+abbrev pub collide : Option Pref → Option Pref → Bool
+collide (Some a) (Some b) = is_same a.colour b.colour
+collide _ _ = false
+
+-- neither of two numbers misses a preference, and they may meet
 unfoldable pub suits : Facts → Reached → ℕ → ℕ → Bool
 suits facts reached x y =
-    numbers_meet facts reached x y && (count_in facts (misses Preference) (seat_of reached.seats x, seat_of reached.seats y) == 0)
+    (count_in facts (misses Preference) (seat_of reached.seats x, seat_of reached.seats y) == 0) && numbers_meet facts reached x y
 
 -- the players whom S1R still has to pair
 abbrev pub waiting : Arrangement → List ℕ

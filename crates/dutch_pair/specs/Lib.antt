@@ -38,7 +38,6 @@ pub mod GhostLaws
 pub mod GhostValues
 pub mod Aims
 pub mod BitTables
-pub mod PairFacts
 pub mod FloorOf
 pub mod Outlooks
 pub mod WaysOut

@@ -4,7 +4,6 @@ use Rattle.std.specs.Prelude.{◌≡◌, ℕ, ◌+◌, ◌-◌, ◌*◌, ◌^◌
 use Rattle.std.specs.Option.{ForSome, SomeIff}
 use Rattle.dutch_pair.specs.Context.{Context}
 use Rattle.dutch_pair.specs.NextMatchings.{count_below, score_below, seat_below}
-use Rattle.dutch_pair.specs.PairFacts.{place_of}
 use Rattle.dutch_pair.specs.Reached.{Reached}
 use Rattle.dutch_pair.specs.Seated.{difference_down, score_at}
 use Rattle.dutch_pair.specs.Weights.{Scale, Weighing, weight_below, weight_of_one_down, weight_of_pair, written}
@@ -25,7 +24,11 @@ IsNumber reached a = (0 < a) × (a ≤ length reached.seats)
 abbrev pub weighed_on : Context → Scale → Weighing
 weighed_on context scale = record { facts = context.facts; reached = context.reached; lower = context.lower; scale = scale }
 
--- where a table of pairs has two numbers of a bracket
+-- where a table of pairs has two numbers of so many players, which count from 1
+abbrev pub place_of : ℕ → ℕ → ℕ → ℕ
+place_of n x y = (x - 1) * n + (y - 1)
+
+-- where it has two of a bracket
 abbrev pub place_in : Weighing → ℕ → ℕ → ℕ
 place_in w a b = place_of (length w.reached.seats) a b
 

@@ -24,7 +24,6 @@ use crate::fault::PairFault;
 use crate::floor::Floors;
 use crate::greatest::Lister;
 use crate::outlook::Outlook;
-use crate::pair_facts::PairFacts;
 use crate::quality::{Quality, Room};
 use crate::reached::{BracketKind, ByNumber, Reached, Seats};
 use crate::remembered::{Judge, judge_candidate, look_below};
@@ -537,13 +536,10 @@ pub(crate) fn best_of<'a>(
         left: Seats::new(),
         weights: None,
     };
-    let Some(pairs) = PairFacts::read(alloc, context, budget)? else {
-        return Ok(Step::Undecided);
-    };
     let Ok(outlook) = outlook_of(context, shape, budget) else {
         return Ok(Step::Undecided);
     };
-    let floors = Floors::new(pairs, shape, outlook);
+    let floors = Floors::new(context, shape, outlook);
     let known = known_with(context, wish);
     let mut pass = Pass {
         context,

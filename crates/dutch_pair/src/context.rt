@@ -9,8 +9,7 @@ ghost use Rattle.arrayvec.specs.ArrayVec.{array_vec_len};
 ghost use Rattle.dutch_order.specs.Choices.{numbers_from};
 ghost use Rattle.dutch_pair.specs.Reached.{IsAbove, IsOf, frame_of, numbers_meet, number_may_be_left};
 ghost use Rattle.dutch_pair.specs.Seated.{seat_of, score_at, lowest, AllNumbers};
-ghost use Rattle.dutch_pair.specs.ColourFloors.{is_firm, wants, wants_firmly, suits, residents_down};
-ghost use Rattle.dutch_pair.specs.PairFacts.{collide};
+ghost use Rattle.dutch_pair.specs.ColourFloors.{collide, is_firm, wants, wants_firmly, suits, residents_down};
 ghost use Rattle.dutch_pair.specs.Round.{first_group, scoregroups};
 ghost use Rattle.dutch_pair.specs.NextBracket.{IsNext};
 ghost use Rattle.dutch_pair.specs.NextMatchings.{count_below, group_below, score_below, seat_below};
@@ -202,7 +201,7 @@ impl<'a> Context<'a> {
         ensures value { result ≡ score_at self.now.facts (seat_of self.now.reached.seats number) }
         ensures few { result ≤ 2 * MOST_ROUNDS }
     {
-        self.field.score(self.reached.seat(number))
+        self.rule().score(number)
     }
 
     /// How many residents go down with a shape.
@@ -210,11 +209,7 @@ impl<'a> Context<'a> {
         requires { shape.pairs ≤ LIMIT }
         ensures { result ≡ residents_down self.now.reached shape }
     {
-        let residents = self.len().saturating_sub(self.reached.mdps());
-        let pairs = shape.pairs.saturating_sub(shape.mdps);
-        residents
-            .saturating_sub(shape.mdps)
-            .saturating_sub(2 * pairs)
+        self.rule().residents_down(shape)
     }
 
     /// The numbers of the moved-down players.
@@ -260,12 +255,15 @@ impl<'a> Context<'a> {
         collide(self.field.preference(pair.0), self.field.preference(pair.1))
     }
 
-    /// Whether two numbers may meet, and neither misses their preference. It says no of a number that is not the bracket's.
+    /// Whether two numbers suit each other: neither misses their preference, and they may meet (C.1, C.3, C.10).
+    /// (Colours come first, as to look for a game of the two takes longest.)
     #[tactic(auto, unfolding(crate::specs::Reached::numbers_meet, crate::specs::ColourFloors::suits))]
     pub(crate) fn suits(&self, x: u16, y: u16) -> bool
+        requires first { (0 < x) × (x ≤ length self.now.reached.seats) }
+        requires second { (0 < y) × (y ≤ length self.now.reached.seats) }
         ensures { result ≡ suits self.now.facts self.now.reached x y }
     {
-        self.reached.rule(self.field).may_meet(x, y)
-            && !self.has_miss((self.reached.seat(x), self.reached.seat(y)))
+        let pair = (self.reached.seat(x), self.reached.seat(y));
+        !self.has_miss(pair) && self.reached.rule(self.field).may_meet(x, y)
     }
 }

@@ -21,8 +21,7 @@ use crate::differences::fill_psd;
 use crate::known::{Known, fill_known};
 use crate::lonely::lonely;
 use crate::outlook::Outlook;
-use crate::pair_facts::PairFacts;
-use crate::psd_floor::fill_psd_with;
+use crate::psd_floor::{fill_psd_with, is_uniform};
 use crate::quality::{NextValue, Quality, Room, fill_others};
 use crate::seated::Seated;
 use dutch_order::{Filling, LIMIT, Numbers, Prefix, Shape, numbered_from};
@@ -31,7 +30,7 @@ use std::marker::Model;
 /// What the floors of a bracket and a shape stand on, read once for a choice.
 #[derive(Drop)]
 pub(crate) struct Floors<'a> {
-    pairs: PairFacts<'a>,
+    context: &'a Context<'a>,
     shape: Shape,
     // what the next bracket can be at best (C.7)
     outlook: Outlook,
@@ -52,10 +51,10 @@ impl<'a> Model for Floors<'a> {
 
     ghost Value = { Basis };
 
-    ghost view = { λ f. record { facts = f.pairs.facts; reached = f.pairs.reached; shape = f.shape; outlook = f.outlook } };
+    ghost view = { λ f. record { facts = f.context.now.facts; reached = f.context.now.reached; shape = f.shape; outlook = f.outlook } };
 
-    ghost invariant = { λ f. (Fits (frame_of f.pairs.facts f.pairs.reached) f.shape)
-        × (f.flat ≡ is_flat f.pairs.facts f.pairs.reached) × (f.uniform ≡ is_uniform f.pairs.facts f.pairs.reached f.shape)
+    ghost invariant = { λ f. (Fits (frame_of f.context.now.facts f.context.now.reached) f.shape)
+        × (f.flat ≡ is_flat f.context.now.facts f.context.now.reached) × (f.uniform ≡ is_uniform f.context.now.facts f.context.now.reached f.shape)
         × (f.first.items ≡ numbers_from 1 f.shape.mdps) };
 }
 
@@ -68,18 +67,6 @@ fn is_flat(context: &Context<'_>) -> bool
         return false;
     }
     context.score(first as u16) == context.score(last as u16)
-}
-
-/// Whether all S1 of a shape leave moved-down players with the same scores.
-fn is_uniform(context: &Context<'_>, shape: Shape) -> bool
-    requires { Fits (frame_of context.now.facts context.now.reached) shape }
-    ensures { result ≡ is_uniform context.now.facts context.now.reached shape }
-{
-    let mdps = context.reached().mdps();
-    if shape.mdps == 0 || shape.mdps == mdps {
-        return true;
-    }
-    context.score(1) == context.score(mdps as u16)
 }
 
 /// S1 is chosen.
@@ -95,15 +82,15 @@ pub(crate) fn has_s1(filling: Filling) -> bool
 impl<'a> Floors<'a> {
     /// The floors of a shape, for what the next bracket can be at best.
     #[tactic(auto, using(crate::proofs::FloorLemmas::small_mdps))]
-    pub(crate) fn new(pairs: PairFacts<'a>, shape: Shape, outlook: Outlook) -> Floors<'a>
-        requires { Fits (frame_of pairs.facts pairs.reached) shape }
-        ensures { result ≡ record { facts = pairs.entry.facts; reached = pairs.entry.reached; shape = shape; outlook = outlook } }
+    pub(crate) fn new(context: &'a Context<'a>, shape: Shape, outlook: Outlook) -> Floors<'a>
+        requires { Fits (frame_of context.now.facts context.now.reached) shape }
+        ensures { result ≡ record { facts = context.now.facts; reached = context.now.reached; shape = shape; outlook = outlook } }
     {
-        let _reached = pairs.context().reached();
-        let flat = is_flat(pairs.context());
-        let uniform = is_uniform(pairs.context(), shape);
+        let _reached = context.reached();
+        let flat = is_flat(context);
+        let uniform = is_uniform(context.rule(), shape);
         Floors {
-            pairs,
+            context,
             shape,
             outlook,
             flat,
@@ -120,7 +107,7 @@ impl<'a> Floors<'a> {
         ensures of { IsOf self.now.facts self.now.reached }
         ensures small { result.pairs ≤ LIMIT }
     {
-        let _reached = self.pairs.context().reached();
+        let _reached = self.context.reached();
         self.shape
     }
 
@@ -132,9 +119,9 @@ impl<'a> Floors<'a> {
         requires few { length s1.now ≤ self.now.shape.mdps }
         ensures { psd.new.items ≡ psd_with self.now.facts self.now.reached self.now.shape (residents_score self.now.facts self.now.reached) s1.now }
     {
-        let context = self.pairs.context();
+        let context = self.context;
         let score = context.score(context.reached().mdps() as u16 + 1);
-        fill_psd_with(context, self.shape(), score, s1, psd)
+        fill_psd_with(context.rule(), self.shape(), score, s1, psd)
     }
 
     /// The best that the next bracket can be behind arrangements with an S1 (C.7).
@@ -142,7 +129,7 @@ impl<'a> Floors<'a> {
         ensures { result.now ≡ awaited self.now.facts self.now.reached self.now.shape self.now.outlook filling s1.now }
     {
         self.outlook
-            .awaited(self.pairs.context(), self.shape(), filling, s1)
+            .awaited(self.context, self.shape(), filling, s1)
     }
 
     /// Whether the next bracket is never better behind a beginning than a quality says, as far as that is known (C.7).
@@ -167,11 +154,11 @@ impl<'a> Floors<'a> {
         ensures seated { room.new.seated ≡ room.old.seated }
     {
         let shape = self.shape();
-        let more = more_missed(self.pairs.context(), shape, &room.seated, false);
+        let more = more_missed(self.context, shape, &room.seated, false);
         match filling {
             Filling::S1 | Filling::S2 => return more,
             Filling::S2r => {
-                return more.max(lonely(&self.pairs, shape, begun, &mut room.pool));
+                return more.max(lonely(self.context, shape, begun, &mut room.pool));
             }
         }
     }
@@ -186,7 +173,7 @@ impl<'a> Floors<'a> {
     {
         let _shape = self.shape();
         if !self.flat {
-            return fill_psd(self.pairs.context().field(), seated, psd);
+            return fill_psd(self.context.field(), seated, psd);
         }
         match filling {
             Filling::S1 => return self.fill_psd_with(&self.first, psd),
@@ -205,7 +192,7 @@ impl<'a> Floors<'a> {
             (awaited self.now.facts self.now.reached self.now.shape self.now.outlook filling s1.now) more
             (more_in true self.now.facts self.now.reached self.now.shape room.old.seated) room.old.seated }
     {
-        let context = self.pairs.context();
+        let context = self.context;
         let seated = &room.seated;
         let quality = &mut room.quality;
         let more_strong = more_missed(context, self.shape(), seated, true);
@@ -224,7 +211,7 @@ impl<'a> Floors<'a> {
         requires few { length begun.now.s1 ≤ self.now.shape.mdps }
         ensures { quality_in room.new.quality ≡ floor_by filling self.now begun.now }
     {
-        fill_fixed(self.pairs.context(), begun, &mut room.seated);
+        fill_fixed(self.context, begun, &mut room.seated);
         let more = self.more_by(filling, begun, room);
         self.fill_over(filling, begun.s1, more, room);
     }
@@ -244,7 +231,7 @@ impl<'a> Floors<'a> {
         ensures { result ≡ true → quality_in room.new.quality
             ≡ floor_by_seats filling self.now begun.now.s1 (known_by self.now.facts self.now.reached known (all_pairs self.now.reached.seats begun.now)) }
     {
-        let context = self.pairs.context();
+        let context = self.context;
         if !fill_known(context, begun, known, &mut room.seated) {
             return false;
         }
@@ -259,7 +246,7 @@ impl<'a> Floors<'a> {
         ensures { result ≡ is_known self.now prefix.now }
     {
         let begun = fixed_lists(prefix);
-        if !is_of_shape(self.pairs.context().reached(), self.shape(), &begun) {
+        if !is_of_shape(self.context.reached(), self.shape(), &begun) {
             return false;
         }
         has_s1(prefix.filling()) || self.uniform

@@ -54,7 +54,6 @@ mod meetings;
 mod order;
 pub mod order_laws;
 mod outlook;
-mod pair_facts;
 mod psd_floor;
 mod quality;
 mod reached;

@@ -12,7 +12,6 @@ ghost use Rattle.dutch_pair.specs.FloorOf.{HasNumbers};
 use crate::begun::Begun;
 use crate::bit_table::{WORD, has_bit, set_bit};
 use crate::context::Context;
-use crate::pair_facts::PairFacts;
 use dutch_order::{LIMIT, Numbers, Shape};
 
 /// A mark for each number of a bracket.
@@ -83,13 +82,13 @@ fn waiting<'a>(context: &Context<'_>, begun: &Begun<'a>) -> &'a [u16]
 }
 
 /// Whether a number suits one of some.
-fn suits_one(pairs: &PairFacts<'_>, x: u16, others: &[u16]) -> bool
-    requires number { (0 < x) × (x ≤ length pairs.now.reached.seats) }
-    requires others { AllNumbers pairs.now.reached.seats others.now }
-    ensures { result ≡ list_any (suits pairs.now.facts pairs.now.reached x) others.now }
+fn suits_one(context: &Context<'_>, x: u16, others: &[u16]) -> bool
+    requires number { (0 < x) × (x ≤ length context.now.reached.seats) }
+    requires others { AllNumbers context.now.reached.seats others.now }
+    ensures { result ≡ list_any (suits context.now.facts context.now.reached x) others.now }
 {
     for other in others {
-        if pairs.suits(x, *other) {
+        if context.suits(x, *other) {
             return true;
         }
     }
@@ -97,13 +96,13 @@ fn suits_one(pairs: &PairFacts<'_>, x: u16, others: &[u16]) -> bool
 }
 
 /// Whether one of some suits a number.
-fn is_suited(pairs: &PairFacts<'_>, y: u16, others: &[u16]) -> bool
-    requires number { (0 < y) × (y ≤ length pairs.now.reached.seats) }
-    requires others { AllNumbers pairs.now.reached.seats others.now }
-    ensures { result ≡ list_any (λ x. suits pairs.now.facts pairs.now.reached x y) others.now }
+fn is_suited(context: &Context<'_>, y: u16, others: &[u16]) -> bool
+    requires number { (0 < y) × (y ≤ length context.now.reached.seats) }
+    requires others { AllNumbers context.now.reached.seats others.now }
+    ensures { result ≡ list_any (λ x. suits context.now.facts context.now.reached x y) others.now }
 {
     for other in others {
-        if pairs.suits(*other, y) {
+        if context.suits(*other, y) {
             return true;
         }
     }
@@ -112,15 +111,15 @@ fn is_suited(pairs: &PairFacts<'_>, y: u16, others: &[u16]) -> bool
 
 /// How many of those who wait suit nobody of the pool.
 #[tactic(auto, unfolding(crate::specs::ColourFloors::lonely_first))]
-fn lonely_first(pairs: &PairFacts<'_>, waiting: &[u16], pool: &[u16]) -> usize
-    requires waiting { AllNumbers pairs.now.reached.seats waiting.now }
-    requires pool { AllNumbers pairs.now.reached.seats pool.now }
-    ensures value { result ≡ length (filter (λ x. not (list_any (suits pairs.now.facts pairs.now.reached x) pool.now)) waiting.now) }
+fn lonely_first(context: &Context<'_>, waiting: &[u16], pool: &[u16]) -> usize
+    requires waiting { AllNumbers context.now.reached.seats waiting.now }
+    requires pool { AllNumbers context.now.reached.seats pool.now }
+    ensures value { result ≡ length (filter (λ x. not (list_any (suits context.now.facts context.now.reached x) pool.now)) waiting.now) }
     ensures few { result ≤ length waiting.now }
 {
     let mut count = 0;
     for x in waiting {
-        if !suits_one(pairs, *x, pool) {
+        if !suits_one(context, *x, pool) {
             count += 1;
         }
     }
@@ -129,15 +128,15 @@ fn lonely_first(pairs: &PairFacts<'_>, waiting: &[u16], pool: &[u16]) -> usize
 
 /// How many of the pool suit nobody who waits.
 #[tactic(auto, unfolding(crate::specs::ColourFloors::lonely_second))]
-fn lonely_second(pairs: &PairFacts<'_>, waiting: &[u16], pool: &[u16]) -> usize
-    requires waiting { AllNumbers pairs.now.reached.seats waiting.now }
-    requires pool { AllNumbers pairs.now.reached.seats pool.now }
-    ensures value { result ≡ length (filter (λ y. not (list_any (λ x. suits pairs.now.facts pairs.now.reached x y) waiting.now)) pool.now) }
+fn lonely_second(context: &Context<'_>, waiting: &[u16], pool: &[u16]) -> usize
+    requires waiting { AllNumbers context.now.reached.seats waiting.now }
+    requires pool { AllNumbers context.now.reached.seats pool.now }
+    ensures value { result ≡ length (filter (λ y. not (list_any (λ x. suits context.now.facts context.now.reached x y) waiting.now)) pool.now) }
     ensures few { result ≤ length pool.now }
 {
     let mut count = 0;
     for y in pool {
-        if !is_suited(pairs, *y, waiting) {
+        if !is_suited(context, *y, waiting) {
             count += 1;
         }
     }
@@ -157,20 +156,19 @@ fn more_lonely(first: usize, second: usize, down: usize) -> usize
 /// How many miss at least for want of an opponent who suits. The list is filled anew with those with whom S1R can still be paired.
 #[tactic(auto, unfolding(crate::specs::ColourFloors::lonely))]
 pub(crate) fn lonely(
-    pairs: &PairFacts<'_>,
+    context: &Context<'_>,
     shape: Shape,
     begun: &Begun<'_>,
     pool: &mut Numbers,
 ) -> usize
-    requires numbers { HasNumbers pairs.now.reached begun.now }
+    requires numbers { HasNumbers context.now.reached begun.now }
     requires small { shape.pairs ≤ LIMIT }
-    ensures value { result ≡ lonely pairs.now.facts pairs.now.reached shape begun.now }
+    ensures value { result ≡ lonely context.now.facts context.now.reached shape begun.now }
     ensures few { result ≤ LIMIT }
 {
-    let context = pairs.context();
     let waiting = waiting(context, begun);
     put_pool(context, begun, pool);
-    let first = lonely_first(pairs, waiting, pool);
-    let second = lonely_second(pairs, waiting, pool);
+    let first = lonely_first(context, waiting, pool);
+    let second = lonely_second(context, waiting, pool);
     more_lonely(first, second, context.residents_down(shape))
 }

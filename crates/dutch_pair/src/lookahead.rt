@@ -1,11 +1,13 @@
 // What a bracket can be at best (C.04.3 C.7), by the first candidate of its shape.
 //
-// All residents of the next bracket have one score, so within a shape the PSD depends on the scores of S1 alone, and article D lists
-// the sets with the higher scores first: the first candidate has the least PSD, and no other one is looked at.
+// All residents of the next bracket have one score, so within a shape the PSD depends on the scores of S1 alone, and
+// article D lists the sets with the higher scores first: the first candidate has the least PSD, and no other one is
+// looked at.
 //
-// Most shapes are found at once by listing candidates. But a listing that must rule out one pair more may be very
-// long, so after few steps matchings are asked, which soon tell that no candidate has more.
-ghost use Rattle.std.specs.Prelude.{◌≡◌, map, ℕ, slice_index, ◌≤◌, MatchOption, Some};
+// Most shapes are found at once by listing candidates. But a listing that must rule out one pair more, or that looks for
+// its first candidate where few players may still meet, may be very long. So after few steps matchings are asked, which
+// soon tell the shape; and where all S1 of it give one PSD, no candidate is looked for.
+ghost use Rattle.std.specs.Prelude.{◌≡◌, map, ℕ, slice_index, ◌≤◌, IfSome, MatchOption};
 ghost use Rattle.std.specs.Result.{MatchResult};
 ghost use Rattle.dutch_pair.specs.Seated.{seat_of};
 ghost use Rattle.dutch_pair.specs.declared.reached.BracketKind.TheVariants.{Ordinary};
@@ -14,16 +16,17 @@ ghost use Rattle.dutch_pair.specs.Joins.{IsAlwaysShape};
 ghost use Rattle.dutch_pair.specs.Shapes.{IsFound};
 ghost use Rattle.dutch_pair.specs.QualityIn.{quality_in};
 ghost use Rattle.dutch_pair.specs.NextBracket.{IsOfBracket, IsFlat, AreLeft, IsNext, legal_by, next_bracket, value_in, value_of, quality};
-ghost use Rattle.dutch_order.specs.Steps.{MatchFound, Spends};
+ghost use Rattle.dutch_order.specs.Steps.{Spends};
 
 use crate::differences::fill_psd;
 use crate::greatest::{Legal, Lister, Shapes, greatest_shape};
+use crate::psd_floor::{fill_psd_with, is_uniform};
 use crate::quality::{NextValue, Quality, Room, fill_quality};
 use crate::reached::{BracketKind, ByNumber, Reached, push_all};
 use crate::seated::{by_seats, seats_of};
 use crate::shape::told_by_few_steps;
 use crate::told_shape::told_by_matchings;
-use dutch_order::{Budget, Candidate, Numbers, Shape, Stopped};
+use dutch_order::{Budget, Candidate, Numbers, Shape, Stopped, numbered_from};
 use dutch_player::Field;
 use std::alloc::Global;
 
@@ -41,8 +44,8 @@ fn shape_by_matchings(
     budget: &mut Budget,
 ) -> Result<Option<Shape>, Stopped>
     requires within { budget.old.used ≤ budget.old.limit }
-    ensures answer { MatchFound result (IsAlwaysShape rule.entry.field.now rule.entry.reached.now) (Unit {0})
-        (budget.new.used ≡ budget.new.limit) }
+    ensures answer { MatchResult result (λ told. IfSome told (IsAlwaysShape rule.entry.field.now rule.entry.reached.now))
+        (λ _. budget.new.used ≡ budget.new.limit) }
     ensures spends { Spends budget.old budget.new }
 {
     let Some(alloc) = alloc else {
@@ -54,41 +57,33 @@ fn shape_by_matchings(
     }
 }
 
-/// The greatest shape of a bracket, as matchings tell it. Its first arrangement is drawn. None says that they do not.
-fn drawn_by_matchings<'b>(
-    alloc: Option<Global>,
-    legal: &Legal<'_, ByNumber<'b>>,
-    lister: &mut Lister<'_, ByNumber<'b>>,
-    budget: &mut Budget,
-) -> Result<Option<Shape>, Stopped>
-    requires frame { legal.now.bracket.now ≡ frame_of legal.now.rule.now.field.now legal.now.rule.now.reached.now }
-    requires lists { (lister.old.listing.frame ≡ legal.now.bracket.now) × (lister.old.listing.rule ≡ legal.now.rule.now) }
-    requires within { budget.old.used ≤ budget.old.limit }
-    ensures answer { MatchFound result
-        (λ shape. IsFound (legal_by legal.now.rule.now.field.now legal.now.rule.now.reached.now legal.now.bracket.now)
-        legal.now.bracket.now (Some shape) lister.new.drawn)
-        (Unit {0})
-        (budget.new.used ≡ budget.new.limit) }
-    ensures lists { (lister.new.listing.frame ≡ legal.now.bracket.now) × (lister.new.listing.rule ≡ legal.now.rule.now) }
-    ensures spends { Spends budget.old budget.new }
+/// What a bracket is by its shape, if all S1 of it give one PSD; otherwise none.
+fn value_by_shape(rule: ByNumber<'_>, shape: Shape) -> Option<NextValue>
+    requires flat { IsFlat rule.field.now rule.reached.now }
+    requires shape { IsAlwaysShape rule.field.now rule.reached.now shape }
+    ensures { IfSome result (λ v. v ≡ value_of rule.entry.field.now rule.entry.reached.now) }
 {
-    let Some(shape) = shape_by_matchings(alloc, *legal.rule, budget)? else {
-        return Ok(None);
-    };
-    if !legal.first(lister, shape, budget)? {
-        return Ok(None);
+    if !is_uniform(rule, shape) {
+        return None;
     }
-    Ok(Some(shape))
+    let score = rule.score(rule.reached.mdps() as u16 + 1);
+    let mut psd = Numbers::new();
+    fill_psd_with(rule, shape, score, &numbered_from(1, shape.mdps), &mut psd);
+    Some(NextValue {
+        pairs: shape.pairs,
+        psd,
+    })
 }
 
-/// The greatest shape of a bracket, the first arrangement of which is drawn: by a listing of few steps, then by
-/// matchings if they can be had, and where they do not tell it, by the whole listing, which may take very many steps.
+/// The greatest shape of a bracket, the first arrangement of which is drawn: the shape that is told, or else that of the
+/// whole listing, which may take very many steps.
 fn greatest_drawn<'b>(
-    alloc: Option<Global>,
+    told: Option<Shape>,
     legal: &Legal<'_, ByNumber<'b>>,
     lister: &mut Lister<'_, ByNumber<'b>>,
     budget: &mut Budget,
 ) -> Result<Option<Shape>, Stopped>
+    requires told { IfSome told (IsAlwaysShape legal.now.rule.now.field.now legal.now.rule.now.reached.now) }
     requires frame { legal.now.bracket.now ≡ frame_of legal.now.rule.now.field.now legal.now.rule.now.reached.now }
     requires lists { (lister.old.listing.frame ≡ legal.now.bracket.now) × (lister.old.listing.rule ≡ legal.now.rule.now) }
     requires within { budget.old.used ≤ budget.old.limit }
@@ -98,19 +93,43 @@ fn greatest_drawn<'b>(
         (λ _. budget.new.used ≡ budget.new.limit) }
     ensures spends { Spends budget.old budget.new }
 {
-    if let Some(found) = told_by_few_steps(legal, lister, budget)? {
-        return Ok(found);
-    }
-    if let Some(shape) = drawn_by_matchings(alloc, legal, lister, budget)? {
+    if let Some(shape) = told
+        && legal.first(lister, shape, budget)?
+    {
         return Ok(Some(shape));
     }
     greatest_shape(legal, lister, budget)
 }
 
-/// What a bracket can be (C.7). It is found sooner where there is memory for matchings. (Apart from its caller, as a
-/// lister is large.)
+/// What a bracket is by the first arrangement of its shape; nothing if it has none.
+fn value_drawn(
+    legal: &Legal<'_, ByNumber<'_>>,
+    found: Option<Shape>,
+    drawn: &Candidate,
+) -> NextValue
+    requires flat { IsFlat legal.now.rule.now.field.now legal.now.rule.now.reached.now }
+    requires frame { legal.now.bracket.now ≡ frame_of legal.now.rule.now.field.now legal.now.rule.now.reached.now }
+    requires found { IsFound (legal_by legal.now.rule.now.field.now legal.now.rule.now.reached.now legal.now.bracket.now)
+        legal.now.bracket.now found drawn.now }
+    ensures { result ≡ value_of legal.now.rule.now.field.now legal.now.rule.now.reached.now }
+{
+    let Some(shape) = found else {
+        return NextValue::none();
+    };
+    are_small(legal.bracket.scores());
+    let (field, reached) = (legal.rule.field, legal.rule.reached);
+    let first = by_seats(field, reached.seats(), drawn);
+    let mut psd = Numbers::new();
+    fill_psd(field, &first, &mut psd);
+    NextValue {
+        pairs: shape.pairs,
+        psd,
+    }
+}
+
+/// What a bracket can be (C.7): by a listing of few steps, then by matchings if they can be had, and where they do not
+/// tell it, by a longer listing. (Apart from its caller, as a lister is large.)
 #[inline(never)]
-#[tactic(auto, unfolding(crate::specs::NextBracket::value_of))]
 pub(crate) fn value_of(
     alloc: Option<Global>,
     field: &Field,
@@ -124,23 +143,23 @@ pub(crate) fn value_of(
     ensures spends { Spends budget.old budget.new }
 {
     let bracket = reached.frame(field);
-    are_small(bracket.scores());
     let rule = reached.rule(field);
     let legal = Legal {
         bracket: &bracket,
         rule: &rule,
     };
     let mut lister = Lister::new(&bracket, &rule);
-    let Some(shape) = greatest_drawn(alloc, &legal, &mut lister, budget)? else {
-        return Ok(NextValue::none());
-    };
-    let first = by_seats(field, reached.seats(), &lister.drawn);
-    let mut psd = Numbers::new();
-    fill_psd(field, &first, &mut psd);
-    Ok(NextValue {
-        pairs: shape.pairs,
-        psd,
-    })
+    if let Some(found) = told_by_few_steps(&legal, &mut lister, budget)? {
+        return Ok(value_drawn(&legal, found, &lister.drawn));
+    }
+    let told = shape_by_matchings(alloc, rule, budget)?;
+    if let Some(shape) = told
+        && let Some(value) = value_by_shape(rule, shape)
+    {
+        return Ok(value);
+    }
+    let found = greatest_drawn(told, &legal, &mut lister, budget)?;
+    Ok(value_drawn(&legal, found, &lister.drawn))
 }
 
 /// A bracket of a field above the next lower scoregroup.

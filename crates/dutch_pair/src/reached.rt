@@ -1,13 +1,15 @@
 // A bracket that a round reaches, by the seats of its players (C.04.3 A.3, A.9).
-ghost use Rattle.std.specs.Prelude.{◌≡◌, ◌+◌, ◌<◌, ◌≤◌, ◌++◌, true, length, map};
+ghost use Rattle.std.specs.Prelude.{◌≡◌, ◌+◌, ◌*◌, ◌<◌, ◌≤◌, ◌++◌, true, length, map};
 ghost use Rattle.arrayvec.specs.ArrayVec.{array_vec_len};
 ghost use Rattle.dutch_order.specs.declared.numbers.TheConstants.{LIMIT};
 ghost use Rattle.dutch_pair.specs.Seated.{seat_of, score_at, AreSeats};
 ghost use Rattle.dutch_pair.specs.Round.{bracket};
+ghost use Rattle.trf16.specs.declared.limits.TheConstants.{MOST_ROUNDS};
+ghost use Rattle.dutch_pair.specs.ColourFloors.{residents_down};
 ghost use Rattle.dutch_pair.specs.Reached.{IsOf, ends_round, frame_of, is_number, numbers_meet, number_may_be_left};
 
 use arrayvec::ArrayVec;
-use dutch_order::{Bracket, LIMIT, Rule};
+use dutch_order::{Bracket, LIMIT, Rule, Shape};
 use dutch_player::Field;
 use std::marker::Model;
 
@@ -234,5 +236,26 @@ impl<'a> ByNumber<'a> {
         ensures few { result ≤ LIMIT }
     {
         self.reached.seats().len()
+    }
+
+    /// The score of a number, in half points.
+    pub(crate) fn score(&self, number: u16) -> u16
+        requires { (0 < number) × (number ≤ length self.now.reached.now.seats) }
+        ensures value { result ≡ score_at self.now.field.now (seat_of self.now.reached.now.seats number) }
+        ensures few { result ≤ 2 * MOST_ROUNDS }
+    {
+        self.field.score(self.reached.seat(number))
+    }
+
+    /// How many residents go down with a shape.
+    pub(crate) fn residents_down(&self, shape: Shape) -> usize
+        requires { shape.pairs ≤ LIMIT }
+        ensures { result ≡ residents_down self.now.reached.now shape }
+    {
+        let residents = self.len().saturating_sub(self.reached.mdps());
+        let pairs = shape.pairs.saturating_sub(shape.mdps);
+        residents
+            .saturating_sub(shape.mdps)
+            .saturating_sub(2 * pairs)
     }
 }

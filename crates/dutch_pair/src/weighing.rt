@@ -10,11 +10,11 @@ ghost use Rattle.dutch_pair.specs.Seated.{HasSeats, seat_of};
 ghost use Rattle.dutch_pair.specs.NextMatchings.{count_below};
 ghost use Rattle.dutch_pair.specs.WeightTables.{HasAll, HasBelow, HasPairs, IsHeavy, IsNumber, IsNumberBelow, TellsAlone, TellsBelow};
 ghost use Rattle.dutch_pair.specs.WeightTables.{TellsDown, TellsMet, TellsPairs, TellsPairsUpto, alone_weight, down_weight, met_weight, own_weight};
-ghost use Rattle.dutch_pair.specs.WeightTables.{pair_weight, place_in, weighed_on};
+ghost use Rattle.dutch_pair.specs.WeightTables.{pair_weight, place_in, place_of, weighed_on};
+ghost use Rattle.dutch_order.specs.declared.numbers.TheConstants.{LIMIT};
 ghost use Rattle.dutch_pair.specs.Weights.{weight_with};
 
 use crate::context::Context;
-use crate::pair_facts::place_of;
 use crate::quality::{Quality, Room, fill_seated};
 use crate::scale::Scale;
 use crate::seated::{Seated, difference_down};
@@ -72,6 +72,17 @@ impl<'a> Model for Weigher<'a> {
     ghost Value = { Weighing };
 
     ghost view = { λ w. weighed_on w.context.now w.scale.now };
+}
+
+/// Where a table of so many players has two numbers.
+fn place_of(n: usize, x: u16, y: u16) -> usize
+    requires few { n ≤ LIMIT }
+    requires first { (0 < x) × (x ≤ n) }
+    requires second { (0 < y) × (y ≤ n) }
+    ensures value { result ≡ place_of n x y }
+    ensures within { result < n * n }
+{
+    usize::from(x - 1) * n + usize::from(y - 1)
 }
 
 /// Fills in two players who meet, by number.

@@ -6,4 +6,4 @@ use Rattle.dutch_pair.proofs.lonely.is_suited.Given as goal
 
 abbrev pub invariant-loop-other : goal.invariant-loop-other
 invariant-loop-other l =
-    list_any (λ x. suits l.pairs.facts l.pairs.reached x l.y) l.others ≡ list_any (λ x. suits l.pairs.facts l.pairs.reached x l.y) (drop l.other-index l.others)
+    list_any (λ x. suits l.context.facts l.context.reached x l.y) l.others ≡ list_any (λ x. suits l.context.facts l.context.reached x l.y) (drop l.other-index l.others)

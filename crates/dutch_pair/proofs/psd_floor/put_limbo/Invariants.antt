@@ -9,7 +9,7 @@ use Rattle.dutch_pair.proofs.psd_floor.put_limbo.Given as goal
 
 abbrev pub invariant-loop-above : goal.invariant-loop-above
 invariant-loop-above l = record {
-  items : placed_all l.psd.items (map (λ i. (score_at l.context.facts (seat_of l.context.reached.seats i) - l.score) + 2) (left_of (numbers_from (l.above + 1) (l.context.reached.mdps - l.above)) l.s1))
-      ≡ placed_all l.initial.psd.items (map (λ i. (score_at l.context.facts (seat_of l.context.reached.seats i) - l.score) + 2) (left_of (numbers_from 1 l.context.reached.mdps) l.s1));
+  items : placed_all l.psd.items (map (λ i. (score_at l.rule.field.now (seat_of l.rule.reached.now.seats i) - l.score) + 2) (left_of (numbers_from (l.above + 1) (l.rule.reached.now.mdps - l.above)) l.s1))
+      ≡ placed_all l.initial.psd.items (map (λ i. (score_at l.rule.field.now (seat_of l.rule.reached.now.seats i) - l.score) + 2) (left_of (numbers_from 1 l.rule.reached.now.mdps) l.s1));
   len : array_vec_len l.psd ≤ array_vec_len l.initial.psd + l.above;
 }

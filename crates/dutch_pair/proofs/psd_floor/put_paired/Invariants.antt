@@ -7,7 +7,7 @@ use Rattle.dutch_pair.proofs.psd_floor.put_paired.Given as goal
 
 abbrev pub invariant-loop-number : goal.invariant-loop-number
 invariant-loop-number l = record {
-  items : placed_all l.psd.items (map (λ i. score_at l.context.facts (seat_of l.context.reached.seats i) - l.score) (drop l.number-index l.s1))
-      ≡ placed_all l.initial.psd.items (map (λ i. score_at l.context.facts (seat_of l.context.reached.seats i) - l.score) l.s1);
+  items : placed_all l.psd.items (map (λ i. score_at l.rule.field.now (seat_of l.rule.reached.now.seats i) - l.score) (drop l.number-index l.s1))
+      ≡ placed_all l.initial.psd.items (map (λ i. score_at l.rule.field.now (seat_of l.rule.reached.now.seats i) - l.score) l.s1);
   len : array_vec_len l.psd ≡ array_vec_len l.initial.psd + l.number-index;
 }

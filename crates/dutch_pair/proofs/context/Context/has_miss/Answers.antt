@@ -5,7 +5,7 @@ use Rattle.dutch_player.specs.Facts.{seat_at}
 use Rattle.dutch_player.specs.Preferences.{preference}
 use Rattle.dutch_player.specs.declared.preference.Pref.{Pref}
 use Rattle.dutch_pair.specs.Context.{Context}
-use Rattle.dutch_pair.specs.PairFacts.{collide}
+use Rattle.dutch_pair.specs.ColourFloors.{collide}
 use Rattle.dutch_pair.proofs.PairMisses.{pair_misses}
 use Rattle.dutch_pair.proofs.context.Context.has_miss.Goals as goal
 

@@ -1,6 +1,6 @@
 -- The place that is written is that of the pair.
 use Rattle.std.proofs.Common.{◌≡◌, ℕ, ◌+◌, ◌^◌, ◌∙◌, length, set, ap, subst, sym}
-use Rattle.dutch_pair.specs.PairFacts.{place_of}
+use Rattle.dutch_pair.specs.WeightTables.{place_of}
 use Rattle.dutch_pair.specs.WeightTables.{TellsPairsUpto, pair, pair_weight, place_in}
 use Rattle.dutch_pair.specs.Weights.{Weighing}
 use Rattle.dutch_pair.proofs.WeighingLemmas.{at_least, told_more}
