@@ -2,7 +2,7 @@
 use Rattle.std.proofs.Common.{◌≡◌, ◌∙◌, ℕ, Bool, true, false, cond, ◌&&◌, ◌||◌, inl, inr, List, [], ◌∷◌, Some, refl, sym, ap}
 use Rattle.std.proofs.lemmas.Bool.{and_parts, true≢false}
 use Rattle.dutch_pair.specs.declared.stage.Stage.{Stage}
-use Rattle.dutch_pair.specs.declared.wish.Wish.{Wish}
+use Rattle.dutch_choice.specs.declared.wish.Wish.{Wish}
 use Rattle.command_line.specs.InsteadAnswers.{decided_in, goes_on, stands_in, stands_in_one, wish_in}
 use Rattle.command_line.specs.InsteadLaws.{IsDecidedIn, IsLastOf, IsLastOfOne}
 use Rattle.command_line.specs.declared.instead.Rival.{Rival}

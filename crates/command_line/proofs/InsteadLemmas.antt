@@ -7,11 +7,11 @@ use Rattle.dutch_order.specs.declared.numbers.TheConstants.{LIMIT}
 use Rattle.dutch_player.specs.Facts.{Facts}
 use Rattle.dutch_pair.specs.Lower.{lower_of}
 use Rattle.dutch_pair.specs.Outcomes.{IsStage}
-use Rattle.dutch_pair.specs.Seated.{score_at}
-use Rattle.dutch_pair.specs.Wishes.{IsInstead}
+use Rattle.dutch_bracket.specs.Seated.{score_at}
+use Rattle.dutch_pair.specs.Instead.{IsInstead}
 use Rattle.dutch_pair.specs.declared.instead.Instead.{Instead}
 use Rattle.dutch_pair.specs.declared.stage.Stage.{Stage}
-use Rattle.dutch_pair.specs.declared.wish.Wish.{Wish}
+use Rattle.dutch_choice.specs.declared.wish.Wish.{Wish}
 use Rattle.command_line.specs.InsteadAnswers.{IsSearched}
 use Rattle.command_line.specs.InsteadTexts.{search_answer}
 use Rattle.command_line.specs.Replies.{answer_of}

@@ -3,9 +3,9 @@ use Rattle.std.proofs.Common.{◌≡◌, ◌∙◌, ◌++◌, ◌==◌, ℕ, fal
 use Rattle.std.specs.Prelude.{if◌then◌else◌, is_ok, codes}
 use Rattle.std.specs.List.{flat_map}
 use Rattle.dutch_player.specs.Facts.{Facts}
-use Rattle.dutch_pair.specs.Items.{players_counted, who_counts}
-use Rattle.dutch_pair.specs.QualityIn.{quality_in}
-use Rattle.dutch_pair.specs.declared.items.Item.{Item}
+use Rattle.dutch_bracket.specs.Items.{players_counted, who_counts}
+use Rattle.dutch_bracket.specs.QualityIn.{quality_in}
+use Rattle.dutch_bracket.specs.declared.item.Item.{Item}
 use Rattle.dutch_pair.specs.declared.stage.Stage.{Stage}
 use Rattle.command_line.specs.CandidateTexts.{rank_text}
 use Rattle.command_line.specs.ExplainAnswers.{present_text}

@@ -10,7 +10,7 @@ use Rattle.dutch_order.specs.Keys.{IsIn}
 use Rattle.dutch_order.specs.declared.bracket.Shape.{Shape}
 use Rattle.dutch_order.proofs.CursorReads.{read-is}
 use Rattle.dutch_pair.specs.Outcomes.{IsBracketAt}
-use Rattle.dutch_pair.specs.Reached.{Reached, frame_of}
+use Rattle.dutch_bracket.specs.Reached.{Reached, frame_of}
 use Rattle.dutch_player.specs.Facts.{Facts}
 use Rattle.dutch_pair.specs.declared.round.BracketAt.{BracketAt}
 use Rattle.dutch_order.specs.declared.cursor.CursorFault.{CursorFault}

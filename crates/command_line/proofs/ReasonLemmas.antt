@@ -8,16 +8,17 @@ use Rattle.dutch_order.proofs.Orders.{filter-IsIn}
 use Rattle.dutch_player.specs.Facts.{Facts}
 use Rattle.dutch_pair.specs.Lower.{lower_of}
 use Rattle.dutch_pair.specs.Outcomes.{IsStage}
-use Rattle.dutch_pair.specs.Reached.{frame_of}
-use Rattle.dutch_pair.specs.Round.{can_be_chosen, candidates_of, eligible}
-use Rattle.dutch_pair.specs.Shapes.{fits, has_member}
-use Rattle.dutch_pair.specs.Wishes.{IsBarred, IsInstead, grants, some_grants, with_mdps}
+use Rattle.dutch_bracket.specs.Reached.{frame_of}
+use Rattle.dutch_bracket.specs.Brackets.{can_be_chosen, candidates_of, eligible}
+use Rattle.dutch_bracket.specs.Shapes.{fits, has_member}
+use Rattle.dutch_choice.specs.Wishes.{IsBarred, grants, some_grants, with_mdps}
+use Rattle.dutch_pair.specs.Instead.{IsInstead}
 use Rattle.dutch_pair.specs.declared.instead.Instead.TheVariants.{FewerMovedDown, NoneEligible, NoneLegal}
 use Rattle.dutch_pair.specs.declared.stage.Stage.{Stage}
-use Rattle.dutch_pair.specs.declared.wish.Wish.{Wish}
-use Rattle.dutch_pair.proofs.BestGranting.{found_in, none_by_test}
+use Rattle.dutch_choice.specs.declared.wish.Wish.{Wish}
+use Rattle.dutch_choice.proofs.BestGranting.{found_in, none_by_test}
 use Rattle.dutch_pair.proofs.InsteadLemmas.{stage_shape}
-use Rattle.dutch_pair.proofs.ShapeLaws.{has_room, none_is_greater, room_by_test}
+use Rattle.dutch_bracket.proofs.ShapeLaws.{has_room, none_is_greater, room_by_test}
 use Rattle.command_line.specs.InsteadLaws.{IsLegalWith, NoneCanBeChosen, NoneWithAsManyMovedDown, NoneWithAsManyPairs}
 
 member_of : (a : Arrangement) (all : List Arrangement) → IsIn a all → has_member all ≡ true
@@ -88,12 +89,14 @@ module _ (facts : Facts) (stage : Stage) (wish : Wish) where
 
   pub none_can_be_chosen : (limit : ℕ) → IsStage facts stage
       → IsInstead facts stage.reached (lower_of facts stage.reached) stage.shape wish limit NoneEligible → NoneCanBeChosen facts stage wish
+  unfolding IsInstead
   none_can_be_chosen limit is (barred', none) = by_either is none barred'
 
   -- ---- B.1
 
   pub none_with_as_many_moved_down : (limit : ℕ) → IsStage facts stage
       → IsInstead facts stage.reached (lower_of facts stage.reached) stage.shape wish limit FewerMovedDown → NoneWithAsManyMovedDown facts stage wish
+  unfolding IsInstead
   none_with_as_many_moved_down limit is (none, fewer) =
       let it = granting fewer.mdps fewer.granted in
       record {
@@ -113,4 +116,5 @@ module _ (facts : Facts) (stage : Stage) (wish : Wish) where
 
   pub none_with_as_many_pairs : (limit : ℕ) → IsStage facts stage
       → IsInstead facts stage.reached (lower_of facts stage.reached) stage.shape wish limit NoneLegal → NoneWithAsManyPairs facts stage wish
+  unfolding IsInstead
   none_with_as_many_pairs limit is none = λ mdps a legal. none_at mdps a (none mdps) legal

@@ -3,8 +3,8 @@ use Rattle.std.proofs.Common.{◌≡◌, ℕ, zero, suc, ◌-◌, ◌<◌, ◌�
 use Rattle.std.proofs.lemmas.Bool.Decides.{nat_tests}
 use Rattle.dutch_player.specs.Facts.{Facts}
 use Rattle.dutch_pair.specs.Outcomes.{IsStage}
-use Rattle.dutch_pair.specs.Reached.{Reached, is_number}
-use Rattle.dutch_pair.specs.Seated.{AllNumbers, seat_of}
+use Rattle.dutch_bracket.specs.Reached.{Reached, is_number}
+use Rattle.dutch_bracket.specs.Seated.{AllNumbers, seat_of}
 use Rattle.dutch_pair.specs.declared.stage.Stage.{Stage}
 use Rattle.dutch_pair.proofs.WalkEnds.{candidate_is}
 

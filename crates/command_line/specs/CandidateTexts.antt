@@ -7,10 +7,10 @@ use Rattle.dutch_order.specs.Cursors.{cursor_text}
 use Rattle.dutch_order.specs.Candidates.{Candidate}
 use Rattle.dutch_order.specs.declared.bracket.Shape.{Shape}
 use Rattle.dutch_player.specs.Facts.{Facts, seat_at}
-use Rattle.dutch_pair.specs.Reached.{Reached, frame_of, is_number}
-use Rattle.dutch_pair.specs.Seated.{seat_of}
-use Rattle.dutch_pair.specs.declared.reached.BracketKind.{BracketKind}
-use Rattle.dutch_pair.specs.declared.reached.BracketKind.TheVariants.{Ordinary, Last, Penultimate, Collapsed}
+use Rattle.dutch_bracket.specs.Reached.{Reached, frame_of, is_number}
+use Rattle.dutch_bracket.specs.Seated.{seat_of}
+use Rattle.dutch_bracket.specs.declared.reached.BracketKind.{BracketKind}
+use Rattle.dutch_bracket.specs.declared.reached.BracketKind.TheVariants.{Ordinary, Last, Penultimate, Collapsed}
 
 -- what a bracket is for the round
 abbrev pub kind_text : BracketKind → List ℕ

@@ -8,8 +8,8 @@ use Rattle.dutch_player.specs.Colours.{colours, colour_rule}
 use Rattle.dutch_player.specs.Facts.{Facts}
 use Rattle.dutch_player.specs.declared.colour_rule.ColourRule.{ColourRule}
 use Rattle.dutch_player.specs.declared.colour_rule.ColourRule.TheVariants.{BothPreferences, StrongerPreference, Alternation, HigherRank, InitialColour}
-use Rattle.dutch_pair.specs.Reached.{Reached, ends_round}
-use Rattle.dutch_pair.specs.Seated.{score_at, seat_of}
+use Rattle.dutch_bracket.specs.Reached.{Reached, ends_round}
+use Rattle.dutch_bracket.specs.Seated.{score_at, seat_of}
 use Rattle.dutch_pair.specs.Stages.{own_pairs}
 use Rattle.dutch_pair.specs.declared.stage.Stage.{Stage}
 use Rattle.command_line.specs.CandidateTexts.{bracket_text, candidate_text, rank_text}

@@ -5,11 +5,12 @@ use Rattle.std.specs.Option.{option_map_or}
 use Rattle.dutch_player.specs.Facts.{Facts}
 use Rattle.dutch_player.specs.StartRanks.{seat_with}
 use Rattle.dutch_pair.specs.Lower.{lower_of}
-use Rattle.dutch_pair.specs.Wishes.{IsInstead, grants}
+use Rattle.dutch_choice.specs.Wishes.{grants}
+use Rattle.dutch_pair.specs.Instead.{IsInstead}
 use Rattle.dutch_pair.specs.declared.instead.Instead.{Instead}
 use Rattle.dutch_pair.specs.declared.stage.Stage.{Stage}
-use Rattle.dutch_pair.specs.declared.wish.Wish.{Wish}
-use Rattle.dutch_pair.specs.declared.wish.Wish.TheVariants.{Pair, Over}
+use Rattle.dutch_choice.specs.declared.wish.Wish.{Wish}
+use Rattle.dutch_choice.specs.declared.wish.Wish.TheVariants.{Pair, Over}
 use Rattle.trf16.specs.Sheet.{Sheet}
 use Rattle.command_line.specs.InsteadTexts.{instead_text, obstacle_text, search_answer}
 use Rattle.command_line.specs.Obstacles.{against_bye, against_meeting}

@@ -9,11 +9,11 @@ use Rattle.dutch_player.specs.Preferences.{preference}
 use Rattle.dutch_player.specs.declared.preference.Strength.TheVariants.{Absolute}
 use Rattle.dutch_player.specs.declared.preference.Pref.{Pref}
 use Rattle.dutch_pair.specs.Lower.{lower_of}
-use Rattle.dutch_pair.specs.Reached.{frame_of}
-use Rattle.dutch_pair.specs.Round.{can_be_chosen, candidates_of}
-use Rattle.dutch_pair.specs.Wishes.{grants, with_mdps}
+use Rattle.dutch_bracket.specs.Reached.{frame_of}
+use Rattle.dutch_bracket.specs.Brackets.{can_be_chosen, candidates_of}
+use Rattle.dutch_choice.specs.Wishes.{grants, with_mdps}
 use Rattle.dutch_pair.specs.declared.stage.Stage.{Stage}
-use Rattle.dutch_pair.specs.declared.wish.Wish.{Wish}
+use Rattle.dutch_choice.specs.declared.wish.Wish.{Wish}
 use Rattle.trf16.specs.Absence.{apart}
 use Rattle.trf16.specs.Sheet.{Sheet, cell_in, rounds_played}
 use Rattle.command_line.specs.InsteadAnswers.{goes_on, stands_in, stands_in_one, wish_in}

@@ -4,13 +4,13 @@ use Rattle.std.specs.List.{flat_map}
 use Rattle.std.specs.Fmt.{decimal}
 use Rattle.dutch_order.specs.Arrangements.{Arrangement}
 use Rattle.dutch_order.specs.Cursors.{cursor_text}
-use Rattle.dutch_pair.specs.Items.{first_difference}
-use Rattle.dutch_pair.specs.Quality.{Quality}
-use Rattle.dutch_pair.specs.QualityIn.{quality_in}
+use Rattle.dutch_bracket.specs.Quality.{first_difference}
+use Rattle.dutch_bracket.specs.Quality.{Quality}
+use Rattle.dutch_bracket.specs.QualityIn.{quality_in}
 use Rattle.dutch_pair.specs.declared.instead.Instead.{Instead}
 use Rattle.dutch_pair.specs.declared.instead.Instead.TheVariants.{Best, FewerMovedDown, NoneEligible, NoneLegal, Undecided}
-use Rattle.dutch_pair.specs.declared.items.Item.{Item}
-use Rattle.dutch_pair.specs.declared.items.Item.TheVariants.{Psd, NextBracket, WideDifferences, ThirdColours, MissedPreferences, MissedStrong, DownAgain, UpAgain, DownAgainBefore, UpAgainBefore, DownAgainBy, UpAgainBy, DownAgainBeforeBy, UpAgainBeforeBy}
+use Rattle.dutch_bracket.specs.declared.item.Item.{Item}
+use Rattle.dutch_bracket.specs.declared.item.Item.TheVariants.{Psd, NextBracket, WideDifferences, ThirdColours, MissedPreferences, MissedStrong, DownAgain, UpAgain, DownAgainBefore, UpAgainBefore, DownAgainBy, UpAgainBy, DownAgainBeforeBy, UpAgainBeforeBy}
 use Rattle.dutch_pair.specs.declared.stage.Stage.{Stage}
 use Rattle.command_line.specs.ItemTexts.{article_text}
 use Rattle.command_line.specs.Statuses.{Answer, done, undecided}

@@ -1,8 +1,10 @@
-// The lines that tell why there is no pairing: who blocks, the odd groups behind them, and that nobody may have the bye (C.04.3 A.9).
+// The lines that tell why there is no pairing: who blocks, the odd groups behind them, and that nobody may have the bye
+// (C.04.3 A.9).
 ghost use Rattle.std.specs.Prelude.{◌≡◌, ◌<◌, ◌++◌, IfOk, OnOk, length, string_bytes};
 ghost use Rattle.dutch_pair.specs.Round.{everybody};
-ghost use Rattle.dutch_pair.specs.Seated.{AreSeats};
-ghost use Rattle.command_line.specs.BarrierTexts.{barrier_text, blockers_text, group_text, groups_text, labelled_text, lacking_text, member_text};
+ghost use Rattle.dutch_bracket.specs.Seated.{AreSeats};
+ghost use Rattle.command_line.specs.BarrierTexts.{barrier_text, blockers_text, group_text, groups_text, labelled_text};
+ghost use Rattle.command_line.specs.BarrierTexts.{lacking_text, member_text};
 ghost use Rattle.command_line.specs.ExplainAnswers.{TellsWhy, no_pairing_with};
 ghost use Rattle.command_line.specs.Replies.{answer_of};
 
@@ -92,7 +94,8 @@ fn put_groups(
     field: &Field,
     barrier: &Barrier,
 ) -> Result<(), AllocError>
-    ensures { OnOk result (string_bytes text.new ≡ string_bytes text.old ++ groups_text field.now barrier.now (everybody field.now)) }
+    ensures { OnOk result (string_bytes text.new
+        ≡ string_bytes text.old ++ groups_text field.now barrier.now (everybody field.now)) }
 {
     let all = all_seats(field);
     for seat in all.as_slice() {
@@ -127,7 +130,8 @@ fn put_labelled(
     barrier: &Barrier,
     group: u16,
 ) -> Result<(), AllocError>
-    ensures { OnOk result (string_bytes text.new ≡ string_bytes text.old ++ labelled_text field.now barrier.now group (everybody field.now)) }
+    ensures { OnOk result (string_bytes text.new
+        ≡ string_bytes text.old ++ labelled_text field.now barrier.now group (everybody field.now)) }
 {
     let all = all_seats(field);
     for seat in all.as_slice() {

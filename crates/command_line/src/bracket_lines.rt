@@ -1,12 +1,14 @@
 // The lines of a round and of its brackets: who is in each, what is chosen, the boards, and who is left over.
 ghost use Rattle.std.specs.Prelude.{◌≡◌, ◌<◌, ◌++◌, IfOk, OnOk, length, string_bytes};
 ghost use Rattle.std.specs.List.{AllByRecursion, flat_map};
-ghost use Rattle.dutch_pair.specs.Boards.{IsPair};
+ghost use Rattle.dutch_bracket.specs.Seated.{IsPair};
 ghost use Rattle.dutch_pair.specs.Outcomes.{IsStage};
-ghost use Rattle.dutch_pair.specs.Reached.{IsOf};
-ghost use Rattle.dutch_pair.specs.Seated.{AreSeats};
-ghost use Rattle.command_line.specs.ExplainTexts.{bar_text, boards_text, bye_text, byes_text, chosen_text, colours_text, is_bracket_told, is_told, over_text, pairs_text};
-ghost use Rattle.command_line.specs.ExplainTexts.{left_text, players_text, round_text, rule_text, scored_text, stage_text, stages_text};
+ghost use Rattle.dutch_bracket.specs.Reached.{IsOf};
+ghost use Rattle.dutch_bracket.specs.Seated.{AreSeats};
+ghost use Rattle.command_line.specs.ExplainTexts.{bar_text, boards_text, bye_text, byes_text, chosen_text};
+ghost use Rattle.command_line.specs.ExplainTexts.{colours_text, is_bracket_told, is_told, over_text, pairs_text};
+ghost use Rattle.command_line.specs.ExplainTexts.{left_text, players_text, round_text, rule_text, scored_text};
+ghost use Rattle.command_line.specs.ExplainTexts.{stage_text, stages_text};
 
 use crate::item_lines::put_items;
 use crate::listing::put_line;
@@ -57,7 +59,8 @@ fn put_with_bye(
     Ok(())
 }
 
-/// Puts the brackets, in the order in which the round reaches them: all of them, or those of one seat and what in them is that seat's own.
+/// Puts the brackets, in the order in which the round reaches them: all of them, or those of one seat and what in them
+/// is that seat's own.
 pub fn put_stages(
     alloc: Global,
     text: &mut String,
@@ -172,7 +175,8 @@ fn put_scored(
     seats: &[u16],
 ) -> Result<(), AllocError>
     requires { AreSeats field.now seats.now }
-    ensures { OnOk result (string_bytes text.new ≡ string_bytes text.old ++ flat_map (scored_text field.now) seats.now) }
+    ensures { OnOk result (string_bytes text.new
+        ≡ string_bytes text.old ++ flat_map (scored_text field.now) seats.now) }
 {
     for seat in seats {
         let start = field.start_rank(*seat);

@@ -3,8 +3,9 @@ ghost use Rattle.std.specs.Prelude.{◌≡◌, ◌≤◌, ◌++◌, IfOk, Ok, op
 ghost use Rattle.trf16.specs.Verdict.{verdict};
 ghost use Rattle.dutch_order.specs.Arrangements.{Fits};
 ghost use Rattle.dutch_pair.specs.Outcomes.{IsBracketAt};
-ghost use Rattle.dutch_pair.specs.Reached.{IsOf, frame_of};
-ghost use Rattle.command_line.specs.CandidateAnswers.{AnswersCandidates, InField, Lists, AnswersFound, coming_of, ending_text};
+ghost use Rattle.dutch_bracket.specs.Reached.{IsOf, frame_of};
+ghost use Rattle.command_line.specs.CandidateAnswers.{AnswersCandidates, InField, Lists, AnswersFound, coming_of};
+ghost use Rattle.command_line.specs.CandidateAnswers.{ending_text};
 ghost use Rattle.command_line.specs.CandidateTexts.{bracket_text};
 ghost use Rattle.command_line.specs.Replies.{answer_of};
 ghost use Rattle.command_line.specs.Statuses.{not_of_bracket, not_reached};

@@ -24,7 +24,8 @@ pub fn check(
     bye: u16,
 ) -> Result<Reply, AllocError>
     requires { bye ≤ 2 }
-    ensures { IfOk result (λ reply. answer_of reply ≡ check_answer (verdict bytes.now bye) options.notes bytes.now bye) }
+    ensures { IfOk result (λ reply. answer_of reply
+        ≡ check_answer (verdict bytes.now bye) options.notes bytes.now bye) }
 {
     match trf16::read_with(alloc, bytes, bye) {
         Ok(report) => accepted(alloc, options, &report, bytes),
@@ -41,7 +42,8 @@ fn accepted(
     report: &Report<'_>,
     bytes: &[u8],
 ) -> Result<Reply, AllocError>
-    ensures { (bye : ℕ) → IfOk result (λ reply. answer_of reply ≡ check_answer (Ok report.now) options.notes bytes.now bye) }
+    ensures { (bye : ℕ) → IfOk result
+        (λ reply. answer_of reply ≡ check_answer (Ok report.now) options.notes bytes.now bye) }
 {
     let text = size(alloc, report)?;
     if options.notes {

@@ -2,8 +2,10 @@
 ghost use Rattle.std.specs.Prelude.{◌≡◌, IfOk, codes, false};
 ghost use Rattle.clap.specs.declared.Command.{out-Command as fields_of};
 ghost use Rattle.clap.specs.Words.{App, app_of, new_app, rule_of, with_rule};
-ghost use Rattle.command_line.specs.CommandLine.{IsSeenAs, candidates_app, explain_app, pair_app, standings_app, with_round_rules};
-ghost use Rattle.command_line.specs.CommandLine.{bracket_rule, bye_rule, count_rule, from_rule, instead_rule, player_rule};
+ghost use Rattle.command_line.specs.CommandLine.{IsSeenAs, candidates_app, explain_app, pair_app, standings_app};
+ghost use Rattle.command_line.specs.CommandLine.{with_round_rules};
+ghost use Rattle.command_line.specs.CommandLine.{bracket_rule, bye_rule, count_rule, from_rule, instead_rule};
+ghost use Rattle.command_line.specs.CommandLine.{player_rule};
 
 use crate::arguments;
 use clap::{Arg, Command};
@@ -87,7 +89,8 @@ pub fn with_worth<'a>(alloc: Global, command: Made<'a>) -> Made<'a>
 
 // A command with the options that say which candidates of which bracket are wanted.
 fn with_bracket<'a>(alloc: Global, command: Made<'a>) -> Made<'a>
-    ensures { (app : App) → IfOk command.entry (IsSeenAs app) → IfOk result (IsSeenAs (with_rule (with_rule (with_rule app bracket_rule) from_rule) count_rule)) }
+    ensures { (app : App) → IfOk command.entry (IsSeenAs app)
+        → IfOk result (IsSeenAs (with_rule (with_rule (with_rule app bracket_rule) from_rule) count_rule)) }
 {
     let command = with_option(command, arguments::bracket(alloc));
     let command = with_option(command, arguments::from(alloc));
@@ -96,7 +99,8 @@ fn with_bracket<'a>(alloc: Global, command: Made<'a>) -> Made<'a>
 
 // A command with the options that say of whom it is asked.
 fn with_question<'a>(alloc: Global, command: Made<'a>) -> Made<'a>
-    ensures { (app : App) → IfOk command.entry (IsSeenAs app) → IfOk result (IsSeenAs (with_rule (with_rule app player_rule) instead_rule)) }
+    ensures { (app : App) → IfOk command.entry (IsSeenAs app)
+        → IfOk result (IsSeenAs (with_rule (with_rule app player_rule) instead_rule)) }
 {
     let command = with_option(command, arguments::player(alloc));
     with_option(command, arguments::instead(alloc))
@@ -128,7 +132,8 @@ pub fn described<'a>(
 /// A command with one more option.
 pub fn with_option<'a>(command: Made<'a>, option: Arg<'a>) -> Made<'a>
     requires { option.global ≡ false }
-    ensures { (app : App) → IfOk command.entry (IsSeenAs app) → IfOk result (IsSeenAs (with_rule app (rule_of option.entry))) }
+    ensures { (app : App) → IfOk command.entry (IsSeenAs app)
+        → IfOk result (IsSeenAs (with_rule app (rule_of option.entry))) }
 {
     command?.arg(option)
 }

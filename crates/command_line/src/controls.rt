@@ -1,12 +1,13 @@
-// Control characters in a text, which make a terminal do something in place of showing a letter. They are found by bytes, whether or not
-// the report is UTF-8: a terminal that reads UTF-8 acts on the two bytes of U+0080 to U+009F in any text.
+// Control characters in a text, which make a terminal do something in place of showing a letter. They are found by
+// bytes, whether or not the report is UTF-8: a terminal that reads UTF-8 acts on the two bytes of U+0080 to U+009F in
+// any text.
 ghost use Rattle.std.specs.Prelude.{◌≡◌, ◌≤◌, ◌∷◌, IfOk, false, length};
 ghost use Rattle.command_line.specs.Controls.{holds_control, is_control, is_long_control, shown_byte, without_controls};
 
 use std::alloc::{AllocError, Global};
 
-/// A text with a question mark in place of each control character: a byte below 32, 127, or the two bytes of U+0080 to U+009F in
-/// UTF-8.
+/// A text with a question mark in place of each control character: a byte below 32, 127, or the two bytes of U+0080 to
+/// U+009F in UTF-8.
 ///
 /// # Errors
 /// Memory was refused.

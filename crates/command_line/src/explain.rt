@@ -4,9 +4,10 @@ ghost use Rattle.std.specs.List.{AllByRecursion};
 ghost use Rattle.dutch_player.specs.Facts.{facts_of};
 ghost use Rattle.dutch_pair.specs.Outcomes.{AreStages, IsStage};
 ghost use Rattle.trf16.specs.Verdict.{verdict};
-ghost use Rattle.dutch_pair.specs.Seated.{AreSeats};
+ghost use Rattle.dutch_bracket.specs.Seated.{AreSeats};
 ghost use Rattle.dutch_player.specs.StartRanks.{seat_with};
-ghost use Rattle.command_line.specs.ExplainAnswers.{AnswersExplain, AnswersQuestion, ExplainsField, IsExplained, TellsPaired, TellsRound, about_text, front_text, present_text};
+ghost use Rattle.command_line.specs.ExplainAnswers.{AnswersExplain, AnswersQuestion, ExplainsField, IsExplained};
+ghost use Rattle.command_line.specs.ExplainAnswers.{TellsPaired, TellsRound, about_text, front_text, present_text};
 ghost use Rattle.command_line.specs.Replies.{answer_of};
 ghost use Rattle.command_line.specs.Statuses.{done};
 
@@ -142,7 +143,8 @@ fn put_about(
     player: u16,
 ) -> Result<(), AllocError>
     requires { AllByRecursion (IsStage round.now.facts) round.now.stages }
-    ensures { OnOk result (string_bytes text.new ≡ string_bytes text.old ++ about_text round.now player (seat_with round.now.facts player)) }
+    ensures { OnOk result (string_bytes text.new
+        ≡ string_bytes text.old ++ about_text round.now player (seat_with round.now.facts player)) }
 {
     match round.field.seat_with(player) {
         Some(seat) => put_present(alloc, text, round, seat),
@@ -175,7 +177,8 @@ fn with_instead(
 ) -> Result<Reply, AllocError>
     requires front { string_bytes text ≡ front_text round.now question.player }
     requires stages { AllByRecursion (IsStage round.now.facts) round.now.stages }
-    ensures { IfOk result (λ reply. AnswersQuestion round.now steps question.player question.instead (answer_of reply)) }
+    ensures { IfOk result (λ reply. AnswersQuestion round.now steps question.player question.instead
+        (answer_of reply)) }
 {
     match question.instead {
         Some(number) => instead(alloc, round, question.player, number, steps)?.behind(text),

@@ -21,7 +21,8 @@ pub fn format(
     bye: u16,
 ) -> Result<Reply, AllocError>
     requires { bye ≤ 2 }
-    ensures { IfOk result (λ reply. answer_of reply ≡ format_answer options.points (format_verdict options.points bytes.now bye)) }
+    ensures { IfOk result (λ reply. answer_of reply
+        ≡ format_answer options.points (format_verdict options.points bytes.now bye)) }
 {
     if options.points {
         with_sums(alloc, bytes, bye)

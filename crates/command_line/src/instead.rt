@@ -4,8 +4,11 @@ ghost use Rattle.std.specs.List.{AllByRecursion};
 ghost use Rattle.dutch_order.specs.declared.numbers.TheConstants.{LIMIT};
 ghost use Rattle.dutch_pair.specs.Lower.{lower_of};
 ghost use Rattle.dutch_pair.specs.Outcomes.{IsStage};
-ghost use Rattle.dutch_pair.specs.Wishes.{IsInstead, grants};
-ghost use Rattle.command_line.specs.InsteadAnswers.{AnswersDecided, AnswersInstead, AnswersWish, IsRival, IsSearched, decided_in, goes_on, number_among, number_in, obstacle_of, rival_of, stands_in, stands_in_one, wish_in};
+ghost use Rattle.dutch_choice.specs.Wishes.{grants};
+ghost use Rattle.dutch_pair.specs.Instead.{IsInstead};
+ghost use Rattle.command_line.specs.InsteadAnswers.{AnswersDecided, AnswersInstead, AnswersWish, IsRival, IsSearched};
+ghost use Rattle.command_line.specs.InsteadAnswers.{decided_in, goes_on, number_among, number_in, obstacle_of};
+ghost use Rattle.command_line.specs.InsteadAnswers.{rival_of, stands_in, stands_in_one, wish_in};
 ghost use Rattle.command_line.specs.InsteadTexts.{instead_text, in_bracket, obstacle_text, search_answer};
 ghost use Rattle.command_line.specs.Replies.{answer_of};
 ghost use Rattle.command_line.specs.Statuses.{done};
@@ -29,7 +32,8 @@ pub enum Rival {
     Seat(u16),
 }
 
-/// A round that is paired: its report and its field, the brackets that it reached, and the seat that has the bye, if one has.
+/// A round that is paired: its report and its field, the brackets that it reached, and the seat that has the bye, if
+/// one has.
 #[derive(Drop)]
 pub struct Paired<'a> {
     pub report: &'a Report<'a>,
@@ -46,10 +50,10 @@ impl<'a> Model for Paired<'a> {
     ghost view = { λ r. record { sheet = r.report.now; facts = r.field.now; stages = r.stages.now; bye = r.bye.now } };
 }
 
-/// What is answered to a player, by their start rank, who asks for another one instead, or for the bye by 0: the first of these that stands
-/// against it: one of the two is absent; C.1; a line `XXP`; C.3; for the bye C.2, or that nobody has it; then what is chosen in the first
-/// bracket behind which one of them does not stand, and the best of its candidates that would grant it. The search for that candidate
-/// may take at most `steps` steps of its own.
+/// What is answered to a player, by their start rank, who asks for another one instead, or for the bye by 0: the first
+/// of these that stands against it: one of the two is absent; C.1; a line `XXP`; C.3; for the bye C.2, or that nobody
+/// has it; then what is chosen in the first bracket behind which one of them does not stand, and the best of its
+/// candidates that would grant it. The search for that candidate may take at most `steps` steps of its own.
 ///
 /// # Errors
 /// Memory was refused.
@@ -197,8 +201,8 @@ fn number_in(field: &Field, stage: &Stage, seat: u16) -> u16
     number_among(stage.reached().seats(), seat)
 }
 
-// What is wished in a bracket behind which one of the two does not stand: that they meet, if it is the last bracket of both; otherwise
-// that the one who was paired in it is left over.
+// What is wished in a bracket behind which one of the two does not stand: that they meet, if it is the last bracket of
+// both; otherwise that the one who was paired in it is left over.
 fn wish_in(field: &Field, behind: &[Stage], stage: &Stage, asked: Asked) -> Wish
     requires { IsStage field.now stage.now }
     ensures { result ≡ wish_in behind.now stage.now asked.player asked.rival }
@@ -256,7 +260,8 @@ fn search(
     steps: u64,
 ) -> Result<Instead, AllocError>
     requires { IsStage field.now stage.now }
-    ensures { IfOk result (IsInstead field.now stage.now.reached (lower_of field.now stage.now.reached) stage.now.shape wish steps) }
+    ensures { IfOk result (IsInstead field.now stage.now.reached
+        (lower_of field.now stage.now.reached) stage.now.shape wish steps) }
 {
     match best_instead(alloc, field, stage, wish, steps) {
         Ok(found) => Ok(found),
@@ -280,7 +285,8 @@ fn by_search(
     tell(alloc, asked.number, stage, &found)
 }
 
-// What is answered to a wish in a bracket: that what is chosen there grants it, or what a search for a candidate that does finds.
+// What is answered to a wish in a bracket: that what is chosen there grants it, or what a search for a candidate that
+// does finds.
 fn by_wish(
     alloc: Global,
     field: &Field,
@@ -289,7 +295,8 @@ fn by_wish(
     asked: Asked,
 ) -> Result<Reply, AllocError>
     requires { IsStage field.now stage.now }
-    ensures { IfOk result (λ reply. AnswersWish field.now asked.steps asked.number stage.now wish (grants wish stage.now.candidate.lists) (answer_of reply)) }
+    ensures { IfOk result (λ reply. AnswersWish field.now asked.steps asked.number stage.now wish
+        (grants wish stage.now.candidate.lists) (answer_of reply)) }
 {
     if wish.is_granted(stage.candidate()) {
         return line(alloc, asked.number, "chosen");
@@ -305,7 +312,8 @@ fn by_brackets(
     asked: Asked,
 ) -> Result<Reply, AllocError>
     requires { AllByRecursion (IsStage field.now) stages.now }
-    ensures { IfOk result (λ reply. AnswersDecided field.now asked.steps asked.number (decided_in stages.now asked.player asked.rival) (answer_of reply)) }
+    ensures { IfOk result (λ reply. AnswersDecided field.now asked.steps asked.number
+        (decided_in stages.now asked.player asked.rival) (answer_of reply)) }
 {
     let [stage, behind @ ..] = stages else {
         return Ok(Reply {

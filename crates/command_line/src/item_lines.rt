@@ -2,20 +2,22 @@
 ghost use Rattle.std.specs.Prelude.{◌≡◌, ◌++◌, OnOk, codes, string_bytes};
 ghost use Rattle.std.specs.List.{flat_map};
 ghost use Rattle.dutch_player.specs.Facts.{seat_at};
-ghost use Rattle.dutch_pair.specs.Items.{players_counted};
+ghost use Rattle.dutch_bracket.specs.Items.{players_counted};
 ghost use Rattle.dutch_pair.specs.Outcomes.{IsStage};
-ghost use Rattle.dutch_pair.specs.QualityIn.{quality_in};
+ghost use Rattle.dutch_bracket.specs.QualityIn.{quality_in};
 ghost use Rattle.command_line.specs.CandidateTexts.{rank_text};
 ghost use Rattle.command_line.specs.Texts.{halves_text};
-ghost use Rattle.command_line.specs.ItemTexts.{article_text, counted_text, differences_text, item_text, items_text, list_text, many_text, next_text, psd_text};
+ghost use Rattle.command_line.specs.ItemTexts.{article_text, counted_text, differences_text, item_text, items_text};
+ghost use Rattle.command_line.specs.ItemTexts.{list_text, many_text, next_text, psd_text};
 
 use crate::texts::halves;
 use dutch_pair::{BracketKind, ITEMS, Item, Quality, Stage, who_counts};
 use dutch_player::Field;
 use std::alloc::{AllocError, Global};
 
-/// Puts what counts against the choice in a bracket, item by item in the order in which the items count: C.6 always, C.7 in an ordinary
-/// bracket, of C.8 to C.15 those that are not 0 with the players who count, and of C.16 to C.19 those that are not empty.
+/// Puts what counts against the choice in a bracket, item by item in the order in which the items count: C.6 always,
+/// C.7 in an ordinary bracket, of C.8 to C.15 those that are not 0 with the players who count, and of C.16 to C.19
+/// those that are not empty.
 ///
 /// # Errors
 /// Memory was refused.
@@ -41,7 +43,8 @@ fn put_each_item(
     items: &[Item],
 ) -> Result<(), AllocError>
     requires { IsStage field.now stage.now }
-    ensures { OnOk result (string_bytes text.new ≡ string_bytes text.old ++ flat_map (item_text field.now stage.now) items.now) }
+    ensures { OnOk result (string_bytes text.new
+        ≡ string_bytes text.old ++ flat_map (item_text field.now stage.now) items.now) }
 {
     for item in items {
         put_item(alloc, text, field, stage, *item)?;
@@ -142,7 +145,8 @@ fn put_differences(alloc: Global, text: &mut String, differences: &[u16]) -> Res
 
 // Puts half points as points, one after the other.
 fn put_each(alloc: Global, text: &mut String, all: &[u16]) -> Result<(), AllocError>
-    ensures { OnOk result (string_bytes text.new ≡ string_bytes text.old ++ flat_map (λ one. codes " " ++ halves_text one) all.now) }
+    ensures { OnOk result (string_bytes text.new
+        ≡ string_bytes text.old ++ flat_map (λ one. codes " " ++ halves_text one) all.now) }
 {
     for one in all {
         text.push_str(" ")?;
@@ -243,7 +247,8 @@ fn put_ranks(
     field: &Field,
     seats: &[u16],
 ) -> Result<(), AllocError>
-    ensures { OnOk result (string_bytes text.new ≡ string_bytes text.old ++ flat_map (λ seat. codes " " ++ rank_text field.now seat) seats.now) }
+    ensures { OnOk result (string_bytes text.new
+        ≡ string_bytes text.old ++ flat_map (λ seat. codes " " ++ rank_text field.now seat) seats.now) }
 {
     for seat in seats {
         let start = start_at(field, *seat);

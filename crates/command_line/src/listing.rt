@@ -4,9 +4,10 @@ ghost use Rattle.std.specs.List.{flat_map};
 ghost use Rattle.std.specs.Fmt.{decimal};
 ghost use Rattle.std.specs.Prelude.{codes};
 ghost use Rattle.dutch_order.specs.Steps.{Spends};
-ghost use Rattle.dutch_pair.specs.Reached.{IsOf, frame_of};
+ghost use Rattle.dutch_bracket.specs.Reached.{IsOf, frame_of};
 ghost use Rattle.command_line.specs.CandidateAnswers.{IsListing, StopsAtLimit, ending_text, status_of};
-ghost use Rattle.command_line.specs.CandidateTexts.{down_text, candidate_text, line_text, pair_text, pairs_text, start_of};
+ghost use Rattle.command_line.specs.CandidateTexts.{down_text, candidate_text, line_text, pair_text, pairs_text};
+ghost use Rattle.command_line.specs.CandidateTexts.{start_of};
 
 use crate::reply::Status;
 use dutch_order::{Budget, Candidate, Candidates, Rule, Step};
@@ -44,7 +45,8 @@ pub struct Listed {
     pub ending: Ending,
 }
 
-/// The lines of the next `count` candidates, or of fewer if no more are left or all steps of the budget are used up before.
+/// The lines of the next `count` candidates, or of fewer if no more are left or all steps of the budget are used up
+/// before.
 #[tactic(auto, using(crate::proofs::ListingLemmas::underway_none, crate::proofs::ListingLemmas::underway_line, crate::proofs::ListingLemmas::underway_end, crate::proofs::ListingLemmas::underway_stopped, crate::proofs::ListingLemmas::underway_count))]
 pub fn lines<R: Rule>(
     alloc: Global,
@@ -58,7 +60,8 @@ pub fn lines<R: Rule>(
     requires frame { coming.frame ≡ frame_of field.now reached.now }
     requires within { budget.old.used ≤ budget.old.limit }
     ensures listing { IfOk result (λ listed.
-        IsListing (line_text field.now reached.now) coming.entry.coming count budget.old.limit listed.ending (string_bytes listed.text)) }
+        IsListing (line_text field.now reached.now) coming.entry.coming count budget.old.limit listed.ending
+        (string_bytes listed.text)) }
     ensures stopped { IfOk result (λ listed. StopsAtLimit listed.ending budget.new) }
     ensures spends { Spends budget.old budget.new }
 {
@@ -92,7 +95,8 @@ pub fn put_line(
     candidate: &Candidate,
 ) -> Result<(), AllocError>
     requires { IsOf field.now reached.now }
-    ensures { OnOk result (string_bytes text.new ≡ string_bytes text.old ++ candidate_text field.now reached.now candidate.now) }
+    ensures { OnOk result (string_bytes text.new
+        ≡ string_bytes text.old ++ candidate_text field.now reached.now candidate.now) }
 {
     text.push_str(candidate.cursor().print().as_str())?;
     put_pairs(alloc, text, field, reached, candidate.s1(), candidate.s2())?;
@@ -119,7 +123,8 @@ fn put_pairs(
     seconds: &[u16],
 ) -> Result<(), AllocError>
     requires { IsOf field.now reached.now }
-    ensures { OnOk result (string_bytes text.new ≡ string_bytes text.old ++ pairs_text field.now reached.now firsts.now seconds.now) }
+    ensures { OnOk result (string_bytes text.new
+        ≡ string_bytes text.old ++ pairs_text field.now reached.now firsts.now seconds.now) }
 {
     for (i, first) in firsts.iter().enumerate() {
         if seconds.len() <= i {
@@ -140,7 +145,8 @@ fn put_pair(
     second: u16,
 ) -> Result<(), AllocError>
     requires { IsOf field.now reached.now }
-    ensures { OnOk result (string_bytes text.new ≡ string_bytes text.old ++ pair_text field.now reached.now first second) }
+    ensures { OnOk result (string_bytes text.new
+        ≡ string_bytes text.old ++ pair_text field.now reached.now first second) }
 {
     let first = start_of(field, reached, first);
     let second = start_of(field, reached, second);

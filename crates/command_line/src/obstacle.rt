@@ -1,4 +1,5 @@
-// What stands against a meeting in the next round, or against the bye, whatever is chosen in a bracket (C.04.3 C.1 to C.3).
+// What stands against a meeting in the next round, or against the bye, whatever is chosen in a bracket (C.04.3 C.1 to
+// C.3).
 ghost use Rattle.std.specs.Prelude.{◌≡◌, ◌<◌, length};
 ghost use Rattle.command_line.specs.Obstacles.{against_bye, against_meeting, first_meeting, has_played};
 

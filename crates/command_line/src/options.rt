@@ -1,8 +1,10 @@
 // The options of the commands, from what clap makes of the words.
 ghost use Rattle.std.specs.Prelude.{◌≡◌, ℕ, List, Bool, option_map, codes, if◌then◌else◌};
 ghost use Rattle.clap.specs.Words.{first_of};
-ghost use Rattle.command_line.specs.Options.{bracket_in, bye_in, candidates_options, check_options, count_in, explain_options, flag_in, format_options, from_in, initial_in};
-ghost use Rattle.command_line.specs.Options.{instead_in, keys_by, pair_options, player_in, question_by, rounds_in, rows_in, shown_by, standings_options, steps_in};
+ghost use Rattle.command_line.specs.Options.{bracket_in, bye_in, candidates_options, check_options, count_in};
+ghost use Rattle.command_line.specs.Options.{explain_options, flag_in, format_options, from_in, initial_in};
+ghost use Rattle.command_line.specs.Options.{instead_in, keys_by, pair_options, player_in, question_by, rounds_in};
+ghost use Rattle.command_line.specs.Options.{rows_in, shown_by, standings_options, steps_in};
 
 use crate::keys::{Keys, keys_in};
 use clap::ArgMatches;
@@ -229,7 +231,8 @@ pub fn bye_in(matches: &ArgMatches<'_>) -> u16
         .unwrap_or(2)
 }
 
-// `--initial`: the colour of the higher-ranked of two players if nothing else decides and that player's start rank is odd (C.04.3 E.5).
+// `--initial`: the colour of the higher-ranked of two players if nothing else decides and that player's start rank is
+// odd (C.04.3 E.5).
 fn initial_in(matches: &ArgMatches<'_>) -> Result<Option<Colour>, WordFault>
     ensures { result ≡ initial_in (rows_in matches.now) }
 {

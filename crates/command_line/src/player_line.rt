@@ -5,17 +5,19 @@ ghost use Rattle.std.specs.Fmt.{decimal};
 ghost use Rattle.dutch_player.specs.Facts.{seat_at};
 ghost use Rattle.dutch_player.specs.Preferences.{difference as difference_of};
 ghost use Rattle.trf16.specs.Sheet.{rounds_played};
-ghost use Rattle.command_line.specs.PlayerTexts.{absent_text, ascending, colour_text, colours_text, difference_text, float_text, floats_text, game_text, games_text, history_text};
-ghost use Rattle.command_line.specs.PlayerTexts.{met_text, placed, player_text, preference_text, rights_text, score_text, strength_text, wish_text, yes_text};
+ghost use Rattle.command_line.specs.PlayerTexts.{absent_text, ascending, colour_text, colours_text, difference_text};
+ghost use Rattle.command_line.specs.PlayerTexts.{float_text, floats_text, game_text, games_text, history_text};
+ghost use Rattle.command_line.specs.PlayerTexts.{met_text, placed, player_text, preference_text, rights_text};
+ghost use Rattle.command_line.specs.PlayerTexts.{score_text, strength_text, wish_text, yes_text};
 
 use crate::texts::halves;
 use dutch_player::{Field, Float, Pref, Strength, colour_played};
 use std::alloc::{AllocError, Global};
 use trf16::{Colour, Report};
 
-/// Puts the line of a present player of a report: their score, the colours of their games round by round, what these come to (A.6), their
-/// floats in the last round and in the one before it (A.4), whom they have met (C.1), and whether they are a topscorer (A.7) and may have
-/// the bye (C.2).
+/// Puts the line of a present player of a report: their score, the colours of their games round by round, what these
+/// come to (A.6), their floats in the last round and in the one before it (A.4), whom they have met (C.1), and whether
+/// they are a topscorer (A.7) and may have the bye (C.2).
 ///
 /// # Errors
 /// Memory was refused.
@@ -47,7 +49,8 @@ fn put_history(
     seat: u16,
 ) -> Result<(), AllocError>
     requires { seat < length field.now.seats }
-    ensures { OnOk result (string_bytes text.new ≡ string_bytes text.old ++ history_text report.now (seat_at field.now seat)) }
+    ensures { OnOk result (string_bytes text.new
+        ≡ string_bytes text.old ++ history_text report.now (seat_at field.now seat)) }
 {
     put_score(alloc, text, field, seat)?;
     text.push_str(" colours")?;
@@ -108,7 +111,8 @@ fn put_games(
 
 // Puts the same, or a dash where no round was paired.
 fn put_colours(text: &mut String, report: &Report<'_>, start: u16) -> Result<(), AllocError>
-    ensures { OnOk result (string_bytes text.new ≡ string_bytes text.old ++ colours_text report.now start (rounds_played report.now)) }
+    ensures { OnOk result (string_bytes text.new
+        ≡ string_bytes text.old ++ colours_text report.now start (rounds_played report.now)) }
 {
     let rounds = report.rounds_played();
     if rounds == 0 {
@@ -167,7 +171,8 @@ fn put_difference(
     seat: u16,
 ) -> Result<(), AllocError>
     requires { seat < length field.now.seats }
-    ensures { OnOk result (string_bytes text.new ≡ string_bytes text.old ++ difference_text (difference_of (seat_at field.now seat).played)) }
+    ensures { OnOk result (string_bytes text.new
+        ≡ string_bytes text.old ++ difference_text (difference_of (seat_at field.now seat).played)) }
 {
     let games = difference(alloc, field.difference(seat))?;
     text.push_str(games.as_str())
@@ -240,7 +245,8 @@ fn ascending(alloc: Global, numbers: &[u16]) -> Result<Vec<u16>, AllocError>
 
 // Puts start ranks with a blank before each.
 fn put_each(alloc: Global, text: &mut String, starts: &[u16]) -> Result<(), AllocError>
-    ensures { OnOk result (string_bytes text.new ≡ string_bytes text.old ++ flat_map (λ start. codes " " ++ decimal start) starts.now) }
+    ensures { OnOk result (string_bytes text.new
+        ≡ string_bytes text.old ++ flat_map (λ start. codes " " ++ decimal start) starts.now) }
 {
     for start in starts {
         let one = *start;
@@ -271,7 +277,8 @@ fn yes(holds: bool) -> &'static str
 #[tactic(auto, unfolding(crate::specs::PlayerTexts::rights_text))]
 fn put_rights(text: &mut String, field: &Field, seat: u16) -> Result<(), AllocError>
     requires { seat < length field.now.seats }
-    ensures { OnOk result (string_bytes text.new ≡ string_bytes text.old ++ rights_text field.now (seat_at field.now seat)) }
+    ensures { OnOk result (string_bytes text.new
+        ≡ string_bytes text.old ++ rights_text field.now (seat_at field.now seat)) }
 {
     text.push_str(" topscorer ")?;
     text.push_str(yes(field.topscorer(seat)))?;

@@ -14,7 +14,8 @@ pub enum QuestionFault {
     NamedTwice { player: u16 },
 }
 
-/// What is wrong with the players whom a question names: the first who is not one of the report, or one who is named twice.
+/// What is wrong with the players whom a question names: the first who is not one of the report, or one who is named
+/// twice.
 pub fn question_fault(report: &Report<'_>, question: Option<Question>) -> Option<QuestionFault>
     ensures { result ≡ question_fault report.now question }
 {

@@ -1,6 +1,8 @@
-// The answers that several commands have: to a report that is refused, and if there is no pairing or the steps end first.
+// The answers that several commands have: to a report that is refused, and if there is no pairing or the steps end
+// first.
 ghost use Rattle.std.specs.Prelude.{◌≡◌, ◌≢◌, IfOk};
-ghost use Rattle.command_line.specs.Statuses.{field_refusal, no_pairing, question_refusal, refusal, tie_refusal, undecided};
+ghost use Rattle.command_line.specs.Statuses.{field_refusal, no_pairing, question_refusal, refusal, tie_refusal};
+ghost use Rattle.command_line.specs.Statuses.{undecided};
 ghost use Rattle.command_line.specs.Replies.{answer_of};
 
 use crate::question::QuestionFault;

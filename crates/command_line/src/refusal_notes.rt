@@ -2,7 +2,8 @@
 ghost use Rattle.std.specs.Prelude.{◌≡◌, ◌≢◌, ◌≤◌, ◌++◌, IfOk, Err, Ok, codes, string_bytes};
 ghost use Rattle.trf16.specs.Summed.{verdict_unsummed};
 ghost use Rattle.report_notes.specs.RefusalNotes.{alone_in_bytes, are_lines_read, fits_in_bytes};
-ghost use Rattle.command_line.specs.RefusalNoteTexts.{bytes_text, columns_text, held_text, line_in_bytes, line_note, points_note, refusal_note, sums_text, with_note};
+ghost use Rattle.command_line.specs.RefusalNoteTexts.{bytes_text, columns_text, held_text, line_in_bytes, line_note};
+ghost use Rattle.command_line.specs.RefusalNoteTexts.{points_note, refusal_note, sums_text, with_note};
 ghost use Rattle.command_line.specs.Replies.{answer_of};
 ghost use Rattle.command_line.specs.Statuses.{refusal};
 ghost use Rattle.refusals.specs.Texts.{fault_text};

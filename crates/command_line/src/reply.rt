@@ -1,4 +1,5 @@
-// The reply of a run: a status and a text, which is written to standard output or to standard error; beside a refusal perhaps a note.
+// The reply of a run: a status and a text, which is written to standard output or to standard error; beside a refusal
+// perhaps a note.
 ghost use Rattle.std.specs.Prelude.{◌≡◌, ◌⊎◌, IfOk, string_bytes};
 ghost use Rattle.trf16.specs.Output.{use_of, Puts};
 ghost use Rattle.command_line.specs.Statuses.{behind, code_of, is_output};
@@ -58,7 +59,8 @@ impl Status {
     }
 }
 
-/// A text of the program: one that it has, one that it made, the bytes of a report, or a refusal with a note of what was found.
+/// A text of the program: one that it has, one that it made, the bytes of a report, or a refusal with a note of what
+/// was found.
 #[derive(Debug, Drop)]
 pub enum Text {
     Fixed(&'static str),
@@ -132,8 +134,10 @@ impl Reply {
 
     // Writes the text to standard output.
     fn print<O: Sink, E: Sink>(&self, out: &mut O, err: &mut E) -> Status
-        ensures { IsPrinted (answer_of self.now) (use_of O.held O.failures out.old out.new) (use_of E.held E.failures err.old err.new) result
-            ⊎ IsCut (answer_of self.now) (use_of O.held O.failures out.old out.new) (use_of E.held E.failures err.old err.new) result }
+        ensures { IsPrinted (answer_of self.now) (use_of O.held O.failures out.old out.new)
+            (use_of E.held E.failures err.old err.new) result
+            ⊎ IsCut (answer_of self.now) (use_of O.held O.failures out.old out.new)
+            (use_of E.held E.failures err.old err.new) result }
     {
         if put_all(out, self.text.as_bytes()).is_err() {
             say(err, WRITE_FAILED);
@@ -142,8 +146,8 @@ impl Reply {
         self.status
     }
 
-    /// Writes the text where its status says, and a note to standard output, and answers with the status of the run: if standard output
-    /// fails, that is told on standard error. A failure of standard error changes nothing.
+    /// Writes the text where its status says, and a note to standard output, and answers with the status of the run: if
+    /// standard output fails, that is told on standard error. A failure of standard error changes nothing.
     pub fn write<O: Sink, E: Sink>(&self, out: &mut O, err: &mut E) -> Status
         ensures { IsWritten (answer_of self.now) (use_of O.held O.failures out.old out.new)
             (use_of E.held E.failures err.old err.new) result }

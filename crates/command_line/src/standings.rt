@@ -3,7 +3,8 @@ ghost use Rattle.std.specs.Prelude.{◌≡◌, ◌≢◌, ◌++◌, ◌≤◌, �
 ghost use Rattle.trf16.specs.Verdict.{verdict};
 ghost use Rattle.command_line.specs.Replies.{answer_of};
 ghost use Rattle.command_line.specs.StandingsAnswers.{standings_answer, table_answer};
-ghost use Rattle.command_line.specs.StandingsTexts.{quarter_text, quarters_text, row_text, rows_text, value_text, values_text};
+ghost use Rattle.command_line.specs.StandingsTexts.{quarter_text, quarters_text, row_text, rows_text, value_text};
+ghost use Rattle.command_line.specs.StandingsTexts.{values_text};
 
 use crate::options::StandingsOptions;
 use crate::refusal::{has_no_standings, refused};

@@ -3,7 +3,8 @@ ghost use Rattle.std.specs.Prelude.{◌≡◌, ◌++◌, IfOk, codes, string_byt
 ghost use Rattle.std.specs.Fmt.{decimal};
 ghost use Rattle.command_line.specs.CandidateAnswers.{ending_text};
 ghost use Rattle.command_line.specs.CandidateTexts.{bracket_text, kind_text};
-ghost use Rattle.command_line.specs.Texts.{accepted_text, halves_text, not_of_bracket_text, not_reached_text, question_text, undecided_text, word_text};
+ghost use Rattle.command_line.specs.Texts.{accepted_text, halves_text, not_of_bracket_text, not_reached_text};
+ghost use Rattle.command_line.specs.Texts.{question_text, undecided_text, word_text};
 
 use crate::listing::Ending;
 use crate::options::WordFault;

@@ -2,7 +2,7 @@
 ghost use Rattle.std.specs.Prelude.{◌≡◌, ◌++◌, IfOk, OnOk, codes, string_bytes};
 ghost use Rattle.std.specs.Fmt.{decimal};
 ghost use Rattle.std.specs.List.{flat_map};
-ghost use Rattle.dutch_pair.specs.QualityIn.{quality_in};
+ghost use Rattle.dutch_bracket.specs.QualityIn.{quality_in};
 ghost use Rattle.command_line.specs.InsteadTexts.{against_text, candidate_text, next_text, points_text, value_text};
 ghost use Rattle.command_line.specs.Texts.{halves_text};
 
@@ -14,7 +14,8 @@ use std::alloc::{AllocError, Global};
 
 // Puts differences as points, with a comma before each.
 fn put_more(alloc: Global, text: &mut String, differences: &[u16]) -> Result<(), AllocError>
-    ensures { OnOk result (string_bytes text.new ≡ string_bytes text.old ++ flat_map (λ more. codes "," ++ halves_text more) differences.now) }
+    ensures { OnOk result (string_bytes text.new
+        ≡ string_bytes text.old ++ flat_map (λ more. codes "," ++ halves_text more) differences.now) }
 {
     for difference in differences {
         put_one(alloc, text, *difference)?;
@@ -82,14 +83,16 @@ fn value(alloc: Global, item: Item, mine: &Quality, theirs: &Quality) -> Result<
     }
 }
 
-// How a quality stands to the chosen one: the first item in which they differ, and its value in both; or equal, and so behind.
+// How a quality stands to the chosen one: the first item in which they differ, and its value in both; or equal, and so
+// behind.
 fn against(
     alloc: Global,
     mine: &Quality,
     chosen: &Quality,
     item: Option<Item>,
 ) -> Result<String, AllocError>
-    ensures { IfOk result (λ text. string_bytes text ≡ against_text (quality_in mine.now) (quality_in chosen.now) item) }
+    ensures { IfOk result (λ text. string_bytes text
+        ≡ against_text (quality_in mine.now) (quality_in chosen.now) item) }
 {
     let Some(item) = item else {
         return String::from_str(alloc, " behind");
@@ -103,7 +106,8 @@ fn against(
     format!(in alloc; " {article} {own} {other}")
 }
 
-/// A candidate, and how its quality stands to the chosen one's: the first item in which they differ, and its value in both.
+/// A candidate, and how its quality stands to the chosen one's: the first item in which they differ, and its value in
+/// both.
 ///
 /// # Errors
 /// Memory was refused.
@@ -113,7 +117,8 @@ pub fn candidate(
     mine: &Quality,
     chosen: &Quality,
 ) -> Result<String, AllocError>
-    ensures { IfOk result (λ text. string_bytes text ≡ candidate_text candidate.now.lists (quality_in mine.now) (quality_in chosen.now)) }
+    ensures { IfOk result (λ text. string_bytes text
+        ≡ candidate_text candidate.now.lists (quality_in mine.now) (quality_in chosen.now)) }
 {
     let cursor = candidate.cursor().print();
     let against = against(alloc, mine, chosen, mine.first_difference(chosen))?;

@@ -3,7 +3,9 @@ ghost use Rattle.std.specs.Prelude.{◌≡◌, ◌≢◌, ◌++◌, ◌∷◌, [
 ghost use Rattle.command_line.specs.Replies.{answer_of};
 ghost use Rattle.command_line.specs.Statuses.{done};
 ghost use Rattle.command_line.specs.Tables.{left, right};
-ghost use Rattle.command_line.specs.WallTexts.{board_labels, boards_labels, named_boards_text, named_rows_text, opponent_labels, paired_labels, player_labels, row_labels, rows_labels, shown, values_labels};
+ghost use Rattle.command_line.specs.WallTexts.{board_labels, boards_labels, named_boards_text, named_rows_text};
+ghost use Rattle.command_line.specs.WallTexts.{opponent_labels, paired_labels, player_labels, row_labels, rows_labels};
+ghost use Rattle.command_line.specs.WallTexts.{shown, values_labels};
 
 use crate::controls::without_controls;
 use crate::reply::{Reply, Status, Text};

@@ -5,7 +5,9 @@ ghost use Rattle.clap.specs.Words.{App, app_of, kind_of, new_app, subcommand_row
 ghost use Rattle.dutch_order.specs.Cursors.{has_syntax};
 ghost use Rattle.command_line.specs.CommandLine.{IsSeenAs};
 ghost use Rattle.command_line.specs.Options.{rows_in};
-ghost use Rattle.command_line.specs.Words.{ComesTo, FitsKind, asked_by, candidates_request, explain_request, meant, pair_request, request_of, standings_request, task_by, task_of, with_bye, with_engine, with_next_round};
+ghost use Rattle.command_line.specs.Words.{ComesTo, FitsKind, asked_by, candidates_request, explain_request, meant};
+ghost use Rattle.command_line.specs.Words.{pair_request, request_of, standings_request, task_by, task_of, with_bye};
+ghost use Rattle.command_line.specs.Words.{with_engine, with_next_round};
 ghost use Rattle.command_line.specs.Words.{arbiter_app, check_app, format_app, settled, versioned};
 
 use crate::arguments;
@@ -80,7 +82,8 @@ pub fn meant<'a>(alloc: Global, words: &'a [&'a str]) -> Result<Vec<&'a str>, Al
 
 // Some words with `--help` behind them.
 fn with_help<'a>(alloc: Global, words: &'a [&'a str]) -> Result<Vec<&'a str>, AllocError>
-    ensures { IfOk result (λ all. map (λ word. word.now) all.items ≡ map (λ word. word.now) words.now ++ codes "--help" ∷ []) }
+    ensures { IfOk result (λ all. map (λ word. word.now) all.items
+        ≡ map (λ word. word.now) words.now ++ codes "--help" ∷ []) }
 {
     let mut all = Vec::from_slice(alloc, words)?;
     all.push("--help")?;
@@ -122,7 +125,8 @@ fn task_of<'a>(name: &str, options: &ArgMatches<'a>) -> Option<Result<Task<'a>, 
     }
 }
 
-// A request over a report in which the pairing-allocated bye gives so many half points, or what is wrong with its options.
+// A request over a report in which the pairing-allocated bye gives so many half points, or what is wrong with its
+// options.
 fn with_bye<'a>(bye: u16, request: Result<Request<'a>, WordFault>) -> Result<Task<'a>, WordFault>
     ensures { result ≡ with_bye bye request.entry }
 {
@@ -239,7 +243,8 @@ fn with_next_round<'a>(alloc: Global, command: Made<'a>) -> Made<'a>
 
 // A program with one more command.
 fn with_command<'a>(command: Made<'a>, more: Made<'a>) -> Made<'a>
-    ensures { (app below : App) → IfOk command.entry (IsSeenAs app) → IfOk more.entry (IsSeenAs below) → IfOk result (IsSeenAs (with_subcommand app below.top)) }
+    ensures { (app below : App) → IfOk command.entry (IsSeenAs app) → IfOk more.entry (IsSeenAs below)
+        → IfOk result (IsSeenAs (with_subcommand app below.top)) }
 {
     command?.subcommand(more?)
 }

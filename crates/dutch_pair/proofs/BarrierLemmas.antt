@@ -3,10 +3,11 @@ use Rattle.std.proofs.Common.{◌≡◌, false, None, sym}
 use Rattle.dual.proofs.Barriers.{not_completable}
 use Rattle.dutch_player.specs.Facts.{Facts}
 use Rattle.dutch_pair.specs.Barriers.{Barrier, Blocks, label}
-use Rattle.dutch_pair.specs.Completion.{Completable}
-use Rattle.dutch_pair.specs.Round.{completable, everybody, round}
-use Rattle.dutch_pair.specs.Seats.{seats_meet, seats_may_be_left}
-use Rattle.dutch_pair.proofs.Completions.{told_no}
+use Rattle.dutch_bracket.specs.Completion.{Completable}
+use Rattle.dutch_bracket.specs.Brackets.{completable}
+use Rattle.dutch_pair.specs.Round.{everybody, round}
+use Rattle.dutch_bracket.specs.Seats.{seats_meet, seats_may_be_left}
+use Rattle.dutch_bracket.proofs.Completions.{told_no}
 use Rattle.dutch_pair.proofs.NoDeadEnd.{not_complete, unpaired_exactly}
 
 module _ (facts : Facts) (barrier : Barrier) (blocks : Blocks facts barrier) where

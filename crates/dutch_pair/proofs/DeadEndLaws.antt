@@ -6,20 +6,21 @@ use Rattle.std.proofs.Math.Seq.{take-append_seam}
 use Rattle.dutch_order.specs.Keys.{IsIn}
 use Rattle.dutch_order.proofs.Orders.{member_has}
 use Rattle.dutch_player.specs.Facts.{Facts}
-use Rattle.dutch_pair.specs.declared.reached.BracketKind.{BracketKind}
-use Rattle.dutch_pair.specs.declared.reached.BracketKind.TheVariants.{Ordinary, Last, Penultimate, Collapsed}
+use Rattle.dutch_bracket.specs.declared.reached.BracketKind.{BracketKind}
+use Rattle.dutch_bracket.specs.declared.reached.BracketKind.TheVariants.{Ordinary, Last, Penultimate, Collapsed}
 use Rattle.dutch_pair.specs.DeadEnds.{HasNoPairOf, NoTwoMayMeet, PairOut, moved_down}
 use Rattle.dutch_pair.specs.Lower.{lower_of}
-use Rattle.dutch_pair.specs.Reached.{Reached}
-use Rattle.dutch_pair.specs.Round.{Choice, Round, Visit, bracket, brackets, choice, completable, downfloaters, everybody, final_bracket, first_group, no_pairing, paired_again, pairing_in, passing, penultimate_bracket, round, scoregroups}
-use Rattle.dutch_pair.specs.SeatLaws.{seats_meet_sym}
-use Rattle.dutch_pair.specs.Seats.{seats_meet, seats_may_be_left}
+use Rattle.dutch_bracket.specs.Reached.{Reached}
+use Rattle.dutch_bracket.specs.Brackets.{Choice, bracket, choice, completable, downfloaters, first_group, scoregroups}
+use Rattle.dutch_pair.specs.Round.{Round, Visit, brackets, everybody, final_bracket, no_pairing, paired_again, pairing_in, passing, penultimate_bracket, round}
+use Rattle.dutch_bracket.specs.SeatLaws.{seats_meet_sym}
+use Rattle.dutch_bracket.specs.Seats.{seats_meet, seats_may_be_left}
 use Rattle.dutch_pair.specs.Walk.{Goes}
 use Rattle.dutch_pair.specs.WaysOut.{GoesOut}
-use Rattle.dutch_pair.proofs.GroupLemmas.{concat_scoregroups}
+use Rattle.dutch_bracket.proofs.GroupLemmas.{concat_scoregroups}
 use Rattle.dutch_pair.proofs.GroupWalk.{IsParted, everybody_goes, parted_by, parted_left}
 use Rattle.dutch_pair.proofs.LowerLemmas.{goes_ends, lower_is}
-use Rattle.dutch_pair.proofs.Mates.{pairs_mates}
+use Rattle.dutch_bracket.proofs.Mates.{pairs_mates}
 use Rattle.dutch_pair.proofs.NoDeadEnd.{everybody_out, first_out, left_twice, no_mates}
 use Rattle.dutch_pair.proofs.RoundBy.{final_by, ordinary_by, penultimate_by}
 use Rattle.dutch_pair.proofs.WalkLemmas.{Descends}

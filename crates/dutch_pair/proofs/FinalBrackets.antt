@@ -1,58 +1,24 @@
 -- A bracket whose players have mates, of whom no two are moved down, has a candidate that leaves over those who are their own mates.
-use Rattle.std.proofs.Common.{◌≡◌, ℕ, zero, suc, ◌-◌, ◌<◌, ◌≤◌, true, not, ◌&&◌, ◌==◌, nat_le, cond, List, [], ◌∷◌, ◌++◌, length, get_or, refl, sym, ap, ◌∙◌, arith, subst, inl, inr, Option, Some, None, length-append}
+use Rattle.std.proofs.Common.{◌≡◌, ℕ, zero, suc, ◌-◌, ◌<◌, ◌≤◌, true, not, ◌&&◌, ◌==◌, nat_le, List, [], ◌∷◌, ◌++◌, length, get_or, refl, sym, ap, ◌∙◌, arith, subst, inl, inr, Option, Some, None, length-append}
 use Rattle.std.proofs.lemmas.List.{length-map}
-use Rattle.std.proofs.lemmas.Bool.{cases_eq, eq-eqb, ne_eqb, and_parts, and_from, not_from_false, le-leb}
+use Rattle.std.proofs.lemmas.Bool.{ne_eqb, and_parts, and_from, not_from_false, le-leb}
 use Rattle.dutch_order.specs.declared.bracket.Shape.{Shape}
 use Rattle.dutch_order.specs.Arrangements.{Fits, Frame}
 use Rattle.dutch_order.specs.Forms.{NoneTwice, IsMovedDown}
 use Rattle.dutch_order.specs.Keys.{IsIn}
 use Rattle.dutch_player.specs.Facts.{Facts, seat_at}
 use Rattle.dutch_player.specs.Meetings.{may_meet}
-use Rattle.dutch_pair.specs.declared.reached.BracketKind.{BracketKind}
-use Rattle.dutch_pair.specs.Reached.{Reached, frame_of, is_number, numbers_meet, number_may_be_left}
-use Rattle.dutch_pair.specs.Round.{Choice, bracket, candidates_of, choice, eligible, shape_of}
-use Rattle.dutch_pair.specs.Seated.{seat_of, score_at}
-use Rattle.dutch_pair.specs.Seats.{is_seat, seats_meet, seats_may_be_left}
-use Rattle.dutch_pair.specs.Shapes.{has_member}
-use Rattle.dutch_pair.proofs.BestLemmas.{choice_of_shape}
-use Rattle.dutch_pair.proofs.MateLists.{IsNumber, NumberMates, mates_candidate, mates_fit, mates_shape}
-use Rattle.dutch_pair.proofs.Mates.{AreMates}
-use Rattle.dutch_pair.proofs.ShapeLaws.{none_has_one}
-
--- ---- where a seat stands
-
-abbrev pub place_of : ℕ → List ℕ → ℕ
-place_of s [] = 0
-place_of s (x ∷ xs) = cond (x == s) 0 (suc (place_of s xs))
-
-place_here : (s x : ℕ) (xs : List ℕ) → x ≡ s → place_of s (x ∷ xs) ≡ 0
-place_here s x xs same = ap (λ t. cond t 0 (suc (place_of s xs))) (eq-eqb x s same)
-
-place_later : (s x : ℕ) (xs : List ℕ) → (x ≡ s → ⊥) → place_of s (x ∷ xs) ≡ suc (place_of s xs)
-place_later s x xs ne = ap (λ t. cond t 0 (suc (place_of s xs))) (ne_eqb x s ne)
-
-place_get : (s : ℕ) (xs : List ℕ) → IsIn s xs → (place_of s xs < length xs) × (get_or xs (place_of s xs) 0 ≡ s)
-place_get s [] m = absurd m
-place_get s (x ∷ xs) m =
-    elim (cases_eq x s) [
-      | inl same ↦
-          subst (λ k. (k < length (x ∷ xs)) × (get_or (x ∷ xs) k 0 ≡ s)) (sym (place_here s x xs same)) (omega arith, same)
-      | inr ne ↦
-          let later = place_get s xs (elim m [ inl same ↦ absurd (ne (sym same)) | inr more ↦ more ]) in
-          subst (λ k. (k < length (x ∷ xs)) × (get_or (x ∷ xs) k 0 ≡ s)) (sym (place_later s x xs ne)) (omega (arith, later.0), later.1)
-    ]
-
-get_in : (xs : List ℕ) (i : ℕ) → i < length xs → IsIn (get_or xs i 0) xs
-get_in [] i lt = absurd (omega (arith, lt))
-get_in (x ∷ xs) zero lt = inl refl
-get_in (x ∷ xs) (suc i) lt = inr (get_in xs i (omega (arith, lt)))
-
-pub get_place : (xs : List ℕ) (i : ℕ) → NoneTwice xs → i < length xs → place_of (get_or xs i 0) xs ≡ i
-get_place [] i twice lt = absurd (omega (arith, lt))
-get_place (x ∷ xs) zero twice lt = place_here x x xs refl
-get_place (x ∷ xs) (suc i) twice lt =
-    place_later (get_or xs i 0) x xs (λ same. twice.0 (subst (λ y. IsIn y xs) (sym same) (get_in xs i (omega (arith, lt)))))
-    ∙ ap suc (get_place xs i twice.1 (omega (arith, lt)))
+use Rattle.dutch_bracket.specs.declared.reached.BracketKind.{BracketKind}
+use Rattle.dutch_bracket.specs.Reached.{Reached, frame_of, is_number, numbers_meet, number_may_be_left}
+use Rattle.dutch_bracket.specs.Brackets.{Choice, bracket, candidates_of, choice, eligible, shape_of}
+use Rattle.dutch_bracket.specs.Seated.{seat_of, score_at}
+use Rattle.dutch_bracket.specs.Seats.{is_seat, seats_meet, seats_may_be_left}
+use Rattle.dutch_bracket.specs.Shapes.{has_member}
+use Rattle.dutch_choice.proofs.BestLemmas.{choice_of_shape}
+use Rattle.dutch_bracket.proofs.MateLists.{IsNumber, NumberMates, mates_candidate, mates_fit, mates_shape}
+use Rattle.dutch_bracket.proofs.Mates.{AreMates}
+use Rattle.dutch_bracket.proofs.ShapeLaws.{none_has_one}
+use Rattle.dutch_weights.proofs.SeatPlaces.{get_in, get_place, place_get, place_of}
 
 get_front : (xs ys : List ℕ) (i : ℕ) → i < length xs → IsIn (get_or (xs ++ ys) i 0) xs
 get_front [] ys i lt = absurd (omega (arith, lt))

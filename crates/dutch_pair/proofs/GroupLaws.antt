@@ -4,9 +4,9 @@ use Rattle.std.specs.List.{AllByRecursion}
 use Rattle.std.proofs.lemmas.Bool.Decides.{nat_tests}
 use Rattle.std.proofs.lemmas.Bool.{eqb-true}
 use Rattle.dutch_player.specs.Facts.{Facts}
-use Rattle.dutch_pair.specs.Seated.{score_at}
-use Rattle.dutch_pair.specs.Groups.{IsScoregroup, NeighboursDiffer}
-use Rattle.dutch_pair.specs.Round.{onto_group, scoregroups}
+use Rattle.dutch_bracket.specs.Seated.{score_at}
+use Rattle.dutch_bracket.specs.Groups.{IsScoregroup, NeighboursDiffer}
+use Rattle.dutch_bracket.specs.Brackets.{onto_group, scoregroups}
 
 differ_of : (a b : ℕ) → (a == b) ≡ false → a ≢ b
 differ_of a b h = grind (arith, nat_tests)

@@ -7,17 +7,18 @@ use Rattle.std.proofs.lemmas.Bool.{eqb-true}
 use Rattle.dutch_order.specs.Choices.{numbers_from}
 use Rattle.dutch_order.proofs.Members.{length-numbers}
 use Rattle.dutch_player.specs.Facts.{Facts}
-use Rattle.dutch_pair.specs.declared.reached.BracketKind.{BracketKind}
-use Rattle.dutch_pair.specs.declared.reached.BracketKind.TheVariants.{Ordinary, Last}
-use Rattle.dutch_pair.specs.Seated.{score_at, AreSeats}
-use Rattle.dutch_pair.specs.Reached.{IsAbove}
-use Rattle.dutch_pair.specs.Groups.{front_with}
+use Rattle.dutch_bracket.specs.declared.reached.BracketKind.{BracketKind}
+use Rattle.dutch_bracket.specs.declared.reached.BracketKind.TheVariants.{Ordinary, Last}
+use Rattle.dutch_bracket.specs.Seated.{score_at, AreSeats}
+use Rattle.dutch_bracket.specs.Reached.{IsAbove}
+use Rattle.dutch_bracket.specs.Groups.{front_with}
 use Rattle.dutch_pair.specs.Walk.{AreRanked, AreAbove, Goes}
-use Rattle.dutch_pair.specs.Round.{bracket, first_group, scoregroups, everybody, ordinary_bracket, brackets}
+use Rattle.dutch_bracket.specs.Brackets.{bracket, first_group, scoregroups}
+use Rattle.dutch_pair.specs.Round.{everybody, ordinary_bracket, brackets}
 use Rattle.dutch_pair.specs.Stages.{group_kind, round_by}
-use Rattle.dutch_pair.proofs.GroupLemmas.{first_group_is, first_group_taken, concat_scoregroups}
+use Rattle.dutch_bracket.proofs.GroupLemmas.{first_group_is, first_group_taken, concat_scoregroups}
 use Rattle.dutch_pair.proofs.WalkLemmas.{Descends, LeftGoOn, is_above, left_go_on, ranked_seats, ranked_front, ranked_back}
-use Rattle.dutch_pair.proofs.ArrangementParts.{numbers_above}
+use Rattle.dutch_bracket.proofs.ArrangementParts.{numbers_above}
 use Rattle.dutch_order.specs.declared.numbers.TheConstants.{LIMIT}
 
 ne_of : (a b : ℕ) → (a == b) ≡ false → a ≤ b → a < b

@@ -7,19 +7,19 @@ use Rattle.dutch_order.specs.Arrangements.{Arrangement, Fits, Frame}
 use Rattle.dutch_order.specs.Steps.{Passes}
 use Rattle.dutch_player.specs.Facts.{Facts}
 use Rattle.dutch_pair.specs.declared.stage.Stage.{Stage}
-use Rattle.dutch_pair.specs.declared.wish.Wish.{Wish}
-use Rattle.dutch_pair.specs.Aims.{best_wished}
+use Rattle.dutch_choice.specs.declared.wish.Wish.{Wish}
+use Rattle.dutch_choice.specs.Aims.{best_wished}
 use Rattle.dutch_pair.specs.Lower.{lower_of}
 use Rattle.dutch_pair.specs.Outcomes.{IsStage}
-use Rattle.dutch_pair.specs.Reached.{Reached, frame_of}
-use Rattle.dutch_pair.specs.Round.{candidates_of, eligible, is_better_in, is_penultimate, shape_of}
-use Rattle.dutch_pair.specs.Shapes.{fits, has_member}
+use Rattle.dutch_bracket.specs.Reached.{Reached, frame_of}
+use Rattle.dutch_bracket.specs.Brackets.{candidates_of, eligible, is_better_in, is_penultimate, shape_of}
+use Rattle.dutch_bracket.specs.Shapes.{fits, has_member}
 use Rattle.dutch_pair.specs.Stages.{choice_of}
-use Rattle.dutch_pair.specs.Wishes.{NoneGrants, grants, some_grants, with_mdps}
-use Rattle.dutch_pair.proofs.BestLemmas.{best_of_some, chosen_is, order_in}
-use Rattle.dutch_pair.proofs.Downfloaters.{eligible_all}
-use Rattle.dutch_pair.proofs.ShapeLaws.{has_room, none_is_greater}
-use Rattle.dutch_pair.proofs.ShapeSearch.{fits_by_test}
+use Rattle.dutch_choice.specs.Wishes.{NoneGrants, grants, some_grants, with_mdps}
+use Rattle.dutch_choice.proofs.BestLemmas.{best_of_some, chosen_is, order_in}
+use Rattle.dutch_bracket.proofs.EligibleLemmas.{eligible_all}
+use Rattle.dutch_bracket.proofs.ShapeLaws.{has_room, none_is_greater}
+use Rattle.dutch_bracket.proofs.ShapeSearch.{fits_by_test}
 
 -- of those that are skipped none grants the wish
 front_passed : (wish : Wish) (skipped rest : List Arrangement) → AllByRecursion (λ a. not (grants wish a) ≡ true) skipped

@@ -7,8 +7,8 @@ use Rattle.std.proofs.lemmas.List.Elements.{filter-append}
 use Rattle.std.proofs.lemmas.Bool.{and_right}
 use Rattle.dutch_order.specs.Keys.{IsIn}
 use Rattle.dutch_player.specs.Facts.{Facts}
-use Rattle.dutch_pair.specs.Seated.{score_at, AreSeats}
-use Rattle.dutch_pair.specs.Reached.{Reached}
+use Rattle.dutch_bracket.specs.Seated.{score_at, AreSeats}
+use Rattle.dutch_bracket.specs.Reached.{Reached}
 use Rattle.dutch_pair.specs.Walk.{AreAbove, Goes}
 use Rattle.dutch_pair.specs.Round.{everybody}
 use Rattle.dutch_pair.specs.Lower.{is_below, lower_of}

@@ -11,13 +11,14 @@ use Rattle.trf16.specs.declared.cell.Colour.TheVariants.{White, Black}
 use Rattle.trf16.specs.Round.{named_by}
 use Rattle.dutch_player.specs.Facts.{SeatFacts, Facts, seat_at, no_seat}
 use Rattle.dutch_player.specs.Colours.{colours, with_colour, colour_of_higher}
-use Rattle.dutch_pair.specs.Boards.{IsPair, goes_before, placed, ordered, board_of, bye_of, boards}
+use Rattle.dutch_pair.specs.Boards.{goes_before, placed, ordered, board_of, bye_of, boards}
+use Rattle.dutch_bracket.specs.Seated.{IsPair}
 use Rattle.dutch_player.specs.Laws.{start_ranks, CountFromOne}
 use Rattle.dutch_pair.specs.Everybody.{NameEverybodyOnce}
 use Rattle.dutch_pair.specs.Round.{Pairing, everybody, round}
 use Rattle.dutch_pair.proofs.BoardLemmas.{colours_pair, pairs_ordered}
-use Rattle.dutch_pair.proofs.Totals.{total, total_map, same_members}
-use Rattle.dutch_pair.proofs.Everybody.{pairs_total}
+use Rattle.dutch_bracket.proofs.Totals.{total, total_map, same_members}
+use Rattle.dutch_bracket.proofs.Everybody.{pairs_total}
 use Rattle.dutch_pair.proofs.WholeRounds.{Weighs, pairing_total, round_whole}
 
 module _ (facts : Facts) where

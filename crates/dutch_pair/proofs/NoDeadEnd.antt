@@ -16,29 +16,30 @@ use Rattle.dutch_order.proofs.Lists.{filter-all, map-numbers_from}
 use Rattle.dutch_order.proofs.NoneTwice.{rises-twice, twice-apart, twice-back, twice-front, twice-join}
 use Rattle.dutch_order.proofs.Orders.{IsIn-append, IsIn-back, IsIn-front, IsIn-map, map-IsIn, IsIn-filter, filter-IsIn}
 use Rattle.dutch_player.specs.Facts.{Facts}
-use Rattle.dutch_pair.specs.Eligible.{HasCandidate}
-use Rattle.dutch_pair.specs.Completion.{Completable}
+use Rattle.dutch_bracket.specs.Eligible.{HasCandidate}
+use Rattle.dutch_bracket.specs.Completion.{Completable}
 use Rattle.dutch_pair.specs.Outcomes.{visit_of}
-use Rattle.dutch_pair.specs.declared.reached.BracketKind.{BracketKind}
-use Rattle.dutch_pair.specs.declared.reached.BracketKind.TheVariants.{Ordinary, Last, Penultimate, Collapsed}
-use Rattle.dutch_pair.specs.Reached.{Reached, ends_round, frame_of, numbers_meet, number_may_be_left}
-use Rattle.dutch_pair.specs.Round.{Choice, Pairing, Round, bracket, brackets, candidates_of, shape_of, choice, completable, downfloaters, eligible, everybody, final_bracket, is_penultimate, no_pairing, ordinary_bracket, pairing_in, passing, penultimate_bracket, round, scoregroups, paired_again}
+use Rattle.dutch_bracket.specs.declared.reached.BracketKind.{BracketKind}
+use Rattle.dutch_bracket.specs.declared.reached.BracketKind.TheVariants.{Ordinary, Last, Penultimate, Collapsed}
+use Rattle.dutch_bracket.specs.Reached.{Reached, ends_round, frame_of, numbers_meet, number_may_be_left}
+use Rattle.dutch_bracket.specs.Brackets.{Choice, bracket, candidates_of, choice, completable, downfloaters, eligible, is_penultimate, scoregroups}
+use Rattle.dutch_pair.specs.Round.{Pairing, Round, brackets, everybody, final_bracket, no_pairing, ordinary_bracket, pairing_in, passing, penultimate_bracket, round, paired_again}
 use Rattle.dutch_pair.proofs.RoundBy.{final_by, ordinary_by, penultimate_by}
-use Rattle.dutch_pair.specs.SeatLaws.{seats_meet_sym}
-use Rattle.dutch_pair.specs.Seated.{seat_of, all_pairs}
-use Rattle.dutch_pair.specs.Seats.{seats_meet, seats_may_be_left}
-use Rattle.dutch_pair.specs.Shapes.{has_member}
+use Rattle.dutch_bracket.specs.SeatLaws.{seats_meet_sym}
+use Rattle.dutch_bracket.specs.Seated.{seat_of, all_pairs}
+use Rattle.dutch_bracket.specs.Seats.{seats_meet, seats_may_be_left}
+use Rattle.dutch_bracket.specs.Shapes.{has_member}
 use Rattle.dutch_pair.specs.WaysOut.{GoesOut, HasWayOut, StandsBefore}
-use Rattle.dutch_pair.proofs.ArrangementParts.{numbers_rise}
-use Rattle.dutch_pair.proofs.Covering.{completable_by_test}
-use Rattle.dutch_pair.proofs.BestLemmas.{chosen_is}
-use Rattle.dutch_pair.proofs.Downfloaters.{down_number, down_seats, down_strangers, down_twice, eligible_all, eligible_some, more_candidate, more_of, no_more}
+use Rattle.dutch_bracket.proofs.ArrangementParts.{numbers_rise}
+use Rattle.dutch_bracket.proofs.Covering.{completable_by_test}
+use Rattle.dutch_choice.proofs.BestLemmas.{chosen_is}
+use Rattle.dutch_pair.proofs.Downfloaters.{down_number, down_seats, down_strangers, down_twice, more_candidate, more_of, no_more}
+use Rattle.dutch_bracket.proofs.EligibleLemmas.{eligible_all, eligible_some}
 use Rattle.dutch_pair.proofs.FinalBrackets.{Chooses, chooses, count, final_candidate, final_fits, final_shape, same_number, within}
-use Rattle.dutch_pair.proofs.GroupLemmas.{concat_scoregroups}
-use Rattle.dutch_pair.proofs.MateLists.{fits_arrangement, has_kept}
-use Rattle.dutch_pair.proofs.Mates.{AreMates, FoundMates, complete_mates, fewer_mates, mates_complete}
+use Rattle.dutch_bracket.proofs.GroupLemmas.{concat_scoregroups}
+use Rattle.dutch_bracket.proofs.MateLists.{fits_arrangement, has_kept}
+use Rattle.dutch_bracket.proofs.Mates.{AreMates, FoundMates, complete_mates, fewer_mates, mates_complete}
 use Rattle.dutch_pair.proofs.OnePairMore.{pairs_legal}
-use Rattle.dutch_pair.proofs.ShapeLaws.{none_has_one}
 use Rattle.dutch_pair.proofs.WalkEnds.{visit_none}
 
 no_visit : (number : ℕ) → visit_of number [] ≡ None
@@ -72,12 +73,9 @@ module _ (facts : Facts) where
   final_is : (reached : Reached) → Chooses facts reached [] → IsPaired (final_bracket facts reached)
   final_is reached found = subst (λ o. IsPaired (final_by facts reached o)) (sym found.is) refl
 
-  -- a bracket with a candidate has a choice, and no bracket without one has a shape
+  -- a bracket with a candidate has a choice
   has_choice : (reached : Reached) (lower : List ℕ) → HasCandidate facts reached lower → Chooses facts reached lower
   has_choice reached lower has = chooses facts reached lower has.shape has.room has.candidate
-
-  pub shape_there : (reached : Reached) (lower : List ℕ) → HasCandidate facts reached lower → shape_of facts reached lower ≡ None → ⊥
-  shape_there reached lower has none = none_has_one facts reached lower has.shape none has.room has.candidate
 
   final_has : (number : ℕ) (kind : BracketKind) (md residents : List ℕ) → is_penultimate kind ≡ false → (twice : NoneTwice (md ++ residents)) → (mate : ℕ → ℕ)
       → (are : Mates (md ++ residents) mate) → (apart : (s : ℕ) → IsIn s md → IsIn (mate s) md → mate s ≡ s) → HasCandidate facts (bracket number kind md residents) []

@@ -9,14 +9,15 @@ use Rattle.dutch_order.specs.Choices.{all_meet}
 use Rattle.dutch_order.specs.Keys.{IsIn}
 use Rattle.dutch_order.specs.Arrangements.{Frame, Arrangement, arrangements, down, is_legal, leaves_one}
 use Rattle.dutch_player.specs.Facts.{Facts}
-use Rattle.dutch_pair.specs.declared.reached.BracketKind.TheVariants.{Ordinary, Last, Collapsed}
-use Rattle.dutch_pair.specs.Reached.{Reached, ends_round, frame_of, numbers_meet, number_may_be_left}
-use Rattle.dutch_pair.specs.Round.{Round, Pairing, Choice, bracket, candidates_of, choice, completable, downfloaters, eligible, everybody, can_be_chosen, scoregroups, pairing_in, passing, no_pairing, final_bracket, penultimate_bracket, paired_again, brackets, round}
+use Rattle.dutch_bracket.specs.declared.reached.BracketKind.TheVariants.{Ordinary, Last, Collapsed}
+use Rattle.dutch_bracket.specs.Reached.{Reached, ends_round, frame_of, numbers_meet, number_may_be_left}
+use Rattle.dutch_bracket.specs.Brackets.{Choice, bracket, candidates_of, choice, completable, downfloaters, eligible, can_be_chosen, scoregroups}
+use Rattle.dutch_pair.specs.Round.{Round, Pairing, everybody, pairing_in, passing, no_pairing, final_bracket, penultimate_bracket, paired_again, brackets, round}
 use Rattle.dutch_pair.proofs.RoundBy.{final_by, penultimate_by, ordinary_by}
-use Rattle.dutch_pair.specs.Seated.{all_pairs, seat_of}
-use Rattle.dutch_pair.proofs.LeastPsd.{in_filter}
-use Rattle.dutch_pair.proofs.LegalPairs.{in_passes}
-use Rattle.dutch_pair.proofs.BestLemmas.{chosen_is}
+use Rattle.dutch_bracket.specs.Seated.{all_pairs, seat_of}
+use Rattle.dutch_bracket.proofs.LeastPsd.{in_filter}
+use Rattle.dutch_bracket.proofs.LegalPairs.{in_passes}
+use Rattle.dutch_choice.proofs.BestLemmas.{chosen_is}
 
 -- ---- what is chosen is legal
 

@@ -10,8 +10,8 @@ use Rattle.dutch_order.specs.Arrangements.{Arrangement, Fits, Frame, arrangement
 use Rattle.dutch_order.proofs.FormArrangements.{form-arrangement, lists-in, paired-pairs, pairs-paired}
 use Rattle.dutch_order.proofs.FormInsertions.{all-inserted, inserted-players, players-inserted, takes-pair}
 use Rattle.dutch_order.proofs.NoneTwice.{in-left, left-in}
-use Rattle.dutch_pair.proofs.MateLists.{fits_arrangement}
-use Rattle.dutch_pair.specs.Shapes.{IsGreater}
+use Rattle.dutch_bracket.proofs.MateLists.{fits_arrangement}
+use Rattle.dutch_bracket.specs.Shapes.{IsGreater}
 
 module _ (meets : ℕ → ℕ → Bool) where
   -- the two of a pair may meet

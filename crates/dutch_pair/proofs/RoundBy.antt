@@ -2,9 +2,10 @@
 use Rattle.std.proofs.Common.{ℕ, ◌+◌, List, ◌++◌}
 use Rattle.std.specs.Prelude.{if◌then◌else◌, Option}
 use Rattle.dutch_player.specs.Facts.{Facts}
-use Rattle.dutch_pair.specs.declared.reached.BracketKind.TheVariants.{Collapsed}
-use Rattle.dutch_pair.specs.Reached.{Reached}
-use Rattle.dutch_pair.specs.Round.{Choice, Round, bracket, by_choice, completable, downfloaters, ending, final_bracket, paired_again, pairing_in, passing, penultimate_bracket}
+use Rattle.dutch_bracket.specs.declared.reached.BracketKind.TheVariants.{Collapsed}
+use Rattle.dutch_bracket.specs.Reached.{Reached}
+use Rattle.dutch_bracket.specs.Brackets.{Choice, bracket, completable, downfloaters}
+use Rattle.dutch_pair.specs.Round.{Round, by_choice, ending, final_bracket, paired_again, pairing_in, passing, penultimate_bracket}
 
 module _ (facts : Facts) where
   abbrev pub final_by : Reached → Option Choice → Round

@@ -5,7 +5,7 @@ use Rattle.dutch_player.specs.Facts.{Facts}
 use Rattle.dutch_pair.specs.declared.stage.Stage.{Stage}
 use Rattle.dutch_pair.specs.Round.{Round, Pairing, Visit, passing, pairing_in}
 use Rattle.dutch_pair.specs.Outcomes.{visit, visit_at, visit_of}
-use Rattle.dutch_pair.specs.Seated.{all_pairs}
+use Rattle.dutch_bracket.specs.Seated.{all_pairs}
 use Rattle.dutch_pair.specs.Stages.{choice_of, in_front, own_pairs, stage_first}
 use Rattle.dutch_pair.proofs.WalkEnds.{visit_none, visit_later}
 

@@ -5,17 +5,18 @@ use Rattle.std.proofs.lemmas.List.{append-nil}
 use Rattle.dutch_order.specs.declared.bracket.Shape.{Shape}
 use Rattle.dutch_order.specs.Keys.{IsIn}
 use Rattle.dutch_player.specs.Facts.{Facts}
-use Rattle.dutch_pair.specs.declared.reached.BracketKind.TheVariants.{Ordinary, Last, Collapsed}
-use Rattle.dutch_pair.specs.Seated.{score_at}
-use Rattle.dutch_pair.specs.Reached.{Reached, IsAbove}
+use Rattle.dutch_bracket.specs.declared.reached.BracketKind.TheVariants.{Ordinary, Last, Collapsed}
+use Rattle.dutch_bracket.specs.Seated.{score_at}
+use Rattle.dutch_bracket.specs.Reached.{Reached, IsAbove}
 use Rattle.dutch_pair.specs.Walk.{AreAbove, Goes}
 use Rattle.dutch_pair.specs.Lower.{lower_of}
 use Rattle.dutch_pair.specs.Outcomes.{shown, visit_at, visit_of}
-use Rattle.dutch_pair.specs.Round.{Round, Visit, Choice, bracket, choice, completable, downfloaters, everybody, first_group, scoregroups, shape_of, no_pairing, passing, pairing_in, final_bracket, penultimate_bracket, paired_again, brackets, round}
+use Rattle.dutch_bracket.specs.Brackets.{Choice, bracket, choice, completable, downfloaters, first_group, scoregroups, shape_of}
+use Rattle.dutch_pair.specs.Round.{Round, Visit, everybody, no_pairing, passing, pairing_in, final_bracket, penultimate_bracket, paired_again, brackets, round}
 use Rattle.dutch_pair.proofs.RoundBy.{final_by, penultimate_by, ordinary_by}
-use Rattle.dutch_pair.proofs.BestLemmas.{chosen_is}
-use Rattle.dutch_pair.proofs.AllLemmas.{all_join}
-use Rattle.dutch_pair.proofs.GroupLemmas.{concat_scoregroups}
+use Rattle.dutch_choice.proofs.BestLemmas.{chosen_is}
+use Rattle.dutch_bracket.proofs.AllLemmas.{all_join}
+use Rattle.dutch_bracket.proofs.GroupLemmas.{concat_scoregroups}
 use Rattle.dutch_pair.proofs.GroupWalk.{IsParted, parted_by, parted_above, parted_left, everybody_goes}
 use Rattle.dutch_pair.proofs.LowerLemmas.{EndsAt, lower_is, above_in, some_in}
 use Rattle.dutch_pair.proofs.WalkEnds.{above_again, collapsed_above}

@@ -7,20 +7,21 @@ use Rattle.dutch_order.specs.Arrangements.{Arrangement, arrangements, down, is_l
 use Rattle.dutch_order.specs.Candidates.{Candidate}
 use Rattle.dutch_order.specs.Keys.{IsIn}
 use Rattle.dutch_player.specs.Facts.{Facts}
-use Rattle.dutch_pair.specs.declared.reached.BracketKind.TheVariants.{Ordinary, Penultimate, Collapsed}
-use Rattle.dutch_pair.specs.Boards.{IsPair}
-use Rattle.dutch_pair.specs.Seated.{seat_of, AreSeats, AllNumbers, IsCandidate}
-use Rattle.dutch_pair.specs.Reached.{Reached, IsOf, IsAbove, frame_of, numbers_meet, number_may_be_left}
-use Rattle.dutch_pair.specs.NextBracket.{IsOfBracket}
+use Rattle.dutch_bracket.specs.declared.reached.BracketKind.TheVariants.{Ordinary, Penultimate, Collapsed}
+use Rattle.dutch_bracket.specs.Seated.{IsPair}
+use Rattle.dutch_bracket.specs.Seated.{seat_of, AreSeats, AllNumbers, IsCandidate}
+use Rattle.dutch_bracket.specs.Reached.{Reached, IsOf, IsAbove, frame_of, numbers_meet, number_may_be_left}
+use Rattle.dutch_bracket.specs.NextBracket.{IsOfBracket}
 use Rattle.dutch_pair.specs.Walk.{AreAbove, Goes}
-use Rattle.dutch_pair.specs.Round.{Visit, bracket, can_be_chosen, downfloaters, candidates_of, eligible, choice, paired_again}
+use Rattle.dutch_bracket.specs.Brackets.{bracket, can_be_chosen, downfloaters, candidates_of, eligible, choice}
+use Rattle.dutch_pair.specs.Round.{Visit, paired_again}
 use Rattle.dutch_pair.specs.Outcomes.{visit_at}
-use Rattle.dutch_pair.proofs.LeastPsd.{in_filter}
-use Rattle.dutch_pair.proofs.BestLemmas.{chosen_is}
-use Rattle.dutch_pair.proofs.FlatBrackets.{candidate_of}
-use Rattle.dutch_pair.proofs.AllLemmas.{all_join}
-use Rattle.dutch_pair.proofs.CandidateSeats.{all_within}
-use Rattle.dutch_pair.proofs.DownLemmas.{down_numbers, down_few}
+use Rattle.dutch_bracket.proofs.LeastPsd.{in_filter}
+use Rattle.dutch_choice.proofs.BestLemmas.{chosen_is}
+use Rattle.dutch_bracket.proofs.FlatBrackets.{candidate_of}
+use Rattle.dutch_bracket.proofs.AllLemmas.{all_join}
+use Rattle.dutch_bracket.proofs.CandidateSeats.{all_within}
+use Rattle.dutch_bracket.proofs.DownLemmas.{down_numbers, down_few}
 use Rattle.dutch_pair.proofs.WalkLemmas.{Descends, LeftGoOn, is_above}
 use Rattle.dutch_order.specs.declared.numbers.TheConstants.{LIMIT}
 

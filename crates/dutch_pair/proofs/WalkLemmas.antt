@@ -8,13 +8,13 @@ use Rattle.dutch_order.specs.Limbo.{IsNonAscending}
 use Rattle.dutch_order.proofs.Turns.{at_index}
 use Rattle.dutch_order.proofs.Skipping.{all-behind}
 use Rattle.dutch_player.specs.Facts.{Facts}
-use Rattle.dutch_pair.specs.declared.reached.BracketKind.{BracketKind}
-use Rattle.dutch_pair.specs.declared.reached.BracketKind.TheVariants.{Ordinary}
-use Rattle.dutch_pair.specs.Seated.{score_at, seat_of, AreSeats}
-use Rattle.dutch_pair.specs.Reached.{Reached, IsAbove}
-use Rattle.dutch_pair.specs.Round.{bracket, downfloaters}
+use Rattle.dutch_bracket.specs.declared.reached.BracketKind.{BracketKind}
+use Rattle.dutch_bracket.specs.declared.reached.BracketKind.TheVariants.{Ordinary}
+use Rattle.dutch_bracket.specs.Seated.{score_at, seat_of, AreSeats}
+use Rattle.dutch_bracket.specs.Reached.{Reached, IsAbove}
+use Rattle.dutch_bracket.specs.Brackets.{bracket, downfloaters}
 use Rattle.dutch_pair.specs.Walk.{AreRanked, AreAbove, Goes}
-use Rattle.dutch_pair.proofs.AllLemmas.{all_join}
+use Rattle.dutch_bracket.proofs.AllLemmas.{all_join}
 use Rattle.dutch_order.specs.declared.numbers.TheConstants.{LIMIT}
 use Rattle.dutch_order.proofs.LeftOut.{all-each}
 

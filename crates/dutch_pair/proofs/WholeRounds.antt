@@ -2,16 +2,29 @@
 use Rattle.std.proofs.Common.{◌≡◌, ℕ, ◌+◌, ◌≤◌, Bool, true, false, cond, List, [], ◌∷◌, ◌++◌, length, Option, Some, None, refl, ap, subst, arith, length-append}
 use Rattle.std.specs.Prelude.{IfSome, option_map}
 use Rattle.std.specs.List.{concat}
+use Rattle.dutch_order.specs.Candidates.{Candidate}
+use Rattle.dutch_order.specs.Arrangements.{down}
 use Rattle.dutch_player.specs.Facts.{Facts}
-use Rattle.dutch_pair.specs.declared.reached.BracketKind.{BracketKind}
-use Rattle.dutch_pair.specs.declared.reached.BracketKind.TheVariants.{Ordinary, Last, Collapsed}
-use Rattle.dutch_pair.specs.Reached.{Reached}
-use Rattle.dutch_pair.specs.Round.{Round, Pairing, Choice, bracket, choice, completable, downfloaters, everybody, scoregroups, pairing_in, passing, no_pairing, final_bracket, penultimate_bracket, paired_again, ordinary_bracket, brackets, round}
+use Rattle.dutch_bracket.specs.Reached.{frame_of, Reached}
+use Rattle.dutch_pair.proofs.WalkEnds.{of_bracket}
+use Rattle.dutch_bracket.specs.declared.reached.BracketKind.{BracketKind}
+use Rattle.dutch_bracket.specs.declared.reached.BracketKind.TheVariants.{Ordinary, Last, Collapsed}
+use Rattle.dutch_bracket.specs.Brackets.{Choice, bracket, choice, completable, downfloaters, scoregroups}
+use Rattle.dutch_pair.specs.Round.{Round, Pairing, everybody, pairing_in, passing, no_pairing, final_bracket, penultimate_bracket, paired_again, ordinary_bracket, brackets, round}
 use Rattle.dutch_pair.proofs.RoundBy.{final_by, penultimate_by, ordinary_by}
-use Rattle.dutch_pair.specs.Seated.{all_pairs}
-use Rattle.dutch_pair.proofs.GroupLemmas.{concat_scoregroups}
-use Rattle.dutch_pair.proofs.Totals.{total, total_append}
-use Rattle.dutch_pair.proofs.Everybody.{pairs_total, pairs_append, choice_whole}
+use Rattle.dutch_bracket.specs.Seated.{all_pairs}
+use Rattle.dutch_bracket.proofs.GroupLemmas.{concat_scoregroups}
+use Rattle.dutch_bracket.proofs.Totals.{total, total_append}
+use Rattle.dutch_bracket.proofs.Everybody.{pairs_total, pairs_append, bracket_whole}
+
+module _ (w : ℕ → ℕ) (facts : Facts) (reached : Reached) where
+  -- what is chosen in a bracket pairs and leaves over its players, each once
+  pub choice_whole : (lower : List ℕ) (chosen : Choice) → reached.mdps ≤ length reached.seats → choice facts reached lower ≡ Some chosen
+      → pairs_total w (all_pairs reached.seats chosen.lists) + total w (downfloaters facts reached chosen.lists) ≡ total w reached.seats
+  choice_whole lower chosen within e =
+      let candidate : Candidate = record { lists = chosen.lists; down = down (frame_of facts reached) chosen.lists } in
+      let of_bracket' = of_bracket facts reached lower chosen.shape candidate e refl in
+      bracket_whole w facts reached of_bracket'.lists.0 chosen.lists within of_bracket'.lists.1
 
 module _ (w : ℕ → ℕ) where
   -- what all of a pairing weigh

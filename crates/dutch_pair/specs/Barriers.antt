@@ -5,7 +5,7 @@ use Rattle.dual.specs.Barriers.{IsTooNarrow, is_of_odd_group}
 use Rattle.dutch_order.specs.Choices.{numbers_from}
 use Rattle.dutch_player.specs.Facts.{Facts}
 use Rattle.dutch_pair.specs.Round.{everybody}
-use Rattle.dutch_pair.specs.Seats.{seats_meet, seats_may_be_left}
+use Rattle.dutch_bracket.specs.Seats.{seats_meet, seats_may_be_left}
 
 -- a label for each seat, and the greatest one
 pub record Barrier : Type 0 where

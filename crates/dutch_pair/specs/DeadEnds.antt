@@ -2,9 +2,9 @@
 use Rattle.std.specs.Prelude.{◌≡◌, ℕ, false, List, take}
 use Rattle.dutch_order.specs.Keys.{IsIn}
 use Rattle.dutch_player.specs.Facts.{Facts}
-use Rattle.dutch_pair.specs.Completion.{Covers, MayBeLeftOut}
-use Rattle.dutch_pair.specs.Reached.{Reached}
-use Rattle.dutch_pair.specs.Seats.{seats_meet, seats_may_be_left}
+use Rattle.dutch_bracket.specs.Completion.{Covers, MayBeLeftOut}
+use Rattle.dutch_bracket.specs.Reached.{Reached}
+use Rattle.dutch_bracket.specs.Seats.{seats_meet, seats_may_be_left}
 
 -- A.3: the players who were moved down into a bracket
 abbrev pub moved_down : Reached → List ℕ

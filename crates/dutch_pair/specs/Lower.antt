@@ -2,8 +2,8 @@
 use Rattle.std.specs.Prelude.{ℕ, Bool, nat_lt, List, filter}
 use Rattle.std.specs.List.{list_all}
 use Rattle.dutch_player.specs.Facts.{Facts}
-use Rattle.dutch_pair.specs.Seated.{score_at}
-use Rattle.dutch_pair.specs.Reached.{Reached}
+use Rattle.dutch_bracket.specs.Seated.{score_at}
+use Rattle.dutch_bracket.specs.Reached.{Reached}
 use Rattle.dutch_pair.specs.Round.{everybody}
 
 -- the score of a seat is lower than each of some seats

@@ -2,10 +2,8 @@
 use Rattle.std.specs.Prelude.{◌≡◌, ℕ, zero, suc, ◌+◌, ◌≤◌, true, List, [], ◌∷◌, map, length, Option, Some, None, option_map, is_some}
 use Rattle.std.specs.List.{AllByRecursion}
 use Rattle.dutch_order.specs.declared.bracket.Shape.{Shape}
-use Rattle.dutch_order.specs.Arrangements.{Fits, down}
+use Rattle.dutch_order.specs.Arrangements.{Fits}
 use Rattle.dutch_player.specs.Facts.{Facts}
-use Rattle.dutch_pair.specs.declared.choice.Choice.{Choice}
-use Rattle.dutch_pair.specs.declared.choice.Choice.TheVariants.{Chosen as IsChosen, Undecided as ChoiceUndecided}
 use Rattle.dutch_pair.specs.declared.round.Outcome.{Outcome}
 use Rattle.dutch_pair.specs.declared.round.Outcome.TheVariants.{Paired, NoPairing, Undecided}
 use Rattle.dutch_pair.specs.declared.round.BracketAt.{BracketAt}
@@ -13,14 +11,15 @@ use Rattle.dutch_pair.specs.declared.round.BracketAt.TheVariants.{Bracket, NotRe
 use Rattle.dutch_pair.specs.declared.round.AllStages.{AllStages}
 use Rattle.dutch_pair.specs.declared.round.AllStages.TheVariants.{Paired as StagesPaired, NoPairing as NoStages, Undecided as StagesUndecided}
 use Rattle.dutch_pair.specs.declared.stage.Stage.{Stage}
-use Rattle.dutch_pair.specs.NextBracket.{IsOfBracket}
+use Rattle.dutch_bracket.specs.NextBracket.{IsOfBracket}
 use Rattle.dutch_pair.specs.Lower.{lower_of}
-use Rattle.dutch_pair.specs.QualityIn.{quality_in}
-use Rattle.dutch_pair.specs.Reached.{Reached, IsAbove, IsOf, frame_of}
-use Rattle.dutch_pair.specs.Round.{Visit, round, choice, everybody, quality_of}
-use Rattle.dutch_pair.specs.Completion.{Completable}
-use Rattle.dutch_pair.specs.Seated.{AreSeats}
-use Rattle.dutch_pair.specs.Seats.{seats_meet, seats_may_be_left}
+use Rattle.dutch_bracket.specs.QualityIn.{quality_in}
+use Rattle.dutch_bracket.specs.Reached.{Reached, IsAbove, IsOf, frame_of}
+use Rattle.dutch_bracket.specs.Brackets.{choice, quality_of}
+use Rattle.dutch_pair.specs.Round.{Visit, round, everybody}
+use Rattle.dutch_bracket.specs.Completion.{Completable}
+use Rattle.dutch_bracket.specs.Seated.{AreSeats}
+use Rattle.dutch_bracket.specs.Seats.{seats_meet, seats_may_be_left}
 use Rattle.dutch_pair.specs.Boards.{boards}
 
 -- the bracket at a place of a list, the first at 0
@@ -41,13 +40,6 @@ shown found = option_map (λ visit. (visit.bracket, visit.shape)) found
 -- a call was stopped at its limit, in one of the brackets reached or in the one behind them
 abbrev pub IsStoppedIn : Facts → ℕ → ℕ → ℕ → Type 0
 IsStoppedIn facts limit bracket used = (used ≡ limit) × (1 ≤ bracket) × (bracket ≤ length (round facts).reached + 1)
-
--- the choice in a bracket above lower seats, with its quality; what a call that was stopped owes is given with it
-abbrev pub IsChoice : Facts → Reached → List ℕ → Type 0 → Choice → Type 0
-IsChoice facts reached lower stopped (IsChosen shape candidate quality) =
-    (choice facts reached lower ≡ Some (record { shape = shape; lists = candidate.lists })) × (candidate.down ≡ down (frame_of facts reached) candidate.lists)
-    × Fits (frame_of facts reached) shape × (quality_in quality ≡ quality_of facts reached lower candidate.lists)
-IsChoice facts reached lower stopped ChoiceUndecided = stopped
 
 -- the outcome of a round
 abbrev pub IsOutcome : Facts → ℕ → Outcome → Type 0

@@ -4,18 +4,19 @@ use Rattle.dutch_order.specs.declared.bracket.Shape.{Shape}
 use Rattle.dutch_order.specs.declared.steps.Budget.{Budget}
 use Rattle.dutch_order.specs.Arrangements.{Fits, down}
 use Rattle.dutch_player.specs.Facts.{Facts}
-use Rattle.dutch_pair.specs.declared.reached.BracketKind.{BracketKind}
-use Rattle.dutch_pair.specs.declared.reached.BracketKind.TheVariants.{Ordinary, Last, Penultimate, Collapsed}
+use Rattle.dutch_bracket.specs.declared.reached.BracketKind.{BracketKind}
+use Rattle.dutch_bracket.specs.declared.reached.BracketKind.TheVariants.{Ordinary, Last, Penultimate, Collapsed}
 use Rattle.dutch_pair.specs.declared.stage.Stage.{Stage}
 use Rattle.dutch_pair.specs.declared.walk.Next.{Next}
 use Rattle.dutch_pair.specs.declared.walk.Next.TheVariants.{Bracket, Bye}
 use Rattle.dutch_pair.specs.declared.walk.Turn.{Turn}
 use Rattle.dutch_pair.specs.declared.walk.Turn.TheVariants.{Settled, Ended, Undecided}
-use Rattle.dutch_pair.specs.QualityIn.{quality_in}
-use Rattle.dutch_pair.specs.Reached.{Reached, IsOf, frame_of}
-use Rattle.dutch_pair.specs.Round.{Round, Choice, Pairing, brackets, choice, completable, ending, final_bracket, ordinary_bracket, passing, pairing_in, penultimate_bracket, quality_of, scoregroups}
+use Rattle.dutch_bracket.specs.QualityIn.{quality_in}
+use Rattle.dutch_bracket.specs.Reached.{Reached, IsOf, frame_of}
+use Rattle.dutch_bracket.specs.Brackets.{Choice, choice, completable, quality_of, scoregroups}
+use Rattle.dutch_pair.specs.Round.{Round, Pairing, brackets, ending, final_bracket, ordinary_bracket, passing, pairing_in, penultimate_bracket}
 use Rattle.dutch_pair.specs.Outcomes.{IsStage, shown, visit_at}
-use Rattle.dutch_pair.specs.Seated.{AreSeats, all_pairs, seat_of}
+use Rattle.dutch_bracket.specs.Seated.{AreSeats, all_pairs, seat_of}
 use Rattle.dutch_pair.specs.WaysOut.{StandsBefore}
 
 -- where a walk stands in a field: the number of the bracket that comes next, and the round from there on

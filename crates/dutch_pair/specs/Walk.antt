@@ -3,7 +3,7 @@ use Rattle.std.specs.Prelude.{◌≡◌, ℕ, ◌<◌, List, [], ◌∷◌, ◌+
 use Rattle.std.specs.List.{AllByRecursion}
 use Rattle.dutch_player.specs.Facts.{Facts}
 use Rattle.dutch_pair.specs.Round.{everybody}
-use Rattle.dutch_pair.specs.Seated.{score_at}
+use Rattle.dutch_bracket.specs.Seated.{score_at}
 
 -- seats of a field by rank, each before all that follow
 abbrev pub AreRanked : Facts → List ℕ → Type 0

@@ -4,13 +4,13 @@ use Rattle.std.specs.Prelude.{◌≡◌, ℕ, ◌+◌, ◌<◌, ◌≤◌, true,
 use Rattle.dutch_order.specs.Forms.{NoneTwice}
 use Rattle.dutch_order.specs.Keys.{IsIn}
 use Rattle.dutch_player.specs.Facts.{Facts}
-use Rattle.dutch_pair.specs.declared.reached.BracketKind.{BracketKind}
-use Rattle.dutch_pair.specs.declared.reached.BracketKind.TheVariants.{Ordinary, Last, Penultimate, Collapsed}
-use Rattle.dutch_pair.specs.Completion.{Completable}
-use Rattle.dutch_pair.specs.Eligible.{HasCandidate}
-use Rattle.dutch_pair.specs.Reached.{Reached}
-use Rattle.dutch_pair.specs.Round.{bracket}
-use Rattle.dutch_pair.specs.Seats.{seats_meet, seats_may_be_left}
+use Rattle.dutch_bracket.specs.declared.reached.BracketKind.{BracketKind}
+use Rattle.dutch_bracket.specs.declared.reached.BracketKind.TheVariants.{Ordinary, Last, Penultimate, Collapsed}
+use Rattle.dutch_bracket.specs.Completion.{Completable}
+use Rattle.dutch_bracket.specs.Eligible.{HasCandidate}
+use Rattle.dutch_bracket.specs.Reached.{Reached}
+use Rattle.dutch_bracket.specs.Brackets.{bracket}
+use Rattle.dutch_bracket.specs.Seats.{seats_meet, seats_may_be_left}
 use Rattle.dutch_pair.specs.Walk.{AreAbove, Goes}
 
 -- those moved down and those below them can be paired out, each is there once, and no two of those moved down may meet

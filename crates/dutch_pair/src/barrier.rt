@@ -6,14 +6,14 @@ ghost use Rattle.std.specs.List.{list_any};
 ghost use Rattle.dual.specs.Barriers.{group_size, is_of_odd_group};
 ghost use Rattle.dutch_pair.specs.Barriers.{Blocks, has_blockers, lacks_bye, label, opens_odd_group};
 ghost use Rattle.dutch_pair.specs.Round.{everybody};
-ghost use Rattle.dutch_pair.specs.Seats.{seats_may_be_left};
+ghost use Rattle.dutch_bracket.specs.Seats.{seats_may_be_left};
 
-use crate::fault::PairFault;
-use crate::matched::by_seat;
-use crate::meetings::Meetings;
-use crate::seats::seats;
 use crate::walk::everybody;
 use dual::tells_incompletable;
+use dutch_bracket::fault::PairFault;
+use dutch_bracket::matched::by_seat;
+use dutch_bracket::meetings::Meetings;
+use dutch_bracket::seats::seats;
 use dutch_order::{Rule, numbered_from};
 use dutch_player::Field;
 use matching::{Fault, Found, greatest};
@@ -111,9 +111,9 @@ fn confirmed(
     Ok(None)
 }
 
-/// A barrier that blocks the round of a field: it shows why no list of pairs of present players who may meet leaves out at most one, who
-/// may have the bye (A.9). It is looked for by a greatest matching of so many steps at most. None says that none was found; so it is
-/// wherever the players can be paired out.
+/// A barrier that blocks the round of a field: it shows why no list of pairs of present players who may meet leaves out
+/// at most one, who may have the bye (A.9). It is looked for by a greatest matching of so many steps at most. None says
+/// that none was found; so it is wherever the players can be paired out.
 ///
 /// # Errors
 /// Memory was refused.

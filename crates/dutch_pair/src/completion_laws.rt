@@ -2,19 +2,23 @@
 ghost use Rattle.std.specs.Prelude.{◌≡◌, ◌↔◌, None, false, is_some, true};
 ghost use Rattle.dutch_player.specs.Facts.{Facts};
 ghost use Rattle.dutch_pair.specs.Barriers.{Barrier, Blocks};
-ghost use Rattle.dutch_pair.specs.Completion.{Completable};
-ghost use Rattle.dutch_pair.specs.Round.{completable, everybody, round};
-ghost use Rattle.dutch_pair.specs.Seats.{seats_meet, seats_may_be_left};
+ghost use Rattle.dutch_bracket.specs.Completion.{Completable};
+ghost use Rattle.dutch_bracket.specs.Brackets.{completable};
+ghost use Rattle.dutch_pair.specs.Round.{everybody, round};
+ghost use Rattle.dutch_bracket.specs.Seats.{seats_meet, seats_may_be_left};
 
-/// There is no dead end: a round is paired exactly if some list of pairs of present players who may meet leaves out at most one of
-/// them, who may have the bye. So each bracket on the way has a candidate that can be chosen.
+/// There is no dead end: a round is paired exactly if some list of pairs of present players who may meet leaves out at
+/// most one of them, who may have the bye. So each bracket on the way has a candidate that can be chosen.
 pub fn a_round_is_paired_where_it_can_be()
-    ensures paired { (facts : Facts) → Completable (seats_meet facts) (seats_may_be_left facts) (everybody facts) ↔ (is_some (round facts).pairing ≡ true) }
-    ensures unpaired { (facts : Facts) → ((round facts).pairing ≡ None) ↔ (completable facts (everybody facts) ≡ false) }
+    ensures paired { (facts : Facts)
+        → Completable (seats_meet facts) (seats_may_be_left facts) (everybody facts) ↔
+        (is_some (round facts).pairing ≡ true) }
+    ensures unpaired { (facts : Facts)
+        → ((round facts).pairing ≡ None) ↔ (completable facts (everybody facts) ≡ false) }
 {}
 
-/// Where a barrier blocks a round, no list of pairs of present players who may meet leaves out at most one of them, who may have the bye;
-/// and the round has no pairing.
+/// Where a barrier blocks a round, no list of pairs of present players who may meet leaves out at most one of them, who
+/// may have the bye; and the round has no pairing.
 pub fn a_round_that_is_blocked_has_no_pairing()
     ensures incompletable { (facts : Facts) (barrier : Barrier) → Blocks facts barrier
         → ¬ Completable (seats_meet facts) (seats_may_be_left facts) (everybody facts) }

@@ -1,8 +1,9 @@
 // The definitions of a round, tried on rounds that can be followed by hand.
 ghost use Rattle.std.specs.Prelude.{◌≡◌, [], ◌∷◌, Some, None, true};
-ghost use Rattle.dutch_pair.specs.Quality.{is_better};
-ghost use Rattle.dutch_pair.specs.Round.{candidates_of, quality_of};
-ghost use Rattle.dutch_pair.specs.Examples.{boards_of, pairs_reached, five_players, leader_moves_down, pair_given_up, all_met, two_leaders, forfeit_winner};
+ghost use Rattle.dutch_bracket.specs.Quality.{is_better};
+ghost use Rattle.dutch_bracket.specs.Brackets.{candidates_of, quality_of};
+ghost use Rattle.dutch_pair.specs.Examples.{boards_of, pairs_reached, five_players, leader_moves_down, pair_given_up};
+ghost use Rattle.dutch_pair.specs.Examples.{all_met, two_leaders, forfeit_winner};
 ghost use Rattle.dutch_pair.specs.Examples.{leader_above_two, leader_meets, leader_quality};
 
 /// The boards of a few rounds, white before black, and 0 for the bye.
@@ -17,7 +18,8 @@ pub fn rounds_by_hand()
     ensures forfeit_winner { boards_of forfeit_winner ≡ Some ((3, 1) ∷ (2, 0) ∷ []) }
 {}
 
-/// How many pairs their brackets make: the first of the two that give up a pair is paired again, and then all in one bracket.
+/// How many pairs their brackets make: the first of the two that give up a pair is paired again, and then all in one
+/// bracket.
 #[tactic(auto, unfolding(crate::specs::Examples::boards_of))]
 pub fn brackets_by_hand()
     ensures one_bracket { pairs_reached five_players ≡ 2 ∷ [] }
@@ -26,11 +28,12 @@ pub fn brackets_by_hand()
     ensures none { pairs_reached all_met ≡ [] }
 {}
 
-/// The two candidates of the bracket into which the leader moves down, and their qualities item by item: the second misses one
-/// preference, a strong one.
+/// The two candidates of the bracket into which the leader moves down, and their qualities item by item: the second
+/// misses one preference, a strong one.
 #[tactic(auto, unfolding(crate::specs::Examples::boards_of))]
 pub fn qualities_by_hand()
-    ensures candidates { candidates_of leader_moves_down leader_above_two (record { pairs = 1; mdps = 1 }) ≡ leader_meets 2 ∷ leader_meets 3 ∷ [] }
+    ensures candidates { candidates_of leader_moves_down leader_above_two (record { pairs = 1; mdps = 1 })
+        ≡ leader_meets 2 ∷ leader_meets 3 ∷ [] }
     ensures first { quality_of leader_moves_down leader_above_two (3 ∷ []) (leader_meets 2) ≡ leader_quality 0 }
     ensures second { quality_of leader_moves_down leader_above_two (3 ∷ []) (leader_meets 3) ≡ leader_quality 1 }
     ensures better { is_better (leader_quality 0) (leader_quality 1) ≡ true }

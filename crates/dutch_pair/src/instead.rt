@@ -1,5 +1,5 @@
-// The best candidate of a bracket that grants a wish, in place of the one that is chosen, or why there is none (C.04.3 B.8; B.1,
-// C.4, C.5).
+// The best candidate of a bracket that grants a wish, in place of the one that is chosen, or why there is none (C.04.3
+// B.8; B.1, C.4, C.5).
 ghost use Rattle.std.specs.Prelude.{◌≡◌, ◌≤◌, ◌+◌, IfOk, Some, false, true};
 ghost use Rattle.std.specs.List.{list_any};
 ghost use Rattle.std.specs.Result.{MatchResult};
@@ -7,19 +7,21 @@ ghost use Rattle.dutch_order.specs.Arrangements.{Fits};
 ghost use Rattle.dutch_order.specs.Steps.{MatchDrawn, Spends};
 ghost use Rattle.dutch_pair.specs.Lower.{lower_of};
 ghost use Rattle.dutch_pair.specs.Outcomes.{IsStage};
-ghost use Rattle.dutch_pair.specs.Reached.{frame_of};
-ghost use Rattle.dutch_pair.specs.Round.{candidates_of, eligible, shape_of};
-ghost use Rattle.dutch_pair.specs.Stops.{Decides};
-ghost use Rattle.dutch_pair.specs.Wishes.{IsInstead, NoneGrants, SomeGrants, grants, some_grants, with_mdps};
+ghost use Rattle.dutch_bracket.specs.Reached.{frame_of};
+ghost use Rattle.dutch_bracket.specs.Brackets.{candidates_of, eligible, shape_of};
+ghost use Rattle.dutch_bracket.specs.Stops.{Decides};
+ghost use Rattle.dutch_choice.specs.Wishes.{NoneGrants, SomeGrants, grants, some_grants, with_mdps};
+ghost use Rattle.dutch_pair.specs.Instead.{IsInstead};
 
-use crate::choice::best_of;
-use crate::context::Context;
-use crate::fault::PairFault;
-use crate::greatest::has_room;
-use crate::quality::Quality;
-use crate::skipper::rules_out;
+use crate::lower::lower_of;
 use crate::stage::Stage;
-use crate::wish::Wish;
+use dutch_bracket::context::Context;
+use dutch_bracket::fault::PairFault;
+use dutch_bracket::greatest::has_room;
+use dutch_bracket::quality::Quality;
+use dutch_choice::choice::best_of;
+use dutch_choice::skipper::rules_out;
+use dutch_choice::wish::Wish;
 use dutch_order::{Bound, Budget, Candidate, Candidates, Exchange, Prefix, Shape, Step, Stopped};
 use dutch_player::Field;
 use std::alloc::Global;
@@ -27,17 +29,17 @@ use std::alloc::Global;
 /// What is told of a wish in a bracket.
 #[derive(Debug, Drop)]
 pub enum Instead {
-    /// Of the candidates of the bracket's shape that can be chosen and grant it the first that none of them is better than, and its
-    /// quality.
+    /// Of the candidates of the bracket's shape that can be chosen and grant it the first that none of them is better
+    /// than, and its quality.
     Best {
         candidate: Candidate,
         quality: Quality,
     },
-    /// Legal candidates grant it, with as many pairs as the shape, and as many moved-down players in them, or more. But none of these can
-    /// be chosen (C.4). This can be in a penultimate bracket alone.
+    /// Legal candidates grant it, with as many pairs as the shape, and as many moved-down players in them, or more. But
+    /// none of these can be chosen (C.4). This can be in a penultimate bracket alone.
     NoneEligible,
-    /// No legal candidate of the shape grants it, but one with as many pairs and fewer moved-down players in them does. As many of these
-    /// as can be are paired (B.1).
+    /// No legal candidate of the shape grants it, but one with as many pairs and fewer moved-down players in them does.
+    /// As many of these as can be are paired (B.1).
     FewerMovedDown,
     /// No legal candidate with as many pairs grants it (C.5).
     NoneLegal,
@@ -60,8 +62,8 @@ impl<'a> Bound for Wished<'a> {
     type Room = ();
 
     ghost use Rattle.std.specs.Prelude.{not};
-    ghost use Rattle.dutch_pair.specs.Reached.{frame_of, numbers_meet, number_may_be_left};
-    ghost use Rattle.dutch_pair.specs.Wishes.{grants};
+    ghost use Rattle.dutch_bracket.specs.Reached.{frame_of, numbers_meet, number_may_be_left};
+    ghost use Rattle.dutch_choice.specs.Wishes.{grants};
 
     ghost frame = { λ w. frame_of w.context.now.facts w.context.now.reached };
 
@@ -73,7 +75,7 @@ impl<'a> Bound for Wished<'a> {
 
     ghost is_dull = { λ w a. not (grants w.wish a) };
 
-    #[tactic(auto, unfolding(crate::specs::Round::candidates_of))]
+    #[tactic(auto, unfolding(dutch_bracket::specs::Brackets::candidates_of))]
     fn cannot_win(&self, prefix: &Prefix<'_>, _room: &mut ()) -> bool {
         rules_out(self.context, self.shape, self.wish, prefix)
     }
@@ -89,10 +91,12 @@ impl<'a> Bound for Wished<'a> {
 }
 
 /// Whether some candidate grants a wish, whether it can be chosen or not.
-#[tactic(auto, using(crate::proofs::InsteadLemmas::skipped_same), unfolding(crate::specs::Round::candidates_of))]
+#[tactic(auto, using(crate::proofs::InsteadLemmas::skipped_same), unfolding(dutch_bracket::specs::Brackets::candidates_of))]
 fn is_granted(wished: &Wished<'_>, budget: &mut Budget) -> Result<bool, Stopped>
     requires within { budget.old.used ≤ budget.old.limit }
-    ensures answer { Decides result (list_any (grants wished.now.wish) (candidates_of wished.now.context.now.facts wished.now.context.now.reached wished.now.shape))
+    ensures answer { Decides result
+        (list_any (grants wished.now.wish)
+        (candidates_of wished.now.context.now.facts wished.now.context.now.reached wished.now.shape))
         (budget.new.used ≡ budget.new.limit) }
     ensures spends { Spends budget.old budget.new }
 {
@@ -112,10 +116,12 @@ fn is_granted(wished: &Wished<'_>, budget: &mut Budget) -> Result<bool, Stopped>
 }
 
 /// Whether a legal candidate grants the wish, with as many pairs as the shape and so many moved-down players in them.
-#[tactic(auto, using(crate::proofs::InsteadLemmas::few_pairs, crate::proofs::ShapeSearch::fits_by_test))]
+#[tactic(auto, using(crate::proofs::InsteadLemmas::few_pairs, dutch_bracket::proofs::ShapeSearch::fits_by_test))]
 fn is_granted_with(wished: &Wished<'_>, mdps: usize, budget: &mut Budget) -> Result<bool, Stopped>
     requires within { budget.old.used ≤ budget.old.limit }
-    ensures answer { Decides result (some_grants wished.now.context.now.facts wished.now.context.now.reached wished.now.wish (with_mdps wished.now.shape mdps))
+    ensures answer { Decides result
+        (some_grants wished.now.context.now.facts wished.now.context.now.reached wished.now.wish
+        (with_mdps wished.now.shape mdps))
         (budget.new.used ≡ budget.new.limit) }
     ensures spends { Spends budget.old budget.new }
 {
@@ -134,8 +140,8 @@ fn is_granted_with(wished: &Wished<'_>, mdps: usize, budget: &mut Budget) -> Res
     is_granted(&wished, budget)
 }
 
-/// Whether a legal candidate grants the wish, with as many pairs as the shape, and from a number of moved-down players in them to below
-/// another number.
+/// Whether a legal candidate grants the wish, with as many pairs as the shape, and from a number of moved-down players
+/// in them to below another number.
 fn is_granted_within(
     wished: &Wished<'_>,
     from: usize,
@@ -144,8 +150,10 @@ fn is_granted_within(
 ) -> Result<bool, Stopped>
     requires within { budget.old.used ≤ budget.old.limit }
     ensures answer { MatchDrawn result
-        (SomeGrants wished.now.context.now.facts wished.now.context.now.reached wished.now.wish wished.now.shape from to)
-        (NoneGrants wished.now.context.now.facts wished.now.context.now.reached wished.now.wish wished.now.shape from to)
+        (SomeGrants wished.now.context.now.facts wished.now.context.now.reached wished.now.wish wished.now.shape from
+        to)
+        (NoneGrants wished.now.context.now.facts wished.now.context.now.reached wished.now.wish wished.now.shape from
+        to)
         (budget.new.used ≡ budget.new.limit) }
     ensures spends { Spends budget.old budget.new }
 {
@@ -159,13 +167,17 @@ fn is_granted_within(
     Ok(false)
 }
 
-/// Whether a legal candidate of the shape grants a wish that none grants that can be chosen. Elsewhere than in a penultimate bracket all
-/// of them can be chosen.
+/// Whether a legal candidate of the shape grants a wish that none grants that can be chosen. Elsewhere than in a
+/// penultimate bracket all of them can be chosen.
 #[tactic(auto, using(crate::proofs::InsteadLemmas::none_legal))]
 fn is_barred(wished: &Wished<'_>, budget: &mut Budget) -> Result<bool, Stopped>
-    requires none { list_any (grants wished.now.wish) (eligible wished.now.context.now.facts wished.now.context.now.reached wished.now.context.now.lower wished.now.shape) ≡ false }
+    requires none { list_any (grants wished.now.wish)
+        (eligible wished.now.context.now.facts wished.now.context.now.reached wished.now.context.now.lower
+        wished.now.shape) ≡ false }
     requires within { budget.old.used ≤ budget.old.limit }
-    ensures answer { Decides result (list_any (grants wished.now.wish) (candidates_of wished.now.context.now.facts wished.now.context.now.reached wished.now.shape))
+    ensures answer { Decides result
+        (list_any (grants wished.now.wish)
+        (candidates_of wished.now.context.now.facts wished.now.context.now.reached wished.now.shape))
         (budget.new.used ≡ budget.new.limit) }
     ensures spends { Spends budget.old budget.new }
 {
@@ -175,15 +187,18 @@ fn is_barred(wished: &Wished<'_>, budget: &mut Budget) -> Result<bool, Stopped>
     is_granted(wished, budget)
 }
 
-/// Whether a legal candidate grants the wish, with as many pairs as the bracket's shape and more moved-down players in them. Elsewhere than
-/// in a penultimate bracket there is none, since it could be chosen.
+/// Whether a legal candidate grants the wish, with as many pairs as the bracket's shape and more moved-down players in
+/// them. Elsewhere than in a penultimate bracket there is none, since it could be chosen.
 #[tactic(auto, using(crate::proofs::InsteadLemmas::none_more))]
 fn is_granted_above(wished: &Wished<'_>, budget: &mut Budget) -> Result<bool, Stopped>
-    requires greatest { shape_of wished.now.context.now.facts wished.now.context.now.reached wished.now.context.now.lower ≡ Some wished.now.shape }
+    requires greatest { shape_of wished.now.context.now.facts wished.now.context.now.reached
+        wished.now.context.now.lower ≡ Some wished.now.shape }
     requires within { budget.old.used ≤ budget.old.limit }
     ensures answer { MatchDrawn result
-        (SomeGrants wished.now.context.now.facts wished.now.context.now.reached wished.now.wish wished.now.shape (wished.now.shape.mdps + 1) (wished.now.shape.pairs + 1))
-        (NoneGrants wished.now.context.now.facts wished.now.context.now.reached wished.now.wish wished.now.shape (wished.now.shape.mdps + 1) (wished.now.shape.pairs + 1))
+        (SomeGrants wished.now.context.now.facts wished.now.context.now.reached wished.now.wish wished.now.shape
+        (wished.now.shape.mdps + 1) (wished.now.shape.pairs + 1))
+        (NoneGrants wished.now.context.now.facts wished.now.context.now.reached wished.now.wish wished.now.shape
+        (wished.now.shape.mdps + 1) (wished.now.shape.pairs + 1))
         (budget.new.used ≡ budget.new.limit) }
     ensures spends { Spends budget.old budget.new }
 {
@@ -195,13 +210,17 @@ fn is_granted_above(wished: &Wished<'_>, budget: &mut Budget) -> Result<bool, St
 }
 
 /// Why no candidate of a bracket's shape that can be chosen grants a wish: the first reason that stands.
-#[tactic(auto, using(crate::proofs::InsteadLemmas::none_upto, crate::proofs::InsteadLemmas::none_at_all))]
+#[tactic(auto, using(crate::proofs::InsteadLemmas::none_upto, crate::proofs::InsteadLemmas::none_at_all), unfolding(crate::specs::Instead::IsInstead))]
 fn why_none(wished: &Wished<'_>, budget: &mut Budget) -> Result<Instead, Stopped>
-    requires greatest { shape_of wished.now.context.now.facts wished.now.context.now.reached wished.now.context.now.lower ≡ Some wished.now.shape }
-    requires none { list_any (grants wished.now.wish) (eligible wished.now.context.now.facts wished.now.context.now.reached wished.now.context.now.lower wished.now.shape) ≡ false }
+    requires greatest { shape_of wished.now.context.now.facts wished.now.context.now.reached
+        wished.now.context.now.lower ≡ Some wished.now.shape }
+    requires none { list_any (grants wished.now.wish)
+        (eligible wished.now.context.now.facts wished.now.context.now.reached wished.now.context.now.lower
+        wished.now.shape) ≡ false }
     requires within { budget.old.used ≤ budget.old.limit }
     ensures answer { MatchResult result
-        (IsInstead wished.now.context.now.facts wished.now.context.now.reached wished.now.context.now.lower wished.now.shape wished.now.wish budget.old.limit)
+        (IsInstead wished.now.context.now.facts wished.now.context.now.reached wished.now.context.now.lower
+        wished.now.shape wished.now.wish budget.old.limit)
         (λ _. budget.new.used ≡ budget.new.limit) }
     ensures spends { Spends budget.old budget.new }
 {
@@ -218,11 +237,13 @@ fn why_none(wished: &Wished<'_>, budget: &mut Budget) -> Result<Instead, Stopped
 }
 
 /// The best candidate of a bracket's shape that grants a wish, or why there is none.
-#[tactic(auto, using(crate::proofs::InsteadLemmas::none_granting), unfolding(crate::specs::Aims::best_wished, crate::specs::Wishes::best_granting))]
+#[tactic(auto, using(crate::proofs::InsteadLemmas::none_granting), unfolding(dutch_choice::specs::Aims::best_wished, dutch_choice::specs::Wishes::best_granting, crate::specs::Instead::IsInstead))]
 fn look_for(alloc: Global, wished: &Wished<'_>, budget: &mut Budget) -> Result<Instead, PairFault>
-    requires greatest { shape_of wished.now.context.now.facts wished.now.context.now.reached wished.now.context.now.lower ≡ Some wished.now.shape }
+    requires greatest { shape_of wished.now.context.now.facts wished.now.context.now.reached
+        wished.now.context.now.lower ≡ Some wished.now.shape }
     requires within { budget.old.used ≤ budget.old.limit }
-    ensures { IfOk result (IsInstead wished.now.context.now.facts wished.now.context.now.reached wished.now.context.now.lower wished.now.shape wished.now.wish budget.old.limit) }
+    ensures { IfOk result (IsInstead wished.now.context.now.facts wished.now.context.now.reached
+        wished.now.context.now.lower wished.now.shape wished.now.wish budget.old.limit) }
 {
     let wish = Some(wished.wish);
     match best_of(alloc, wished.context, wished.shape, wish, budget)? {
@@ -238,9 +259,9 @@ fn look_for(alloc: Global, wished: &Wished<'_>, budget: &mut Budget) -> Result<I
     }
 }
 
-/// What would stand in a bracket in place of what is chosen there, were a wish granted: the best candidate of its shape that grants it and
-/// can be chosen (B.8, C.4), or why there is none. The wish names players by their numbers in the bracket; no candidate pairs a number that
-/// the bracket has not. The search has a budget of its own, of `limit` steps.
+/// What would stand in a bracket in place of what is chosen there, were a wish granted: the best candidate of its shape
+/// that grants it and can be chosen (B.8, C.4), or why there is none. The wish names players by their numbers in the
+/// bracket; no candidate pairs a number that the bracket has not. The search has a budget of its own, of `limit` steps.
 pub fn best_instead(
     alloc: Global,
     field: &Field,
@@ -249,9 +270,10 @@ pub fn best_instead(
     limit: u64,
 ) -> Result<Instead, PairFault>
     requires { IsStage field.now stage.now }
-    ensures { IfOk result (IsInstead field.now stage.now.reached (lower_of field.now stage.now.reached) stage.now.shape wish limit) }
+    ensures { IfOk result (IsInstead field.now stage.now.reached
+        (lower_of field.now stage.now.reached) stage.now.shape wish limit) }
 {
-    let lower = stage.reached().lower(field);
+    let lower = lower_of(field, stage.reached());
     let context = Context::new(alloc, field, stage.reached(), &lower);
     let wished = Wished {
         context: &context,

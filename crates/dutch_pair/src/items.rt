@@ -1,117 +1,25 @@
-// The items of a quality one by one (C.04.3 C.6 to C.19): the first in which two qualities differ, and the players whom each counts.
+// The players whom each item of a quality counts (C.04.3 C.8 to C.15).
 ghost use Rattle.std.specs.Prelude.{◌≡◌, ◌+◌, ◌*◌, ◌<◌, ◌≤◌, [], if◌then◌else◌, length, map, filter};
 ghost use Rattle.arrayvec.specs.ArrayVec.{array_vec_len};
 ghost use Rattle.dutch_player.specs.declared.float.Float.TheVariants.{Up, Down};
-ghost use Rattle.dutch_pair.specs.Items.{compared_in, counted, first_difference, only_if, seats_of, those_in, those_in_pairs, those_with_topscorers, who_counts};
+ghost use Rattle.dutch_bracket.specs.Items.{counted, only_if, seats_of, those_in, those_in_pairs};
+ghost use Rattle.dutch_bracket.specs.Items.{those_with_topscorers, who_counts};
 ghost use Rattle.dutch_pair.specs.Outcomes.{IsStage};
-ghost use Rattle.dutch_pair.specs.Quality.{again, has_topscorer, highest_first, misses, placed_all};
-ghost use Rattle.dutch_pair.specs.QualityIn.{quality_in};
-ghost use Rattle.dutch_pair.specs.Seated.{AllPairs, AreSeats, HasSeats, floats_down, goes, going_down, going_up, is_uneven};
+ghost use Rattle.dutch_bracket.specs.Quality.{again, has_topscorer, highest_first, misses, placed_all};
+ghost use Rattle.dutch_bracket.specs.QualityIn.{quality_in};
+ghost use Rattle.dutch_bracket.specs.Seated.{AllPairs, AreSeats, HasSeats, floats_down, goes, going_down, going_up};
+ghost use Rattle.dutch_bracket.specs.Seated.{is_uneven};
 
-use crate::colours_missed::{Miss, has_topscorer, misses};
-use crate::differences::put;
-use crate::floats::is_float;
-use crate::quality::Quality;
-use crate::reached::Seats;
-use crate::seated::{Pair, Seated, by_seats, goes, is_uneven};
 use crate::stage::Stage;
+use dutch_bracket::colours_missed::{Miss, has_topscorer, misses};
+use dutch_bracket::differences::put;
+use dutch_bracket::floats::is_float;
+use dutch_bracket::item::Item;
+use dutch_bracket::reached::Seats;
+use dutch_bracket::seated::{Pair, Seated, by_seats, goes, is_uneven};
 use dutch_order::LIMIT;
 use dutch_player::{Field, Float};
-use std::cmp::Ordering;
 use trf16::Colour;
-
-/// An item of a quality, in the order in which the items count.
-#[derive(Debug, Clone, Copy, PartialEq, Eq)]
-pub enum Item {
-    /// The PSD (C.6).
-    Psd,
-    /// The pairs of the next bracket, and the least PSD with as many pairs (C.7).
-    NextBracket,
-    /// Players in pairs with a topscorer who get a colour difference over +2 or under -2 (C.8).
-    WideDifferences,
-    /// Players in pairs with a topscorer who get the colour of their last two games (C.9).
-    ThirdColours,
-    /// Players in pairs who do not get the colour of their preference (C.10).
-    MissedPreferences,
-    /// Players in pairs who do not get the colour of a strong preference (C.11).
-    MissedStrong,
-    /// Players who go down and had a downfloat in the last round (C.12).
-    DownAgain,
-    /// Players who go up and had an upfloat in the last round (C.13).
-    UpAgain,
-    /// Players who go down and had a downfloat in the round before the last (C.14).
-    DownAgainBefore,
-    /// Players who go up and had an upfloat in the round before the last (C.15).
-    UpAgainBefore,
-    /// The differences of the players of C.12 (C.16).
-    DownAgainBy,
-    /// The differences of the players of C.13 (C.17).
-    UpAgainBy,
-    /// The differences of the players of C.14 (C.18).
-    DownAgainBeforeBy,
-    /// The differences of the players of C.15 (C.19).
-    UpAgainBeforeBy,
-}
-
-/// All items in the order in which they count.
-pub const ITEMS: [Item; 14] = [
-    Item::Psd,
-    Item::NextBracket,
-    Item::WideDifferences,
-    Item::ThirdColours,
-    Item::MissedPreferences,
-    Item::MissedStrong,
-    Item::DownAgain,
-    Item::UpAgain,
-    Item::DownAgainBefore,
-    Item::UpAgainBefore,
-    Item::DownAgainBy,
-    Item::UpAgainBy,
-    Item::DownAgainBeforeBy,
-    Item::UpAgainBeforeBy,
-];
-
-impl Quality {
-    /// How it compares with another one by an item alone: `Less` is in front.
-    fn compared_in(&self, other: &Quality, item: Item) -> Ordering
-        ensures { result ≡ compared_in item (quality_in self.now) (quality_in other.now) }
-    {
-        match item {
-            Item::Psd => self.psd().cmp(other.psd()),
-            Item::NextBracket => {
-                let by_pairs = other.next_pairs().cmp(&self.next_pairs());
-                by_pairs.then(self.next_psd().cmp(other.next_psd()))
-            }
-            Item::WideDifferences => self.wide_differences().cmp(&other.wide_differences()),
-            Item::ThirdColours => self.third_colours().cmp(&other.third_colours()),
-            Item::MissedPreferences => self.missed_preferences().cmp(&other.missed_preferences()),
-            Item::MissedStrong => self.missed_strong().cmp(&other.missed_strong()),
-            Item::DownAgain => self.down_again().cmp(&other.down_again()),
-            Item::UpAgain => self.up_again().cmp(&other.up_again()),
-            Item::DownAgainBefore => self.down_again_before().cmp(&other.down_again_before()),
-            Item::UpAgainBefore => self.up_again_before().cmp(&other.up_again_before()),
-            Item::DownAgainBy => self.down_again_by().cmp(other.down_again_by()),
-            Item::UpAgainBy => self.up_again_by().cmp(other.up_again_by()),
-            Item::DownAgainBeforeBy => self
-                .down_again_before_by()
-                .cmp(other.down_again_before_by()),
-            Item::UpAgainBeforeBy => self.up_again_before_by().cmp(other.up_again_before_by()),
-        }
-    }
-
-    /// The first item in which it differs from another one; none if all are equal (C.6 to C.19).
-    #[tactic(auto, using(crate::proofs::ItemOrder::none_to_come))]
-    pub fn first_difference(&self, other: &Quality) -> Option<Item>
-        ensures { result ≡ first_difference (quality_in self.now) (quality_in other.now) }
-    {
-        for item in ITEMS {
-            if self.compared_in(other, item).is_ne() {
-                return Some(item);
-            }
-        }
-        None
-    }
-}
 
 /// Puts a seat to its place if something holds, the highest number first.
 fn put_if(holds: bool, seat: u16, seats: &mut Seats)
@@ -125,7 +33,7 @@ fn put_if(holds: bool, seat: u16, seats: &mut Seats)
 }
 
 /// Puts those of the players of a pair who miss so to their places.
-#[tactic(auto, using(crate::proofs::Places::placed_all_append), unfolding(crate::specs::Items::those_in))]
+#[tactic(auto, using(dutch_bracket::proofs::Places::placed_all_append), unfolding(dutch_bracket::specs::Items::those_in))]
 fn put_pair(field: &Field, miss: Miss, pair: Pair, seats: &mut Seats)
     requires first { pair.0 < length field.now.seats }
     requires second { pair.1 < length field.now.seats }
@@ -143,7 +51,9 @@ fn put_if_topscorer(field: &Field, miss: Miss, pair: Pair, seats: &mut Seats)
     requires first { pair.0 < length field.now.seats }
     requires second { pair.1 < length field.now.seats }
     requires room { array_vec_len seats.old + 2 ≤ LIMIT }
-    ensures items { seats.new.items ≡ placed_all seats.old.items (if has_topscorer field.now pair then those_in field.now (misses miss) pair else []) }
+    ensures items { seats.new.items
+        ≡ placed_all seats.old.items
+        (if has_topscorer field.now pair then those_in field.now (misses miss) pair else []) }
     ensures len { array_vec_len seats.new ≤ array_vec_len seats.old + 2 }
 {
     if has_topscorer(field, pair) {
@@ -210,12 +120,13 @@ fn put_down_again(field: &Field, least: u16, back: u8, down: &[u16], seats: &mut
 }
 
 /// Fills a list with those who go down and had a downfloat in the last round (1) or in the one before it (2).
-#[tactic(auto, using(crate::proofs::ItemSeats::seats_again), unfolding(crate::specs::Seated::going_down))]
+#[tactic(auto, using(crate::proofs::ItemSeats::seats_again), unfolding(dutch_bracket::specs::Seated::going_down))]
 fn fill_going_down(field: &Field, back: u8, candidate: &Seated, seats: &mut Seats)
     requires inside { HasSeats field.now candidate.now }
     requires one { 1 ≤ back }
     requires two { back ≤ 2 }
-    ensures { seats.new.items ≡ highest_first (seats_of (again field.now Down back (going_down field.now candidate.now))) }
+    ensures { seats.new.items
+        ≡ highest_first (seats_of (again field.now Down back (going_down field.now candidate.now))) }
 {
     seats.clear();
     put_again(field, Float::Down, back, &candidate.pairs, seats);
@@ -223,7 +134,7 @@ fn fill_going_down(field: &Field, back: u8, candidate: &Seated, seats: &mut Seat
 }
 
 /// Fills a list with those of a candidate whom an item counts, the highest number first.
-#[tactic(auto, unfolding(crate::specs::Seated::going_up, crate::specs::Seated::going_down))]
+#[tactic(auto, unfolding(dutch_bracket::specs::Seated::going_up, dutch_bracket::specs::Seated::going_down))]
 fn fill_counted(field: &Field, candidate: &Seated, item: Item, seats: &mut Seats)
     requires inside { HasSeats field.now candidate.now }
     requires few { 2 * length candidate.now.pairs ≤ LIMIT }
@@ -249,7 +160,8 @@ fn fill_counted(field: &Field, candidate: &Seated, item: Item, seats: &mut Seats
     }
 }
 
-/// The players whom an item counts of what is chosen in a bracket (C.8 to C.15): their seats by rank, none for the other items.
+/// The players whom an item counts of what is chosen in a bracket (C.8 to C.15): their seats by rank, none for the
+/// other items.
 #[tactic(auto, using(crate::proofs::WalkEnds::candidate_is, crate::proofs::ItemSeats::pairs_few))]
 pub fn who_counts(field: &Field, stage: &Stage, item: Item) -> Seats
     requires { IsStage field.now stage.now }

@@ -1,57 +1,63 @@
-// Laws over the definitions: of qualities, completable players, shapes, scoregroups, boards and rounds; and laws that give what the
-// calls on a bracket ask for.
-ghost use Rattle.std.specs.Prelude.{◌≡◌, ◌≤◌, ◌⊎◌, ◌↔◌, ℕ, Bool, IfSome, List, ◌++◌, Ok, Option, None, Some, false, length, true};
+// Laws over the definitions: of qualities, completable players, shapes, scoregroups, boards and rounds; and laws that
+// give what the calls on a bracket ask for.
+ghost use Rattle.std.specs.Prelude.{◌≡◌, ◌≤◌, ◌⊎◌, ◌↔◌, ℕ, Bool, IfSome, List, ◌++◌, Ok, Option, None, Some, false};
+ghost use Rattle.std.specs.Prelude.{length, true};
 ghost use Rattle.trf16.specs.declared.limits.TheConstants.{MOST_ROUNDS};
 ghost use Rattle.trf16.specs.Round.{CanBePaired};
 ghost use Rattle.trf16.specs.Sheet.{Sheet};
 ghost use Rattle.trf16.specs.Verdict.{verdict};
 ghost use Rattle.trf16.specs.declared.cell.Colour.{Colour};
-ghost use Rattle.dutch_pair.specs.Quality.{Quality, is_better};
+ghost use Rattle.dutch_bracket.specs.Quality.{Quality, is_better};
 ghost use Rattle.dutch_player.specs.Facts.{Facts, facts_of};
 ghost use Rattle.dutch_player.specs.Laws.{CountFromOne};
 ghost use Rattle.std.specs.List.{AllByRecursion, concat};
 ghost use Rattle.std.specs.Option.{IsSomeAnd};
 ghost use Rattle.dutch_pair.specs.Boards.{AreInOrder, boards, ordered};
-ghost use Rattle.dutch_pair.specs.Groups.{IsScoregroup, NeighboursDiffer};
+ghost use Rattle.dutch_bracket.specs.Groups.{IsScoregroup, NeighboursDiffer};
 ghost use Rattle.dutch_pair.specs.Everybody.{NameEverybodyOnce};
 ghost use Rattle.dutch_order.specs.Arrangements.{Fits, Frame, down};
 ghost use Rattle.dutch_order.specs.Candidates.{Candidate};
 ghost use Rattle.dutch_order.specs.Keys.{IsIn};
 ghost use Rattle.dutch_order.specs.declared.bracket.Shape.{Shape};
 ghost use Rattle.dutch_pair.specs.DeadEnds.{HasNoPairOf, NoTwoMayMeet, PairOut, moved_down};
-ghost use Rattle.dutch_pair.specs.declared.reached.BracketKind.TheVariants.{Collapsed, Penultimate};
-ghost use Rattle.dutch_pair.specs.Eligible.{HasCandidate};
-ghost use Rattle.dutch_pair.specs.Items.{DifferFirstIn, IsInFrontIn, first_difference, players_counted, who_counts};
-ghost use Rattle.dutch_pair.specs.declared.items.Item.{Item};
+ghost use Rattle.dutch_bracket.specs.declared.reached.BracketKind.TheVariants.{Collapsed, Penultimate};
+ghost use Rattle.dutch_bracket.specs.Eligible.{HasCandidate};
+ghost use Rattle.dutch_bracket.specs.Items.{DifferFirstIn, IsInFrontIn, players_counted, who_counts};
+ghost use Rattle.dutch_bracket.specs.Quality.{first_difference};
+ghost use Rattle.dutch_bracket.specs.declared.item.Item.{Item};
 ghost use Rattle.dutch_pair.specs.Lower.{lower_of};
-ghost use Rattle.dutch_pair.specs.NextBracket.{IsOfBracket, IsNext, quality};
+ghost use Rattle.dutch_bracket.specs.NextBracket.{IsOfBracket, IsNext, quality};
 ghost use Rattle.dutch_pair.specs.Outcomes.{IsStage, shown, visit_of};
-ghost use Rattle.dutch_pair.specs.Reached.{IsAbove, Reached, frame_of};
-ghost use Rattle.dutch_pair.specs.Round.{Pairing, Visit, candidates_of, downfloaters, eligible, first_group, round, scoregroups, shape_of};
-ghost use Rattle.dutch_pair.specs.Shapes.{IsGreater, fits, has_member};
-ghost use Rattle.dutch_pair.specs.Completion.{Completable, can_complete, most};
+ghost use Rattle.dutch_bracket.specs.Reached.{IsAbove, Reached, frame_of};
+ghost use Rattle.dutch_bracket.specs.Brackets.{candidates_of, downfloaters, eligible, first_group, scoregroups};
+ghost use Rattle.dutch_bracket.specs.Brackets.{shape_of};
+ghost use Rattle.dutch_pair.specs.Round.{Pairing, Visit, round};
+ghost use Rattle.dutch_bracket.specs.Shapes.{IsGreater, fits, has_member};
+ghost use Rattle.dutch_bracket.specs.Completion.{Completable, can_complete, most};
 
-use crate::reached::Reached;
 use crate::stage::Stage;
+use dutch_bracket::reached::Reached;
 use dutch_order::{Candidate, Shape};
 use dutch_player::Field;
 use dutch_player::laws::scores_do_not_ascend;
 
 /// Of two qualities one is better, or they are the same: a strict and total order.
-#[tactic(auto, using(crate::proofs::QualityOrder::irreflexive, crate::proofs::QualityOrder::transitive, crate::proofs::QualityOrder::total))]
+#[tactic(auto, using(dutch_bracket::proofs::QualityOrder::irreflexive, dutch_bracket::proofs::QualityOrder::transitive, dutch_bracket::proofs::QualityOrder::total))]
 pub fn better_is_an_order()
     ensures irreflexive { (a : Quality) → is_better a a ≡ false }
     ensures transitive { (a b c : Quality) → is_better a b ≡ true → is_better b c ≡ true → is_better a c ≡ true }
     ensures total { (a b : Quality) → (a ≡ b) ⊎ ((is_better a b ≡ true) ⊎ (is_better b a ≡ true)) }
 {}
 
-/// One quality is better than another exactly if it stands in front at the first item in which they differ: they differ in it, and in
-/// none that counts before it. Two that differ in none are the same, and neither is better.
+/// One quality is better than another exactly if it stands in front at the first item in which they differ: they differ
+/// in it, and in none that counts before it. Two that differ in none are the same, and neither is better.
 pub fn better_at_the_first_difference()
-    ensures better { (a b : Quality) → (is_better a b ≡ true) ↔ IsSomeAnd (first_difference a b) (λ item. IsInFrontIn item a b) }
+    ensures better { (a b : Quality)
+        → (is_better a b ≡ true) ↔ IsSomeAnd (first_difference a b) (λ item. IsInFrontIn item a b) }
     ensures first { (a b : Quality) (item : Item) → first_difference a b ≡ Some item → DifferFirstIn item a b }
     ensures none { (a b : Quality) → (first_difference a b ≡ None) ↔ (a ≡ b) }
-    ensures neither { (a b : Quality) → first_difference a b ≡ None → (is_better a b ≡ false) × (is_better b a ≡ false) }
+    ensures neither { (a b : Quality) → first_difference a b ≡ None → (is_better a b ≡ false)
+        × (is_better b a ≡ false) }
 {}
 
 /// Of each candidate of a bracket an item counts as many players as it says (C.8 to C.15).
@@ -78,7 +84,8 @@ pub fn most_of_few()
 
 /// In a round that is paired each present player stands on exactly one board, once, and nobody else does.
 pub fn everybody_is_named_once()
-    ensures { (facts : Facts) (pairing : Pairing) → CountFromOne facts → (round facts).pairing ≡ Some pairing → NameEverybodyOnce facts (boards facts pairing) }
+    ensures { (facts : Facts) (pairing : Pairing) → CountFromOne facts → (round facts).pairing ≡ Some pairing
+        → NameEverybodyOnce facts (boards facts pairing) }
 {}
 
 /// In a round that is paired at most one player has the bye.
@@ -88,36 +95,44 @@ pub fn at_most_one_has_the_bye()
 
 /// No two players who were moved down into a bracket that a round reaches may meet, but in the collapsed one (A.9).
 pub fn no_two_moved_down_may_meet()
-    ensures { (facts : Facts) (visit : Visit) → IsIn visit (round facts).reached → ¬ (visit.bracket.kind ≡ Collapsed) → NoTwoMayMeet facts (moved_down visit.bracket) }
+    ensures { (facts : Facts) (visit : Visit) → IsIn visit (round facts).reached → ¬ (visit.bracket.kind ≡ Collapsed)
+        → NoTwoMayMeet facts (moved_down visit.bracket) }
 {}
 
-/// No list of pairs that pairs out the players whom a penultimate bracket leaves over, with all players below it, has a pair of two whom
-/// the bracket leaves over (A.9).
+/// No list of pairs that pairs out the players whom a penultimate bracket leaves over, with all players below it, has a
+/// pair of two whom the bracket leaves over (A.9).
 pub fn no_two_left_by_the_penultimate_are_paired(field: &Field)
-    ensures { (visit : Visit) (pairs : List (ℕ × ℕ)) → IsIn visit (round field.now).reached → visit.bracket.kind ≡ Penultimate
+    ensures { (visit : Visit) (pairs : List (ℕ × ℕ)) → IsIn visit (round field.now).reached
+        → visit.bracket.kind ≡ Penultimate
         → PairOut field.now (downfloaters field.now visit.bracket visit.lists ++ lower_of field.now visit.bracket) pairs
         → HasNoPairOf (downfloaters field.now visit.bracket visit.lists) pairs }
 {
     scores_do_not_ascend(field);
 }
 
-/// The boards of a round can be the next round of the accepted report that it is paired from, if a total of rounds that is asked
-/// for is within the limit.
+/// The boards of a round can be the next round of the accepted report that it is paired from, if a total of rounds that
+/// is asked for is within the limit.
 pub fn boards_can_be_the_next_round()
-    ensures { (bytes : List ℕ) (bye : ℕ) (sheet : Sheet) (asked : Option ℕ) (initial : Option Colour) (facts : Facts) (pairing : Pairing)
-        → verdict bytes bye ≡ Ok sheet → IfSome asked (λ total. total ≤ MOST_ROUNDS) → facts_of sheet asked initial ≡ Ok facts → (round facts).pairing ≡ Some pairing
+    ensures { (bytes : List ℕ) (bye : ℕ) (sheet : Sheet) (asked : Option ℕ) (initial : Option Colour) (facts : Facts)
+        (pairing : Pairing)
+        → verdict bytes bye ≡ Ok sheet → IfSome asked (λ total. total ≤ MOST_ROUNDS)
+        → facts_of sheet asked initial ≡ Ok facts → (round facts).pairing ≡ Some pairing
         → CanBePaired (boards facts pairing) sheet }
 {}
 
-/// The shape of a bracket has room in it and a candidate that can be chosen, and no shape with room and such a candidate is greater;
-/// if the bracket has no shape, no shape has both (C.5, B.1).
+/// The shape of a bracket has room in it and a candidate that can be chosen, and no shape with room and such a
+/// candidate is greater; if the bracket has no shape, no shape has both (C.5, B.1).
 pub fn the_shape_is_the_greatest()
-    ensures room { (facts : Facts) (reached : Reached) (lower : List ℕ) (s : Shape) → shape_of facts reached lower ≡ Some s → Fits (frame_of facts reached) s }
-    ensures candidate { (facts : Facts) (reached : Reached) (lower : List ℕ) (s : Shape) → shape_of facts reached lower ≡ Some s
+    ensures room { (facts : Facts) (reached : Reached) (lower : List ℕ) (s : Shape)
+        → shape_of facts reached lower ≡ Some s → Fits (frame_of facts reached) s }
+    ensures candidate { (facts : Facts) (reached : Reached) (lower : List ℕ) (s : Shape)
+        → shape_of facts reached lower ≡ Some s
         → has_member (eligible facts reached lower s) ≡ true }
-    ensures greatest { (facts : Facts) (reached : Reached) (lower : List ℕ) (s t : Shape) → shape_of facts reached lower ≡ Some s
+    ensures greatest { (facts : Facts) (reached : Reached) (lower : List ℕ) (s t : Shape)
+        → shape_of facts reached lower ≡ Some s
         → Fits (frame_of facts reached) t → has_member (eligible facts reached lower t) ≡ true → ¬ IsGreater t s }
-    ensures none { (facts : Facts) (reached : Reached) (lower : List ℕ) (t : Shape) → shape_of facts reached lower ≡ None
+    ensures none { (facts : Facts) (reached : Reached) (lower : List ℕ) (t : Shape)
+        → shape_of facts reached lower ≡ None
         → Fits (frame_of facts reached) t → ¬ (has_member (eligible facts reached lower t) ≡ true) }
 {}
 
@@ -126,9 +141,11 @@ pub fn room_by_test()
     ensures { (frame : Frame) (shape : Shape) → Fits frame shape ↔ (fits frame shape ≡ true) }
 {}
 
-/// The scoregroups of seats: each is of one score, neighbours have different scores, and one behind the other they are all seats (A.3).
+/// The scoregroups of seats: each is of one score, neighbours have different scores, and one behind the other they are
+/// all seats (A.3).
 pub fn scoregroups_part_the_seats()
-    ensures one_score { (facts : Facts) (seats : List ℕ) → AllByRecursion (IsScoregroup facts) (scoregroups facts seats) }
+    ensures one_score { (facts : Facts) (seats : List ℕ)
+        → AllByRecursion (IsScoregroup facts) (scoregroups facts seats) }
     ensures differ { (facts : Facts) (seats : List ℕ) → NeighboursDiffer facts (scoregroups facts seats) }
     ensures all { (facts : Facts) (seats : List ℕ) → concat (scoregroups facts seats) ≡ seats }
 {}
@@ -138,8 +155,8 @@ pub fn boards_stand_in_order()
     ensures { (facts : Facts) (pairs : List (ℕ × ℕ)) → AreInOrder facts (ordered facts pairs) }
 {}
 
-/// A bracket of a round stands above the players below it, and above them it has its shape: whoever has asked for the bracket can ask
-/// for its choice.
+/// A bracket of a round stands above the players below it, and above them it has its shape: whoever has asked for the
+/// bracket can ask for its choice.
 pub fn a_bracket_stands_above_the_lower(field: &Field, number: u16, reached: &Reached, shape: Shape)
     requires { shown (visit_of number (round field.now).reached) ≡ Some (reached.now, shape) }
     ensures above { IsAbove field.now reached.now (lower_of field.now reached.now) }
@@ -150,14 +167,15 @@ pub fn a_bracket_stands_above_the_lower(field: &Field, number: u16, reached: &Re
 }
 
 /// The first scoregroup of the players below a bracket is the next one for its quality.
-#[tactic(auto, using(crate::proofs::NextGroups::first_is_next))]
+#[tactic(auto, using(dutch_bracket::proofs::NextGroups::first_is_next))]
 pub fn the_first_scoregroup_is_next(field: &Field, reached: &Reached, lower: &[u16])
     requires { IsAbove field.now reached.now lower.now }
     ensures { IsNext field.now reached.now (first_group field.now (scoregroups field.now lower.now)) }
 {}
 
-/// The bracket of a stage of a round stands above the players below it, and above them it has its shape and a candidate. So whoever has
-/// asked for the stages can ask for the choice in it, and for the quality of each of its candidates.
+/// The bracket of a stage of a round stands above the players below it, and above them it has its shape and a
+/// candidate. So whoever has asked for the stages can ask for the choice in it, and for the quality of each of its
+/// candidates.
 pub fn a_stage_stands_above_the_lower(field: &Field, stage: &Stage)
     requires { IsStage field.now stage.now }
     ensures above { IsAbove field.now stage.now.reached (lower_of field.now stage.now.reached) }

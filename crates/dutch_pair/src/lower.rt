@@ -1,12 +1,12 @@
 // The players below a bracket that a round reaches (C.04.3 A.3).
 ghost use Rattle.std.specs.Prelude.{◌≡◌, ◌<◌, ◌≤◌, filter, length};
 ghost use Rattle.dutch_order.specs.declared.numbers.TheConstants.{LIMIT};
-ghost use Rattle.dutch_pair.specs.Seated.{AreSeats};
-ghost use Rattle.dutch_pair.specs.Reached.{IsOf};
+ghost use Rattle.dutch_bracket.specs.Seated.{AreSeats};
+ghost use Rattle.dutch_bracket.specs.Reached.{IsOf};
 ghost use Rattle.dutch_pair.specs.Lower.{is_below, lower_of};
 
-use crate::reached::{Reached, Seats};
 use crate::walk::everybody;
+use dutch_bracket::reached::{Reached, Seats};
 use dutch_player::Field;
 
 /// Whether a seat's score is lower than each of some seats.
@@ -41,14 +41,12 @@ fn those_below(field: &Field, seats: &[u16], all: &[u16]) -> Seats
     lower
 }
 
-impl Reached {
-    /// The seats of the present players with a lower score than all of the bracket, by rank, for the field that it comes from.
-    /// There may be none.
-    #[tactic(auto, using(crate::proofs::LowerLemmas::everybody_inside, crate::proofs::GroupWalk::everybody_few))]
-    pub fn lower(&self, field: &Field) -> Seats
-        requires { IsOf field.now self.now }
-        ensures { result.items ≡ lower_of field.now self.now }
-    {
-        those_below(field, &self.seats, &everybody(field))
-    }
+/// The seats of the present players with a lower score than all of a bracket, by rank, for the field that it comes
+/// from. There may be none.
+#[tactic(auto, using(crate::proofs::LowerLemmas::everybody_inside, crate::proofs::GroupWalk::everybody_few))]
+pub fn lower_of(field: &Field, reached: &Reached) -> Seats
+    requires { IsOf field.now reached.now }
+    ensures { result.items ≡ lower_of field.now reached.now }
+{
+    those_below(field, reached.seats(), &everybody(field))
 }

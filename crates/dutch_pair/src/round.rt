@@ -3,10 +3,10 @@ ghost use Rattle.std.specs.Prelude.{◌≡◌, IfOk};
 ghost use Rattle.dutch_pair.specs.Outcomes.{AreStages, IsOutcome, IsBracketAt, TellsCompletion, TellsCompletionAt};
 
 use crate::boards::{Board, boards};
-use crate::fault::PairFault;
-use crate::reached::{Reached, Seats};
 use crate::stage::Stage;
 use crate::walk::{Turn, Walk, everybody};
+use dutch_bracket::fault::PairFault;
+use dutch_bracket::reached::{Reached, Seats};
 use dutch_order::{Budget, Shape, Stopped};
 use dutch_player::Field;
 use std::alloc::Global;
@@ -75,8 +75,8 @@ pub fn pair_round(alloc: Global, field: &Field, limit: u64) -> Result<Outcome, P
     }
 }
 
-/// The bracket of a number, counted from 1 as the round reaches them, and its shape. No bracket has the number 0. Each bracket may make
-/// so many steps.
+/// The bracket of a number, counted from 1 as the round reaches them, and its shape. No bracket has the number 0. Each
+/// bracket may make so many steps.
 #[tactic(auto, using(crate::proofs::NoDeadEnd::all_complete, crate::proofs::NoDeadEnd::not_complete, crate::proofs::NoDeadEnd::not_paired, crate::proofs::NoDeadEnd::nothing_reached))]
 pub fn bracket_at(
     alloc: Global,

@@ -3,22 +3,22 @@ ghost use Rattle.std.specs.Prelude.{◌≡◌, ◌≤◌, ◌++◌, false, lengt
 ghost use Rattle.std.specs.List.{AllByRecursion};
 ghost use Rattle.std.specs.Option.{MatchOption};
 ghost use Rattle.dutch_order.specs.Steps.{Spends};
-ghost use Rattle.dutch_pair.specs.Boards.{IsPair};
-ghost use Rattle.dutch_pair.specs.Eligible.{HasCandidate};
-ghost use Rattle.dutch_pair.specs.Reached.{IsAbove};
-ghost use Rattle.dutch_pair.specs.Round.{completable};
-ghost use Rattle.dutch_pair.specs.Seated.{AllNumbers, seat_of};
+ghost use Rattle.dutch_bracket.specs.Seated.{IsPair};
+ghost use Rattle.dutch_bracket.specs.Eligible.{HasCandidate};
+ghost use Rattle.dutch_bracket.specs.Reached.{IsAbove};
+ghost use Rattle.dutch_bracket.specs.Brackets.{completable};
+ghost use Rattle.dutch_bracket.specs.Seated.{AllNumbers, seat_of};
 ghost use Rattle.dutch_pair.specs.Outcomes.{IsStage};
-ghost use Rattle.dutch_pair.specs.Stops.{Decides};
+ghost use Rattle.dutch_bracket.specs.Stops.{Decides};
 ghost use Rattle.dutch_pair.specs.Stages.{IsSettled, is_again, own_pairs};
 
-use crate::choice::{Choice, choose_in};
-use crate::context::Context;
-use crate::eligible::leaves_completable;
-use crate::fault::PairFault;
-use crate::quality::Quality;
-use crate::reached::{BracketKind, Reached, Seats};
-use crate::seated::{Pair, by_seats};
+use dutch_bracket::context::Context;
+use dutch_bracket::eligible::leaves_completable;
+use dutch_bracket::fault::PairFault;
+use dutch_bracket::quality::Quality;
+use dutch_bracket::reached::{BracketKind, Reached, Seats};
+use dutch_bracket::seated::{Pair, by_seats};
+use dutch_choice::choice::{Choice, choose_in};
 use dutch_order::{Budget, Candidate, Shape, Stopped};
 use dutch_player::Field;
 use std::alloc::Global;
@@ -34,7 +34,8 @@ pub struct Stage {
     pub(crate) again: bool,
 }
 
-/// Whether a bracket is paired again (C.4): an ordinary one, if those whom it leaves over cannot be paired out with all lower players.
+/// Whether a bracket is paired again (C.4): an ordinary one, if those whom it leaves over cannot be paired out with all
+/// lower players.
 fn is_again(
     context: &Context<'_>,
     candidate: &Candidate,
@@ -44,7 +45,8 @@ fn is_again(
     requires few { length candidate.now.down ≤ length context.now.reached.seats }
     requires within { budget.old.used ≤ budget.old.limit }
     ensures answer { Decides result (is_again context.now.reached.kind
-        (completable context.now.facts (map (seat_of context.now.reached.seats) candidate.now.down ++ context.now.lower)))
+        (completable context.now.facts
+        (map (seat_of context.now.reached.seats) candidate.now.down ++ context.now.lower)))
         (budget.new.used ≡ budget.new.limit) }
     ensures spends { Spends budget.old budget.new }
 {
@@ -57,7 +59,8 @@ fn is_again(
     }
 }
 
-/// Settles a bracket that has a candidate. None says that the budget's limit was reached first, by its choice or by the test behind it.
+/// Settles a bracket that has a candidate. None says that the budget's limit was reached first, by its choice or by the
+/// test behind it.
 pub(crate) fn settle(
     alloc: Global,
     field: &Field,

@@ -1,27 +1,28 @@
-// The walk over the brackets of a round, from the highest scoregroup down (C.04.3 A.3, A.9), specified by the round from where it
-// stands on.
+// The walk over the brackets of a round, from the highest scoregroup down (C.04.3 A.3, A.9), specified by the round
+// from where it stands on.
 //
-// Whatever bracket comes next, its players and all lower ones can be paired out, and no two of those moved down may meet. So each bracket
-// has a candidate that can be chosen, and at the end of the walk at most one player is left over.
+// Whatever bracket comes next, its players and all lower ones can be paired out, and no two of those moved down may
+// meet. So each bracket has a candidate that can be chosen, and at the end of the walk at most one player is left over.
 ghost use Rattle.std.specs.Prelude.{◌≡◌, ◌+◌, ◌<◌, ◌≤◌, true, false, [], length, IfOk, Some};
 ghost use Rattle.dutch_order.specs.Arrangements.{Fits};
 ghost use Rattle.std.specs.Result.{MatchResult};
 ghost use Rattle.dutch_order.specs.Steps.{MatchFound, Spends};
-ghost use Rattle.dutch_pair.specs.Eligible.{HasCandidate};
-ghost use Rattle.dutch_pair.specs.Reached.{IsAbove, frame_of};
-ghost use Rattle.dutch_pair.specs.Round.{everybody, round, brackets, completable, scoregroups, paired_again, shape_of};
+ghost use Rattle.dutch_bracket.specs.Eligible.{HasCandidate};
+ghost use Rattle.dutch_bracket.specs.Reached.{IsAbove, frame_of};
+ghost use Rattle.dutch_bracket.specs.Brackets.{completable, scoregroups, shape_of};
+ghost use Rattle.dutch_pair.specs.Round.{everybody, round, brackets, paired_again};
 ghost use Rattle.dutch_pair.specs.Walk.{Goes};
 ghost use Rattle.dutch_pair.specs.WaysOut.{GoesOut, StandsBefore};
 ghost use Rattle.dutch_pair.specs.Stages.{GoesOn, IsBehindIn, IsSettled, Shows, group_kind};
 
-use crate::context::Context;
-use crate::eligible::can_complete;
-use crate::fault::PairFault;
-use crate::group::split_first_group;
-use crate::reached::{BracketKind, Reached, Seats, bracket, copied};
-use crate::seated::seats_of;
-use crate::shape::shape_of;
 use crate::stage::{Stage, settle};
+use dutch_bracket::context::Context;
+use dutch_bracket::eligible::can_complete;
+use dutch_bracket::fault::PairFault;
+use dutch_bracket::group::split_first_group;
+use dutch_bracket::reached::{BracketKind, Reached, Seats, bracket, copied};
+use dutch_bracket::seated::seats_of;
+use dutch_bracket::shape::shape_of;
 use dutch_order::{Budget, Shape, Stopped, numbered_from};
 use dutch_player::Field;
 use dutch_player::laws::scores_do_not_ascend;
@@ -60,7 +61,8 @@ impl<'a> Model for Walk<'a> {
 
     ghost Value = { Walk };
 
-    ghost view = { λ w. record { facts = w.field.now; number = w.number; rest = round_from w.field.now w.lower.now w.next } };
+    ghost view = { λ w. record
+        { facts = w.field.now; number = w.number; rest = round_from w.field.now w.lower.now w.next } };
 
     ghost invariant = { λ w. StandsAt w.field.now w.number w.lower.now w.next };
 }
@@ -102,7 +104,8 @@ fn shape_in(context: &Context<'_>, budget: &mut Budget) -> Result<Shape, Stopped
     requires candidate { HasCandidate context.now.facts context.now.reached context.now.lower }
     requires within { budget.old.used ≤ budget.old.limit }
     ensures answer { MatchResult result
-        (λ shape. (shape_of context.now.facts context.now.reached context.now.lower ≡ Some shape) × Fits (frame_of context.now.facts context.now.reached) shape)
+        (λ shape. (shape_of context.now.facts context.now.reached context.now.lower ≡ Some shape)
+        × Fits (frame_of context.now.facts context.now.reached) shape)
         (λ _. budget.new.used ≡ budget.new.limit) }
     ensures spends { Spends budget.old budget.new }
 {
@@ -113,12 +116,18 @@ fn shape_in(context: &Context<'_>, budget: &mut Budget) -> Result<Shape, Stopped
 }
 
 impl<'a> Walk<'a> {
-    /// The walk before the bracket of some moved down and the first scoregroup of the seats that are left, or at the end.
+    /// The walk before the bracket of some moved down and the first scoregroup of the seats that are left, or at the
+    /// end.
     fn before_group(field: &'a Field, number: u16, left: Seats, rest: &'a [u16]) -> Walk<'a>
         requires goes { Goes field.now left.items rest.now }
         requires out { GoesOut field.now left.items rest.now }
         requires small { number + length rest.now ≤ length field.now.seats + 1 }
-        ensures { result ≡ record { facts = field.now; number = number; rest = brackets field.now number left.items (scoregroups field.now rest.now) } }
+        ensures { result ≡ record {
+          facts = field.now;
+          number = number;
+          rest = brackets field.now number left.items
+              (scoregroups field.now rest.now);
+        } }
     {
         scores_do_not_ascend(field);
         if rest.is_empty() {
@@ -178,8 +187,8 @@ impl<'a> Walk<'a> {
         }
     }
 
-    /// A walk over the brackets of the next round. The test of all present players comes first, and counts to the first bracket. The answer
-    /// is none if they cannot be paired out.
+    /// A walk over the brackets of the next round. The test of all present players comes first, and counts to the first
+    /// bracket. The answer is none if they cannot be paired out.
     pub(crate) fn start(
         alloc: Global,
         field: &'a Field,
@@ -189,7 +198,8 @@ impl<'a> Walk<'a> {
         requires all { all.now ≡ everybody field.now }
         requires within { budget.old.used ≤ budget.old.limit }
         ensures answer { MatchFound result
-            (λ walk. (completable field.now (everybody field.now) ≡ true) × (walk ≡ record { facts = field.now; number = 1; rest = round field.now }))
+            (λ walk. (completable field.now (everybody field.now) ≡ true)
+            × (walk ≡ record { facts = field.now; number = 1; rest = round field.now }))
             (completable field.now (everybody field.now) ≡ false)
             (budget.new.used ≡ budget.new.limit) }
         ensures spends { Spends budget.old budget.new }
@@ -208,7 +218,8 @@ impl<'a> Walk<'a> {
         self.number
     }
 
-    /// Settles the bracket that comes next by its choice and the test behind it, and goes behind it, where the budget begins anew.
+    /// Settles the bracket that comes next by its choice and the test behind it, and goes behind it, where the budget
+    /// begins anew.
     pub(crate) fn go_on(&mut self, alloc: Global, budget: &mut Budget) -> Result<Turn, PairFault>
         requires within { budget.old.used ≤ budget.old.limit }
         ensures goes { IfOk result (GoesOn self.old self.new budget.new) }
@@ -228,7 +239,8 @@ impl<'a> Walk<'a> {
         Ok(Turn::Settled(stage))
     }
 
-    /// The bracket that comes next, with its shape; nothing more is asked of it. The answer is none if no bracket comes.
+    /// The bracket that comes next, with its shape; nothing more is asked of it. The answer is none if no bracket
+    /// comes.
     pub(crate) fn bracket(
         &self,
         alloc: Global,

@@ -22,8 +22,8 @@ fn numbers_of(alloc: Global, candidate: &Candidate) -> Result<Vec<u16>, Fail> {
     Ok(numbers)
 }
 
-// The numbers of the first `most` candidates, or of all where there are fewer, where the limit starts at `limit` and rises by one
-// after each Undecided, and the steps that were used.
+// The numbers of the first `most` candidates, or of all where there are fewer, where the limit starts at `limit` and
+// rises by one after each Undecided, and the steps that were used.
 fn listing(
     alloc: Global,
     mut candidates: Candidates<'_, Barred>,
@@ -68,8 +68,8 @@ fn are_listed(
     Ok(ample.as_slice() == numbers && raised.as_slice() == numbers && used == used_again)
 }
 
-// From how many arrangements of the bracket and shape come exactly the legal ones behind them: those of the first `most` that
-// stand before the first one from which others come. `legal` has the numbers of the legal ones.
+// From how many arrangements of the bracket and shape come exactly the legal ones behind them: those of the first
+// `most` that stand before the first one from which others come. `legal` has the numbers of the legal ones.
 fn right_rests(
     alloc: Global,
     bracket: &Bracket,

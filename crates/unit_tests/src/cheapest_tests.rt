@@ -1,5 +1,5 @@
-// Matchings of small graphs with costs, beside the least cost that a table over all sets of vertices gives, and what their certificates
-// show.
+// Matchings of small graphs with costs, beside the least cost that a table over all sets of vertices gives, and what
+// their certificates show.
 ghost use Rattle.std.specs.Prelude.{◌≡◌, get_or};
 
 use cheapest::{Costs, Fault, Found, cheapest};
@@ -66,7 +66,8 @@ fn is_in(set: usize, v: u32) -> bool {
     set.wrapping_shr(v) & 1 == 1
 }
 
-// The least that a set of vertices costs, if that of each set with a smaller number is known: its first vertex is left over, or paired.
+// The least that a set of vertices costs, if that of each set with a smaller number is known: its first vertex is left
+// over, or paired.
 fn least_of(graph: &Graph, known: &[u64], set: usize) -> u64 {
     let v = set.trailing_zeros() as usize;
     let others = set & set.wrapping_sub(1);

@@ -1,4 +1,5 @@
-// Counted readers and writers over memory, and over devices that fail. What they count is seen in their contracts alone.
+// Counted readers and writers over memory, and over devices that fail. What they count is seen in their contracts
+// alone.
 use std::io;
 use std::io::{ErrorKind, Read, Write};
 use trf16::{Counted, Failed, Sink, Source};

@@ -6,8 +6,8 @@ use std::alloc::Global;
 use std::test::Fail;
 use wide::Wide;
 
-// Numbers in fours: 0 to 3, 4 to 7 and so on. Those of one four may meet, and the first of each four may meet everybody. A pair of one four
-// costs `near`, any other 10. One player may be left over, and costs `left`.
+// Numbers in fours: 0 to 3, 4 to 7 and so on. Those of one four may meet, and the first of each four may meet
+// everybody. A pair of one four costs `near`, any other 10. One player may be left over, and costs `left`.
 #[derive(Drop)]
 struct Fours {
     near: u64,
@@ -56,8 +56,9 @@ fn leaving(leaves: u16) -> Fours {
     }
 }
 
-// Ten players: three groups of three, 1 to 3, 5 to 7 and 9 to 11, behind 4, who serves one of them; and 1 may be left over. Labels tell
-// nothing that go past `most`, that join two of the groups (one of six is not odd), or that part players who may meet.
+// Ten players: three groups of three, 1 to 3, 5 to 7 and 9 to 11, behind 4, who serves one of them; and 1 may be left
+// over. Labels tell nothing that go past `most`, that join two of the groups (one of six is not odd), or that part
+// players who may meet.
 #[test]
 fn three_groups_behind_one_blocker(rt: HostRuntime) {
     let ten = [1, 2, 3, 4, 5, 6, 7, 9, 10, 11];
@@ -76,8 +77,8 @@ fn three_groups_behind_one_blocker(rt: HostRuntime) {
     }
 }
 
-// Two odd groups, 1 to 3 and 5, behind 4: too many, unless one of an odd group may be left over. The one group without 5 is served; it is
-// not without 4 either, unless one of it may be left over.
+// Two odd groups, 1 to 3 and 5, behind 4: too many, unless one of an odd group may be left over. The one group without
+// 5 is served; it is not without 4 either, unless one of it may be left over.
 #[test]
 fn who_may_be_left_over_decides(rt: HostRuntime) {
     let labels = [0, 1, 1, 1, 0, 2];
@@ -98,8 +99,8 @@ fn who_may_be_left_over_decides(rt: HostRuntime) {
     }
 }
 
-// Those that are none have one mistake each: two who may not meet, one left over who may not be, one twice, one twice in pairs, nobody left
-// over, one who is no player.
+// Those that are none have one mistake each: two who may not meet, one left over who may not be, one twice, one twice
+// in pairs, nobody left over, one who is no player.
 #[test]
 fn witnesses_of_five(rt: HostRuntime) {
     let five = [1, 2, 3, 4, 5];
@@ -168,8 +169,8 @@ fn number(value: u64) -> Option<Wide> {
 
 const THREE: [bool; 4] = [false, true, true, true];
 
-// Of 1, 2 and 3 one has to meet 4, and that costs 10; 5 and 6 meet, and that costs nothing. Each two of the three bear 20 by the price of
-// their set, and only one pair pays it.
+// Of 1, 2 and 3 one has to meet 4, and that costs 10; 5 and 6 meet, and that costs nothing. Each two of the three bear
+// 20 by the price of their set, and only one pair pays it.
 #[test]
 fn a_priced_set_of_three(rt: HostRuntime) -> Result<(), Fail> {
     let six = [1, 2, 3, 4, 5, 6];
@@ -193,8 +194,9 @@ fn a_priced_set_of_four(rt: HostRuntime) -> Result<(), Fail> {
     Ok(())
 }
 
-// Each pair that is known adds what it costs, less its potentials, and the price of the set that it is inside. Two who may not meet add
-// nothing, and nobody does who is not in the table. Without those left over they add as much, and who is left over adds nothing.
+// Each pair that is known adds what it costs, less its potentials, and the price of the set that it is inside. Two who
+// may not meet add nothing, and nobody does who is not in the table. Without those left over they add as much, and who
+// is left over adds nothing.
 #[test]
 fn known_pairs_bring_their_slack(rt: HostRuntime) -> Result<(), Fail> {
     let six = [1, 2, 3, 4, 5, 6];
@@ -229,7 +231,8 @@ fn known_pairs_bring_their_slack(rt: HostRuntime) -> Result<(), Fail> {
     Ok(())
 }
 
-// 1 meets 2, for 4, and 3 is left over. A potential of 7 is more than the 6 that it may cost to leave 3 over, unless 1 more is given.
+// 1 meets 2, for 4, and 3 is left over. A potential of 7 is more than the 6 that it may cost to leave 3 over, unless 1
+// more is given.
 #[test]
 fn one_is_left_over(rt: HostRuntime) -> Result<(), Fail> {
     let three = [1, 2, 3];
@@ -301,8 +304,9 @@ fn sums(floor: &Option<Floor>) -> Option<(Wide, Wide)> {
     }
 }
 
-// 1, 2 and 3 meet each other for 4, and meet 4 for 10; to leave 3 over costs 2. A certificate that gives a pair 10, and a player left over 5,
-// gains 34 of the four and owes 20, whether nobody is left over or two are; of 1, 2 and 3 it gains 21 and owes 15.
+// 1, 2 and 3 meet each other for 4, and meet 4 for 10; to leave 3 over costs 2. A certificate that gives a pair 10, and
+// a player left over 5, gains 34 of the four and owes 20, whether nobody is left over or two are; of 1, 2 and 3 it
+// gains 21 and owes 15.
 #[test]
 fn as_much_is_owed_however_many_are_left_over(rt: HostRuntime) -> Result<(), Fail> {
     let four = [1, 2, 3, 4];
@@ -325,7 +329,8 @@ fn as_much_is_owed_however_many_are_left_over(rt: HostRuntime) -> Result<(), Fai
     Ok(())
 }
 
-// One that gives a pair more or less than twice what it gives a player left over is a floor where nobody is left over, but none for any number.
+// One that gives a pair more or less than twice what it gives a player left over is a floor where nobody is left over,
+// but none for any number.
 #[test]
 fn what_gives_unevenly_is_no_floor_for_any_number(rt: HostRuntime) -> Result<(), Fail> {
     let four = [1, 2, 3, 4];

@@ -1,5 +1,5 @@
-// Tests of the public calls of the crates below the command line, called as their callers do, each that takes memory once with enough of
-// it. They stand in a crate of their own, since a crate with tests is proved twice.
+// Tests of the public calls of the crates below a bracket, called as their callers do, each that takes memory once with
+// enough of it. They stand in a crate of their own, since a crate with tests is proved twice.
 #![tactic(auto)]
 
 #[cfg(test)]
@@ -15,19 +15,11 @@ mod device_tests;
 #[cfg(test)]
 mod dual_tests;
 #[cfg(test)]
-mod lines;
-#[cfg(test)]
 mod matching_tests;
 #[cfg(test)]
 mod order_tests;
 #[cfg(test)]
-mod pairing_tests;
-#[cfg(test)]
 mod player_tests;
-#[cfg(test)]
-mod quality_tests;
-#[cfg(test)]
-mod remembered_tests;
 #[cfg(test)]
 mod report_tests;
 #[cfg(test)]

@@ -34,7 +34,8 @@ impl Graph for Edges<'_> {
 // More steps than any test makes.
 const AMPLE: u64 = 1_000_000;
 
-// The most edges of which no two meet, nor one that is taken: each edge is left out, and tried where it can be. Taken vertices are ones.
+// The most edges of which no two meet, nor one that is taken: each edge is left out, and tried where it can be. Taken
+// vertices are ones.
 fn most_pairs(edges: &[(u16, u16)], taken: u64) -> usize
     ensures { result ≤ length edges.now }
 {
@@ -49,8 +50,8 @@ fn most_pairs(edges: &[(u16, u16)], taken: u64) -> usize
     without.max(1 + most_pairs(others, taken | ends))
 }
 
-// Whether labels show that no matching leaves fewer alone: no edge joins two groups, and more groups are odd than there are blockers, by
-// as many as are alone. Each number from 1 to the greatest is that of a group.
+// Whether labels show that no matching leaves fewer alone: no edge joins two groups, and more groups are odd than there
+// are blockers, by as many as are alone. Each number from 1 to the greatest is that of a group.
 fn is_shown(edges: &[(u16, u16)], found: &Found) -> bool {
     let labels = &found.labels;
     let alone = found.partners.iter().filter(|o| o.is_none()).count();
@@ -72,7 +73,8 @@ fn found_of(alloc: Global, size: u16, edges: &[(u16, u16)]) -> Result<Found, Fai
     Ok(greatest(alloc, &Edges { size, edges }, &mut left)?)
 }
 
-// How many pairs are found, if the labels show that there are no more, and a search over all sets of edges finds as many.
+// How many pairs are found, if the labels show that there are no more, and a search over all sets of edges finds as
+// many.
 fn pairs_of(alloc: Global, size: u16, edges: &[(u16, u16)]) -> Result<Option<usize>, Fail> {
     let found = found_of(alloc, size, edges)?;
     let paired = found.partners.iter().filter(|o| o.is_some()).count();
@@ -80,8 +82,8 @@ fn pairs_of(alloc: Global, size: u16, edges: &[(u16, u16)]) -> Result<Option<usi
     Ok(is_right.then_some(paired / 2))
 }
 
-// Each with its number of vertices and of pairs: a triangle with a tail, and a circle of five with two tails, whose pairs are found by
-// folding a circle; the graph of Petersen; a star; two triangles; no vertex, and no edge.
+// Each with its number of vertices and of pairs: a triangle with a tail, and a circle of five with two tails, whose
+// pairs are found by folding a circle; the graph of Petersen; a star; two triangles; no vertex, and no edge.
 const GRAPHS: [(u16, &[(u16, u16)], usize); 7] = [
     (4, &TAILED, 2),
     (
@@ -155,7 +157,8 @@ fn partners_and_labels(rt: HostRuntime) -> Result<(), Fail> {
     Ok(())
 }
 
-// The edges of a graph: the digits of `marks`, written with ones and zeros, say from the last one on which two vertices are joined.
+// The edges of a graph: the digits of `marks`, written with ones and zeros, say from the last one on which two vertices
+// are joined.
 fn marked(alloc: Global, size: u16, marks: u64) -> Result<Vec<(u16, u16)>, Fail> {
     let mut edges = Vec::new(alloc);
     let mut rest = marks;

@@ -35,8 +35,8 @@ impl Lists for LimboExchanges {
     }
 }
 
-// The lists that a generator hands out, one after another, where its limit starts at `limit` and rises by one after each Undecided,
-// and the steps that it used.
+// The lists that a generator hands out, one after another, where its limit starts at `limit` and rises by one after
+// each Undecided, and the steps that it used.
 fn drawn<L: Lists + Drop>(
     alloc: Global,
     mut lists: L,
@@ -58,8 +58,8 @@ fn drawn<L: Lists + Drop>(
     Ok((numbers, budget.used))
 }
 
-// The steps of two equal generators, one under an ample limit and one under limits that rise from 0, where both hand out these lists
-// in as many steps.
+// The steps of two equal generators, one under an ample limit and one under limits that rise from 0, where both hand
+// out these lists in as many steps.
 fn steps_of<L: Lists + Drop>(
     alloc: Global,
     one: L,

@@ -1,11 +1,11 @@
 // Reports as arbiters write them, and what their players are before the next round.
 //
-// Each question to a field stands once, in a function that asks it of a seat if the field has it: so the tests themselves are lists of
-// what must come, and are proved in no time.
-use crate::lines::{Line, field_of, text_of};
+// Each question to a field stands once, in a function that asks it of a seat if the field has it: so the tests
+// themselves are lists of what must come, and are proved in no time.
 use dutch_player::{
     ColourRule, Field, FieldFault, Float, Pref, Strength, colour_played, opponent_played,
 };
+use sample_reports::{Line, field_of, text_of};
 use std::alloc::Global;
 use std::test::Fail;
 use trf16::{Cell, Colour, Outcome};

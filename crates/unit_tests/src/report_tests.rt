@@ -5,7 +5,8 @@ use trf16::{
     read, read_with,
 };
 
-// Round 1: 1 beats 2, and 3 has the pairing-allocated bye. Round 2: 1 has half a point, 2 wins against 3 by forfeit. 3 does not play on.
+// Round 1: 1 beats 2, and 3 has the pairing-allocated bye. Round 2: 1 has half a point, 2 wins against 3 by forfeit. 3
+// does not play on.
 const REPORT: &[u8] =
     b"XXR 5\nxxc BLACK1\n012 An evening open\n001    1                                                                         1.5          2 w 1  0000 - H\n001    2                                                                                      1 b 0     3 w +\n001    3                                                                         1,0       0000 - U     2 b -  0000 - Z\nXXZ 2 9\n";
 

@@ -1,5 +1,5 @@
 // Standings of small tournaments, by hand.
-use crate::lines::{Line, text_of};
+use sample_reports::{Line, text_of};
 use std::alloc::Global;
 use std::test::Fail;
 use tiebreak::{Key, Standings, TieFault, table};

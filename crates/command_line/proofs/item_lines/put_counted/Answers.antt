@@ -2,9 +2,9 @@
 use Rattle.std.proofs.Common.{◌≡◌, ◌∙◌, ◌==◌, false, ap, arith}
 use Rattle.std.specs.Prelude.{string_bytes}
 use Rattle.std.proofs.lemmas.Bool.Decides.{nat_tests}
-use Rattle.dutch_pair.specs.Items.{players_counted}
-use Rattle.dutch_pair.specs.QualityIn.{quality_in}
-use Rattle.dutch_pair.specs.declared.quality.Quality.{Quality}
+use Rattle.dutch_bracket.specs.Items.{players_counted}
+use Rattle.dutch_bracket.specs.QualityIn.{quality_in}
+use Rattle.dutch_bracket.specs.declared.quality.Quality.{Quality}
 use Rattle.command_line.proofs.JoinedTexts.{counted_joined}
 use Rattle.command_line.proofs.item_lines.put_counted.Goals as goal
 

@@ -1,7 +1,7 @@
 use Rattle.std.proofs.Common.{◌≡◌, ◌≤◌, ◌-◌}
 use Rattle.std.specs.Prelude.{string_bytes}
 use Rattle.dutch_order.specs.Steps.{Spends}
-use Rattle.dutch_pair.specs.Reached.{frame_of}
+use Rattle.dutch_bracket.specs.Reached.{frame_of}
 use Rattle.command_line.specs.CandidateTexts.{line_text}
 use Rattle.command_line.proofs.ListingLemmas.{IsUnderway}
 use Rattle.command_line.proofs.listing.lines.Given as goal

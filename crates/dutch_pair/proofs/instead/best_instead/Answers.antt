@@ -1,6 +1,6 @@
 -- The bracket that was read has room for the stage's shape, which is its greatest.
 use Rattle.std.proofs.Common.{ap, ◌∙◌}
-use Rattle.dutch_pair.specs.Context.{Context}
+use Rattle.dutch_bracket.specs.Context.{Context}
 use Rattle.dutch_pair.specs.Lower.{lower_of}
 use Rattle.dutch_pair.proofs.InsteadLemmas.{read_fits, read_shape}
 use Rattle.dutch_pair.proofs.instead.best_instead.Goals as goal
@@ -17,5 +17,5 @@ pub look_for-requires-clause-greatest : goal.look_for-requires-clause-greatest
 look_for-requires-clause-greatest c =
     let read = c.new-context.ensures in
     read_shape c.args.field.now c.args.stage.now (ap (λ (k : Context). k.facts) read) (ap (λ (k : Context). k.reached) read ∙ c.reached-2.ensures)
-    (ap (λ (k : Context). k.lower) read ∙ c.deref.ensures.0 ∙ c.lower-lower.ensures ∙ ap (λ r. lower_of c.args.field.now r) c.reached.ensures)
+    (ap (λ (k : Context). k.lower) read ∙ c.deref.ensures.0 ∙ c.lower_of-lower.ensures ∙ ap (λ r. lower_of c.args.field.now r) c.reached.ensures)
     c.shape.ensures c.requires

@@ -2,9 +2,9 @@
 use Rattle.std.proofs.Common.{◌≡◌, length}
 use Rattle.std.specs.List.{list_any}
 use Rattle.dutch_order.specs.Steps.{Spends}
-use Rattle.dutch_pair.specs.Reached.{frame_of}
-use Rattle.dutch_pair.specs.Round.{candidates_of}
-use Rattle.dutch_pair.specs.Wishes.{grants}
+use Rattle.dutch_bracket.specs.Reached.{frame_of}
+use Rattle.dutch_bracket.specs.Brackets.{candidates_of}
+use Rattle.dutch_choice.specs.Wishes.{grants}
 use Rattle.dutch_pair.proofs.instead.is_granted.Given as goal
 
 abbrev pub decreases-loop-candidate : goal.decreases-loop-candidate

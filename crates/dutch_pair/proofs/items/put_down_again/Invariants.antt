@@ -2,9 +2,9 @@
 use Rattle.std.proofs.Common.{◌≡◌, ◌+◌, ◌≤◌, drop, map}
 use Rattle.arrayvec.specs.ArrayVec.{array_vec_len}
 use Rattle.dutch_player.specs.declared.float.Float.TheVariants.{Down}
-use Rattle.dutch_pair.specs.Items.{seats_of}
-use Rattle.dutch_pair.specs.Quality.{again, placed_all}
-use Rattle.dutch_pair.specs.Seated.{floats_down}
+use Rattle.dutch_bracket.specs.Items.{seats_of}
+use Rattle.dutch_bracket.specs.Quality.{again, placed_all}
+use Rattle.dutch_bracket.specs.Seated.{floats_down}
 use Rattle.dutch_pair.proofs.items.put_down_again.Given as goal
 
 abbrev pub invariant-loop-seat : goal.invariant-loop-seat

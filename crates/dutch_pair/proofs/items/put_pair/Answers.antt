@@ -1,6 +1,6 @@
 -- Both players of a pair are of the field, whichever of them gets white.
 use Rattle.std.proofs.Common.{ℕ, ◌<◌, length, subst, sym}
-use Rattle.dutch_pair.proofs.ColourSeats.{colours_within}
+use Rattle.dutch_bracket.proofs.ColourSeats.{colours_within}
 use Rattle.dutch_pair.proofs.items.put_pair.Goals as goal
 
 pub misses-requires : goal.misses-requires

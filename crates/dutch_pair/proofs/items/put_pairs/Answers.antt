@@ -1,6 +1,6 @@
 -- The players of one pair more are put.
 use Rattle.std.proofs.Common.{◌<◌, length, sym, ◌∙◌, arith}
-use Rattle.dutch_pair.specs.Quality.{misses}
+use Rattle.dutch_bracket.specs.Quality.{misses}
 use Rattle.dutch_pair.proofs.ItemSeats.{pair_put}
 use Rattle.dutch_pair.proofs.items.put_pairs.Goals as goal
 

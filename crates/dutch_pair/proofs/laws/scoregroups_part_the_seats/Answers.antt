@@ -1,6 +1,6 @@
 -- The law is the lemmas on scoregroups.
 use Rattle.dutch_pair.proofs.GroupLaws.{groups_part}
-use Rattle.dutch_pair.proofs.GroupLemmas.{concat_scoregroups}
+use Rattle.dutch_bracket.proofs.GroupLemmas.{concat_scoregroups}
 use Rattle.dutch_pair.proofs.laws.scoregroups_part_the_seats.Goals as goal
 
 pub returns : goal.returns

@@ -1,6 +1,7 @@
 -- The bracket that is asked for stands in the rest of the round.
 use Rattle.std.proofs.Common.{◌≡◌, ◌+◌, ◌≤◌, true, length}
-use Rattle.dutch_pair.specs.Round.{completable, everybody, round}
+use Rattle.dutch_bracket.specs.Brackets.{completable}
+use Rattle.dutch_pair.specs.Round.{everybody, round}
 use Rattle.dutch_pair.proofs.RoundEnds.{IsAhead}
 use Rattle.dutch_pair.proofs.round.bracket_at.Given as goal
 

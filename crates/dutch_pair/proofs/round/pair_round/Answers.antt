@@ -2,7 +2,7 @@
 use Rattle.std.proofs.Common.{◌≡◌, ◌+◌, ℕ, List, suc, length, option_map, ap, sym, ◌∙◌, subst, arith}
 use Rattle.std.specs.List.{AllByRecursion}
 use Rattle.std.proofs.lemmas.Option.{MatchOption-at_some}
-use Rattle.dutch_pair.specs.Boards.{IsPair}
+use Rattle.dutch_bracket.specs.Seated.{IsPair}
 use Rattle.dutch_pair.specs.Stages.{GoesOn, Walk, in_front}
 use Rattle.dutch_pair.proofs.RoundEnds.{first_count, first_pairing, front_none}
 use Rattle.dutch_pair.proofs.round.pair_round.Goals as goal

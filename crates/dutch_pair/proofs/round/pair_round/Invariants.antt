@@ -1,8 +1,9 @@
 -- The pairs so far in front of those of the rest of the round are those of the whole round.
 use Rattle.std.proofs.Common.{◌≡◌, ◌+◌, ◌≤◌, true, length, option_map}
 use Rattle.std.specs.List.{AllByRecursion}
-use Rattle.dutch_pair.specs.Boards.{IsPair}
-use Rattle.dutch_pair.specs.Round.{completable, everybody, round}
+use Rattle.dutch_bracket.specs.Seated.{IsPair}
+use Rattle.dutch_bracket.specs.Brackets.{completable}
+use Rattle.dutch_pair.specs.Round.{everybody, round}
 use Rattle.dutch_pair.specs.Stages.{in_front}
 use Rattle.dutch_pair.proofs.round.pair_round.Given as goal
 

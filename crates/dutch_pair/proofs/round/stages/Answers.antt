@@ -7,7 +7,7 @@ use Rattle.dutch_pair.specs.declared.stage.Stage.{Stage}
 use Rattle.dutch_pair.specs.Outcomes.{IsStage, visit}
 use Rattle.dutch_pair.specs.Round.{Visit}
 use Rattle.dutch_pair.specs.Stages.{GoesOn, Walk}
-use Rattle.dutch_pair.proofs.AllLemmas.{all_join}
+use Rattle.dutch_bracket.proofs.AllLemmas.{all_join}
 use Rattle.dutch_pair.proofs.RoundEnds.{bye_in, first_bye, first_count, first_reached, visits_more}
 use Rattle.dutch_pair.proofs.round.stages.Goals as goal
 

@@ -1,6 +1,6 @@
 -- A bracket with a candidate has a shape.
 use Rattle.std.proofs.lemmas.Option.{MatchOption-at_none}
-use Rattle.dutch_pair.proofs.NoDeadEnd.{shape_there}
+use Rattle.dutch_bracket.proofs.ShapeLaws.{shape_there}
 use Rattle.dutch_pair.proofs.walk.shape_in.Goals as goal
 
 pub unreachable-requires : goal.unreachable-requires

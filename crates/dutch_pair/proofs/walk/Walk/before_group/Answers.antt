@@ -1,7 +1,8 @@
 -- The bracket of the first scoregroup comes next, and the round from it on is that of the seats that are left.
 use Rattle.std.proofs.Common.{◌+◌, ◌≤◌, List, ℕ, length, ap, sym, ◌∙◌, subst}
-use Rattle.dutch_pair.specs.Reached.{Reached}
-use Rattle.dutch_pair.specs.Round.{Round, bracket}
+use Rattle.dutch_bracket.specs.Reached.{Reached}
+use Rattle.dutch_bracket.specs.Brackets.{bracket}
+use Rattle.dutch_pair.specs.Round.{Round}
 use Rattle.dutch_pair.specs.Stages.{Walk, group_kind, round_by}
 use Rattle.dutch_pair.specs.WaysOut.{StandsBefore}
 use Rattle.dutch_order.specs.declared.numbers.TheConstants.{LIMIT}

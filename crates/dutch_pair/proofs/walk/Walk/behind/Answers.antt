@@ -1,8 +1,8 @@
 -- What comes next behind a stage that is settled.
 use Rattle.std.proofs.Common.{◌+◌, ◌≤◌, ℕ, List, [], length, sym, ◌∙◌, subst, arith}
-use Rattle.dutch_pair.specs.declared.reached.BracketKind.TheVariants.{Collapsed}
-use Rattle.dutch_pair.specs.Reached.{Reached}
-use Rattle.dutch_pair.specs.Round.{bracket, downfloaters}
+use Rattle.dutch_bracket.specs.declared.reached.BracketKind.TheVariants.{Collapsed}
+use Rattle.dutch_bracket.specs.Reached.{Reached}
+use Rattle.dutch_bracket.specs.Brackets.{bracket, downfloaters}
 use Rattle.dutch_pair.specs.Stages.{choice_of}
 use Rattle.dutch_pair.specs.Walk.{Goes}
 use Rattle.dutch_pair.specs.WaysOut.{GoesOut, StandsBefore}

@@ -1,10 +1,10 @@
 -- The bracket that comes next has a candidate, and the round begins with it.
 use Rattle.std.proofs.Common.{◌≡◌, Some, ap, sym, ◌∙◌, subst}
 use Rattle.dutch_order.specs.Arrangements.{Fits}
-use Rattle.dutch_pair.specs.Context.{Context}
-use Rattle.dutch_pair.specs.Eligible.{HasCandidate}
-use Rattle.dutch_pair.specs.Round.{shape_of}
-use Rattle.dutch_pair.specs.Reached.{Reached, frame_of}
+use Rattle.dutch_bracket.specs.Context.{Context}
+use Rattle.dutch_bracket.specs.Eligible.{HasCandidate}
+use Rattle.dutch_bracket.specs.Brackets.{shape_of}
+use Rattle.dutch_bracket.specs.Reached.{Reached, frame_of}
 use Rattle.dutch_pair.specs.Stages.{Shows, StandsAt, Walk, round_from}
 use Rattle.dutch_pair.proofs.NoDeadEnd.{stands_has}
 use Rattle.dutch_pair.proofs.WalkSteps.{stands_above, stands_number, stands_shown}

@@ -1,0 +1,133 @@
+-- What the pairs of a beginning make is the least that an arrangement with it makes (C.04.3 C.8, C.9, C.12 to C.19): the pairs that
+-- it adds and its downfloaters only add to it. So C.8, C.9 and C.12 to C.15 count no fewer players. In the lists of C.16 to
+-- C.19 no difference stands less often; of two such lists, the highest first, the one with more members stands behind.
+use Rattle.std.proofs.Common.{◌≡◌, ℕ, ◌≤◌, Bool, false, List, [], map, filter, length, ap, ◌∙◌, arith, length-append}
+use Rattle.std.specs.Prelude.{sum_by}
+use Rattle.std.proofs.lemmas.List.{map-append}
+use Rattle.std.proofs.lemmas.List.Elements.{filter-append}
+use Rattle.std.proofs.lemmas.List.Sums.{sum_by-append}
+use Rattle.dutch_order.specs.Arrangements.{Arrangement, down}
+use Rattle.dutch_order.specs.Candidates.{Candidate}
+use Rattle.dutch_player.specs.declared.float.Float.{Float}
+use Rattle.dutch_player.specs.declared.float.Float.TheVariants.{Up, Down}
+use Rattle.dutch_player.specs.Facts.{SeatFacts, Facts}
+use Rattle.trf16.specs.declared.cell.Colour.{Colour}
+use Rattle.dutch_bracket.specs.declared.seated.Floater.{Floater}
+use Rattle.dutch_bracket.specs.declared.colours_missed.Miss.TheVariants.{Wide, Third}
+use Rattle.dutch_bracket.specs.Beginnings.{HasPairsOf, fixed, seated_so}
+use Rattle.dutch_bracket.specs.Floors.{NotBelow}
+use Rattle.dutch_bracket.specs.NextBracket.{is_lower, quality}
+use Rattle.dutch_bracket.specs.Quality.{again, count_in, count_with_topscorers, differences, has_topscorer, highest_first, misses, quality_with}
+use Rattle.dutch_bracket.specs.Reached.{Reached, frame_of}
+use Rattle.dutch_bracket.specs.Brackets.{downfloaters, quality_of}
+use Rattle.dutch_bracket.specs.Seated.{Seated, all_pairs, by_seats, floats_down, goes_down, goes_up, going_down, going_up, is_uneven, seat_of}
+use Rattle.dutch_bracket.proofs.Copies.{copies, copies_append, highest_first_copies, highest_first_falls, not_lower}
+use Rattle.dutch_bracket.proofs.FixedPairs.{AddsUp, Beside, beside, none_known}
+use Rattle.dutch_bracket.proofs.PairsWithBeginning.{no_less}
+
+-- a list in which each number stands no less often is not lower
+pub more_copies : (xs ys : List ℕ) → ((d : ℕ) → copies d xs ≤ copies d ys) → is_lower (highest_first ys) (highest_first xs) ≡ false
+more_copies xs ys more =
+    not_lower (highest_first xs) (highest_first ys) (highest_first_falls xs) (highest_first_falls ys)
+    (λ d above. omega (arith, more d, highest_first_copies d xs, highest_first_copies d ys))
+
+pub with_topscorers_add_up : (facts : Facts) (holds : SeatFacts → Colour → Bool) → AddsUp (count_with_topscorers facts holds)
+with_topscorers_add_up facts holds xs ys =
+    ap (sum_by (count_in facts holds)) (filter-append (has_topscorer facts) xs ys)
+    ∙ sum_by-append (count_in facts holds) (filter (has_topscorer facts) xs) (filter (has_topscorer facts) ys)
+
+-- what adds up over a list adds up over the members that a test finds, and over what is made of each
+pub filtered_add_up : {X : Type 0} (f : List X → ℕ) (test : X → Bool) → AddsUp f → AddsUp (λ xs. f (filter test xs))
+filtered_add_up f test adds xs ys = ap f (filter-append test xs ys) ∙ adds (filter test xs) (filter test ys)
+
+pub mapped_add_up : {X Y : Type 0} (f : List Y → ℕ) (made : X → Y) → AddsUp f → AddsUp (λ xs. f (map made xs))
+mapped_add_up f made adds xs ys = ap f (map-append made xs ys) ∙ adds (map made xs) (map made ys)
+
+module _ (facts : Facts) (reached : Reached) (known : List (ℕ × ℕ)) (gone : List ℕ) (candidate : Candidate) (others : Beside known (all_pairs reached.seats candidate.lists))
+    (left : Beside gone (map (seat_of reached.seats) candidate.down)) where
+  abbrev fewer : Seated
+  fewer = seated_so facts reached known gone
+
+  abbrev all : Seated
+  all = by_seats facts reached.seats candidate
+
+  -- of who goes down
+  down_no_less : (f : List Floater → ℕ) → AddsUp f → f (going_down facts fewer) ≤ f (going_down facts all)
+  unfolding going_down
+  down_no_less f adds =
+      let of_pairs : List (ℕ × ℕ) → ℕ = λ pairs. f (map (goes_down facts) (filter (is_uneven facts) pairs)) in
+      let of_gone : List ℕ → ℕ = λ seats. f (map (floats_down facts all.lowest) seats) in
+      let more : of_pairs fewer.pairs ≤ of_pairs all.pairs =
+      no_less of_pairs known all.pairs (filtered_add_up (λ pairs. f (map (goes_down facts) pairs)) (is_uneven facts) (mapped_add_up f (goes_down facts) adds)) others in
+      let further : of_gone gone ≤ of_gone all.down = no_less of_gone gone all.down (mapped_add_up f (floats_down facts all.lowest) adds) left in
+      omega (
+        arith,
+        more,
+        further,
+        adds (map (goes_down facts) (filter (is_uneven facts) fewer.pairs)) (map (floats_down facts all.lowest) gone),
+        adds (map (goes_down facts) (filter (is_uneven facts) all.pairs)) (map (floats_down facts all.lowest) all.down),
+      )
+
+  -- and of who goes up
+  up_no_less : (f : List Floater → ℕ) → AddsUp f → f (going_up facts fewer) ≤ f (going_up facts all)
+  unfolding going_up
+  up_no_less f adds =
+      no_less (λ pairs. f (map (goes_up facts) (filter (is_uneven facts) pairs))) known all.pairs
+      (filtered_add_up (λ pairs. f (map (goes_up facts) pairs)) (is_uneven facts) (mapped_add_up f (goes_up facts) adds)) others
+
+module _ (facts : Facts) (float : Float) (back : ℕ) where
+  -- how many had a float in the round so far back
+  pub counts_add_up : AddsUp (λ floaters. length (again facts float back floaters))
+  counts_add_up xs ys = ap length (filter-append _ xs ys) ∙ length-append (again facts float back xs) (again facts float back ys)
+
+  -- how often a difference stands among theirs
+  pub copies_add_up : (d : ℕ) → AddsUp (λ floaters. copies d (map (λ (floater : Floater). floater.by) (again facts float back floaters)))
+  copies_add_up d xs ys =
+      ap (λ floaters. copies d (map (λ (floater : Floater). floater.by) floaters)) (filter-append _ xs ys)
+      ∙ ap (copies d) (map-append (λ (floater : Floater). floater.by) (again facts float back xs) (again facts float back ys))
+      ∙ copies_append d (map (λ (floater : Floater). floater.by) (again facts float back xs)) (map (λ (floater : Floater). floater.by) (again facts float back ys))
+
+module _ (facts : Facts) (reached : Reached) (known : List (ℕ × ℕ)) (gone : List ℕ) (candidate : Candidate) (others : Beside known (all_pairs reached.seats candidate.lists))
+    (left : Beside gone (map (seat_of reached.seats) candidate.down)) where
+  down_count : (back : ℕ) → length (again facts Down back (going_down facts (seated_so facts reached known gone))) ≤ length (again facts Down back (going_down facts (by_seats facts reached.seats candidate)))
+  down_count back = down_no_less facts reached known gone candidate others left (λ floaters. length (again facts Down back floaters)) (counts_add_up facts Down back)
+
+  up_count : (back : ℕ) → length (again facts Up back (going_up facts (seated_so facts reached known gone))) ≤ length (again facts Up back (going_up facts (by_seats facts reached.seats candidate)))
+  up_count back = up_no_less facts reached known gone candidate others left (λ floaters. length (again facts Up back floaters)) (counts_add_up facts Up back)
+
+  down_list : (back : ℕ)
+      → is_lower (differences (again facts Down back (going_down facts (by_seats facts reached.seats candidate)))) (differences (again facts Down back (going_down facts (seated_so facts reached known gone)))) ≡ false
+  down_list back =
+      let by : List Floater → List ℕ = λ floaters. map (λ (floater : Floater). floater.by) (again facts Down back floaters) in
+      more_copies (by (going_down facts (seated_so facts reached known gone))) (by (going_down facts (by_seats facts reached.seats candidate)))
+      (λ d. down_no_less facts reached known gone candidate others left (λ floaters. copies d (by floaters)) (copies_add_up facts Down back d))
+
+  up_list : (back : ℕ)
+      → is_lower (differences (again facts Up back (going_up facts (by_seats facts reached.seats candidate)))) (differences (again facts Up back (going_up facts (seated_so facts reached known gone)))) ≡ false
+  up_list back =
+      let by : List Floater → List ℕ = λ floaters. map (λ (floater : Floater). floater.by) (again facts Up back floaters) in
+      more_copies (by (going_up facts (seated_so facts reached known gone))) (by (going_up facts (by_seats facts reached.seats candidate)))
+      (λ d. up_no_less facts reached known gone candidate others left (λ floaters. copies d (by floaters)) (copies_add_up facts Up back d))
+
+pub least_of_known : (facts : Facts) (reached : Reached) (lower : List ℕ) (known : List (ℕ × ℕ)) (gone : List ℕ) (a : Arrangement) → Beside known (all_pairs reached.seats a)
+    → Beside gone (downfloaters facts reached a) → NotBelow facts (seated_so facts reached known gone) (quality_of facts reached lower a)
+unfolding quality_of quality quality_with
+least_of_known facts reached lower known gone a others left =
+    let candidate : Candidate = record { lists = a; down = down (frame_of facts reached) a } in
+    let all : List (ℕ × ℕ) = all_pairs reached.seats a in
+    record {
+      wide = no_less (count_with_topscorers facts (misses Wide)) known all (with_topscorers_add_up facts (misses Wide)) others;
+      third = no_less (count_with_topscorers facts (misses Third)) known all (with_topscorers_add_up facts (misses Third)) others;
+      down_again = down_count facts reached known gone candidate others left 1;
+      up_again = up_count facts reached known gone candidate others left 1;
+      down_again_before = down_count facts reached known gone candidate others left 2;
+      up_again_before = up_count facts reached known gone candidate others left 2;
+      down_again_by = down_list facts reached known gone candidate others left 1;
+      up_again_by = up_list facts reached known gone candidate others left 1;
+      down_again_before_by = down_list facts reached known gone candidate others left 2;
+      up_again_before_by = up_list facts reached known gone candidate others left 2;
+    }
+
+pub least_of_beginning : (facts : Facts) (reached : Reached) (lower : List ℕ) (b a : Arrangement) → HasPairsOf b a → NotBelow facts (fixed facts reached b) (quality_of facts reached lower a)
+least_of_beginning facts reached lower b a begins =
+    least_of_known facts reached lower (all_pairs reached.seats b) [] a (beside reached.seats b a begins) (none_known (downfloaters facts reached a))

@@ -1,0 +1,80 @@
+-- Whoever meets a player of a bracket meets the ghost that stands for that player, and a ghost may have the bye if its player may
+-- (C.04.3 C.7).
+use Rattle.std.proofs.Common.{◌≡◌, ℕ, zero, suc, ◌+◌, ◌-◌, ◌*◌, ◌<◌, ◌≤◌, Bool, true, false, nat_le, cond, inl, inr, List, [], ◌∷◌, map, filter, length, get_or, refl, sym, ap, ◌∙◌, arith, length-append}
+use Rattle.std.specs.Prelude.{if◌then◌else◌}
+use Rattle.std.specs.List.{list_any}
+use Rattle.std.proofs.lemmas.List.Folds.{list_any_at}
+use Rattle.std.proofs.lemmas.Bool.Decides.{nat_tests}
+use Rattle.dutch_order.specs.declared.bracket.Shape.{Shape}
+use Rattle.dutch_order.specs.Choices.{numbers_from, is_member}
+use Rattle.dutch_order.specs.Keys.{IsIn}
+use Rattle.dutch_order.specs.Arrangements.{Frame, Arrangement, left_of, remainder_pairs, arrangements, down}
+use Rattle.dutch_order.proofs.Members.{climbs-filter, filter-length, length-numbers}
+use Rattle.dutch_player.specs.Facts.{Facts}
+use Rattle.dutch_player.specs.Meetings.{may_meet}
+use Rattle.dutch_player.proofs.LawLemmas.{meeting_sym}
+use Rattle.dutch_bracket.specs.Seated.{seat_of, AllNumbers}
+use Rattle.dutch_bracket.specs.GhostLaws.{two_sides, low_low, low_high, high_low, high_high}
+use Rattle.dutch_bracket.specs.Ghosts.{ghost_pair, may_bye}
+use Rattle.dutch_bracket.proofs.ArrangementParts.{parts_of}
+use Rattle.dutch_bracket.proofs.PsdParts.{down_parts}
+
+-- how many an arrangement leaves over
+pub down_count : (frame : Frame) (shape : Shape) (a : Arrangement) → frame.mdps ≤ length frame.scores → shape.mdps ≤ shape.pairs
+    → IsIn a (arrangements frame shape) → length (down frame a) + 2 * shape.pairs ≡ length frame.scores
+down_count frame shape a inside within m =
+    let q = frame.mdps in
+    let n = length frame.scores in
+    let parts = parts_of frame shape a inside m in
+    let rest : List ℕ = left_of (left_of (left_of (numbers_from (q + 1) (n - q)) a.s2) a.s1r) a.s2r in
+    let low : List ℕ = left_of (numbers_from 1 q) a.s1 in
+    let found : length (filter (λ x. is_member x a.s1) (numbers_from 1 q)) ≡ length a.s1 = ap length (climbs-filter 1 q a.s1 parts.s1) in
+    let shared = filter-length (λ x. is_member x a.s1) (numbers_from 1 q) in
+    let counted : length (numbers_from 1 q) ≡ q = length-numbers 1 q in
+    let halves : length (down frame a) ≡ length low + length rest = ap length (down_parts frame shape.mdps (remainder_pairs shape) a inside parts) ∙ length-append low rest in
+    let left : length rest + (shape.mdps + (remainder_pairs shape + remainder_pairs shape)) ≡ n - q = parts.left in
+    omega (arith, found, shared, counted, halves, left, parts.s1_count, inside, within)
+
+-- a seat is that of some number of a list of seats
+pub record IsOneOf (seats : List ℕ) (a : ℕ) : Type 0 where
+  pub place : ℕ
+  pub inside : place < length seats
+  pub is : get_or seats place 0 ≡ a
+
+some_passes : (p : ℕ → Bool) (seats : List ℕ) (a : ℕ) → IsOneOf seats a → p a ≡ true → list_any p seats ≡ true
+some_passes p seats a one e = list_any_at p seats one.place 0 one.inside (ap p one.is ∙ e)
+
+module _ (facts : Facts) (bracket lower : List ℕ) (k : ℕ) where
+  -- whoever meets meets the ghost, and ghosts meet
+  pub pair_of : (a b i j : ℕ) → (i ≤ k → IsOneOf bracket a) → (k < i → a ≡ seat_of lower (i - k)) → (j ≤ k → IsOneOf bracket b) → (k < j → b ≡ seat_of lower (j - k))
+      → may_meet facts a b ≡ true → ghost_pair facts bracket k lower i j ≡ true
+  pair_of a b i j ga la gb lb e =
+      elim (two_sides i k) [
+        | inl h ↦ elim (two_sides j k) [
+          | inl g ↦ low_low facts bracket lower k i j h g
+          | inr g ↦ low_high facts bracket lower k i j h g ∙ some_passes (λ c. may_meet facts c (seat_of lower (j - k))) bracket a (ga h) (ap (may_meet facts a) (sym (lb g)) ∙ e)
+        ]
+        | inr h ↦ elim (two_sides j k) [
+          | inl g ↦ high_low facts bracket lower k i j h g ∙ some_passes (λ c. may_meet facts c (seat_of lower (i - k))) bracket b (gb g) (ap (may_meet facts b) (sym (la h)) ∙ meeting_sym facts b a ∙ e)
+          | inr g ↦ high_high facts bracket lower k i j h g ∙ ap (λ c. may_meet facts c (seat_of lower (j - k))) (sym (la h)) ∙ ap (may_meet facts a) (sym (lb g)) ∙ e
+        ]
+      ]
+
+  -- the bye of a ghost, and of a lower player
+  pub left_of_ghost : (a i : ℕ) → (i ≤ k → IsOneOf bracket a) → (k < i → a ≡ seat_of lower (i - k)) → may_bye facts a ≡ true
+      → (if nat_le i k then list_any (may_bye facts) bracket else may_bye facts (seat_of lower (i - k))) ≡ true
+  left_of_ghost a i ga la e =
+      elim (two_sides i k) [
+        | inl h ↦
+            let first : nat_le i k ≡ true = grind (arith, nat_tests) in
+            ap (λ t. cond t (list_any (may_bye facts) bracket) (may_bye facts (seat_of lower (i - k)))) first ∙ some_passes (may_bye facts) bracket a (ga h) e
+        | inr h ↦
+            let first : nat_le i k ≡ false = grind (arith, nat_tests) in
+            ap (λ t. cond t (list_any (may_bye facts) bracket) (may_bye facts (seat_of lower (i - k)))) first ∙ ap (may_bye facts) (sym (la h)) ∙ e
+      ]
+
+-- numbers of a bracket are seats of it
+pub numbers_are_seats : (seats numbers : List ℕ) → AllNumbers seats numbers → (i : ℕ) → i < length numbers → IsOneOf seats (get_or (map (seat_of seats) numbers) i 0)
+numbers_are_seats seats [] all i h = absurd (omega arith)
+numbers_are_seats seats (x ∷ numbers) all zero h = record { place = x - 1; inside = omega (arith, all.0.0, all.0.1); is = refl }
+numbers_are_seats seats (x ∷ numbers) all (suc i) h = numbers_are_seats seats numbers all.1 i (omega arith)

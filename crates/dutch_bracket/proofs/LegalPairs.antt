@@ -1,0 +1,63 @@
+-- The pairs of a candidate, those of a beginning and the others, may meet (C.04.3 C.1, C.3).
+use Rattle.std.proofs.Common.{◌≡◌, ℕ, Bool, true, not, ◌&&◌, ◌==◌, cond, List, [], ◌∷◌, ◌++◌, inl, inr, ap, ◌∙◌, subst}
+use Rattle.std.specs.Prelude.{filter}
+use Rattle.std.specs.List.{AllByRecursion}
+use Rattle.std.proofs.lemmas.Bool.{and_parts, cases_Bool}
+use Rattle.dutch_order.specs.declared.bracket.Shape.{Shape}
+use Rattle.dutch_order.specs.Choices.{all_meet}
+use Rattle.dutch_order.specs.Keys.{IsIn}
+use Rattle.dutch_order.specs.Arrangements.{Arrangement, arrangements, is_legal}
+use Rattle.dutch_player.specs.Facts.{Facts}
+use Rattle.dutch_player.specs.Meetings.{may_meet}
+use Rattle.dutch_bracket.specs.Seated.{seat_of, pairs_of, all_pairs}
+use Rattle.dutch_bracket.specs.Reached.{Reached, frame_of, is_number, numbers_meet, number_may_be_left}
+use Rattle.dutch_bracket.specs.Brackets.{candidates_of}
+use Rattle.dutch_bracket.proofs.AllLemmas.{all_join}
+use Rattle.dutch_bracket.proofs.FixedPairs.{Beside}
+use Rattle.dutch_bracket.proofs.LeastPsd.{in_filter}
+use Rattle.dutch_order.proofs.Orders.{all_members, member_has}
+
+pub in_passes : {X : Type 0} (p : X → Bool) (x : X) (xs : List X) → IsIn x (filter p xs) → p x ≡ true
+in_passes p x [] m = absurd m
+in_passes p x (y ∷ ys) m = elim (cases_Bool (p y)) [
+  | inl passes ↦ elim (subst (λ b. IsIn x (cond b (y ∷ filter p ys) (filter p ys))) passes m) [ inl same ↦ ap p same ∙ passes | inr later ↦ in_passes p x ys later ]
+  | inr fails ↦ in_passes p x ys (subst (λ b. IsIn x (cond b (y ∷ filter p ys) (filter p ys))) fails m)
+]
+
+-- a candidate is an arrangement whose pairs meet
+pub record IsArranged (facts : Facts) (reached : Reached) (shape : Shape) (a : Arrangement) : Type 0 where
+  pub arranged : IsIn a (arrangements (frame_of facts reached) shape)
+  pub moved_down : all_meet (numbers_meet facts reached) a.s1 a.s2 ≡ true
+  pub residents : all_meet (numbers_meet facts reached) a.s1r a.s2r ≡ true
+
+pub legal_of : (facts : Facts) (reached : Reached) (shape : Shape) (a : Arrangement) → IsIn a (candidates_of facts reached shape) → IsArranged facts reached shape a
+unfolding candidates_of
+legal_of facts reached shape a m =
+    let test : Arrangement → Bool = is_legal (numbers_meet facts reached) (number_may_be_left facts reached) (frame_of facts reached) in
+    let first = and_parts (all_meet (numbers_meet facts reached) a.s1 a.s2) _ (in_passes test a (arrangements (frame_of facts reached) shape) m) in
+    let second = and_parts (all_meet (numbers_meet facts reached) a.s1r a.s2r) _ first.1 in
+    record { arranged = in_filter test a (arrangements (frame_of facts reached) shape) m; moved_down = first.0; residents = second.0 }
+
+-- the players of a pair may meet
+abbrev pub MayMeet : Facts → ℕ × ℕ → Type 0
+MayMeet facts pair = may_meet facts pair.0 pair.1 ≡ true
+
+pairs_meet : (facts : Facts) (reached : Reached) (firsts seconds : List ℕ) → all_meet (numbers_meet facts reached) firsts seconds ≡ true
+    → AllByRecursion (MayMeet facts) (pairs_of reached.seats firsts seconds)
+unfolding numbers_meet
+pairs_meet facts reached [] seconds meet = tt
+pairs_meet facts reached (a ∷ firsts) [] meet = tt
+pairs_meet facts reached (a ∷ firsts) (b ∷ seconds) meet =
+    let parts = and_parts (numbers_meet facts reached a b) (all_meet (numbers_meet facts reached) firsts seconds) meet in
+    let both = and_parts (is_number reached a && is_number reached b) _ parts.0 in
+    let one = and_parts (not (a == b)) (may_meet facts (seat_of reached.seats a) (seat_of reached.seats b)) both.1 in
+    (one.1, pairs_meet facts reached firsts seconds parts.1)
+
+-- the pairs beside those that are known may meet
+pub others_meet : (facts : Facts) (reached : Reached) (shape : Shape) (known : List (ℕ × ℕ)) (a : Arrangement) → IsArranged facts reached shape a
+    → (others : Beside known (all_pairs reached.seats a)) → AllByRecursion (λ pair. may_meet facts pair.0 pair.1 ≡ true) others.others
+others_meet facts reached shape known a legal others =
+    let firsts : List (ℕ × ℕ) = pairs_of reached.seats a.s1 a.s2 in
+    let seconds : List (ℕ × ℕ) = pairs_of reached.seats a.s1r a.s2r in
+    let all = all_join (MayMeet facts) firsts seconds (pairs_meet facts reached a.s1 a.s2 legal.moved_down) (pairs_meet facts reached a.s1r a.s2r legal.residents) in
+    all_members (MayMeet facts) others.others (λ pair m. member_has (MayMeet facts) (firsts ++ seconds) all pair (others.inside pair m))

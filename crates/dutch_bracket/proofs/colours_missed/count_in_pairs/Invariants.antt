@@ -1,0 +1,10 @@
+-- The count so far and that of the pairs to come make the whole count, which a `u16` holds.
+use Rattle.std.proofs.Common.{◌≡◌, ◌+◌, ◌*◌, ◌≤◌, drop}
+use Rattle.dutch_bracket.specs.Quality.{misses, count_in_pairs}
+use Rattle.dutch_bracket.proofs.colours_missed.count_in_pairs.Given as goal
+
+abbrev pub invariant-loop-pair : goal.invariant-loop-pair
+invariant-loop-pair l = record {
+  few : l.count ≤ 2 * l.pair-index;
+  so_far : l.count + count_in_pairs l.field (misses l.miss) (drop l.pair-index l.pairs) ≡ count_in_pairs l.field (misses l.miss) l.pairs;
+}

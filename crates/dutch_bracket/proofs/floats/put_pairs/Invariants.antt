@@ -1,0 +1,13 @@
+-- The differences put so far, and those of the pairs to come, make them all.
+use Rattle.std.proofs.Common.{◌≡◌, ◌+◌, ◌≤◌, drop, map, filter}
+use Rattle.arrayvec.specs.ArrayVec.{array_vec_len}
+use Rattle.dutch_bracket.specs.Quality.{again, placed_all}
+use Rattle.dutch_bracket.specs.Seated.{goes, is_uneven}
+use Rattle.dutch_bracket.proofs.floats.put_pairs.Given as goal
+
+abbrev pub invariant-loop-pair : goal.invariant-loop-pair
+invariant-loop-pair l = record {
+  items : placed_all l.by.items (map (λ floater. floater.by) (again l.field l.float l.back (map (goes l.field l.float) (filter (is_uneven l.field) (drop l.pair-index l.pairs)))))
+      ≡ placed_all l.initial.by.items (map (λ floater. floater.by) (again l.field l.float l.back (map (goes l.field l.float) (filter (is_uneven l.field) l.pairs))));
+  len : array_vec_len l.by ≤ array_vec_len l.initial.by + l.pair-index;
+}

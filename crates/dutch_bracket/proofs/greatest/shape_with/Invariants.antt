@@ -1,0 +1,18 @@
+-- No shape with more moved-down players has an arrangement that counts.
+use Rattle.std.proofs.Common.{◌≡◌, map}
+use Rattle.dutch_bracket.specs.Shapes.{down_from, fits, shapes_with}
+use Rattle.dutch_bracket.proofs.ShapeSearch.{found_in, shape_with}
+use Rattle.dutch_order.specs.Steps.{Spends}
+use Rattle.dutch_bracket.proofs.greatest.shape_with.Given as goal
+
+abbrev pub decreases-loop-shape : goal.decreases-loop-shape
+decreases-loop-shape g l = l.mdps
+
+abbrev pub invariant-loop-shape : goal.invariant-loop-shape
+invariant-loop-shape g l =
+    let found_in = found_in (g.S.Shapes.counting l.asked) (fits (g.S.Shapes.frame l.asked)) in
+    record {
+      found : found_in (shapes_with l.pairs) ≡ found_in (map (shape_with l.pairs) (down_from l.mdps));
+      lists : g.S.Shapes.lists l.asked l.lister.listing;
+      spends : Spends l.initial.budget l.budget;
+    }

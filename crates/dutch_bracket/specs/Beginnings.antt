@@ -1,0 +1,84 @@
+-- Beginnings of arrangements by the seats of a bracket: which pairs are fixed, and what is still free (C.04.3 B.6, B.7). What bounds
+-- the choice by beginnings stands on these; a reader of its promise may pass them by.
+use Rattle.std.specs.Prelude.{◌≡◌, ℕ, ◌+◌, ◌-◌, ◌*◌, ◌⊎◌, List, [], length, sum_by, ◌≤◌, Bool, true, false, ◌&&◌, nat_le}
+use Rattle.std.specs.List.{list_all}
+use Rattle.dutch_order.specs.declared.bracket.Shape.{Shape}
+use Rattle.dutch_order.specs.Arrangements.{Arrangement, remainder_pairs}
+use Rattle.dutch_order.specs.Prefixes.{GoesOn, Beginning}
+use Rattle.dutch_order.specs.declared.prefix.Filling.{Filling}
+use Rattle.dutch_order.specs.declared.prefix.Filling.TheVariants.{S1, S2, S2r}
+use Rattle.dutch_order.specs.declared.numbers.TheConstants.{LIMIT}
+use Rattle.dutch_player.specs.Facts.{Facts}
+use Rattle.dutch_bracket.specs.Reached.{Reached, is_number}
+use Rattle.dutch_bracket.specs.Seated.{Seated, all_pairs, lowest, AllNumbers}
+
+-- an arrangement begins with the pairs of another; if S2 or S2R has begun, with the same S1 or S1R
+pub record HasPairsOf (b a : Arrangement) : Type 0 where
+  pub s1 : (b.s2 ≡ []) ⊎ (b.s1 ≡ a.s1)
+  pub s2 : GoesOn b.s2 a.s2
+  pub s1r : (b.s2r ≡ []) ⊎ (b.s1r ≡ a.s1r)
+  pub s2r : GoesOn b.s2r a.s2r
+
+-- an arrangement begins with another that lacks at most the end of S2R
+pub record LacksEndOfS2r (b a : Arrangement) : Type 0 where
+  pub s1 : b.s1 ≡ a.s1
+  pub s2 : b.s2 ≡ a.s2
+  pub s1r : b.s1r ≡ a.s1r
+  pub s2r : GoesOn b.s2r a.s2r
+
+-- what is known of an arrangement of a bracket by seats: some of its pairs and of its downfloaters
+abbrev pub seated_so : Facts → Reached → List (ℕ × ℕ) → List ℕ → Seated
+seated_so facts reached pairs down = record { pairs = pairs; down = down; lowest = lowest facts reached.seats }
+
+-- a beginning by seats: its pairs alone
+abbrev pub fixed : Facts → Reached → Arrangement → Seated
+fixed facts reached b = seated_so facts reached (all_pairs reached.seats b) []
+
+-- what a weight of seats comes to in a pair
+abbrev pub in_both : (ℕ → ℕ) → ℕ × ℕ → ℕ
+in_both w pair = w pair.0 + w pair.1
+
+-- what a weight of seats comes to for those who are in no pair of a beginning
+abbrev pub free : (ℕ → ℕ) → Reached → Arrangement → ℕ
+free w reached b = sum_by w reached.seats - sum_by (in_both w) (all_pairs reached.seats b)
+
+-- the pairs to make, and the downfloaters in all
+abbrev pub room : Reached → Shape → Arrangement → ℕ
+room reached shape b = (shape.pairs - length (all_pairs reached.seats b)) + (length reached.seats - 2 * shape.pairs)
+
+-- the lists that a beginning fixes
+abbrev pub lists_by : Filling → Arrangement → Arrangement
+lists_by S1 lists = record { s1 = []; s2 = []; s1r = []; s2r = [] }
+lists_by S2 lists = record { s1 = lists.s1; s2 = lists.s2; s1r = []; s2r = [] }
+lists_by S2r lists = record { s1 = lists.s1; s2 = lists.s2; s1r = lists.s1r; s2r = lists.s2r }
+
+abbrev pub fixed_lists : Beginning → Arrangement
+fixed_lists b = lists_by b.filling b.lists
+
+-- all are numbers of a bracket
+abbrev pub are_numbers : Reached → List ℕ → Bool
+are_numbers reached numbers = list_all (is_number reached) numbers
+
+-- lists of numbers of a bracket that have room in a shape, and of those who meet the second is not the longer one
+abbrev pub is_of_shape : Reached → Shape → Arrangement → Bool
+is_of_shape reached shape lists =
+    (are_numbers reached lists.s1 && (are_numbers reached lists.s2 && (are_numbers reached lists.s1r && are_numbers reached lists.s2r)))
+    && ((nat_le (length lists.s1) shape.mdps && nat_le (length lists.s2) (length lists.s1))
+    && (nat_le (length lists.s1r) (remainder_pairs shape) && nat_le (length lists.s2r) (length lists.s1r)))
+
+-- S1 is chosen
+abbrev pub has_s1 : Filling → Bool
+has_s1 S1 = false
+has_s1 S2 = true
+has_s1 S2r = true
+
+-- lists of numbers of a bracket: of those who meet the second is not the longer one, and they make at most LIMIT pairs
+pub record HasNumbers (reached : Reached) (lists : Arrangement) : Type 0 where
+  pub s1 : AllNumbers reached.seats lists.s1
+  pub s2 : AllNumbers reached.seats lists.s2
+  pub s1r : AllNumbers reached.seats lists.s1r
+  pub s2r : AllNumbers reached.seats lists.s2r
+  pub moved_down : length lists.s2 ≤ length lists.s1
+  pub residents : length lists.s2r ≤ length lists.s1r
+  pub few : length lists.s2 + length lists.s2r ≤ LIMIT
+  pub few_first : length lists.s1r ≤ LIMIT

@@ -1,0 +1,108 @@
+-- Which players can be paired out (C.04.3 A.9), and how many steps it may take to tell.
+use Rattle.std.specs.Prelude.{◌≡◌, ℕ, zero, suc, ◌+◌, ◌*◌, ◌<◌, ◌≤◌, Bool, true, false, ◌&&◌, List, [], ◌∷◌, ◌++◌, flat_map, map, if◌then◌else◌}
+use Rattle.std.specs.List.{list_all, list_any}
+use Rattle.dutch_order.specs.Arrangements.{leaves_one}
+use Rattle.dutch_order.specs.declared.steps.Budget.{Budget}
+use Rattle.dutch_bracket.specs.declared.completion.Answer.{Answer}
+use Rattle.dutch_bracket.specs.declared.completion.Answer.TheVariants.{Yes, No, Undecided}
+
+-- pairs of players, in each the one first who stands earlier in the list (our own choice), the pairs in the order of their first
+-- members, each of two who may meet; and the players that are left out
+abbrev pub Covers : (ℕ → ℕ → Bool) → List ℕ → List (ℕ × ℕ) → List ℕ → Type 0
+Covers meets players [] out = players ≡ out
+Covers meets players (pair ∷ pairs) out = record {
+  skipped : List ℕ;
+  between : List ℕ;
+  behind : List ℕ;
+  later : List ℕ;
+  players_are : players ≡ skipped ++ pair.0 ∷ (between ++ pair.1 ∷ behind);
+  may_meet : meets pair.0 pair.1 ≡ true;
+  out_are : out ≡ skipped ++ later;
+  covered : Covers meets (between ++ behind) pairs later;
+}
+
+-- C.2: nobody is left out, or one player who may be
+abbrev pub MayBeLeftOut : (ℕ → Bool) → List ℕ → Type 0
+MayBeLeftOut may_be_left [] = Unit {0}
+MayBeLeftOut may_be_left (a ∷ []) = may_be_left a ≡ true
+MayBeLeftOut may_be_left (a ∷ b ∷ rest) = ⊥
+
+-- A.9: some list of pairs of those who may meet leaves out at most one of the players, who may be left out
+pub record Completable (meets : ℕ → ℕ → Bool) (may_be_left : ℕ → Bool) (players : List ℕ) : Type 0 where
+  pub pairs : List (ℕ × ℕ)
+  pub out : List ℕ
+  pub covered : Covers meets players pairs out
+  pub left_out : MayBeLeftOut may_be_left out
+
+-- a way to pair some players: its pairs, and those whom it leaves out
+pub record Way : Type 0 where
+  pub pairs : List (ℕ × ℕ)
+  pub out : List ℕ
+
+-- a member of a list with the others, and one player more among these
+abbrev pub with_member : ℕ → ℕ × List ℕ → ℕ × List ℕ
+with_member x pick = (pick.0, x ∷ pick.1)
+
+-- each member of a list, with the others
+abbrev pub picks : List ℕ → List (ℕ × List ℕ)
+picks [] = []
+picks (x ∷ others) = (x, others) ∷ map (with_member x) (picks others)
+
+-- a way to pair players, with one more in front who is left out
+abbrev pub left_out : ℕ → Way → Way
+left_out a way = record { pairs = way.pairs; out = a ∷ way.out }
+
+-- a way to pair players, with one more in front who is paired with one of those left out
+abbrev pub paired : ℕ → Way → ℕ × List ℕ → Way
+paired a way pick = record { pairs = (a, pick.0) ∷ way.pairs; out = pick.1 }
+
+-- a way to pair players, with one more in front: left out, or paired with any of those left out
+abbrev pub with_first : ℕ → Way → List Way
+with_first a way = left_out a way ∷ map (paired a way) (picks way.out)
+
+-- all ways to pair the players of a list
+abbrev pub all_pairings : List ℕ → List Way
+all_pairings [] = record { pairs = []; out = [] } ∷ []
+all_pairings (a ∷ later) = flat_map (with_first a) (all_pairings later)
+
+-- C.1 to C.3: all pairs of a way may meet, and it leaves out at most one player, who may be left out
+abbrev pub is_complete : (ℕ → ℕ → Bool) → (ℕ → Bool) → Way → Bool
+is_complete meets may_be_left way = list_all (λ pair. meets pair.0 pair.1) way.pairs && leaves_one may_be_left way.out
+
+-- A.9: whether players are completable: one of all ways to pair them is such
+abbrev pub can_complete : (ℕ → ℕ → Bool) → (ℕ → Bool) → List ℕ → Bool
+can_complete meets may_be_left players = list_any (is_complete meets may_be_left) (all_pairings players)
+
+-- the most steps that it takes to tell whether n players are completable, where one may be left out and where none may
+abbrev pub most : ℕ → Bool → ℕ
+most zero bye = 0
+most (suc zero) bye = if bye then 1 else 0
+most (suc (suc n)) bye = (n + 1) * (1 + most n bye) + (if bye then 1 + most (suc n) false else 0)
+
+-- a call made at most n steps, none of them past the limit, which stays
+pub record Spends (n : ℕ) (old new : Budget) : Type 0 where
+  pub few : new.used ≤ old.used + n
+  pub rises : old.used ≤ new.used
+  pub within : new.used ≤ new.limit
+  pub limit : new.limit ≡ old.limit
+
+-- a call was stopped at a limit that n steps would have passed
+pub record IsStopped (n : ℕ) (old new : Budget) : Type 0 where
+  pub reached : new.used ≡ new.limit
+  pub needed : old.limit < old.used + n
+
+-- an answer takes steps: Yes at least one for each two players, and No one for each trial of the first player
+abbrev pub Takes : Answer → ℕ → ℕ → Budget → Budget → Type 0
+Takes Yes players trials old new = 2 * old.used + players ≤ 2 * new.used
+Takes No players trials old new = old.used + trials ≤ new.used
+Takes Undecided players trials old new = Unit {0}
+
+-- a fact for each answer
+abbrev pub MatchAnswer : Answer → Type 0 → Type 0 → Type 0 → Type 0
+MatchAnswer Yes completed failed undecided = completed
+MatchAnswer No completed failed undecided = failed
+MatchAnswer Undecided completed failed undecided = undecided
+
+-- an answer tells what a test says, but for a call that was stopped
+abbrev pub Tells : Answer → Bool → Type 0 → Type 0
+Tells answer test stopped = MatchAnswer answer (test ≡ true) (test ≡ false) stopped

@@ -1,0 +1,23 @@
+-- Which candidates of a bracket can be chosen, as a test of each (C.04.3 C.4).
+use Rattle.std.specs.Prelude.{◌≡◌, ℕ, true, List}
+use Rattle.dutch_order.specs.Arrangements.{Fits}
+use Rattle.dutch_order.specs.Listings.{Listing}
+use Rattle.dutch_bracket.specs.declared.reached.ByNumber.{ByNumber}
+use Rattle.dutch_order.specs.declared.bracket.Shape.{Shape}
+use Rattle.dutch_player.specs.Facts.{Facts}
+use Rattle.dutch_bracket.specs.Reached.{Reached, frame_of}
+use Rattle.dutch_bracket.specs.Brackets.{eligible}
+use Rattle.dutch_bracket.specs.Shapes.{has_member}
+pub use Rattle.dutch_bracket.specs.Brackets.{can_be_chosen}
+
+-- a bracket above some lower seats has a candidate that can be chosen: some shape that it has room for has one
+pub record HasCandidate (facts : Facts) (reached : Reached) (lower : List ℕ) : Type 0 where
+  pub shape : Shape
+  pub room : Fits (frame_of facts reached) shape
+  pub candidate : has_member (eligible facts reached lower shape) ≡ true
+
+-- a listing is of a bracket of a field, by its numbers
+pub record Lists (facts : Facts) (reached : Reached) (listing : Listing ByNumber) : Type 0 where
+  pub frame : listing.frame ≡ frame_of facts reached
+  pub field : listing.rule.field.now ≡ facts
+  pub bracket : listing.rule.reached.now ≡ reached

@@ -1,0 +1,127 @@
+-- A candidate by the seats of its players: the pairs, those who go down or up in them, and by how much (C.04.3 A.8).
+use Rattle.std.specs.Prelude.{◌≡◌, ℕ, ◌+◌, ◌-◌, ◌<◌, ◌≤◌, length, Bool, not, ◌==◌, nat_lt, min, if◌then◌else◌, List, [], ◌∷◌, ◌++◌, map, filter, slice_index}
+use Rattle.std.specs.List.{AllByRecursion}
+use Rattle.dutch_order.specs.Arrangements.{Arrangement}
+use Rattle.dutch_order.specs.Candidates.{Candidate}
+use Rattle.dutch_player.specs.declared.float.Float.{Float}
+use Rattle.dutch_player.specs.declared.float.Float.TheVariants.{Up, Down}
+use Rattle.dutch_player.specs.Facts.{Facts, seat_at}
+use Rattle.dutch_bracket.specs.declared.seated.Floater.{Floater}
+use Rattle.dutch_order.specs.declared.numbers.TheConstants.{LIMIT}
+
+-- the pairs of a candidate, its downfloaters, and the lowest score in its bracket
+pub record Seated : Type 0 where
+  pub pairs : List (ℕ × ℕ)
+  pub down : List ℕ
+  pub lowest : ℕ
+
+-- the seat of a number in a bracket, which counts from 1
+abbrev pub seat_of : List ℕ → ℕ → ℕ
+seat_of seats number = slice_index seats (number - 1)
+
+-- A.2: the score of a seat
+abbrev pub score_at : Facts → ℕ → ℕ
+score_at facts seat = (seat_at facts seat).score
+
+-- two lists of numbers, place by place, as pairs of seats
+abbrev pub pairs_of : List ℕ → List ℕ → List ℕ → List (ℕ × ℕ)
+pairs_of seats [] seconds = []
+pairs_of seats (a ∷ firsts) [] = []
+pairs_of seats (a ∷ firsts) (b ∷ seconds) = (seat_of seats a, seat_of seats b) ∷ pairs_of seats firsts seconds
+
+-- all pairs of an arrangement: S1 with S2, then S1R with S2R
+abbrev pub all_pairs : List ℕ → Arrangement → List (ℕ × ℕ)
+all_pairs seats lists = pairs_of seats lists.s1 lists.s2 ++ pairs_of seats lists.s1r lists.s2r
+
+-- the lowest of a score and those of some seats
+abbrev pub lowest_upto : Facts → ℕ → List ℕ → ℕ
+lowest_upto facts least [] = least
+lowest_upto facts least (seat ∷ seats) = lowest_upto facts (min least (score_at facts seat)) seats
+
+-- the lowest score of some seats
+abbrev pub lowest : Facts → List ℕ → ℕ
+lowest facts [] = 0
+lowest facts (seat ∷ seats) = lowest_upto facts (score_at facts seat) seats
+
+-- a candidate of a bracket with these seats
+abbrev pub by_seats : Facts → List ℕ → Candidate → Seated
+by_seats facts seats candidate = record {
+  pairs = all_pairs seats candidate.lists;
+  down = map (seat_of seats) candidate.down;
+  lowest = lowest facts seats;
+}
+
+-- A.8: the difference of a pair: that of its scores
+abbrev pub difference : Facts → ℕ × ℕ → ℕ
+difference facts pair =
+    (score_at facts pair.0 - score_at facts pair.1) + (score_at facts pair.1 - score_at facts pair.0)
+
+-- A.8: the difference of a downfloater: their score minus a score two half points below the lowest one in the bracket
+abbrev pub difference_down : Facts → ℕ → ℕ → ℕ
+difference_down facts least seat = (score_at facts seat - least) + 2
+
+-- the players of a pair have different scores
+abbrev pub is_uneven : Facts → ℕ × ℕ → Bool
+is_uneven facts pair = not (score_at facts pair.0 == score_at facts pair.1)
+
+-- A.4: of a pair with different scores the player with the higher one goes down
+abbrev pub goes_down : Facts → ℕ × ℕ → Floater
+goes_down facts pair =
+    record { seat = if nat_lt (score_at facts pair.0) (score_at facts pair.1) then pair.1 else pair.0; by = difference facts pair }
+
+-- A.4: and the player with the lower one goes up
+abbrev pub goes_up : Facts → ℕ × ℕ → Floater
+goes_up facts pair =
+    record { seat = if nat_lt (score_at facts pair.0) (score_at facts pair.1) then pair.0 else pair.1; by = difference facts pair }
+
+-- A.4: the player of such a pair who floats so
+abbrev pub goes : Facts → Float → ℕ × ℕ → Floater
+goes facts Up = goes_up facts
+goes facts Down = goes_down facts
+
+-- who is in no pair goes down too (our own choice)
+abbrev pub floats_down : Facts → ℕ → ℕ → Floater
+floats_down facts least seat = record { seat = seat; by = difference_down facts least seat }
+
+-- all who go down
+unfoldable pub going_down : Facts → Seated → List Floater
+going_down facts candidate =
+    map (goes_down facts) (filter (is_uneven facts) candidate.pairs) ++ map (floats_down facts candidate.lowest) candidate.down
+
+-- all who go up
+unfoldable pub going_up : Facts → Seated → List Floater
+going_up facts candidate = map (goes_up facts) (filter (is_uneven facts) candidate.pairs)
+
+-- all of these are seats of the field
+abbrev pub AreSeats : Facts → List ℕ → Type 0
+AreSeats facts seats = (i : ℕ) → i < length seats → slice_index seats i < length facts.seats
+
+-- both of a pair are seats
+abbrev pub IsPair : Facts → ℕ × ℕ → Type 0
+IsPair facts pair = (pair.0 < length facts.seats) × (pair.1 < length facts.seats)
+
+-- pairs of such seats
+abbrev pub AllPairs : Facts → List (ℕ × ℕ) → Type 0
+AllPairs facts pairs = AllByRecursion (λ pair. (pair.0 < length facts.seats) × (pair.1 < length facts.seats)) pairs
+
+-- a candidate of players of a field: pairs and downfloaters are at most LIMIT
+pub record HasSeats (facts : Facts) (candidate : Seated) : Type 0 where
+  pub pairs : AllPairs facts candidate.pairs
+  pub down : AreSeats facts candidate.down
+  pub few : length candidate.pairs + length candidate.down ≤ LIMIT
+
+-- numbers that a bracket with these seats has
+abbrev pub AllNumbers : List ℕ → List ℕ → Type 0
+AllNumbers seats numbers = AllByRecursion (λ number. (0 < number) × (number ≤ length seats)) numbers
+
+-- a candidate of a bracket with these seats: its numbers are the bracket's, the lists of those who meet have one length, and pairs
+-- and downfloaters are at most LIMIT
+pub record IsCandidate (seats : List ℕ) (candidate : Candidate) : Type 0 where
+  pub moved_down : length candidate.lists.s1 ≡ length candidate.lists.s2
+  pub residents : length candidate.lists.s1r ≡ length candidate.lists.s2r
+  pub s1 : AllNumbers seats candidate.lists.s1
+  pub s2 : AllNumbers seats candidate.lists.s2
+  pub s1r : AllNumbers seats candidate.lists.s1r
+  pub s2r : AllNumbers seats candidate.lists.s2r
+  pub down : AllNumbers seats candidate.down
+  pub few : (length candidate.lists.s1 + length candidate.lists.s1r) + length candidate.down ≤ LIMIT

@@ -1,0 +1,25 @@
+// Bits by place in words, specified by the test of each.
+ghost use Rattle.std.specs.Prelude.{◌≡◌, ◌*◌, ◌<◌, ℕ, true, length};
+ghost use Rattle.dutch_bracket.specs.BitTables.{has_bit};
+
+/// The bits of a word.
+pub const WORD: usize = 64;
+
+/// Whether the bit at a place is set.
+#[tactic(auto, unfolding(crate::specs::BitTables::has_bit))]
+pub fn has_bit(words: &[u64], place: usize) -> bool
+    requires { place < 64 * length words.now }
+    ensures { result ≡ has_bit words.now place }
+{
+    (words[place / WORD] >> (place % WORD)) & 1 == 1
+}
+
+/// Sets the bit at a place.
+pub fn set_bit(words: &mut [u64], place: usize)
+    requires { place < 64 * length words.old }
+    ensures set { has_bit words.new place ≡ true }
+    ensures others { (i : ℕ) → ¬ (i ≡ place) → has_bit words.new i ≡ has_bit words.old i }
+    ensures room { length words.new ≡ length words.old }
+{
+    words[place / WORD] |= 1u64 << (place % WORD);
+}

@@ -1,0 +1,187 @@
+// Which candidates of a bracket can be chosen (C.04.3 C.4), and the first of a shape.
+ghost use Rattle.std.specs.Prelude.{◌≡◌, ◌+◌, ◌≤◌, ◌++◌, false, length, map};
+ghost use Rattle.dutch_order.specs.declared.numbers.TheConstants.{LIMIT};
+ghost use Rattle.dutch_order.specs.Arrangements.{Fits, down};
+ghost use Rattle.dutch_bracket.specs.Reached.{frame_of};
+ghost use Rattle.dutch_bracket.specs.Seated.{seat_of, AllNumbers};
+ghost use Rattle.dutch_bracket.specs.Shapes.{IsFirst, has_member};
+ghost use Rattle.dutch_bracket.specs.Brackets.{is_penultimate, completable, eligible};
+ghost use Rattle.dutch_bracket.specs.Eligible.{Lists, can_be_chosen};
+ghost use Rattle.dutch_bracket.specs.Stops.{Decides};
+ghost use Rattle.dutch_order.specs.Steps.{MatchDrawn, MatchFound, Spends};
+
+use crate::completion::completes;
+use crate::context::Context;
+use crate::greatest::Lister;
+use crate::matched::told_by_matching;
+use crate::reached::{BracketKind, ByNumber, Reached, Seats, push_all};
+use crate::seated::push_seats;
+use crate::seats::seats;
+use dutch_order::{Budget, Candidate, Shape, Stopped};
+use dutch_player::Field;
+use std::alloc::Global;
+
+impl BracketKind {
+    /// Whether the bracket is paired again so that all lower players can be paired out.
+    pub fn is_penultimate(self) -> bool
+        ensures { result ≡ is_penultimate self }
+    {
+        matches!(self, BracketKind::Penultimate)
+    }
+}
+
+/// Fills a list with the seats of numbers of a bracket, and then lower ones.
+fn fill_with_lower(reached: &Reached, numbers: &[u16], lower: &[u16], seats: &mut Seats)
+    requires numbers { AllNumbers reached.now.seats numbers.now }
+    requires few { length numbers.now + length lower.now ≤ LIMIT }
+    ensures { seats.new.items ≡ map (seat_of reached.now.seats) numbers.now ++ lower.now }
+{
+    seats.clear();
+    push_seats(reached.seats(), numbers, seats);
+    push_all(lower, seats);
+}
+
+/// The steps of the search for each player that decide nearly all lists.
+const FIRST_STEPS: u64 = 64;
+
+/// A budget of so many steps at most, of those that are left.
+pub fn at_most(steps: u64, budget: &Budget) -> Budget
+    requires within { budget.now.used ≤ budget.now.limit }
+    ensures used { result.used ≡ budget.now.used }
+    ensures within { result.used ≤ result.limit }
+    ensures less { result.limit ≤ budget.now.limit }
+{
+    Budget {
+        limit: budget.used.saturating_add(steps).min(budget.limit),
+        used: budget.used,
+    }
+}
+
+/// Whether seats can be paired out (A.9), by a search of few steps. None says that they did not suffice.
+fn told_by_few_steps(
+    field: &Field,
+    players: &[u16],
+    budget: &mut Budget,
+) -> Result<Option<bool>, Stopped>
+    requires few { length players.now ≤ LIMIT }
+    requires within { budget.old.used ≤ budget.old.limit }
+    ensures answer { MatchFound result (λ yes. yes ≡ completable field.now players.now) (Unit {0})
+        (budget.new.used ≡ budget.new.limit) }
+    ensures spends { Spends budget.old budget.new }
+{
+    let mut few = at_most(FIRST_STEPS * players.len() as u64, budget);
+    let answer = completes(players, &seats(field), &mut few).decided();
+    budget.used = few.used;
+    match answer {
+        Ok(told) => Ok(Some(told)),
+        Err(Stopped) if budget.used == budget.limit => Err(Stopped),
+        Err(Stopped) => Ok(None),
+    }
+}
+
+/// Whether seats can be paired out (A.9), by the search.
+fn told_by_search(field: &Field, players: &[u16], budget: &mut Budget) -> Result<bool, Stopped>
+    requires few { length players.now ≤ LIMIT }
+    requires within { budget.old.used ≤ budget.old.limit }
+    ensures answer { Decides result (completable field.now players.now) (budget.new.used ≡ budget.new.limit) }
+    ensures spends { Spends budget.old budget.new }
+{
+    completes(players, &seats(field), budget).decided()
+}
+
+/// Whether seats can be paired out (A.9): by a search of few steps, then by a matching if it can be had, and if neither
+/// tells it, by the whole search.
+pub fn can_complete(
+    alloc: Global,
+    field: &Field,
+    players: &[u16],
+    budget: &mut Budget,
+) -> Result<bool, Stopped>
+    requires few { length players.now ≤ LIMIT }
+    requires within { budget.old.used ≤ budget.old.limit }
+    ensures answer { Decides result (completable field.now players.now) (budget.new.used ≡ budget.new.limit) }
+    ensures spends { Spends budget.old budget.new }
+{
+    if let Some(told) = told_by_few_steps(field, players, budget)? {
+        return Ok(told);
+    }
+    if let Some(told) = told_by_matching(alloc, field, players, budget)? {
+        return Ok(told);
+    }
+    told_by_search(field, players, budget)
+}
+
+/// Whether those whom a candidate leaves over can be paired out with all lower players (A.9). The list is filled anew
+/// with them all.
+pub fn leaves_completable(
+    context: &Context<'_>,
+    candidate: &Candidate,
+    left: &mut Seats,
+    budget: &mut Budget,
+) -> Result<bool, Stopped>
+    requires numbers { AllNumbers context.now.reached.seats candidate.now.down }
+    requires few { length candidate.now.down ≤ length context.now.reached.seats }
+    requires within { budget.old.used ≤ budget.old.limit }
+    ensures answer { Decides result
+        (completable context.now.facts
+        (map (seat_of context.now.reached.seats) candidate.now.down ++ context.now.lower))
+        (budget.new.used ≡ budget.new.limit) }
+    ensures spends { Spends budget.old budget.new }
+{
+    fill_with_lower(context.reached(), candidate.down(), context.lower(), left);
+    can_complete(context.alloc(), context.field(), left, budget)
+}
+
+/// Whether a candidate can be chosen: in the penultimate bracket only if those whom it leaves over can be paired
+/// out with all lower players, for whom a list is lent.
+#[tactic(auto, using(crate::proofs::DownLemmas::down_numbers, crate::proofs::DownLemmas::down_few))]
+pub fn can_be_chosen(
+    context: &Context<'_>,
+    candidate: &Candidate,
+    left: &mut Seats,
+    budget: &mut Budget,
+) -> Result<bool, Stopped>
+    requires left { candidate.now.down ≡ down (frame_of context.now.facts context.now.reached) candidate.now.lists }
+    requires within { budget.old.used ≤ budget.old.limit }
+    ensures answer { Decides result
+        (can_be_chosen context.now.facts context.now.reached context.now.lower candidate.now.lists)
+        (budget.new.used ≡ budget.new.limit) }
+    ensures spends { Spends budget.old budget.new }
+{
+    if !context.reached().kind().is_penultimate() {
+        return Ok(true);
+    }
+    leaves_completable(context, candidate, left, budget)
+}
+
+/// Draws the first candidate of a shape that can be chosen. No says that there is none.
+#[tactic(auto, using(crate::proofs::EligibleLemmas::first_fit, crate::proofs::EligibleLemmas::passes_unfit, crate::proofs::EligibleLemmas::has_none))]
+pub(crate) fn first_eligible(
+    context: &Context<'_>,
+    lister: &mut Lister<'_, ByNumber<'_>>,
+    shape: Shape,
+    budget: &mut Budget,
+) -> Result<bool, Stopped>
+    requires fits { Fits (frame_of context.now.facts context.now.reached) shape }
+    requires lists { Lists context.now.facts context.now.reached lister.old.listing }
+    requires within { budget.old.used ≤ budget.old.limit }
+    ensures answer { MatchDrawn result
+        (IsFirst (eligible context.now.facts context.now.reached context.now.lower shape)
+        (frame_of context.now.facts context.now.reached) lister.new.drawn)
+        (has_member (eligible context.now.facts context.now.reached context.now.lower shape) ≡ false)
+        (budget.new.used ≡ budget.new.limit) }
+    ensures lists { Lists context.now.facts context.now.reached lister.new.listing }
+    ensures spends { Spends budget.old budget.new }
+{
+    lister.listing.restart(shape);
+    let mut left = Seats::new();
+    loop {
+        let drawn = lister.listing.put_next(&mut lister.drawn, budget);
+        if drawn.found()?.is_none() {
+            return Ok(false);
+        }
+        if can_be_chosen(context, &lister.drawn, &mut left, budget)? {
+            return Ok(true);
+        }
+    }
+}

@@ -1,0 +1,267 @@
+// What a bracket can be at best (C.04.3 C.7), by the first candidate of its shape.
+//
+// All residents of the next bracket have one score, so within a shape the PSD depends on the scores of S1 alone, and
+// article D lists the sets with the higher scores first: the first candidate has the least PSD, and no other one is
+// looked at.
+//
+// Most shapes are found at once by listing candidates. But a listing that must rule out one pair more, or that looks
+// for its first candidate where few players may still meet, may be very long. So after few steps matchings are asked,
+// which soon tell the shape; and where all S1 of it give one PSD, no candidate is looked for.
+ghost use Rattle.std.specs.Prelude.{◌≡◌, map, ℕ, slice_index, ◌≤◌, IfSome, MatchOption};
+ghost use Rattle.std.specs.Result.{MatchResult};
+ghost use Rattle.dutch_bracket.specs.Seated.{seat_of};
+ghost use Rattle.dutch_bracket.specs.declared.reached.BracketKind.TheVariants.{Ordinary};
+ghost use Rattle.dutch_bracket.specs.Reached.{IsOf, frame_of};
+ghost use Rattle.dutch_bracket.specs.Joins.{IsAlwaysShape};
+ghost use Rattle.dutch_bracket.specs.Shapes.{IsFound};
+ghost use Rattle.dutch_bracket.specs.QualityIn.{quality_in};
+ghost use Rattle.dutch_bracket.specs.NextBracket.{IsOfBracket, IsFlat, AreLeft, IsNext, legal_by, next_bracket};
+ghost use Rattle.dutch_bracket.specs.NextBracket.{value_in, value_of, quality};
+ghost use Rattle.dutch_order.specs.Steps.{Spends};
+
+use crate::differences::fill_psd;
+use crate::greatest::{Legal, Lister, Shapes, greatest_shape};
+use crate::psd_floor::{fill_psd_with, is_uniform};
+use crate::quality::{NextValue, Quality, Room, fill_quality};
+use crate::reached::{BracketKind, ByNumber, Reached, push_all};
+use crate::seated::{by_seats, seats_of};
+use crate::shape::told_by_few_steps;
+use crate::told_shape::told_by_matchings;
+use dutch_order::{Budget, Candidate, Numbers, Shape, Stopped, numbered_from};
+use dutch_player::Field;
+use std::alloc::Global;
+
+/// Scores are such as a `u16` holds.
+fn are_small(scores: &[u16])
+    ensures { (i : ℕ) → slice_index scores.now i ≤ 65535 }
+{
+    let _count = scores.len();
+}
+
+/// The shape of a bracket, as matchings tell it. None says that they do not, or that there is no memory for them.
+fn shape_by_matchings(
+    alloc: Option<Global>,
+    rule: ByNumber<'_>,
+    budget: &mut Budget,
+) -> Result<Option<Shape>, Stopped>
+    requires within { budget.old.used ≤ budget.old.limit }
+    ensures answer { MatchResult result
+        (λ told. IfSome told (IsAlwaysShape rule.entry.field.now rule.entry.reached.now))
+        (λ _. budget.new.used ≡ budget.new.limit) }
+    ensures spends { Spends budget.old budget.new }
+{
+    let Some(alloc) = alloc else {
+        return Ok(None);
+    };
+    match told_by_matchings(alloc, rule, budget)? {
+        Some(told) => Ok(told.shape),
+        None => Ok(None),
+    }
+}
+
+/// What a bracket is by its shape, if all S1 of it give one PSD; otherwise none.
+fn value_by_shape(rule: ByNumber<'_>, shape: Shape) -> Option<NextValue>
+    requires flat { IsFlat rule.field.now rule.reached.now }
+    requires shape { IsAlwaysShape rule.field.now rule.reached.now shape }
+    ensures { IfSome result (λ v. v ≡ value_of rule.entry.field.now rule.entry.reached.now) }
+{
+    if !is_uniform(rule, shape) {
+        return None;
+    }
+    let score = rule.score(rule.reached.mdps() as u16 + 1);
+    let mut psd = Numbers::new();
+    fill_psd_with(rule, shape, score, &numbered_from(1, shape.mdps), &mut psd);
+    Some(NextValue {
+        pairs: shape.pairs,
+        psd,
+    })
+}
+
+/// The greatest shape of a bracket, the first arrangement of which is drawn: the shape that is told, or else that of
+/// the whole listing, which may take very many steps.
+fn greatest_drawn<'b>(
+    told: Option<Shape>,
+    legal: &Legal<'_, ByNumber<'b>>,
+    lister: &mut Lister<'_, ByNumber<'b>>,
+    budget: &mut Budget,
+) -> Result<Option<Shape>, Stopped>
+    requires told { IfSome told (IsAlwaysShape legal.now.rule.now.field.now legal.now.rule.now.reached.now) }
+    requires frame { legal.now.bracket.now ≡ frame_of legal.now.rule.now.field.now legal.now.rule.now.reached.now }
+    requires lists { (lister.old.listing.frame ≡ legal.now.bracket.now)
+        × (lister.old.listing.rule ≡ legal.now.rule.now) }
+    requires within { budget.old.used ≤ budget.old.limit }
+    ensures answer { MatchResult result
+        (λ found. IsFound (legal_by legal.now.rule.now.field.now legal.now.rule.now.reached.now legal.now.bracket.now)
+        legal.now.bracket.now found lister.new.drawn)
+        (λ _. budget.new.used ≡ budget.new.limit) }
+    ensures spends { Spends budget.old budget.new }
+{
+    if let Some(shape) = told
+        && legal.first(lister, shape, budget)?
+    {
+        return Ok(Some(shape));
+    }
+    greatest_shape(legal, lister, budget)
+}
+
+/// What a bracket is by the first arrangement of its shape; nothing if it has none.
+fn value_drawn(
+    legal: &Legal<'_, ByNumber<'_>>,
+    found: Option<Shape>,
+    drawn: &Candidate,
+) -> NextValue
+    requires flat { IsFlat legal.now.rule.now.field.now legal.now.rule.now.reached.now }
+    requires frame { legal.now.bracket.now ≡ frame_of legal.now.rule.now.field.now legal.now.rule.now.reached.now }
+    requires found { IsFound (legal_by legal.now.rule.now.field.now legal.now.rule.now.reached.now
+        legal.now.bracket.now)
+        legal.now.bracket.now found drawn.now }
+    ensures { result ≡ value_of legal.now.rule.now.field.now legal.now.rule.now.reached.now }
+{
+    let Some(shape) = found else {
+        return NextValue::none();
+    };
+    are_small(legal.bracket.scores());
+    let (field, reached) = (legal.rule.field, legal.rule.reached);
+    let first = by_seats(field, reached.seats(), drawn);
+    let mut psd = Numbers::new();
+    fill_psd(field, &first, &mut psd);
+    NextValue {
+        pairs: shape.pairs,
+        psd,
+    }
+}
+
+/// What a bracket can be (C.7): by a listing of few steps, then by matchings if they can be had, and where they do not
+/// tell it, by a longer listing. (Apart from its caller, as a lister is large.)
+#[inline(never)]
+pub(crate) fn value_of(
+    alloc: Option<Global>,
+    field: &Field,
+    reached: &Reached,
+    budget: &mut Budget,
+) -> Result<NextValue, Stopped>
+    requires of { IsOf field.now reached.now }
+    requires flat { IsFlat field.now reached.now }
+    requires within { budget.old.used ≤ budget.old.limit }
+    ensures answer { MatchResult result (λ v. v ≡ value_of field.now reached.now)
+        (λ _. budget.new.used ≡ budget.new.limit) }
+    ensures spends { Spends budget.old budget.new }
+{
+    let bracket = reached.frame(field);
+    let rule = reached.rule(field);
+    let legal = Legal {
+        bracket: &bracket,
+        rule: &rule,
+    };
+    let mut lister = Lister::new(&bracket, &rule);
+    if let Some(found) = told_by_few_steps(&legal, &mut lister, budget)? {
+        return Ok(value_drawn(&legal, found, &lister.drawn));
+    }
+    let told = shape_by_matchings(alloc, rule, budget)?;
+    if let Some(shape) = told
+        && let Some(value) = value_by_shape(rule, shape)
+    {
+        return Ok(value);
+    }
+    let found = greatest_drawn(told, &legal, &mut lister, budget)?;
+    Ok(value_drawn(&legal, found, &lister.drawn))
+}
+
+/// A bracket of a field above the next lower scoregroup.
+#[derive(Drop)]
+pub struct Above<'a> {
+    /// For matchings, where there is memory for them.
+    pub alloc: Option<Global>,
+    pub field: &'a Field,
+    pub reached: &'a Reached,
+    pub next: &'a [u16],
+    ghost of: { IsOf field.now reached.now },
+    ghost below: { IsNext field.now reached.now next.now },
+}
+
+/// The bracket that downfloaters make with the next lower scoregroup.
+#[tactic(auto, using(crate::proofs::NextBrackets::down_short))]
+fn next_bracket(above: &Above<'_>, down: &[u16]) -> Reached
+    requires { AreLeft above.now.reached.now down.now }
+    ensures { result ≡ next_bracket (map (seat_of above.now.reached.now.seats) down.now) above.now.next.now }
+{
+    let mut seats = seats_of(above.reached.seats(), down);
+    let mdps = seats.len();
+    push_all(above.next, &mut seats);
+    Reached {
+        number: 0,
+        kind: BracketKind::Ordinary,
+        mdps,
+        seats,
+    }
+}
+
+/// What the next bracket can be for downfloaters of an ordinary bracket (C.7).
+pub fn value_below(
+    above: &Above<'_>,
+    down: &[u16],
+    budget: &mut Budget,
+) -> Result<NextValue, Stopped>
+    requires ordinary { above.now.reached.now.kind ≡ Ordinary }
+    requires down { AreLeft above.now.reached.now down.now }
+    requires within { budget.old.used ≤ budget.old.limit }
+    ensures answer { MatchResult result
+        (λ v. v ≡ value_in above.now.reached.now.kind above.now.field.now
+        (map (seat_of above.now.reached.now.seats) down.now) above.now.next.now)
+        (λ _. budget.new.used ≡ budget.new.limit) }
+    ensures spends { Spends budget.old budget.new }
+{
+    value_of(above.alloc, above.field, &next_bracket(above, down), budget)
+}
+
+/// The value of the next bracket for a candidate (C.7), which counts only in ordinary brackets.
+#[tactic(auto, using(crate::proofs::NextBrackets::left_by_candidate))]
+fn next_value(
+    above: &Above<'_>,
+    candidate: &Candidate,
+    budget: &mut Budget,
+) -> Result<NextValue, Stopped>
+    requires candidate { IsOfBracket above.now.field.now above.now.reached.now candidate.now }
+    requires within { budget.old.used ≤ budget.old.limit }
+    ensures answer { MatchResult result
+        (λ v. v ≡ value_in above.now.reached.now.kind above.now.field.now
+        (map (seat_of above.now.reached.now.seats) candidate.now.down) above.now.next.now)
+        (λ _. budget.new.used ≡ budget.new.limit) }
+    ensures spends { Spends budget.old budget.new }
+{
+    match above.reached.kind() {
+        BracketKind::Ordinary => value_below(above, candidate.down(), budget),
+        _ => Ok(NextValue::none()),
+    }
+}
+
+/// The quality of a candidate of a bracket above a next lower scoregroup (C.6 to C.19); none if the budget's limit was
+/// reached first. A step is one number tried at one place in the next bracket. It takes no memory.
+#[tactic(auto, unfolding(crate::specs::NextBracket::quality, crate::specs::Quality::quality_with))]
+pub fn quality(
+    field: &Field,
+    reached: &Reached,
+    candidate: &Candidate,
+    next: &[u16],
+    budget: &mut Budget,
+) -> Option<Quality>
+    requires of { IsOf field.now reached.now }
+    requires candidate { IsOfBracket field.now reached.now candidate.now }
+    requires next { IsNext field.now reached.now next.now }
+    requires within { budget.old.used ≤ budget.old.limit }
+    ensures answer { MatchOption result (budget.new.used ≡ budget.new.limit)
+        (λ q. quality_in q ≡ quality field.now reached.now next.now candidate.now) }
+    ensures spends { Spends budget.old budget.new }
+{
+    let above = Above {
+        alloc: None,
+        field,
+        reached,
+        next,
+    };
+    let value = next_value(&above, candidate, budget).ok()?;
+    let mut room = Room::default();
+    room.quality.put_next(value.pairs, &value.psd);
+    fill_quality(field, reached.seats(), candidate, &mut room);
+    Some(room.quality)
+}

@@ -1,0 +1,15 @@
+pub mod PassesTwice
+pub mod AimLemmas
+pub mod WishLemmas
+pub mod BestGranting
+pub mod FloorOfKnown
+pub mod KnownByWish
+pub mod AllPaired
+pub mod RuledOutLemmas
+pub mod BestLemmas
+pub mod CertificateFloors
+pub mod ChoiceLemmas
+pub mod KeptValues
+pub mod SkippedLemmas
+pub mod FloorOfBeginning
+pub mod BarsBehind

@@ -1,0 +1,10 @@
+-- What is awaited behind a beginning holds of each candidate.
+use Rattle.dutch_bracket.specs.QualityIn.{next_in, quality_in}
+use Rattle.dutch_choice.proofs.BarsBehind.{awaited_by}
+use Rattle.dutch_choice.proofs.skipper.has_no_better_next.Goals as goal
+
+pub returns : goal.returns
+returns c = λ none a listed begins.
+    let pass = c.args.pass.now in
+    awaited_by pass.context.now.facts pass.context.now.reached pass.context.now.lower pass.shape pass.floors pass.basis c.reached-reached.ensures.sound c.args.prefix.now
+    (next_in (quality_in c.args.quality.now)) (c.has_no_better_next.ensures none) a listed begins

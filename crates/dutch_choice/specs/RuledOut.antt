@@ -1,0 +1,53 @@
+-- Beginnings of arrangements that rule a wish out (C.04.3 B.6, B.7). What skips candidates stands on these; a reader of its promise may
+-- pass them by.
+use Rattle.std.specs.Prelude.{ℕ, Bool, true, false, not, ◌&&◌, ◌||◌, ◌==◌, nat_le, List}
+use Rattle.std.specs.List.{list_any}
+use Rattle.dutch_order.specs.declared.prefix.Filling.{Filling}
+use Rattle.dutch_order.specs.declared.prefix.Filling.TheVariants.{S1, S2, S2r}
+use Rattle.dutch_order.specs.Arrangements.{Arrangement, paired}
+use Rattle.dutch_order.specs.Choices.{is_member}
+use Rattle.dutch_order.specs.Forms.{pairs_by_number}
+use Rattle.dutch_order.specs.Prefixes.{Beginning}
+use Rattle.dutch_choice.specs.declared.wish.Wish.{Wish}
+use Rattle.dutch_choice.specs.declared.wish.Wish.TheVariants.{Pair, Over}
+use Rattle.dutch_bracket.specs.Beginnings.{fixed_lists}
+use Rattle.dutch_choice.specs.Wishes.{are_these}
+
+-- a player is one of a pair
+abbrev pub has_player : ℕ → ℕ × ℕ → Bool
+has_player p pair = (pair.0 == p) || (pair.1 == p)
+
+-- a pair has one of two players, with another one
+abbrev pub parts : ℕ → ℕ → ℕ × ℕ → Bool
+parts p q pair = not (are_these p q pair) && (has_player p pair || has_player q pair)
+
+-- of two players one alone is in a list
+abbrev pub has_one_of : ℕ → ℕ → List ℕ → Bool
+has_one_of p q numbers =
+    (is_member p numbers && not (is_member q numbers)) || (is_member q numbers && not (is_member p numbers))
+
+-- a moved-down player and a resident meet in no arrangement whose S1 is chosen and has both or neither
+abbrev pub s1_bars : Filling → ℕ → ℕ → Arrangement → Bool
+s1_bars S1 p q lists = false
+s1_bars S2 p q lists = not (has_one_of p q lists.s1)
+s1_bars S2r p q lists = not (has_one_of p q lists.s1)
+
+-- and two residents in none whose S1R is chosen and has both or neither
+abbrev pub s1r_bars : Filling → ℕ → ℕ → Arrangement → Bool
+s1r_bars S1 p q lists = false
+s1r_bars S2 p q lists = false
+s1r_bars S2r p q lists = not (has_one_of p q lists.s1r)
+
+-- the first halves rule out that two meet, by whether each of them was moved down: two who were never meet
+abbrev pub halves_bar : Bool → Bool → Filling → ℕ → ℕ → Arrangement → Bool
+halves_bar true true filling p q lists = true
+halves_bar true false filling p q lists = s1_bars filling p q lists
+halves_bar false true filling p q lists = s1_bars filling p q lists
+halves_bar false false filling p q lists = s1r_bars filling p q lists
+
+-- a beginning in a bracket with so many moved-down players rules a wish out: one of the two has another opponent already, or the first
+-- halves keep them apart; the one is paired
+abbrev pub rules_out : ℕ → Wish → Beginning → Bool
+rules_out mdps (Pair p q) b =
+    list_any (parts p q) (pairs_by_number (fixed_lists b)) || halves_bar (nat_le p mdps) (nat_le q mdps) b.filling p q b.lists
+rules_out mdps (Over p) b = is_member p (paired (fixed_lists b))

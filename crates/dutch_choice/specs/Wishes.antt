@@ -1,0 +1,79 @@
+-- A wish for a candidate of a bracket, that two of its players meet or that one of them is left over (C.04.3 B.3), the best of the
+-- candidates that grant it (B.8), or why there is none (B.1, C.4, C.5).
+use Rattle.std.specs.Prelude.{◌≡◌, ◌<◌, ◌≤◌, ◌⊎◌, ◌+◌, ℕ, Bool, true, false, not, ◌&&◌, ◌||◌, ◌==◌, List, ◌∷◌, ◌++◌, filter, Option, Some, None}
+use Rattle.std.specs.List.{list_any}
+use Rattle.dutch_order.specs.declared.bracket.Shape.{Shape}
+use Rattle.dutch_order.specs.Arrangements.{Arrangement, paired}
+use Rattle.dutch_order.specs.Choices.{is_member}
+use Rattle.dutch_order.specs.Forms.{pairs_by_number}
+use Rattle.dutch_order.specs.Keys.{IsIn}
+use Rattle.dutch_player.specs.Facts.{Facts}
+use Rattle.dutch_choice.specs.declared.wish.Wish.{Wish}
+use Rattle.dutch_choice.specs.declared.wish.Wish.TheVariants.{Pair, Over}
+use Rattle.dutch_bracket.specs.Reached.{Reached, frame_of}
+use Rattle.dutch_bracket.specs.Brackets.{candidates_of, eligible, is_better_in, quality_of}
+use Rattle.dutch_bracket.specs.Choice.{best}
+use Rattle.dutch_bracket.specs.Shapes.{fits}
+
+-- a pair is that of two players, in whatever order
+abbrev pub are_these : ℕ → ℕ → ℕ × ℕ → Bool
+are_these p q pair = ((pair.0 == p) && (pair.1 == q)) || ((pair.0 == q) && (pair.1 == p))
+
+-- B.3: an arrangement grants a wish: the two are one of its pairs; the one is in none
+abbrev pub grants : Wish → Arrangement → Bool
+grants (Pair p q) lists = list_any (are_these p q) (pairs_by_number lists)
+grants (Over p) lists = not (is_member p (paired lists))
+
+-- the same where something is wished; where nothing is, every arrangement will do
+abbrev pub is_wished : Option Wish → Arrangement → Bool
+is_wished None = λ lists. true
+is_wished (Some wish) = grants wish
+
+-- C.4: the candidates of a shape that can be chosen and grant a wish
+abbrev pub granting : Facts → Reached → List ℕ → Shape → Wish → List Arrangement
+granting facts reached lower shape wish = filter (grants wish) (eligible facts reached lower shape)
+
+-- B.8: of these the first that none of them is better than
+unfoldable pub best_granting : Facts → Reached → List ℕ → Shape → Wish → Option Arrangement
+best_granting facts reached lower shape wish = best (is_better_in facts reached lower) (granting facts reached lower shape wish)
+
+-- ---- why there is none
+
+-- B.1: as many pairs as a shape has, with so many moved-down players in them
+abbrev pub with_mdps : Shape → ℕ → Shape
+with_mdps shape mdps = record { pairs = shape.pairs; mdps = mdps }
+
+-- C.1 to C.3: the bracket has room for a shape, and a legal candidate of it grants a wish
+abbrev pub some_grants : Facts → Reached → Wish → Shape → Bool
+some_grants facts reached wish shape = fits (frame_of facts reached) shape && list_any (grants wish) (candidates_of facts reached shape)
+
+-- a legal candidate with as many pairs as a shape, and from a number of moved-down players in them to below another number, grants a wish
+pub record SomeGrants (facts : Facts) (reached : Reached) (wish : Wish) (shape : Shape) (from to : ℕ) : Type 0 where
+  pub mdps : ℕ
+  pub from_on : from ≤ mdps
+  pub below : mdps < to
+  pub granted : some_grants facts reached wish (with_mdps shape mdps) ≡ true
+
+-- there is none
+abbrev pub NoneGrants : Facts → Reached → Wish → Shape → ℕ → ℕ → Type 0
+NoneGrants facts reached wish shape from to =
+    (mdps : ℕ) → from ≤ mdps → mdps < to → some_grants facts reached wish (with_mdps shape mdps) ≡ false
+
+-- C.4: legal candidates of a shape grant a wish; or, where none with as many pairs and as many or fewer moved-down players in them does,
+-- some with more. None of these can be chosen
+abbrev pub IsBarred : Facts → Reached → Wish → Shape → Type 0
+IsBarred facts reached wish shape =
+    (list_any (grants wish) (candidates_of facts reached shape) ≡ true)
+    ⊎ (NoneGrants facts reached wish shape 0 (shape.mdps + 1) × SomeGrants facts reached wish shape (shape.mdps + 1) (shape.pairs + 1))
+
+-- of some candidates one stands before another one
+pub record ComesBefore (c d : Arrangement) (all : List Arrangement) : Type 0 where
+  pub front : List Arrangement
+  pub behind : List Arrangement
+  pub parts : all ≡ front ++ c ∷ behind
+  pub later : IsIn d behind
+
+-- B.8: a candidate is as good as another one, and is the same or stands before it
+abbrev pub IsAsGoodBefore : Facts → Reached → List ℕ → Shape → Arrangement → Arrangement → Type 0
+IsAsGoodBefore facts reached lower shape c d =
+    (quality_of facts reached lower c ≡ quality_of facts reached lower d) × ((c ≡ d) ⊎ ComesBefore c d (eligible facts reached lower shape))

@@ -1,0 +1,630 @@
+// The choice in a bracket (C.04.3 B.8): its shape, and the first candidate of it that none is better than.
+ghost use Rattle.std.specs.Prelude.{◌≡◌, ◌≤◌, ◌∷◌, [], true, false, Some, None, List, IfOk, IfSome};
+ghost use Rattle.std.specs.Result.{MatchResult};
+ghost use Rattle.dutch_order.specs.Arrangements.{Arrangement, Fits, down};
+ghost use Rattle.dutch_order.specs.Steps.{MatchDrawn, MatchFound, MatchStep, Spends};
+ghost use Rattle.dutch_bracket.specs.Reached.{IsAbove, frame_of};
+ghost use Rattle.dutch_bracket.specs.NextBracket.{IsOfBracket};
+ghost use Rattle.dutch_bracket.specs.QualityIn.{quality_in};
+ghost use Rattle.dutch_bracket.specs.Brackets.{quality_of};
+ghost use Rattle.dutch_bracket.specs.Eligible.{HasCandidate, Lists};
+ghost use Rattle.dutch_choice.specs.Kept.{IsKept};
+ghost use Rattle.dutch_choice.specs.Aims.{aim_in, best_near, best_wished, best_yet, is_idle};
+ghost use Rattle.dutch_choice.specs.Chosen.{IsChoice};
+ghost use Rattle.dutch_floors.specs.Outlooks.{IsOutlook};
+ghost use Rattle.dutch_choice.specs.Remembered.{LooksBelow};
+ghost use Rattle.dutch_choice.specs.Passes.{HasWeights, IsEnd, PassesDull};
+ghost use Rattle.dutch_weights.specs.WeightFloors.{AreOf};
+
+use crate::aiming::aim_for;
+use crate::remembered::{Judge, judge_candidate, look_below};
+use crate::skipper::{Pass, Skipper, bars_of, known_with};
+use crate::wish::{Wish, is_wished};
+use dutch_bracket::context::Context;
+use dutch_bracket::eligible::{at_most, can_be_chosen};
+use dutch_bracket::fault::PairFault;
+use dutch_bracket::greatest::Lister;
+use dutch_bracket::quality::{Quality, Room};
+use dutch_bracket::reached::{BracketKind, ByNumber, Reached, Seats};
+use dutch_bracket::scope::Scope;
+use dutch_bracket::shape::shape_of;
+use dutch_bracket::spending::spend;
+use dutch_floors::floor::Floors;
+use dutch_floors::outlook::Outlook;
+use dutch_order::{Budget, Candidate, Shape, Step, Stopped};
+use dutch_player::Field;
+use dutch_weights::asking::Asked;
+use dutch_weights::weight_floor::WeightFloors;
+use std::alloc::Global;
+use std::mem::take;
+
+/// A pass is told more so many times at most.
+const MOST_TURNS: u32 = u32::MAX;
+
+/// The pairs of brackets with more players are not weighed.
+const MOST_WEIGHED: usize = 400;
+
+/// What is chosen in a bracket.
+#[derive(Debug, Drop)]
+pub enum Choice {
+    /// The shape, and the first candidate of it that none is better than, with its quality.
+    Chosen {
+        shape: Shape,
+        candidate: Candidate,
+        quality: Quality,
+    },
+    /// The budget's limit was reached first.
+    Undecided,
+}
+
+/// The best candidate so far, with its quality.
+#[derive(Drop)]
+pub struct Best {
+    pub candidate: Candidate,
+    pub quality: Quality,
+}
+
+/// Whether a quality is of no interest: the aim is better, or it is not better than that of the candidate that is kept.
+pub(crate) fn is_idle(quality: &Quality, aim: &Option<Quality>, kept: &Option<Best>) -> bool
+    ensures { result ≡ is_idle (aim_in aim.now) kept.now (quality_in quality.now) }
+{
+    if let Some(aim) = aim {
+        if aim.is_better(quality) {
+            return true;
+        }
+    }
+    match kept {
+        Some(best) => !quality.is_better(&best.quality),
+        None => false,
+    }
+}
+
+/// Keeps a candidate in place of the one before it if it grants what is wished, is of interest and can be chosen.
+#[tactic(auto, using(crate::proofs::AimLemmas::unwished_passed, crate::proofs::AimLemmas::idle_passed, crate::proofs::BestLemmas::winner_kept, crate::proofs::BestLemmas::unfit_is_passed))]
+fn consider(
+    pass: &Pass<'_>,
+    candidate: &Candidate,
+    kept: &mut Option<Best>,
+    judge: &mut Judge<'_>,
+    budget: &mut Budget,
+) -> Result<(), Stopped>
+    requires candidate { IsOfBracket pass.now.context.now.facts pass.now.context.now.reached candidate.now }
+    requires kept { IsKept pass.now.context.now.facts pass.now.context.now.reached pass.now.context.now.lower kept.old }
+    requires look { LooksBelow pass.now.context.now.facts pass.now.context.now.reached pass.now.context.now.lower
+        judge.old.look }
+    requires within { budget.old.used ≤ budget.old.limit }
+    ensures answer { MatchResult result
+        (λ _. (coming : List Arrangement)
+        → best_yet pass.now.context.now.facts pass.now.context.now.reached pass.now.context.now.lower pass.now.wish
+        (aim_in pass.now.aim) kept.new coming
+        ≡ best_yet pass.now.context.now.facts pass.now.context.now.reached pass.now.context.now.lower pass.now.wish
+        (aim_in pass.now.aim) kept.old (candidate.now.lists ∷ coming))
+        (λ _. budget.new.used ≡ budget.new.limit) }
+    ensures kept { IsKept pass.now.context.now.facts pass.now.context.now.reached pass.now.context.now.lower kept.new }
+    ensures look { LooksBelow pass.now.context.now.facts pass.now.context.now.reached pass.now.context.now.lower
+        judge.new.look }
+    ensures weights { judge.new.weights ≡ judge.old.weights }
+    ensures spends { Spends budget.old budget.new }
+{
+    if !is_wished(pass.wish, candidate) {
+        return Ok(());
+    }
+    judge_candidate(pass.context, candidate, judge, budget)?;
+    if is_idle(&judge.room.quality, &pass.aim, kept) {
+        return Ok(());
+    }
+    if can_be_chosen(pass.context, candidate, &mut judge.left, budget)? {
+        let quality = take(&mut judge.room.quality);
+        let candidate = candidate.copied();
+        *kept = Some(Best { candidate, quality });
+    }
+    Ok(())
+}
+
+/// What a pass seeks, beside the candidate that it keeps.
+#[derive(Clone, Copy)]
+struct Sought<'a, 'k> {
+    pass: &'a Pass<'a>,
+    kept: &'k Option<Best>,
+}
+
+/// Draws the next candidate that may be of interest.
+fn draw_once<'a>(
+    sought: Sought<'a, '_>,
+    lister: &mut Lister<'_, ByNumber<'_>>,
+    judge: &mut Judge<'_>,
+    budget: &mut Budget,
+) -> Step<()>
+    requires lists { Lists sought.pass.now.context.now.facts sought.pass.now.context.now.reached lister.old.listing }
+    requires shape { lister.old.listing.shape ≡ sought.pass.now.shape }
+    requires weights { HasWeights sought.pass.now judge.old.weights }
+    requires within { budget.old.used ≤ budget.old.limit }
+    ensures answer { MatchStep result
+        (λ _. PassesDull sought.entry.pass.now sought.entry.kept.now lister.old.listing.coming
+        (lister.new.drawn.lists ∷ lister.new.listing.coming)
+        × (lister.new.drawn.down ≡ down lister.old.listing.frame lister.new.drawn.lists))
+        (PassesDull sought.entry.pass.now sought.entry.kept.now lister.old.listing.coming [])
+        (PassesDull sought.entry.pass.now sought.entry.kept.now lister.old.listing.coming lister.new.listing.coming
+        × (budget.new.used ≡ budget.new.limit)) }
+    ensures frame { lister.new.listing.frame ≡ lister.old.listing.frame }
+    ensures shape { lister.new.listing.shape ≡ lister.old.listing.shape }
+    ensures rule { lister.new.listing.rule ≡ lister.old.listing.rule }
+    ensures look { judge.new.look ≡ judge.old.look }
+    ensures weights { judge.new.weights ≡ judge.old.weights }
+    ensures spends { Spends budget.old budget.new }
+{
+    let skipper = Skipper::new(sought.pass, sought.kept, &judge.weights);
+    lister
+        .listing
+        .put_next_within(&skipper, &mut judge.room, &mut lister.drawn, budget)
+}
+
+/// The steps of a turn: all that are left, or so many that it is worth while to be told more behind them.
+fn turn(weights: &Option<WeightFloors<'_>>, budget: &Budget) -> Budget
+    requires within { budget.now.used ≤ budget.now.limit }
+    ensures used { result.used ≡ budget.now.used }
+    ensures limit { result.limit ≤ budget.now.limit }
+    ensures within { result.used ≤ result.limit }
+{
+    let left = budget.limit - budget.used;
+    let steps = match weights {
+        Some(weights) => weights.patience(budget.used).min(left),
+        None => left,
+    };
+    Budget {
+        used: budget.used,
+        limit: budget.used + steps,
+    }
+}
+
+/// Behind a turn, where steps are left: tells the walk more, if floors are kept.
+fn go_on(sought: Sought<'_, '_>, judge: &mut Judge<'_>, budget: &mut Budget) -> Result<(), Stopped>
+    requires within { budget.old.used ≤ budget.old.limit }
+    ensures stopped { MatchResult result (λ _. Unit {0}) (λ _. budget.new.used ≡ budget.new.limit) }
+    ensures look { judge.new.look ≡ judge.old.look }
+    ensures weights { judge.new.weights ≡ judge.old.weights }
+    ensures spends { Spends budget.old budget.new }
+{
+    if budget.used == budget.limit {
+        return Err(Stopped);
+    }
+    let bars = bars_of(sought.pass, sought.kept, &judge.weights);
+    match &mut judge.weights {
+        Some(weights) => {
+            let stuck = Asked {
+                scope: &judge.room.scope,
+                pairs: &judge.room.seated.pairs,
+            };
+            weights.tell_more(&stuck, &bars, budget)
+        }
+        None => Ok(()),
+    }
+}
+
+/// Draws the next candidate that may be of interest, in turns of steps if floors by weight are kept. No says that there
+/// is none.
+fn draw<'a>(
+    sought: Sought<'a, '_>,
+    lister: &mut Lister<'_, ByNumber<'_>>,
+    judge: &mut Judge<'_>,
+    budget: &mut Budget,
+) -> Result<bool, Stopped>
+    requires lists { Lists sought.pass.now.context.now.facts sought.pass.now.context.now.reached lister.old.listing }
+    requires shape { lister.old.listing.shape ≡ sought.pass.now.shape }
+    requires weights { HasWeights sought.pass.now judge.old.weights }
+    requires within { budget.old.used ≤ budget.old.limit }
+    ensures answer { MatchDrawn result
+        (PassesDull sought.entry.pass.now sought.entry.kept.now lister.old.listing.coming
+        (lister.new.drawn.lists ∷ lister.new.listing.coming)
+        × (lister.new.drawn.down ≡ down lister.old.listing.frame lister.new.drawn.lists))
+        (PassesDull sought.entry.pass.now sought.entry.kept.now lister.old.listing.coming [])
+        (budget.new.used ≡ budget.new.limit) }
+    ensures frame { lister.new.listing.frame ≡ lister.old.listing.frame }
+    ensures shape { lister.new.listing.shape ≡ lister.old.listing.shape }
+    ensures rule { lister.new.listing.rule ≡ lister.old.listing.rule }
+    ensures look { judge.new.look ≡ judge.old.look }
+    ensures weights { judge.new.weights ≡ judge.old.weights }
+    ensures spends { Spends budget.old budget.new }
+{
+    for _ in 0..MOST_TURNS {
+        let mut turn = turn(&judge.weights, budget);
+        let step = draw_once(sought, lister, judge, &mut turn);
+        budget.used = turn.used;
+        match step {
+            Step::Found(()) => return Ok(true),
+            Step::End => return Ok(false),
+            Step::Undecided => go_on(sought, judge, budget)?,
+        }
+    }
+    // (no limit of steps is so high)
+    budget.used = budget.limit;
+    Err(Stopped)
+}
+
+/// Of the candidates that a pass seeks, and that can be chosen, the first that none is better than; none if there is no
+/// such candidate.
+fn best_near<'a>(
+    pass: &'a Pass<'a>,
+    lister: &mut Lister<'_, ByNumber<'_>>,
+    judge: &mut Judge<'_>,
+    budget: &mut Budget,
+) -> Result<Option<Best>, Stopped>
+    requires lists { Lists pass.now.context.now.facts pass.now.context.now.reached lister.old.listing }
+    requires look { LooksBelow pass.now.context.now.facts pass.now.context.now.reached pass.now.context.now.lower
+        judge.old.look }
+    requires weights { HasWeights pass.now judge.old.weights }
+    requires within { budget.old.used ≤ budget.old.limit }
+    ensures answer { MatchFound result
+        (λ b. (best_near pass.now.context.now.facts pass.now.context.now.reached pass.now.context.now.lower
+        pass.now.wish (aim_in pass.now.aim) pass.now.shape ≡ Some b.candidate.lists)
+        × IsKept pass.now.context.now.facts pass.now.context.now.reached pass.now.context.now.lower (Some b))
+        (best_near pass.now.context.now.facts pass.now.context.now.reached pass.now.context.now.lower pass.now.wish
+        (aim_in pass.now.aim) pass.now.shape ≡ None)
+        (budget.new.used ≡ budget.new.limit) }
+    ensures lists { Lists pass.now.context.now.facts pass.now.context.now.reached lister.new.listing }
+    ensures look { LooksBelow pass.now.context.now.facts pass.now.context.now.reached pass.now.context.now.lower
+        judge.new.look }
+    ensures weights { judge.new.weights ≡ judge.old.weights }
+    ensures spends { Spends budget.old budget.new }
+{
+    lister.listing.restart(pass.shape);
+    let mut kept = None;
+    while draw(Sought { pass, kept: &kept }, lister, judge, budget)? {
+        consider(pass, &lister.drawn, &mut kept, judge, budget)?;
+    }
+    Ok(kept)
+}
+
+/// What a pass with an aim chooses: the best of all. The answer is none if there is no aim, or if the pass finds none
+/// that can be chosen, which says nothing of the choice.
+fn best_by_aim<'a>(
+    pass: &'a Pass<'a>,
+    lister: &mut Lister<'_, ByNumber<'_>>,
+    judge: &mut Judge<'_>,
+    budget: &mut Budget,
+) -> Result<Option<Best>, Stopped>
+    requires lists { Lists pass.now.context.now.facts pass.now.context.now.reached lister.old.listing }
+    requires look { LooksBelow pass.now.context.now.facts pass.now.context.now.reached pass.now.context.now.lower
+        judge.old.look }
+    requires weights { HasWeights pass.now judge.old.weights }
+    requires within { budget.old.used ≤ budget.old.limit }
+    ensures answer { MatchFound result
+        (λ b. (best_wished pass.now.context.now.facts pass.now.context.now.reached pass.now.context.now.lower
+        pass.now.wish pass.now.shape ≡ Some b.candidate.lists)
+        × IsKept pass.now.context.now.facts pass.now.context.now.reached pass.now.context.now.lower (Some b))
+        (Unit {0})
+        (budget.new.used ≡ budget.new.limit) }
+    ensures lists { Lists pass.now.context.now.facts pass.now.context.now.reached lister.new.listing }
+    ensures look { LooksBelow pass.now.context.now.facts pass.now.context.now.reached pass.now.context.now.lower
+        judge.new.look }
+    ensures weights { judge.new.weights ≡ judge.old.weights }
+    ensures spends { Spends budget.old budget.new }
+{
+    if pass.aim.is_none() {
+        return Ok(None);
+    }
+    best_near(pass, lister, judge, budget)
+}
+
+/// What a pass with an aim ends with, or if that is nothing, the same pass without an aim. (It stands apart from its
+/// caller, since a lister is large.)
+#[inline(never)]
+#[tactic(auto, using(crate::proofs::AimLemmas::without_aim))]
+fn best_in_passes(
+    pass: &mut Pass<'_>,
+    judge: &mut Judge<'_>,
+    budget: &mut Budget,
+) -> Result<Option<Best>, Stopped>
+    requires look { LooksBelow pass.old.context.now.facts pass.old.context.now.reached pass.old.context.now.lower
+        judge.old.look }
+    requires weights { HasWeights pass.old judge.old.weights }
+    requires within { budget.old.used ≤ budget.old.limit }
+    ensures answer { MatchResult result (IsEnd pass.old) (λ _. budget.new.used ≡ budget.new.limit) }
+    ensures look { LooksBelow pass.old.context.now.facts pass.old.context.now.reached pass.old.context.now.lower
+        judge.new.look }
+    ensures context { pass.new.context.now ≡ pass.old.context.now }
+    ensures shape { pass.new.shape ≡ pass.old.shape }
+    ensures wish { pass.new.wish ≡ pass.old.wish }
+    ensures spends { Spends budget.old budget.new }
+{
+    let rule = pass.context.rule();
+    let mut lister = Lister::new(pass.context.frame(), &rule);
+    let by_aim = best_by_aim(pass, &mut lister, judge, budget)?;
+    if by_aim.is_some() {
+        return Ok(by_aim);
+    }
+    pass.aim = None;
+    best_near(pass, &mut lister, judge, budget)
+}
+
+/// How many steps passes make before the pairs of the bracket are weighed: most brackets want no more.
+fn few_steps(players: usize) -> u64 {
+    let players = players as u64;
+    players
+        .saturating_mul(2)
+        .saturating_add(64)
+        .saturating_mul(players)
+}
+
+/// What passes by weight begin with.
+#[derive(Drop)]
+struct Weighed<'a> {
+    weights: Option<WeightFloors<'a>>,
+    aim: Option<Quality>,
+}
+
+/// The floor of a cheapest matching of a bracket whose pairs are weighed, and what to aim at.
+fn weighed_by<'a>(
+    pass: &Pass<'a>,
+    weights: WeightFloors<'a>,
+    room: &mut Room,
+    budget: &mut Budget,
+) -> Result<Weighed<'a>, Stopped>
+    requires of { AreOf pass.now.context.now.facts pass.now.context.now.reached pass.now.context.now.lower
+        pass.now.shape weights }
+    requires within { budget.old.used ≤ budget.old.limit }
+    ensures weights { IfOk result (λ weighed. HasWeights pass.now weighed.weights) }
+    ensures stopped { MatchResult result (λ _. Unit {0}) (λ _. budget.new.used ≡ budget.new.limit) }
+    ensures spends { Spends budget.old budget.new }
+{
+    let mut weights = weights;
+    let before = budget.used;
+    let all = Asked {
+        scope: &Scope::all(),
+        pairs: &[],
+    };
+    let found = weights.ask(&all, budget)?;
+    weights.note(before, budget.used);
+    let aim = aim_for(pass, &weights, &found, room);
+    let weights = Some(weights);
+    Ok(Weighed { weights, aim })
+}
+
+/// Whether the pairs of a bracket are weighed: not of one of many players, nor with the next lower scoregroup, if its
+/// weights are to tell of that.
+fn is_weighed(context: &Context<'_>, next: bool) -> bool {
+    let players = if next {
+        context.len_below()
+    } else {
+        context.len()
+    };
+    players <= MOST_WEIGHED
+}
+
+/// Weighs the pairs of a bracket, and, if that is wanted, the next bracket (C.7). Of a bracket of many players, and
+/// where memory is refused or a weight does not fit, no floors are found.
+fn weigh<'a>(
+    pass: &Pass<'a>,
+    next: bool,
+    room: &mut Room,
+    budget: &mut Budget,
+) -> Result<Weighed<'a>, Stopped>
+    requires within { budget.old.used ≤ budget.old.limit }
+    ensures weights { IfOk result (λ weighed. HasWeights pass.now weighed.weights) }
+    ensures stopped { MatchResult result (λ _. Unit {0}) (λ _. budget.new.used ≡ budget.new.limit) }
+    ensures spends { Spends budget.old budget.new }
+{
+    let count = pass.context.len();
+    if is_weighed(pass.context, next) {
+        spend((count * count) as u64, budget)?;
+        if let Ok(Some(weights)) = WeightFloors::weighed(pass.context, pass.shape, next) {
+            return weighed_by(pass, weights, room, budget);
+        }
+    }
+    let aim = pass.floors.aim(known_with(pass.context, pass.wish));
+    Ok(Weighed { weights: None, aim })
+}
+
+/// What the passes end with in so many steps; none if these do not suffice.
+fn best_within<'a>(
+    pass: &mut Pass<'a>,
+    judge: &mut Judge<'a>,
+    steps: u64,
+    budget: &mut Budget,
+) -> Result<Option<Option<Best>>, Stopped>
+    requires look { LooksBelow pass.old.context.now.facts pass.old.context.now.reached pass.old.context.now.lower
+        judge.old.look }
+    requires weights { HasWeights pass.old judge.old.weights }
+    requires within { budget.old.used ≤ budget.old.limit }
+    ensures answer { MatchResult result (λ found. IfSome found (IsEnd pass.old))
+        (λ _. budget.new.used ≡ budget.new.limit) }
+    ensures look { LooksBelow pass.old.context.now.facts pass.old.context.now.reached pass.old.context.now.lower
+        judge.new.look }
+    ensures context { pass.new.context.now ≡ pass.old.context.now }
+    ensures shape { pass.new.shape ≡ pass.old.shape }
+    ensures wish { pass.new.wish ≡ pass.old.wish }
+    ensures spends { Spends budget.old budget.new }
+{
+    let mut few = at_most(steps, budget);
+    let found = best_in_passes(pass, judge, &mut few);
+    budget.used = few.used;
+    match found {
+        Ok(found) => Ok(Some(found)),
+        Err(Stopped) if budget.used == budget.limit => Err(Stopped),
+        Err(Stopped) => Ok(None),
+    }
+}
+
+/// What the passes end with by weights that are found now; none if the steps for it do not suffice. Where C.7 counts
+/// and they do not tell of the next bracket, these are a quarter of the steps that are left, else all.
+fn best_by_weight<'a>(
+    pass: &mut Pass<'a>,
+    judge: &mut Judge<'a>,
+    next: bool,
+    budget: &mut Budget,
+) -> Result<Option<Option<Best>>, Stopped>
+    requires look { LooksBelow pass.old.context.now.facts pass.old.context.now.reached pass.old.context.now.lower
+        judge.old.look }
+    requires within { budget.old.used ≤ budget.old.limit }
+    ensures answer { MatchResult result (λ found. IfSome found (IsEnd pass.old))
+        (λ _. budget.new.used ≡ budget.new.limit) }
+    ensures look { LooksBelow pass.old.context.now.facts pass.old.context.now.reached pass.old.context.now.lower
+        judge.new.look }
+    ensures context { pass.new.context.now ≡ pass.old.context.now }
+    ensures shape { pass.new.shape ≡ pass.old.shape }
+    ensures wish { pass.new.wish ≡ pass.old.wish }
+    ensures spends { Spends budget.old budget.new }
+{
+    let left = budget.limit - budget.used;
+    // (weights are large: those of before go first)
+    judge.weights = None;
+    let weighed = weigh(pass, next, &mut judge.room, budget)?;
+    judge.weights = weighed.weights;
+    pass.aim = weighed.aim;
+    let steps = if tells_next(pass) && !next {
+        left / 4
+    } else {
+        left
+    };
+    best_within(pass, judge, steps, budget)
+}
+
+/// Whether weights can tell more of the bracket of a pass that wishes nothing: C.7 counts there, and the next lower
+/// scoregroup is not too large.
+fn tells_next(pass: &Pass<'_>) -> bool {
+    match (pass.context.reached().kind(), pass.wish) {
+        (BracketKind::Ordinary, None) => is_weighed(pass.context, true),
+        _ => false,
+    }
+}
+
+/// What the passes end with: first in few steps, since most brackets want no more; then with floors by weight; and
+/// where C.7 counts and a quarter of the steps does not suffice, with weights that tell of the next bracket too.
+fn best_in_time<'a>(
+    pass: &mut Pass<'a>,
+    judge: &mut Judge<'a>,
+    budget: &mut Budget,
+) -> Result<Option<Best>, Stopped>
+    requires look { LooksBelow pass.old.context.now.facts pass.old.context.now.reached pass.old.context.now.lower
+        judge.old.look }
+    requires weights { HasWeights pass.old judge.old.weights }
+    requires within { budget.old.used ≤ budget.old.limit }
+    ensures answer { MatchResult result (IsEnd pass.old) (λ _. budget.new.used ≡ budget.new.limit) }
+    ensures spends { Spends budget.old budget.new }
+{
+    let few = few_steps(pass.context.len());
+    if let Some(found) = best_within(pass, judge, few, budget)? {
+        return Ok(found);
+    }
+    if let Some(found) = best_by_weight(pass, judge, false, budget)? {
+        return Ok(found);
+    }
+    match best_by_weight(pass, judge, true, budget)? {
+        Some(found) => Ok(found),
+        None => {
+            budget.used = budget.limit;
+            Err(Stopped)
+        }
+    }
+}
+
+/// The best that the next bracket can be, as far as a quarter of the steps that are left tells it.
+fn outlook_of(context: &Context<'_>, shape: Shape, budget: &mut Budget) -> Result<Outlook, Stopped>
+    requires fits { Fits (frame_of context.now.facts context.now.reached) shape }
+    requires within { budget.old.used ≤ budget.old.limit }
+    ensures answer { MatchResult result (IsOutlook context.now.facts context.now.reached context.now.lower shape)
+        (λ _. budget.new.used ≡ budget.new.limit) }
+    ensures spends { Spends budget.old budget.new }
+{
+    let mut few = at_most((budget.limit - budget.used) / 4, budget);
+    let found = Outlook::find(context, shape, &mut few);
+    budget.used = few.used;
+    if let Ok(outlook) = found {
+        return Ok(outlook);
+    }
+    if budget.used == budget.limit {
+        return Err(Stopped);
+    }
+    Ok(Outlook::by_counts(context, shape))
+}
+
+/// Of the candidates of a shape that can be chosen, and that grant the wish if there is one, the first that none of
+/// them is better than: what a pass with an aim ends with, or if that is nothing, one without. `End` says that there is
+/// none.
+pub fn best_of<'a>(
+    alloc: Global,
+    context: &'a Context<'a>,
+    shape: Shape,
+    wish: Option<Wish>,
+    budget: &mut Budget,
+) -> Result<Step<Best>, PairFault>
+    requires fits { Fits (frame_of context.now.facts context.now.reached) shape }
+    requires within { budget.old.used ≤ budget.old.limit }
+    ensures answer { IfOk result (λ step. MatchStep step
+        (λ b. (best_wished context.now.facts context.now.reached context.now.lower wish shape ≡ Some b.candidate.lists)
+        × IsKept context.now.facts context.now.reached context.now.lower (Some b))
+        (best_wished context.now.facts context.now.reached context.now.lower wish shape ≡ None)
+        (budget.new.used ≡ budget.new.limit)) }
+    ensures spends { Spends budget.old budget.new }
+{
+    let mut judge = Judge {
+        look: look_below(alloc, context)?,
+        room: Room::default(),
+        left: Seats::new(),
+        weights: None,
+    };
+    let Ok(outlook) = outlook_of(context, shape, budget) else {
+        return Ok(Step::Undecided);
+    };
+    let floors = Floors::new(context, shape, outlook);
+    let known = known_with(context, wish);
+    let mut pass = Pass {
+        context,
+        shape,
+        wish,
+        aim: floors.aim(known),
+        floors,
+    };
+    match best_in_time(&mut pass, &mut judge, budget) {
+        Ok(Some(best)) => Ok(Step::Found(best)),
+        Ok(None) => Ok(Step::End),
+        Err(Stopped) => Ok(Step::Undecided),
+    }
+}
+
+/// The choice in a bracket that has a candidate.
+#[tactic(auto, using(crate::proofs::AimLemmas::choice_is_best, crate::proofs::AimLemmas::shape_has_one))]
+pub fn choose_in<'a>(
+    alloc: Global,
+    context: &'a Context<'a>,
+    budget: &mut Budget,
+) -> Result<Choice, PairFault>
+    requires candidate { HasCandidate context.now.facts context.now.reached context.now.lower }
+    requires within { budget.old.used ≤ budget.old.limit }
+    ensures answer { IfOk result
+        (IsChoice context.now.facts context.now.reached context.now.lower (budget.new.used ≡ budget.new.limit)) }
+    ensures spends { Spends budget.old budget.new }
+{
+    let shape = match shape_of(context, budget) {
+        Ok(Some(shape)) => shape,
+        Ok(None) => unreachable!(),
+        Err(Stopped) => return Ok(Choice::Undecided),
+    };
+    match best_of(alloc, context, shape, None, budget)? {
+        Step::Found(best) => Ok(Choice::Chosen {
+            shape,
+            candidate: best.candidate,
+            quality: best.quality,
+        }),
+        Step::End => unreachable!(),
+        Step::Undecided => Ok(Choice::Undecided),
+    }
+}
+
+/// The choice in a bracket of a field that has a candidate, above all lower seats by rank. In the penultimate bracket
+/// only those candidates count that leave over players who can be paired out with all lower ones (C.4).
+pub fn choose(
+    alloc: Global,
+    field: &Field,
+    reached: &Reached,
+    lower: &[u16],
+    budget: &mut Budget,
+) -> Result<Choice, PairFault>
+    requires above { IsAbove field.now reached.now lower.now }
+    requires candidate { HasCandidate field.now reached.now lower.now }
+    requires within { budget.old.used ≤ budget.old.limit }
+    ensures answer { IfOk result (IsChoice field.now reached.now lower.now (budget.new.used ≡ budget.new.limit)) }
+    ensures spends { Spends budget.old budget.new }
+{
+    choose_in(alloc, &Context::new(alloc, field, reached, lower), budget)
+}

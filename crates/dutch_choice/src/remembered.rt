@@ -1,0 +1,324 @@
+// What the next bracket can be (C.04.3 C.7), remembered by downfloaters, specified by the value of each list and by
+// which lists are kept.
+//
+// Candidates of a bracket that leave over the same players have one value, so it is looked for once. The values of the
+// last 64 lists that were used are kept, in a cache that is made once for a bracket. If it cannot grow, this is noted,
+// and the value is looked for each time.
+ghost use Rattle.std.specs.Prelude.{◌≡◌, ◌≤◌, true, false, [], length, map, take, IfOk, ◌⊎◌, if◌then◌else◌, Some, None};
+ghost use Rattle.std.specs.Map.{lookup};
+ghost use Rattle.std.specs.Result.{MatchResult};
+ghost use Rattle.lru.specs.LruCache.{lru_cache, promoted, put_entries};
+ghost use Rattle.dutch_bracket.specs.declared.reached.BracketKind.TheVariants.{Ordinary};
+ghost use Rattle.dutch_bracket.specs.Reached.{IsOf};
+ghost use Rattle.dutch_bracket.specs.NextBracket.{IsNext, IsOfBracket, AreLeft, quality};
+ghost use Rattle.dutch_bracket.specs.QualityIn.{quality_in, next_in};
+ghost use Rattle.dutch_bracket.specs.Brackets.{quality_of};
+ghost use Rattle.dutch_choice.specs.Remembered.{value_below, is_kept, is_key, IsLook, IsKeptAfter, LooksOn, LooksBelow};
+ghost use Rattle.dutch_order.specs.Steps.{Spends};
+
+use dutch_bracket::context::Context;
+use dutch_bracket::fault::PairFault;
+use dutch_bracket::lookahead::{Above, value_below};
+use dutch_bracket::quality::{NextValue, Quality, Room, fill_quality};
+use dutch_bracket::reached::{BracketKind, Reached, Seats, copied, push_all};
+use dutch_order::{Budget, Candidate, LIMIT, Numbers, Stopped};
+use dutch_player::Field;
+use dutch_weights::weight_floor::WeightFloors;
+use lru::LruCache;
+use std::alloc::Global;
+use std::marker::Model;
+use std::num::NonZeroUsize;
+
+/// The most values that are kept.
+const MOST: usize = 64;
+
+/// What a look at the next bracket gives.
+#[derive(Debug, Drop)]
+pub enum Look {
+    /// The most pairs, and the least PSD for them, the highest difference first (in half points).
+    Value { pairs: usize, psd: Numbers },
+    /// The budget's limit was reached first.
+    Undecided,
+}
+
+/// The values that are kept, by the numbers of the downfloaters.
+type Values = LruCache<Numbers, NextValue>;
+
+/// The values of the next bracket for downfloaters of one ordinary bracket, of which the last used are kept.
+#[derive(Drop)]
+pub struct LookAhead<'a> {
+    // for matchings of the next bracket
+    alloc: Global,
+    field: &'a Field,
+    reached: &'a Reached,
+    next: Seats,
+    values: Values,
+    // memory was refused for a value
+    is_short: bool,
+    // the downfloaters who are asked about, filled anew for each question
+    key: Numbers,
+}
+
+impl<'a> Model for LookAhead<'a> {
+    ghost use Rattle.dutch_choice.specs.Remembered.{Remembered, AreValues, lists_kept};
+
+    ghost Value = { Remembered };
+
+    ghost view = { λ a. record {
+      facts = a.field.now;
+      reached = a.reached.now;
+      next = a.next.items;
+      kept = lists_kept a.values.entries;
+      is_short = a.is_short;
+    } };
+
+    ghost invariant = { λ a. AreValues a.field.now a.reached.now a.next.items a.values };
+}
+
+/// Fills a key with downfloaters.
+fn fill_key(down: &[u16], key: &mut Numbers)
+    requires { length down.now ≤ LIMIT }
+    ensures { key.new.items ≡ down.now }
+{
+    key.clear();
+    push_all(down, key);
+}
+
+/// An empty cache.
+fn no_values(alloc: Global) -> Result<Values, PairFault>
+    ensures { IfOk result (λ values. values ≡ lru_cache [] 64) }
+{
+    let most = NonZeroUsize::new(MOST).unwrap();
+    Ok(LruCache::new(alloc, most)?)
+}
+
+/// The value that is kept for downfloaters, who are then the last used.
+fn recalled(values: &mut Values, down: &Numbers) -> Option<NextValue>
+    ensures value { result ≡ lookup (is_key down.now) values.old.entries }
+    ensures kept { values.new ≡ lru_cache (promoted (is_key down.now) values.old.entries) values.old.cap }
+{
+    match values.get(down) {
+        Some(value) => Some(value.copied()),
+        None => None,
+    }
+}
+
+/// Puts the value that is kept for downfloaters, who are then the last used, into a quality, with no copy between. No
+/// says that none is kept.
+fn put_recalled(values: &mut Values, down: &Numbers, quality: &mut Quality) -> bool
+    ensures put { lookup (is_key down.now) values.old.entries
+        ≡ (if result then Some (next_in (quality_in quality.new)) else None) }
+    ensures kept { values.new ≡ lru_cache (promoted (is_key down.now) values.old.entries) values.old.cap }
+{
+    let Some(value) = values.get(down) else {
+        return false;
+    };
+    quality.put_next(value.pairs, &value.psd);
+    true
+}
+
+/// Keeps a value for downfloaters. If memory is refused, nothing changes, and this is noted.
+fn keep(values: &mut Values, down: Numbers, value: NextValue, is_short: &mut bool)
+    ensures { ((values.new ≡ lru_cache (put_entries is_key values.old down value) values.old.cap)
+        × (is_short.new ≡ is_short.old))
+        ⊎ ((values.new ≡ values.old) × (is_short.new ≡ true)) }
+{
+    match values.put(down, value) {
+        Ok(_) => {}
+        Err(_) => *is_short = true,
+    }
+}
+
+/// A value, told.
+fn told(value: NextValue) -> Look
+    ensures { IsLook value ⊥ result }
+{
+    Look::Value {
+        pairs: value.pairs,
+        psd: value.psd,
+    }
+}
+
+impl<'a> LookAhead<'a> {
+    /// A look-ahead from an ordinary bracket of a field to the next lower scoregroup, with no value kept.
+    pub fn new(
+        alloc: Global,
+        field: &'a Field,
+        reached: &'a Reached,
+        next: &[u16],
+    ) -> Result<LookAhead<'a>, PairFault>
+        requires of { IsOf field.now reached.now }
+        requires ordinary { reached.now.kind ≡ Ordinary }
+        requires next { IsNext field.now reached.now next.now }
+        ensures { IfOk result (λ ahead. ahead
+            ≡ record { facts = field.now; reached = reached.now; next = next.now; kept = []; is_short = false }) }
+    {
+        let mut seats = Seats::new();
+        push_all(next, &mut seats);
+        Ok(LookAhead {
+            alloc,
+            field,
+            reached,
+            next: seats,
+            values: no_values(alloc)?,
+            is_short: false,
+            key: Numbers::new(),
+        })
+    }
+
+    /// What the next bracket can be for downfloaters for whom no value is kept.
+    fn looked_for(&mut self, down: &[u16], budget: &mut Budget) -> Look
+        requires unknown { is_kept down.now self.old.kept ≡ false }
+        requires down { AreLeft self.old.reached down.now }
+        requires within { budget.old.used ≤ budget.old.limit }
+        ensures answer { IsLook (value_below self.old.facts self.old.reached self.old.next down.now)
+            (budget.new.used ≡ budget.new.limit) result }
+        ensures kept { IsKeptAfter down.now self.old self.new result }
+        ensures spends { Spends budget.old budget.new }
+    {
+        let above = Above {
+            alloc: Some(self.alloc),
+            field: self.field,
+            reached: self.reached,
+            next: &self.next,
+        };
+        match value_below(&above, down, budget) {
+            Ok(value) => {
+                let key = copied(down);
+                keep(&mut self.values, key, value.copied(), &mut self.is_short);
+                told(value)
+            }
+            Err(Stopped) => Look::Undecided,
+        }
+    }
+
+    /// What the next bracket can be for downfloaters, by their numbers in the bracket. A value that is kept takes no
+    /// step. If memory is refused, the value is not kept, which `is_short` tells from then on.
+    pub fn value(&mut self, down: &[u16], budget: &mut Budget) -> Look
+        requires down { AreLeft self.old.reached down.now }
+        requires within { budget.old.used ≤ budget.old.limit }
+        ensures answer { IsLook (value_below self.old.facts self.old.reached self.old.next down.now)
+            ((is_kept down.now self.old.kept ≡ false) × (budget.new.used ≡ budget.new.limit)) result }
+        ensures free { is_kept down.now self.old.kept ≡ true → budget.new.used ≡ budget.old.used }
+        ensures kept { IsKeptAfter down.now self.old self.new result }
+        ensures spends { Spends budget.old budget.new }
+    {
+        let _field = self.field;
+        fill_key(down, &mut self.key);
+        match recalled(&mut self.values, &self.key) {
+            Some(value) => told(value),
+            None => self.looked_for(down, budget),
+        }
+    }
+
+    /// Puts the value that is kept for downfloaters into a quality. No says that none is kept.
+    fn put_kept(&mut self, down: &[u16], quality: &mut Quality) -> bool
+        requires { AreLeft self.old.reached down.now }
+        ensures put { result ≡ true
+            → next_in (quality_in quality.new) ≡ value_below self.old.facts self.old.reached self.old.next down.now }
+        ensures none { result ≡ false → is_kept down.now self.new.kept ≡ false }
+        ensures looks_on { LooksOn self.old self.new }
+    {
+        fill_key(down, &mut self.key);
+        put_recalled(&mut self.values, &self.key, quality)
+    }
+
+    /// Fills the quality of a candidate of the bracket.
+    #[tactic(auto, using(dutch_bracket::proofs::NextBrackets::left_by_candidate), unfolding(dutch_bracket::specs::NextBracket::quality, dutch_bracket::specs::Quality::quality_with))]
+    fn fill_quality(
+        &mut self,
+        candidate: &Candidate,
+        room: &mut Room,
+        budget: &mut Budget,
+    ) -> Result<(), Stopped>
+        requires candidate { IsOfBracket self.old.facts self.old.reached candidate.now }
+        requires within { budget.old.used ≤ budget.old.limit }
+        ensures answer { MatchResult result
+            (λ _. quality_in room.new.quality ≡ quality self.old.facts self.old.reached self.old.next candidate.now)
+            (λ _. budget.new.used ≡ budget.new.limit) }
+        ensures looks_on { LooksOn self.old self.new }
+        ensures spends { Spends budget.old budget.new }
+    {
+        let (field, reached, down) = (self.field, self.reached, candidate.down());
+        if !self.put_kept(down, &mut room.quality) {
+            match self.looked_for(down, budget) {
+                Look::Value { pairs, psd } => room.quality.put_next(pairs, &psd),
+                Look::Undecided => return Err(Stopped),
+            }
+        }
+        fill_quality(field, reached.seats(), candidate, room);
+        Ok(())
+    }
+
+    /// Whether memory was refused for a value, so that it was not kept.
+    pub fn is_short(&self) -> bool
+        ensures { result ≡ self.now.is_short }
+    {
+        self.is_short
+    }
+
+    /// How many values are kept.
+    pub fn len(&self) -> usize
+        ensures len { result ≡ length self.now.kept }
+        ensures most { result ≤ 64 }
+    {
+        self.values.len()
+    }
+}
+
+/// The look-ahead of a bracket above all lower seats: one for an ordinary bracket, and none for another kind.
+pub(crate) fn look_below<'a>(
+    alloc: Global,
+    context: &'a Context<'a>,
+) -> Result<Option<LookAhead<'a>>, PairFault>
+    ensures { IfOk result (LooksBelow context.now.facts context.now.reached context.now.lower) }
+{
+    match context.reached().kind() {
+        BracketKind::Ordinary => {
+            let look = LookAhead::new(alloc, context.field(), context.reached(), context.next())?;
+            Ok(Some(look))
+        }
+        _ => Ok(None),
+    }
+}
+
+/// What tells the quality of a bracket's candidates: the look-ahead, in an ordinary bracket, and room to work it out;
+/// and a list for those whom a candidate leaves over with all lower players, filled anew for each that is asked about.
+#[derive(Drop)]
+pub(crate) struct Judge<'a> {
+    pub(crate) look: Option<LookAhead<'a>>,
+    pub room: Room,
+    pub left: Seats,
+    /// Floors of the bracket by weight, where they were asked for.
+    pub(crate) weights: Option<WeightFloors<'a>>,
+}
+
+/// Fills the quality of a candidate above all lower seats, by the look-ahead of its bracket.
+#[tactic(auto, using(dutch_bracket::proofs::NextGroups::is_next, dutch_bracket::proofs::NextGroups::quality_at), unfolding(dutch_bracket::specs::NextBracket::quality, dutch_bracket::specs::Quality::quality_with))]
+pub(crate) fn judge_candidate(
+    context: &Context<'_>,
+    candidate: &Candidate,
+    judge: &mut Judge<'_>,
+    budget: &mut Budget,
+) -> Result<(), Stopped>
+    requires candidate { IsOfBracket context.now.facts context.now.reached candidate.now }
+    requires look { LooksBelow context.now.facts context.now.reached context.now.lower judge.old.look }
+    requires within { budget.old.used ≤ budget.old.limit }
+    ensures answer { MatchResult result
+        (λ _. quality_in judge.new.room.quality
+        ≡ quality_of context.now.facts context.now.reached context.now.lower candidate.now.lists)
+        (λ _. budget.new.used ≡ budget.new.limit) }
+    ensures look { LooksBelow context.now.facts context.now.reached context.now.lower judge.new.look }
+    ensures weights { judge.new.weights ≡ judge.old.weights }
+    ensures spends { Spends budget.old budget.new }
+{
+    let room = &mut judge.room;
+    match &mut judge.look {
+        Some(look) => look.fill_quality(candidate, room, budget),
+        None => {
+            room.quality.put_next(0, &[]);
+            fill_quality(context.field(), context.reached().seats(), candidate, room);
+            Ok(())
+        }
+    }
+}

@@ -1,0 +1,221 @@
+// Laws of the weight of a candidate: its items that are sums, C.6 and C.8 to C.19, and what the next bracket can be
+// where that is measured, C.7, as the digits of one number (C.04.3). A certificate bounds it for all candidates with a
+// beginning, and that bound is a floor: a quality that none of them is better than.
+ghost use Rattle.std.specs.Prelude.{◌≡◌, ◌+◌, ◌-◌, ◌*◌, ◌<◌, ◌≤◌, ◌||◌, ◌++◌, ◌%◌, ℕ, List, true, false, is_some};
+ghost use Rattle.std.specs.Prelude.{length, sum_by, nat_lt};
+ghost use Rattle.dual.specs.Duals.{Certificate, IsFeasible};
+ghost use Rattle.dutch_order.specs.declared.bracket.Shape.{Shape};
+ghost use Rattle.dutch_order.specs.Arrangements.{Arrangement, Fits, down};
+ghost use Rattle.dutch_order.specs.Choices.{numbers_from};
+ghost use Rattle.dutch_order.specs.Keys.{IsIn};
+ghost use Rattle.dutch_order.specs.Prefixes.{Begins, Beginning};
+ghost use Rattle.dutch_player.specs.Facts.{Facts};
+ghost use Rattle.dutch_bracket.specs.Beginnings.{HasPairsOf};
+ghost use Rattle.dutch_floors.specs.Outlooks.{IsOutlook, awaited};
+ghost use Rattle.dutch_floors.specs.declared.outlook.Outlook.{Outlook};
+ghost use Rattle.dutch_bracket.specs.PsdFloors.{is_uniform};
+ghost use Rattle.dutch_bracket.specs.Beginnings.{fixed_lists, has_s1};
+ghost use Rattle.dutch_bracket.specs.Quality.{Quality, is_better};
+ghost use Rattle.dutch_bracket.specs.QualityIn.{next_in};
+ghost use Rattle.dutch_order.specs.Forms.{NoneTwice};
+ghost use Rattle.dutch_bracket.specs.NextMatchings.{IsSmall, JoinsBelow, MayPairBelow, count_below, players_below};
+ghost use Rattle.dutch_bracket.specs.NextMatchings.{seat_below};
+ghost use Rattle.dutch_bracket.specs.Seats.{seats_meet};
+ghost use Rattle.dutch_bracket.specs.declared.reached.BracketKind.TheVariants.{Ordinary};
+ghost use Rattle.dutch_bracket.specs.Reached.{IsAbove, IsOf, Reached, frame_of};
+ghost use Rattle.dutch_bracket.specs.Brackets.{candidates_of, completable, downfloaters, quality_of};
+ghost use Rattle.dutch_bracket.specs.Weights.{HasDigits, IsOn, IsScale, IsScaleFor, Scale, alone_by, least_weight};
+ghost use Rattle.dutch_bracket.specs.Weights.{number_pairs, numbers};
+ghost use Rattle.dutch_bracket.specs.Weights.{weighing, weight_above, weight_below, weight_of};
+ghost use Rattle.dutch_weights.specs.declared.scoped.Reach.TheVariants.{Bracket, Lower, Next};
+ghost use Rattle.dutch_bracket.specs.Scopes.{Covers, Scope};
+ghost use Rattle.dutch_weights.specs.ScopedCosts.{costs_in};
+ghost use Rattle.dutch_weights.specs.Orders.{Order};
+ghost use Rattle.dutch_weights.specs.WeightFloors.{HasNoBetterOn, HasSameNextOn, added_in, bound_behind};
+ghost use Rattle.dual.specs.Floors.{FloorTable, IsFloor, extra_in};
+ghost use Rattle.dual.specs.Matchings.{cost};
+
+/// C.6 to C.19: the weight of a candidate is the sum of what each of its pairs and each of its downfloaters weighs
+/// alone, and, where C.7 is measured, of what its value of the next bracket weighs.
+#[tactic(auto, using(dutch_weights::proofs::C06ToC19Weights::candidate_weighs))]
+pub fn a_weight_is_a_sum()
+    ensures { (facts : Facts) (reached : Reached) (scale : Scale) (lower : List ℕ) (a : Arrangement)
+        → weight_of scale (quality_of facts reached lower a)
+        ≡ cost (weighing facts reached scale) (number_pairs a) (down (frame_of facts reached) a)
+        + weight_below scale (alone_by scale.next (quality_of facts reached lower a).next_pairs)
+        (quality_of facts reached lower a).next_psd }
+{}
+
+/// C.6 to C.19: of two qualities with one value of the next bracket, or on a scale that measures that (C.7), the better
+/// one is the one that weighs less, if the scale has a digit for each of their differences and a base above each of
+/// their digits.
+#[tactic(auto, using(dutch_weights::proofs::WrittenNumbers::lighter_is_better))]
+pub fn the_lighter_is_better()
+    ensures { (scale : Scale) → IsScale scale → (q r : Quality) → IsOn scale q → IsOn scale r → HasDigits scale q
+        → HasDigits scale r
+        → HasSameNextOn scale.next q r → is_better q r ≡ nat_lt (weight_of scale q) (weight_of scale r) }
+{}
+
+/// C.6, C.8 to C.19: no candidate with a beginning weighs less than a feasible certificate says, with the slack of the
+/// pairs that the beginning fixes, each once.
+#[tactic(auto, using(dutch_weights::proofs::CandidateMatchings::weighs_no_less))]
+pub fn a_certificate_bounds_the_weight()
+    ensures { (facts : Facts) (reached : Reached) (scale : Scale) (lower : List ℕ) (shape : Shape) (a : Arrangement)
+        → IsOf facts reached
+        → Fits (frame_of facts reached) shape → IsIn a (candidates_of facts reached shape) → (b : Arrangement)
+        → HasPairsOf b a
+        → (certificate : Certificate) → IsFeasible (weighing facts reached scale) (numbers reached) certificate
+        → least_weight facts reached scale certificate shape b ≤ weight_of scale (quality_of facts reached lower a) }
+{}
+
+/// C.6 to C.19: so a quality that weighs no more than that is a floor: no candidate with the beginning is better than
+/// it, unless by a better value of the next bracket.
+pub fn a_certificate_gives_floors()
+    ensures { (facts : Facts) (reached : Reached) (scale : Scale) (lower : List ℕ) (shape : Shape) (a : Arrangement)
+        → IsOf facts reached
+        → Fits (frame_of facts reached) shape → IsIn a (candidates_of facts reached shape) → (b : Arrangement)
+        → HasPairsOf b a
+        → (certificate : Certificate) → IsFeasible (weighing facts reached scale) (numbers reached) certificate
+        → IsScale scale → IsScaleFor facts reached lower shape scale → (f : Quality) → IsOn scale f
+        → weight_of scale f ≤ least_weight facts reached scale certificate shape b
+        → HasNoBetterOn scale.next (quality_of facts reached lower a) (next_in f)
+        → is_better (quality_of facts reached lower a) f ≡ false }
+{}
+
+/// C.6: where the bound is above the PSD of a quality, no candidate with the beginning is better than it, whatever the
+/// next bracket can be.
+pub fn a_certificate_tells_of_the_psd()
+    ensures { (facts : Facts) (reached : Reached) (scale : Scale) (lower : List ℕ) (shape : Shape) (a : Arrangement)
+        → IsOf facts reached
+        → Fits (frame_of facts reached) shape → IsIn a (candidates_of facts reached shape) → (b : Arrangement)
+        → HasPairsOf b a
+        → (certificate : Certificate) → IsFeasible (weighing facts reached scale) (numbers reached) certificate
+        → IsScale scale → IsScaleFor facts reached lower shape scale → (f : Quality) → IsOn scale f
+        → weight_above scale f ≤ least_weight facts reached scale certificate shape b
+        → is_better (quality_of facts reached lower a) f ≡ false }
+{}
+
+/// C.6 to C.19: the same behind a beginning that the search comes to, where the floor has the best that the next
+/// bracket is known to be.
+#[tactic(auto, using(crate::proofs::CertificateFloors::behind_beginning))]
+pub fn a_beginning_has_a_floor_by_weight()
+    ensures { (facts : Facts) (reached : Reached) (scale : Scale) (lower : List ℕ) (shape : Shape) (a : Arrangement)
+        → IsOf facts reached
+        → Fits (frame_of facts reached) shape → IsIn a (candidates_of facts reached shape)
+        → (outlook : Outlook) → IsOutlook facts reached lower shape outlook → (b : Beginning) → Begins b a
+        → (has_s1 b.filling || is_uniform facts reached shape) ≡ true
+        → (certificate : Certificate) → IsFeasible (weighing facts reached scale) (numbers reached) certificate
+        → IsScale scale → IsScaleFor facts reached lower shape scale → (f : Quality) → IsOn scale f
+        → weight_of scale f ≤ least_weight facts reached scale certificate shape (fixed_lists b)
+        → next_in f ≡ awaited facts reached shape outlook b.filling (fixed_lists b).s1
+        → is_better (quality_of facts reached lower a) f ≡ false }
+{}
+
+/// C.6, C.8 to C.19: no candidate behind a beginning weighs less than a floor says that is for all arrangements with
+/// that beginning: its base, and what the pairs of the beginning and the moved-down players outside of S1 add, each
+/// once, without its debt. Where the floor counts an order of S1R (D.2), a candidate weighs no less with what the
+/// members of its S1R add.
+#[tactic(auto, using(dutch_weights::proofs::WeightsBehind::weighs_more))]
+pub fn a_floor_bounds_the_weight()
+    ensures { (facts : Facts) (reached : Reached) (scale : Scale) (lower : List ℕ) (shape : Shape) (a : Arrangement)
+        → IsOf facts reached
+        → Fits (frame_of facts reached) shape → IsIn a (candidates_of facts reached shape) → (b : Beginning)
+        → Begins b a
+        → (scope : Scope) → Covers scope b → (order : Order) → (floor : FloorTable)
+        → IsFloor (costs_in (record {
+          weighing = record { facts = facts; reached = reached; lower = lower; scale = scale };
+          scope = scope;
+          reach =
+              Bracket;
+          order = order;
+        }))
+        (numbers reached) (length reached.seats - 2 * shape.pairs) floor
+        → bound_behind floor reached.mdps b
+        ≤ floor.debt + (weight_of scale (quality_of facts reached lower a) + added_in order a) }
+{}
+
+/// C.4, C.6, C.8 to C.19: a candidate that leaves over players who can be paired out with all lower ones weighs no less
+/// than a floor says that goes over these lower players too: its base, and what the pairs of the beginning add, each
+/// once, without its debt.
+#[tactic(auto, using(dutch_weights::proofs::C04Lower::weighs_more_below))]
+pub fn a_floor_for_lower_players_bounds_the_weight()
+    ensures { (facts : Facts) (reached : Reached) (scale : Scale) (lower : List ℕ) (scope : Scope) (order : Order)
+        (shape : Shape)
+        (a : Arrangement) → IsOf facts reached → Fits (frame_of facts reached) shape
+        → IsIn a (candidates_of facts reached shape)
+        → (b : Beginning) → Begins b a → Covers scope b
+        → completable facts (downfloaters facts reached a ++ lower) ≡ true → (floor : FloorTable)
+        → IsFloor (costs_in (record {
+          weighing = record { facts = facts; reached = reached; lower = lower; scale = scale };
+          scope = scope;
+          reach =
+              Lower;
+          order = order;
+        }))
+        (numbers_from 1 (length reached.seats + length lower)) ((length reached.seats + length lower) % 2) floor
+        → floor.base + sum_by (extra_in floor) (number_pairs (fixed_lists b))
+        ≤ floor.debt + (weight_of scale (quality_of facts reached lower a) + added_in order a) }
+{}
+
+/// C.6 to C.19: on a scale that measures the next bracket (C.7), a candidate of an ordinary bracket weighs no less than
+/// a floor says that goes over the next lower scoregroup too, however many are left over there: its base, and what the
+/// pairs of the beginning add, each once, without its debt.
+#[tactic(auto, using(dutch_weights::proofs::C07NextWeights::weighs_more_next))]
+pub fn a_floor_for_the_next_group_bounds_the_weight()
+    ensures { (facts : Facts) (reached : Reached) (scale : Scale) (lower : List ℕ) (scope : Scope) (order : Order)
+        (shape : Shape)
+        (a : Arrangement) → Fits (frame_of facts reached) shape → IsIn a (candidates_of facts reached shape)
+        → (b : Beginning) → Begins b a → Covers scope b → is_some scale.next ≡ true
+        → IsScaleFor facts reached lower shape scale
+        → (floor : FloorTable)
+        → ((left : ℕ) → IsFloor (costs_in
+        (record {
+          weighing = record { facts = facts; reached = reached; lower = lower; scale = scale };
+          scope = scope;
+          reach = Next;
+          order = order;
+        }))
+        (numbers_from 1 (count_below facts reached lower)) left floor)
+        → floor.base + sum_by (extra_in floor) (number_pairs (fixed_lists b))
+        ≤ floor.debt + (weight_of scale (quality_of facts reached lower a) + added_in order a) }
+{}
+
+/// C.6 to C.19: a quality is better than a candidate that weighs more and has no better value of the next bracket.
+#[tactic(auto, using(dutch_weights::proofs::WeightsBehind::lighter))]
+pub fn a_lighter_quality_is_better()
+    ensures { (facts : Facts) (reached : Reached) (scale : Scale) (lower : List ℕ) (shape : Shape) (a : Arrangement)
+        → IsOf facts reached
+        → Fits (frame_of facts reached) shape → IsIn a (candidates_of facts reached shape)
+        → IsScale scale → IsScaleFor facts reached lower shape scale → (f : Quality) → IsOn scale f
+        → weight_of scale f < weight_of scale (quality_of facts reached lower a)
+        → HasNoBetterOn scale.next (quality_of facts reached lower a) (next_in f)
+        → is_better f (quality_of facts reached lower a) ≡ true }
+{}
+
+/// C.7: what the next bracket can be at best below a candidate of an ordinary bracket is the value of pairs by number:
+/// with the pairs of the candidate, and those who are in none, they are all numbers of the bracket and the next lower
+/// scoregroup.
+#[tactic(auto, using(dutch_weights::proofs::C07NextMatchings::joins_below))]
+pub fn the_next_value_is_that_of_a_matching()
+    ensures { (facts : Facts) (reached : Reached) (lower : List ℕ) (shape : Shape) (a : Arrangement)
+        → IsAbove facts reached lower
+        → reached.kind ≡ Ordinary → IsIn a (candidates_of facts reached shape) → JoinsBelow facts reached lower a }
+{}
+
+/// C.7: so it has no more pairs than half the players of the next bracket, and no more differences than players, the
+/// highest first.
+pub fn the_next_value_is_small()
+    ensures { (facts : Facts) (reached : Reached) (lower : List ℕ) (shape : Shape) (a : Arrangement)
+        → IsAbove facts reached lower
+        → reached.kind ≡ Ordinary → IsIn a (candidates_of facts reached shape)
+        → IsSmall (players_below facts reached lower shape) (next_in (quality_of facts reached lower a)) }
+{}
+
+/// C.1, C.3: where no lower player comes twice, two who may be a pair of the next bracket are two seats that meet.
+#[tactic(auto, using(dutch_weights::proofs::C07NextMatchings::seats_meet_below))]
+pub fn pairs_of_the_next_bracket_meet()
+    ensures { (facts : Facts) (reached : Reached) (lower : List ℕ) (a : Arrangement) → IsAbove facts reached lower
+        → NoneTwice lower
+        → (pair : ℕ × ℕ) → MayPairBelow facts reached lower a pair
+        → seats_meet facts (seat_below facts reached lower pair.0) (seat_below facts reached lower pair.1) ≡ true }
+{}

@@ -1,0 +1,12 @@
+pub mod C07PsdFloor
+pub mod C07Ghosts
+pub mod C07GhostValues
+pub mod GhostBrackets
+pub mod C10Preferences
+pub mod LonelyLemmas
+pub mod FloorLemmas
+pub mod GrantedColours
+pub mod C11StrongPreferences
+pub mod FreePlayers
+pub mod C10Lonely
+pub mod C07Outlook

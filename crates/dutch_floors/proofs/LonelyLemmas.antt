@@ -1,0 +1,102 @@
+-- Numbers that are marked one by one, and those that are left.
+use Rattle.std.proofs.Common.{◌≡◌, ℕ, zero, suc, ◌+◌, ◌-◌, ◌<◌, ◌≤◌, Bool, true, false, not, ◌||◌, cond, List, [], ◌∷◌, ◌++◌, length, map, get_or, drop, filter, inl, inr, refl, sym, ap, ◌∙◌, subst, arith}
+use Rattle.std.proofs.lemmas.Bool.{eq-eqb, ne_eqb, cases_eq}
+use Rattle.std.proofs.lemmas.List.{drop_more, length-map, append-nil}
+use Rattle.std.proofs.lemmas.List.Elements.{filter-append}
+use Rattle.std.specs.List.{AllByRecursion}
+use Rattle.dutch_order.specs.Choices.{is_member, numbers_from}
+use Rattle.dutch_order.specs.Arrangements.{left_of, Arrangement}
+use Rattle.dutch_order.proofs.Members.{numbers-append}
+use Rattle.dutch_player.specs.Facts.{Facts}
+use Rattle.dutch_bracket.specs.Reached.{Reached}
+use Rattle.dutch_bracket.specs.Seated.{score_at, AllNumbers}
+use Rattle.dutch_bracket.specs.BitTables.{has_bit}
+use Rattle.dutch_bracket.specs.ColourFloors.{beyond, pool}
+use Rattle.dutch_bracket.proofs.AllLemmas.{all_filter}
+use Rattle.dutch_bracket.proofs.ArrangementParts.{numbers_within}
+use Rattle.std.proofs.Math.Bool.{or-true}
+use Rattle.dutch_order.proofs.Skipping.{filter-keeps, filter-drops}
+
+pub or_false : (t : Bool) → t ≡ (t || false)
+or_false true = refl
+or_false false = refl
+
+marked : (old new rest : List ℕ) (x i : ℕ) → has_bit new x ≡ true → ((j : ℕ) → ¬ (j ≡ x) → has_bit new j ≡ has_bit old j)
+    → (has_bit new i || is_member i rest) ≡ (has_bit old i || is_member i (x ∷ rest))
+marked old new rest x i set others =
+    elim (cases_eq i x) [
+      | inl same ↦ ap (λ t. t || is_member i rest) (ap (has_bit new) same ∙ set)
+          ∙ (sym (or-true (has_bit old i)) ∙ sym (ap (λ t. has_bit old i || (t || is_member i rest)) (eq-eqb x i (sym same))))
+      | inr other ↦ ap (λ t. t || is_member i rest) (others i other)
+          ∙ sym (ap (λ t. has_bit old i || (t || is_member i rest)) (ne_eqb x i (λ e. other (sym e))))
+    ]
+
+pub mark_more : (old new numbers : List ℕ) (k i : ℕ) → k < length numbers → has_bit new (get_or numbers k 0) ≡ true
+    → ((j : ℕ) → ¬ (j ≡ get_or numbers k 0) → has_bit new j ≡ has_bit old j)
+    → (has_bit new i || is_member i (drop (k + 1) numbers)) ≡ (has_bit old i || is_member i (drop k numbers))
+mark_more old new numbers k i lt set others =
+    marked old new (drop (k + 1) numbers) (get_or numbers k 0) i set others
+    ∙ ap (λ xs. has_bit old i || is_member i xs) (sym (drop_more numbers k 0 lt))
+
+three : (p q r : ℕ → Bool) (x : ℕ) (xs ys : List ℕ) (a b c : Bool) → p x ≡ not a → q x ≡ not b → r x ≡ not c
+    → ys ≡ filter r (filter q (filter p xs)) → cond (not ((a || b) || c)) (x ∷ ys) ys ≡ filter r (filter q (filter p (x ∷ xs)))
+three p q r x xs ys false false false f g h e =
+    ap (λ zs. x ∷ zs) e ∙ sym (ap (λ zs. filter r (filter q zs)) (filter-keeps p x xs f)
+    ∙ (ap (filter r) (filter-keeps q x (filter p xs) g) ∙ filter-keeps r x (filter q (filter p xs)) h))
+three p q r x xs ys false false true f g h e =
+    e ∙ sym (ap (λ zs. filter r (filter q zs)) (filter-keeps p x xs f) ∙ (ap (filter r) (filter-keeps q x (filter p xs) g) ∙ filter-drops r x (filter q (filter p xs)) h))
+three p q r x xs ys false true c f g h e =
+    e ∙ sym (ap (λ zs. filter r (filter q zs)) (filter-keeps p x xs f) ∙ ap (filter r) (filter-drops q x (filter p xs) g))
+three p q r x xs ys true b c f g h e = e ∙ sym (ap (λ zs. filter r (filter q zs)) (filter-drops p x xs f))
+
+pub left_is : (table s2 s1r s2r xs : List ℕ) → ((i : ℕ) → has_bit table i ≡ ((is_member i s2 || is_member i s1r) || is_member i s2r))
+    → filter (λ x. not (has_bit table x)) xs ≡ left_of (left_of (left_of xs s2) s1r) s2r
+left_is table s2 s1r s2r [] h = refl
+left_is table s2 s1r s2r (x ∷ xs) h =
+    ap (λ t. cond (not t) (x ∷ filter (λ y. not (has_bit table y)) xs) (filter (λ y. not (has_bit table y)) xs)) (h x)
+    ∙ three (λ y. not (is_member y s2)) (λ y. not (is_member y s1r)) (λ y. not (is_member y s2r)) x xs (filter (λ y. not (has_bit table y)) xs)
+    (is_member x s2) (is_member x s1r) (is_member x s2r) refl refl refl (left_is table s2 s1r s2r xs h)
+
+pub unmarked_more : (p : ℕ → Bool) (first place : ℕ) → p (first + place) ≡ true
+    → filter p (numbers_from first (place + 1)) ≡ filter p (numbers_from first place) ++ (first + place) ∷ []
+unmarked_more p first place h =
+    ap (filter p) (numbers-append first place 1)
+    ∙ (filter-append p (numbers_from first place) (numbers_from (first + place) 1)
+    ∙ ap (λ xs. filter p (numbers_from first place) ++ xs) (filter-keeps p (first + place) [] h))
+
+pub marked_more : (p : ℕ → Bool) (first place : ℕ) → p (first + place) ≡ false
+    → filter p (numbers_from first (place + 1)) ≡ filter p (numbers_from first place)
+marked_more p first place h =
+    ap (filter p) (numbers-append first place 1)
+    ∙ (filter-append p (numbers_from first place) (numbers_from (first + place) 1)
+    ∙ (ap (λ xs. filter p (numbers_from first place) ++ xs) (filter-drops p (first + place) [] h) ∙ append-nil (filter p (numbers_from first place))))
+
+pub pool_is : (facts : Facts) (reached : Reached) (b : Arrangement) (table xs : List ℕ) (count : ℕ) → count ≡ length reached.seats - reached.mdps
+    → ((i : ℕ) → has_bit table i ≡ ((is_member i b.s2 || is_member i b.s1r) || is_member i b.s2r))
+    → xs ≡ filter (λ x. not (has_bit table x)) (numbers_from (reached.mdps + 1) count) → xs ≡ pool facts reached b
+pool_is facts reached b table xs count e h is =
+    let counted : count ≡ length (map (score_at facts) reached.seats) - reached.mdps =
+    let l = length-map reached.seats (score_at facts) in omega (arith, l, e) in
+    is ∙ (left_is table b.s2 b.s1r b.s2r (numbers_from (reached.mdps + 1) count) h
+    ∙ ap (λ k. left_of (left_of (left_of (numbers_from (reached.mdps + 1) k) b.s2) b.s1r) b.s2r) counted)
+
+pub numbers_few : (first count n : ℕ) → first + count ≤ n + 1 → AllByRecursion (λ i. i ≤ n) (numbers_from first count)
+numbers_few first zero n h = tt
+numbers_few first (suc count) n h = (omega arith, numbers_few (suc first) count n (omega arith))
+
+pub pool_numbers : (reached : Reached) (table xs : List ℕ) (count : ℕ) → reached.mdps ≤ length reached.seats → count ≡ length reached.seats - reached.mdps
+    → xs ≡ filter (λ x. not (has_bit table x)) (numbers_from (reached.mdps + 1) count) → AllNumbers reached.seats xs
+pool_numbers reached table xs count within e is =
+    subst (AllNumbers reached.seats) (sym is)
+    (all_filter (λ i. (0 < i) × (i ≤ length reached.seats)) (λ x. not (has_bit table x)) (numbers_from (reached.mdps + 1) count)
+    (numbers_within 0 (reached.mdps + 1) count (length reached.seats) (omega arith) (omega (arith, within, e))))
+
+pub beyond_is : (part xs : List ℕ) → drop (length part) xs ≡ beyond part xs
+beyond_is [] xs = refl
+beyond_is (y ∷ part) [] = refl
+beyond_is (y ∷ part) (x ∷ xs) = beyond_is part xs
+
+pub back_numbers : (seats numbers : List ℕ) (count : ℕ) → AllNumbers seats numbers → AllNumbers seats (drop count numbers)
+back_numbers seats numbers zero h = h
+back_numbers seats [] (suc count) h = tt
+back_numbers seats (x ∷ numbers) (suc count) h = back_numbers seats numbers count h.1

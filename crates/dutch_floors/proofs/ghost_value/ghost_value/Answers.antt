@@ -1,0 +1,24 @@
+-- The ghosts are a bracket, and its greatest shape gives the value.
+use Rattle.std.proofs.Common.{◌≡◌, ℕ, List, length, sym, ap, ◌∙◌, subst, arith}
+use Rattle.std.proofs.lemmas.Option.{MatchOption-at_some}
+use Rattle.dutch_order.specs.Arrangements.{Frame, IsBracket}
+use Rattle.dutch_bracket.specs.Ghosts.{ghost_frame}
+use Rattle.dutch_floors.specs.GhostValues.{first_ghosts}
+use Rattle.dutch_bracket.specs.Brackets.{first_group, scoregroups}
+use Rattle.dutch_bracket.proofs.C07WeakerRules.{found_few}
+use Rattle.dutch_floors.proofs.ghost_value.ghost_value.Goals as goal
+
+pub ghost_bracket-bracket-requires : goal.ghost_bracket-bracket-requires
+ghost_bracket-bracket-requires c =
+    let facts = c.args.context.now.facts in
+    subst (λ (ghosts : List ℕ). IsBracket (ghost_frame facts ghosts (first_group facts (scoregroups facts c.args.context.now.lower))).scores (length ghosts))
+    (sym (c.deref.ensures.0 ∙ c.ghost_scores-scores.ensures.items)) c.ghost_scores-scores.ensures.bracket
+
+pub floor_held-requires-clause-small : goal.floor_held-requires-clause-small
+floor_held-requires-clause-small c =
+    let facts = c.args.context.now.facts in
+    let next : List ℕ = first_group facts (scoregroups facts c.args.context.now.lower) in
+    let frame : c.ghost_bracket-bracket.result ≡ ghost_frame facts (first_ghosts facts c.args.context.now.reached c.args.shape) next =
+    c.ghost_bracket-bracket.ensures ∙ ap (λ (ghosts : List ℕ). ghost_frame facts ghosts next) (c.deref.ensures.0 ∙ c.ghost_scores-scores.ensures.items) in
+    let upto = found_few _ c.ghost_bracket-bracket.result c.in-Some.most (MatchOption-at_some _ _ c.in-Some.most c.in-Some.is c.in_ok-most.ensures.answer) in
+    omega (arith, c.ghost_scores-scores.ensures.bracket.few, ap (λ (f : Frame). length f.scores) frame, upto)

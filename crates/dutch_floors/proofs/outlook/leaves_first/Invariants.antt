@@ -1,0 +1,15 @@
+-- What is left to compare tells whether all are the same.
+use Rattle.std.proofs.Common.{◌≡◌, ◌+◌, ◌-◌, ◌≤◌, map}
+use Rattle.dutch_order.specs.Arrangements.{left_of}
+use Rattle.dutch_order.specs.Choices.{is_same, numbers_from}
+use Rattle.dutch_floors.specs.Outlooks.{leaves_first}
+use Rattle.dutch_bracket.specs.Seated.{seat_of, score_at}
+use Rattle.dutch_floors.proofs.outlook.leaves_first.Given as goal
+
+abbrev pub invariant-loop-above : goal.invariant-loop-above
+invariant-loop-above l = record {
+  same : is_same (map (λ i. score_at l.context.facts (seat_of l.context.reached.seats i)) (left_of (numbers_from (l.above + 1) (l.context.reached.mdps - l.above)) l.s1))
+      (map (λ i. score_at l.context.facts (seat_of l.context.reached.seats i)) (numbers_from (l.passed + 1) (l.context.reached.mdps - l.passed)))
+      ≡ leaves_first l.context.facts l.context.reached l.fn.shape l.s1;
+  within : l.passed ≤ l.context.reached.mdps;
+}

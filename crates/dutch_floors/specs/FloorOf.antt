@@ -1,0 +1,125 @@
+-- The floor of a beginning, by what is fixed in it: a quality that no candidate with it is better than (C.04.3 C.6 to C.19).
+use Rattle.std.specs.Prelude.{◌≤◌, ◌≡◌, ℕ, ◌+◌, ◌-◌, ◌*◌, Bool, true, false, ◌&&◌, ◌||◌, ◌==◌, nat_lt, if◌then◌else◌, List, length, max, sum_by}
+use Rattle.trf16.specs.declared.cell.Colour.{Colour}
+use Rattle.trf16.specs.declared.cell.Colour.TheVariants.{White, Black}
+use Rattle.dutch_order.specs.declared.bracket.Shape.{Shape}
+use Rattle.dutch_order.specs.declared.prefix.Filling.{Filling}
+use Rattle.dutch_order.specs.declared.prefix.Filling.TheVariants.{S1, S2, S2r}
+use Rattle.dutch_order.specs.Arrangements.{Arrangement}
+use Rattle.dutch_order.specs.Choices.{numbers_from}
+use Rattle.dutch_order.specs.Prefixes.{Beginning}
+use Rattle.dutch_order.specs.declared.numbers.TheConstants.{LIMIT}
+use Rattle.dutch_player.specs.Facts.{Facts}
+use Rattle.dutch_bracket.specs.Quality.{Quality, psd}
+use Rattle.dutch_bracket.specs.Reached.{Reached}
+use Rattle.dutch_bracket.specs.Seated.{Seated, seat_of, score_at, all_pairs}
+use Rattle.dutch_bracket.specs.Beginnings.{fixed, in_both, fixed_lists, is_of_shape, has_s1}
+use Rattle.dutch_bracket.specs.ColourFloors.{wants, wants_firmly, lonely}
+use Rattle.dutch_bracket.specs.PsdFloors.{psd_with, is_uniform}
+use Rattle.dutch_floors.specs.declared.outlook.Outlook.{Outlook}
+use Rattle.dutch_floors.specs.Outlooks.{IsOutlook, awaited}
+use Rattle.dutch_floors.specs.declared.colour_floor.Wants.{Wants}
+use Rattle.dutch_floors.specs.declared.known.Known.{Known}
+use Rattle.dutch_floors.specs.KnownBeside.{known_by}
+use Rattle.dutch_bracket.specs.Floors.{floor_over, floor_with}
+
+-- a bracket of a field, the shape of its arrangements, and what the next bracket can be at best
+pub record Basis : Type 0 where
+  pub facts : Facts
+  pub reached : Reached
+  pub shape : Shape
+  pub outlook : Outlook
+
+-- S1; the first one, if none is chosen
+abbrev pub s1_by : Filling → Shape → List ℕ → List ℕ
+s1_by S1 shape s1 = numbers_from 1 shape.mdps
+s1_by S2 shape s1 = s1
+s1_by S2r shape s1 = s1
+
+-- the score of the first resident
+abbrev pub residents_score : Facts → Reached → ℕ
+residents_score facts reached = score_at facts (seat_of reached.seats (reached.mdps + 1))
+
+-- there is a resident, and all residents have one score
+abbrev pub is_flat : Facts → Reached → Bool
+is_flat facts reached = nat_lt reached.mdps (length reached.seats) && (residents_score facts reached == score_at facts (seat_of reached.seats (length reached.seats)))
+
+-- C.6: what S1 tells if all residents have one score; otherwise the differences of what is known
+unfoldable pub psd_over : Filling → Basis → List ℕ → Seated → List ℕ
+psd_over filling basis s1 known =
+    if is_flat basis.facts basis.reached
+    then psd_with basis.facts basis.reached basis.shape (residents_score basis.facts basis.reached) (s1_by filling basis.shape s1)
+    else psd basis.facts known
+
+-- the same if a beginning is known
+abbrev pub psd_by : Filling → Basis → Arrangement → List ℕ
+psd_by filling basis lists = psd_over filling basis lists.s1 (fixed basis.facts basis.reached lists)
+
+-- 1 for a seat whose preference is a colour, or only if it is also firm
+abbrev pub wanting : Bool → Facts → Colour → ℕ → ℕ
+wanting true = wants_firmly
+wanting false = wants
+
+-- how many of those in no pair and not among those who go down can be served: each pair to make serves one of them, and each further
+-- downfloater needs no colour
+abbrev pub served_in : Reached → Shape → Seated → ℕ
+served_in reached shape known = (shape.pairs - length known.pairs) + ((length reached.seats - 2 * shape.pairs) - length known.down)
+
+-- how many who want a colour, and are in no pair and not among those who go down, are more than can be served
+abbrev pub surplus_in : (ℕ → ℕ) → Reached → Shape → Seated → ℕ
+surplus_in w reached shape known =
+    ((sum_by w reached.seats - sum_by (in_both w) known.pairs) - sum_by w known.down) - served_in reached shape known
+
+-- so many of a bracket's players want White, and so many Black
+pub record AreWants (facts : Facts) (reached : Reached) (wants : Wants) : Type 0 where
+  pub white : wants.white ≡ sum_by (wanting wants.firm facts White) reached.seats
+  pub black : wants.black ≡ sum_by (wanting wants.firm facts Black) reached.seats
+  pub few_white : wants.white ≤ LIMIT
+  pub few_black : wants.black ≤ LIMIT
+
+-- how many more than those of its pairs miss, given what is known
+abbrev pub more_in : Bool → Facts → Reached → Shape → Seated → ℕ
+more_in firm facts reached shape known =
+    max (surplus_in (wanting firm facts White) reached shape known) (surplus_in (wanting firm facts Black) reached shape known)
+
+-- C.10: how many more miss than in the pairs that are fixed; lonely players are known once S1R is chosen
+abbrev pub more_by : Filling → Basis → Arrangement → ℕ
+more_by S1 basis lists = more_in false basis.facts basis.reached basis.shape (fixed basis.facts basis.reached lists)
+more_by S2 basis lists = more_in false basis.facts basis.reached basis.shape (fixed basis.facts basis.reached lists)
+more_by S2r basis lists =
+    max (more_in false basis.facts basis.reached basis.shape (fixed basis.facts basis.reached lists)) (lonely basis.facts basis.reached basis.shape lists)
+
+-- the floor by the list that is being filled and those that are fixed
+unfoldable pub floor_by : Filling → Basis → Arrangement → Quality
+floor_by filling basis lists =
+    floor_with basis.facts basis.reached (psd_by filling basis lists)
+    (awaited basis.facts basis.reached basis.shape basis.outlook filling lists.s1) (more_by filling basis lists)
+    (more_in true basis.facts basis.reached basis.shape (fixed basis.facts basis.reached lists)) lists
+
+-- the floor by what is known, of seats and of S1
+unfoldable pub floor_by_seats : Filling → Basis → List ℕ → Seated → Quality
+floor_by_seats filling basis s1 known =
+    floor_over basis.facts (psd_over filling basis s1 known) (awaited basis.facts basis.reached basis.shape basis.outlook filling s1)
+    (more_in false basis.facts basis.reached basis.shape known) (more_in true basis.facts basis.reached basis.shape known) known
+
+-- the floor of a beginning of which something more is known
+unfoldable pub floor_knowing : Basis → Known → Beginning → Quality
+floor_knowing basis known b =
+    let lists = fixed_lists b in
+    floor_by_seats b.filling basis lists.s1 (known_by basis.facts basis.reached known (all_pairs basis.reached.seats lists))
+
+-- the floor of a beginning
+unfoldable pub floor_of : Basis → Beginning → Quality
+floor_of basis b = floor_by b.filling basis (fixed_lists b)
+
+-- a floor is known: the lists are those of the bracket and the shape, and S1 is chosen, or it does not matter which is
+abbrev pub is_known : Basis → Beginning → Bool
+is_known basis b =
+    is_of_shape basis.reached basis.shape (fixed_lists b) && (has_s1 b.filling || is_uniform basis.facts basis.reached basis.shape)
+
+-- floors stand on this bracket and shape, and on an outlook that holds of it
+pub record IsBasis (facts : Facts) (reached : Reached) (lower : List ℕ) (shape : Shape) (basis : Basis) : Type 0 where
+  pub facts_are : basis.facts ≡ facts
+  pub stand_is : basis.reached ≡ reached
+  pub shape_is : basis.shape ≡ shape
+  pub outlook : IsOutlook facts reached lower shape basis.outlook

@@ -1,0 +1,37 @@
+-- What is known of an arrangement beside how it begins, by seats (C.04.3 B.3). What bounds the choice by beginnings stands on these; a
+-- reader of its promise may pass them by.
+use Rattle.std.specs.Prelude.{ℕ, ◌<◌, ◌&&◌, ◌==◌, if◌then◌else◌, List, [], ◌∷◌, ◌++◌, length}
+use Rattle.std.specs.List.{list_any}
+use Rattle.dutch_order.specs.Arrangements.{Arrangement}
+use Rattle.dutch_order.specs.Keys.{IsIn}
+use Rattle.dutch_player.specs.Facts.{Facts}
+use Rattle.dutch_floors.specs.declared.known.Known.{Known}
+use Rattle.dutch_floors.specs.declared.known.Known.TheVariants.{Down, Meet}
+use Rattle.dutch_bracket.specs.Beginnings.{seated_so}
+use Rattle.dutch_bracket.specs.Reached.{Reached}
+use Rattle.dutch_bracket.specs.Brackets.{downfloaters}
+use Rattle.dutch_bracket.specs.Seated.{Seated, all_pairs}
+
+-- the same of a pair in the other order
+abbrev pub turned : Known → Known
+turned (Meet p q) = Meet q p
+turned (Down p) = Down p
+
+-- a pair with others, unless it is one of them
+abbrev pub with_pair : ℕ × ℕ → List (ℕ × ℕ) → List (ℕ × ℕ)
+with_pair pair pairs = if list_any (λ other. (other.0 == pair.0) && (other.1 == pair.1)) pairs then pairs else pairs ++ pair ∷ []
+
+-- what is known with some pairs: one pair more, or one who goes down
+abbrev pub known_by : Facts → Reached → Known → List (ℕ × ℕ) → Seated
+known_by facts reached (Meet p q) pairs = seated_so facts reached (with_pair (p, q) pairs) []
+known_by facts reached (Down p) pairs = seated_so facts reached pairs (p ∷ [])
+
+-- it is known of seats of the field
+abbrev pub AreKnown : Facts → Known → Type 0
+AreKnown facts (Meet p q) = (p < length facts.seats) × (q < length facts.seats)
+AreKnown facts (Down p) = p < length facts.seats
+
+-- it is so in an arrangement of a bracket
+abbrev pub Holds : Facts → Reached → Known → Arrangement → Type 0
+Holds facts reached (Meet p q) a = IsIn (p, q) (all_pairs reached.seats a)
+Holds facts reached (Down p) a = IsIn p (downfloaters facts reached a)

@@ -1,0 +1,184 @@
+// How many players miss their colour preference at least, by the pairs that are fixed (C.04.3 C.10, C.11).
+ghost use Rattle.std.specs.Prelude.{◌≡◌, ◌+◌, ◌*◌, ◌<◌, ◌≤◌, length, sum_by};
+ghost use Rattle.dutch_order.specs.declared.numbers.TheConstants.{LIMIT};
+ghost use Rattle.dutch_bracket.specs.declared.colours_missed.Miss.TheVariants.{Preference, StrongPreference};
+ghost use Rattle.dutch_bracket.specs.Quality.{misses, count_in, count_in_pairs};
+ghost use Rattle.dutch_bracket.specs.Seated.{AllPairs, AreSeats, HasSeats};
+ghost use Rattle.dutch_bracket.specs.Beginnings.{in_both};
+ghost use Rattle.dutch_floors.specs.FloorOf.{AreWants, more_in, served_in, wanting};
+
+use dutch_bracket::colours_missed::{Miss, count_in};
+use dutch_bracket::context::Context;
+use dutch_bracket::seated::{Pair, Seated};
+use dutch_order::Shape;
+use trf16::Colour;
+
+/// Whose preferences are counted: those for a colour, or only the firm ones for it.
+#[derive(Clone, Copy)]
+struct Want {
+    colour: Colour,
+    firm: bool,
+}
+
+/// How many of a bracket's players want White and how many Black: all whose preference it is, or only those whose is
+/// firm.
+#[derive(Clone, Copy)]
+pub(crate) struct Wants {
+    pub(crate) firm: bool,
+    pub(crate) white: usize,
+    pub(crate) black: usize,
+}
+
+/// 1 for a seat whose preference is counted.
+fn weight(context: &Context<'_>, want: Want, seat: u16) -> usize
+    requires { seat < length context.now.facts.seats }
+    ensures value { result ≡ wanting want.firm context.now.facts want.colour seat }
+    ensures one { result ≤ 1 }
+{
+    if want.firm {
+        usize::from(context.wants_firmly(want.colour, seat))
+    } else {
+        usize::from(context.wants(want.colour, seat))
+    }
+}
+
+/// How many players are counted.
+fn in_seats(context: &Context<'_>, want: Want, seats: &[u16]) -> usize
+    requires inside { AreSeats context.now.facts seats.now }
+    requires few { length seats.now ≤ LIMIT }
+    ensures value { result ≡ sum_by (wanting want.firm context.now.facts want.colour) seats.now }
+    ensures few { result ≤ LIMIT }
+{
+    let mut count = 0;
+    for seat in seats {
+        count += weight(context, want, *seat);
+    }
+    count
+}
+
+/// How many players of pairs are counted.
+fn in_pairs(context: &Context<'_>, want: Want, pairs: &[Pair]) -> usize
+    requires inside { AllPairs context.now.facts pairs.now }
+    requires few { length pairs.now ≤ LIMIT }
+    ensures value { result ≡ sum_by (in_both (wanting want.firm context.now.facts want.colour)) pairs.now }
+    ensures few { result ≤ 2 * LIMIT }
+{
+    let mut count = 0;
+    for pair in pairs {
+        count += weight(context, want, pair.0) + weight(context, want, pair.1);
+    }
+    count
+}
+
+/// How many of a bracket's players want each colour.
+pub(crate) fn wants_in(context: &Context<'_>, firm: bool) -> Wants
+    ensures counted { AreWants context.now.facts context.now.reached result }
+    ensures firm { result.firm ≡ firm }
+{
+    let reached = context.reached();
+    let white = Want {
+        colour: Colour::White,
+        firm,
+    };
+    let black = Want {
+        colour: Colour::Black,
+        firm,
+    };
+    Wants {
+        firm,
+        white: in_seats(context, white, reached.seats()),
+        black: in_seats(context, black, reached.seats()),
+    }
+}
+
+/// How many are counted of those who are in known pairs, or are known to go down.
+fn in_known(context: &Context<'_>, known: &Seated, want: Want) -> usize
+    requires { HasSeats context.now.facts known.now }
+    ensures { result ≡ sum_by (in_both (wanting want.firm context.now.facts want.colour)) known.now.pairs
+        + sum_by (wanting want.firm context.now.facts want.colour) known.now.down }
+{
+    in_pairs(context, want, &known.pairs) + in_seats(context, want, &known.down)
+}
+
+/// How many of a bracket's players can be served who are in no known pair and are not known to go down.
+fn served(context: &Context<'_>, shape: Shape, known: &Seated) -> usize
+    requires inside { HasSeats context.now.facts known.now }
+    requires small { shape.pairs ≤ LIMIT }
+    ensures { result ≡ served_in context.now.reached shape known.now }
+{
+    let to_make = shape.pairs.saturating_sub(known.pairs.len());
+    let to_leave = context.len().saturating_sub(2 * shape.pairs);
+    to_make + to_leave.saturating_sub(known.down.len())
+}
+
+/// How many players miss their preference beside those in the pairs that are known (C.10), by how many of the bracket's
+/// players want each colour; or only firm preferences (C.11).
+pub(crate) fn more_missed(
+    context: &Context<'_>,
+    shape: Shape,
+    known: &Seated,
+    wants: Wants,
+) -> usize
+    requires counted { AreWants context.now.facts context.now.reached wants }
+    requires inside { HasSeats context.now.facts known.now }
+    requires small { shape.pairs ≤ LIMIT }
+    ensures value { result ≡ more_in wants.firm context.now.facts context.now.reached shape known.now }
+    ensures few { result ≤ LIMIT }
+{
+    let white = Want {
+        colour: Colour::White,
+        firm: wants.firm,
+    };
+    let black = Want {
+        colour: Colour::Black,
+        firm: wants.firm,
+    };
+    let served = served(context, shape, known);
+    let free_white = wants.white.saturating_sub(in_known(context, known, white));
+    let free_black = wants.black.saturating_sub(in_known(context, known, black));
+    free_white
+        .saturating_sub(served)
+        .max(free_black.saturating_sub(served))
+}
+
+/// How many players of pairs miss their preference (C.10).
+pub(crate) fn missed(context: &Context<'_>, pairs: &[Pair]) -> u16
+    requires inside { AllPairs context.now.facts pairs.now }
+    requires few { length pairs.now ≤ LIMIT }
+    ensures value { result ≡ count_in_pairs context.now.facts (misses Preference) pairs.now }
+    ensures few { result ≤ LIMIT }
+{
+    let mut count = 0;
+    for pair in pairs {
+        count += u16::from(context.has_miss(*pair));
+    }
+    count
+}
+
+/// How many players of a pair miss a strong preference.
+#[tactic(auto, using(dutch_bracket::proofs::PairMisses::no_strong_miss))]
+fn strong_misses(context: &Context<'_>, pair: Pair) -> u16
+    requires first { pair.0 < length context.now.facts.seats }
+    requires second { pair.1 < length context.now.facts.seats }
+    ensures value { result ≡ count_in context.now.facts (misses StrongPreference) pair }
+    ensures few { result ≤ 2 }
+{
+    if !context.has_miss(pair) {
+        return 0;
+    }
+    count_in(context.field(), Miss::StrongPreference, pair)
+}
+
+/// How many players of pairs miss a strong preference (C.11).
+pub(crate) fn missed_strong(context: &Context<'_>, pairs: &[Pair]) -> u16
+    requires inside { AllPairs context.now.facts pairs.now }
+    requires few { length pairs.now ≤ LIMIT }
+    ensures value { result ≡ count_in_pairs context.now.facts (misses StrongPreference) pairs.now }
+    ensures few { result ≤ 2 * LIMIT }
+{
+    let mut count = 0;
+    for pair in pairs {
+        count += strong_misses(context, *pair);
+    }
+    count
+}

@@ -1,0 +1,328 @@
+// The floor of a beginning: a quality that no candidate with this beginning is better than (C.04.3 C.6 to C.19). It is
+// asked for at each beginning that a choice comes to, so it takes no memory and looks at each player only a few times.
+ghost use Rattle.std.specs.Prelude.{◌≡◌, ◌<◌, ◌≤◌, ◌||◌, ◌&&◌, IfSome, true, length};
+ghost use Rattle.dutch_order.specs.Arrangements.{Fits};
+ghost use Rattle.dutch_order.specs.declared.numbers.TheConstants.{LIMIT};
+ghost use Rattle.dutch_bracket.specs.QualityIn.{next_in, quality_in};
+ghost use Rattle.dutch_bracket.specs.Beginnings.{fixed};
+ghost use Rattle.dutch_bracket.specs.PsdFloors.{psd_with};
+ghost use Rattle.dutch_bracket.specs.Reached.{IsOf, frame_of};
+ghost use Rattle.dutch_bracket.specs.Seated.{all_pairs, AllNumbers, HasSeats};
+ghost use Rattle.dutch_floors.specs.Outlooks.{awaited};
+ghost use Rattle.dutch_bracket.specs.NextBracket.{IsNoBetter};
+ghost use Rattle.dutch_floors.specs.FloorOf.{AreWants, is_flat, is_known, residents_score, psd_over, more_by, more_in};
+ghost use Rattle.dutch_floors.specs.FloorOf.{floor_by, floor_by_seats, floor_knowing, floor_of};
+ghost use Rattle.dutch_bracket.specs.PsdFloors.{is_uniform};
+ghost use Rattle.dutch_bracket.specs.Beginnings.{HasNumbers, fixed_lists, has_s1};
+ghost use Rattle.dutch_bracket.specs.Floors.{floor_over};
+ghost use Rattle.dutch_floors.specs.KnownBeside.{AreKnown, known_by};
+
+use crate::colour_floor::{Wants, missed, missed_strong, more_missed, wants_in};
+use crate::known::{Known, fill_known};
+use crate::lonely::lonely;
+use crate::outlook::Outlook;
+use dutch_bracket::begun::{Begun, fill_fixed, fixed_lists, has_s1, is_of_shape};
+use dutch_bracket::context::Context;
+use dutch_bracket::differences::fill_psd;
+use dutch_bracket::psd_floor::{fill_psd_with, is_uniform};
+use dutch_bracket::quality::{NextValue, Quality, Room, fill_others};
+use dutch_bracket::seated::Seated;
+use dutch_order::{Filling, LIMIT, Numbers, Prefix, Shape, numbered_from};
+use std::marker::Model;
+
+/// What the floors of a bracket and a shape stand on, read once for a choice.
+#[derive(Drop)]
+pub struct Floors<'a> {
+    context: &'a Context<'a>,
+    shape: Shape,
+    // what the next bracket can be at best (C.7)
+    outlook: Outlook,
+    // there is a resident, and all residents have one score
+    flat: bool,
+    // all S1 leave moved-down players with the same scores
+    uniform: bool,
+    // the first S1
+    first: Numbers,
+    // how many of the bracket's players want each colour, and how many of them firmly (C.10, C.11)
+    wants: Wants,
+    firm_wants: Wants,
+}
+
+impl<'a> Model for Floors<'a> {
+    ghost use Rattle.std.specs.Prelude.{◌≡◌, true, false};
+    ghost use Rattle.dutch_order.specs.Arrangements.{Fits};
+    ghost use Rattle.dutch_order.specs.Choices.{numbers_from};
+    ghost use Rattle.dutch_bracket.specs.Reached.{frame_of};
+    ghost use Rattle.dutch_floors.specs.FloorOf.{AreWants, Basis, is_flat};
+    ghost use Rattle.dutch_bracket.specs.PsdFloors.{is_uniform};
+
+    ghost Value = { Basis };
+
+    ghost view = { λ f. record
+        { facts = f.context.now.facts; reached = f.context.now.reached; shape = f.shape; outlook = f.outlook } };
+
+    ghost invariant = { λ f. (Fits (frame_of f.context.now.facts f.context.now.reached) f.shape)
+        × (f.flat ≡ is_flat f.context.now.facts f.context.now.reached)
+        × (f.uniform ≡ is_uniform f.context.now.facts f.context.now.reached f.shape)
+        × (f.first.items ≡ numbers_from 1 f.shape.mdps)
+        × (AreWants f.context.now.facts f.context.now.reached f.wants × (f.wants.firm ≡ false))
+        × (AreWants f.context.now.facts f.context.now.reached f.firm_wants × (f.firm_wants.firm ≡ true)) };
+}
+
+/// Whether there is a resident, and all residents have one score.
+fn is_flat(context: &Context<'_>) -> bool
+    ensures { result ≡ is_flat context.now.facts context.now.reached }
+{
+    let (first, last) = (context.reached().mdps() + 1, context.len());
+    if last < first {
+        return false;
+    }
+    context.score(first as u16) == context.score(last as u16)
+}
+
+impl<'a> Floors<'a> {
+    /// The floors of a shape, for what the next bracket can be at best.
+    #[tactic(auto, using(dutch_bracket::proofs::ShapeNumbers::small_mdps))]
+    pub fn new(context: &'a Context<'a>, shape: Shape, outlook: Outlook) -> Floors<'a>
+        requires { Fits (frame_of context.now.facts context.now.reached) shape }
+        ensures { result ≡ record
+            { facts = context.now.facts; reached = context.now.reached; shape = shape; outlook = outlook } }
+    {
+        let _reached = context.reached();
+        let flat = is_flat(context);
+        let uniform = is_uniform(context.rule(), shape);
+        Floors {
+            context,
+            shape,
+            outlook,
+            flat,
+            uniform,
+            first: numbered_from(1, shape.mdps),
+            wants: wants_in(context, false),
+            firm_wants: wants_in(context, true),
+        }
+    }
+
+    /// The shape, and that the bracket has room for it.
+    #[tactic(auto, using(dutch_bracket::proofs::ShapeNumbers::small_pairs))]
+    fn shape(&self) -> Shape
+        ensures value { result ≡ self.now.shape }
+        ensures fits { Fits (frame_of self.now.facts self.now.reached) self.now.shape }
+        ensures of { IsOf self.now.facts self.now.reached }
+        ensures small { result.pairs ≤ LIMIT }
+    {
+        let _reached = self.context.reached();
+        self.shape
+    }
+
+    /// How many of the bracket's players want each colour, or only firmly.
+    fn wants(&self, firm: bool) -> Wants
+        ensures counted { AreWants self.now.facts self.now.reached result }
+        ensures firm { result.firm ≡ firm }
+    {
+        if firm { self.firm_wants } else { self.wants }
+    }
+
+    /// Fills a list with the PSD that S1 gives if all residents have one score.
+    #[tactic(auto, using(dutch_bracket::proofs::ShapeNumbers::has_room))]
+    fn fill_psd_with(&self, s1: &[u16], psd: &mut Numbers)
+        requires resident { self.now.reached.mdps < length self.now.reached.seats }
+        requires numbers { AllNumbers self.now.reached.seats s1.now }
+        requires few { length s1.now ≤ self.now.shape.mdps }
+        ensures { psd.new.items ≡ psd_with self.now.facts self.now.reached self.now.shape
+            (residents_score self.now.facts self.now.reached) s1.now }
+    {
+        let context = self.context;
+        let score = context.score(context.reached().mdps() as u16 + 1);
+        fill_psd_with(context.rule(), self.shape(), score, s1, psd)
+    }
+
+    /// The best that the next bracket can be behind arrangements with an S1 (C.7).
+    pub fn awaited(&self, filling: Filling, s1: &[u16]) -> &NextValue
+        ensures { result.now ≡ awaited self.now.facts self.now.reached self.now.shape self.now.outlook filling s1.now }
+    {
+        self.outlook
+            .awaited(self.context, self.shape(), filling, s1)
+    }
+
+    /// Whether the next bracket is never better behind a beginning than a quality says, as far as that is known (C.7).
+    pub fn has_no_better_next(&self, prefix: &Prefix<'_>, quality: &Quality) -> bool
+        ensures { result ≡ true →
+            ((has_s1 prefix.now.filling || is_uniform self.now.facts self.now.reached self.now.shape) ≡ true)
+            × IsNoBetter (awaited self.now.facts self.now.reached self.now.shape self.now.outlook prefix.now.filling
+            (fixed_lists prefix.now).s1)
+            (next_in (quality_in quality.now)) }
+    {
+        let filling = prefix.filling();
+        let begun = fixed_lists(prefix);
+        (has_s1(filling) || self.uniform)
+            && self.awaited(filling, begun.s1).is_no_better_than(quality)
+    }
+
+    /// How many more miss than in the pairs that are fixed (C.10).
+    fn more_by(&self, filling: Filling, begun: &Begun<'_>, room: &mut Room) -> usize
+        requires numbers { HasNumbers self.now.reached begun.now }
+        requires seated { room.old.seated ≡ fixed self.now.facts self.now.reached begun.now }
+        requires inside { HasSeats self.now.facts room.old.seated }
+        ensures value { result ≡ more_by filling self.now begun.now }
+        ensures few { result ≤ LIMIT }
+        ensures seated { room.new.seated ≡ room.old.seated }
+    {
+        let shape = self.shape();
+        let more = more_missed(self.context, shape, &room.seated, self.wants(false));
+        match filling {
+            Filling::S1 | Filling::S2 => return more,
+            Filling::S2r => {
+                return more.max(lonely(self.context, shape, begun, &mut room.pool));
+            }
+        }
+    }
+
+    /// Fills a list with the PSD (C.6).
+    #[tactic(auto, using(dutch_bracket::proofs::ShapeNumbers::first_numbers, dutch_bracket::proofs::ShapeNumbers::first_length), unfolding(crate::specs::FloorOf::psd_over))]
+    fn fill_psd(&self, filling: Filling, s1: &[u16], seated: &Seated, psd: &mut Numbers)
+        requires inside { HasSeats self.now.facts seated.now }
+        requires numbers { AllNumbers self.now.reached.seats s1.now }
+        requires few { length s1.now ≤ self.now.shape.mdps }
+        ensures { psd.new.items ≡ psd_over filling self.now s1.now seated.now }
+    {
+        let _shape = self.shape();
+        if !self.flat {
+            return fill_psd(self.context.field(), seated, psd);
+        }
+        match filling {
+            Filling::S1 => return self.fill_psd_with(&self.first, psd),
+            Filling::S2 | Filling::S2r => return self.fill_psd_with(s1, psd),
+        }
+    }
+
+    /// Fills the floor by what is known by seats, where so many more miss (C.10).
+    #[tactic(auto, unfolding(dutch_bracket::specs::Floors::floor_over, dutch_bracket::specs::Quality::quality_with, dutch_bracket::specs::QualityIn::with_others))]
+    fn fill_over(&self, filling: Filling, s1: &[u16], more: usize, room: &mut Room)
+        requires inside { HasSeats self.now.facts room.old.seated }
+        requires numbers { AllNumbers self.now.reached.seats s1.now }
+        requires few { length s1.now ≤ self.now.shape.mdps }
+        requires more { more ≤ LIMIT }
+        ensures { quality_in room.new.quality
+            ≡ floor_over self.now.facts (psd_over filling self.now s1.now room.old.seated)
+            (awaited self.now.facts self.now.reached self.now.shape self.now.outlook filling s1.now) more
+            (more_in true self.now.facts self.now.reached self.now.shape room.old.seated) room.old.seated }
+    {
+        let context = self.context;
+        let seated = &room.seated;
+        let quality = &mut room.quality;
+        let more_strong = more_missed(context, self.shape(), seated, self.wants(true));
+        self.fill_psd(filling, s1, seated, &mut quality.psd);
+        let next = self.awaited(filling, s1);
+        quality.put_next(next.pairs, &next.psd);
+        quality.missed_preferences = missed(context, &seated.pairs) + more as u16;
+        quality.missed_strong = missed_strong(context, &seated.pairs) + more_strong as u16;
+        fill_others(context.field(), seated, quality);
+    }
+
+    /// Fills the floor by the list that is being filled and those that are fixed.
+    #[tactic(auto, unfolding(crate::specs::FloorOf::floor_by))]
+    fn fill_floor(&self, filling: Filling, begun: &Begun<'_>, room: &mut Room)
+        requires numbers { HasNumbers self.now.reached begun.now }
+        requires few { length begun.now.s1 ≤ self.now.shape.mdps }
+        ensures { quality_in room.new.quality ≡ floor_by filling self.now begun.now }
+    {
+        fill_fixed(self.context, begun, &mut room.seated);
+        let more = self.more_by(filling, begun, room);
+        self.fill_over(filling, begun.s1, more, room);
+    }
+
+    /// The same with what is known beside them. It says no if there is no room for a pair more.
+    #[tactic(auto, unfolding(crate::specs::FloorOf::floor_by_seats))]
+    fn fill_floor_knowing(
+        &self,
+        filling: Filling,
+        begun: &Begun<'_>,
+        known: Known,
+        room: &mut Room,
+    ) -> bool
+        requires numbers { HasNumbers self.now.reached begun.now }
+        requires few { length begun.now.s1 ≤ self.now.shape.mdps }
+        requires seats { AreKnown self.now.facts known }
+        ensures { result ≡ true → quality_in room.new.quality
+            ≡ floor_by_seats filling self.now begun.now.s1
+            (known_by self.now.facts self.now.reached known (all_pairs self.now.reached.seats begun.now)) }
+    {
+        let context = self.context;
+        if !fill_known(context, begun, known, &mut room.seated) {
+            return false;
+        }
+        let more = more_missed(context, self.shape(), &room.seated, self.wants(false));
+        self.fill_over(filling, begun.s1, more, room);
+        true
+    }
+
+    /// Whether a floor of a beginning is known. None is if its lists are not of the bracket and the shape, or if S1 is
+    /// not chosen and it matters which one is.
+    fn is_known(&self, prefix: &Prefix<'_>) -> bool
+        ensures { result ≡ is_known self.now prefix.now }
+    {
+        let begun = fixed_lists(prefix);
+        if !is_of_shape(self.context.reached(), self.shape(), &begun) {
+            return false;
+        }
+        has_s1(prefix.filling()) || self.uniform
+    }
+
+    /// Fills the floor of a beginning, if one is known.
+    #[tactic(auto, using(crate::proofs::FloorLemmas::known_numbers, crate::proofs::FloorLemmas::known_few), unfolding(crate::specs::FloorOf::floor_of))]
+    pub fn floor(&self, prefix: &Prefix<'_>, room: &mut Room) -> bool
+        ensures known { result ≡ is_known self.now prefix.now }
+        ensures value { result ≡ true → quality_in room.new.quality ≡ floor_of self.now prefix.now }
+    {
+        let _shape = self.shape();
+        if !self.is_known(prefix) {
+            return false;
+        }
+        self.fill_floor(prefix.filling(), &fixed_lists(prefix), room);
+        true
+    }
+
+    /// Fills the floor of a beginning of which something more is known, if a floor is known.
+    #[tactic(auto, using(crate::proofs::FloorLemmas::known_numbers, crate::proofs::FloorLemmas::known_few), unfolding(crate::specs::FloorOf::floor_knowing))]
+    pub fn floor_knowing(&self, known: Known, prefix: &Prefix<'_>, room: &mut Room) -> bool
+        requires { AreKnown self.now.facts known }
+        ensures known { result ≡ true → is_known self.now prefix.now ≡ true }
+        ensures value { result ≡ true → quality_in room.new.quality ≡ floor_knowing self.now known prefix.now }
+    {
+        let _shape = self.shape();
+        if !self.is_known(prefix) {
+            return false;
+        }
+        self.fill_floor_knowing(prefix.filling(), &fixed_lists(prefix), known, room)
+    }
+
+    /// The quality that a first pass aims at, if all residents have one score: what a beginning with the first S1, and
+    /// what is known beside it, promises up to C.11. Any aim serves: the choice among the candidates that it is not
+    /// better than is the choice of all.
+    #[tactic(auto, using(dutch_bracket::proofs::ShapeNumbers::first_length, dutch_bracket::proofs::ShapeNumbers::first_numbers))]
+    pub fn aim(&self, known: Option<Known>) -> Option<Quality>
+        requires { IfSome known (AreKnown self.now.facts) }
+    {
+        if !self.flat {
+            return None;
+        }
+        let _shape = self.shape();
+        let begun = Begun {
+            s1: &self.first,
+            s2: &[],
+            s1r: &[],
+            s2r: &[],
+        };
+        let mut room = Room::default();
+        match known {
+            Some(known) => {
+                if !self.fill_floor_knowing(Filling::S2, &begun, known, &mut room) {
+                    return None;
+                }
+            }
+            None => self.fill_floor(Filling::S2, &begun, &mut room),
+        }
+        Some(room.quality.with_the_worst_floats())
+    }
+}

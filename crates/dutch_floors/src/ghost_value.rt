@@ -1,0 +1,162 @@
+// What the next bracket can be at best, as ghosts tell it (C.04.3 C.7): the most pairs that ghosts with the scores of
+// the downfloaters find there, and the floor of its PSD. It is looked for once a bracket, before any candidate is
+// looked at.
+ghost use Rattle.std.specs.Prelude.{◌≡◌, ◌+◌, ◌-◌, ◌*◌, ◌<◌, ◌≤◌, ◌++◌, false, length, map, slice_index};
+ghost use Rattle.std.specs.Result.{MatchResult};
+ghost use Rattle.arrayvec.specs.ArrayVec.{array_vec_len};
+ghost use Rattle.dutch_order.specs.Arrangements.{Fits, IsBracket, left_of};
+ghost use Rattle.dutch_bracket.specs.declared.reached.BracketKind.TheVariants.{Ordinary};
+ghost use Rattle.dutch_bracket.specs.Ghosts.{ghost_frame};
+ghost use Rattle.dutch_floors.specs.GhostValues.{first_limbo, first_ghosts, floor_held, ghost_value};
+ghost use Rattle.dutch_bracket.specs.NextBracket.{IsFlat};
+ghost use Rattle.dutch_bracket.specs.PsdFloors.{repeated};
+ghost use Rattle.dutch_bracket.specs.Quality.{placed_all};
+ghost use Rattle.dutch_bracket.specs.Reached.{frame_of};
+ghost use Rattle.dutch_bracket.specs.Seated.{seat_of, score_at, AllNumbers, AreSeats};
+ghost use Rattle.dutch_bracket.specs.Brackets.{first_group, scoregroups};
+ghost use Rattle.dutch_order.specs.Steps.{Spends};
+
+use crate::ghosts::Ghosts;
+use arrayvec::ArrayVec;
+use dutch_bracket::context::Context;
+use dutch_bracket::differences::{push_times, put, put_times};
+use dutch_bracket::greatest::greatest_legal;
+use dutch_bracket::quality::NextValue;
+use dutch_bracket::reached::push_all;
+use dutch_order::{Bracket, Budget, LIMIT, Numbers, Shape, Stopped, numbered_from};
+use dutch_player::Field;
+
+/// Adds the scores of those of some numbers who are not in S1.
+pub(crate) fn push_left(context: &Context<'_>, numbers: &[u16], s1: &[u16], scores: &mut Numbers)
+    requires numbers { AllNumbers context.now.reached.seats numbers.now }
+    requires room { array_vec_len scores.old + length numbers.now ≤ LIMIT }
+    ensures items { scores.new.items ≡ scores.old.items
+        ++ map (λ i. score_at context.now.facts (seat_of context.now.reached.seats i)) (left_of numbers.now s1.now) }
+{
+    for number in numbers {
+        if !s1.contains(number) {
+            scores.push(context.score(*number));
+        }
+    }
+}
+
+/// The scores of the moved-down players whom the first S1 of a shape leaves over, in half points.
+pub(crate) fn first_limbo(context: &Context<'_>, shape: Shape) -> Numbers
+    requires { Fits (frame_of context.now.facts context.now.reached) shape }
+    ensures items { result.items ≡ first_limbo context.now.facts context.now.reached shape }
+    ensures len { array_vec_len result ≡ context.now.reached.mdps - shape.mdps }
+{
+    let left = context.reached().mdps() - shape.mdps;
+    let limbo = numbered_from(shape.mdps + 1, left);
+    let mut scores = ArrayVec::new();
+    push_left(context, &limbo, &[], &mut scores);
+    scores
+}
+
+/// Adds the scores of seats, in half points.
+fn push_scores(field: &Field, seats: &[u16], scores: &mut Numbers)
+    requires inside { AreSeats field.now seats.now }
+    requires room { array_vec_len scores.old + length seats.now ≤ LIMIT }
+    ensures items { scores.new.items ≡ scores.old.items ++ map (score_at field.now) seats.now }
+    ensures len { array_vec_len scores.new ≡ array_vec_len scores.old + length seats.now }
+{
+    for seat in seats {
+        scores.push(field.score(*seat));
+    }
+}
+
+/// The scores of the ghosts for a shape: those of the Limbo of its first S1, and the residents' score for each who goes
+/// down.
+#[tactic(auto, using(crate::proofs::C07Outlook::few_pairs))]
+fn ghost_scores(context: &Context<'_>, shape: Shape) -> Numbers
+    requires flat { IsFlat context.now.facts context.now.reached }
+    requires fits { Fits (frame_of context.now.facts context.now.reached) shape }
+    ensures items { result.items ≡ first_ghosts context.now.facts context.now.reached shape }
+    ensures bracket { IsBracket
+        (ghost_frame context.now.facts (first_ghosts context.now.facts context.now.reached shape)
+        (first_group context.now.facts (scoregroups context.now.facts context.now.lower))).scores
+        (length (first_ghosts context.now.facts context.now.reached shape)) }
+{
+    let mut scores = first_limbo(context, shape);
+    let reached = context.reached();
+    let resident = context.field().score(reached.seats()[reached.mdps()]);
+    push_times(resident, context.residents_down(shape), &mut scores);
+    scores
+}
+
+/// The next bracket, with ghosts of these scores in front.
+fn ghost_bracket(context: &Context<'_>, ghosts: &[u16]) -> Bracket
+    requires { IsBracket (ghost_frame context.now.facts ghosts.now
+        (first_group context.now.facts (scoregroups context.now.facts context.now.lower))).scores (length ghosts.now) }
+    ensures { result ≡ ghost_frame context.now.facts ghosts.now
+        (first_group context.now.facts (scoregroups context.now.facts context.now.lower)) }
+{
+    let mut scores = ArrayVec::new();
+    push_all(ghosts, &mut scores);
+    push_scores(context.field(), context.next(), &mut scores);
+    Bracket::new(&scores, ghosts.len(), false)
+}
+
+/// Puts the differences of scores to a lowest one to their places.
+fn put_above(least: u16, scores: &[u16], numbers: &mut Numbers)
+    requires room { array_vec_len numbers.old + length scores.now ≤ LIMIT }
+    ensures items { numbers.new.items ≡ placed_all numbers.old.items (map (λ x. x - least) scores.now) }
+    ensures len { array_vec_len numbers.new ≡ array_vec_len numbers.old + length scores.now }
+{
+    for score in scores {
+        put(numbers, score.saturating_sub(least));
+    }
+}
+
+/// The floor of the next bracket's PSD with so many pairs, above the lowest score.
+fn floor_held(ghosts: &[u16], least: u16, residents: usize, pairs: usize) -> Numbers
+    requires few { length ghosts.now + residents ≤ LIMIT }
+    requires small { pairs ≤ LIMIT }
+    ensures { result.items ≡ floor_held ghosts.now least residents pairs }
+{
+    let mut numbers = ArrayVec::new();
+    let evens = pairs.saturating_sub(ghosts.len());
+    let twos = (ghosts.len() + residents).saturating_sub(2 * pairs);
+    if ghosts.len() + (evens + twos) > LIMIT {
+        return numbers;
+    }
+    put_above(least, ghosts, &mut numbers);
+    put_times(0, evens, &mut numbers);
+    put_times(2, twos, &mut numbers);
+    numbers
+}
+
+/// What no value of the next bracket is better than (C.7), where an arrangement of a shape of an ordinary bracket
+/// leaves the Limbo of the first S1. A step is a player of the bracket with one of the next scoregroup, or one number
+/// tried at one place in the ghosts' bracket.
+#[tactic(auto, using(crate::proofs::C07Outlook::below_ordinary))]
+pub(crate) fn ghost_value(
+    context: &Context<'_>,
+    shape: Shape,
+    budget: &mut Budget,
+) -> Result<NextValue, Stopped>
+    requires ordinary { context.now.reached.kind ≡ Ordinary }
+    requires flat { IsFlat context.now.facts context.now.reached }
+    requires fits { Fits (frame_of context.now.facts context.now.reached) shape }
+    requires within { budget.old.used ≤ budget.old.limit }
+    ensures answer { MatchResult result
+        (λ v. v ≡ ghost_value context.now.facts context.now.reached shape
+        (first_group context.now.facts (scoregroups context.now.facts context.now.lower)))
+        (λ _. budget.new.used ≡ budget.new.limit) }
+    ensures spends { Spends budget.old budget.new }
+{
+    let ghosts = Ghosts::read(context, budget)?;
+    let scores = ghost_scores(context, shape);
+    let bracket = ghost_bracket(context, &scores);
+    let rule = ghosts.rule(scores.len());
+    let Some(most) = greatest_legal(&bracket, &rule, budget)? else {
+        return Ok(NextValue::none());
+    };
+    let next = context.next();
+    let least = context.field().score(next[0]);
+    let pairs = most.pairs;
+    Ok(NextValue {
+        pairs,
+        psd: floor_held(&scores, least, next.len(), pairs),
+    })
+}

@@ -1,0 +1,92 @@
+// What is known of an arrangement beside how it begins: that two meet, or that one goes down, by their seats (C.04.3
+// B.3).
+//
+// A wish makes it known of each candidate that grants it, from the first question on.
+ghost use Rattle.std.specs.Prelude.{◌≡◌, ◌<◌, ◌&&◌, ◌==◌, true, length};
+ghost use Rattle.std.specs.List.{list_any};
+ghost use Rattle.arrayvec.specs.ArrayVec.{array_vec_len};
+ghost use Rattle.dutch_order.specs.declared.numbers.TheConstants.{LIMIT};
+ghost use Rattle.dutch_bracket.specs.Beginnings.{HasNumbers};
+ghost use Rattle.dutch_floors.specs.KnownBeside.{AreKnown, known_by, turned, with_pair};
+ghost use Rattle.dutch_bracket.specs.Seated.{HasSeats, all_pairs};
+
+use arrayvec::ArrayVec;
+use dutch_bracket::begun::{Begun, fill_fixed};
+use dutch_bracket::context::Context;
+use dutch_bracket::seated::{Pair, Seated};
+use dutch_order::LIMIT;
+
+/// What is known of an arrangement, by seats.
+#[derive(Clone, Copy)]
+pub enum Known {
+    /// These two are a pair, in this order.
+    Meet(u16, u16),
+    /// This one is in no pair.
+    Down(u16),
+}
+
+impl Known {
+    /// The same of a pair in the other order.
+    pub fn turned(self) -> Known
+        ensures { result ≡ turned self }
+    {
+        match self {
+            Known::Meet(first, second) => Known::Meet(second, first),
+            Known::Down(seat) => Known::Down(seat),
+        }
+    }
+}
+
+/// Whether a pair is one of some.
+fn has_pair(pair: Pair, pairs: &[Pair]) -> bool
+    ensures { result ≡ list_any (λ other. (other.0 == pair.0) && (other.1 == pair.1)) pairs.now }
+{
+    for other in pairs {
+        if other.0 == pair.0 && other.1 == pair.1 {
+            return true;
+        }
+    }
+    false
+}
+
+/// Adds a pair to others, unless it is one of them.
+fn add_pair(pair: Pair, pairs: &mut ArrayVec<Pair, LIMIT>)
+    requires { array_vec_len pairs.old < LIMIT }
+    ensures { pairs.new.items ≡ with_pair pair pairs.old.items }
+{
+    if has_pair(pair, pairs) {
+        return;
+    }
+    pairs.push(pair);
+}
+
+/// Fills in lists by seats, with what is known beside them. It says no where there is no room for a pair more.
+pub(crate) fn fill_known(
+    context: &Context<'_>,
+    begun: &Begun<'_>,
+    known: Known,
+    seated: &mut Seated,
+) -> bool
+    requires numbers { HasNumbers context.now.reached begun.now }
+    requires seats { AreKnown context.now.facts known }
+    ensures value { result ≡ true
+        → seated.new ≡ known_by context.now.facts context.now.reached known
+        (all_pairs context.now.reached.seats begun.now) }
+    ensures inside { result ≡ true → HasSeats context.now.facts seated.new }
+{
+    fill_fixed(context, begun, seated);
+    if seated.pairs.len() == LIMIT {
+        return false;
+    }
+    match known {
+        Known::Meet(first, second) => {
+            add_pair((first, second), &mut seated.pairs);
+            true
+        }
+        Known::Down(seat) => {
+            seated.down.clear();
+            seated.down.push(seat);
+            true
+        }
+    }
+}

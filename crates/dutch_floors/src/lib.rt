@@ -1,0 +1,17 @@
+//! Floors by counts: what every candidate of a bracket with a beginning owes (C.04.3 C.6 to C.19).
+//!
+//! `Floors::floor` fills a quality that no candidate with a beginning is better than. It is told by what is counted:
+//! differences (C.6), ghosts in the next bracket (C.7), preferences that cannot all be served (C.10, C.11), and players
+//! whom nobody of the others suits (C.10). No list is made for a beginning.
+#![tactic(auto)]
+
+mod colour_floor;
+mod colour_floor_laws;
+pub mod floor;
+mod floor_laws;
+mod ghost_laws;
+mod ghost_value;
+mod ghosts;
+pub mod known;
+mod lonely;
+pub mod outlook;

@@ -1,0 +1,179 @@
+// Once S1R is chosen: players who miss their preference, whoever of those left becomes their opponent (C.04.3 C.10).
+ghost use Rattle.std.specs.Prelude.{◌≡◌, ◌+◌, ◌-◌, ◌<◌, ◌≤◌, ◌||◌, ◌++◌, ℕ, not, length, filter, max};
+ghost use Rattle.std.specs.List.{list_any, AllByRecursion};
+ghost use Rattle.arrayvec.specs.ArrayVec.{array_vec_len};
+ghost use Rattle.dutch_order.specs.declared.numbers.TheConstants.{LIMIT};
+ghost use Rattle.dutch_order.specs.Choices.{is_member, numbers_from};
+ghost use Rattle.dutch_bracket.specs.Seated.{AllNumbers};
+ghost use Rattle.dutch_bracket.specs.BitTables.{has_bit};
+ghost use Rattle.dutch_bracket.specs.ColourFloors.{suits, waiting, pool, lonely};
+ghost use Rattle.dutch_bracket.specs.Beginnings.{HasNumbers};
+
+use dutch_bracket::begun::Begun;
+use dutch_bracket::bit_table::{WORD, has_bit, set_bit};
+use dutch_bracket::context::Context;
+use dutch_order::{LIMIT, Numbers, Shape};
+
+/// A mark for each number of a bracket.
+type Marks = [u64; LIMIT / WORD + 1];
+
+/// Marks numbers.
+fn mark(numbers: &[u16], marks: &mut Marks)
+    requires { AllByRecursion (λ number. number ≤ LIMIT) numbers.now }
+    ensures { (i : ℕ) → has_bit marks.new i ≡ (has_bit marks.old i || is_member i numbers.now) }
+{
+    for number in numbers {
+        set_bit(marks, usize::from(*number));
+    }
+}
+
+/// The residents who have a place.
+fn taken(context: &Context<'_>, begun: &Begun<'_>) -> Marks
+    requires { HasNumbers context.now.reached begun.now }
+    ensures { (i : ℕ) → has_bit result i
+        ≡ ((is_member i begun.now.s2 || is_member i begun.now.s1r) || is_member i begun.now.s2r) }
+{
+    let _count = context.len();
+    let mut marks = [0; LIMIT / WORD + 1];
+    mark(begun.s2, &mut marks);
+    mark(begun.s1r, &mut marks);
+    mark(begun.s2r, &mut marks);
+    marks
+}
+
+/// Fills a list with those of so many numbers from a first one on that are not marked.
+#[tactic(auto, using(crate::proofs::LonelyLemmas::unmarked_more, crate::proofs::LonelyLemmas::marked_more))]
+fn put_unmarked(first: usize, count: usize, marks: &Marks, left: &mut Numbers)
+    requires small { first + count ≤ LIMIT + 1 }
+    requires few { count ≤ LIMIT }
+    ensures items { left.new.items ≡ filter (λ x. not (has_bit marks.now x)) (numbers_from first count) }
+    ensures few { length left.new.items ≤ LIMIT }
+{
+    left.clear();
+    for place in 0..count {
+        if !has_bit(marks, first + place) {
+            left.push((first + place) as u16);
+        }
+    }
+}
+
+/// Fills a list with the residents with whom S1R can still be paired.
+#[tactic(auto, using(crate::proofs::LonelyLemmas::pool_is, crate::proofs::LonelyLemmas::pool_numbers))]
+fn put_pool(context: &Context<'_>, begun: &Begun<'_>, left: &mut Numbers)
+    requires { HasNumbers context.now.reached begun.now }
+    ensures items { left.new.items ≡ pool context.now.facts context.now.reached begun.now }
+    ensures numbers { AllNumbers context.now.reached.seats left.new.items }
+    ensures few { length left.new.items ≤ LIMIT }
+{
+    let mdps = context.reached().mdps();
+    let residents = context.len().saturating_sub(mdps);
+    put_unmarked(mdps + 1, residents, &taken(context, begun), left);
+}
+
+/// The players of S1R who have no opponent yet.
+#[tactic(auto, using(crate::proofs::LonelyLemmas::beyond_is, crate::proofs::LonelyLemmas::back_numbers))]
+fn waiting<'a>(context: &Context<'_>, begun: &Begun<'a>) -> &'a [u16]
+    requires { HasNumbers context.now.reached begun.now }
+    ensures items { result.now ≡ waiting begun.now }
+    ensures numbers { AllNumbers context.now.reached.seats result.now }
+    ensures few { length result.now ≤ LIMIT }
+{
+    let _count = context.len();
+    begun.s1r.split_at(begun.s2r.len()).1
+}
+
+/// Whether a number suits one of some.
+fn suits_one(context: &Context<'_>, x: u16, others: &[u16]) -> bool
+    requires number { (0 < x) × (x ≤ length context.now.reached.seats) }
+    requires others { AllNumbers context.now.reached.seats others.now }
+    ensures { result ≡ list_any (suits context.now.facts context.now.reached x) others.now }
+{
+    for other in others {
+        if context.suits(x, *other) {
+            return true;
+        }
+    }
+    false
+}
+
+/// Whether one of some suits a number.
+fn is_suited(context: &Context<'_>, y: u16, others: &[u16]) -> bool
+    requires number { (0 < y) × (y ≤ length context.now.reached.seats) }
+    requires others { AllNumbers context.now.reached.seats others.now }
+    ensures { result ≡ list_any (λ x. suits context.now.facts context.now.reached x y) others.now }
+{
+    for other in others {
+        if context.suits(*other, y) {
+            return true;
+        }
+    }
+    false
+}
+
+/// How many of those who wait suit nobody of the pool.
+#[tactic(auto, unfolding(dutch_bracket::specs::ColourFloors::lonely_first))]
+fn lonely_first(context: &Context<'_>, waiting: &[u16], pool: &[u16]) -> usize
+    requires waiting { AllNumbers context.now.reached.seats waiting.now }
+    requires pool { AllNumbers context.now.reached.seats pool.now }
+    ensures value { result ≡ length
+        (filter (λ x. not (list_any (suits context.now.facts context.now.reached x) pool.now)) waiting.now) }
+    ensures few { result ≤ length waiting.now }
+{
+    let mut count = 0;
+    for x in waiting {
+        if !suits_one(context, *x, pool) {
+            count += 1;
+        }
+    }
+    count
+}
+
+/// How many of the pool suit nobody who waits.
+#[tactic(auto, unfolding(dutch_bracket::specs::ColourFloors::lonely_second))]
+fn lonely_second(context: &Context<'_>, waiting: &[u16], pool: &[u16]) -> usize
+    requires waiting { AllNumbers context.now.reached.seats waiting.now }
+    requires pool { AllNumbers context.now.reached.seats pool.now }
+    ensures value { result ≡ length
+        (filter (λ y. not (list_any (λ x. suits context.now.facts context.now.reached x y) waiting.now)) pool.now) }
+    ensures few { result ≤ length pool.now }
+{
+    let mut count = 0;
+    for y in pool {
+        if !is_suited(context, *y, waiting) {
+            count += 1;
+        }
+    }
+    count
+}
+
+/// The greater of two counts of lonely players, of which so many of the second may go down: a pair may have one of
+/// each.
+fn more_lonely(first: usize, second: usize, down: usize) -> usize
+    requires first { first ≤ LIMIT }
+    requires second { second ≤ LIMIT }
+    ensures value { result ≡ max first (second - down) }
+    ensures few { result ≤ LIMIT }
+{
+    first.max(second.saturating_sub(down))
+}
+
+/// How many miss at least for want of an opponent who suits. The list is filled anew with those with whom S1R can still
+/// be paired.
+#[tactic(auto, unfolding(dutch_bracket::specs::ColourFloors::lonely))]
+pub(crate) fn lonely(
+    context: &Context<'_>,
+    shape: Shape,
+    begun: &Begun<'_>,
+    pool: &mut Numbers,
+) -> usize
+    requires numbers { HasNumbers context.now.reached begun.now }
+    requires small { shape.pairs ≤ LIMIT }
+    ensures value { result ≡ lonely context.now.facts context.now.reached shape begun.now }
+    ensures few { result ≤ LIMIT }
+{
+    let waiting = waiting(context, begun);
+    put_pool(context, begun, pool);
+    let first = lonely_first(context, waiting, pool);
+    let second = lonely_second(context, waiting, pool);
+    more_lonely(first, second, context.residents_down(shape))
+}

@@ -1,9 +1,0 @@
--- A list that goes on as another one, which goes on as a third one, goes on as the third: what is skipped on the way is idle.
-use Rattle.std.proofs.Common.{List, ◌++◌, sym, ap, ◌∙◌}
-use Rattle.std.proofs.lemmas.List.{append_assoc}
-use Rattle.dutch_order.specs.Steps.{Passes}
-use Rattle.dutch_pair.proofs.AllLemmas.{all_join}
-
-pub passes_twice : {T : Type 0} (Idle : T → Type 0) (xs ys zs : List T) → Passes Idle xs ys → Passes Idle ys zs → Passes Idle xs zs
-passes_twice Idle xs ys zs (skipped, same, idle) (more, same', idle') =
-    (skipped ++ more, same ∙ ap (λ rest. skipped ++ rest) same' ∙ sym (append_assoc skipped more zs), all_join Idle skipped more idle idle')

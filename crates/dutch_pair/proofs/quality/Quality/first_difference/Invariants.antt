@@ -1,8 +1,0 @@
--- The items so far do not differ, so those to come decide.
-use Rattle.std.proofs.Common.{◌≡◌, drop}
-use Rattle.dutch_pair.specs.Items.{first_difference, first_that_differs}
-use Rattle.dutch_pair.specs.QualityIn.{quality_in}
-use Rattle.dutch_pair.proofs.quality.Quality.first_difference.Given as goal
-
-abbrev pub invariant-loop-item : goal.invariant-loop-item
-invariant-loop-item l = first_that_differs (drop l.item-index l.item-items) (quality_in l.self) (quality_in l.other) ≡ first_difference (quality_in l.self) (quality_in l.other)

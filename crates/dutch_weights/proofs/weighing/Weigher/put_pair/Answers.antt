@@ -1,0 +1,23 @@
+-- The place that is written is that of the pair.
+use Rattle.std.proofs.Common.{◌≡◌, ℕ, ◌+◌, ◌^◌, ◌∙◌, length, set, ap, subst, sym}
+use Rattle.dutch_weights.specs.WeightTables.{place_of}
+use Rattle.dutch_weights.specs.WeightTables.{TellsPairsUpto, pair, pair_weight, place_in}
+use Rattle.dutch_bracket.specs.Weights.{Weighing}
+use Rattle.dutch_weights.proofs.WeighingLemmas.{at_least, told_more}
+use Rattle.dutch_weights.proofs.weighing.Weigher.put_pair.Goals as goal
+
+pub returns-in-Some-clause-told : goal.returns-in-Some-clause-told
+returns-in-Some-clause-told c =
+    let w = c.args.self.now in
+    let a = c.args.a in
+    let b = c.args.b in
+    let table = c.args.table.now in
+    let len : c.len.result ≡ length w.reached.seats = c.len.ensures.value ∙ ap (λ (v : Weighing). length v.reached.seats) c.self.view_is in
+    let at : c.place_of.result ≡ place_in w a b = c.place_of.ensures.value ∙ ap (λ (k : ℕ). place_of k a b) len in
+    let more = told_more w table a b c.in-Some.weight c.requires.first c.requires.second c.requires.room c.in-Some.ensures.1 c.requires.told in
+    λ _. subst (λ (i : ℕ). TellsPairsUpto w (set table i c.in-Some.weight) (place_in w a b + 1)) (sym at) more
+
+pub returns-in-None-clause-heavy : goal.returns-in-None-clause-heavy
+returns-in-None-clause-heavy c =
+    λ _. pair c.args.a c.args.b c.requires.first c.requires.second
+    (at_least (pair_weight c.args.self.now c.args.a c.args.b) (2 ^ 512) c.in-None.ensures)

@@ -1,0 +1,10 @@
+-- No pair is to come at the end of the shorter list.
+use Rattle.std.proofs.Common.{◌≤◌, length, min, subst, arith}
+use Rattle.dual.specs.Floors.{extra_in}
+use Rattle.dutch_weights.proofs.BoundSums.{no_pair}
+use Rattle.dutch_weights.proofs.weight_floor.plus_pairs.Goals as goal
+
+pub returns : goal.returns
+returns c =
+    let end : min (length c.args.firsts.now) (length c.args.seconds.now) ≤ c.loop-i.i = subst (λ n. n ≤ c.loop-i.i) c.min-count.ensures c.loop-i-test.false in
+    omega (arith, c.loop-i.invariant, no_pair (extra_in c.args.floor.now) c.args.firsts.now c.args.seconds.now c.loop-i.i end)

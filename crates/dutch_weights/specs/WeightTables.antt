@@ -1,0 +1,118 @@
+-- Tables of what the pairs and the downfloaters of a bracket weigh. Only private functions' clauses cite
+-- these.
+use Rattle.std.specs.Prelude.{◌≡◌, ℕ, ◌+◌, ◌-◌, ◌*◌, ◌^◌, ◌<◌, ◌≤◌, Option, List, [], ◌∷◌, length, slice_index, nat_le, if◌then◌else◌}
+use Rattle.std.specs.Option.{ForSome, SomeIff}
+use Rattle.dutch_bracket.specs.Context.{Context}
+use Rattle.dutch_bracket.specs.NextMatchings.{count_below, score_below, seat_below}
+use Rattle.dutch_bracket.specs.Reached.{Reached}
+use Rattle.dutch_bracket.specs.Seated.{difference_down, score_at}
+use Rattle.dutch_bracket.specs.Weights.{Scale, Weighing, weight_below, weight_of_one_down, weight_of_pair, written}
+
+-- a number that is there exactly where it is less than 2^512
+abbrev pub IsThere : Option ℕ → ℕ → Type 0
+IsThere number k = SomeIff number (k < 2 ^ 512) k
+
+-- behind a number, if it is there, stand digits too, if the number with them is less than 2^512
+abbrev pub PutsBehind : Option ℕ → List (ℕ × ℕ) → Option ℕ → Type 0
+PutsBehind front digits number = (k : ℕ) → IsThere front k → IsThere number (written k digits)
+
+-- a number of a bracket
+abbrev pub IsNumber : Reached → ℕ → Type 0
+IsNumber reached a = (0 < a) × (a ≤ length reached.seats)
+
+-- a bracket of a field on a scale
+abbrev pub weighed_on : Context → Scale → Weighing
+weighed_on context scale = record { facts = context.facts; reached = context.reached; lower = context.lower; scale = scale }
+
+-- where a table of pairs has two numbers of so many players, which count from 1
+abbrev pub place_of : ℕ → ℕ → ℕ → ℕ
+place_of n x y = (x - 1) * n + (y - 1)
+
+-- where it has two of a bracket
+abbrev pub place_in : Weighing → ℕ → ℕ → ℕ
+place_in w a b = place_of (length w.reached.seats) a b
+
+-- what two numbers weigh as a pair
+abbrev pub pair_weight : Weighing → ℕ → ℕ → ℕ
+pair_weight w = weight_of_pair w.facts w.reached w.scale
+
+-- what a number weighs as a downfloater
+abbrev pub down_weight : Weighing → ℕ → ℕ
+down_weight w = weight_of_one_down w.facts w.reached w.scale
+
+-- a table tells what each pair weighs whose place is before an end
+abbrev pub TellsPairsUpto : Weighing → List ℕ → ℕ → Type 0
+TellsPairsUpto w table end =
+    (a b : ℕ) → IsNumber w.reached a → IsNumber w.reached b → place_in w a b < end → slice_index table (place_in w a b) ≡ pair_weight w a b
+
+-- a table has a place for each pair
+abbrev pub HasPairs : Weighing → List ℕ → Type 0
+HasPairs w table = length table ≡ length w.reached.seats * length w.reached.seats
+
+-- a table has a place for each number
+abbrev pub HasAll : Weighing → List ℕ → Type 0
+HasAll w table = length table ≡ length w.reached.seats
+
+-- a table tells what each pair weighs
+abbrev pub TellsPairs : Weighing → List ℕ → Type 0
+TellsPairs w table = (a b : ℕ) → IsNumber w.reached a → IsNumber w.reached b → slice_index table (place_in w a b) ≡ pair_weight w a b
+
+-- a table tells what each of the first numbers weighs as a downfloater
+abbrev pub TellsDownUpto : Weighing → List ℕ → ℕ → Type 0
+TellsDownUpto w table end = (a : ℕ) → IsNumber w.reached a → a ≤ end → slice_index table (a - 1) ≡ down_weight w a
+
+-- a table tells what each downfloater weighs
+abbrev pub TellsDown : Weighing → List ℕ → Type 0
+TellsDown w table = (a : ℕ) → IsNumber w.reached a → slice_index table (a - 1) ≡ down_weight w a
+
+-- a number of a bracket, or behind those one of the next lower scoregroup
+abbrev pub IsNumberBelow : Weighing → ℕ → Type 0
+IsNumberBelow w a = (0 < a) × (a ≤ count_below w.facts w.reached w.lower)
+
+-- its score
+abbrev pub score_of : Weighing → ℕ → ℕ
+score_of w a = score_at w.facts (seat_below w.facts w.reached w.lower a)
+
+-- what a number of the bracket weighs as a downfloater; one of the next lower scoregroup weighs nothing
+abbrev pub own_weight : Weighing → ℕ → ℕ
+own_weight w a = if nat_le a (length w.reached.seats) then down_weight w a else 0
+
+-- C.7: what a number weighs that meets one of the next lower scoregroup in the next bracket
+abbrev pub met_weight : Weighing → ℕ → ℕ
+met_weight w a = own_weight w a + weight_below w.scale 0 ((score_of w a - score_below w.facts w.lower) ∷ [])
+
+-- C.7: and what one weighs that is in no pair there
+abbrev pub alone_weight : Weighing → ℕ → ℕ
+alone_weight w a =
+    own_weight w a
+    + weight_below w.scale 1 (difference_down w.facts (score_below w.facts w.lower) (seat_below w.facts w.reached w.lower a) ∷ [])
+
+-- a table has a place for each number of the bracket and the next lower scoregroup
+abbrev pub HasBelow : Weighing → List ℕ → Type 0
+HasBelow w table = length table ≡ count_below w.facts w.reached w.lower
+
+-- a table tells of each of the first numbers what it weighs that meets somebody there
+abbrev pub TellsMetUpto : Weighing → List ℕ → ℕ → Type 0
+TellsMetUpto w table end = (a : ℕ) → IsNumberBelow w a → a ≤ end → slice_index table (a - 1) ≡ met_weight w a
+
+-- a table tells of each of the first numbers what it weighs that is in no pair there
+abbrev pub TellsAloneUpto : Weighing → List ℕ → ℕ → Type 0
+TellsAloneUpto w table end = (a : ℕ) → IsNumberBelow w a → a ≤ end → slice_index table (a - 1) ≡ alone_weight w a
+
+-- and of all
+abbrev pub TellsMet : Weighing → List ℕ → Type 0
+TellsMet w table = (a : ℕ) → IsNumberBelow w a → slice_index table (a - 1) ≡ met_weight w a
+
+abbrev pub TellsAlone : Weighing → List ℕ → Type 0
+TellsAlone w table = (a : ℕ) → IsNumberBelow w a → slice_index table (a - 1) ≡ alone_weight w a
+
+-- if the next bracket is measured, tables tell both of all numbers
+abbrev pub TellsBelow : Weighing → List ℕ → List ℕ → Type 0
+TellsBelow w met alone = ForSome w.scale.next (λ _. TellsMet w met × TellsAlone w alone)
+
+-- a pair, a downfloater, or one in the next bracket weighs so much
+pub data IsHeavy (w : Weighing) (most : ℕ) : Type 0 where
+  pair : (a b : ℕ) → IsNumber w.reached a → IsNumber w.reached b → most ≤ pair_weight w a b → IsHeavy w most
+  one_down : (a : ℕ) → IsNumber w.reached a → most ≤ down_weight w a → IsHeavy w most
+  met : (a : ℕ) → IsNumberBelow w a → most ≤ met_weight w a → IsHeavy w most
+  alone : (a : ℕ) → IsNumberBelow w a → most ≤ alone_weight w a → IsHeavy w most

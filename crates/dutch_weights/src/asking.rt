@@ -1,0 +1,374 @@
+// Floors of a bracket by weight, asked for where a walk is stuck (C.04.3 B.8).
+//
+// Whoever finds a matching is not trusted: of its certificate a floor is kept only if the check confirms it. A floor
+// holds for all candidates of the bracket; where it was asked for only makes it high there.
+ghost use Rattle.std.specs.Prelude.{◌≡◌, ◌<◌, ◌≤◌, length};
+ghost use Rattle.std.specs.Result.{MatchResult};
+ghost use Rattle.dutch_order.specs.declared.numbers.TheConstants.{LIMIT};
+ghost use Rattle.dutch_order.specs.Steps.{Spends};
+
+use crate::order::{Halves, Order};
+use crate::rest::{Alone, Rest, is_in};
+use crate::scoped::Scoped;
+use crate::telling::table_of;
+use crate::trail::Stuck;
+use crate::weight_floor::{Bar, WeightFloors};
+use cheapest::{Fault, Found, cheapest};
+use dual::Table;
+use dutch_bracket::scope::Scope;
+use dutch_bracket::seated::Pair;
+use dutch_bracket::spending::spend;
+use dutch_order::{Budget, Stopped};
+use std::alloc::{AllocError, Global};
+use wide::Wide;
+
+/// The number of pairs of a beginning is halved so often at most.
+const MOST_HALVINGS: u32 = 16;
+
+/// The pairs of a matching by number: those of the bracket, and those of the next bracket, where C.7 is measured.
+#[derive(Drop)]
+pub struct Matched {
+    pub pairs: Vec<Pair>,
+    pub below: Vec<Pair>,
+}
+
+/// Whoever is in a pair in all arrangements is left over at so many times what is more than any weight.
+const NEVER_LEFT: u32 = 2048;
+
+/// A table to be checked, and the matching that it comes with.
+#[derive(Drop)]
+struct Told {
+    table: Table,
+    matched: Matched,
+}
+
+/// Where more is asked for: in the arrangements of a scope, behind some pairs by number.
+#[derive(Clone, Copy)]
+pub struct Asked<'s> {
+    pub scope: &'s Scope,
+    pub pairs: &'s [Pair],
+}
+
+/// The bars of the aim of a pass and of what it keeps.
+#[derive(Clone, Copy)]
+pub struct Bars {
+    pub aim: Option<Bar>,
+    pub kept: Option<Bar>,
+}
+
+impl Bars {
+    /// Whether so much weight is beyond one of them.
+    fn are_passed(&self, weight: Wide) -> bool {
+        self.aim.is_some_and(|bar| bar.is_passed(weight))
+            || self.kept.is_some_and(|bar| bar.is_passed(weight))
+    }
+}
+
+/// The pairs of a matching by number, each once: those of the bracket, or those that are not.
+fn made_pairs(
+    rest: &Rest<'_, '_>,
+    partners: &[Option<u16>],
+    inside: bool,
+    alloc: Global,
+) -> Result<Vec<Pair>, AllocError> {
+    let mut pairs = Vec::new(alloc);
+    let numbers = rest.numbers();
+    for (number, partner) in numbers.iter().zip(partners.iter()) {
+        if let Some(partner) = partner
+            && let Some(other) = numbers.get(usize::from(*partner))
+            && number < other
+            && rest.may_pair(*number, *other) == inside
+        {
+            pairs.push((*number, *other))?;
+        }
+    }
+    Ok(pairs)
+}
+
+/// What a matching of players tells; none if a sum does not fit.
+fn told_by(
+    alloc: Global,
+    rest: &Rest<'_, '_>,
+    last: usize,
+    found: &Found,
+) -> Result<Option<Told>, AllocError>
+    requires { last < 65536 }
+{
+    let Some(table) = table_of(alloc, rest, last, &found.certificate)? else {
+        return Ok(None);
+    };
+    let pairs = made_pairs(rest, &found.partners, true, alloc)?;
+    let below = made_pairs(rest, &found.partners, false, alloc)?;
+    let matched = Matched { pairs, below };
+    Ok(Some(Told { table, matched }))
+}
+
+/// The number of a seat in a bracket; none if it is not there.
+fn number_of(seats: &[u16], seat: u16) -> Option<u16>
+    requires { length seats.now ≤ LIMIT }
+{
+    for (place, other) in seats.iter().enumerate() {
+        if *other == seat {
+            return Some(place as u16 + 1);
+        }
+    }
+    None
+}
+
+/// The pairs by number of some pairs by seat, up to the first one that is not of the bracket.
+fn by_number(alloc: Global, seats: &[u16], pairs: &[Pair]) -> Result<Vec<Pair>, AllocError>
+    requires { length seats.now ≤ LIMIT }
+{
+    let mut numbers = Vec::new(alloc);
+    for pair in pairs {
+        let (Some(first), Some(second)) = (number_of(seats, pair.0), number_of(seats, pair.1))
+        else {
+            return Ok(numbers);
+        };
+        numbers.push((first, second))?;
+    }
+    Ok(numbers)
+}
+
+/// The resident at a place among those who are in none of some pairs, counted from 1; none if it is no place, or the
+/// last one.
+fn nth_resident(mdps: usize, count: usize, pairs: &[Pair], place: usize) -> Option<usize>
+    requires { count ≤ LIMIT }
+{
+    let mut before = place.checked_sub(1)?;
+    for above in mdps..count.saturating_sub(1) {
+        if !is_in(pairs, above as u16 + 1) {
+            if before == 0 {
+                return Some(above + 1);
+            }
+            before -= 1;
+        }
+    }
+    None
+}
+
+/// How many steps have to be left for a matching of so many players to be looked for: an eighth of their cube. Some
+/// take more.
+fn steps_for(players: usize) -> u64 {
+    let players = players as u64;
+    players.saturating_mul(players).saturating_mul(players) / 8
+}
+
+impl<'a> WeightFloors<'a> {
+    /// What being left over costs beside half of a weight: more than any weight, so that as many pairs are made as can
+    /// be; nothing where C.7 is measured, since there the weights tell of it.
+    fn alone(&self) -> Option<Alone> {
+        let width = u32::try_from(self.weighing.scale().width()).ok()?;
+        let most = Wide::power_of_two(width)?;
+        let never = most.times(NEVER_LEFT)?;
+        let cost = if self.counts_next() {
+            Wide::zero()
+        } else {
+            most
+        };
+        Some(Alone { cost, never })
+    }
+
+    /// What is told of the players who are in none of some pairs, for the arrangements of a scope; none if nothing was
+    /// found, or memory was refused.
+    fn told(
+        &self,
+        asked: &Asked<'_>,
+        order: &Order,
+        left: &mut u64,
+    ) -> Result<Option<Told>, Stopped>
+        ensures falls { left.new ≤ left.old }
+        ensures stopped { MatchResult result (λ _. Unit {0}) (λ _. left.new ≡ 0) }
+    {
+        let context = self.weighing.context();
+        let Some(alone) = self.alone() else {
+            return Ok(None);
+        };
+        let scoped = Scoped::new(&self.weighing, asked.scope, self.reach(), order);
+        let Ok(rest) = Rest::beside(&scoped, asked.pairs, alone) else {
+            return Ok(None);
+        };
+        match cheapest(context.alloc(), &rest, left) {
+            Ok(found) => Ok(told_by(context.alloc(), &rest, scoped.size(), &found).unwrap_or(None)),
+            Err(Fault::Stopped) => Err(Stopped),
+            Err(_) => Ok(None),
+        }
+    }
+
+    /// Looks for a cheapest matching of the players who are in none of some pairs, and keeps the floor that its
+    /// certificate gives. It answers the matching; none if it was not looked for, since too few steps are left, or
+    /// nothing was confirmed.
+    fn ask_with(
+        &mut self,
+        asked: &Asked<'_>,
+        order: Order,
+        budget: &mut Budget,
+    ) -> Result<Option<Matched>, Stopped>
+        requires within { budget.old.used ≤ budget.old.limit }
+        ensures same { self.new ≡ self.old }
+        ensures stopped { MatchResult result (λ _. Unit {0}) (λ _. budget.new.used ≡ budget.new.limit) }
+        ensures spends { Spends budget.old budget.new }
+    {
+        let count = self.size();
+        let free = count.saturating_sub(2 * asked.pairs.len());
+        let mut left = budget.limit - budget.used;
+        if left < steps_for(free) {
+            return Ok(None);
+        }
+        let told = self.told(asked, &order, &mut left);
+        budget.used = budget.limit - left;
+        let Some(told) = told? else {
+            return Ok(None);
+        };
+        spend((count * count) as u64, budget)?;
+        match self.put(&told.table, asked.scope, order) {
+            Ok(true) => Ok(Some(told.matched)),
+            _ => Ok(None),
+        }
+    }
+
+    /// The same where nothing is added for the order of S1R.
+    pub fn ask(
+        &mut self,
+        asked: &Asked<'_>,
+        budget: &mut Budget,
+    ) -> Result<Option<Matched>, Stopped>
+        requires within { budget.old.used ≤ budget.old.limit }
+        ensures same { self.new ≡ self.old }
+        ensures stopped { MatchResult result (λ _. Unit {0}) (λ _. budget.new.used ≡ budget.new.limit) }
+        ensures spends { Spends budget.old budget.new }
+    {
+        let order = Order::none(self.weighing.context().alloc());
+        self.ask_with(asked, order, budget)
+    }
+
+    /// Whether the last floor says that all candidates with some pairs are behind one of the bars.
+    fn rules_out(&self, pairs: &[Pair], bars: &Bars) -> bool {
+        let Some(last) = self.floors.last() else {
+            return false;
+        };
+        let floor = &last.floor;
+        let mut sum = floor.base();
+        for pair in pairs {
+            let Some(more) = sum.plus(floor.extra(pair.0, pair.1)) else {
+                return false;
+            };
+            sum = more;
+        }
+        match sum.minus(floor.debt()) {
+            Some(least) => bars.are_passed(least),
+            None => false,
+        }
+    }
+
+    /// Asks behind so many of the pairs where a walk is stuck, and where that is ruled out, behind fewer, until it is
+    /// known how many are not ruled out. That number is answered.
+    fn ask_behind(
+        &mut self,
+        stuck: &Stuck,
+        scope: &Scope,
+        bars: &Bars,
+        budget: &mut Budget,
+    ) -> Result<usize, Stopped>
+        requires within { budget.old.used ≤ budget.old.limit }
+        ensures same { self.new ≡ self.old }
+        ensures stopped { MatchResult result (λ _. Unit {0}) (λ _. budget.new.used ≡ budget.new.limit) }
+        ensures spends { Spends budget.old budget.new }
+    {
+        let (mut sound, mut ruled_out) = (stuck.sound, stuck.depth);
+        let mut depth = stuck.depth;
+        for _ in 0..MOST_HALVINGS {
+            let pairs = stuck.front(depth);
+            self.ask(&Asked { scope, pairs }, budget)?;
+            (sound, ruled_out) = if self.rules_out(stuck.front(depth), bars) {
+                (sound, depth)
+            } else {
+                (depth, ruled_out)
+            };
+            if ruled_out <= sound.saturating_add(1) {
+                return Ok(sound);
+            }
+            depth = sound.saturating_add(ruled_out) / 2;
+        }
+        Ok(sound)
+    }
+
+    /// The order of the S1R behind the pairs of an S1 and its S2 (D.2); none if there is no choice of S1R, or no room
+    /// for it below the weights.
+    fn order_behind(&self, front: &[Pair]) -> Option<Order> {
+        let context = self.weighing.context();
+        let mdps = context.reached().mdps();
+        let count = context.len();
+        let places = self.shape.pairs.checked_sub(front.len())?;
+        let half = nth_resident(mdps, count, front, places)?;
+        let spare = self.weighing.scale().spare();
+        let halves = Halves::new(count, mdps, half)?;
+        if spare < halves.width() {
+            return None;
+        }
+        Order::by_exchanges(context.alloc(), &halves).unwrap_or(None)
+    }
+
+    /// Asks for a floor that counts the order of S1R where a walk has chosen all of S2, once behind each. A no says
+    /// that nothing was asked.
+    fn tell_order(
+        &mut self,
+        scope: &Scope,
+        pairs: &[Pair],
+        budget: &mut Budget,
+    ) -> Result<bool, Stopped>
+        requires within { budget.old.used ≤ budget.old.limit }
+        ensures same { self.new ≡ self.old }
+        ensures stopped { MatchResult result (λ _. Unit {0}) (λ _. budget.new.used ≡ budget.new.limit) }
+        ensures spends { Spends budget.old budget.new }
+    {
+        let Some(count) = scope.pairs_of_s1(pairs.len()) else {
+            return Ok(false);
+        };
+        let front = &pairs[..count];
+        if self.trail.knows_order_behind(front) {
+            return Ok(false);
+        }
+        self.trail
+            .note_order(self.weighing.context().alloc(), front);
+        let Some(order) = self.order_behind(front) else {
+            return Ok(false);
+        };
+        let asked = Asked {
+            scope: &scope.of_s1(),
+            pairs: front,
+        };
+        self.ask_with(&asked, order, budget)?;
+        Ok(true)
+    }
+
+    /// Tells a walk more that is stuck at the beginning with some pairs by seat, among the arrangements of a scope. It
+    /// takes no more than the steps that it counts.
+    pub fn tell_more(
+        &mut self,
+        stuck: &Asked<'_>,
+        bars: &Bars,
+        budget: &mut Budget,
+    ) -> Result<(), Stopped>
+        requires within { budget.old.used ≤ budget.old.limit }
+        ensures same { self.new ≡ self.old }
+        ensures stopped { MatchResult result (λ _. Unit {0}) (λ _. budget.new.used ≡ budget.new.limit) }
+        ensures spends { Spends budget.old budget.new }
+    {
+        let context = self.weighing.context();
+        let Ok(pairs) = by_number(context.alloc(), context.reached().seats(), stuck.pairs) else {
+            return Ok(());
+        };
+        let before = budget.used;
+        if self.tell_order(stuck.scope, &pairs, budget)? {
+            self.trail.note(before, budget.used);
+            return Ok(());
+        }
+        self.trail.turn_to(stuck.scope);
+        let place = self.trail.stuck_at(pairs);
+        let asked = self.ask_behind(&place, stuck.scope, bars, budget)?;
+        self.trail.go_on(place.pairs, asked);
+        self.trail.note(before, budget.used);
+        Ok(())
+    }
+}

@@ -1,0 +1,371 @@
+// What the numbers of a bracket add to what an arrangement costs, if they are in S1R, and the most that those of an S1R
+// add of which is known how it differs from the original one (C.04.3 D.2). So a floor of costs tells of places in the
+// order of D.2 as well.
+ghost use Rattle.std.specs.Prelude.{◌≡◌, ℕ, ◌+◌, ◌*◌, ◌<◌, ◌≤◌, ◌^◌, if◌then◌else◌, List, [], All, IfSome, min, sum_by};
+ghost use Rattle.std.specs.Prelude.{true};
+ghost use Rattle.std.specs.Option.{SomeIff};
+ghost use Rattle.dutch_order.specs.Choices.{is_member};
+ghost use Rattle.dutch_order.specs.Exchanged.{IsExchange};
+ghost use Rattle.dutch_order.specs.Keys.{IsIn};
+ghost use Rattle.dutch_order.specs.declared.numbers.TheConstants.{LIMIT};
+ghost use Rattle.dutch_weights.specs.Orders.{added, kept, lesser, more_of, short_of, with_lesser};
+
+use crate::scale::bits_for;
+use dutch_order::{Exchange, LIMIT};
+use std::alloc::{AllocError, Global};
+use std::marker::Model;
+use wide::Wide;
+
+/// What each number of a bracket adds where it is in S1R (C.04.3 D.2): so many units for each number, and for each
+/// number something more.
+#[derive(Drop)]
+pub(crate) struct Order {
+    unit: Wide,
+    // of each number, from 1 on
+    more: Vec<Wide>,
+    // no number has more
+    top: Wide,
+}
+
+impl Model for Order {
+    ghost use Rattle.std.specs.Prelude.{◌≤◌, All};
+    ghost use Rattle.dutch_weights.specs.Orders.{Order};
+
+    ghost Value = { Order };
+
+    ghost view = { λ o. record { unit = o.unit; more = o.more.items } };
+
+    ghost invariant = { λ o. All (λ m. m ≤ o.top) o.more.items };
+}
+
+/// The two halves of a bracket's residents, by which their numbers are given what they add. The upper one is the
+/// original S1R where nobody above its end is in S2.
+#[derive(Clone, Copy, Debug)]
+pub(crate) struct Halves {
+    // so many numbers there are
+    count: u32,
+    // so many of them are moved-down players, who are never in S1R
+    mdps: u32,
+    // the last number of the upper half
+    half: u32,
+    ghost in_order: { (mdps < half) × (half ≤ count) × (count ≤ 1024) },
+}
+
+/// Whether a number stands in a list.
+fn has(list: &[u16], number: u16) -> bool
+    ensures { result ≡ is_member number list.now }
+{
+    list.contains(&number)
+}
+
+/// So many times a number; none if it does not fit.
+fn times(number: Wide, count: usize) -> Option<Wide>
+    ensures { IfSome result (λ n. n ≡ number * count) }
+{
+    let Ok(count) = u32::try_from(count) else {
+        return None;
+    };
+    number.times(count)
+}
+
+/// The lesser of two numbers.
+fn least(first: Wide, second: Wide) -> Wide
+    ensures { result ≡ min first second }
+{
+    if second.is_less(first) { second } else { first }
+}
+
+/// The greatest of some numbers.
+fn greatest(numbers: &[Wide]) -> Wide
+    ensures { All (λ m. m ≤ result) numbers.now }
+{
+    let mut greatest = Wide::zero();
+    for number in numbers {
+        if greatest.is_less(*number) {
+            greatest = *number;
+        }
+    }
+    greatest
+}
+
+impl Order {
+    /// Nobody adds anything.
+    pub(crate) fn none(alloc: Global) -> Order
+        ensures { result ≡ record { unit = 0; more = [] } }
+    {
+        Order {
+            unit: Wide::zero(),
+            more: Vec::new(alloc),
+            top: Wide::zero(),
+        }
+    }
+
+    /// Whether nobody adds anything. A no says nothing.
+    pub(crate) fn is_none(&self) -> bool
+        ensures { result ≡ true → (x : ℕ) → added self.now x ≡ 0 }
+    {
+        self.unit == Wide::zero() && self.more.is_empty()
+    }
+
+    /// What is more of a number.
+    fn more(&self, number: u16) -> Wide
+        ensures { result ≡ more_of self.now number }
+    {
+        let place = usize::from(number.saturating_sub(1));
+        if place < self.more.len() {
+            self.more[place]
+        } else {
+            Wide::zero()
+        }
+    }
+
+    /// What no number has more than.
+    fn top(&self) -> Wide
+        ensures { (x : ℕ) → more_of self.now x ≤ result }
+    {
+        self.top
+    }
+
+    /// What a number adds; none if that is 2^512 or more.
+    pub(crate) fn added(&self, number: u16) -> Option<Wide>
+        ensures { SomeIff result (added self.now number < 2 ^ 512) (added self.now number) }
+    {
+        self.unit.times(u32::from(number))?.plus(self.more(number))
+    }
+
+    /// The lesser of what two numbers add; none if that is 2^512 or more.
+    fn lesser(&self, a: u16, b: u16) -> Option<Wide>
+        ensures { SomeIff result (lesser self.now a b < 2 ^ 512) (lesser self.now a b) }
+    {
+        let Some(first) = self.added(a) else {
+            return self.added(b);
+        };
+        let Some(second) = self.added(b) else {
+            return Some(first);
+        };
+        Some(least(first, second))
+    }
+
+    /// A weight and the lesser of what two numbers add; the weight alone if there is no room for both.
+    pub(crate) fn with_lesser(&self, weight: Wide, a: u16, b: u16) -> Wide
+        ensures { result ≡ with_lesser self.now weight a b }
+    {
+        let Some(lesser) = self.lesser(a, b) else {
+            return weight;
+        };
+        let Some(sum) = weight.plus(lesser) else {
+            return weight;
+        };
+        sum
+    }
+
+    /// What the members of an S1R add; none if it does not fit.
+    pub(crate) fn of(&self, s1r: &[u16]) -> Option<Wide>
+        ensures { IfSome result (λ n. n ≡ sum_by (added self.now) s1r.now) }
+    {
+        let mut sum = Wide::zero();
+        for number in s1r {
+            let Some(one) = self.added(*number) else {
+                return None;
+            };
+            let Some(more) = sum.plus(one) else {
+                return None;
+            };
+            sum = more;
+        }
+        Some(sum)
+    }
+}
+
+impl Order {
+    /// The most that a number of the original S1R adds beside its units, if these are not in S1R.
+    fn more_kept(&self, barred: &[u16], number: u16) -> Wide
+        ensures { result ≡ (if is_member number barred.now then 0 else more_of self.now number) }
+    {
+        if has(barred, number) {
+            Wide::zero()
+        } else {
+            self.more(number)
+        }
+    }
+
+    /// The most that a number of the original S1R adds, if these are not in S1R; none if it does not fit.
+    fn kept(&self, barred: &[u16], number: u16) -> Option<Wide>
+        ensures { IfSome result (λ n. n ≡ kept self.now barred.now number) }
+    {
+        let Some(units) = self.unit.times(u32::from(number)) else {
+            return None;
+        };
+        units.plus(self.more_kept(barred, number))
+    }
+
+    /// The most that the original S1R adds, if these are not in S1R; none if it does not fit.
+    fn all_kept(&self, original: &[u16], barred: &[u16]) -> Option<Wide>
+        ensures { IfSome result (λ n. n ≡ sum_by (kept self.now barred.now) original.now) }
+    {
+        let mut sum = Wide::zero();
+        for number in original {
+            let Some(one) = self.kept(barred, *number) else {
+                return None;
+            };
+            let Some(more) = sum.plus(one) else {
+                return None;
+            };
+            sum = more;
+        }
+        Some(sum)
+    }
+
+    /// By how much a number has less than the most, if it is held.
+    fn short_of(&self, top: Wide, held: &[u16], number: u16) -> Option<Wide>
+        ensures { IfSome result (λ n. n ≡ short_of self.now top held.now number) }
+    {
+        if has(held, number) {
+            top.minus(self.more(number))
+        } else {
+            Some(Wide::zero())
+        }
+    }
+
+    /// By how much all of the others who are held have less than the most; none if it does not fit.
+    fn all_short(&self, top: Wide, others: &[u16], held: &[u16]) -> Option<Wide>
+        ensures { IfSome result (λ n. n ≡ sum_by (short_of self.now top held.now) others.now) }
+    {
+        let mut sum = Wide::zero();
+        for number in others {
+            let Some(one) = self.short_of(top, held, *number) else {
+                return None;
+            };
+            let Some(more) = sum.plus(one) else {
+                return None;
+            };
+            sum = more;
+        }
+        Some(sum)
+    }
+
+    /// The most that the members of an S1R add that is such an exchange; none if it does not fit.
+    ///
+    /// Its units are those of the original S1R and of the difference. Beside them each member of the original S1R who
+    /// is not barred adds what is more of it, and each of the others the most that any has, or what it has itself if it
+    /// is held.
+    pub(crate) fn most(&self, exchange: &Exchange<'_>) -> Option<Wide>
+        ensures { IfSome result (λ n. (s1r : List ℕ) → IsExchange exchange.now s1r → sum_by (added self.now) s1r ≤ n) }
+    {
+        let top = self.top();
+        let kept = self.all_kept(exchange.original(), exchange.barred())?;
+        let short = self.all_short(top, exchange.others(), exchange.held())?;
+        let moved = times(self.unit, exchange.difference())?;
+        let entered = times(top, exchange.size())?;
+        kept.plus(moved)?.plus(entered)?.minus(short)
+    }
+}
+
+impl Halves {
+    /// So many numbers, so many of them of moved-down players, and the last one of the upper half; none if there are
+    /// too many, or if they do not follow each other so.
+    pub(crate) fn new(count: usize, mdps: usize, half: usize) -> Option<Halves> {
+        if mdps < half && half <= count && count <= LIMIT {
+            Some(Halves {
+                count: count as u32,
+                mdps: mdps as u32,
+                half: half as u32,
+            })
+        } else {
+            None
+        }
+    }
+
+    /// So many bits have room for each number.
+    fn bits(&self) -> u32
+        ensures { result ≤ 11 }
+    {
+        bits_for(self.count as usize)
+    }
+
+    /// How many numbers are in the lower half.
+    fn lower(&self) -> u32
+        ensures { result ≤ 1024 }
+    {
+        self.count - self.half
+    }
+
+    /// So many bits have room for all that tells the members of the lower half apart.
+    fn lower_bits(&self) -> u32
+        ensures { result ≤ 1035 }
+    {
+        self.lower() + self.bits()
+    }
+
+    /// So many bits have room for all that tells the members of both halves apart.
+    fn fine_bits(&self) -> u32
+        ensures { result ≤ 2060 }
+    {
+        self.half - self.mdps + self.lower_bits() + 1
+    }
+
+    /// How many bits all that is added takes.
+    pub(crate) fn width(&self) -> u32 {
+        3 * self.bits() + 2 + self.fine_bits()
+    }
+
+    /// What is more of a number of the upper half: the higher ones have more, since D.2 moves them out first.
+    fn more_of_upper(&self, number: u32) -> Option<Wide>
+        requires { number ≤ 1024 }
+    {
+        Wide::power_of_two(number.saturating_sub(self.mdps) + self.lower_bits())
+    }
+
+    /// What is more of a number of the lower half: for each of them as much as no difference of sums comes to, since
+    /// D.2 goes by the number of players exchanged first; and the lower ones have less, since D.2 moves them in first.
+    fn more_of_lower(&self, number: u32) -> Option<Wide> {
+        let entered = Wide::power_of_two(2 * self.bits() + 2 + self.fine_bits())?;
+        let most = Wide::power_of_two(self.lower() + 1)?;
+        let less = Wide::power_of_two(self.count.saturating_sub(number) + 1)?;
+        entered.plus(most)?.minus(less)
+    }
+
+    /// What is more of a number.
+    fn more(&self, number: u32) -> Option<Wide> {
+        if number <= self.mdps {
+            Some(Wide::zero())
+        } else if number <= self.half {
+            self.more_of_upper(number)
+        } else {
+            self.more_of_lower(number)
+        }
+    }
+
+    /// What is more of each number, from 1 on; none if it does not fit.
+    fn all_more(&self, alloc: Global) -> Result<Option<Vec<Wide>>, AllocError> {
+        let mut all = Vec::new(alloc);
+        for above in 0..self.count {
+            let Some(more) = self.more(above + 1) else {
+                return Ok(None);
+            };
+            all.push(more)?;
+        }
+        Ok(Some(all))
+    }
+}
+
+impl Order {
+    /// What numbers add, so that of two S1R the one that D.2 takes first adds less, where the upper half is the
+    /// original S1R; none if it does not fit. Bounds hold whatever is added: this makes them say the most.
+    pub(crate) fn by_exchanges(
+        alloc: Global,
+        halves: &Halves,
+    ) -> Result<Option<Order>, AllocError> {
+        let Some(unit) = Wide::power_of_two(halves.fine_bits() + 1) else {
+            return Ok(None);
+        };
+        let Some(more) = halves.all_more(alloc)? else {
+            return Ok(None);
+        };
+        Ok(Some(Order {
+            unit,
+            top: greatest(&more),
+            more,
+        }))
+    }
+}

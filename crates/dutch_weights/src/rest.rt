@@ -1,0 +1,130 @@
+// The players of a bracket, and all lower ones or those of the next lower scoregroup too, who are in none of some
+// pairs, as a graph with costs, for whoever looks for a cheapest matching of them (C.04.3 C.4, C.6 to C.19).
+//
+// A pair costs half of what it weighs: whoever looks for the matching counts all costs twice. Whoever is left over
+// costs so much more that as many pairs are made as can be, or no more where the weights tell of the next bracket
+// (C.7); and far more whoever is in a pair in all arrangements that are looked at.
+ghost use Rattle.std.specs.Prelude.{◌≡◌, ◌≤◌, All, IfOk, length};
+ghost use Rattle.dutch_order.specs.declared.numbers.TheConstants.{LIMIT};
+ghost use Rattle.dutch_weights.specs.ScopedCosts.{IsReached};
+
+use crate::scoped::Scoped;
+use cheapest::Costs;
+use dual::Rule;
+use dutch_bracket::seated::Pair;
+use std::alloc::AllocError;
+use std::marker::Model;
+use wide::Wide;
+
+/// What it costs to be left over, beside half of the weight, and what it costs whoever is in a pair in all
+/// arrangements.
+#[derive(Clone, Copy)]
+pub(crate) struct Alone {
+    pub(crate) cost: Wide,
+    pub(crate) never: Wide,
+}
+
+/// The players over whom matchings go, without those who are in some pairs.
+#[derive(Drop)]
+pub(crate) struct Rest<'a, 'b> {
+    scoped: &'b Scoped<'a, 'b>,
+    // the vertices, by number
+    numbers: Vec<u16>,
+    alone: Alone,
+}
+
+impl<'a, 'b> Model for Rest<'a, 'b> {
+    ghost use Rattle.dutch_weights.specs.Rests.{IsRest, Rest};
+
+    ghost Value = { Rest };
+
+    ghost view = { λ r. record { scoped = r.scoped.now; numbers = r.numbers.items } };
+
+    ghost invariant = { λ r. IsRest (record { scoped = r.scoped.now; numbers = r.numbers.items }) };
+}
+
+/// Whether a number is in one of some pairs.
+pub fn is_in(pairs: &[Pair], number: u16) -> bool {
+    pairs
+        .iter()
+        .any(|pair| pair.0 == number || pair.1 == number)
+}
+
+/// The numbers over which the matchings go that are in none of some pairs.
+fn numbers_beside(scoped: &Scoped<'_, '_>, pairs: &[Pair]) -> Result<Vec<u16>, AllocError>
+    ensures inside { IfOk result (λ numbers. All (IsReached scoped.now) numbers.items) }
+    ensures few { IfOk result (λ numbers. length numbers.items ≤ LIMIT) }
+{
+    let mut numbers = Vec::new(scoped.weighing().context().alloc());
+    for above in 0..scoped.size() {
+        let number = above as u16 + 1;
+        if !is_in(pairs, number) {
+            numbers.push(number)?;
+        }
+    }
+    Ok(numbers)
+}
+
+impl<'a, 'b> Rest<'a, 'b> {
+    /// The players who are in none of some pairs of numbers, and what it costs to be left over.
+    pub(crate) fn beside(
+        scoped: &'b Scoped<'a, 'b>,
+        pairs: &[Pair],
+        alone: Alone,
+    ) -> Result<Rest<'a, 'b>, AllocError> {
+        let numbers = numbers_beside(scoped, pairs)?;
+        Ok(Rest {
+            scoped,
+            numbers,
+            alone,
+        })
+    }
+
+    /// The numbers of the vertices.
+    pub(crate) fn numbers(&self) -> &[u16]
+        ensures { result.now ≡ self.now.numbers }
+    {
+        &self.numbers
+    }
+
+    /// Whether two numbers may be a pair of the bracket.
+    pub(crate) fn may_pair(&self, a: u16, b: u16) -> bool {
+        self.scoped.may_pair(a, b)
+    }
+
+    /// What it costs to be left over, beside half of the weight.
+    pub(crate) fn alone(&self) -> Wide {
+        self.alone.cost
+    }
+}
+
+impl<'a, 'b> Costs for Rest<'a, 'b> {
+    ghost use Rattle.dutch_weights.specs.Rests.{joined, vertices};
+
+    ghost vertices = { vertices };
+
+    ghost joined = { joined };
+
+    fn size(&self) -> u16 {
+        self.numbers.len() as u16
+    }
+
+    fn cost(&self, a: u16, b: u16) -> Option<Wide> {
+        let (a, b) = (self.numbers[usize::from(a)], self.numbers[usize::from(b)]);
+        if !self.scoped.may_meet(a, b) {
+            return None;
+        }
+        Some(self.scoped.weight(a, b).halved())
+    }
+
+    fn left_cost(&self, a: u16) -> Option<Wide> {
+        let a = self.numbers[usize::from(a)];
+        if self.scoped.must_meet(a) {
+            return Some(self.alone.never);
+        }
+        if !self.scoped.may_be_left(a) {
+            return None;
+        }
+        self.scoped.left_cost(a).halved().plus(self.alone.cost)
+    }
+}

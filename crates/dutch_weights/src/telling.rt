@@ -1,0 +1,116 @@
+// Tables for the check, made of the certificate that comes with a cheapest matching (C.04.3 C.6 to C.19).
+//
+// The certificate is of the players who are in none of some pairs; in the table all players stand over whom the
+// matching goes. Whoever is in one of the pairs has a potential of 0, while all others have more, and pairs are given
+// more. So nothing is wanted of the pairs that those players make with others, and what the known pairs add is all that
+// they cost. Nobody relies on a table that was not checked.
+ghost use Rattle.std.specs.Prelude.{◌<◌};
+
+use crate::rest::Rest;
+use cheapest::{Certificate, PricedSet};
+use dual::{MarkedSet, Table};
+use std::alloc::{AllocError, Global};
+use wide::Wide;
+
+/// The greatest of some potentials.
+fn greatest(potentials: &[Wide]) -> Wide {
+    let mut most = Wide::zero();
+    for potential in potentials {
+        if most.is_less(*potential) {
+            most = *potential;
+        }
+    }
+    most
+}
+
+/// A mark for each number up to the last one, by those of the vertices.
+fn marks(
+    alloc: Global,
+    numbers: &[u16],
+    last: usize,
+    set: &PricedSet,
+) -> Result<Vec<bool>, AllocError>
+    requires { last < 65536 }
+{
+    let mut all = vec![in alloc; false; last + 1]?;
+    for (number, mark) in numbers.iter().zip(set.marks.iter()) {
+        let number = usize::from(*number);
+        if number < all.len() {
+            all[number] = *mark;
+        }
+    }
+    Ok(all)
+}
+
+/// The priced sets, with a mark for each number up to the last one.
+fn sets(
+    alloc: Global,
+    numbers: &[u16],
+    last: usize,
+    sets: &[PricedSet],
+) -> Result<Vec<MarkedSet>, AllocError>
+    requires { last < 65536 }
+{
+    let mut all = Vec::new(alloc);
+    for set in sets {
+        let marks = marks(alloc, numbers, last, set)?;
+        let price = set.price;
+        all.push(MarkedSet { marks, price })?;
+    }
+    Ok(all)
+}
+
+/// A potential for each number up to the last one, by those of the vertices and so much more; 0 for whoever is no
+/// vertex.
+fn potentials(
+    alloc: Global,
+    rest: &Rest<'_, '_>,
+    last: usize,
+    certificate: &Certificate,
+) -> Result<Vec<Wide>, AllocError>
+    requires { last < 65536 }
+{
+    let more = greatest(&certificate.potentials);
+    let mut all = vec![in alloc; Wide::zero(); last + 1]?;
+    for (number, potential) in rest.numbers().iter().zip(certificate.potentials.iter()) {
+        let number = usize::from(*number);
+        if number < all.len() {
+            all[number] = potential.plus(more).unwrap_or(*potential);
+        }
+    }
+    Ok(all)
+}
+
+/// What a pair is given, where each vertex has so much more; none if it does not fit.
+fn given(certificate: &Certificate, more: Wide) -> Option<Wide> {
+    certificate.given.plus(more)?.plus(more)
+}
+
+/// The same of one who is left over, who is also given twice what that costs beside half of the weight.
+fn given_left(certificate: &Certificate, more: Wide, alone: Wide) -> Option<Wide> {
+    certificate.given_left.plus(more)?.plus(alone)?.plus(alone)
+}
+
+/// The table of all players, up to the last number, by the certificate of some of them; none if a sum does not fit.
+pub(crate) fn table_of(
+    alloc: Global,
+    rest: &Rest<'_, '_>,
+    last: usize,
+    certificate: &Certificate,
+) -> Result<Option<Table>, AllocError>
+    requires { last < 65536 }
+{
+    let more = greatest(&certificate.potentials);
+    let Some(given) = given(certificate, more) else {
+        return Ok(None);
+    };
+    let Some(given_left) = given_left(certificate, more, rest.alone()) else {
+        return Ok(None);
+    };
+    Ok(Some(Table {
+        potentials: potentials(alloc, rest, last, certificate)?,
+        given,
+        given_left,
+        sets: sets(alloc, rest.numbers(), last, &certificate.sets)?,
+    }))
+}

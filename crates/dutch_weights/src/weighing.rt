@@ -1,0 +1,504 @@
+// What each pair and each downfloater of a bracket weighs alone (C.04.3 C.6, C.8 to C.19), and what each number weighs
+// in the next bracket, where that is measured (C.7), worked out once for all certificates of the bracket.
+ghost use Rattle.std.specs.Prelude.{◌≡◌, ◌+◌, ◌*◌, ◌<◌, ◌≤◌, ◌^◌, true, false, [], ◌∷◌, IfOk, MatchOption, is_some};
+ghost use Rattle.std.specs.Prelude.{length, slice_index};
+ghost use Rattle.std.specs.Option.{ForSome, SomeIff};
+ghost use Rattle.dutch_bracket.specs.declared.reached.BracketKind.TheVariants.{Ordinary};
+ghost use Rattle.dutch_bracket.specs.Beginnings.{seated_so};
+ghost use Rattle.dutch_bracket.specs.NextBracket.{no_value};
+ghost use Rattle.dutch_bracket.specs.Quality.{quality_with};
+ghost use Rattle.dutch_bracket.specs.Seated.{HasSeats, seat_of};
+ghost use Rattle.dutch_bracket.specs.NextMatchings.{count_below};
+ghost use Rattle.dutch_weights.specs.WeightTables.{HasAll, HasBelow, HasPairs, IsHeavy, IsNumber, IsNumberBelow};
+ghost use Rattle.dutch_weights.specs.WeightTables.{TellsAlone, TellsBelow};
+ghost use Rattle.dutch_weights.specs.WeightTables.{TellsDown, TellsMet, TellsPairs, TellsPairsUpto, alone_weight};
+ghost use Rattle.dutch_weights.specs.WeightTables.{down_weight, met_weight, own_weight};
+ghost use Rattle.dutch_weights.specs.WeightTables.{pair_weight, place_in, place_of, weighed_on};
+ghost use Rattle.dutch_order.specs.declared.numbers.TheConstants.{LIMIT};
+ghost use Rattle.dutch_bracket.specs.Weights.{weight_with};
+
+use crate::scale::Scale;
+use dutch_bracket::context::Context;
+use dutch_bracket::quality::{Quality, Room, fill_seated};
+use dutch_bracket::seated::{Seated, difference_down};
+use dutch_order::Rule;
+use dutch_player::Field;
+use std::alloc::{AllocError, Global};
+use std::marker::Model;
+use wide::Wide;
+
+/// The weights of the pairs and the downfloaters of a bracket.
+#[derive(Drop)]
+pub(crate) struct Weighing<'a> {
+    context: &'a Context<'a>,
+    scale: Scale,
+    // of each two numbers, row by row
+    pairs: Vec<Wide>,
+    // of each number
+    down: Vec<Wide>,
+    // of each number of the bracket and the next lower scoregroup, if C.7 is measured
+    below: Below,
+}
+
+/// What numbers weigh that meet somebody in the next bracket, and what they weigh that are in no pair there (C.7).
+#[derive(Drop)]
+struct Below {
+    met: Vec<Wide>,
+    alone: Vec<Wide>,
+}
+
+impl<'a> Model for Weighing<'a> {
+    ghost use Rattle.dutch_weights.specs.WeightTables.{HasAll, HasPairs, TellsBelow, TellsDown, TellsPairs, weighed_on};
+    ghost use Rattle.dutch_bracket.specs.Weights.{Weighing};
+
+    ghost Value = { Weighing };
+
+    ghost view = { λ w. weighed_on w.context.now w.scale };
+
+    ghost invariant = { λ w.
+        (HasPairs (weighed_on w.context.now w.scale) w.pairs.items
+        × TellsPairs (weighed_on w.context.now w.scale) w.pairs.items)
+        × (HasAll (weighed_on w.context.now w.scale) w.down.items
+        × TellsDown (weighed_on w.context.now w.scale) w.down.items)
+        × TellsBelow (weighed_on w.context.now w.scale) w.below.met.items w.below.alone.items };
+}
+
+/// What the weights of a bracket are worked out by.
+#[derive(Drop)]
+struct Weigher<'a> {
+    context: &'a Context<'a>,
+    scale: &'a Scale,
+}
+
+impl<'a> Model for Weigher<'a> {
+    ghost use Rattle.dutch_weights.specs.WeightTables.{weighed_on};
+    ghost use Rattle.dutch_bracket.specs.Weights.{Weighing};
+
+    ghost Value = { Weighing };
+
+    ghost view = { λ w. weighed_on w.context.now w.scale.now };
+}
+
+/// Where a table of so many players has two numbers.
+fn place_of(n: usize, x: u16, y: u16) -> usize
+    requires few { n ≤ LIMIT }
+    requires first { (0 < x) × (x ≤ n) }
+    requires second { (0 < y) × (y ≤ n) }
+    ensures value { result ≡ place_of n x y }
+    ensures within { result < n * n }
+{
+    usize::from(x - 1) * n + usize::from(y - 1)
+}
+
+/// Fills in two players who meet, by number.
+fn seat_pair(context: &Context<'_>, a: u16, b: u16, seated: &mut Seated)
+    requires first { (0 < a) × (a ≤ length context.now.reached.seats) }
+    requires second { (0 < b) × (b ≤ length context.now.reached.seats) }
+    ensures value { let seats = context.now.reached.seats
+        in seated.new ≡ seated_so context.now.facts context.now.reached ((seat_of seats a, seat_of seats b) ∷ []) [] }
+    ensures inside { HasSeats context.now.facts seated.new }
+{
+    let reached = context.reached();
+    seated.pairs.clear();
+    seated.pairs.push((reached.seat(a), reached.seat(b)));
+    seated.down.clear();
+    seated.lowest = context.lowest();
+}
+
+/// Fills in a downfloater, by number.
+fn seat_one_down(context: &Context<'_>, a: u16, seated: &mut Seated)
+    requires { (0 < a) × (a ≤ length context.now.reached.seats) }
+    ensures value { seated.new
+        ≡ seated_so context.now.facts context.now.reached [] (seat_of context.now.reached.seats a ∷ []) }
+    ensures inside { HasSeats context.now.facts seated.new }
+{
+    seated.pairs.clear();
+    seated.down.clear();
+    seated.down.push(context.reached().seat(a));
+    seated.lowest = context.lowest();
+}
+
+/// What some pairs and downfloaters by seats weigh, whatever the next bracket is; none if it is 2^512 or more.
+fn weigh(field: &Field, scale: &Scale, seated: &Seated, quality: &mut Quality) -> Option<Wide>
+    requires { HasSeats field.now seated.now }
+    ensures { let weight = weight_with scale.now 0 [] (quality_with field.now seated.now no_value) in SomeIff result
+        (weight < 2 ^ 512) weight }
+{
+    fill_seated(field, seated, quality);
+    scale.weigh_alone(quality)
+}
+
+impl Weigher<'_> {
+    /// What a pair weighs alone; none if it is 2^512 or more.
+    fn pair(&self, a: u16, b: u16, room: &mut Room) -> Option<Wide>
+        requires first { IsNumber self.now.reached a }
+        requires second { IsNumber self.now.reached b }
+        ensures { SomeIff result (pair_weight self.now a b < 2 ^ 512) (pair_weight self.now a b) }
+    {
+        seat_pair(self.context, a, b, &mut room.seated);
+        let field = self.context.field();
+        weigh(field, self.scale, &room.seated, &mut room.quality)
+    }
+
+    /// What a downfloater weighs alone; none if it is 2^512 or more.
+    fn one_down(&self, a: u16, room: &mut Room) -> Option<Wide>
+        requires { IsNumber self.now.reached a }
+        ensures { SomeIff result (down_weight self.now a < 2 ^ 512) (down_weight self.now a) }
+    {
+        seat_one_down(self.context, a, &mut room.seated);
+        let field = self.context.field();
+        weigh(field, self.scale, &room.seated, &mut room.quality)
+    }
+
+    /// Puts what a pair weighs into a table; no if it is 2^512 or more.
+    fn put_pair(&self, a: u16, b: u16, room: &mut Room, table: &mut [Wide]) -> bool
+        requires first { IsNumber self.now.reached a }
+        requires second { IsNumber self.now.reached b }
+        requires room { HasPairs self.now table.old }
+        requires told { TellsPairsUpto self.now table.old (place_in self.now a b) }
+        ensures told { result ≡ true → TellsPairsUpto self.now table.new (place_in self.now a b + 1) }
+        ensures heavy { result ≡ false → IsHeavy self.now (2 ^ 512) }
+    {
+        match self.pair(a, b, room) {
+            Some(weight) => {
+                table[place_of(self.context.len(), a, b)] = weight;
+                true
+            }
+            None => false,
+        }
+    }
+
+    /// Puts what the pairs of a number weigh into a table.
+    fn put_row(&self, a: u16, room: &mut Room, table: &mut [Wide]) -> bool
+        requires number { IsNumber self.now.reached a }
+        requires room { HasPairs self.now table.old }
+        requires told { TellsPairsUpto self.now table.old (place_in self.now a 1) }
+        ensures told { result ≡ true → TellsPairsUpto self.now table.new (length self.now.reached.seats * a) }
+        ensures heavy { result ≡ false → IsHeavy self.now (2 ^ 512) }
+    {
+        for b in 0..self.context.len() {
+            if !self.put_pair(a, b as u16 + 1, room, table) {
+                return false;
+            }
+        }
+        true
+    }
+
+    /// Puts what all pairs weigh into a table.
+    fn put_pairs(&self, room: &mut Room, table: &mut [Wide]) -> bool
+        requires { HasPairs self.now table.old }
+        ensures told { result ≡ true → TellsPairs self.now table.new }
+        ensures heavy { result ≡ false → IsHeavy self.now (2 ^ 512) }
+    {
+        for a in 0..self.context.len() {
+            if !self.put_row(a as u16 + 1, room, table) {
+                return false;
+            }
+        }
+        true
+    }
+
+    /// Puts what all downfloaters weigh into a table.
+    fn put_down(&self, room: &mut Room, table: &mut [Wide]) -> bool
+        requires { HasAll self.now table.old }
+        ensures told { result ≡ true → TellsDown self.now table.new }
+        ensures heavy { result ≡ false → IsHeavy self.now (2 ^ 512) }
+    {
+        for a in 0..self.context.len() {
+            match self.one_down(a as u16 + 1, room) {
+                Some(weight) => table[a] = weight,
+                None => return false,
+            }
+        }
+        true
+    }
+}
+
+impl Weigher<'_> {
+    /// What a number weighs as a downfloater, if it is one of the bracket.
+    fn own(&self, a: u16, down: &[Wide]) -> Wide
+        requires number { IsNumberBelow self.now a }
+        requires room { HasAll self.now down.now }
+        requires told { TellsDown self.now down.now }
+        ensures { result ≡ own_weight self.now a }
+    {
+        if usize::from(a) <= self.context.len() {
+            down[usize::from(a) - 1]
+        } else {
+            Wide::zero()
+        }
+    }
+
+    /// What a number weighs that meets one of the next lower scoregroup; none if it is 2^512 or more.
+    fn met(&self, a: u16, down: &[Wide]) -> Option<Wide>
+        requires number { IsNumberBelow self.now a }
+        requires group { length self.now.reached.seats < count_below self.now.facts self.now.reached self.now.lower }
+        requires room { HasAll self.now down.now }
+        requires told { TellsDown self.now down.now }
+        ensures { SomeIff result (met_weight self.now a < 2 ^ 512) (met_weight self.now a) }
+    {
+        let score = self.context.field().score(self.context.seat_below(a));
+        let difference = score.saturating_sub(self.context.score_below());
+        let below = self.scale.weigh_below(0, difference)?;
+        self.own(a, down).plus(below)
+    }
+
+    /// What a number weighs that is in no pair of the next bracket; none if it is 2^512 or more.
+    fn alone(&self, a: u16, down: &[Wide]) -> Option<Wide>
+        requires number { IsNumberBelow self.now a }
+        requires group { length self.now.reached.seats < count_below self.now.facts self.now.reached self.now.lower }
+        requires room { HasAll self.now down.now }
+        requires told { TellsDown self.now down.now }
+        ensures { SomeIff result (alone_weight self.now a < 2 ^ 512) (alone_weight self.now a) }
+    {
+        let field = self.context.field();
+        let seat = self.context.seat_below(a);
+        let difference = difference_down(field, self.context.score_below(), seat);
+        let below = self.scale.weigh_below(1, difference)?;
+        self.own(a, down).plus(below)
+    }
+
+    /// Puts what all numbers weigh that meet one of the next lower scoregroup into a table.
+    fn put_met(&self, down: &[Wide], table: &mut [Wide]) -> bool
+        requires group { length self.now.reached.seats < count_below self.now.facts self.now.reached self.now.lower }
+        requires room { HasAll self.now down.now }
+        requires told { TellsDown self.now down.now }
+        requires table { HasBelow self.now table.old }
+        ensures told { result ≡ true → TellsMet self.now table.new }
+        ensures heavy { result ≡ false → IsHeavy self.now (2 ^ 512) }
+    {
+        for a in 0..self.context.len_below() {
+            match self.met(a as u16 + 1, down) {
+                Some(weight) => table[a] = weight,
+                None => return false,
+            }
+        }
+        true
+    }
+
+    /// Puts what all numbers weigh that are in no pair of the next bracket into a table.
+    fn put_alone(&self, down: &[Wide], table: &mut [Wide]) -> bool
+        requires group { length self.now.reached.seats < count_below self.now.facts self.now.reached self.now.lower }
+        requires room { HasAll self.now down.now }
+        requires told { TellsDown self.now down.now }
+        requires table { HasBelow self.now table.old }
+        ensures told { result ≡ true → TellsAlone self.now table.new }
+        ensures heavy { result ≡ false → IsHeavy self.now (2 ^ 512) }
+    {
+        for a in 0..self.context.len_below() {
+            match self.alone(a as u16 + 1, down) {
+                Some(weight) => table[a] = weight,
+                None => return false,
+            }
+        }
+        true
+    }
+}
+
+/// The weights of all pairs, row by row; none if one of them is 2^512 or more.
+fn weigh_pairs(
+    alloc: Global,
+    weigher: &Weigher<'_>,
+    room: &mut Room,
+) -> Result<Option<Vec<Wide>>, AllocError>
+    ensures { IfOk result (λ weighed. MatchOption weighed (IsHeavy weigher.now (2 ^ 512))
+        (λ table. HasPairs weigher.now table.items × TellsPairs weigher.now table.items)) }
+{
+    let count = weigher.context.len();
+    let mut table = vec![in alloc; Wide::zero(); count * count]?;
+    if weigher.put_pairs(room, &mut table) {
+        Ok(Some(table))
+    } else {
+        Ok(None)
+    }
+}
+
+/// The weights of all downfloaters; none if one of them is 2^512 or more.
+fn weigh_down(
+    alloc: Global,
+    weigher: &Weigher<'_>,
+    room: &mut Room,
+) -> Result<Option<Vec<Wide>>, AllocError>
+    ensures { IfOk result (λ weighed. MatchOption weighed (IsHeavy weigher.now (2 ^ 512))
+        (λ table. HasAll weigher.now table.items × TellsDown weigher.now table.items)) }
+{
+    let mut table = vec![in alloc; Wide::zero(); weigher.context.len()]?;
+    if weigher.put_down(room, &mut table) {
+        Ok(Some(table))
+    } else {
+        Ok(None)
+    }
+}
+
+/// What all numbers weigh that meet one of the next lower scoregroup; none if one of them is 2^512 or more.
+fn weigh_met(
+    alloc: Global,
+    weigher: &Weigher<'_>,
+    down: &[Wide],
+) -> Result<Option<Vec<Wide>>, AllocError>
+    requires ordinary { weigher.now.reached.kind ≡ Ordinary }
+    requires room { HasAll weigher.now down.now }
+    requires told { TellsDown weigher.now down.now }
+    ensures { IfOk result (λ weighed. MatchOption weighed (IsHeavy weigher.now (2 ^ 512))
+        (λ table. TellsMet weigher.now table.items)) }
+{
+    let mut table = vec![in alloc; Wide::zero(); weigher.context.len_below()]?;
+    if weigher.put_met(down, &mut table) {
+        Ok(Some(table))
+    } else {
+        Ok(None)
+    }
+}
+
+/// What all numbers weigh that are in no pair of the next bracket; none if one of them is 2^512 or more.
+fn weigh_alone(
+    alloc: Global,
+    weigher: &Weigher<'_>,
+    down: &[Wide],
+) -> Result<Option<Vec<Wide>>, AllocError>
+    requires ordinary { weigher.now.reached.kind ≡ Ordinary }
+    requires room { HasAll weigher.now down.now }
+    requires told { TellsDown weigher.now down.now }
+    ensures { IfOk result (λ weighed. MatchOption weighed (IsHeavy weigher.now (2 ^ 512))
+        (λ table. TellsAlone weigher.now table.items)) }
+{
+    let mut table = vec![in alloc; Wide::zero(); weigher.context.len_below()]?;
+    if weigher.put_alone(down, &mut table) {
+        Ok(Some(table))
+    } else {
+        Ok(None)
+    }
+}
+
+/// What all numbers weigh in the next bracket, if C.7 is measured; none if one of them weighs 2^512 or more.
+fn weigh_next(
+    alloc: Global,
+    weigher: &Weigher<'_>,
+    down: &[Wide],
+) -> Result<Option<Below>, AllocError>
+    requires room { HasAll weigher.now down.now }
+    requires told { TellsDown weigher.now down.now }
+    requires next { ForSome weigher.now.scale.next (λ _. weigher.now.reached.kind ≡ Ordinary) }
+    ensures { IfOk result (λ weighed. MatchOption weighed (IsHeavy weigher.now (2 ^ 512))
+        (λ below. TellsBelow weigher.now below.met.items below.alone.items)) }
+{
+    if !weigher.scale.counts_next() {
+        return Ok(Some(Below {
+            met: Vec::new(alloc),
+            alone: Vec::new(alloc),
+        }));
+    }
+    let Some(met) = weigh_met(alloc, weigher, down)? else {
+        return Ok(None);
+    };
+    let Some(alone) = weigh_alone(alloc, weigher, down)? else {
+        return Ok(None);
+    };
+    Ok(Some(Below { met, alone }))
+}
+
+impl<'a> Weighing<'a> {
+    /// Works out all weights of a bracket; none if one of them is 2^512 or more.
+    pub(crate) fn read(
+        context: &'a Context<'a>,
+        scale: Scale,
+    ) -> Result<Option<Weighing<'a>>, AllocError>
+        requires { ForSome scale.next (λ _. context.now.reached.kind ≡ Ordinary) }
+        ensures { let weighed = weighed_on context.now scale
+            in IfOk result (λ read. MatchOption read (IsHeavy weighed (2 ^ 512)) (λ weighing. weighing ≡ weighed)) }
+    {
+        let mut room = Room::default();
+        let weigher = Weigher {
+            context: &*context,
+            scale: &scale,
+        };
+        let Some(pairs) = weigh_pairs(context.alloc(), &weigher, &mut room)? else {
+            return Ok(None);
+        };
+        let Some(down) = weigh_down(context.alloc(), &weigher, &mut room)? else {
+            return Ok(None);
+        };
+        let Some(below) = weigh_next(context.alloc(), &weigher, &down)? else {
+            return Ok(None);
+        };
+        Ok(Some(Weighing {
+            context,
+            scale,
+            pairs,
+            down,
+            below,
+        }))
+    }
+
+    /// The scale that they are weighed on.
+    pub(crate) fn scale(&self) -> &Scale
+        ensures { result.now ≡ self.now.scale }
+    {
+        &self.scale
+    }
+
+    /// The bracket.
+    pub(crate) fn context(&self) -> &'a Context<'a>
+        ensures facts { result.now.facts ≡ self.now.facts }
+        ensures reached { result.now.reached ≡ self.now.reached }
+        ensures lower { result.now.lower ≡ self.now.lower }
+    {
+        self.context
+    }
+}
+
+impl Weighing<'_> {
+    /// What a number weighs that meets one of the next lower scoregroup (C.7).
+    pub(crate) fn met(&self, a: u16) -> Wide
+        requires number { IsNumberBelow self.now a }
+        requires some { is_some self.now.scale.next ≡ true }
+        ensures { result ≡ met_weight self.now a }
+    {
+        at(&self.below.met, usize::from(a) - 1)
+    }
+
+    /// What a number weighs that is in no pair of the next bracket (C.7).
+    pub(crate) fn alone(&self, a: u16) -> Wide
+        requires number { IsNumberBelow self.now a }
+        requires some { is_some self.now.scale.next ≡ true }
+        ensures { result ≡ alone_weight self.now a }
+    {
+        at(&self.below.alone, usize::from(a) - 1)
+    }
+}
+
+/// A weight of a table, 0 past its end.
+fn at(table: &[Wide], place: usize) -> Wide
+    ensures { result ≡ slice_index table.now place }
+{
+    if place < table.len() {
+        table[place]
+    } else {
+        Wide::zero()
+    }
+}
+
+impl dual::Rule for Weighing<'_> {
+    ghost use Rattle.std.specs.Prelude.{◌<◌, ◌≤◌, length};
+    ghost use Rattle.dutch_bracket.specs.Weights.{weighing};
+
+    ghost costs = { λ w. weighing w.facts w.reached w.scale };
+
+    ghost knows = { λ w a. (0 < a) × (a ≤ length w.reached.seats) };
+
+    fn may_meet(&self, a: u16, b: u16) -> bool {
+        self.context.rule().may_meet(a, b)
+    }
+
+    fn weight(&self, a: u16, b: u16) -> Wide {
+        self.pairs[place_of(self.context.len(), a, b)]
+    }
+
+    fn may_be_left(&self, a: u16) -> bool {
+        !self.context.reached().kind().ends_round() || self.context.rule().may_be_left(a)
+    }
+
+    fn left_cost(&self, a: u16) -> Wide {
+        self.down[usize::from(a) - 1]
+    }
+}

@@ -1,0 +1,583 @@
+// Floors of a bracket by the weight of its candidates (C.04.3 C.6, C.8 to C.19, and C.7 where that is measured), and
+// what they say behind a beginning. They are asked at each beginning that a choice comes to, so an answer takes no
+// memory, and looks at each pair of the beginning once for each floor.
+ghost use Rattle.std.specs.Prelude.{◌≡◌, ◌+◌, ◌-◌, ◌*◌, ◌<◌, ◌≤◌, ◌⊎◌, ◌↔◌, All, IfOk, IfSome, IsTrue, is_some, true};
+ghost use Rattle.std.specs.Prelude.{drop, length, sum_by, if◌then◌else◌};
+ghost use Rattle.std.specs.List.{zip};
+ghost use Rattle.dual.specs.Floors.{extra_in, extra_left_in};
+ghost use Rattle.dutch_order.specs.declared.numbers.TheConstants.{LIMIT};
+ghost use Rattle.dutch_weights.specs.declared.scoped.Reach.TheVariants.{Lower, Next};
+ghost use Rattle.dutch_bracket.specs.Quality.{one_if};
+ghost use Rattle.dutch_bracket.specs.QualityIn.{quality_in};
+ghost use Rattle.dutch_bracket.specs.Brackets.{is_penultimate};
+ghost use Rattle.dutch_bracket.specs.Weights.{IsScaleFor};
+ghost use Rattle.dutch_weights.specs.WeightFloors.{IsMostAdded, IsWeightFloor, Weighed, bound_behind, is_first};
+ghost use Rattle.dutch_weights.specs.WeightFloors.{left_known, passed_over};
+
+use crate::order::{Halves, Order};
+use crate::scale::{Extent, Scale};
+use crate::scoped::{Reach, Scoped};
+use crate::trail::Trail;
+use crate::weighing::Weighing;
+use dual::{Floor, Table};
+use dutch_bracket::begun::fixed_lists;
+use dutch_bracket::context::Context;
+use dutch_bracket::quality::Quality;
+use dutch_bracket::scope::Scope;
+use dutch_order::{Exchange, Filling, LIMIT, Prefix, Shape, numbered_from};
+use std::alloc::AllocError;
+use std::marker::Model;
+use wide::Wide;
+
+/// So many floors are kept. Each is asked at each beginning.
+const KEPT: usize = 4;
+
+/// The matchings go over lower players too only if all together are no more than so many: each floor takes steps with
+/// the square of their number.
+const MOST_REACHED: usize = 400;
+
+/// Weights with so many bits leave room for what a matching of all players comes to.
+const MOST_BITS: usize = 482;
+
+/// What a quality weighs, and what all with a higher PSD weigh at least.
+#[derive(Clone, Copy, Debug)]
+pub struct Bar {
+    weight: Wide,
+    above: Wide,
+}
+
+/// A floor by a certificate that was checked, which arrangements it is for, and what it counts of their order (D.2).
+#[derive(Drop)]
+pub(crate) struct ScopedFloor {
+    pub scope: Scope,
+    pub(crate) order: Order,
+    pub(crate) floor: Floor,
+}
+
+impl Model for ScopedFloor {
+    ghost use Rattle.dutch_weights.specs.WeightFloors.{ScopedFloor};
+
+    ghost Value = { ScopedFloor };
+
+    ghost view = { λ f. record { scope = f.scope; order = f.order; floor = f.floor } };
+}
+
+/// Floors of a bracket and a shape by weight.
+#[derive(Drop)]
+pub struct WeightFloors<'a> {
+    pub(crate) weighing: Weighing<'a>,
+    pub(crate) shape: Shape,
+    pub(crate) floors: Vec<ScopedFloor>,
+    pub(crate) trail: Trail,
+}
+
+impl<'a> Model for WeightFloors<'a> {
+    ghost use Rattle.dutch_weights.specs.WeightFloors.{AreFloors, Weighed};
+
+    ghost Value = { Weighed };
+
+    ghost view = { λ w. record {
+      facts = w.weighing.facts;
+      reached = w.weighing.reached;
+      lower = w.weighing.lower;
+      shape = w.shape;
+      scale = w.weighing.scale;
+    } };
+
+    ghost invariant = { λ w. AreFloors (record {
+      facts = w.weighing.facts;
+      reached = w.weighing.reached;
+      lower = w.weighing.lower;
+      shape = w.shape;
+      scale = w.weighing.scale;
+    }) w.floors.items };
+}
+
+/// A sum with what the pairs of two lists add to a floor; none if it does not fit.
+fn plus_pairs(floor: &Floor, firsts: &[u16], seconds: &[u16], sum: Wide) -> Option<Wide>
+    ensures { IfSome result (λ n. n ≡ sum + sum_by (extra_in floor.now) (zip firsts.now seconds.now)) }
+{
+    let count = firsts.len().min(seconds.len());
+    let mut sum = sum;
+    for i in 0..count {
+        let Some(more) = sum.plus(floor.extra(firsts[i], seconds[i])) else {
+            return None;
+        };
+        sum = more;
+    }
+    Some(sum)
+}
+
+/// Whether a list has a number at a place.
+fn is_at(list: &[u16], place: usize, number: u16) -> bool
+    ensures { result ≡ is_first number (drop place list.now) }
+{
+    place < list.len() && list[place] == number
+}
+
+/// What a player adds who is known to be left over; nothing for one who is met in S1.
+fn extra_outside(floor: &Floor, is_met: bool, number: u16) -> Wide
+    ensures { result ≡ (if is_met then 0 else extra_left_in floor.now number) }
+{
+    if is_met {
+        Wide::zero()
+    } else {
+        floor.extra_left(number)
+    }
+}
+
+/// The place behind one that is met, or else the same place.
+fn place_after(place: usize, is_met: bool) -> usize
+    requires { place < LIMIT }
+    ensures { result ≡ place + one_if is_met }
+{
+    if is_met { place + 1 } else { place }
+}
+
+/// A sum with what the moved-down players add whom S1 passes over; none if it does not fit.
+fn plus_outside(floor: &Floor, mdps: usize, s1: &[u16], sum: Wide) -> Option<Wide>
+    requires { mdps ≤ LIMIT }
+    ensures { IfSome result (λ n. n ≡ sum + sum_by (extra_left_in floor.now) (passed_over s1.now 1 mdps)) }
+{
+    let mut sum = sum;
+    let mut met = 0;
+    for above in 0..mdps {
+        let number = above as u16 + 1;
+        let is_met = is_at(s1, met, number);
+        let Some(more) = sum.plus(extra_outside(floor, is_met, number)) else {
+            return None;
+        };
+        sum = more;
+        met = place_after(met, is_met);
+    }
+    Some(sum)
+}
+
+/// A sum with what those add who are known to be left over; none if it does not fit.
+fn plus_left(floor: &Floor, mdps: usize, prefix: &Prefix<'_>, sum: Wide) -> Option<Wide>
+    requires { mdps ≤ LIMIT }
+    ensures { IfSome result (λ n. n
+        ≡ sum + sum_by (extra_left_in floor.now) (left_known prefix.now.filling mdps prefix.now.lists.s1)) }
+{
+    match prefix.filling() {
+        Filling::S1 => return Some(sum),
+        Filling::S2 | Filling::S2r => return plus_outside(floor, mdps, prefix.s1(), sum),
+    }
+}
+
+/// What a floor says behind a beginning; none if that is nothing, or if it does not fit.
+fn bound_behind(floor: &Floor, mdps: usize, prefix: &Prefix<'_>) -> Option<Wide>
+    requires { mdps ≤ LIMIT }
+    ensures { IfSome result (λ n. n + floor.now.debt ≡ bound_behind floor.now mdps prefix.now) }
+{
+    let begun = fixed_lists(prefix);
+    let Some(first) = plus_pairs(floor, begun.s1, begun.s2, floor.base()) else {
+        return None;
+    };
+    let Some(second) = plus_pairs(floor, begun.s1r, begun.s2r, first) else {
+        return None;
+    };
+    let Some(all) = plus_left(floor, mdps, prefix, second) else {
+        return None;
+    };
+    all.minus(floor.debt())
+}
+
+impl ScopedFloor {
+    /// At most so much of what the floor says behind a beginning is of the order; none if that is not known.
+    #[tactic(auto, using(crate::proofs::D02Orders::nothing_added))]
+    fn of_order(&self, prefix: &Prefix<'_>) -> Option<Wide>
+        ensures { IfSome result (IsMostAdded self.now.order prefix.now) }
+    {
+        if self.order.is_none() {
+            return Some(Wide::zero());
+        }
+        match prefix.filling() {
+            Filling::S1 | Filling::S2 => None,
+            Filling::S2r => self.order.of(prefix.s1r()),
+        }
+    }
+}
+
+/// Lets the floor go that counts an order, if there is one.
+fn drop_ordered(floors: &mut Vec<ScopedFloor>)
+    ensures { (w : Weighed) → All (IsWeightFloor w) floors.old.items → All (IsWeightFloor w) floors.new.items }
+{
+    if let Some(place) = floors.iter().position(|kept| !kept.order.is_none()) {
+        floors.remove(place);
+    }
+}
+
+/// Lets the oldest floor go that counts no order, but for the first one, if there is no room for one more.
+fn drop_oldest(floors: &mut Vec<ScopedFloor>)
+    ensures { (w : Weighed) → All (IsWeightFloor w) floors.old.items → All (IsWeightFloor w) floors.new.items }
+{
+    if floors.len() < KEPT {
+        return;
+    }
+    let place = if floors[1].order.is_none() { 1 } else { 2 };
+    floors.remove(place);
+}
+
+/// Makes room for a floor that counts an order, or for one that counts none.
+fn make_room(floors: &mut Vec<ScopedFloor>, counts_order: bool)
+    ensures { (w : Weighed) → All (IsWeightFloor w) floors.old.items → All (IsWeightFloor w) floors.new.items }
+{
+    if counts_order {
+        drop_ordered(floors);
+    }
+    drop_oldest(floors);
+}
+
+/// Keeps one floor more, in place of another one if there is no room, or if both count an order.
+fn keep(floors: &mut Vec<ScopedFloor>, floor: ScopedFloor) -> Result<(), AllocError>
+    ensures { (w : Weighed) → All (IsWeightFloor w) floors.old.items → IsWeightFloor w floor
+        → All (IsWeightFloor w) floors.new.items }
+{
+    make_room(floors, !floor.order.is_none());
+    floors.push(floor)?;
+    Ok(())
+}
+
+impl Bar {
+    /// So much weight is no less than that of the quality.
+    pub fn is_reached(&self, weight: Wide) -> bool
+        ensures { IsTrue result ↔ (self.now.weight ≤ weight) }
+    {
+        !weight.is_less(self.weight)
+    }
+
+    /// So much weight is more than that of the quality.
+    pub fn is_passed(&self, weight: Wide) -> bool
+        ensures { IsTrue result ↔ (self.now.weight < weight) }
+    {
+        self.weight.is_less(weight)
+    }
+
+    /// So much weight is more than any with the same PSD has.
+    pub fn is_above(&self, weight: Wide) -> bool
+        ensures { IsTrue result ↔ (self.now.above ≤ weight) }
+    {
+        !weight.is_less(self.above)
+    }
+}
+
+/// How many bits the order of S1R takes; none if there is no resident.
+fn order_bits(context: &Context<'_>) -> u32 {
+    let mdps = context.reached().mdps();
+    match Halves::new(context.len(), mdps, mdps + 1) {
+        Some(halves) => halves.width(),
+        None => 0,
+    }
+}
+
+/// A scale with digits for C.16 to C.19 and room for the order of S1R (D.2), as far as sums of the weights of all
+/// players fit, those twice over, and what it costs to be left over.
+fn scale_for(context: &Context<'_>, shape: Shape, next: bool) -> Scale
+    ensures { IsScaleFor context.now.facts context.now.reached context.now.lower shape result }
+{
+    let order = order_bits(context);
+    for floats in [true, false] {
+        for spare in [order, 0] {
+            let extent = Extent {
+                next,
+                floats,
+                spare,
+            };
+            let scale = Scale::of(context, shape, extent);
+            if scale.width() <= MOST_BITS {
+                return scale;
+            }
+        }
+    }
+    Scale::of(context, shape, Extent::least(next))
+}
+
+impl<'a> WeightFloors<'a> {
+    ghost use Rattle.dutch_weights.specs.WeightFloors.{AreOf, IsBar, IsLeast, IsLeastWith};
+
+    /// The floors of a bracket and a shape: none so far.
+    fn new(weighing: Weighing<'a>, shape: Shape) -> WeightFloors<'a>
+        requires { IsScaleFor weighing.facts weighing.reached weighing.lower shape weighing.scale }
+        ensures { result ≡ record {
+          facts = weighing.entry.facts;
+          reached = weighing.entry.reached;
+          lower = weighing.entry.lower;
+          shape = shape;
+          scale = weighing.entry.scale;
+        } }
+    {
+        let alloc = weighing.context().alloc();
+        WeightFloors {
+            weighing,
+            shape,
+            floors: Vec::new(alloc),
+            trail: Trail::new(alloc),
+        }
+    }
+
+    /// Weighs a bracket's pairs and downfloaters on a scale for floors of a shape, of which there are none so far; none
+    /// if a weight does not fit. It takes steps with the square of the number of players.
+    pub(crate) fn read(
+        context: &'a Context<'a>,
+        shape: Shape,
+        scale: Scale,
+    ) -> Result<Option<WeightFloors<'a>>, AllocError>
+        requires { IsScaleFor context.now.facts context.now.reached context.now.lower shape scale }
+        ensures { IfOk result (λ found. IfSome found
+            (AreOf context.now.facts context.now.reached context.now.lower shape)) }
+    {
+        match Weighing::read(context, scale)? {
+            Some(weighing) => return Ok(Some(WeightFloors::new(weighing, shape))),
+            None => return Ok(None),
+        }
+    }
+
+    /// The same on a scale with as many digits as there is room for, and with those of C.7 if they are wanted.
+    pub fn weighed(
+        context: &'a Context<'a>,
+        shape: Shape,
+        next: bool,
+    ) -> Result<Option<WeightFloors<'a>>, AllocError>
+        ensures { IfOk result (λ found. IfSome found
+            (AreOf context.now.facts context.now.reached context.now.lower shape)) }
+    {
+        WeightFloors::read(context, shape, scale_for(context, shape, next))
+    }
+
+    /// How many steps a walk still makes before it is told more, that has made so many.
+    pub fn patience(&self, made: u64) -> u64 {
+        self.trail.patience(self.weighing.context().len(), made)
+    }
+
+    /// Notes that it was told more between two numbers of steps.
+    pub fn note(&mut self, from: u64, to: u64)
+        ensures { self.new ≡ self.old }
+    {
+        self.trail.note(from, to);
+    }
+
+    /// Over whom the matchings go: over the next lower scoregroup too if C.7 is measured; in the penultimate bracket
+    /// over all lower players too (C.4), unless they are too many.
+    pub(crate) fn reach(&self) -> Reach
+        ensures lower { result ≡ Lower → is_penultimate self.now.reached.kind ≡ true }
+        ensures next { result ≡ Next → is_some self.now.scale.next ≡ true }
+    {
+        if self.weighing.scale().counts_next() {
+            return Reach::Next;
+        }
+        let context = self.weighing.context();
+        let is_penultimate = context.reached().kind().is_penultimate();
+        if is_penultimate && context.len() + context.lower().len() <= MOST_REACHED {
+            Reach::Lower
+        } else {
+            Reach::Bracket
+        }
+    }
+
+    /// How many players the matchings go over.
+    pub(crate) fn size(&self) -> usize
+        ensures { result ≤ LIMIT }
+    {
+        let context = self.weighing.context();
+        match self.reach() {
+            Reach::Bracket => context.len(),
+            Reach::Lower => context.len() + context.lower().len(),
+            Reach::Next => context.len_below(),
+        }
+    }
+
+    /// How many players the matchings of the bracket alone leave over.
+    fn left(&self) -> usize
+        ensures { result ≡ length self.now.reached.seats - 2 * self.now.shape.pairs }
+    {
+        self.weighing
+            .context()
+            .len()
+            .saturating_sub(self.shape.pairs)
+            .saturating_sub(self.shape.pairs)
+    }
+
+    /// Checks a certificate for the arrangements of a scope, with what an order adds. None says that it gives no floor.
+    fn check(
+        &self,
+        table: &Table,
+        scope: &Scope,
+        order: Order,
+    ) -> Result<Option<ScopedFloor>, AllocError>
+        ensures { IfOk result (λ found. IfSome found (IsWeightFloor self.now)) }
+    {
+        match self.reach() {
+            Reach::Bracket => self.check_bracket(table, scope, order),
+            Reach::Lower => self.check_lower(table, scope, order),
+            Reach::Next => self.check_next(table, scope, order),
+        }
+    }
+
+    /// The same by matchings of all lower players too.
+    fn check_lower(
+        &self,
+        table: &Table,
+        scope: &Scope,
+        order: Order,
+    ) -> Result<Option<ScopedFloor>, AllocError>
+        requires { is_penultimate self.now.reached.kind ≡ true }
+        ensures { IfOk result (λ found. IfSome found (IsWeightFloor self.now)) }
+    {
+        let context = self.weighing.context();
+        let scoped = Scoped::new(&self.weighing, scope, Reach::Lower, &order);
+        let players = numbered_from(1, scoped.size());
+        let left = players.len() % 2;
+        let Some(floor) = table.floor(context.alloc(), &scoped, &players, left)? else {
+            return Ok(None);
+        };
+        // (who goes down may be in a pair here)
+        let floor = floor.without_left();
+        let scope = scope.copied();
+        Ok(Some(ScopedFloor {
+            scope,
+            order,
+            floor,
+        }))
+    }
+
+    /// The same by matchings of the next lower scoregroup too, however many of them are left over.
+    fn check_next(
+        &self,
+        table: &Table,
+        scope: &Scope,
+        order: Order,
+    ) -> Result<Option<ScopedFloor>, AllocError>
+        requires { is_some self.now.scale.next ≡ true }
+        ensures { IfOk result (λ found. IfSome found (IsWeightFloor self.now)) }
+    {
+        let context = self.weighing.context();
+        let scoped = Scoped::new(&self.weighing, scope, Reach::Next, &order);
+        let players = numbered_from(1, scoped.size());
+        let Some(floor) = table.floor_for_any(context.alloc(), &scoped, &players)? else {
+            return Ok(None);
+        };
+        // (who goes down may be in a pair here)
+        let floor = floor.without_left();
+        let scope = scope.copied();
+        Ok(Some(ScopedFloor {
+            scope,
+            order,
+            floor,
+        }))
+    }
+
+    /// The same by matchings of the bracket alone.
+    fn check_bracket(
+        &self,
+        table: &Table,
+        scope: &Scope,
+        order: Order,
+    ) -> Result<Option<ScopedFloor>, AllocError>
+        ensures { IfOk result (λ found. IfSome found (IsWeightFloor self.now)) }
+    {
+        let context = self.weighing.context();
+        let players = numbered_from(1, context.len());
+        let left = self.left();
+        let scoped = Scoped::new(&self.weighing, scope, Reach::Bracket, &order);
+        let Some(floor) = table.floor(context.alloc(), &scoped, &players, left)? else {
+            return Ok(None);
+        };
+        let scope = scope.copied();
+        Ok(Some(ScopedFloor {
+            scope,
+            order,
+            floor,
+        }))
+    }
+
+    /// Checks a certificate for the arrangements of a scope, with what an order adds, and keeps its floor in place of
+    /// another one if there is no room. A no says that it gives none.
+    pub(crate) fn put(
+        &mut self,
+        table: &Table,
+        scope: &Scope,
+        order: Order,
+    ) -> Result<bool, AllocError>
+        ensures { self.new ≡ self.old }
+    {
+        let Some(floor) = self.check(table, scope, order)? else {
+            return Ok(false);
+        };
+        keep(&mut self.floors, floor)?;
+        Ok(true)
+    }
+
+    /// The bar of a quality; none if the scale has not all its differences, or a weight does not fit.
+    pub fn bar(&self, quality: &Quality) -> Option<Bar>
+        ensures { IfSome result (IsBar self.now.scale (quality_in quality.now)) }
+    {
+        let scale = self.weighing.scale();
+        if !scale.measures(quality) {
+            return None;
+        }
+        let Some(weight) = scale.weigh(quality) else {
+            return None;
+        };
+        let Some(above) = scale.weigh_above(quality) else {
+            return None;
+        };
+        Some(Bar { weight, above })
+    }
+
+    /// Whether the scale has a digit for each difference of a quality.
+    pub fn measures(&self, quality: &Quality) -> bool {
+        self.weighing.scale().measures(quality)
+    }
+
+    /// Whether its weights tell of the next bracket (C.7).
+    pub fn counts_next(&self) -> bool
+        ensures { result ≡ is_some self.now.scale.next }
+    {
+        self.weighing.scale().counts_next()
+    }
+
+    /// How many floors are kept.
+    pub fn len(&self) -> usize {
+        self.floors.len()
+    }
+
+    /// The bound that the floor at a place gives behind a beginning; none if there is none there, or if it tells
+    /// nothing.
+    pub fn least_by(&self, place: usize, prefix: &Prefix<'_>) -> Option<Wide>
+        ensures { IfSome result (IsLeast self.now prefix.now) }
+    {
+        if place >= self.floors.len() {
+            return None;
+        }
+        let kept = &self.floors[place];
+        if !kept.scope.covers(prefix) {
+            return None;
+        }
+        let mdps = self.weighing.context().reached().mdps();
+        let order = kept.of_order(prefix)?;
+        bound_behind(&kept.floor, mdps, prefix)?.minus(order)
+    }
+
+    /// The same behind a beginning of which more is known of the S1R that are to come; none if the floor counts no
+    /// order.
+    pub fn least_with(
+        &self,
+        place: usize,
+        prefix: &Prefix<'_>,
+        exchange: &Exchange<'_>,
+    ) -> Option<Wide>
+        ensures { IfSome result (IsLeastWith self.now prefix.now exchange.now) }
+    {
+        if place >= self.floors.len() {
+            return None;
+        }
+        let kept = &self.floors[place];
+        if kept.order.is_none() || !kept.scope.covers(prefix) {
+            return None;
+        }
+        let mdps = self.weighing.context().reached().mdps();
+        let order = kept.order.most(exchange)?;
+        bound_behind(&kept.floor, mdps, prefix)?.minus(order)
+    }
+}

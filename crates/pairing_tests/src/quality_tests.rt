@@ -1,0 +1,154 @@
+// What a caller can ask of a bracket by calls alone: the qualities of its candidates, its choice, and boards.
+ghost use Rattle.dutch_order.specs.Arrangements.{Fits};
+ghost use Rattle.dutch_pair.specs.Lower.{lower_of};
+ghost use Rattle.dutch_bracket.specs.Reached.{IsAbove, frame_of};
+
+use dutch_order::{Budget, Candidates, Shape, Step};
+use dutch_pair::boards::boards;
+use dutch_pair::laws::{
+    a_bracket_stands_above_the_lower, candidates_are_of_the_bracket, the_first_scoregroup_is_next,
+};
+use dutch_pair::lookahead::quality;
+use dutch_pair::{
+    BracketAt, Choice, Item, Quality, Reached, bracket_at, choose, lower_of, split_first_group,
+};
+use dutch_player::Field;
+use sample_reports::{Line, field_of};
+use std::alloc::Global;
+use std::test::Fail;
+use trf16::Colour;
+
+// The first won against the third, and the others drew: the first moves down to the second and the fourth.
+const ONE_MOVES_DOWN: [Line<'static>; 4] = [
+    ("001    1", "   3 w 1"),
+    ("001    2", "   4 b ="),
+    ("001    3", "   1 b 0"),
+    ("001    4", "   2 w ="),
+];
+
+// The qualities of all candidates of a bracket in their order.
+#[tactic(auto, unfolding(dutch_bracket::specs::Brackets::candidates_of))]
+fn qualities(
+    alloc: Global,
+    field: &Field,
+    reached: &Reached,
+    shape: Shape,
+) -> Result<Vec<Quality>, Fail>
+    requires above { IsAbove field.now reached.now (lower_of field.now reached.now) }
+    requires fits { Fits (frame_of field.now reached.now) shape }
+{
+    let lower = lower_of(field, reached);
+    the_first_scoregroup_is_next(field, reached, &lower);
+    let (next, _) = split_first_group(field, &lower);
+    let bracket = reached.frame(field);
+    let rule = reached.rule(field);
+    let mut candidates = Candidates::new(&bracket, shape, &rule);
+    let mut budget = Budget {
+        limit: 1000,
+        used: 0,
+    };
+    let mut all = Vec::new(alloc);
+    loop {
+        match candidates.next(&mut budget) {
+            Step::Found(candidate) => {
+                candidates_are_of_the_bracket(field, reached, shape, &candidate);
+                match quality(field, reached, &candidate, next, &mut budget) {
+                    Some(found) => all.push(found)?,
+                    None => return Err(Fail::new("undecided")),
+                }
+            }
+            Step::End => return Ok(all),
+            Step::Undecided => return Err(Fail::new("undecided")),
+        }
+    }
+}
+
+// One of the second candidate's players misses a strong preference; in all else the two are alike.
+#[test]
+fn qualities_of_both_candidates(rt: HostRuntime) -> Result<(), Fail> {
+    let alloc = rt.alloc();
+    let field = field_of(alloc, &ONE_MOVES_DOWN, Some(5), Some(Colour::White))?;
+    let BracketAt::Bracket { reached, shape } = bracket_at(alloc, &field, 1000, 2)? else {
+        return Err(Fail::new("not reached"));
+    };
+    a_bracket_stands_above_the_lower(&field, 2, &reached, shape);
+    let all = qualities(alloc, &field, &reached, shape)?;
+    assert_eq!(rt; all.len(), 2);
+    if let [first, second] = all.as_slice() {
+        assert_eq!(rt;
+            first.first_difference(second),
+            Some(Item::MissedPreferences)
+        );
+        assert_eq!(rt; first.first_difference(first), None);
+    }
+    for (quality, missed) in all.iter().zip([0, 1]) {
+        assert_eq!(rt; quality.psd(), [2, 1].as_slice());
+        assert_eq!(rt; quality.next_pairs(), 1);
+        assert_eq!(rt; quality.next_psd(), [1].as_slice());
+        assert_eq!(rt;
+            (quality.wide_differences(), quality.third_colours()),
+            (0, 0)
+        );
+        assert_eq!(rt; quality.missed_preferences(), missed);
+        assert_eq!(rt; quality.missed_strong(), missed);
+        assert_eq!(rt; (quality.down_again(), quality.up_again()), (0, 0));
+        assert_eq!(rt;
+            (quality.down_again_before(), quality.up_again_before()),
+            (0, 0)
+        );
+        assert!(rt; quality.down_again_by().is_empty());
+        assert!(rt; quality.up_again_by().is_empty());
+        assert!(rt; quality.down_again_before_by().is_empty());
+        assert!(rt; quality.up_again_before_by().is_empty());
+    }
+    Ok(())
+}
+
+// The first wants black and meets the second, who wants white; the fourth moves down.
+#[test]
+fn choice_of_a_bracket(rt: HostRuntime) -> Result<(), Fail> {
+    let alloc = rt.alloc();
+    let field = field_of(alloc, &ONE_MOVES_DOWN, Some(5), Some(Colour::White))?;
+    let BracketAt::Bracket { reached, shape } = bracket_at(alloc, &field, 1000, 2)? else {
+        return Err(Fail::new("not reached"));
+    };
+    a_bracket_stands_above_the_lower(&field, 2, &reached, shape);
+    let lower = lower_of(&field, &reached);
+    assert_eq!(rt; lower.as_slice(), [3].as_slice());
+    let mut budget = Budget {
+        limit: 1000,
+        used: 0,
+    };
+    match choose(alloc, &field, &reached, &lower, &mut budget)? {
+        Choice::Chosen {
+            shape: chosen,
+            candidate,
+            quality,
+        } => {
+            assert_eq!(rt; quality.psd(), [2, 1].as_slice());
+            assert_eq!(rt; (quality.next_pairs(), quality.missed_strong()), (1, 0));
+            assert_eq!(rt; (chosen.pairs, chosen.mdps), (shape.pairs, shape.mdps));
+            assert_eq!(rt;
+                (candidate.s1(), candidate.s2()),
+                ([1].as_slice(), [2].as_slice())
+            );
+            assert_eq!(rt; candidate.down(), [3].as_slice());
+        }
+        _ => assert!(rt; false, "not chosen"),
+    }
+    Ok(())
+}
+
+// The pair of the higher score stands first, and the bye last.
+#[test]
+fn boards_of_pairs(rt: HostRuntime) -> Result<(), Fail> {
+    let field = field_of(rt.alloc(), &ONE_MOVES_DOWN, Some(5), Some(Colour::White))?;
+    if field.len() != 4 {
+        return Err(Fail::new("not four players"));
+    }
+    let all = boards(rt.alloc(), &field, &[(3, 2), (0, 1)], &[])?;
+    assert_eq!(rt; all.as_slice(), [(2, 1), (3, 4)].as_slice());
+    let all = boards(rt.alloc(), &field, &[(2, 1)], &[3])?;
+    assert_eq!(rt; all.as_slice(), [(2, 4), (3, 0)].as_slice());
+    Ok(())
+}
