@@ -1,5 +1,5 @@
 // The lines of candidates, as many as are asked for, one after the other.
-ghost use Rattle.std.specs.Prelude.{◌≡◌, ◌≤◌, ◌++◌, ◌∷◌, [], IfOk, OnOk, string_bytes};
+ghost use Rattle.std.specs.Prelude.{◌≡◌, ◌++◌, ◌∷◌, [], IfOk, OnOk, string_bytes};
 ghost use Rattle.std.specs.List.{flat_map};
 ghost use Rattle.std.specs.Fmt.{decimal};
 ghost use Rattle.std.specs.Prelude.{codes};
@@ -58,7 +58,6 @@ pub fn lines<R: Rule>(
 ) -> Result<Listed, AllocError>
     requires of { IsOf field.now reached.now }
     requires frame { coming.frame ≡ frame_of field.now reached.now }
-    requires within { budget.old.used ≤ budget.old.limit }
     ensures listing { IfOk result (λ listed.
         IsListing (line_text field.now reached.now) coming.entry.coming count budget.old.limit listed.ending
         (string_bytes listed.text)) }

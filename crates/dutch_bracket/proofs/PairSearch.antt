@@ -28,7 +28,6 @@ spends-within k i m old mid new lt first second =
     record {
       few = omega arith;
       rises = omega arith;
-      within = second.within;
       limit = second.limit ∙ first.limit;
     }
 
@@ -135,14 +134,13 @@ module _ (meets : ℕ → ℕ → Bool) (may_be_left : ℕ → Bool) (a : ℕ) (
 
   pub spent_by_pairs : Spends pairing old new → Spends all_steps old new
   spent_by_pairs first =
-      record { few = omega (arith, most-first (length later) bye); rises = first.rises; within = first.within; limit = first.limit }
+      record { few = omega (arith, most-first (length later) bye); rises = first.rises; limit = first.limit }
 
   pub spent_by_bye : Spends pairing old mid → Spends (leaving (length later) bye) mid new → Spends all_steps old new
   spent_by_bye first second =
       record {
         few = omega (arith, most-first (length later) bye);
         rises = omega arith;
-        within = second.within;
         limit = second.limit ∙ first.limit;
       }
 

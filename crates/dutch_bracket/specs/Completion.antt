@@ -79,11 +79,10 @@ most zero bye = 0
 most (suc zero) bye = if bye then 1 else 0
 most (suc (suc n)) bye = (n + 1) * (1 + most n bye) + (if bye then 1 + most (suc n) false else 0)
 
--- a call made at most n steps, none of them past the limit, which stays
+-- a call made at most n steps and took none back, and the limit stays
 pub record Spends (n : ℕ) (old new : Budget) : Type 0 where
   pub few : new.used ≤ old.used + n
   pub rises : old.used ≤ new.used
-  pub within : new.used ≤ new.limit
   pub limit : new.limit ≡ old.limit
 
 -- a call was stopped at a limit that n steps would have passed

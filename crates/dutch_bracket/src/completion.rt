@@ -39,7 +39,6 @@ impl Answer {
 /// A step is one partner or the bye tried for one player. It takes no memory.
 pub fn completes<R: Rule>(players: &[u16], rule: &R, budget: &mut Budget) -> Answer
     requires few { length players.now ≤ LIMIT }
-    requires within { budget.old.used ≤ budget.old.limit }
     ensures answer { MatchAnswer result
         (Completable (R.meets rule.now) (R.may_be_left rule.now) players.now)
         (¬ Completable (R.meets rule.now) (R.may_be_left rule.now) players.now)
@@ -54,7 +53,6 @@ pub fn completes<R: Rule>(players: &[u16], rule: &R, budget: &mut Budget) -> Ans
 
 /// The same, by a search in the list itself, whose order it may change.
 pub(crate) fn completes_in<R: Rule>(players: &mut [u16], rule: &R, budget: &mut Budget) -> Answer
-    requires within { budget.old.used ≤ budget.old.limit }
     ensures answer { MatchAnswer result
         (Completable (R.meets rule.now) (R.may_be_left rule.now) players.old)
         (¬ Completable (R.meets rule.now) (R.may_be_left rule.now) players.old)
@@ -77,7 +75,6 @@ pub(crate) fn put_last(list: &mut [u16])
 /// Whether players can be paired if one may be left out (`bye`), or if none may. If they cannot, they stand as before.
 #[cycle(search)]
 fn can_pair<R: Rule>(players: &mut [u16], bye: bool, rule: &R, budget: &mut Budget) -> Answer
-    requires within { budget.old.used ≤ budget.old.limit }
     ensures answer { Tells result
         (can_cover (R.meets rule.now) (left_over bye (R.may_be_left rule.now)) (length players.old) players.old)
         (IsStopped (most (length players.old) bye) budget.old budget.new) }
@@ -108,7 +105,6 @@ fn pair_first<R: Rule>(
     rule: &R,
     budget: &mut Budget,
 ) -> Answer
-    requires within { budget.old.used ≤ budget.old.limit }
     ensures answer { Tells result
         (some_partner (R.meets rule.now first)
         (can_cover (R.meets rule.now) (left_over bye (R.may_be_left rule.now)) (length later.old - 1)) [] later.old)
@@ -138,7 +134,6 @@ fn pair_with<R: Rule>(
     budget: &mut Budget,
 ) -> Answer
     requires some { 0 < length later.old }
-    requires within { budget.old.used ≤ budget.old.limit }
     ensures answer { Tells result (R.meets rule.now first (slice_index later.old 0)
         && can_cover (R.meets rule.now) (left_over bye (R.may_be_left rule.now)) (length later.old - 1) (drop 1 later.old))
         (IsStopped (1 + most (length later.old - 1) bye) budget.old budget.new) }
@@ -165,7 +160,6 @@ fn leave_first<R: Rule>(
     rule: &R,
     budget: &mut Budget,
 ) -> Answer
-    requires within { budget.old.used ≤ budget.old.limit }
     ensures answer { Tells result
         (left_over bye (R.may_be_left rule.now) first && can_cover (R.meets rule.now) nobody
         (length later.old) later.old)

@@ -46,9 +46,7 @@ const FIRST_STEPS: u64 = 64;
 
 /// A budget of so many steps at most, of those that are left.
 pub fn at_most(steps: u64, budget: &Budget) -> Budget
-    requires within { budget.now.used ≤ budget.now.limit }
     ensures used { result.used ≡ budget.now.used }
-    ensures within { result.used ≤ result.limit }
     ensures less { result.limit ≤ budget.now.limit }
 {
     Budget {
@@ -64,7 +62,6 @@ fn told_by_few_steps(
     budget: &mut Budget,
 ) -> Result<Option<bool>, Stopped>
     requires few { length players.now ≤ LIMIT }
-    requires within { budget.old.used ≤ budget.old.limit }
     ensures answer { MatchFound result (λ yes. yes ≡ completable field.now players.now) (Unit {0})
         (budget.new.used ≡ budget.new.limit) }
     ensures spends { Spends budget.old budget.new }
@@ -82,7 +79,6 @@ fn told_by_few_steps(
 /// Whether seats can be paired out (A.9), by the search.
 fn told_by_search(field: &Field, players: &[u16], budget: &mut Budget) -> Result<bool, Stopped>
     requires few { length players.now ≤ LIMIT }
-    requires within { budget.old.used ≤ budget.old.limit }
     ensures answer { Decides result (completable field.now players.now) (budget.new.used ≡ budget.new.limit) }
     ensures spends { Spends budget.old budget.new }
 {
@@ -98,7 +94,6 @@ pub fn can_complete(
     budget: &mut Budget,
 ) -> Result<bool, Stopped>
     requires few { length players.now ≤ LIMIT }
-    requires within { budget.old.used ≤ budget.old.limit }
     ensures answer { Decides result (completable field.now players.now) (budget.new.used ≡ budget.new.limit) }
     ensures spends { Spends budget.old budget.new }
 {
@@ -121,7 +116,6 @@ pub fn leaves_completable(
 ) -> Result<bool, Stopped>
     requires numbers { AllNumbers context.now.reached.seats candidate.now.down }
     requires few { length candidate.now.down ≤ length context.now.reached.seats }
-    requires within { budget.old.used ≤ budget.old.limit }
     ensures answer { Decides result
         (completable context.now.facts
         (map (seat_of context.now.reached.seats) candidate.now.down ++ context.now.lower))
@@ -142,7 +136,6 @@ pub fn can_be_chosen(
     budget: &mut Budget,
 ) -> Result<bool, Stopped>
     requires left { candidate.now.down ≡ down (frame_of context.now.facts context.now.reached) candidate.now.lists }
-    requires within { budget.old.used ≤ budget.old.limit }
     ensures answer { Decides result
         (can_be_chosen context.now.facts context.now.reached context.now.lower candidate.now.lists)
         (budget.new.used ≡ budget.new.limit) }
@@ -164,7 +157,6 @@ pub(crate) fn first_eligible(
 ) -> Result<bool, Stopped>
     requires fits { Fits (frame_of context.now.facts context.now.reached) shape }
     requires lists { Lists context.now.facts context.now.reached lister.old.listing }
-    requires within { budget.old.used ≤ budget.old.limit }
     ensures answer { MatchDrawn result
         (IsFirst (eligible context.now.facts context.now.reached context.now.lower shape)
         (frame_of context.now.facts context.now.reached) lister.new.drawn)

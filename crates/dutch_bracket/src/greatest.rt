@@ -49,7 +49,6 @@ pub(crate) trait Shapes<R: Rule> {
     /// Whether a shape with so many pairs may have an arrangement that counts: it says no only if none has.
     fn may_have(&self, pairs: usize, budget: &mut Budget) -> Result<bool, Stopped>
         requires small { 2 * pairs ≤ length (frame self.now).scores }
-        requires within { budget.old.used ≤ budget.old.limit }
         ensures answer { MatchDrawn result (Unit {0})
             (first_with (counting self.now) (filter (fits (frame self.now)) (shapes_with pairs)) ≡ None)
             (budget.new.used ≡ budget.new.limit) }
@@ -64,7 +63,6 @@ pub(crate) trait Shapes<R: Rule> {
     ) -> Result<bool, Stopped>
         requires fits { Fits (frame self.now) shape }
         requires lists { lists self.now lister.old.listing }
-        requires within { budget.old.used ≤ budget.old.limit }
         ensures answer { MatchDrawn result (IsFirst (counting self.now shape) (frame self.now) lister.new.drawn)
             (has_member (counting self.now shape) ≡ false)
             (budget.new.used ≡ budget.new.limit) }
@@ -132,7 +130,6 @@ fn first_of<R: Rule, S: Shapes<R>>(
 ) -> Result<bool, Stopped>
     requires small { shape.pairs ≤ length (S.frame asked.now).scores }
     requires lists { S.lists asked.now lister.old.listing }
-    requires within { budget.old.used ≤ budget.old.limit }
     ensures answer { MatchDrawn result
         (IsFirst (S.counting asked.now shape) (S.frame asked.now) lister.new.drawn
         × ((fits (S.frame asked.now) shape && has_member (S.counting asked.now shape)) ≡ true))
@@ -158,7 +155,6 @@ fn shape_with<R: Rule, S: Shapes<R>>(
 ) -> Result<Option<Shape>, Stopped>
     requires small { 2 * pairs ≤ length (S.frame asked.now).scores }
     requires lists { S.lists asked.now lister.old.listing }
-    requires within { budget.old.used ≤ budget.old.limit }
     ensures answer { MatchFound result
         (λ shape. (first_with (S.counting asked.now) (filter (fits (S.frame asked.now)) (shapes_with pairs))
         ≡ Some shape)
@@ -192,7 +188,6 @@ pub(crate) fn greatest_shape<R: Rule, S: Shapes<R>>(
     budget: &mut Budget,
 ) -> Result<Option<Shape>, Stopped>
     requires lists { S.lists asked.now lister.old.listing }
-    requires within { budget.old.used ≤ budget.old.limit }
     ensures answer { MatchFound result
         (λ shape. (greatest_shape (S.counting asked.now) (S.frame asked.now) ≡ Some shape)
         × IsFirst (S.counting asked.now shape) (S.frame asked.now) lister.new.drawn)
@@ -221,7 +216,6 @@ pub fn greatest_legal<R: Rule>(
     rule: &R,
     budget: &mut Budget,
 ) -> Result<Option<Shape>, Stopped>
-    requires within { budget.old.used ≤ budget.old.limit }
     ensures answer { MatchFound result
         (λ shape. greatest_shape (candidates (R.meets rule.now) (R.may_be_left rule.now) bracket.now) bracket.now
         ≡ Some shape)

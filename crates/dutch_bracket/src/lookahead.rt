@@ -44,7 +44,6 @@ fn shape_by_matchings(
     rule: ByNumber<'_>,
     budget: &mut Budget,
 ) -> Result<Option<Shape>, Stopped>
-    requires within { budget.old.used ≤ budget.old.limit }
     ensures answer { MatchResult result
         (λ told. IfSome told (IsAlwaysShape rule.entry.field.now rule.entry.reached.now))
         (λ _. budget.new.used ≡ budget.new.limit) }
@@ -89,7 +88,6 @@ fn greatest_drawn<'b>(
     requires frame { legal.now.bracket.now ≡ frame_of legal.now.rule.now.field.now legal.now.rule.now.reached.now }
     requires lists { (lister.old.listing.frame ≡ legal.now.bracket.now)
         × (lister.old.listing.rule ≡ legal.now.rule.now) }
-    requires within { budget.old.used ≤ budget.old.limit }
     ensures answer { MatchResult result
         (λ found. IsFound (legal_by legal.now.rule.now.field.now legal.now.rule.now.reached.now legal.now.bracket.now)
         legal.now.bracket.now found lister.new.drawn)
@@ -142,7 +140,6 @@ pub(crate) fn value_of(
 ) -> Result<NextValue, Stopped>
     requires of { IsOf field.now reached.now }
     requires flat { IsFlat field.now reached.now }
-    requires within { budget.old.used ≤ budget.old.limit }
     ensures answer { MatchResult result (λ v. v ≡ value_of field.now reached.now)
         (λ _. budget.new.used ≡ budget.new.limit) }
     ensures spends { Spends budget.old budget.new }
@@ -204,7 +201,6 @@ pub fn value_below(
 ) -> Result<NextValue, Stopped>
     requires ordinary { above.now.reached.now.kind ≡ Ordinary }
     requires down { AreLeft above.now.reached.now down.now }
-    requires within { budget.old.used ≤ budget.old.limit }
     ensures answer { MatchResult result
         (λ v. v ≡ value_in above.now.reached.now.kind above.now.field.now
         (map (seat_of above.now.reached.now.seats) down.now) above.now.next.now)
@@ -222,7 +218,6 @@ fn next_value(
     budget: &mut Budget,
 ) -> Result<NextValue, Stopped>
     requires candidate { IsOfBracket above.now.field.now above.now.reached.now candidate.now }
-    requires within { budget.old.used ≤ budget.old.limit }
     ensures answer { MatchResult result
         (λ v. v ≡ value_in above.now.reached.now.kind above.now.field.now
         (map (seat_of above.now.reached.now.seats) candidate.now.down) above.now.next.now)
@@ -248,7 +243,6 @@ pub fn quality(
     requires of { IsOf field.now reached.now }
     requires candidate { IsOfBracket field.now reached.now candidate.now }
     requires next { IsNext field.now reached.now next.now }
-    requires within { budget.old.used ≤ budget.old.limit }
     ensures answer { MatchOption result (budget.new.used ≡ budget.new.limit)
         (λ q. quality_in q ≡ quality field.now reached.now next.now candidate.now) }
     ensures spends { Spends budget.old budget.new }

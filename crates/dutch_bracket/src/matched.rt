@@ -114,7 +114,6 @@ pub(crate) fn told_by_matching(
     budget: &mut Budget,
 ) -> Result<Option<bool>, Stopped>
     requires few { length players.now ≤ LIMIT }
-    requires within { budget.old.used ≤ budget.old.limit }
     ensures answer { MatchFound result (λ yes. yes ≡ completable field.now players.now) (Unit {0})
         (budget.new.used ≡ budget.new.limit) }
     ensures spends { Spends budget.old budget.new }

@@ -40,7 +40,6 @@ impl<'a, 'b> Shapes<ByNumber<'b>> for Context<'a> {
     // only a part of those that are left goes into it.
     fn may_have(&self, pairs: usize, budget: &mut Budget) -> Result<bool, Stopped>
         requires small { 2 * pairs ≤ length (frame_of self.now.facts self.now.reached).scores }
-        requires within { budget.old.used ≤ budget.old.limit }
         ensures answer { MatchDrawn result (Unit {0})
             (first_with (eligible self.now.facts self.now.reached self.now.lower)
             (filter (fits (frame_of self.now.facts self.now.reached)) (shapes_with pairs)) ≡ None)
@@ -98,7 +97,6 @@ impl<'a, 'b, 'c> Shapes<ByNumber<'c>> for Bounded<'a, 'b> {
     #[tactic(auto, using(crate::proofs::BoundedShapes::none_with_more))]
     fn may_have(&self, pairs: usize, budget: &mut Budget) -> Result<bool, Stopped>
         requires small { 2 * pairs ≤ length (frame_of self.now.context.now.facts self.now.context.now.reached).scores }
-        requires within { budget.old.used ≤ budget.old.limit }
         ensures answer { MatchDrawn result (Unit {0})
             (first_with (eligible self.now.context.now.facts self.now.context.now.reached self.now.context.now.lower)
             (filter (fits (frame_of self.now.context.now.facts self.now.context.now.reached)) (shapes_with pairs))
@@ -137,7 +135,6 @@ pub(crate) fn told_by_few_steps<R: Rule, S: Shapes<R>>(
     budget: &mut Budget,
 ) -> Result<Option<Option<Shape>>, Stopped>
     requires lists { S.lists asked.now lister.old.listing }
-    requires within { budget.old.used ≤ budget.old.limit }
     ensures answer { MatchFound result
         (λ found. IsFound (S.counting asked.now) (S.frame asked.now) found lister.new.drawn)
         (Unit {0})
@@ -167,7 +164,6 @@ fn found_within<'b>(
     requires most { IsMost context.now.facts context.now.reached told.most }
     requires shape { IfSome told.shape (IsAlwaysShape context.now.facts context.now.reached) }
     requires lists { Lists context.now.facts context.now.reached lister.old.listing }
-    requires within { budget.old.used ≤ budget.old.limit }
     ensures answer { MatchResult result
         (λ shape. shape_of context.now.facts context.now.reached context.now.lower ≡ shape)
         (λ _. budget.new.used ≡ budget.new.limit) }
@@ -192,7 +188,6 @@ fn found_shape<'b>(
     budget: &mut Budget,
 ) -> Result<Option<Shape>, Stopped>
     requires lists { Lists context.now.facts context.now.reached lister.old.listing }
-    requires within { budget.old.used ≤ budget.old.limit }
     ensures answer { MatchResult result
         (λ shape. shape_of context.now.facts context.now.reached context.now.lower ≡ shape)
         (λ _. budget.new.used ≡ budget.new.limit) }
@@ -212,7 +207,6 @@ fn found_shape<'b>(
 #[inline(never)]
 #[tactic(auto, unfolding(crate::specs::Brackets::shape_of))]
 pub fn shape_of(context: &Context<'_>, budget: &mut Budget) -> Result<Option<Shape>, Stopped>
-    requires within { budget.old.used ≤ budget.old.limit }
     ensures answer { MatchFound result
         (λ shape. (shape_of context.now.facts context.now.reached context.now.lower ≡ Some shape)
         × Fits (frame_of context.now.facts context.now.reached) shape)

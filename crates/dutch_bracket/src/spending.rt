@@ -1,5 +1,5 @@
 // Steps that are made at once, for so many questions, and one by one.
-ghost use Rattle.std.specs.Prelude.{◌≡◌, ◌+◌, ◌<◌, ◌≤◌};
+ghost use Rattle.std.specs.Prelude.{◌≡◌, ◌+◌, ◌<◌};
 ghost use Rattle.std.specs.Result.{MatchResult};
 ghost use Rattle.dutch_order.specs.Steps.{Spends};
 
@@ -7,7 +7,6 @@ use dutch_order::{Budget, Stopped};
 
 /// Makes one step. It is stopped only where none is left.
 pub(crate) fn step(budget: &mut Budget) -> Result<(), Stopped>
-    requires within { budget.old.used ≤ budget.old.limit }
     ensures counts { MatchResult result (λ _. budget.new.used ≡ budget.old.used + 1)
         (λ _. budget.old.used ≡ budget.old.limit) }
     ensures stopped { MatchResult result (λ _. Unit {0}) (λ _. budget.new.used ≡ budget.new.limit) }
@@ -22,7 +21,6 @@ pub(crate) fn step(budget: &mut Budget) -> Result<(), Stopped>
 
 /// Makes steps, exactly as many as are asked for. If the budget's limit would be passed, all that are left are made.
 pub fn spend(steps: u64, budget: &mut Budget) -> Result<(), Stopped>
-    requires within { budget.old.used ≤ budget.old.limit }
     ensures counts { MatchResult result (λ _. budget.new.used ≡ budget.old.used + steps)
         (λ _. budget.old.limit < budget.old.used + steps) }
     ensures stopped { MatchResult result (λ _. Unit {0}) (λ _. budget.new.used ≡ budget.new.limit) }

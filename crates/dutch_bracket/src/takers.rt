@@ -56,7 +56,6 @@ pub(crate) fn can_go_out(
     budget: &mut Budget,
 ) -> Result<bool, Stopped>
     requires few { takers ≤ length context.now.reached.seats }
-    requires within { budget.old.used ≤ budget.old.limit }
     ensures answer { Decides result (can_go_out context.now.facts context.now.reached.seats takers context.now.lower)
         (budget.new.used ≡ budget.new.limit) }
     ensures few { budget.new.used
@@ -80,7 +79,6 @@ fn can_pair(
     room: Room,
     budget: &mut Budget,
 ) -> Result<bool, Stopped>
-    requires within { budget.old.used ≤ budget.old.limit }
     ensures answer { Decides result
         (can_take_out context.now.facts context.now.reached.seats room.bye
         (length players.old) room.takers players.old) (budget.new.used ≡ budget.new.limit) }
@@ -110,7 +108,6 @@ fn pair_first(
     room: Room,
     budget: &mut Budget,
 ) -> Result<bool, Stopped>
-    requires within { budget.old.used ≤ budget.old.limit }
     ensures answer { Decides result
         (some_partner (seats_meet context.now.facts first)
         (can_take_out context.now.facts context.now.reached.seats room.bye
@@ -141,7 +138,6 @@ fn pair_with(
     budget: &mut Budget,
 ) -> Result<bool, Stopped>
     requires some { 0 < length later.old }
-    requires within { budget.old.used ≤ budget.old.limit }
     ensures answer { Decides result (seats_meet context.now.facts first (slice_index later.old 0)
         && can_take_out context.now.facts context.now.reached.seats room.bye (length later.old - 1) room.takers (drop 1 later.old))
         (budget.new.used ≡ budget.new.limit) }
@@ -166,7 +162,6 @@ fn take_first(
     room: Room,
     budget: &mut Budget,
 ) -> Result<bool, Stopped>
-    requires within { budget.old.used ≤ budget.old.limit }
     ensures answer { Decides result
         (takes_one (meets_bracket context.now.facts context.now.reached.seats first)
         (λ k. can_take_out context.now.facts context.now.reached.seats room.bye
@@ -201,7 +196,6 @@ fn leave_first(
     room: Room,
     budget: &mut Budget,
 ) -> Result<bool, Stopped>
-    requires within { budget.old.used ≤ budget.old.limit }
     ensures answer { Decides result
         (left_over room.bye (seats_may_be_left context.now.facts) first && can_take_out context.now.facts
         context.now.reached.seats false (length later.old) room.takers later.old)

@@ -122,7 +122,6 @@ fn most_steps(rule: ByNumber<'_>) -> u64 {
 
 /// A greatest matching of players of a bracket. None says that memory was refused.
 fn matched(alloc: Global, joins: &Joins<'_>, budget: &mut Budget) -> Result<Option<Found>, Stopped>
-    requires within { budget.old.used ≤ budget.old.limit }
     ensures answer { MatchFound result
         (λ found. IsMatching (vertices joins.now) (joined joins.now) found.partners.items) (Unit {0})
         (budget.new.used ≡ budget.new.limit) }
@@ -145,7 +144,6 @@ pub(crate) fn told_by_matchings(
     rule: ByNumber<'_>,
     budget: &mut Budget,
 ) -> Result<Option<Told>, Stopped>
-    requires within { budget.old.used ≤ budget.old.limit }
     ensures answer { MatchFound result
         (λ told. IsMost rule.entry.field.now rule.entry.reached.now told.most
         × IfSome told.shape (IsAlwaysShape rule.entry.field.now rule.entry.reached.now))

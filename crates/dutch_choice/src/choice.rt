@@ -92,7 +92,6 @@ fn consider(
     requires kept { IsKept pass.now.context.now.facts pass.now.context.now.reached pass.now.context.now.lower kept.old }
     requires look { LooksBelow pass.now.context.now.facts pass.now.context.now.reached pass.now.context.now.lower
         judge.old.look }
-    requires within { budget.old.used ≤ budget.old.limit }
     ensures answer { MatchResult result
         (λ _. (coming : List Arrangement)
         → best_yet pass.now.context.now.facts pass.now.context.now.reached pass.now.context.now.lower pass.now.wish
@@ -138,7 +137,6 @@ fn draw_once<'a>(
     requires lists { Lists sought.pass.now.context.now.facts sought.pass.now.context.now.reached lister.old.listing }
     requires shape { lister.old.listing.shape ≡ sought.pass.now.shape }
     requires weights { HasWeights sought.pass.now judge.old.weights }
-    requires within { budget.old.used ≤ budget.old.limit }
     ensures answer { MatchStep result
         (λ _. PassesDull sought.entry.pass.now sought.entry.kept.now lister.old.listing.coming
         (lister.new.drawn.lists ∷ lister.new.listing.coming)
@@ -161,10 +159,8 @@ fn draw_once<'a>(
 
 /// The steps of a turn: all that are left, or so many that it is worth while to be told more behind them.
 fn turn(weights: &Option<WeightFloors<'_>>, budget: &Budget) -> Budget
-    requires within { budget.now.used ≤ budget.now.limit }
     ensures used { result.used ≡ budget.now.used }
     ensures limit { result.limit ≤ budget.now.limit }
-    ensures within { result.used ≤ result.limit }
 {
     let left = budget.limit - budget.used;
     let steps = match weights {
@@ -179,7 +175,6 @@ fn turn(weights: &Option<WeightFloors<'_>>, budget: &Budget) -> Budget
 
 /// Behind a turn, where steps are left: tells the walk more, if floors are kept.
 fn go_on(sought: Sought<'_, '_>, judge: &mut Judge<'_>, budget: &mut Budget) -> Result<(), Stopped>
-    requires within { budget.old.used ≤ budget.old.limit }
     ensures stopped { MatchResult result (λ _. Unit {0}) (λ _. budget.new.used ≡ budget.new.limit) }
     ensures look { judge.new.look ≡ judge.old.look }
     ensures weights { judge.new.weights ≡ judge.old.weights }
@@ -212,7 +207,6 @@ fn draw<'a>(
     requires lists { Lists sought.pass.now.context.now.facts sought.pass.now.context.now.reached lister.old.listing }
     requires shape { lister.old.listing.shape ≡ sought.pass.now.shape }
     requires weights { HasWeights sought.pass.now judge.old.weights }
-    requires within { budget.old.used ≤ budget.old.limit }
     ensures answer { MatchDrawn result
         (PassesDull sought.entry.pass.now sought.entry.kept.now lister.old.listing.coming
         (lister.new.drawn.lists ∷ lister.new.listing.coming)
@@ -253,7 +247,6 @@ fn best_near<'a>(
     requires look { LooksBelow pass.now.context.now.facts pass.now.context.now.reached pass.now.context.now.lower
         judge.old.look }
     requires weights { HasWeights pass.now judge.old.weights }
-    requires within { budget.old.used ≤ budget.old.limit }
     ensures answer { MatchFound result
         (λ b. (best_near pass.now.context.now.facts pass.now.context.now.reached pass.now.context.now.lower
         pass.now.wish (aim_in pass.now.aim) pass.now.shape ≡ Some b.candidate.lists)
@@ -287,7 +280,6 @@ fn best_by_aim<'a>(
     requires look { LooksBelow pass.now.context.now.facts pass.now.context.now.reached pass.now.context.now.lower
         judge.old.look }
     requires weights { HasWeights pass.now judge.old.weights }
-    requires within { budget.old.used ≤ budget.old.limit }
     ensures answer { MatchFound result
         (λ b. (best_wished pass.now.context.now.facts pass.now.context.now.reached pass.now.context.now.lower
         pass.now.wish pass.now.shape ≡ Some b.candidate.lists)
@@ -318,7 +310,6 @@ fn best_in_passes(
     requires look { LooksBelow pass.old.context.now.facts pass.old.context.now.reached pass.old.context.now.lower
         judge.old.look }
     requires weights { HasWeights pass.old judge.old.weights }
-    requires within { budget.old.used ≤ budget.old.limit }
     ensures answer { MatchResult result (IsEnd pass.old) (λ _. budget.new.used ≡ budget.new.limit) }
     ensures look { LooksBelow pass.old.context.now.facts pass.old.context.now.reached pass.old.context.now.lower
         judge.new.look }
@@ -362,7 +353,6 @@ fn weighed_by<'a>(
 ) -> Result<Weighed<'a>, Stopped>
     requires of { AreOf pass.now.context.now.facts pass.now.context.now.reached pass.now.context.now.lower
         pass.now.shape weights }
-    requires within { budget.old.used ≤ budget.old.limit }
     ensures weights { IfOk result (λ weighed. HasWeights pass.now weighed.weights) }
     ensures stopped { MatchResult result (λ _. Unit {0}) (λ _. budget.new.used ≡ budget.new.limit) }
     ensures spends { Spends budget.old budget.new }
@@ -399,7 +389,6 @@ fn weigh<'a>(
     room: &mut Room,
     budget: &mut Budget,
 ) -> Result<Weighed<'a>, Stopped>
-    requires within { budget.old.used ≤ budget.old.limit }
     ensures weights { IfOk result (λ weighed. HasWeights pass.now weighed.weights) }
     ensures stopped { MatchResult result (λ _. Unit {0}) (λ _. budget.new.used ≡ budget.new.limit) }
     ensures spends { Spends budget.old budget.new }
@@ -425,7 +414,6 @@ fn best_within<'a>(
     requires look { LooksBelow pass.old.context.now.facts pass.old.context.now.reached pass.old.context.now.lower
         judge.old.look }
     requires weights { HasWeights pass.old judge.old.weights }
-    requires within { budget.old.used ≤ budget.old.limit }
     ensures answer { MatchResult result (λ found. IfSome found (IsEnd pass.old))
         (λ _. budget.new.used ≡ budget.new.limit) }
     ensures look { LooksBelow pass.old.context.now.facts pass.old.context.now.reached pass.old.context.now.lower
@@ -455,7 +443,6 @@ fn best_by_weight<'a>(
 ) -> Result<Option<Option<Best>>, Stopped>
     requires look { LooksBelow pass.old.context.now.facts pass.old.context.now.reached pass.old.context.now.lower
         judge.old.look }
-    requires within { budget.old.used ≤ budget.old.limit }
     ensures answer { MatchResult result (λ found. IfSome found (IsEnd pass.old))
         (λ _. budget.new.used ≡ budget.new.limit) }
     ensures look { LooksBelow pass.old.context.now.facts pass.old.context.now.reached pass.old.context.now.lower
@@ -498,7 +485,6 @@ fn best_in_time<'a>(
     requires look { LooksBelow pass.old.context.now.facts pass.old.context.now.reached pass.old.context.now.lower
         judge.old.look }
     requires weights { HasWeights pass.old judge.old.weights }
-    requires within { budget.old.used ≤ budget.old.limit }
     ensures answer { MatchResult result (IsEnd pass.old) (λ _. budget.new.used ≡ budget.new.limit) }
     ensures spends { Spends budget.old budget.new }
 {
@@ -521,7 +507,6 @@ fn best_in_time<'a>(
 /// The best that the next bracket can be, as far as a quarter of the steps that are left tells it.
 fn outlook_of(context: &Context<'_>, shape: Shape, budget: &mut Budget) -> Result<Outlook, Stopped>
     requires fits { Fits (frame_of context.now.facts context.now.reached) shape }
-    requires within { budget.old.used ≤ budget.old.limit }
     ensures answer { MatchResult result (IsOutlook context.now.facts context.now.reached context.now.lower shape)
         (λ _. budget.new.used ≡ budget.new.limit) }
     ensures spends { Spends budget.old budget.new }
@@ -549,7 +534,6 @@ pub fn best_of<'a>(
     budget: &mut Budget,
 ) -> Result<Step<Best>, PairFault>
     requires fits { Fits (frame_of context.now.facts context.now.reached) shape }
-    requires within { budget.old.used ≤ budget.old.limit }
     ensures answer { IfOk result (λ step. MatchStep step
         (λ b. (best_wished context.now.facts context.now.reached context.now.lower wish shape ≡ Some b.candidate.lists)
         × IsKept context.now.facts context.now.reached context.now.lower (Some b))
@@ -590,7 +574,6 @@ pub fn choose_in<'a>(
     budget: &mut Budget,
 ) -> Result<Choice, PairFault>
     requires candidate { HasCandidate context.now.facts context.now.reached context.now.lower }
-    requires within { budget.old.used ≤ budget.old.limit }
     ensures answer { IfOk result
         (IsChoice context.now.facts context.now.reached context.now.lower (budget.new.used ≡ budget.new.limit)) }
     ensures spends { Spends budget.old budget.new }
@@ -622,7 +605,6 @@ pub fn choose(
 ) -> Result<Choice, PairFault>
     requires above { IsAbove field.now reached.now lower.now }
     requires candidate { HasCandidate field.now reached.now lower.now }
-    requires within { budget.old.used ≤ budget.old.limit }
     ensures answer { IfOk result (IsChoice field.now reached.now lower.now (budget.new.used ≡ budget.new.limit)) }
     ensures spends { Spends budget.old budget.new }
 {

@@ -170,7 +170,6 @@ impl<'a> LookAhead<'a> {
     fn looked_for(&mut self, down: &[u16], budget: &mut Budget) -> Look
         requires unknown { is_kept down.now self.old.kept ≡ false }
         requires down { AreLeft self.old.reached down.now }
-        requires within { budget.old.used ≤ budget.old.limit }
         ensures answer { IsLook (value_below self.old.facts self.old.reached self.old.next down.now)
             (budget.new.used ≡ budget.new.limit) result }
         ensures kept { IsKeptAfter down.now self.old self.new result }
@@ -196,7 +195,6 @@ impl<'a> LookAhead<'a> {
     /// step. If memory is refused, the value is not kept, which `is_short` tells from then on.
     pub fn value(&mut self, down: &[u16], budget: &mut Budget) -> Look
         requires down { AreLeft self.old.reached down.now }
-        requires within { budget.old.used ≤ budget.old.limit }
         ensures answer { IsLook (value_below self.old.facts self.old.reached self.old.next down.now)
             ((is_kept down.now self.old.kept ≡ false) × (budget.new.used ≡ budget.new.limit)) result }
         ensures free { is_kept down.now self.old.kept ≡ true → budget.new.used ≡ budget.old.used }
@@ -232,7 +230,6 @@ impl<'a> LookAhead<'a> {
         budget: &mut Budget,
     ) -> Result<(), Stopped>
         requires candidate { IsOfBracket self.old.facts self.old.reached candidate.now }
-        requires within { budget.old.used ≤ budget.old.limit }
         ensures answer { MatchResult result
             (λ _. quality_in room.new.quality ≡ quality self.old.facts self.old.reached self.old.next candidate.now)
             (λ _. budget.new.used ≡ budget.new.limit) }
@@ -303,7 +300,6 @@ pub(crate) fn judge_candidate(
 ) -> Result<(), Stopped>
     requires candidate { IsOfBracket context.now.facts context.now.reached candidate.now }
     requires look { LooksBelow context.now.facts context.now.reached context.now.lower judge.old.look }
-    requires within { budget.old.used ≤ budget.old.limit }
     ensures answer { MatchResult result
         (λ _. quality_in judge.new.room.quality
         ≡ quality_of context.now.facts context.now.reached context.now.lower candidate.now.lists)

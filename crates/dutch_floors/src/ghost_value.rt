@@ -138,7 +138,6 @@ pub(crate) fn ghost_value(
     requires ordinary { context.now.reached.kind ≡ Ordinary }
     requires flat { IsFlat context.now.facts context.now.reached }
     requires fits { Fits (frame_of context.now.facts context.now.reached) shape }
-    requires within { budget.old.used ≤ budget.old.limit }
     ensures answer { MatchResult result
         (λ v. v ≡ ghost_value context.now.facts context.now.reached shape
         (first_group context.now.facts (scoregroups context.now.facts context.now.lower)))

@@ -85,7 +85,6 @@ impl<'a> Ghosts<'a> {
     /// Reads whom of the next lower scoregroup some player of a bracket may meet, in a step for each player of the one
     /// with each of the other.
     pub(crate) fn read(context: &Context<'a>, budget: &mut Budget) -> Result<Ghosts<'a>, Stopped>
-        requires within { budget.old.used ≤ budget.old.limit }
         ensures answer { MatchResult result
             (λ ghosts. ghosts ≡ record {
               facts = context.now.facts;

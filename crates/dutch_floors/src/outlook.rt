@@ -1,6 +1,6 @@
 // The best that the next bracket can be, found before any candidate is looked at (C.04.3 C.7): by ghosts if the
 // bracket's residents have one score, otherwise by counting players.
-ghost use Rattle.std.specs.Prelude.{◌≡◌, ◌≤◌, []};
+ghost use Rattle.std.specs.Prelude.{◌≡◌, []};
 ghost use Rattle.std.specs.Result.{MatchResult};
 ghost use Rattle.dutch_order.specs.Arrangements.{Fits};
 ghost use Rattle.dutch_bracket.specs.declared.reached.BracketKind.TheVariants.{Ordinary};
@@ -100,7 +100,6 @@ impl Outlook {
         budget: &mut Budget,
     ) -> Result<Outlook, Stopped>
         requires fits { Fits (frame_of context.now.facts context.now.reached) shape }
-        requires within { budget.old.used ≤ budget.old.limit }
         ensures answer { MatchResult result (IsOutlook context.now.facts context.now.reached context.now.lower shape)
             (λ _. budget.new.used ≡ budget.new.limit) }
         ensures spends { Spends budget.old budget.new }
@@ -151,7 +150,6 @@ impl Outlook {
     ) -> Result<Outlook, Stopped>
         requires ordinary { context.now.reached.kind ≡ Ordinary }
         requires fits { Fits (frame_of context.now.facts context.now.reached) shape }
-        requires within { budget.old.used ≤ budget.old.limit }
         ensures answer { MatchResult result (IsOutlook context.now.facts context.now.reached context.now.lower shape)
             (λ _. budget.new.used ≡ budget.new.limit) }
         ensures spends { Spends budget.old budget.new }

@@ -32,8 +32,7 @@ MatchDrawn (Err e) drawn none stopped = stopped
 abbrev pub Passes : {T : Type 0} → (T → Type 0) → List T → List T → Type 0
 Passes {T} Idle before after = (skipped : List T) × (before ≡ skipped ++ after) × AllByRecursion Idle skipped
 
--- a call keeps the limit of a budget, takes back no step, and makes none above the limit
+-- a call keeps the limit of a budget, and takes back no step; a budget says itself that none is above the limit
 pub record Spends (old new : Budget) : Type 0 where
   pub limit : new.limit ≡ old.limit
   pub rises : old.used ≤ new.used
-  pub within : new.used ≤ new.limit

@@ -2,7 +2,7 @@
 //
 // Four levels list the arrangements whose pairs may meet. What is left to do here is the last question, whether those whom an
 // arrangement leaves over may be left over. An arrangement that was found is kept until that question is answered.
-ghost use Rattle.std.specs.Prelude.{◌≡◌, ◌≤◌, ◌++◌, ◌∷◌, [], Some, None, filter, length, not, ◌||◌, ◌&&◌, ◌-◌, ◌*◌, nat_lt, option_copied, true, false};
+ghost use Rattle.std.specs.Prelude.{◌≡◌, ◌++◌, ◌∷◌, [], Some, None, filter, length, not, ◌||◌, ◌&&◌, ◌-◌, ◌*◌, nat_lt, option_copied, true, false};
 ghost use Rattle.dutch_order.specs.Arrangements.{Fits, arrangements, candidates, down, leaves_one, rest};
 ghost use Rattle.dutch_order.specs.Choices.{is_member};
 ghost use Rattle.dutch_order.specs.Keys.{IsIn};
@@ -63,7 +63,6 @@ struct Drawing<L> {
 
 /// Whether these may be left over (C.04.3 C.2). In a bracket that leaves at most one player, asking about that player takes a step.
 fn ask_leave<R: Rule>(rule: &R, last: bool, down: &[u16], budget: &mut Budget) -> Drawn
-    requires { budget.old.used ≤ budget.old.limit }
     ensures answer { MatchDrawn result
         ((not last || leaves_one (R.may_be_left rule.now) down.now) ≡ true)
         ((not last || leaves_one (R.may_be_left rule.now) down.now) ≡ false)
@@ -102,7 +101,6 @@ fn draw_listed<L: Arranges, C: Cuts>(
     lists: &mut Arrangement,
     budget: &mut Budget,
 ) -> Drawn
-    requires { budget.old.used ≤ budget.old.limit }
     ensures answer { MatchDrawn result
         (Passes (C.Idle cuts.now) (listed drawing.old.kept ++ L.coming drawing.old.level) (lists.new ∷ L.coming drawing.new.level))
         (Passes (C.Idle cuts.now) (listed drawing.old.kept ++ L.coming drawing.old.level) [])
@@ -122,7 +120,6 @@ fn draw_legal<R: Rule, L: Arranges, C: Cuts>(
     candidate: &mut Candidate,
     budget: &mut Budget,
 ) -> Drawn
-    requires { budget.old.used ≤ budget.old.limit }
     ensures answer { MatchDrawn result
         (Passes (C.Idle cuts.now)
         (filter (may_leave (R.may_be_left leave.now.rule.now) leave.now.bracket.now) (listed drawing.old.kept ++ L.coming drawing.old.level))
@@ -309,7 +306,6 @@ impl<'a, R: Rule> Candidates<'a, R> {
         candidate: &mut Candidate,
         budget: &mut Budget,
     ) -> Step<()>
-        requires { budget.old.used ≤ budget.old.limit }
         ensures answer { MatchStep result
             (λ _. Passes (C.Idle cuts.now) self.old.coming (candidate.new.lists ∷ self.new.coming)
             × (candidate.new.down ≡ down self.old.frame candidate.new.lists) × (self.new.latest ≡ Some candidate.new.lists))
@@ -354,7 +350,6 @@ impl<'a, R: Rule> Candidates<'a, R> {
 
     /// Fills `candidate` with the next one, as `next` gives it.
     pub fn put_next(&mut self, candidate: &mut Candidate, budget: &mut Budget) -> Step<()>
-        requires { budget.old.used ≤ budget.old.limit }
         ensures answer { MatchStep result
             (λ _. (self.old.coming ≡ candidate.new.lists ∷ self.new.coming) × (candidate.new.down ≡ down self.old.frame candidate.new.lists) × (self.new.latest ≡ Some candidate.new.lists))
             ((self.old.coming ≡ []) × (self.new.coming ≡ []) × (self.new.latest ≡ self.old.latest))
@@ -379,7 +374,6 @@ impl<'a, R: Rule> Candidates<'a, R> {
     /// used up before the next one was found; then what is to come stays as it was. If the bracket may leave over at most one player and
     /// the shape leaves more, the answer is `End`, without a step. After `End` every further call answers `End` without a step.
     pub fn next(&mut self, budget: &mut Budget) -> Step<Candidate>
-        requires { budget.old.used ≤ budget.old.limit }
         ensures answer { MatchStep result
             (λ c. (self.old.coming ≡ c.lists ∷ self.new.coming) × (c.down ≡ down self.old.frame c.lists) × (self.new.latest ≡ Some c.lists))
             ((self.old.coming ≡ []) × (self.new.coming ≡ []) × (self.new.latest ≡ self.old.latest))
@@ -420,7 +414,6 @@ impl<'a, R: Rule> Candidates<'a, R> {
         requires shape { B.shape bound.now ≡ self.old.shape }
         requires meets { B.meets bound.now ≡ R.meets self.old.rule }
         requires may_be_left { B.may_be_left bound.now ≡ R.may_be_left self.old.rule }
-        requires within { budget.old.used ≤ budget.old.limit }
         ensures answer { MatchStep result
             (λ _. Passes (λ a. B.is_dull bound.now a ≡ true) self.old.coming (candidate.new.lists ∷ self.new.coming)
             × (candidate.new.down ≡ down self.old.frame candidate.new.lists) × (self.new.latest ≡ Some candidate.new.lists))
@@ -453,7 +446,6 @@ impl<'a, R: Rule> Candidates<'a, R> {
         requires shape { B.shape bound.now ≡ self.old.shape }
         requires meets { B.meets bound.now ≡ R.meets self.old.rule }
         requires may_be_left { B.may_be_left bound.now ≡ R.may_be_left self.old.rule }
-        requires within { budget.old.used ≤ budget.old.limit }
         ensures answer { MatchStep result
             (λ c. Passes (λ a. B.is_dull bound.now a ≡ true) self.old.coming (c.lists ∷ self.new.coming) × (c.down ≡ down self.old.frame c.lists) × (self.new.latest ≡ Some c.lists))
             (Passes (λ a. B.is_dull bound.now a ≡ true) self.old.coming [] × (self.new.coming ≡ []) × (self.new.latest ≡ self.old.latest))

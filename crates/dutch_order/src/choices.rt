@@ -106,7 +106,6 @@ fn put_next_other<R: Rule, C: CutsTuples>(
     numbers: &mut Numbers,
     budget: &mut Budget,
 ) -> Drawn
-    requires { budget.old.used ≤ budget.old.limit }
     ensures answer { MatchDrawn result
         (Passes (C.Idle cuts.now) (without_own (option_copied resume.old) lists.old.coming) (numbers.new.items ∷ without_own (option_copied resume.new) lists.new.coming))
         (Passes (C.Idle cuts.now) (without_own (option_copied resume.old) lists.old.coming) [])
@@ -244,7 +243,6 @@ fn put_next_set<C: CutsExchanges>(
     numbers: &mut Numbers,
     budget: &mut Budget,
 ) -> Drawn
-    requires { budget.old.used ≤ budget.old.limit }
     ensures answer { MatchDrawn result
         (Passes (C.Idle cuts.now) sets.old.coming (numbers.new.items ∷ sets.new.coming))
         (Passes (C.Idle cuts.now) sets.old.coming [] × (sets.new.coming ≡ []))
@@ -405,7 +403,6 @@ fn put_next_list<R: Rule, C: CutsTuples>(
     numbers: &mut Numbers,
     budget: &mut Budget,
 ) -> Drawn
-    requires { budget.old.used ≤ budget.old.limit }
     ensures answer { MatchDrawn result
         (Passes (C.Idle cuts.now) lists.old.coming (numbers.new.items ∷ lists.new.coming))
         (Passes (C.Idle cuts.now) lists.old.coming [] × (lists.new.coming ≡ []))

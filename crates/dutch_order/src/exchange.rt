@@ -334,7 +334,6 @@ fn next_set(pool: &[u16], k: usize, place: &mut Place, budget: &mut Budget) -> D
     requires few { length pool.now ≤ LIMIT }
     requires enough { k ≤ length pool.now }
     requires standing { IsPlace pool.now k place.old }
-    requires within { budget.old.used ≤ budget.old.limit }
     ensures stands { IsPlace pool.now k place.new }
     ensures answer { MatchDrawn result
         ((sets_from pool.now k place.old ≡ set_of pool.now k place.new.size place.new.walk.path.items ∷ sets_from pool.now k place.new)
@@ -547,7 +546,6 @@ fn leave_stage<C: CutsExchanges>(
     requires small { (i : ℕ) → slice_index tree.now.tree.pool.now i ≤ 65535 }
     requires standing { Stands (hinted tree.now.hint.now.items (exchange_plan tree.now.tree.pool.now tree.now.tree.k
         tree.now.tree.size tree.now.tree.difference)) walk.old.path.items }
-    requires within { budget.old.used ≤ budget.old.limit }
     ensures path { walk.new.path.items ≡ walk.old.path.items }
     ensures passes { Passes (IdleAt tree.now.tree.pool.now tree.now.tree.k (C.Idle cuts.now) tree.now.tree.size
         tree.now.tree.difference)
@@ -587,7 +585,6 @@ fn climb_stage<C: CutsExchanges>(
     requires small { (i : ℕ) → slice_index tree.now.tree.pool.now i ≤ 65535 }
     requires standing { Stands (hinted tree.now.hint.now.items (exchange_plan tree.now.tree.pool.now tree.now.tree.k
         tree.now.tree.size tree.now.tree.difference)) walk.old.path.items }
-    requires within { budget.old.used ≤ budget.old.limit }
     ensures stands { Stands (hinted tree.now.hint.now.items (exchange_plan tree.now.tree.pool.now tree.now.tree.k
         tree.now.tree.size tree.now.tree.difference)) walk.new.path.items }
     ensures answer { MatchDrawn result
@@ -637,7 +634,6 @@ fn next_set_past<C: CutsExchanges>(
     requires few { length pool.now ≤ LIMIT }
     requires enough { k ≤ length pool.now }
     requires standing { IsPlace pool.now k place.old }
-    requires within { budget.old.used ≤ budget.old.limit }
     ensures stands { IsPlace pool.now k place.new }
     ensures answer { MatchDrawn result
         (Passes (C.Idle cuts.now) (sets_from pool.now k place.old) (set_of pool.now k place.new.size
@@ -811,7 +807,6 @@ impl Exchanges {
     /// The next set, in ascending order. `Found` gives the first of those to come. `End` says that none is left. `Undecided` says that the
     /// budget was used up before the next one was found; then what is to come stays as it was.
     pub fn next(&mut self, budget: &mut Budget) -> Step<Numbers>
-        requires { budget.old.used ≤ budget.old.limit }
         ensures answer { MatchStep result
             (λ numbers. self.old.coming ≡ numbers.items ∷ self.new.coming)
             ((self.old.coming ≡ []) × (self.new.coming ≡ []) × (self.new.left ≡ 0))
@@ -829,7 +824,6 @@ impl Exchanges {
 
     /// Fills a list with the next one, as `next` gives it.
     pub(crate) fn put_next(&mut self, numbers: &mut Numbers, budget: &mut Budget) -> Drawn
-        requires { budget.old.used ≤ budget.old.limit }
         ensures answer { MatchDrawn result
             (self.old.coming ≡ numbers.new.items ∷ self.new.coming)
             ((self.old.coming ≡ []) × (self.new.coming ≡ []) × (self.new.left ≡ 0))
@@ -854,7 +848,6 @@ impl Exchanges {
         numbers: &mut Numbers,
         budget: &mut Budget,
     ) -> Drawn
-        requires { budget.old.used ≤ budget.old.limit }
         ensures answer { MatchDrawn result
             (Passes (C.Idle cuts.now) self.old.coming (numbers.new.items ∷ self.new.coming))
             (Passes (C.Idle cuts.now) self.old.coming [] × (self.new.coming ≡ []))

@@ -3,7 +3,7 @@
 //
 // A level stands in a block, or between two of them. Each turn of its loop draws from the block, and asks for the next block if that one
 // has ended. If either call is stopped, what is left stays as it was.
-ghost use Rattle.std.specs.Prelude.{◌≡◌, ◌≤◌, ℕ, List, [], ◌∷◌};
+ghost use Rattle.std.specs.Prelude.{◌≡◌, ℕ, List, [], ◌∷◌};
 ghost use Rattle.std.specs.List.{AllByRecursion};
 ghost use Rattle.dutch_order.specs.Arrangements.{Arrangement};
 ghost use Rattle.dutch_order.specs.Levels.{joined, within};
@@ -28,7 +28,6 @@ pub trait Arranges {
         lists: &mut Arrangement,
         budget: &mut Budget,
     ) -> Drawn
-        requires { budget.old.used ≤ budget.old.limit }
         ensures answer { MatchDrawn result
             (Passes (C.Idle cuts.now) (coming self.old) (lists.new ∷ coming self.new))
             (Passes (C.Idle cuts.now) (coming self.old) [])
@@ -51,7 +50,6 @@ pub trait Blocks {
         block: &mut Self::Block,
         budget: &mut Budget,
     ) -> Drawn
-        requires { budget.old.used ≤ budget.old.limit }
         ensures answer { MatchDrawn result
             (Passes (AllByRecursion (C.Idle cuts.now)) (blocks self.old) (Self.Block.coming block.new ∷ blocks self.new))
             (Passes (AllByRecursion (C.Idle cuts.now)) (blocks self.old) [])
@@ -101,7 +99,6 @@ fn draw<T: Arranges, C: Cuts>(
     lists: &mut Arrangement,
     budget: &mut Budget,
 ) -> Drawn
-    requires { budget.old.used ≤ budget.old.limit }
     ensures answer { MatchDrawn result
         (Passes (C.Idle cuts.now) (within in_block (T.coming block.old)) (lists.new ∷ within in_block (T.coming block.new)))
         (Passes (C.Idle cuts.now) (within in_block (T.coming block.old)) [])

@@ -263,7 +263,6 @@ impl LimboExchanges {
     /// The next set, in ascending order. `Found` gives the first of those to come. `End` says that none is left. `Undecided` says that the
     /// budget was used up before the next one was found; then what is to come stays as it was.
     pub fn next(&mut self, budget: &mut Budget) -> Step<Numbers>
-        requires { budget.old.used ≤ budget.old.limit }
         ensures answer { MatchStep result
             (λ numbers. self.old.coming ≡ numbers.items ∷ self.new.coming)
             ((self.old.coming ≡ []) × (self.new.coming ≡ []) × (self.new.left ≡ 0))
@@ -281,7 +280,6 @@ impl LimboExchanges {
 
     /// Fills a list with the next one, as `next` gives it.
     pub(crate) fn put_next(&mut self, numbers: &mut Numbers, budget: &mut Budget) -> Drawn
-        requires { budget.old.used ≤ budget.old.limit }
         ensures answer { MatchDrawn result
             (self.old.coming ≡ numbers.new.items ∷ self.new.coming)
             ((self.old.coming ≡ []) × (self.new.coming ≡ []) × (self.new.left ≡ 0))

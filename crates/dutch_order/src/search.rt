@@ -310,7 +310,6 @@ pub fn climb_past<T: Tree, C: CutsPaths>(
     requires few { (T.plan tree.now).places ≤ PLACES }
     requires narrow { (T.plan tree.now).width ≤ PLACES }
     requires may_ask { (path : List ℕ) → Stands (T.plan tree.now) path → C.MayAsk cuts.now path }
-    requires within { budget.old.used ≤ budget.old.limit }
     ensures stands { Stands (T.plan tree.now) walk.new.path.items }
     ensures answer { MatchDrawn result
         (Passes (C.Idle cuts.now) (hits (ahead (T.plan tree.now) walk.old.path.items walk.old.number))
@@ -359,7 +358,6 @@ pub fn climb_on<T: Tree>(tree: &T, walk: &mut Walk, budget: &mut Budget) -> Draw
     requires standing { Stands (T.plan tree.now) walk.old.path.items }
     requires few { (T.plan tree.now).places ≤ PLACES }
     requires narrow { (T.plan tree.now).width ≤ PLACES }
-    requires within { budget.old.used ≤ budget.old.limit }
     ensures stands { Stands (T.plan tree.now) walk.new.path.items }
     ensures answer { MatchDrawn result
         ((hits (ahead (T.plan tree.now) walk.old.path.items walk.old.number)

@@ -1,15 +1,14 @@
 // How far a call may go, and what it answers if it is stopped.
-ghost use Rattle.std.specs.Prelude.{◌≡◌, Ok, Some, None};
-ghost use Rattle.std.specs.Result.{IsErr};
-ghost use Rattle.dutch_order.specs.Steps.{MatchStep};
+ghost use Rattle.std.specs.Prelude.{◌≤◌};
 
 /// Steps that a run of calls may make, and those that it has made.
 #[derive(Debug, Clone, Copy, PartialEq, Eq)]
 pub struct Budget {
     /// The most steps that may be made.
     pub limit: u64,
-    /// The steps made so far.
+    /// The steps made so far: no more than the limit.
     pub used: u64,
+    pub ghost within: { used ≤ limit },
 }
 
 /// The answer of a call that looks for the next of something.
@@ -31,6 +30,10 @@ pub struct Stopped;
 pub(crate) type Drawn = Result<bool, Stopped>;
 
 impl<T: Drop> Step<T> {
+    ghost use Rattle.std.specs.Prelude.{◌≡◌, Ok, Some, None};
+    ghost use Rattle.std.specs.Result.{IsErr};
+    ghost use Rattle.dutch_order.specs.Steps.{MatchStep};
+
     /// What was found, or none at the end. If the limit was reached first, `?` passes that on.
     pub fn found(self) -> Result<Option<T>, Stopped>
         ensures { MatchStep self (λ x. result ≡ Ok (Some x)) (result ≡ Ok None) (IsErr result) }

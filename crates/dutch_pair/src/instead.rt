@@ -1,6 +1,6 @@
 // The best candidate of a bracket that grants a wish, in place of the one that is chosen, or why there is none (C.04.3
 // B.8; B.1, C.4, C.5).
-ghost use Rattle.std.specs.Prelude.{◌≡◌, ◌≤◌, ◌+◌, IfOk, Some, false, true};
+ghost use Rattle.std.specs.Prelude.{◌≡◌, ◌+◌, IfOk, Some, false, true};
 ghost use Rattle.std.specs.List.{list_any};
 ghost use Rattle.std.specs.Result.{MatchResult};
 ghost use Rattle.dutch_order.specs.Arrangements.{Fits};
@@ -93,7 +93,6 @@ impl<'a> Bound for Wished<'a> {
 /// Whether some candidate grants a wish, whether it can be chosen or not.
 #[tactic(auto, using(crate::proofs::InsteadLemmas::skipped_same), unfolding(dutch_bracket::specs::Brackets::candidates_of))]
 fn is_granted(wished: &Wished<'_>, budget: &mut Budget) -> Result<bool, Stopped>
-    requires within { budget.old.used ≤ budget.old.limit }
     ensures answer { Decides result
         (list_any (grants wished.now.wish)
         (candidates_of wished.now.context.now.facts wished.now.context.now.reached wished.now.shape))
@@ -118,7 +117,6 @@ fn is_granted(wished: &Wished<'_>, budget: &mut Budget) -> Result<bool, Stopped>
 /// Whether a legal candidate grants the wish, with as many pairs as the shape and so many moved-down players in them.
 #[tactic(auto, using(crate::proofs::InsteadLemmas::few_pairs, dutch_bracket::proofs::ShapeSearch::fits_by_test))]
 fn is_granted_with(wished: &Wished<'_>, mdps: usize, budget: &mut Budget) -> Result<bool, Stopped>
-    requires within { budget.old.used ≤ budget.old.limit }
     ensures answer { Decides result
         (some_grants wished.now.context.now.facts wished.now.context.now.reached wished.now.wish
         (with_mdps wished.now.shape mdps))
@@ -148,7 +146,6 @@ fn is_granted_within(
     to: usize,
     budget: &mut Budget,
 ) -> Result<bool, Stopped>
-    requires within { budget.old.used ≤ budget.old.limit }
     ensures answer { MatchDrawn result
         (SomeGrants wished.now.context.now.facts wished.now.context.now.reached wished.now.wish wished.now.shape from
         to)
@@ -174,7 +171,6 @@ fn is_barred(wished: &Wished<'_>, budget: &mut Budget) -> Result<bool, Stopped>
     requires none { list_any (grants wished.now.wish)
         (eligible wished.now.context.now.facts wished.now.context.now.reached wished.now.context.now.lower
         wished.now.shape) ≡ false }
-    requires within { budget.old.used ≤ budget.old.limit }
     ensures answer { Decides result
         (list_any (grants wished.now.wish)
         (candidates_of wished.now.context.now.facts wished.now.context.now.reached wished.now.shape))
@@ -193,7 +189,6 @@ fn is_barred(wished: &Wished<'_>, budget: &mut Budget) -> Result<bool, Stopped>
 fn is_granted_above(wished: &Wished<'_>, budget: &mut Budget) -> Result<bool, Stopped>
     requires greatest { shape_of wished.now.context.now.facts wished.now.context.now.reached
         wished.now.context.now.lower ≡ Some wished.now.shape }
-    requires within { budget.old.used ≤ budget.old.limit }
     ensures answer { MatchDrawn result
         (SomeGrants wished.now.context.now.facts wished.now.context.now.reached wished.now.wish wished.now.shape
         (wished.now.shape.mdps + 1) (wished.now.shape.pairs + 1))
@@ -217,7 +212,6 @@ fn why_none(wished: &Wished<'_>, budget: &mut Budget) -> Result<Instead, Stopped
     requires none { list_any (grants wished.now.wish)
         (eligible wished.now.context.now.facts wished.now.context.now.reached wished.now.context.now.lower
         wished.now.shape) ≡ false }
-    requires within { budget.old.used ≤ budget.old.limit }
     ensures answer { MatchResult result
         (IsInstead wished.now.context.now.facts wished.now.context.now.reached wished.now.context.now.lower
         wished.now.shape wished.now.wish budget.old.limit)
@@ -241,7 +235,6 @@ fn why_none(wished: &Wished<'_>, budget: &mut Budget) -> Result<Instead, Stopped
 fn look_for(alloc: Global, wished: &Wished<'_>, budget: &mut Budget) -> Result<Instead, PairFault>
     requires greatest { shape_of wished.now.context.now.facts wished.now.context.now.reached
         wished.now.context.now.lower ≡ Some wished.now.shape }
-    requires within { budget.old.used ≤ budget.old.limit }
     ensures { IfOk result (IsInstead wished.now.context.now.facts wished.now.context.now.reached
         wished.now.context.now.lower wished.now.shape wished.now.wish budget.old.limit) }
 {

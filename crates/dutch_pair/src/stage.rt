@@ -43,7 +43,6 @@ fn is_again(
 ) -> Result<bool, Stopped>
     requires numbers { AllNumbers context.now.reached.seats candidate.now.down }
     requires few { length candidate.now.down ≤ length context.now.reached.seats }
-    requires within { budget.old.used ≤ budget.old.limit }
     ensures answer { Decides result (is_again context.now.reached.kind
         (completable context.now.facts
         (map (seat_of context.now.reached.seats) candidate.now.down ++ context.now.lower)))
@@ -70,7 +69,6 @@ pub(crate) fn settle(
 ) -> Result<Option<Stage>, PairFault>
     requires above { IsAbove field.now reached.now lower.now }
     requires candidate { HasCandidate field.now reached.now lower.now }
-    requires within { budget.old.used ≤ budget.old.limit }
     ensures answer { IfOk result (λ settled. MatchOption settled (budget.new.used ≡ budget.new.limit)
         (λ stage. (stage.reached ≡ reached.now) × IsSettled field.now lower.now stage)) }
     ensures spends { Spends budget.old budget.new }

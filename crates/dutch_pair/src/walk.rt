@@ -102,7 +102,6 @@ fn paired_again(reached: &Reached) -> Reached
 /// The shape of a bracket.
 fn shape_in(context: &Context<'_>, budget: &mut Budget) -> Result<Shape, Stopped>
     requires candidate { HasCandidate context.now.facts context.now.reached context.now.lower }
-    requires within { budget.old.used ≤ budget.old.limit }
     ensures answer { MatchResult result
         (λ shape. (shape_of context.now.facts context.now.reached context.now.lower ≡ Some shape)
         × Fits (frame_of context.now.facts context.now.reached) shape)
@@ -196,7 +195,6 @@ impl<'a> Walk<'a> {
         budget: &mut Budget,
     ) -> Result<Option<Walk<'a>>, Stopped>
         requires all { all.now ≡ everybody field.now }
-        requires within { budget.old.used ≤ budget.old.limit }
         ensures answer { MatchFound result
             (λ walk. (completable field.now (everybody field.now) ≡ true)
             × (walk ≡ record { facts = field.now; number = 1; rest = round field.now }))
@@ -221,10 +219,8 @@ impl<'a> Walk<'a> {
     /// Settles the bracket that comes next by its choice and the test behind it, and goes behind it, where the budget
     /// begins anew.
     pub(crate) fn go_on(&mut self, alloc: Global, budget: &mut Budget) -> Result<Turn, PairFault>
-        requires within { budget.old.used ≤ budget.old.limit }
         ensures goes { IfOk result (GoesOn self.old self.new budget.new) }
         ensures limit { budget.new.limit ≡ budget.old.limit }
-        ensures within { budget.new.used ≤ budget.new.limit }
     {
         scores_do_not_ascend(self.field);
         let stage = match &self.next {
@@ -246,7 +242,6 @@ impl<'a> Walk<'a> {
         alloc: Global,
         budget: &mut Budget,
     ) -> Result<Option<(Reached, Shape)>, Stopped>
-        requires within { budget.old.used ≤ budget.old.limit }
         ensures answer { MatchFound result
             (λ found. Shows self.now.facts self.now.rest found.0 found.1 × (found.0.number ≡ self.now.number))
             (self.now.rest.reached ≡ [])

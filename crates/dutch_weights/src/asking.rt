@@ -204,7 +204,6 @@ impl<'a> WeightFloors<'a> {
         order: Order,
         budget: &mut Budget,
     ) -> Result<Option<Matched>, Stopped>
-        requires within { budget.old.used ≤ budget.old.limit }
         ensures same { self.new ≡ self.old }
         ensures stopped { MatchResult result (λ _. Unit {0}) (λ _. budget.new.used ≡ budget.new.limit) }
         ensures spends { Spends budget.old budget.new }
@@ -233,7 +232,6 @@ impl<'a> WeightFloors<'a> {
         asked: &Asked<'_>,
         budget: &mut Budget,
     ) -> Result<Option<Matched>, Stopped>
-        requires within { budget.old.used ≤ budget.old.limit }
         ensures same { self.new ≡ self.old }
         ensures stopped { MatchResult result (λ _. Unit {0}) (λ _. budget.new.used ≡ budget.new.limit) }
         ensures spends { Spends budget.old budget.new }
@@ -270,7 +268,6 @@ impl<'a> WeightFloors<'a> {
         bars: &Bars,
         budget: &mut Budget,
     ) -> Result<usize, Stopped>
-        requires within { budget.old.used ≤ budget.old.limit }
         ensures same { self.new ≡ self.old }
         ensures stopped { MatchResult result (λ _. Unit {0}) (λ _. budget.new.used ≡ budget.new.limit) }
         ensures spends { Spends budget.old budget.new }
@@ -317,7 +314,6 @@ impl<'a> WeightFloors<'a> {
         pairs: &[Pair],
         budget: &mut Budget,
     ) -> Result<bool, Stopped>
-        requires within { budget.old.used ≤ budget.old.limit }
         ensures same { self.new ≡ self.old }
         ensures stopped { MatchResult result (λ _. Unit {0}) (λ _. budget.new.used ≡ budget.new.limit) }
         ensures spends { Spends budget.old budget.new }
@@ -350,7 +346,6 @@ impl<'a> WeightFloors<'a> {
         bars: &Bars,
         budget: &mut Budget,
     ) -> Result<(), Stopped>
-        requires within { budget.old.used ≤ budget.old.limit }
         ensures same { self.new ≡ self.old }
         ensures stopped { MatchResult result (λ _. Unit {0}) (λ _. budget.new.used ≡ budget.new.limit) }
         ensures spends { Spends budget.old budget.new }

@@ -1,5 +1,5 @@
 // The look-ahead from a bracket of eight to a scoregroup of four, and which of its values are kept.
-ghost use Rattle.std.specs.Prelude.{◌≡◌, ◌≤◌, IfOk};
+ghost use Rattle.std.specs.Prelude.{◌≡◌, IfOk};
 ghost use Rattle.dutch_bracket.specs.Reached.{IsOf};
 
 use dutch_order::{Budget, Numbers};
@@ -80,9 +80,7 @@ fn look_of(
     budget: &mut Budget,
 ) -> Result<Look, Fail>
     requires reached { look.old.reached ≡ reached.now }
-    requires within { budget.old.used ≤ budget.old.limit }
     ensures reached { look.new.reached ≡ reached.now }
-    ensures within { budget.new.used ≤ budget.new.limit }
 {
     if !are_left(reached, down) {
         return Err(Fail::new("not numbers of the bracket"));
@@ -101,9 +99,7 @@ fn value_of(
     budget: &mut Budget,
 ) -> Result<(usize, Numbers), Fail>
     requires reached { look.old.reached ≡ reached.now }
-    requires within { budget.old.used ≤ budget.old.limit }
     ensures reached { look.new.reached ≡ reached.now }
-    ensures within { budget.new.used ≤ budget.new.limit }
 {
     match look_of(look, reached, down, budget)? {
         Look::Value { pairs, psd } => Ok((pairs, psd)),

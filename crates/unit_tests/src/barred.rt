@@ -1,5 +1,4 @@
 // What the tests of the order share: a rule that bars a meeting, and a limit that rises by one.
-ghost use Rattle.std.specs.Prelude.{◌≤◌};
 
 use dutch_order::{Budget, Rule};
 
@@ -41,10 +40,7 @@ pub(crate) const FREE: Barred = Barred {
 pub(crate) const AMPLE: u64 = 1_000_000;
 
 // Raises a limit that was reached by one, unless it is ample; whether it did.
-pub(crate) fn raised(budget: &mut Budget) -> bool
-    requires { budget.old.used ≤ budget.old.limit }
-    ensures { budget.new.used ≤ budget.new.limit }
-{
+pub(crate) fn raised(budget: &mut Budget) -> bool {
     if budget.limit >= AMPLE {
         return false;
     }

@@ -12,9 +12,7 @@ use std::test::Fail;
 
 // A generator, whichever it is.
 trait Lists {
-    fn draw(&mut self, budget: &mut Budget) -> Step<Numbers>
-        requires { budget.old.used ≤ budget.old.limit }
-        ensures { budget.new.used ≤ budget.new.limit };
+    fn draw(&mut self, budget: &mut Budget) -> Step<Numbers>;
 }
 
 impl<'a> Lists for Transpositions<'a, Barred> {
@@ -109,10 +107,7 @@ fn numbers_to(last: usize) -> Numbers
 }
 
 // Whether the next set of 512 numbers is 1 to 511 and this one.
-fn is_next(sets: &mut Exchanges, last: u16, budget: &mut Budget) -> bool
-    requires { budget.old.used ≤ budget.old.limit }
-    ensures { budget.new.used ≤ budget.new.limit }
-{
+fn is_next(sets: &mut Exchanges, last: u16, budget: &mut Budget) -> bool {
     let Step::Found(set) = sets.next(budget) else {
         return false;
     };

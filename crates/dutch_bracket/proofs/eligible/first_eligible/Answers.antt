@@ -26,5 +26,5 @@ loop-left-init c =
         field = ap (λ (rule : ByNumber). rule.field.now) c.restart.ensures.rule ∙ c.requires.lists.field;
         bracket = ap (λ (rule : ByNumber). rule.reached.now) c.restart.ensures.rule ∙ c.requires.lists.bracket;
       };
-      spends = spends-none _ c.requires.within;
+      spends = spends-none _;
     }

@@ -48,7 +48,7 @@ loop-kept-init c =
         bracket = ap (λ (rule : ByNumber). rule.reached.now) c.restart.ensures.rule ∙ c.requires.lists.bracket;
       };
       shape = c.restart.ensures.shape;
-      spends = spends-none _ c.requires.within;
+      spends = spends-none _;
       look = c.requires.look;
       weights = refl;
     }

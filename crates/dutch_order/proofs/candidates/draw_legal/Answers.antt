@@ -9,7 +9,7 @@ use Rattle.dutch_order.proofs.candidates.draw_legal.Goals as goal
 pub loop-candidate-init : goal.loop-candidate-init
 loop-candidate-init g c = record {
   passes = passes-none (g.C.Cuts.Idle c.args.cuts.now) _ _ refl;
-  spends = spends-none _ c.requires;
+  spends = spends-none _;
 }
 
 pub returns-then-not-branch-clause-answer : goal.returns-then-not-branch-clause-answer

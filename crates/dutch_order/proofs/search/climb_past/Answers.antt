@@ -63,7 +63,7 @@ loop-walk-preserved-then-try_number g c =
           (ahead plan c.loop-walk.walk.path.items c.loop-walk.walk.number) (ahead plan c.try_number.new.walk.path.items c.try_number.new.walk.number)
           tried.beyond tried.goes_on))
           (leave-keeps plan _ _ _ _ _ _ left.path left.known));
-      spends = spends-step c.loop-walk.invariant.spends c.if-budget.false;
+      spends = spends-step c.loop-walk.invariant.spends;
     }
 
 pub loop-walk-preserved : goal.loop-walk-preserved
@@ -96,7 +96,7 @@ loop-walk-init g c = record {
   trials = λ none. refl;
   beyond = λ none. refl;
   known = inr refl;
-  spends = spends-none _ c.requires.within;
+  spends = spends-none _;
 }
 
 pub loop-walk-preserved-else-try_number : goal.loop-walk-preserved-else-try_number
@@ -116,7 +116,7 @@ loop-walk-preserved-else-try_number g c =
           (inr (beyond-tried c.loop-walk.walk.beyond c.try_number.new.walk.beyond (plan.beyond c.loop-walk.walk.path.items c.loop-walk.walk.number)
           (ahead plan c.loop-walk.walk.path.items c.loop-walk.walk.number) (ahead plan c.try_number.new.walk.path.items c.try_number.new.walk.number)
           tried.beyond tried.goes_on));
-      spends = spends-step c.loop-walk.invariant.spends c.if-budget.false;
+      spends = spends-step c.loop-walk.invariant.spends;
     }
 
 pub returns-then-budget-clause-steps : goal.returns-then-budget-clause-steps

@@ -13,9 +13,11 @@ invariant_of-wished c =
           c.shape.ensures c.requires;
     }
 
-pub look_for-requires-clause-greatest : goal.look_for-requires-clause-greatest
-look_for-requires-clause-greatest c =
+pub look_for-requires : goal.look_for-requires
+look_for-requires c =
     let read = c.new-context.ensures in
-    read_shape c.args.field.now c.args.stage.now (ap (λ (k : Context). k.facts) read) (ap (λ (k : Context). k.reached) read ∙ c.reached-2.ensures)
-    (ap (λ (k : Context). k.lower) read ∙ c.deref.ensures.0 ∙ c.lower_of-lower.ensures ∙ ap (λ r. lower_of c.args.field.now r) c.reached.ensures)
-    c.shape.ensures c.requires
+    record {
+      greatest = read_shape c.args.field.now c.args.stage.now (ap (λ (k : Context). k.facts) read) (ap (λ (k : Context). k.reached) read ∙ c.reached-2.ensures)
+          (ap (λ (k : Context). k.lower) read ∙ c.deref.ensures.0 ∙ c.lower_of-lower.ensures ∙ ap (λ r. lower_of c.args.field.now r) c.reached.ensures)
+          c.shape.ensures c.requires;
+    }

@@ -22,7 +22,6 @@ loop-walk-init c =
       count = omega (arith, number, count);
       ahead = subst (λ (w : Walk). IsAhead c.args.number w.number w.rest.reached (round facts).reached) (sym e) (ahead_first c.args.number (round facts).reached);
       limit = c.start.ensures.spends.limit;
-      within = c.start.ensures.spends.within;
     }
 
 pub loop-walk-preserved : goal.loop-walk-preserved
@@ -41,7 +40,6 @@ loop-walk-preserved c =
       ahead = ahead_more old.facts stage new.rest old.rest c.args.number old.number new.number (round c.args.field.now).reached behind.rest number
           (λ same. c.if-number.false (c.number.ensures ∙ same)) inv.ahead;
       limit = c.go_on.ensures.limit ∙ inv.limit;
-      within = c.go_on.ensures.within;
     }
 
 pub loop-walk-smaller : goal.loop-walk-smaller

@@ -11,7 +11,6 @@ invariant-loop-walk l = record {
   complete : completable l.field (everybody l.field) ≡ true;
   low : 1 ≤ l.walk.number;
   limit : l.budget.limit ≡ l.limit;
-  within : l.budget.used ≤ l.budget.limit;
   count : l.walk.number + length l.walk.rest.reached ≡ 1 + length (round l.field).reached;
   ahead : IsAhead l.number l.walk.number l.walk.rest.reached (round l.field).reached;
 }

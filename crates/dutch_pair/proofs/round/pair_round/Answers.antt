@@ -22,7 +22,6 @@ loop-pairs-init c =
       paired = ap (λ (xs : List (ℕ × ℕ)). option_map (in_front xs) walk.rest.pairing) c.new-pairs.ensures.items ∙ front_none walk.rest.pairing ∙ ap (λ (w : Walk). w.rest.pairing) e;
       pairs = subst (AllByRecursion (IsPair c.args.field.now)) (sym c.new-pairs.ensures.items) tt;
       limit = c.start.ensures.spends.limit;
-      within = c.start.ensures.spends.within;
     }
 
 pub loop-pairs-preserved : goal.loop-pairs-preserved
@@ -42,7 +41,6 @@ loop-pairs-preserved c =
           ∙ first_pairing old.facts stage new.rest old.rest c.loop-pairs.pairs.items behind.rest ∙ inv.paired;
       pairs = c.in_ok-put_pairs-in-Settled.ensures.pairs;
       limit = c.go_on.ensures.limit ∙ inv.limit;
-      within = c.go_on.ensures.within;
     }
 
 pub loop-pairs-smaller : goal.loop-pairs-smaller

@@ -13,7 +13,6 @@ invariant-loop-pairs l = record {
   complete : completable l.field (everybody l.field) ≡ true;
   low : 1 ≤ l.walk.number;
   limit : l.budget.limit ≡ l.limit;
-  within : l.budget.used ≤ l.budget.limit;
   count : l.walk.number + length l.walk.rest.reached ≡ 1 + length (round l.field).reached;
   paired : option_map (in_front l.pairs.items) l.walk.rest.pairing ≡ (round l.field).pairing;
   pairs : AllByRecursion (IsPair l.field) l.pairs.items;

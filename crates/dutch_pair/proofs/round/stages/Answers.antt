@@ -26,7 +26,6 @@ loop-stages-init c =
       bye = ap (λ (w : Walk). bye_in w.rest.pairing) e;
       stages = subst (AllByRecursion (IsStage c.args.field.now)) (sym c.new-stages.ensures.items) tt;
       limit = c.start.ensures.spends.limit;
-      within = c.start.ensures.spends.within;
     }
 
 pub loop-stages-preserved : goal.loop-stages-preserved
@@ -50,7 +49,6 @@ loop-stages-preserved c =
       stages = subst (AllByRecursion (IsStage c.args.field.now)) (sym c.in_ok-push-in-Settled.ensures.items)
           (all_join (IsStage c.args.field.now) c.loop-stages.stages.items (stage ∷ []) inv.stages (own, tt));
       limit = c.go_on.ensures.limit ∙ inv.limit;
-      within = c.go_on.ensures.within;
     }
 
 pub loop-stages-smaller : goal.loop-stages-smaller

@@ -11,7 +11,6 @@ invariant-loop-stages l = record {
   facts : l.walk.facts ≡ l.field;
   low : 1 ≤ l.walk.number;
   limit : l.budget.limit ≡ l.limit;
-  within : l.budget.used ≤ l.budget.limit;
   count : l.walk.number + length l.walk.rest.reached ≡ 1 + length (round l.field).reached;
   told : map visit l.stages.items ++ l.walk.rest.reached ≡ (round l.field).reached;
   bye : bye_in l.walk.rest.pairing ≡ bye_in (round l.field).pairing;

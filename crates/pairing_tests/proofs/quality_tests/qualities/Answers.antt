@@ -12,5 +12,4 @@ pub loop-candidate-preserved : goal.loop-candidate-preserved
 loop-candidate-preserved c = record {
   inside = λ lists m. c.loop-candidate.invariant.inside lists (subst (IsIn lists) (sym c.in-Found.ensures.answer.0) (inr m));
   frame = c.in-Found.ensures.frame ∙ c.loop-candidate.invariant.frame;
-  within = c.quality.ensures.spends.within;
 }

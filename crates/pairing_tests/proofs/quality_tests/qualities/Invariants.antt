@@ -1,5 +1,5 @@
 -- What is to come are candidates of the bracket and the shape.
-use Rattle.std.proofs.Common.{◌≡◌, ◌≤◌, length}
+use Rattle.std.proofs.Common.{◌≡◌, length}
 use Rattle.dutch_order.specs.Arrangements.{Arrangement}
 use Rattle.dutch_order.specs.Keys.{IsIn}
 use Rattle.dutch_bracket.specs.Reached.{frame_of}
@@ -13,5 +13,4 @@ abbrev pub invariant-loop-candidate : goal.invariant-loop-candidate
 invariant-loop-candidate l = record {
   inside : (lists : Arrangement) → IsIn lists l.candidates.coming → IsIn lists (candidates_of l.field l.reached l.shape);
   frame : l.candidates.frame ≡ frame_of l.field l.reached;
-  within : l.budget.used ≤ l.budget.limit;
 }

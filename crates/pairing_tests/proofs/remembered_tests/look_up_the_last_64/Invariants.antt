@@ -1,9 +1,6 @@
--- The look-ahead stays that of the bracket, and its steps stay within the limit.
-use Rattle.std.proofs.Common.{◌≡◌, ◌≤◌}
+-- The look-ahead stays that of the bracket.
+use Rattle.std.proofs.Common.{◌≡◌}
 use Rattle.pairing_tests.proofs.remembered_tests.look_up_the_last_64.Given as goal
 
 abbrev pub invariant-loop-number : goal.invariant-loop-number
-invariant-loop-number l = record {
-  reached : l.look.reached ≡ l.initial.look.reached;
-  within : l.none.used ≤ l.none.limit;
-}
+invariant-loop-number l = l.look.reached ≡ l.initial.look.reached

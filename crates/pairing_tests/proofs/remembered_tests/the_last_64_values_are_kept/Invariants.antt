@@ -1,9 +1,6 @@
--- The look-ahead stays that of the bracket, and its steps stay within the limit.
-use Rattle.std.proofs.Common.{◌≡◌, ◌≤◌}
+-- The look-ahead stays that of the bracket.
+use Rattle.std.proofs.Common.{◌≡◌}
 use Rattle.pairing_tests.proofs.remembered_tests.the_last_64_values_are_kept.Given as goal
 
 abbrev pub invariant-loop-number : goal.invariant-loop-number
-invariant-loop-number g l = record {
-  reached : l.look.reached ≡ l.initial.look.reached;
-  within : l.budget.used ≤ l.budget.limit;
-}
+invariant-loop-number g l = l.look.reached ≡ l.initial.look.reached

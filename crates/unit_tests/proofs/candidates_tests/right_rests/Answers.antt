@@ -1,4 +1,4 @@
-use Rattle.std.proofs.Common.{Bool, true, false, cond, List, [], ◌∷◌, sym, subst, arith}
+use Rattle.std.proofs.Common.{Bool, true, false, cond, List, [], ◌∷◌, sym, subst}
 use Rattle.std.specs.List.{filter, AllByRecursion}
 use Rattle.dutch_order.specs.Arrangements.{arrangements}
 use Rattle.dutch_order.specs.Keys.{IsIn}
@@ -17,7 +17,6 @@ pub loop-turn-init : goal.loop-turn-init
 loop-turn-init c =
     let all = arrangements c.args.bracket.now c.args.shape in
     record {
-      within = omega arith;
       members = subst (AllByRecursion (λ a. IsIn a all)) (sym c.new-arrangements.ensures.coming)
           (kept-all (λ a. IsIn a all) _ all (all_members (λ a. IsIn a all) all (λ a m. m)));
     }

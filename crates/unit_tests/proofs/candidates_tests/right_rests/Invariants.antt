@@ -1,4 +1,3 @@
-use Rattle.std.proofs.Common.{◌≤◌}
 use Rattle.std.specs.List.{AllByRecursion}
 use Rattle.dutch_order.specs.Arrangements.{arrangements}
 use Rattle.dutch_order.specs.Keys.{IsIn}
@@ -6,6 +5,5 @@ use Rattle.unit_tests.proofs.candidates_tests.right_rests.Given as goal
 
 abbrev pub invariant-loop-turn : goal.invariant-loop-turn
 invariant-loop-turn l = record {
-  within : l.budget.used ≤ l.budget.limit;
   members : AllByRecursion (λ a. IsIn a (arrangements l.bracket l.shape)) l.arrangements.coming;
 }

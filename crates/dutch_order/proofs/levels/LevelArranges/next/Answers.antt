@@ -8,7 +8,7 @@ use Rattle.dutch_order.proofs.levels.LevelArranges.next.Goals as goal
 pub loop-self-init : goal.loop-self-init
 loop-self-init g c = record {
   passes = passes-none (g.C.Cuts.Idle c.args.cuts.now) _ _ refl;
-  spends = spends-none _ c.requires;
+  spends = spends-none _;
 }
 
 pub loop-self-preserved : goal.loop-self-preserved

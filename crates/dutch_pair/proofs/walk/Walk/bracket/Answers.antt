@@ -17,12 +17,14 @@ new-context-requires c =
     stands_above w.field.now w.number c.in-Bracket.reached w.lower.now s
     (record { falls = c.scores_do_not_ascend.ensures.scores; few = c.scores_do_not_ascend.ensures.few })
 
-pub shape_in-requires-clause-candidate : goal.shape_in-requires-clause-candidate
-shape_in-requires-clause-candidate c =
+pub shape_in-requires : goal.shape_in-requires
+shape_in-requires c =
     let w = c.self.inside in
     let s = subst (λ next. StandsAt w.field.now w.number w.lower.now next) c.in-Bracket.is c.self.invariant in
-    subst (λ (k : Context). HasCandidate k.facts k.reached k.lower) (sym c.new-context.ensures)
-    (stands_has w.field.now w.number c.in-Bracket.reached w.lower.now s)
+    record {
+      candidate = subst (λ (k : Context). HasCandidate k.facts k.reached k.lower) (sym c.new-context.ensures)
+          (stands_has w.field.now w.number c.in-Bracket.reached w.lower.now s);
+    }
 
 pub returns-clause-answer : goal.returns-clause-answer
 returns-clause-answer c =

@@ -6,10 +6,10 @@ use Rattle.dutch_order.specs.declared.numbers.TheConstants.{LIMIT}
 use Rattle.dutch_pair.proofs.NoDeadEnd.{everybody_out}
 use Rattle.dutch_pair.proofs.walk.Walk.start.Goals as goal
 
-pub can_complete-requires-clause-few : goal.can_complete-requires-clause-few
-can_complete-requires-clause-few c =
+pub can_complete-requires : goal.can_complete-requires
+can_complete-requires c =
     let few : length c.args.field.now.seats ≤ LIMIT = c.scores_do_not_ascend.ensures.few in
-    omega (arith, few, everybody_few c.args.field.now c.args.all.now c.requires.all)
+    record { few = omega (arith, few, everybody_few c.args.field.now c.args.all.now c.requires.all) }
 
 pub before_group-requires-clause-goes : goal.before_group-requires-clause-goes
 before_group-requires-clause-goes c = everybody_goes c.args.field.now c.new.result.items c.args.all.now c.new.ensures c.requires.all
