@@ -1,6 +1,6 @@
 -- No dead end (C.04.3 A.9, C.5): if all players can be paired out, each bracket that the round reaches has a candidate that can be
 -- chosen, so the round is paired.
-use Rattle.std.proofs.Common.{◌≡◌, ℕ, zero, suc, ◌+◌, ◌-◌, ◌<◌, Bool, true, false, cond, List, [], ◌∷◌, ◌++◌, map, length, get_or, is_some, refl, sym, ap, ◌∙◌, arith, subst, inl, inr, Option, Some, None, append_assoc}
+use Rattle.std.proofs.Common.{◌≡◌, ℕ, ◌+◌, ◌-◌, ◌<◌, Bool, true, false, cond, List, [], ◌∷◌, ◌++◌, map, length, get_or, is_some, refl, sym, ap, ◌∙◌, arith, subst, inl, inr, Option, Some, None, append_assoc}
 use Rattle.std.specs.Prelude.{option_map, ◌↔◌}
 use Rattle.std.specs.List.{concat}
 use Rattle.std.proofs.lemmas.List.{append-nil}
@@ -40,11 +40,7 @@ use Rattle.dutch_bracket.proofs.GroupLemmas.{concat_scoregroups}
 use Rattle.dutch_bracket.proofs.MateLists.{fits_arrangement, has_kept}
 use Rattle.dutch_bracket.proofs.Mates.{AreMates, FoundMates, complete_mates, fewer_mates, mates_complete}
 use Rattle.dutch_pair.proofs.OnePairMore.{pairs_legal}
-use Rattle.dutch_pair.proofs.WalkEnds.{visit_none}
-
-no_visit : (number : ℕ) → visit_of number [] ≡ None
-no_visit zero = refl
-no_visit (suc place) = visit_none place
+use Rattle.dutch_pair.proofs.RoundEnds.{none_past}
 
 module _ (facts : Facts) where
   -- a round has a pairing
@@ -388,7 +384,7 @@ module _ (facts : Facts) where
 
   pub nothing_reached : (number : ℕ) → completable facts (everybody facts) ≡ false → visit_of number (round facts).reached ≡ None
   nothing_reached number e =
-      ap (λ (t : Bool). visit_of number (cond t (brackets facts 1 [] (scoregroups facts (everybody facts))) (no_pairing facts)).reached) e ∙ no_visit number
+      ap (λ (t : Bool). visit_of number (cond t (brackets facts 1 [] (scoregroups facts (everybody facts))) (no_pairing facts)).reached) e ∙ none_past number [] (λ some. some)
 
   -- ---- along the walk
 

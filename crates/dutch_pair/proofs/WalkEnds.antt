@@ -1,5 +1,5 @@
 -- How the walk over the brackets ends, told from behind: a bracket more in front of a round that ends so.
-use Rattle.std.proofs.Common.{◌≡◌, ℕ, zero, suc, ◌+◌, ◌-◌, ◌≤◌, List, [], ◌∷◌, ◌++◌, length, map, Some, None, refl, sym, ap, ◌∙◌, subst, arith, append-nil}
+use Rattle.std.proofs.Common.{◌≡◌, ℕ, ◌+◌, ◌≤◌, List, [], ◌∷◌, ◌++◌, length, map, Some, sym, ap, ◌∙◌, subst, arith, append-nil}
 use Rattle.std.specs.List.{AllByRecursion}
 use Rattle.std.proofs.lemmas.List.{length-map}
 use Rattle.dutch_order.specs.declared.bracket.Shape.{Shape}
@@ -14,8 +14,7 @@ use Rattle.dutch_bracket.specs.Reached.{Reached, IsOf, IsAbove, frame_of, number
 use Rattle.dutch_bracket.specs.NextBracket.{IsOfBracket}
 use Rattle.dutch_pair.specs.Walk.{AreAbove, Goes}
 use Rattle.dutch_bracket.specs.Brackets.{bracket, can_be_chosen, downfloaters, candidates_of, eligible, choice}
-use Rattle.dutch_pair.specs.Round.{Visit, paired_again}
-use Rattle.dutch_pair.specs.Outcomes.{visit_at}
+use Rattle.dutch_pair.specs.Round.{paired_again}
 use Rattle.dutch_bracket.proofs.LeastPsd.{in_filter}
 use Rattle.dutch_choice.proofs.BestLemmas.{chosen_is}
 use Rattle.dutch_bracket.proofs.FlatBrackets.{candidate_of}
@@ -55,16 +54,8 @@ module _ (facts : Facts) where
   pub pairs_join : (front more : List (ℕ × ℕ)) → AllByRecursion (IsPair facts) front → AllByRecursion (IsPair facts) more → AllByRecursion (IsPair facts) (front ++ more)
   pairs_join front more h g = all_join (IsPair facts) front more h g
 
--- ---- a bracket of a round, and those after it
+-- ---- the penultimate bracket, and the collapsed one
 
-pub visit_none : (place : ℕ) → visit_at place [] ≡ None
-visit_none zero = refl
-visit_none (suc place) = refl
-
-pub visit_later : (a n : ℕ) (visit : Visit) (rest : List Visit) → n + 1 ≤ a → visit_at (a - n) (visit ∷ rest) ≡ visit_at (a - (n + 1)) rest
-visit_later a n visit rest h = ap (λ k. visit_at k (visit ∷ rest)) (let e : a - n ≡ suc (a - (n + 1)) = omega (arith, h) in e)
-
--- the penultimate bracket, and the collapsed one
 pub above_again : (facts : Facts) (reached : Reached) (lower : List ℕ) → IsAbove facts reached lower → IsAbove facts (paired_again reached) lower
 above_again facts reached lower above = record {
   bracket = record { inside = above.bracket.inside; sound = above.bracket.sound };

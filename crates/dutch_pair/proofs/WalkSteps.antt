@@ -18,7 +18,7 @@ use Rattle.dutch_bracket.specs.Brackets.{Choice, bracket, choice, completable, d
 use Rattle.dutch_pair.specs.Round.{Round, brackets, passing, pairing_in, penultimate_bracket, paired_again}
 use Rattle.dutch_pair.proofs.RoundBy.{final_by, ordinary_by, penultimate_by}
 use Rattle.dutch_bracket.specs.Seated.{seat_of}
-use Rattle.dutch_pair.specs.Stages.{Walk, IsSettled, choice_of, group_kind, is_again, round_by}
+use Rattle.dutch_pair.specs.Stages.{IsSettled, choice_of, group_kind, is_again, round_by}
 use Rattle.dutch_pair.specs.Walk.{Goes}
 use Rattle.dutch_pair.specs.WaysOut.{GoesOut, HasWayOut, StandsBefore}
 use Rattle.dutch_choice.proofs.BestLemmas.{choice_of_shape}
@@ -138,17 +138,9 @@ settled_in facts reached lower k stage same own e left value again =
 pub chosen_as : (k : Context) (stopped : Type 0) {a b : Made} → a ≡ b → IsChoice k.facts k.reached k.lower stopped a → IsChoice k.facts k.reached k.lower stopped b
 chosen_as k stopped e h = subst (λ (made : Made). IsChoice k.facts k.reached k.lower stopped made) e h
 
--- ---- a walk before a bracket, and behind the stage that comes of it
+-- ---- the stage that comes of the bracket of a walk
 
 module _ (facts : Facts) (number : ℕ) (reached : Reached) (lower : List ℕ) (s : StandsBefore facts number reached lower) where
-  pub walk_is : (own : Reached) → own ≡ reached
-      → record { facts = facts; number = number; rest = round_by facts reached.kind reached lower }
-      ≡ (let walk : Walk = record { facts = facts; number = own.number; rest = round_by facts own.kind own lower } in walk)
-  walk_is own same =
-      ap (λ (n : ℕ). let walk : Walk = record { facts = facts; number = n; rest = round_by facts reached.kind reached lower } in walk)
-      (sym (stands_number facts number reached lower s))
-      ∙ ap (λ (b : Reached). let walk : Walk = record { facts = facts; number = b.number; rest = round_by facts b.kind b lower } in walk) (sym same)
-
   pub stage_is : Descends facts → (stage : Stage) → stage.reached ≡ reached → IsSettled facts lower stage → IsStage facts stage
   stage_is descends stage same settled =
       let above : IsAbove facts stage.reached lower = subst (λ (b : Reached). IsAbove facts b lower) (sym same) (stands_above facts number reached lower s descends) in

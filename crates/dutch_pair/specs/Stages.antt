@@ -1,7 +1,7 @@
 -- A walk over the brackets of a round, as the round from where it stands on: a model that carries the round's proof.
-use Rattle.std.specs.Prelude.{◌≡◌, ℕ, ◌+◌, Bool, false, not, if◌then◌else◌, List, [], ◌∷◌, ◌++◌, map, Some}
+use Rattle.std.specs.Prelude.{◌≡◌, ℕ, ◌+◌, ◌≤◌, Bool, true, false, not, if◌then◌else◌, List, [], ◌∷◌, ◌++◌, length, map, Option, Some, None}
+use Rattle.std.specs.List.{AllByRecursion}
 use Rattle.dutch_order.specs.declared.bracket.Shape.{Shape}
-use Rattle.dutch_order.specs.declared.steps.Budget.{Budget}
 use Rattle.dutch_order.specs.Arrangements.{Fits, down}
 use Rattle.dutch_player.specs.Facts.{Facts}
 use Rattle.dutch_bracket.specs.declared.reached.BracketKind.{BracketKind}
@@ -9,26 +9,35 @@ use Rattle.dutch_bracket.specs.declared.reached.BracketKind.TheVariants.{Ordinar
 use Rattle.dutch_pair.specs.declared.stage.Stage.{Stage}
 use Rattle.dutch_pair.specs.declared.walk.Next.{Next}
 use Rattle.dutch_pair.specs.declared.walk.Next.TheVariants.{Bracket, Bye}
-use Rattle.dutch_pair.specs.declared.walk.Turn.{Turn}
-use Rattle.dutch_pair.specs.declared.walk.Turn.TheVariants.{Settled, Ended, Undecided}
+use Rattle.dutch_pair.specs.declared.walk.Halt.{Halt}
+use Rattle.dutch_pair.specs.declared.walk.Halt.TheVariants.{NoPairing, Undecided, Fault}
 use Rattle.dutch_bracket.specs.QualityIn.{quality_in}
 use Rattle.dutch_bracket.specs.Reached.{Reached, IsOf, frame_of}
 use Rattle.dutch_bracket.specs.Brackets.{Choice, choice, completable, quality_of, scoregroups}
-use Rattle.dutch_pair.specs.Round.{Round, Pairing, brackets, ending, final_bracket, ordinary_bracket, passing, pairing_in, penultimate_bracket}
-use Rattle.dutch_pair.specs.Outcomes.{IsStage, shown, visit_at}
-use Rattle.dutch_bracket.specs.Seated.{AreSeats, all_pairs, seat_of}
+use Rattle.dutch_pair.specs.Round.{Round, Pairing, Visit, brackets, everybody, round, ending, final_bracket, ordinary_bracket, passing, pairing_in, penultimate_bracket}
+use Rattle.dutch_pair.specs.Outcomes.{IsStage, IsStoppedIn, shown, visit_of}
+use Rattle.dutch_bracket.specs.Seated.{AreSeats, IsPair, all_pairs, seat_of}
 use Rattle.dutch_pair.specs.WaysOut.{StandsBefore}
 
--- where a walk stands in a field: the number of the bracket that comes next, and the round from there on
+-- where a walk stands in a field: the most steps of a bracket, those used for the one that comes next, its number, the round from there
+-- on, and who has the bye if none comes
 pub record Walk : Type 0 where
   pub facts : Facts
+  pub limit : ℕ
+  pub used : ℕ
   pub number : ℕ
   pub rest : Round
+  pub bye : List ℕ
 
 -- the kind of the bracket of a scoregroup above lower seats
 abbrev pub group_kind : List ℕ → BracketKind
 group_kind [] = Last
 group_kind (seat ∷ seats) = Ordinary
+
+-- who has the bye, if no bracket comes next
+abbrev pub bye_at : Next → List ℕ
+bye_at (Bracket reached lower) = []
+bye_at (Bye bye) = bye.items
 
 -- what is chosen in a stage
 abbrev pub choice_of : Stage → Choice
@@ -50,14 +59,22 @@ module _ (facts : Facts) where
   round_by Collapsed reached lower = final_bracket facts reached
 
   -- the round from what comes next on
-  abbrev pub round_from : List ℕ → Next → Round
-  round_from lower (Bracket reached) = round_by reached.kind reached lower
-  round_from lower (Bye bye) = ending facts bye.items
+  abbrev pub round_from : Next → Round
+  round_from (Bracket reached lower) = round_by reached.kind reached lower.now
+  round_from (Bye bye) = ending facts bye.items
 
   -- what comes next, under a number
-  abbrev pub StandsAt : ℕ → List ℕ → Next → Type 0
-  StandsAt number lower (Bracket reached) = StandsBefore facts number reached lower
-  StandsAt number lower (Bye bye) = AreSeats facts bye.items
+  abbrev pub StandsAt : ℕ → Next → Type 0
+  StandsAt number (Bracket reached lower) = StandsBefore facts number reached lower.now
+  StandsAt number (Bye bye) = AreSeats facts bye.items
+
+  -- what a walk keeps: what comes next stands there, and the brackets passed, of which the number is one more, and those to come are
+  -- those of the round
+  pub record IsUnderWay (number : ℕ) (next : Next) : Type 0 where
+    pub stands : StandsAt number next
+    pub passed : List Visit
+    pub count : number ≡ 1 + length passed
+    pub whole : passed ++ (round_from next).reached ≡ (round facts).reached
 
   -- a stage in front of the rest of a round, without its pairs if it is paired again
   abbrev pub stage_first : Stage → Round → Round
@@ -79,24 +96,53 @@ in_front pairs later = record { pairs = pairs ++ later.pairs; bye = later.bye }
 abbrev pub own_pairs : Stage → List (ℕ × ℕ)
 own_pairs stage = if stage.again then [] else all_pairs stage.reached.seats stage.candidate.lists
 
--- a walk has gone behind a stage
+-- a walk at its start: all can be paired out, and the whole round is to come
+pub record Starts (facts : Facts) (limit : ℕ) (walk : Walk) : Type 0 where
+  pub complete : completable facts (everybody facts) ≡ true
+  pub facts' : walk.facts ≡ facts
+  pub limit' : walk.limit ≡ limit
+  pub rest : walk.rest ≡ round facts
+  pub first : walk.number ≡ 1
+
+-- a walk has gone behind a stage, where no step is used
 pub record IsBehind (stage : Stage) (old new : Walk) : Type 0 where
   pub facts : new.facts ≡ old.facts
+  pub limit : new.limit ≡ old.limit
+  pub used : new.used ≡ 0
   pub number : new.number ≡ old.number + 1
   pub rest : old.rest ≡ stage_first old.facts stage new.rest
 
--- the same of a stage that is settled above lower seats
-abbrev pub IsBehindIn : Facts → List ℕ → Stage → Walk → Type 0
-IsBehindIn facts lower stage =
-    IsBehind stage (record { facts = facts; number = stage.reached.number; rest = round_by facts stage.reached.kind stage.reached lower })
+-- a walk has ended: the brackets are passed, and who is left over, one of the field, has the bye
+pub record HasEnded (walk : Walk) : Type 0 where
+  pub rest : walk.rest ≡ ending walk.facts walk.bye
+  pub bye : AreSeats walk.facts walk.bye
+  pub count : walk.number ≡ 1 + length (round walk.facts).reached
 
--- a round begins with a bracket, which has a shape
-abbrev pub Shows : Facts → Round → Reached → Shape → Type 0
-Shows facts round reached shape =
-    (shown (visit_at 0 round.reached) ≡ Some (reached, shape)) × IsOf facts reached × Fits (frame_of facts reached) shape
+-- how a walk goes on: behind a stage, or nowhere at its end
+abbrev pub GoesOn : Walk → Walk → Option Stage → Type 0
+GoesOn old new (Some stage) = IsBehind stage old new × IsStage old.facts stage
+GoesOn old new None = (new ≡ old) × HasEnded old
 
--- how a walk goes on, and its budget with it: behind a stage no step is used, and where a bracket is undecided all are
-abbrev pub GoesOn : Walk → Walk → Budget → Turn → Type 0
-GoesOn old new budget (Settled stage) = IsBehind stage old new × IsStage old.facts stage × (budget.used ≡ 0)
-GoesOn old new budget (Ended bye) = (old.rest ≡ ending old.facts bye.items) × AreSeats old.facts bye.items
-GoesOn old new budget Undecided = (new ≡ old) × (budget.used ≡ budget.limit)
+-- the pairs of a round by seat, and the seat that has the bye, if one has
+abbrev pub ArePairs : Facts → List (ℕ × ℕ) → List ℕ → Type 0
+ArePairs facts pairs bye =
+    ((round facts).pairing ≡ Some (record { pairs = pairs; bye = bye })) × AllByRecursion (IsPair facts) pairs × AreSeats facts bye
+
+-- the bracket of a number, which it bears, with its shape, if the round reaches it
+abbrev pub IsFound : Facts → ℕ → Option (Reached × Shape) → Type 0
+IsFound facts number None = visit_of number (round facts).reached ≡ None
+IsFound facts number (Some (reached, shape)) =
+    (reached.number ≡ number) × (shown (visit_of number (round facts).reached) ≡ Some (reached, shape))
+    × IsOf facts reached × Fits (frame_of facts reached) shape
+
+-- why a question ends before the walk does
+abbrev pub IsHalt : Facts → ℕ → Halt → Type 0
+IsHalt facts limit NoPairing = completable facts (everybody facts) ≡ false
+IsHalt facts limit (Undecided bracket used) = IsStoppedIn facts limit bracket used
+IsHalt facts limit (Fault fault) = Unit {0}
+
+-- the steps told of an undecided bracket are those used
+abbrev pub TellsUsed : ℕ → Halt → Type 0
+TellsUsed used NoPairing = Unit {0}
+TellsUsed used (Undecided bracket told) = told ≡ used
+TellsUsed used (Fault fault) = Unit {0}

@@ -1,13 +1,19 @@
 // The round, bracket by bracket (C.04.3 A.3, A.9), specified by a recursion over the scoregroups.
-ghost use Rattle.std.specs.Prelude.{◌≡◌, IfOk};
+ghost use Rattle.std.specs.Prelude.{◌≡◌, true, IfOk};
+ghost use Rattle.std.specs.Result.{MatchResult};
+ghost use Rattle.dutch_bracket.specs.Brackets.{completable};
+ghost use Rattle.dutch_pair.specs.declared.round.AllStages.TheVariants.{Paired};
+ghost use Rattle.dutch_pair.specs.Round.{everybody};
+ghost use Rattle.dutch_pair.specs.Stages.{ArePairs, IsFound, IsHalt};
 ghost use Rattle.dutch_pair.specs.Outcomes.{AreStages, IsOutcome, IsBracketAt, TellsCompletion, TellsCompletionAt};
 
 use crate::boards::{Board, boards};
 use crate::stage::Stage;
-use crate::walk::{Turn, Walk, everybody};
+use crate::walk::{Halt, Walk, everybody};
 use dutch_bracket::fault::PairFault;
 use dutch_bracket::reached::{Reached, Seats};
-use dutch_order::{Budget, Shape, Stopped};
+use dutch_bracket::seated::Pair;
+use dutch_order::Shape;
 use dutch_player::Field;
 use std::alloc::Global;
 
@@ -46,38 +52,59 @@ pub enum AllStages {
     Undecided { bracket: u16, used: u64 },
 }
 
+/// The pairs of the next round of a field, by seat, and the seat that has the bye, if one has.
+fn paired(alloc: Global, field: &Field, limit: u64) -> Result<(Vec<Pair>, Seats), Halt>
+    ensures { MatchResult result
+        (λ made. ArePairs field.now made.0.items made.1.items × (completable field.now (everybody field.now) ≡ true))
+        (IsHalt field.now limit) }
+{
+    let all = everybody(field);
+    let mut walk = Walk::start(alloc, field, &all, limit)?;
+    let mut pairs = Vec::new(alloc);
+    while let Some(stage) = walk.settle_next(alloc)? {
+        stage.put_pairs(field, &mut pairs)?;
+    }
+    Ok((pairs, walk.bye()))
+}
+
 /// Pairs the next round of a field. Each bracket may make so many steps.
 #[tactic(auto, using(crate::proofs::NoDeadEnd::all_complete, crate::proofs::NoDeadEnd::not_complete, crate::proofs::NoDeadEnd::not_paired))]
 pub fn pair_round(alloc: Global, field: &Field, limit: u64) -> Result<Outcome, PairFault>
     ensures outcome { IfOk result (IsOutcome field.now limit) }
     ensures completion { IfOk result (TellsCompletion field.now) }
 {
+    match paired(alloc, field, limit) {
+        Ok((pairs, bye)) => Ok(Outcome::Paired(boards(alloc, field, &pairs, &bye)?)),
+        Err(Halt::NoPairing) => Ok(Outcome::NoPairing),
+        Err(Halt::Undecided { bracket, used }) => Ok(Outcome::Undecided { bracket, used }),
+        Err(Halt::Fault(fault)) => Err(fault),
+    }
+}
+
+/// The bracket of a number, if the round reaches it, and its shape.
+fn found(
+    alloc: Global,
+    field: &Field,
+    limit: u64,
+    number: u16,
+) -> Result<Option<(Reached, Shape)>, Halt>
+    ensures { MatchResult result
+        (λ found. IsFound field.now number found × (completable field.now (everybody field.now) ≡ true))
+        (IsHalt field.now limit) }
+{
     let all = everybody(field);
-    let mut budget = Budget { limit, used: 0 };
-    let mut walk = match Walk::start(alloc, field, &all, &mut budget) {
-        Ok(Some(walk)) => walk,
-        Ok(None) => return Ok(Outcome::NoPairing),
-        Err(Stopped) => return Ok(Outcome::Undecided {
-            bracket: 1,
-            used: budget.used,
-        }),
-    };
-    let mut pairs = Vec::new(alloc);
-    loop {
-        match walk.go_on(alloc, &mut budget)? {
-            Turn::Settled(stage) => stage.put_pairs(field, &mut pairs)?,
-            Turn::Ended(bye) => return Ok(Outcome::Paired(boards(alloc, field, &pairs, &bye)?)),
-            Turn::Undecided => return Ok(Outcome::Undecided {
-                bracket: walk.number(),
-                used: budget.used,
-            }),
+    let mut walk = Walk::start(alloc, field, &all, limit)?;
+    while walk.number() != number {
+        if walk.settle_next(alloc)?.is_none() {
+            return Ok(None);
         }
     }
+    walk.bracket(alloc)
 }
 
 /// The bracket of a number, counted from 1 as the round reaches them, and its shape. No bracket has the number 0. Each
 /// bracket may make so many steps.
-#[tactic(auto, using(crate::proofs::NoDeadEnd::all_complete, crate::proofs::NoDeadEnd::not_complete, crate::proofs::NoDeadEnd::not_paired, crate::proofs::NoDeadEnd::nothing_reached))]
+#[tactic(auto, using(crate::proofs::NoDeadEnd::all_complete, crate::proofs::NoDeadEnd::not_complete, crate::proofs::NoDeadEnd::not_paired, crate::proofs::NoDeadEnd::nothing_reached, crate::proofs::NoDeadEnd::round_goes))]
 pub fn bracket_at(
     alloc: Global,
     field: &Field,
@@ -87,38 +114,26 @@ pub fn bracket_at(
     ensures bracket { IfOk result (IsBracketAt field.now limit number) }
     ensures completion { IfOk result (TellsCompletionAt field.now) }
 {
-    let all = everybody(field);
-    let mut budget = Budget { limit, used: 0 };
-    let mut walk = match Walk::start(alloc, field, &all, &mut budget) {
-        Ok(Some(walk)) => walk,
-        Ok(None) => return Ok(BracketAt::NoPairing),
-        Err(Stopped) => return Ok(BracketAt::Undecided {
-            bracket: 1,
-            used: budget.used,
-        }),
-    };
-    loop {
-        if walk.number() == number {
-            match walk.bracket(alloc, &mut budget) {
-                Ok(Some((reached, shape))) => return Ok(BracketAt::Bracket { reached, shape }),
-                Ok(None) => return Ok(BracketAt::NotReached),
-                Err(Stopped) => {
-                    return Ok(BracketAt::Undecided {
-                        bracket: number,
-                        used: budget.used,
-                    });
-                }
-            }
-        }
-        match walk.go_on(alloc, &mut budget)? {
-            Turn::Settled(_stage) => {}
-            Turn::Ended(_bye) => return Ok(BracketAt::NotReached),
-            Turn::Undecided => return Ok(BracketAt::Undecided {
-                bracket: walk.number(),
-                used: budget.used,
-            }),
-        }
+    match found(alloc, field, limit, number) {
+        Ok(Some((reached, shape))) => Ok(BracketAt::Bracket { reached, shape }),
+        Ok(None) => Ok(BracketAt::NotReached),
+        Err(Halt::NoPairing) => Ok(BracketAt::NoPairing),
+        Err(Halt::Undecided { bracket, used }) => Ok(BracketAt::Undecided { bracket, used }),
+        Err(Halt::Fault(fault)) => Err(fault),
     }
+}
+
+/// The stages of the next round of a field, and the seat that has the bye, if one has.
+fn all_stages(alloc: Global, field: &Field, limit: u64) -> Result<(Vec<Stage>, Seats), Halt>
+    ensures { MatchResult result (λ made. AreStages field.now limit (Paired made.0 made.1)) (IsHalt field.now limit) }
+{
+    let all = everybody(field);
+    let mut walk = Walk::start(alloc, field, &all, limit)?;
+    let mut stages = Vec::new(alloc);
+    while let Some(stage) = walk.settle_next(alloc)? {
+        stages.push(stage).map_err(PairFault::from)?;
+    }
+    Ok((stages, walk.bye()))
 }
 
 /// The stages of the next round of a field, as `pair_round` pairs it.
@@ -126,25 +141,10 @@ pub fn bracket_at(
 pub fn stages(alloc: Global, field: &Field, limit: u64) -> Result<AllStages, PairFault>
     ensures { IfOk result (AreStages field.now limit) }
 {
-    let all = everybody(field);
-    let mut budget = Budget { limit, used: 0 };
-    let mut walk = match Walk::start(alloc, field, &all, &mut budget) {
-        Ok(Some(walk)) => walk,
-        Ok(None) => return Ok(AllStages::NoPairing),
-        Err(Stopped) => return Ok(AllStages::Undecided {
-            bracket: 1,
-            used: budget.used,
-        }),
-    };
-    let mut stages = Vec::new(alloc);
-    loop {
-        match walk.go_on(alloc, &mut budget)? {
-            Turn::Settled(stage) => stages.push(stage)?,
-            Turn::Ended(bye) => return Ok(AllStages::Paired { stages, bye }),
-            Turn::Undecided => return Ok(AllStages::Undecided {
-                bracket: walk.number(),
-                used: budget.used,
-            }),
-        }
+    match all_stages(alloc, field, limit) {
+        Ok((stages, bye)) => Ok(AllStages::Paired { stages, bye }),
+        Err(Halt::NoPairing) => Ok(AllStages::NoPairing),
+        Err(Halt::Undecided { bracket, used }) => Ok(AllStages::Undecided { bracket, used }),
+        Err(Halt::Fault(fault)) => Err(fault),
     }
 }

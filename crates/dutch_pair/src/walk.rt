@@ -3,17 +3,18 @@
 //
 // Whatever bracket comes next, its players and all lower ones can be paired out, and no two of those moved down may
 // meet. So each bracket has a candidate that can be chosen, and at the end of the walk at most one player is left over.
-ghost use Rattle.std.specs.Prelude.{◌≡◌, ◌+◌, ◌<◌, ◌≤◌, true, false, [], length, IfOk, Some};
+ghost use Rattle.std.specs.Prelude.{◌≡◌, ◌+◌, ◌<◌, ◌≤◌, length, Some, IfErr};
 ghost use Rattle.dutch_order.specs.Arrangements.{Fits};
 ghost use Rattle.std.specs.Result.{MatchResult};
-ghost use Rattle.dutch_order.specs.Steps.{MatchFound, Spends};
+ghost use Rattle.dutch_order.specs.Steps.{Spends};
 ghost use Rattle.dutch_bracket.specs.Eligible.{HasCandidate};
-ghost use Rattle.dutch_bracket.specs.Reached.{IsAbove, frame_of};
-ghost use Rattle.dutch_bracket.specs.Brackets.{completable, scoregroups, shape_of};
-ghost use Rattle.dutch_pair.specs.Round.{everybody, round, brackets, paired_again};
+ghost use Rattle.dutch_bracket.specs.Reached.{frame_of};
+ghost use Rattle.dutch_bracket.specs.Brackets.{scoregroups, shape_of};
+ghost use Rattle.dutch_pair.specs.declared.walk.Halt.TheVariants.{Fault};
+ghost use Rattle.dutch_pair.specs.Round.{everybody, brackets, paired_again};
 ghost use Rattle.dutch_pair.specs.Walk.{Goes};
 ghost use Rattle.dutch_pair.specs.WaysOut.{GoesOut, StandsBefore};
-ghost use Rattle.dutch_pair.specs.Stages.{GoesOn, IsBehindIn, IsSettled, Shows, group_kind};
+ghost use Rattle.dutch_pair.specs.Stages.{GoesOn, IsFound, IsHalt, IsSettled, StandsAt, Starts, TellsUsed, group_kind, round_by, round_from, stage_first};
 
 use crate::stage::{Stage, settle};
 use dutch_bracket::context::Context;
@@ -38,9 +39,9 @@ pub(crate) fn everybody(field: &Field) -> Seats
 
 /// What comes next in a walk.
 #[derive(Drop)]
-pub(crate) enum Next {
-    /// A bracket.
-    Bracket(Reached),
+enum Next<'a> {
+    /// A bracket, and the seats below it, by rank.
+    Bracket { reached: Reached, lower: &'a [u16] },
     /// The end of the round: who is left over has the bye.
     Bye(Seats),
 }
@@ -49,33 +50,46 @@ pub(crate) enum Next {
 #[derive(Drop)]
 pub(crate) struct Walk<'a> {
     field: &'a Field,
-    // of the bracket that comes next
+    // of the bracket that comes next, as its number
+    budget: Budget,
     number: u16,
-    next: Next,
-    // the seats below it, by rank
-    lower: &'a [u16],
+    next: Next<'a>,
 }
 
 impl<'a> Model for Walk<'a> {
-    ghost use Rattle.dutch_pair.specs.Stages.{Walk, StandsAt, round_from};
+    ghost use Rattle.dutch_pair.specs.Stages.{Walk, IsUnderWay, bye_at, round_from};
 
     ghost Value = { Walk };
 
-    ghost view = { λ w. record
-        { facts = w.field.now; number = w.number; rest = round_from w.field.now w.lower.now w.next } };
+    ghost view = { λ w. record {
+      facts = w.field.now;
+      limit = w.budget.limit;
+      used = w.budget.used;
+      number = w.number;
+      rest = round_from w.field.now w.next;
+      bye = bye_at w.next;
+    } };
 
-    ghost invariant = { λ w. StandsAt w.field.now w.number w.lower.now w.next };
+    ghost invariant = { λ w. IsUnderWay w.field.now w.number w.next };
 }
 
-/// What comes of a walk's next bracket.
-#[derive(Drop)]
-pub(crate) enum Turn {
-    /// It is settled, and the walk stands behind it.
-    Settled(Stage),
-    /// There is none: the round ends, and who is left over has the bye.
-    Ended(Seats),
-    /// Its steps reached the limit.
-    Undecided,
+/// Why a question ends before the walk does.
+#[derive(Debug, Drop)]
+pub(crate) enum Halt {
+    /// No pairing meets the absolute criteria.
+    NoPairing,
+    /// The steps of a bracket reached the limit, which is `used`.
+    Undecided { bracket: u16, used: u64 },
+    /// The round could not be paired.
+    Fault(PairFault),
+}
+
+impl From<PairFault> for Halt {
+    ghost from_gives = { λ fault halt. halt ≡ Fault fault };
+
+    fn from(fault: PairFault) -> Halt {
+        Halt::Fault(fault)
+    }
 }
 
 /// The kind of the bracket of a scoregroup above lower seats.
@@ -114,99 +128,78 @@ fn shape_in(context: &Context<'_>, budget: &mut Budget) -> Result<Shape, Stopped
     }
 }
 
+/// What comes next for some moved down and the seats that are left, by rank: the bracket of the first scoregroup, or the
+/// end.
+fn first_group<'a>(field: &Field, number: u16, left: Seats, rest: &'a [u16]) -> Next<'a>
+    requires goes { Goes field.now left.items rest.now }
+    requires out { GoesOut field.now left.items rest.now }
+    requires small { number + length rest.now ≤ length field.now.seats + 1 }
+    ensures stands { StandsAt field.now number result }
+    ensures rest { round_from field.now result ≡ brackets field.now number left.items
+        (scoregroups field.now rest.now) }
+{
+    scores_do_not_ascend(field);
+    if rest.is_empty() {
+        return Next::Bye(left);
+    }
+    let (group, lower) = split_first_group(field, rest);
+    let reached = bracket(number, group_kind(lower), &left, group);
+    Next::Bracket { reached, lower }
+}
+
+/// What comes next behind a stage, which is settled above these lower seats.
+fn behind<'a>(field: &Field, stage: &Stage, lower: &'a [u16]) -> Next<'a>
+    requires stands { StandsBefore field.now stage.now.reached.number stage.now.reached lower.now }
+    requires settled { IsSettled field.now lower.now stage.now }
+    ensures stands { StandsAt field.now (stage.now.reached.number + 1) result }
+    ensures rest { round_by field.now stage.now.reached.kind stage.now.reached lower.now
+        ≡ stage_first field.now stage.now (round_from field.now result) }
+{
+    scores_do_not_ascend(field);
+    let reached = &stage.reached;
+    let number = reached.number() + 1;
+    let left = seats_of(reached.seats(), stage.candidate.down());
+    if stage.again {
+        let reached = paired_again(reached);
+        return Next::Bracket { reached, lower };
+    }
+    match reached.kind() {
+        BracketKind::Ordinary => first_group(field, number, left, lower),
+        BracketKind::Penultimate => Next::Bracket {
+            reached: bracket(number, BracketKind::Collapsed, &left, lower),
+            lower: &lower[..0],
+        },
+        BracketKind::Last | BracketKind::Collapsed => Next::Bye(left),
+    }
+}
+
 impl<'a> Walk<'a> {
-    /// The walk before the bracket of some moved down and the first scoregroup of the seats that are left, or at the
-    /// end.
-    fn before_group(field: &'a Field, number: u16, left: Seats, rest: &'a [u16]) -> Walk<'a>
-        requires goes { Goes field.now left.items rest.now }
-        requires out { GoesOut field.now left.items rest.now }
-        requires small { number + length rest.now ≤ length field.now.seats + 1 }
-        ensures { result ≡ record {
-          facts = field.now;
-          number = number;
-          rest = brackets field.now number left.items
-              (scoregroups field.now rest.now);
-        } }
-    {
-        scores_do_not_ascend(field);
-        if rest.is_empty() {
-            return Walk {
-                field,
-                number,
-                next: Next::Bye(left),
-                lower: rest,
-            };
-        }
-        let (group, lower) = split_first_group(field, rest);
-        let reached = bracket(number, group_kind(lower), &left, group);
-        Walk {
-            field,
-            number,
-            next: Next::Bracket(reached),
-            lower,
-        }
-    }
-
-    /// The walk behind a stage, which is settled above these lower seats.
-    fn behind(field: &'a Field, stage: &Stage, lower: &'a [u16]) -> Walk<'a>
-        requires stands { StandsBefore field.now stage.now.reached.number stage.now.reached lower.now }
-        requires settled { IsSettled field.now lower.now stage.now }
-        ensures { IsBehindIn field.now lower.now stage.now result }
-    {
-        scores_do_not_ascend(field);
-        let reached = &stage.reached;
-        let number = reached.number() + 1;
-        let left = seats_of(reached.seats(), stage.candidate.down());
-        if stage.again {
-            let next = Next::Bracket(paired_again(reached));
-            return Walk {
-                field,
-                number,
-                next,
-                lower,
-            };
-        }
-        match reached.kind() {
-            BracketKind::Ordinary => Walk::before_group(field, number, left, lower),
-            BracketKind::Penultimate => {
-                let collapsed = bracket(number, BracketKind::Collapsed, &left, lower);
-                Walk {
-                    field,
-                    number,
-                    next: Next::Bracket(collapsed),
-                    lower: &lower[..0],
-                }
-            }
-            BracketKind::Last | BracketKind::Collapsed => Walk {
-                field,
-                number,
-                next: Next::Bye(left),
-                lower,
-            },
-        }
-    }
-
     /// A walk over the brackets of the next round. The test of all present players comes first, and counts to the first
-    /// bracket. The answer is none if they cannot be paired out.
+    /// bracket.
     pub(crate) fn start(
         alloc: Global,
         field: &'a Field,
         all: &'a [u16],
-        budget: &mut Budget,
-    ) -> Result<Option<Walk<'a>>, Stopped>
+        limit: u64,
+    ) -> Result<Walk<'a>, Halt>
         requires all { all.now ≡ everybody field.now }
-        ensures answer { MatchFound result
-            (λ walk. (completable field.now (everybody field.now) ≡ true)
-            × (walk ≡ record { facts = field.now; number = 1; rest = round field.now }))
-            (completable field.now (everybody field.now) ≡ false)
-            (budget.new.used ≡ budget.new.limit) }
-        ensures spends { Spends budget.old budget.new }
+        ensures { MatchResult result (Starts field.now limit) (IsHalt field.now limit) }
     {
         scores_do_not_ascend(field);
-        if !can_complete(alloc, field, all, budget)? {
-            return Ok(None);
+        let mut budget = Budget { limit, used: 0 };
+        match can_complete(alloc, field, all, &mut budget) {
+            Ok(true) => Ok(Walk {
+                field,
+                budget,
+                number: 1,
+                next: first_group(field, 1, Seats::new(), all),
+            }),
+            Ok(false) => Err(Halt::NoPairing),
+            Err(Stopped) => Err(Halt::Undecided {
+                bracket: 1,
+                used: budget.used,
+            }),
         }
-        Ok(Some(Walk::before_group(field, 1, Seats::new(), all)))
     }
 
     /// The number of the bracket that comes next, if one does.
@@ -216,44 +209,55 @@ impl<'a> Walk<'a> {
         self.number
     }
 
+    /// Who has the bye, at the end of the walk.
+    pub(crate) fn bye(&self) -> Seats
+        ensures { result.items ≡ self.now.bye }
+    {
+        match &self.next {
+            Next::Bracket { .. } => Seats::new(),
+            Next::Bye(bye) => copied(bye),
+        }
+    }
+
     /// Settles the bracket that comes next by its choice and the test behind it, and goes behind it, where the budget
-    /// begins anew.
-    pub(crate) fn go_on(&mut self, alloc: Global, budget: &mut Budget) -> Result<Turn, PairFault>
-        ensures goes { IfOk result (GoesOn self.old self.new budget.new) }
-        ensures limit { budget.new.limit ≡ budget.old.limit }
+    /// begins anew. The answer is none if no bracket comes.
+    pub(crate) fn settle_next(&mut self, alloc: Global) -> Result<Option<Stage>, Halt>
+        ensures goes { MatchResult result (GoesOn self.old self.new) (IsHalt self.old.facts self.old.limit) }
+        ensures used { IfErr result (TellsUsed self.new.used) }
     {
         scores_do_not_ascend(self.field);
-        let stage = match &self.next {
-            Next::Bye(bye) => return Ok(Turn::Ended(copied(bye))),
-            Next::Bracket(reached) => settle(alloc, self.field, reached, self.lower, budget)?,
+        let Next::Bracket { reached, lower } = &self.next else {
+            return Ok(None);
         };
-        let Some(stage) = stage else {
-            return Ok(Turn::Undecided);
+        let Some(stage) = settle(alloc, self.field, reached, lower, &mut self.budget)? else {
+            return Err(Halt::Undecided {
+                bracket: self.number,
+                used: self.budget.used,
+            });
         };
-        *self = Walk::behind(self.field, &stage, self.lower);
-        budget.used = 0;
-        Ok(Turn::Settled(stage))
+        self.next = behind(self.field, &stage, lower);
+        self.number += 1;
+        self.budget.used = 0;
+        Ok(Some(stage))
     }
 
     /// The bracket that comes next, with its shape; nothing more is asked of it. The answer is none if no bracket
     /// comes.
-    pub(crate) fn bracket(
-        &self,
-        alloc: Global,
-        budget: &mut Budget,
-    ) -> Result<Option<(Reached, Shape)>, Stopped>
-        ensures answer { MatchFound result
-            (λ found. Shows self.now.facts self.now.rest found.0 found.1 × (found.0.number ≡ self.now.number))
-            (self.now.rest.reached ≡ [])
-            (budget.new.used ≡ budget.new.limit) }
-        ensures spends { Spends budget.old budget.new }
+    pub(crate) fn bracket(&mut self, alloc: Global) -> Result<Option<(Reached, Shape)>, Halt>
+        ensures found { MatchResult result (IsFound self.old.facts self.old.number) (IsHalt self.old.facts self.old.limit) }
+        ensures used { IfErr result (TellsUsed self.new.used) }
     {
         scores_do_not_ascend(self.field);
-        let Next::Bracket(reached) = &self.next else {
+        let Next::Bracket { reached, lower } = &self.next else {
             return Ok(None);
         };
-        let context = Context::new(alloc, self.field, reached, self.lower);
-        let shape = shape_in(&context, budget)?;
+        let context = Context::new(alloc, self.field, reached, lower);
+        let Ok(shape) = shape_in(&context, &mut self.budget) else {
+            return Err(Halt::Undecided {
+                bracket: self.number,
+                used: self.budget.used,
+            });
+        };
         Ok(Some((reached.copied(), shape)))
     }
 }

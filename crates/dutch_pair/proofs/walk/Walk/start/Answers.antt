@@ -11,13 +11,13 @@ can_complete-requires c =
     let few : length c.args.field.now.seats ≤ LIMIT = c.scores_do_not_ascend.ensures.few in
     record { few = omega (arith, few, everybody_few c.args.field.now c.args.all.now c.requires.all) }
 
-pub before_group-requires-clause-goes : goal.before_group-requires-clause-goes
-before_group-requires-clause-goes c = everybody_goes c.args.field.now c.new.result.items c.args.all.now c.new.ensures c.requires.all
+pub first_group-requires-clause-goes : goal.first_group-requires-clause-goes
+first_group-requires-clause-goes c = everybody_goes c.args.field.now c.new.result.items c.args.all.now c.new.ensures c.requires.all
 
-pub before_group-requires-clause-out : goal.before_group-requires-clause-out
-before_group-requires-clause-out c =
+pub first_group-requires-clause-out : goal.first_group-requires-clause-out
+first_group-requires-clause-out c =
     subst (λ (xs : List ℕ). GoesOut c.args.field.now xs c.args.all.now) (sym c.new.ensures)
-    (everybody_out c.args.field.now c.args.all.now c.requires.all (sym c.in_ok-can_complete.ensures.answer ∙ c.if-not-branch.false))
+    (everybody_out c.args.field.now c.args.all.now c.requires.all (sym c.in-Ok-true.ensures.answer ∙ c.in-Ok-true.field-0-test))
 
-pub before_group-requires-clause-small : goal.before_group-requires-clause-small
-before_group-requires-clause-small c = omega (arith, everybody_few c.args.field.now c.args.all.now c.requires.all)
+pub first_group-requires-clause-small : goal.first_group-requires-clause-small
+first_group-requires-clause-small c = omega (arith, everybody_few c.args.field.now c.args.all.now c.requires.all)

@@ -1,8 +1,8 @@
 -- What comes next behind a stage that is settled.
-use Rattle.std.proofs.Common.{◌+◌, ◌≤◌, ℕ, List, [], length, sym, ◌∙◌, subst, arith}
+use Rattle.std.proofs.Common.{◌+◌, ◌≤◌, ℕ, List, [], length, ap, sym, ◌∙◌, subst, arith}
 use Rattle.dutch_bracket.specs.declared.reached.BracketKind.TheVariants.{Collapsed}
 use Rattle.dutch_bracket.specs.Reached.{Reached}
-use Rattle.dutch_bracket.specs.Brackets.{bracket, downfloaters}
+use Rattle.dutch_bracket.specs.Brackets.{bracket}
 use Rattle.dutch_pair.specs.Stages.{choice_of}
 use Rattle.dutch_pair.specs.Walk.{Goes}
 use Rattle.dutch_pair.specs.WaysOut.{GoesOut, StandsBefore}
@@ -10,7 +10,7 @@ use Rattle.dutch_pair.proofs.NoDeadEnd.{ordinary_out}
 use Rattle.dutch_order.specs.declared.numbers.TheConstants.{LIMIT}
 use Rattle.dutch_pair.proofs.WalkEnds.{down_seats, few_left, left_few, left_is, numbers_left}
 use Rattle.dutch_pair.proofs.WalkSteps.{is_kept, stands_above, stands_collapsed, stands_left}
-use Rattle.dutch_pair.proofs.walk.Walk.behind.Goals as goal
+use Rattle.dutch_pair.proofs.walk.behind.Goals as goal
 
 pub seats_of-left-requires-clause-inside : goal.seats_of-left-requires-clause-inside
 seats_of-left-requires-clause-inside c =
@@ -25,8 +25,8 @@ seats_of-left-requires-clause-few c =
     let few : length stage.reached.seats + length c.args.lower.now ≤ LIMIT = above.few in
     omega (arith, few, few_left c.args.field.now stage.reached stage.candidate.lists c.down.result.now (c.down.ensures ∙ c.requires.settled.down))
 
-pub before_group-requires-clause-goes : goal.before_group-requires-clause-goes
-before_group-requires-clause-goes c =
+pub first_group-requires-clause-goes : goal.first_group-requires-clause-goes
+first_group-requires-clause-goes c =
     let facts = c.args.field.now in
     let stage = c.args.stage.now in
     let left = left_is facts stage.reached stage.candidate.lists c.seats.result.now c.down.result.now c.seats_of-left.result.items c.seats.ensures
@@ -35,8 +35,8 @@ before_group-requires-clause-goes c =
     (stands_left facts stage.reached.number stage.reached c.args.lower.now c.requires.stands
     (record { falls = c.scores_do_not_ascend.ensures.scores; few = c.scores_do_not_ascend.ensures.few }) (choice_of stage))
 
-pub before_group-requires-clause-out : goal.before_group-requires-clause-out
-before_group-requires-clause-out c =
+pub first_group-requires-clause-out : goal.first_group-requires-clause-out
+first_group-requires-clause-out c =
     let facts = c.args.field.now in
     let stage = c.args.stage.now in
     let left = left_is facts stage.reached stage.candidate.lists c.seats.result.now c.down.result.now c.seats_of-left.result.items c.seats.ensures
@@ -46,8 +46,8 @@ before_group-requires-clause-out c =
     (ordinary_out facts stage.reached.number stage.reached c.args.lower.now (choice_of stage) c.requires.stands kind c.requires.settled.choice
     (is_kept facts c.args.lower.now stage c.requires.settled c.if-stage.false kind))
 
-pub bracket-collapsed-requires : goal.bracket-collapsed-requires
-bracket-collapsed-requires c =
+pub bracket-requires : goal.bracket-requires
+bracket-requires c =
     let facts = c.args.field.now in
     let stage = c.args.stage.now in
     let left = left_is facts stage.reached stage.candidate.lists c.seats.result.now c.down.result.now c.seats_of-left.result.items c.seats.ensures
@@ -56,23 +56,23 @@ bracket-collapsed-requires c =
     (record { falls = c.scores_do_not_ascend.ensures.scores; few = c.scores_do_not_ascend.ensures.few }) in
     left_few facts stage.reached stage.candidate.lists c.args.lower.now c.deref.result.now (c.deref.ensures.0 ∙ left) above.few
 
-pub invariant_of-t-18 : goal.invariant_of-t-18
-invariant_of-t-18 c =
+pub returns-in-Penultimate-clause-stands : goal.returns-in-Penultimate-clause-stands
+returns-in-Penultimate-clause-stands c =
     let facts = c.args.field.now in
     let stage = c.args.stage.now in
     let lower = c.args.lower.now in
-    let n = c.number-number.result in
+    let n = stage.reached.number in
     let left = left_is facts stage.reached stage.candidate.lists c.seats.result.now c.down.result.now c.seats_of-left.result.items c.seats.ensures
     (c.down.ensures ∙ c.requires.settled.down) c.seats_of-left.ensures in
     let collapsed = stands_collapsed facts stage.reached.number stage.reached lower c.requires.stands
     (record { falls = c.scores_do_not_ascend.ensures.scores; few = c.scores_do_not_ascend.ensures.few }) (choice_of stage)
     (sym c.kind.ensures ∙ c.in-Penultimate.is) c.requires.settled.choice in
-    subst (λ (b : Reached). StandsBefore facts (n + 1) b []) (sym c.bracket-collapsed.ensures)
-    (subst (λ (xs : List ℕ). StandsBefore facts (n + 1) (bracket (n + 1) Collapsed xs lower) []) (sym (c.deref.ensures.0 ∙ left))
-    (subst (λ (m : ℕ). StandsBefore facts (m + 1) (bracket (m + 1) Collapsed (downfloaters facts stage.reached stage.candidate.lists) lower) []) (sym c.number-number.ensures) collapsed))
+    let same = c.bracket.ensures ∙ ap (λ (m : ℕ). bracket (m + 1) Collapsed c.deref.result.now lower) c.number-number.ensures
+    ∙ ap (λ (xs : List ℕ). bracket (n + 1) Collapsed xs lower) (c.deref.ensures.0 ∙ left) in
+    subst (λ (b : Reached). StandsBefore facts (n + 1) b []) (sym same) collapsed
 
-pub invariant_of-result-in-Last : goal.invariant_of-result-in-Last
-invariant_of-result-in-Last c =
+pub returns-in-Last-clause-stands : goal.returns-in-Last-clause-stands
+returns-in-Last-clause-stands c =
     let facts = c.args.field.now in
     let stage = c.args.stage.now in
     let left = left_is facts stage.reached stage.candidate.lists c.seats.result.now c.down.result.now c.seats_of-left.result.items c.seats.ensures

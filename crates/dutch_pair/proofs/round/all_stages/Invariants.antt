@@ -1,17 +1,15 @@
 -- The stages so far and the brackets of the rest of the round are those of the whole round.
-use Rattle.std.proofs.Common.{◌≡◌, ◌+◌, ◌≤◌, ◌++◌, length, map}
+use Rattle.std.proofs.Common.{◌≡◌, ◌++◌, length, map}
 use Rattle.std.specs.List.{AllByRecursion}
 use Rattle.dutch_pair.specs.Outcomes.{IsStage, visit}
 use Rattle.dutch_pair.specs.Round.{round}
 use Rattle.dutch_pair.proofs.RoundEnds.{bye_in}
-use Rattle.dutch_pair.proofs.round.stages.Given as goal
+use Rattle.dutch_pair.proofs.round.all_stages.Given as goal
 
 abbrev pub invariant-loop-stages : goal.invariant-loop-stages
 invariant-loop-stages l = record {
   facts : l.walk.facts ≡ l.field;
-  low : 1 ≤ l.walk.number;
-  limit : l.budget.limit ≡ l.limit;
-  count : l.walk.number + length l.walk.rest.reached ≡ 1 + length (round l.field).reached;
+  limit : l.walk.limit ≡ l.limit;
   told : map visit l.stages.items ++ l.walk.rest.reached ≡ (round l.field).reached;
   bye : bye_in l.walk.rest.pairing ≡ bye_in (round l.field).pairing;
   stages : AllByRecursion (IsStage l.field) l.stages.items;

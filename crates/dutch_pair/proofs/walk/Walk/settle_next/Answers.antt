@@ -1,0 +1,80 @@
+-- The bracket that comes next has a candidate, and the walk goes behind it.
+use Rattle.std.proofs.Common.{◌≡◌, ℕ, ◌+◌, [], ◌∷◌, ◌++◌, length, refl, ap, sym, ◌∙◌, subst, arith}
+use Rattle.std.proofs.lemmas.List.{length-append}
+use Rattle.std.proofs.lemmas.Option.{MatchOption-at_some}
+use Rattle.dutch_bracket.specs.Reached.{Reached}
+use Rattle.dutch_pair.specs.Outcomes.{IsStage, visit}
+use Rattle.dutch_pair.specs.Round.{round}
+use Rattle.dutch_pair.specs.Stages.{IsBehind, IsSettled, StandsAt, Walk, bye_at, round_by, round_from, stage_first}
+use Rattle.dutch_pair.specs.WaysOut.{StandsBefore}
+use Rattle.dutch_pair.proofs.NoDeadEnd.{stands_has}
+use Rattle.dutch_pair.proofs.RoundEnds.{passed_more}
+use Rattle.dutch_pair.proofs.WalkSteps.{stage_is, stands_above, stands_number}
+use Rattle.dutch_pair.proofs.walk.Walk.settle_next.Goals as goal
+use Rattle.dutch_pair.proofs.walk.Walk.settle_next.Goals.{After-behind-self-inside, In-Bracket}
+
+stands : (c : In-Bracket) → StandsBefore c.self.inside.field.now c.self.inside.number c.in-Bracket.reached c.in-Bracket.lower.now
+stands c = let w = c.self.inside in subst (StandsAt w.field.now w.number) c.in-Bracket.is c.self.invariant.stands
+
+told : (c : After-behind-self-inside) → (c.in-Some.stage.reached ≡ c.in-Bracket.reached) × IsSettled c.self.inside.field.now c.in-Bracket.lower.now c.in-Some.stage
+told c = MatchOption-at_some _ _ c.in-Some.stage c.in-Some.is c.in_ok-stage.ensures.answer
+
+goes_on : (c : After-behind-self-inside) → let facts = c.self.inside.field.now in round_from facts c.self.inside.next ≡ stage_first facts c.in-Some.stage (round_from facts c.behind-self-inside.result)
+goes_on c =
+    let facts = c.self.inside.field.now in
+    ap (round_from facts) c.in-Bracket.is ∙ ap (λ (b : Reached). round_by facts b.kind b c.in-Bracket.lower.now) (sym (told c).0) ∙ c.behind-self-inside.ensures.rest
+
+pub settle-requires-clause-above : goal.settle-requires-clause-above
+settle-requires-clause-above c =
+    let w = c.self.inside in
+    stands_above w.field.now w.number c.in-Bracket.reached c.in-Bracket.lower.now (stands (goal.at.settle-requires-clause-above c).In-Bracket)
+    (record { falls = c.scores_do_not_ascend.ensures.scores; few = c.scores_do_not_ascend.ensures.few })
+
+pub settle-requires-clause-candidate : goal.settle-requires-clause-candidate
+settle-requires-clause-candidate c =
+    let w = c.self.inside in
+    stands_has w.field.now w.number c.in-Bracket.reached c.in-Bracket.lower.now (stands (goal.at.settle-requires-clause-candidate c).In-Bracket)
+
+pub invariant_of-self-2 : goal.invariant_of-self-2
+invariant_of-self-2 c =
+    let w = c.self.inside in
+    let inv = c.self.invariant in
+    let facts = w.field.now in
+    let stage = c.in-Some.stage in
+    let next = c.behind-self-inside.result in
+    let after = (goal.at.invariant_of-self-2 c).After-behind-self-inside in
+    let number = stands_number facts w.number c.in-Bracket.reached c.in-Bracket.lower.now (stands (goal.at.invariant_of-self-2 c).In-Bracket) in
+    let more : length (inv.passed ++ visit stage ∷ []) ≡ length inv.passed + 1 = length-append inv.passed (visit stage ∷ []) in
+    record {
+      stands = subst (λ (n : ℕ). StandsAt facts (n + 1) next) (ap (λ (b : Reached). b.number) (told after).0 ∙ number) c.behind-self-inside.ensures.stands;
+      passed = inv.passed ++ visit stage ∷ [];
+      count = omega (arith, inv.count, more);
+      whole = passed_more facts stage (round_from facts next) (round_from facts w.next) inv.passed (round facts).reached (goes_on after) inv.whole;
+    }
+
+pub returns-clause-goes : goal.returns-clause-goes
+returns-clause-goes c =
+    let w = c.self.inside in
+    let facts = w.field.now in
+    let stage = c.in-Some.stage in
+    let next = c.behind-self-inside.result in
+    let after = (goal.at.returns-clause-goes c).After-behind-self-inside in
+    let new : Walk = record {
+      facts = facts;
+      limit = c.settle.new.budget.limit;
+      used = 0;
+      number = w.number + 1;
+      rest = round_from facts next;
+      bye = bye_at next;
+    } in
+    subst (λ (old : Walk). IsBehind stage old new × IsStage old.facts stage) c.self.view_is (
+      record {
+        facts = refl;
+        limit = c.in_ok-stage.ensures.spends.limit;
+        used = refl;
+        number = refl;
+        rest = goes_on after;
+      },
+      stage_is facts w.number c.in-Bracket.reached c.in-Bracket.lower.now (stands (goal.at.returns-clause-goes c).In-Bracket)
+          (record { falls = c.scores_do_not_ascend.ensures.scores; few = c.scores_do_not_ascend.ensures.few }) stage (told after).0 (told after).1,
+    )
