@@ -1,5 +1,5 @@
 -- What players add to costs where they are in S1R, so that what an arrangement costs tells of its place in the order of D.2 (C.04.3).
-use Rattle.std.specs.Prelude.{ℕ, ◌+◌, ◌-◌, ◌*◌, ◌^◌, if◌then◌else◌, List, min, nat_lt, slice_index_or}
+use Rattle.std.specs.Prelude.{◌≡◌, ℕ, ◌+◌, ◌-◌, ◌*◌, ◌^◌, ◌<◌, ◌≤◌, if◌then◌else◌, List, length, min, nat_lt, slice_index, slice_index_or}
 use Rattle.dutch_order.specs.Choices.{is_member}
 
 -- so many units for each number, and for each number something more: those from 1 on, in a list
@@ -14,6 +14,11 @@ more_of order x = slice_index_or order.more (x - 1) 0
 -- D.2: what a number adds where it is in S1R
 abbrev pub added : Order → ℕ → ℕ
 added order x = order.unit * x + more_of order x
+
+-- a table has what each of the first numbers adds, those from 1 on, and that is below 2^512
+abbrev pub AreAdded : Order → List ℕ → Type 0
+AreAdded order table =
+    (x : ℕ) → 0 < x → x ≤ length table → (slice_index table (x - 1) ≡ added order x) × (added order x < 2 ^ 512)
 
 -- of two players who meet, one at most is in S1R: the lesser of what both add
 abbrev pub lesser : Order → ℕ → ℕ → ℕ

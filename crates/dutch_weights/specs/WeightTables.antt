@@ -1,6 +1,6 @@
 -- Tables of what the pairs and the downfloaters of a bracket weigh. Only private functions' clauses cite
 -- these.
-use Rattle.std.specs.Prelude.{◌≡◌, ℕ, ◌+◌, ◌-◌, ◌*◌, ◌^◌, ◌<◌, ◌≤◌, Option, List, [], ◌∷◌, length, slice_index, nat_le, if◌then◌else◌}
+use Rattle.std.specs.Prelude.{◌≡◌, ℕ, ◌+◌, ◌-◌, ◌*◌, ◌^◌, ◌<◌, ◌≤◌, Option, None, Some, List, [], ◌∷◌, length, slice_index, nat_le, if◌then◌else◌}
 use Rattle.std.specs.Option.{ForSome, SomeIff}
 use Rattle.dutch_bracket.specs.Context.{Context}
 use Rattle.dutch_bracket.specs.NextMatchings.{count_below, score_below, seat_below}
@@ -12,9 +12,14 @@ use Rattle.dutch_bracket.specs.Weights.{Scale, Weighing, weight_below, weight_of
 abbrev pub IsThere : Option ℕ → ℕ → Type 0
 IsThere number k = SomeIff number (k < 2 ^ 512) k
 
--- behind a number, if it is there, stand digits too, if the number with them is less than 2^512
+-- a number that is written: there is none only where it is 2^512 or more
+abbrev pub IsWritten : Option ℕ → ℕ → Type 0
+IsWritten None k = ¬ (k < 2 ^ 512)
+IsWritten (Some number) k = number ≡ k
+
+-- behind a number, if it is written, stand digits too
 abbrev pub PutsBehind : Option ℕ → List (ℕ × ℕ) → Option ℕ → Type 0
-PutsBehind front digits number = (k : ℕ) → IsThere front k → IsThere number (written k digits)
+PutsBehind front digits number = (k : ℕ) → IsWritten front k → IsWritten number (written k digits)
 
 -- a number of a bracket
 abbrev pub IsNumber : Reached → ℕ → Type 0

@@ -1,14 +1,14 @@
 // What the numbers of a bracket add to what an arrangement costs, if they are in S1R, and the most that those of an S1R
 // add of which is known how it differs from the original one (C.04.3 D.2). So a floor of costs tells of places in the
 // order of D.2 as well.
-ghost use Rattle.std.specs.Prelude.{◌≡◌, ℕ, ◌+◌, ◌*◌, ◌<◌, ◌≤◌, ◌^◌, if◌then◌else◌, List, [], All, IfSome, min, sum_by};
+ghost use Rattle.std.specs.Prelude.{◌≡◌, ℕ, ◌+◌, ◌*◌, ◌<◌, ◌≤◌, ◌^◌, if◌then◌else◌, List, [], All, IfOk, IfSome, min, sum_by};
 ghost use Rattle.std.specs.Prelude.{true};
 ghost use Rattle.std.specs.Option.{SomeIff};
 ghost use Rattle.dutch_order.specs.Choices.{is_member};
 ghost use Rattle.dutch_order.specs.Exchanged.{IsExchange};
 ghost use Rattle.dutch_order.specs.Keys.{IsIn};
 ghost use Rattle.dutch_order.specs.declared.numbers.TheConstants.{LIMIT};
-ghost use Rattle.dutch_weights.specs.Orders.{added, kept, lesser, more_of, short_of, with_lesser};
+ghost use Rattle.dutch_weights.specs.Orders.{AreAdded, added, kept, lesser, more_of, short_of, with_lesser};
 
 use crate::scale::bits_for;
 use dutch_order::{Exchange, LIMIT};
@@ -23,19 +23,22 @@ pub(crate) struct Order {
     unit: Wide,
     // of each number, from 1 on
     more: Vec<Wide>,
+    // what each of the first numbers adds, from 1 on: a walk asks for it again and again
+    table: Vec<Wide>,
     // no number has more
     top: Wide,
 }
 
 impl Model for Order {
     ghost use Rattle.std.specs.Prelude.{◌≤◌, All};
-    ghost use Rattle.dutch_weights.specs.Orders.{Order};
+    ghost use Rattle.dutch_weights.specs.Orders.{AreAdded, Order};
 
     ghost Value = { Order };
 
     ghost view = { λ o. record { unit = o.unit; more = o.more.items } };
 
-    ghost invariant = { λ o. All (λ m. m ≤ o.top) o.more.items };
+    ghost invariant = { λ o. All (λ m. m ≤ o.top) o.more.items
+        × AreAdded (record { unit = o.unit; more = o.more.items }) o.table.items };
 }
 
 /// The two halves of a bracket's residents, by which their numbers are given what they add. The upper one is the
@@ -96,6 +99,7 @@ impl Order {
         Order {
             unit: Wide::zero(),
             more: Vec::new(alloc),
+            table: Vec::new(alloc),
             top: Wide::zero(),
         }
     }
@@ -130,7 +134,25 @@ impl Order {
     pub(crate) fn added(&self, number: u16) -> Option<Wide>
         ensures { SomeIff result (added self.now number < 2 ^ 512) (added self.now number) }
     {
+        let place = usize::from(number);
+        if 0 < place && place <= self.table.len() {
+            return Some(self.table[place - 1]);
+        }
         self.unit.times(u32::from(number))?.plus(self.more(number))
+    }
+
+    /// A table of what each number up to a last one adds, as far as that is below 2^512.
+    fn table_upto(&self, alloc: Global, last: u16) -> Result<Vec<Wide>, AllocError>
+        ensures { IfOk result (λ table. AreAdded self.now table.items) }
+    {
+        let mut table = Vec::new(alloc);
+        for above in 0..last {
+            let Some(sum) = self.added(above + 1) else {
+                return Ok(table);
+            };
+            table.push(sum)?;
+        }
+        Ok(table)
     }
 
     /// The lesser of what two numbers add; none if that is 2^512 or more.
@@ -362,10 +384,13 @@ impl Order {
         let Some(more) = halves.all_more(alloc)? else {
             return Ok(None);
         };
-        Ok(Some(Order {
+        let mut order = Order {
             unit,
             top: greatest(&more),
             more,
-        }))
+            table: Vec::new(alloc),
+        };
+        order.table = order.table_upto(alloc, halves.count as u16)?;
+        Ok(Some(order))
     }
 }
