@@ -1,5 +1,5 @@
-// The folding of a blossom: two outer vertices are joined, so that the ways from both to the root close a circle of odd length. All its
-// nodes lie in one blossom from then on, which is outer.
+// The folding of a blossom: two outer vertices are joined, so that the ways from both to the root close a circle of odd
+// length. All its nodes lie in one blossom from then on, which is outer.
 use crate::forest::{Forest, Mark};
 use wide::Wide;
 

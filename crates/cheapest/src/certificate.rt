@@ -16,8 +16,8 @@ pub struct PricedSet {
     pub price: Wide,
 }
 
-/// A potential for each vertex, what a pair and a vertex left over are given on top of their cost, and priced sets. All numbers are of
-/// costs that count twice.
+/// A potential for each vertex, what a pair and a vertex left over are given on top of their cost, and priced sets. All
+/// numbers are of costs that count twice.
 #[derive(Debug, Drop)]
 pub struct Certificate {
     pub potentials: Vec<Wide>,

@@ -46,7 +46,8 @@ impl Forest {
         })
     }
 
-    // When a vertex can be joined to the outer vertex that is nearest to it. Where both are outer, both labels come down.
+    // When a vertex can be joined to the outer vertex that is nearest to it. Where both are outer, both labels come
+    // down.
     fn join_event(&self, v: u16) -> Result<Option<Event>, Fault>
         ensures { IfErr result (λ fault. fault ≡ TooGreat) }
     {

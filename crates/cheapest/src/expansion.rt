@@ -1,4 +1,5 @@
-// The unfolding of a blossom: its nodes are outermost again, and those in which its base is not are paired along the circle.
+// The unfolding of a blossom: its nodes are outermost again, and those in which its base is not are paired along the
+// circle.
 use crate::forest::{Forest, Mark};
 
 impl Forest {
@@ -107,8 +108,8 @@ impl Forest {
         is_even
     }
 
-    // Marks the nodes on a circle from the bottom, where the tree goes on, to the node by which it was entered: each second one is inner,
-    // and reached from the node behind it.
+    // Marks the nodes on a circle from the bottom, where the tree goes on, to the node by which it was entered: each
+    // second one is inner, and reached from the node behind it.
     fn mark_against(&mut self, bottom: u16, entry: u16) {
         let mut node = bottom;
         let mut is_inner = true;
@@ -129,8 +130,8 @@ impl Forest {
         }
     }
 
-    // Marks the nodes on a circle from the node by which it was entered to the bottom: each second one is inner, and reached from the node
-    // before it.
+    // Marks the nodes on a circle from the node by which it was entered to the bottom: each second one is inner, and
+    // reached from the node before it.
     fn mark_along(&mut self, entry: u16, bottom: u16) {
         let mut node = entry;
         let mut is_inner = true;
@@ -151,7 +152,8 @@ impl Forest {
         }
     }
 
-    /// Unfolds an inner blossom. Its nodes on the even way from the one by which it was reached to that of its base are in the tree.
+    /// Unfolds an inner blossom. Its nodes on the even way from the one by which it was reached to that of its base are
+    /// in the tree.
     pub(crate) fn expand(&mut self, blossom: u16) {
         let Some(pair) = self.reached.at(usize::from(blossom)) else {
             return;

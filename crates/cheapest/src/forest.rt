@@ -1,10 +1,10 @@
 // Labels, who is paired so far, the blossoms, and the tree of the search that goes on.
 //
-// Nodes are the vertices, and behind them the blossoms: circles of an odd number of nodes, each with its base, the one vertex in it that
-// has no partner in it. A node that is in no blossom is outermost. Of a blossom only its base is kept right: who is paired with whom
-// inside it follows from its base, and is worked out when it is unfolded. When you change it, keep this: the label of a vertex counts
-// for all its pairs, that of a blossom for the pairs inside it; no pair's gain is above the labels that count for it, and pairs of the
-// matching have just as much.
+// Nodes are the vertices, and behind them the blossoms: circles of an odd number of nodes, each with its base, the one
+// vertex in it that has no partner in it. A node that is in no blossom is outermost. Of a blossom only its base is kept
+// right: who is paired with whom inside it follows from its base, and is worked out when it is unfolded. When you
+// change it, keep this: the label of a vertex counts for all its pairs, that of a blossom for the pairs inside it; no
+// pair's gain is above the labels that count for it, and pairs of the matching have just as much.
 use crate::gains::Gains;
 use crate::places::Places;
 use std::alloc::{AllocError, Global};

@@ -19,10 +19,11 @@ pub struct Found {
     pub certificate: Certificate,
 }
 
-/// Finds a matching of a graph with costs, with a certificate. Each vertex that is asked about takes one of the steps left; where none is
-/// left, the search is stopped.
+/// Finds a matching of a graph with costs, with a certificate. Each vertex that is asked about takes one of the steps
+/// left; where none is left, the search is stopped.
 pub fn cheapest<C: Costs>(alloc: Global, costs: &C, left: &mut u64) -> Result<Found, Fault>
-    ensures matching { IfOk result (λ found. IsMatching (C.vertices costs.now) (C.joined costs.now) found.partners.items) }
+    ensures matching { IfOk result
+        (λ found. IsMatching (C.vertices costs.now) (C.joined costs.now) found.partners.items) }
     ensures places { IfOk result (λ found. HasPlaces (C.vertices costs.now) found.certificate) }
     ensures falls { left.new ≤ left.old }
     ensures stopped { result ≡ Err Fault.Stopped → left.new ≡ 0 }

@@ -1,5 +1,5 @@
-// What pairs gain: what it costs to leave both vertices over, less what the pair costs. All numbers count twice, so that halves of their
-// differences are whole.
+// What pairs gain: what it costs to leave both vertices over, less what the pair costs. All numbers count twice, so
+// that halves of their differences are whole.
 ghost use Rattle.std.specs.Prelude.{◌≡◌, ◌≤◌, ◌<◌, IfErr};
 ghost use Rattle.cheapest.specs.declared.fault.Fault.TheVariants.{Stopped, TooGreat};
 

@@ -1,16 +1,18 @@
-//! Matchings of a graph that cost as little as may be, each with a certificate that is meant to show it, found by labels and blossoms
-//! (after Edmonds), specified by what is sure of them.
+//! Matchings of a graph that cost as little as may be, each with a certificate that is meant to show it, found by
+//! labels and blossoms (after Edmonds), specified by what is sure of them.
 //!
-//! `cheapest` pairs vertices that are joined. Each pair costs something, and so does each vertex that is left over. With the matching
-//! comes a certificate: a potential for each vertex, what is given on top of the costs, and priced sets of vertices. It is meant to be
-//! feasible, and to be worth just what the matching costs: then nothing is cheaper. All its numbers are of costs that count twice, so
-//! that halves are whole.
+//! `cheapest` pairs vertices that are joined. Each pair costs something, and so does each vertex that is left over.
+//! With the matching comes a certificate: a potential for each vertex, what is given on top of the costs, and priced
+//! sets of vertices. It is meant to be feasible, and to be worth just what the matching costs: then nothing is cheaper.
+//! All its numbers are of costs that count twice, so that halves are whole.
 //!
-//! What is proved: the search is safe and ends; it gives no step back, and says that it was stopped only where none is left; what it
-//! hands out is a matching of the graph, with a potential for each vertex and a mark for each in each set. That no matching is cheaper,
-//! and that the certificate shows it, is only tested: who relies on either has to check the certificate.
+//! What is proved: the search is safe and ends; it gives no step back, and says that it was stopped only where none is
+//! left; what it hands out is a matching of the graph, with a potential for each vertex and a mark for each in each
+//! set. That no matching is cheaper, and that the certificate shows it, is only tested: who relies on either has to
+//! check the certificate.
 //!
-//! To mind: a graph has at most 32,767 vertices, counted from 0. What two vertices cost is asked with the smaller one first.
+//! To mind: a graph has at most 32,767 vertices, counted from 0. What two vertices cost is asked with the smaller one
+//! first.
 #![tactic(auto)]
 
 mod blossom;

@@ -1,4 +1,5 @@
-// Which outer vertex is nearest to a vertex: by which pair the labels could come down least until they have just what the pair gains.
+// Which outer vertex is nearest to a vertex: by which pair the labels could come down least until they have just what
+// the pair gains.
 ghost use Rattle.std.specs.Prelude.{◌≡◌, ◌≤◌, IfErr};
 ghost use Rattle.cheapest.specs.declared.fault.Fault.TheVariants.{Stopped, TooGreat};
 
@@ -26,7 +27,8 @@ impl Forest {
         self.outer_of(v) == self.outer_of(nearest)
     }
 
-    /// Notes an outer vertex if it is nearer to a vertex than any before. What is stale stays so, until all are looked at anew.
+    /// Notes an outer vertex if it is nearer to a vertex than any before. What is stale stays so, until all are looked
+    /// at anew.
     fn consider(&mut self, u: u16, v: u16) -> Result<(), Fault>
         ensures { IfErr result (λ fault. fault ≡ TooGreat) }
     {
@@ -152,8 +154,8 @@ impl Forest {
         self.look_anew(v, left)
     }
 
-    /// Looks anew for each vertex whose nearest one is in a common blossom with it, but for those of the greatest blossom: of two outer
-    /// vertices it is enough that one knows how near the other is.
+    /// Looks anew for each vertex whose nearest one is in a common blossom with it, but for those of the greatest
+    /// blossom: of two outer vertices it is enough that one knows how near the other is.
     pub(crate) fn look_anew_at_all(&mut self, left: &mut u64) -> Result<(), Fault>
         ensures falls { left.new ≤ left.old }
         ensures stopped { IfErr result (λ fault. fault ≡ Stopped → left.new ≡ 0) }

@@ -1,5 +1,5 @@
-// The searches: from each vertex that is alone and has a label beyond 0, one for a partner, or for another vertex that may be left over
-// in its place.
+// The searches: from each vertex that is alone and has a label beyond 0, one for a partner, or for another vertex that
+// may be left over in its place.
 ghost use Rattle.std.specs.Prelude.{◌≡◌, ◌≤◌, IfErr};
 ghost use Rattle.cheapest.specs.declared.fault.Fault.TheVariants.{Stopped};
 
@@ -29,8 +29,8 @@ impl Forest {
         }
     }
 
-    // Takes a node that was not reached into the tree, and the one that it is paired with as an outer one. If it is alone, the way ends
-    // there: true.
+    // Takes a node that was not reached into the tree, and the one that it is paired with as an outer one. If it is
+    // alone, the way ends there: true.
     fn grow(&mut self, u: u16, v: u16) -> bool {
         let node = self.outer_of(v);
         if let Some(partner) = self.partner_of(self.base_of(node)) {

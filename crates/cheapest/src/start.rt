@@ -1,4 +1,5 @@
-// The first labels, and the first pairs: labels as low as one vertex after the other can have them, and pairs that gain just as much.
+// The first labels, and the first pairs: labels as low as one vertex after the other can have them, and pairs that gain
+// just as much.
 ghost use Rattle.std.specs.Prelude.{◌≡◌, ◌≤◌, IfErr};
 ghost use Rattle.cheapest.specs.declared.fault.Fault.TheVariants.{Stopped};
 

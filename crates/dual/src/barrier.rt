@@ -45,7 +45,8 @@ fn is_of_odd_group(labels: &[u16], players: &[u16], v: u16) -> bool
 
 // Whether somebody in an odd group may be left over.
 fn may_leave_odd<R: Rule>(labels: &[u16], rule: &R, players: &[u16]) -> bool
-    ensures { result ≡ list_any (λ v. (R.costs rule.now).may_be_left v && is_of_odd_group players.now (slice_index labels.now) v) players.now }
+    ensures { result ≡ list_any (λ v. (R.costs rule.now).may_be_left v
+        && is_of_odd_group players.now (slice_index labels.now) v) players.now }
 {
     players.iter().any(|v| rule.may_be_left(*v) && is_of_odd_group(labels, players, *v))
 }
@@ -76,7 +77,8 @@ fn are_labelled(labels: &[u16], most: u16, players: &[u16]) -> bool
 }
 
 fn are_apart<R: Rule>(labels: &[u16], rule: &R, players: &[u16]) -> bool
-    ensures { IsTrue result ↔ All (λ u. All (Suits (R.costs rule.now).meets (slice_index labels.now) u) players.now) players.now }
+    ensures { IsTrue result ↔ All (λ u. All
+        (Suits (R.costs rule.now).meets (slice_index labels.now) u) players.now) players.now }
 {
     players.iter().all(|a| suits_all(labels, rule, *a, players))
 }
@@ -87,24 +89,27 @@ fn is_barrier<R: Rule>(labels: &[u16], most: u16, rule: &R, players: &[u16]) -> 
     are_labelled(labels, most, players) && are_apart(labels, rule, players)
 }
 
-/// Whether a barrier tells that players are not completable: those with label 0 are the blockers, the others are in groups from 1 to `most`,
-/// and more groups are odd than the blockers serve, and one player of an odd group who may be left over.
+/// Whether a barrier tells that players are not completable: those with label 0 are the blockers, the others are in
+/// groups from 1 to `most`, and more groups are odd than the blockers serve, and one player of an odd group who may be
+/// left over.
 pub fn tells_incompletable<R: Rule>(labels: &[u16], most: u16, rule: &R, players: &[u16]) -> bool
     ensures sound { IsTrue result → ¬ Completable (R.costs rule.now).meets (R.costs rule.now).may_be_left players.now }
-    ensures whole { IsTrue result ↔ IsTooNarrow (R.costs rule.now).meets (R.costs rule.now).may_be_left players.now (slice_index labels.now) most }
+    ensures whole { IsTrue result ↔ IsTooNarrow (R.costs rule.now).meets (R.costs rule.now).may_be_left players.now
+        (slice_index labels.now) most }
 {
     let spare = may_leave_odd(labels, rule, players);
     is_barrier(labels, most, rule, players)
         && group_size(labels, players, 0) + usize::from(spare) < odd_groups(labels, players, most)
 }
 
-/// How many players all pairs of players who may meet leave over at least, by a barrier: so many groups more are odd than there are blockers.
-/// Labels that are no barrier tell 0.
+/// How many players all pairs of players who may meet leave over at least, by a barrier: so many groups more are odd
+/// than there are blockers. Labels that are no barrier tell 0.
 pub fn least_left<R: Rule>(labels: &[u16], most: u16, rule: &R, players: &[u16]) -> usize
     ensures sound { (pairs : List (ℕ × ℕ)) (out : List ℕ) → MakeUp players.now pairs out
         → All (λ pair. (R.costs rule.now).meets pair.0 pair.1 ≡ true) pairs → result ≤ length out }
     ensures whole { IsBarrier (R.costs rule.now).meets players.now (slice_index labels.now) most
-        → result ≡ odd_groups players.now (slice_index labels.now) most - blockers players.now (slice_index labels.now) }
+        → result ≡ odd_groups players.now (slice_index labels.now) most - blockers players.now
+        (slice_index labels.now) }
     ensures none { ¬ IsBarrier (R.costs rule.now).meets players.now (slice_index labels.now) most → result ≡ 0 }
 {
     if !is_barrier(labels, most, rule, players) {

@@ -1,5 +1,7 @@
-// The check of a certificate, pair by pair: what each pair, and each player left over, could bear beyond its potentials.
-ghost use Rattle.std.specs.Prelude.{◌≡◌, ◌+◌, ◌*◌, ◌^◌, ◌<◌, ◌≤◌, ◌%◌, ◌↔◌, ℕ, true, All, IfOk, IfSome, IsSome, IsTrue, SomeIff};
+// The check of a certificate, pair by pair: what each pair, and each player left over, could bear beyond its
+// potentials.
+ghost use Rattle.std.specs.Prelude.{◌≡◌, ◌+◌, ◌*◌, ◌^◌, ◌<◌, ◌≤◌, ◌%◌, ◌↔◌, ℕ, true, All, IfOk, IfSome, IsSome, IsTrue};
+ghost use Rattle.std.specs.Prelude.{SomeIff};
 ghost use Rattle.std.specs.Prelude.{length, sum_by, slice_index};
 ghost use Rattle.dual.specs.Duals.{GivesEvenly, IsFeasible, bears_left, slack, slack_left, toll};
 ghost use Rattle.dual.specs.Floors.{IsFloor, IsFloorOf, IsBelow};
@@ -23,7 +25,8 @@ struct Row<'a> {
 impl Row<'_> {
     // What a pair of the row's player pays.
     fn tolls(&self, v: u16) -> Option<Wide>
-        ensures { let tolls = sum_by (λ set. toll_of v set.now) self.now.sets.items in SomeIff result (tolls < 2 ^ 512) tolls }
+        ensures { let tolls = sum_by (λ set. toll_of v set.now) self.now.sets.items in SomeIff result
+            (tolls < 2 ^ 512) tolls }
     {
         let mut sum = Wide::zero();
         for set in &self.sets {
@@ -99,9 +102,12 @@ impl Table {
         requires few { length extra.old ≤ MOST * MOST }
         requires sets { (v : ℕ) → sum_by (λ set. toll_of v set.now) row.now.sets.items
             ≡ sum_by (toll (row.now.player, v)) (certificate_in self.now).sets }
-        ensures whole { IsTrue result ↔ AllBear (R.costs rule.now) (certificate_in self.now) (2 ^ 512) row.now.player players.now }
-        ensures value { IsTrue result → HasSlacks (R.costs rule.now) (certificate_in self.now) row.now.player players.now row.now.start extra.new }
-        ensures others { (k : ℕ) → (All (λ v. ¬ (row.now.start + v ≡ k)) players.now) → slice_index extra.new k ≡ slice_index extra.old k }
+        ensures whole { IsTrue result ↔ AllBear (R.costs rule.now) (certificate_in self.now)
+            (2 ^ 512) row.now.player players.now }
+        ensures value { IsTrue result → HasSlacks (R.costs rule.now)
+            (certificate_in self.now) row.now.player players.now row.now.start extra.new }
+        ensures others { (k : ℕ) → (All (λ v. ¬ (row.now.start + v ≡ k)) players.now)
+            → slice_index extra.new k ≡ slice_index extra.old k }
     {
         for v in players {
             if rule.may_meet(row.player, *v) {
@@ -128,7 +134,8 @@ impl Table {
         ensures whole { IfOk result (λ found. IsSome found
             ↔ All (λ u. AllBear (R.costs rule.now) (certificate_in self.now) (2 ^ 512) u players.now) players.now) }
         ensures value { IfOk result (λ found. IfSome found (λ extra.
-            All (λ u. HasSlacks (R.costs rule.now) (certificate_in self.now) u players.now (u * size) extra.items) players.now)) }
+            All (λ u. HasSlacks (R.costs rule.now) (certificate_in self.now) u players.now (u * size) extra.items)
+            players.now)) }
     {
         let mut extra = vec![in alloc; Wide::zero(); size * size]?;
         for a in players {
@@ -179,9 +186,11 @@ impl Table {
         requires known { All (R.knows rule.now) players.now }
         requires few { length players.now ≤ MOST }
         requires some { left ≤ length players.now }
-        ensures whole { IfOk result (λ found. IsSome found ↔ (IsFeasible (R.costs rule.now) players.now (certificate_in self.now)
+        ensures whole { IfOk result (λ found. IsSome found
+            ↔ (IsFeasible (R.costs rule.now) players.now (certificate_in self.now)
             × IsBelow (R.costs rule.now) players.now left (certificate_in self.now) (2 ^ 512))) }
-        ensures value { IfOk result (λ found. IfSome found (IsFloorOf (R.costs rule.now) players.now left (certificate_in self.now))) }
+        ensures value { IfOk result (λ found. IfSome found
+            (IsFloorOf (R.costs rule.now) players.now left (certificate_in self.now))) }
         ensures least { IfOk result (λ found. IfSome found (IsFloor (R.costs rule.now) players.now left)) }
     {
         let Some(base) = self.gains(players) else {
@@ -216,9 +225,9 @@ impl Table {
         }
     }
 
-    /// The floor that the certificate is for all matchings, however many they leave over. There is none if the certificate
-    /// gives a pair another thing than twice what it gives a player left over, if it is not feasible, or if a sum of its
-    /// numbers is 2^512 or more.
+    /// The floor that the certificate is for all matchings, however many they leave over. There is none if the
+    /// certificate gives a pair another thing than twice what it gives a player left over, if it is not feasible, or if
+    /// a sum of its numbers is 2^512 or more.
     #[tactic(auto, using(crate::proofs::FloorLemmas::for_each_left))]
     pub fn floor_for_any<R: Rule>(
         &self,
@@ -231,8 +240,10 @@ impl Table {
         ensures whole { IfOk result (λ found. IsSome found ↔ (GivesEvenly (certificate_in self.now)
             × IsFeasible (R.costs rule.now) players.now (certificate_in self.now)
             × IsBelow (R.costs rule.now) players.now (length players.now % 2) (certificate_in self.now) (2 ^ 512))) }
-        ensures value { IfOk result (λ found. IfSome found (IsFloorOf (R.costs rule.now) players.now (length players.now % 2) (certificate_in self.now))) }
-        ensures least { IfOk result (λ found. IfSome found (λ floor. (left : ℕ) → IsFloor (R.costs rule.now) players.now left floor)) }
+        ensures value { IfOk result (λ found. IfSome found
+            (IsFloorOf (R.costs rule.now) players.now (length players.now % 2) (certificate_in self.now))) }
+        ensures least { IfOk result (λ found. IfSome found
+            (λ floor. (left : ℕ) → IsFloor (R.costs rule.now) players.now left floor)) }
     {
         if !self.gives_evenly() {
             return Ok(None);

@@ -24,7 +24,13 @@ impl Model for Floor {
 
     ghost Value = { FloorTable };
 
-    ghost view = { λ f. record { base = f.base; debt = f.debt; size = f.size; extra = f.extra.items; extra_left = f.extra_left.items } };
+    ghost view = { λ f. record {
+      base = f.base;
+      debt = f.debt;
+      size = f.size;
+      extra = f.extra.items;
+      extra_left = f.extra_left.items;
+    } };
 
     ghost invariant = { λ f. f.size ≤ 65536 };
 }

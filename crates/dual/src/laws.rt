@@ -4,7 +4,8 @@ ghost use Rattle.dual.specs.Matchings.{Costs, IsMatching, IsPartOf, IsWitness, C
 ghost use Rattle.dual.specs.Barriers.{IsBarrier, IsTooNarrow, blockers, odd_groups, is_of_odd_group};
 ghost use Rattle.dual.specs.Duals.{Certificate, IsFeasible, gains, losses, slack, slack_left};
 
-/// Weak duality: no matching costs less than the value of a feasible certificate, which is what its potentials gain less its losses.
+/// Weak duality: no matching costs less than the value of a feasible certificate, which is what its potentials gain
+/// less its losses.
 #[tactic(auto, using(crate::proofs::WeakDuality::bounded))]
 pub fn a_certificate_bounds_every_matching()
     ensures { (costs : Costs) (players : List ℕ) (certificate : Certificate) (pairs : List (ℕ × ℕ)) (left : List ℕ)
@@ -18,14 +19,16 @@ pub fn known_pairs_cost_their_slack()
     ensures { (costs : Costs) (players : List ℕ) (certificate : Certificate) (pairs : List (ℕ × ℕ)) (left : List ℕ)
         → IsFeasible costs players certificate → IsMatching costs players pairs left
         → (known : List (ℕ × ℕ)) (known_left : List ℕ) → IsPartOf known pairs → IsPartOf known_left left
-        → gains certificate players + (sum_by (slack costs certificate) known + sum_by (slack_left costs certificate) known_left)
+        → gains certificate players + (sum_by (slack costs certificate) known + sum_by
+        (slack_left costs certificate) known_left)
         ≤ cost costs pairs left + losses certificate players (length pairs) (length left) }
 {}
 
 /// Pairs that cover players, in the form that completion is stated in, are a matching with those whom they leave out.
 #[tactic(auto, using(crate::proofs::Covering::covering_is_matching))]
 pub fn a_covering_is_a_matching()
-    ensures { (costs : Costs) (players : List ℕ) (pairs : List (ℕ × ℕ)) (out : List ℕ) → Covers costs.meets players pairs out
+    ensures { (costs : Costs) (players : List ℕ) (pairs : List (ℕ × ℕ)) (out : List ℕ)
+        → Covers costs.meets players pairs out
         → All (λ v. costs.may_be_left v ≡ true) out → IsMatching costs players pairs out }
 {}
 
@@ -45,12 +48,13 @@ pub fn players_behind_a_barrier_are_not_completable()
 
 /// Players for whom there is a witness are completable.
 pub fn players_with_a_witness_are_completable()
-    ensures { (meets : ℕ → ℕ → Bool) (may_be_left : ℕ → Bool) (players : List ℕ) (pairs : List (ℕ × ℕ)) (left : Option ℕ)
+    ensures { (meets : ℕ → ℕ → Bool) (may_be_left : ℕ → Bool) (players : List ℕ) (pairs : List (ℕ × ℕ))
+        (left : Option ℕ)
         → IsWitness meets may_be_left players pairs left → Completable meets may_be_left players }
 {}
 
-/// Two costs at once come to what the first does and so many times the second: so a certificate for both, less a first cost that is known,
-/// bounds the second.
+/// Two costs at once come to what the first does and so many times the second: so a certificate for both, less a first
+/// cost that is known, bounds the second.
 #[tactic(auto, using(crate::proofs::WeakDuality::added))]
 pub fn costs_beside_others_are_added()
     ensures { (costs : Costs) (factor : ℕ) (more : Costs) (pairs : List (ℕ × ℕ)) (left : List ℕ)

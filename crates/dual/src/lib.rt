@@ -1,19 +1,19 @@
-//! Weak duality: certificates that no matching is cheap, barriers and witnesses that tell whether players can be paired out, specified by
-//! pairs over numbers.
+//! Weak duality: certificates that no matching is cheap, barriers and witnesses that tell whether players can be paired
+//! out, specified by pairs over numbers.
 //!
 //! A `Table` holds a certificate: a potential for each player, and priced sets of players. `Table::floor` checks it and
 //! makes a `Floor` of it: what every matching costs at least, beside what is owed, and what each pair and each player
 //! left over adds that is known of it. Of a certificate that is not feasible no floor is made; of one that gives away
-//! more than it gains there is one, and what is known may pay for it. `Table::floor_for_any` makes one for matchings that
-//! leave any number over. `tells_incompletable` checks a barrier (after
-//! Tutte and Berge), `least_left` says how many it leaves over, `tells_completable` checks a witness. Whoever finds them
-//! need not be trusted.
+//! more than it gains there is one, and what is known may pay for it. `Table::floor_for_any` makes one for matchings
+//! that leave any number over. `tells_incompletable` checks a barrier (after Tutte and Berge), `least_left` says how
+//! many it leaves over, `tells_completable` checks a witness. Whoever finds them need not be trusted.
 //!
-//! Nothing here knows chess: a `Rule` of the caller says, by numbers, who may meet and who may be left over, and at what cost. Only a floor
-//! takes memory, a number for each pair. A check takes time with the square of the number of players, for a certificate times the number of
-//! its sets.
+//! Nothing here knows chess: a `Rule` of the caller says, by numbers, who may meet and who may be left over, and at
+//! what cost. Only a floor takes memory, a number for each pair. A check takes time with the square of the number of
+//! players, for a certificate times the number of its sets.
 //!
-//! To mind: certificates are natural numbers below 2^512. Potentials below 0, and a multiplier of the number left over, are had by giving more.
+//! To mind: certificates are natural numbers below 2^512. Potentials below 0, and a multiplier of the number left over,
+//! are had by giving more.
 #![tactic(auto)]
 
 mod barrier;

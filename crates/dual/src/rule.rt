@@ -4,7 +4,8 @@ ghost use Rattle.dual.specs.Matchings.{Costs};
 
 use wide::Wide;
 
-/// Who may meet and who may be left over, and at what cost. Who may meet is answered for all numbers, costs for known ones alone.
+/// Who may meet and who may be left over, and at what cost. Who may meet is answered for all numbers, costs for known
+/// ones alone.
 pub trait Rule {
     /// What it answers.
     ghost costs: { Self → Costs };

@@ -72,7 +72,8 @@ impl Table {
 
     // What the potentials come to.
     pub(crate) fn gains(&self, players: &[u16]) -> Option<Wide>
-        ensures { SomeIff result (gains (certificate_in self.now) players.now < 2 ^ 512) (gains (certificate_in self.now) players.now) }
+        ensures { SomeIff result (gains (certificate_in self.now) players.now < 2 ^ 512)
+            (gains (certificate_in self.now) players.now) }
     {
         let mut sum = Wide::zero();
         for v in players {
@@ -97,7 +98,8 @@ impl Table {
     pub(crate) fn losses(&self, players: &[u16], left: usize) -> Option<Wide>
         requires few { length players.now ≤ MOST }
         requires some { left ≤ length players.now }
-        ensures { let lost = losses (certificate_in self.now) players.now (pairs_of players.now left) left in SomeIff result (lost < 2 ^ 512) lost }
+        ensures { let lost = losses (certificate_in self.now) players.now
+            (pairs_of players.now left) left in SomeIff result (lost < 2 ^ 512) lost }
     {
         let pairs = (players.len() - left) / 2;
         let given = self.given.times(pairs as u32)?;

@@ -69,7 +69,8 @@ fn may_meet_either<R: Rule>(rule: &R, a: u16, b: u16) -> bool
 }
 
 fn may_all_meet<R: Rule>(rule: &R, pairs: &[(u16, u16)]) -> bool
-    ensures { IsTrue result ↔ All (λ pair. ((R.costs rule.now).meets pair.0 pair.1 ≡ true) × ((R.costs rule.now).meets pair.1 pair.0 ≡ true)) pairs.now }
+    ensures { IsTrue result ↔ All (λ pair. ((R.costs rule.now).meets pair.0 pair.1 ≡ true)
+        × ((R.costs rule.now).meets pair.1 pair.0 ≡ true)) pairs.now }
 {
     pairs
         .iter()
@@ -82,8 +83,8 @@ fn may_be_left<R: Rule>(rule: &R, left: &[u16]) -> bool
     left.iter().all(|v| rule.may_be_left(*v))
 }
 
-/// Whether pairs, and whoever is left over, are a witness that players are completable: each player stands in them as often as in the list,
-/// the two of each pair may meet, whoever comes first, and whoever is left over may be.
+/// Whether pairs, and whoever is left over, are a witness that players are completable: each player stands in them as
+/// often as in the list, the two of each pair may meet, whoever comes first, and whoever is left over may be.
 pub fn tells_completable<R: Rule>(
     pairs: &[(u16, u16)],
     left: Option<u16>,
@@ -91,7 +92,8 @@ pub fn tells_completable<R: Rule>(
     players: &[u16],
 ) -> bool
     ensures sound { IsTrue result → Completable (R.costs rule.now).meets (R.costs rule.now).may_be_left players.now }
-    ensures whole { IsTrue result ↔ IsWitness (R.costs rule.now).meets (R.costs rule.now).may_be_left players.now pairs.now left }
+    ensures whole { IsTrue result ↔ IsWitness (R.costs rule.now).meets
+        (R.costs rule.now).may_be_left players.now pairs.now left }
 {
     let left = left.as_slice();
     make_up(pairs, left, players) && may_all_meet(rule, pairs) && may_be_left(rule, left)

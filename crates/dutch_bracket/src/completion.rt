@@ -135,7 +135,8 @@ fn pair_with<R: Rule>(
 ) -> Answer
     requires some { 0 < length later.old }
     ensures answer { Tells result (R.meets rule.now first (slice_index later.old 0)
-        && can_cover (R.meets rule.now) (left_over bye (R.may_be_left rule.now)) (length later.old - 1) (drop 1 later.old))
+        && can_cover (R.meets rule.now) (left_over bye (R.may_be_left rule.now)) (length later.old - 1)
+        (drop 1 later.old))
         (IsStopped (1 + most (length later.old - 1) bye) budget.old budget.new) }
     ensures steps { Spends (1 + most (length later.old - 1) bye) budget.old budget.new }
     ensures taken { Takes result (length later.old + 1) 1 budget.old budget.new }

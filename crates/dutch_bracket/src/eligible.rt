@@ -1,5 +1,5 @@
 // Which candidates of a bracket can be chosen (C.04.3 C.4), and the first of a shape.
-ghost use Rattle.std.specs.Prelude.{◌≡◌, ◌+◌, ◌≤◌, ◌++◌, false, length, map};
+ghost use Rattle.std.specs.Prelude.{◌≡◌, ◌+◌, ◌≤◌, ◌++◌, false, length, map, min};
 ghost use Rattle.dutch_order.specs.declared.numbers.TheConstants.{LIMIT};
 ghost use Rattle.dutch_order.specs.Arrangements.{Fits, down};
 ghost use Rattle.dutch_bracket.specs.Reached.{frame_of};
@@ -47,7 +47,7 @@ const FIRST_STEPS: u64 = 64;
 /// A budget of so many steps at most, of those that are left.
 pub fn at_most(steps: u64, budget: &Budget) -> Budget
     ensures used { result.used ≡ budget.now.used }
-    ensures less { result.limit ≤ budget.now.limit }
+    ensures limit { result.limit ≡ min (budget.now.used + steps) budget.now.limit }
 {
     Budget {
         limit: budget.used.saturating_add(steps).min(budget.limit),

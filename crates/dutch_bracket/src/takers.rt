@@ -139,7 +139,8 @@ fn pair_with(
 ) -> Result<bool, Stopped>
     requires some { 0 < length later.old }
     ensures answer { Decides result (seats_meet context.now.facts first (slice_index later.old 0)
-        && can_take_out context.now.facts context.now.reached.seats room.bye (length later.old - 1) room.takers (drop 1 later.old))
+        && can_take_out context.now.facts context.now.reached.seats room.bye (length later.old - 1) room.takers
+        (drop 1 later.old))
         (budget.new.used ≡ budget.new.limit) }
     ensures counts { OnOk result (budget.old.used < budget.new.used) }
     ensures few { budget.new.used ≤ budget.old.used + (1 + most_taking (length later.old - 1) room.takers room.bye) }

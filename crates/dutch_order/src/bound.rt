@@ -9,7 +9,8 @@ ghost use Rattle.dutch_order.specs.declared.bracket.Shape.{Shape};
 use crate::exchanged::Exchange;
 use crate::prefix::Prefix;
 
-/// Tells by how candidates of a bracket and a shape begin that they are without interest. It answers for all beginnings.
+/// Tells by how candidates of a bracket and a shape begin that they are without interest. It answers for all
+/// beginnings.
 pub trait Bound {
     /// Room in which it works a question out. It is lent for each question, so that no question makes it anew.
     type Room;
@@ -31,7 +32,8 @@ pub trait Bound {
 
     /// Whether it knows that every candidate with this beginning is without interest. A no says nothing.
     fn cannot_win(&self, prefix: &Prefix<'_>, room: &mut Self::Room) -> bool
-        ensures { result ≡ true → (a : Arrangement) → IsIn a (candidates (meets self.now) (may_be_left self.now) (frame self.now) (shape self.now))
+        ensures { result ≡ true → (a : Arrangement)
+            → IsIn a (candidates (meets self.now) (may_be_left self.now) (frame self.now) (shape self.now))
             → Begins prefix.now a → is_dull self.now a ≡ true };
 
     /// Whether it knows that every candidate with this beginning, whose S1 and S2 are chosen, and with such an S1R is

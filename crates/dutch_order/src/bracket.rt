@@ -18,8 +18,8 @@ pub struct Shape {
     pub mdps: usize,
 }
 
-/// A bracket (C.04.3 A.3): its players by rank, the moved-down players before the residents. A player's number in the bracket is
-/// their place, from 1.
+/// A bracket (C.04.3 A.3): its players by rank, the moved-down players before the residents. A player's number in the
+/// bracket is their place, from 1.
 #[derive(Debug, Drop)]
 pub struct Bracket {
     // in half points, by number
@@ -39,9 +39,9 @@ impl Model for Bracket {
 }
 
 impl Bracket {
-    /// A bracket of players with these scores in half points, at most `LIMIT`, which do not ascend. The first `mdps` of them are moved
-    /// down, so their scores are above those of the residents. `last` says that it may leave over at most one player, as the last
-    /// bracket of a round and a collapsed one.
+    /// A bracket of players with these scores in half points, at most `LIMIT`, which do not ascend. The first `mdps` of
+    /// them are moved down, so their scores are above those of the residents. `last` says that it may leave over at
+    /// most one player, as the last bracket of a round and a collapsed one.
     pub fn new(scores: &[u16], mdps: usize, last: bool) -> Bracket
         requires { IsBracket scores.now mdps }
         ensures { result ≡ record { scores = scores.now; mdps = mdps; last = last } }

@@ -1,8 +1,11 @@
-// The candidates of a bracket and a shape in the order of article D, specified by the list of the legal arrangements to come.
+// The candidates of a bracket and a shape in the order of article D, specified by the list of the legal arrangements to
+// come.
 //
-// Four levels list the arrangements whose pairs may meet. What is left to do here is the last question, whether those whom an
-// arrangement leaves over may be left over. An arrangement that was found is kept until that question is answered.
-ghost use Rattle.std.specs.Prelude.{◌≡◌, ◌++◌, ◌∷◌, [], Some, None, filter, length, not, ◌||◌, ◌&&◌, ◌-◌, ◌*◌, nat_lt, option_copied, true, false};
+// Four levels list the arrangements whose pairs may meet. What is left to do here is the last question, whether those
+// whom an arrangement leaves over may be left over. An arrangement that was found is kept until that question is
+// answered.
+ghost use Rattle.std.specs.Prelude.{◌≡◌, ◌++◌, ◌∷◌, [], Some, None, filter, length, not, ◌||◌, ◌&&◌, ◌-◌, ◌*◌, nat_lt};
+ghost use Rattle.std.specs.Prelude.{option_copied, true, false};
 ghost use Rattle.dutch_order.specs.Arrangements.{Fits, arrangements, candidates, down, leaves_one, rest};
 ghost use Rattle.dutch_order.specs.Choices.{is_member};
 ghost use Rattle.dutch_order.specs.Keys.{IsIn};
@@ -26,7 +29,8 @@ use std::marker::Model;
 
 /// Whether a player is in one of the four lists.
 fn is_paired(lists: &Arrangement, number: u16) -> bool
-    ensures { result ≡ (is_member number lists.now.s1 || (is_member number lists.now.s2 || (is_member number lists.now.s1r || is_member number lists.now.s2r))) }
+    ensures { result ≡ (is_member number lists.now.s1 ||
+        (is_member number lists.now.s2 || (is_member number lists.now.s1r || is_member number lists.now.s2r))) }
 {
     lists.s1.contains(&number)
         || lists.s2.contains(&number)
@@ -61,7 +65,8 @@ struct Drawing<L> {
     level: L,
 }
 
-/// Whether these may be left over (C.04.3 C.2). In a bracket that leaves at most one player, asking about that player takes a step.
+/// Whether these may be left over (C.04.3 C.2). In a bracket that leaves at most one player, asking about that player
+/// takes a step.
 fn ask_leave<R: Rule>(rule: &R, last: bool, down: &[u16], budget: &mut Budget) -> Drawn
     ensures answer { MatchDrawn result
         ((not last || leaves_one (R.may_be_left rule.now) down.now) ≡ true)
@@ -85,7 +90,8 @@ fn ask_leave<R: Rule>(rule: &R, last: bool, down: &[u16], budget: &mut Budget) -
     }
 }
 
-/// Whether every arrangement leaves over more than its bracket may leave: two or more, while the bracket may leave at most one.
+/// Whether every arrangement leaves over more than its bracket may leave: two or more, while the bracket may leave at
+/// most one.
 fn leaves_too_many(bracket: &Bracket, shape: Shape) -> bool
     requires { Fits bracket.now shape }
     ensures { result ≡ (bracket.now.last && nat_lt 1 (length bracket.now.scores - 2 * shape.pairs)) }
@@ -102,16 +108,19 @@ fn draw_listed<L: Arranges, C: Cuts>(
     budget: &mut Budget,
 ) -> Drawn
     ensures answer { MatchDrawn result
-        (Passes (C.Idle cuts.now) (listed drawing.old.kept ++ L.coming drawing.old.level) (lists.new ∷ L.coming drawing.new.level))
+        (Passes (C.Idle cuts.now) (listed drawing.old.kept ++ L.coming drawing.old.level)
+        (lists.new ∷ L.coming drawing.new.level))
         (Passes (C.Idle cuts.now) (listed drawing.old.kept ++ L.coming drawing.old.level) [])
-        (Passes (C.Idle cuts.now) (listed drawing.old.kept ++ L.coming drawing.old.level) (L.coming drawing.new.level) × (budget.new.used ≡ budget.new.limit)) }
+        (Passes (C.Idle cuts.now) (listed drawing.old.kept ++ L.coming drawing.old.level) (L.coming drawing.new.level)
+        × (budget.new.used ≡ budget.new.limit)) }
     ensures taken { drawing.new.kept ≡ None }
     ensures spends { Spends budget.old budget.new }
 {
     Ok(drawing.kept.take(lists) || drawing.level.next(cuts, room, lists, budget)?)
 }
 
-/// Draws the next arrangement that leaves over whom its bracket may leave. It may skip those that `cuts` knows to be idle.
+/// Draws the next arrangement that leaves over whom its bracket may leave. It may skip those that `cuts` knows to be
+/// idle.
 fn draw_legal<R: Rule, L: Arranges, C: Cuts>(
     leave: &Leave<'_, R>,
     drawing: &mut Drawing<L>,
@@ -122,13 +131,18 @@ fn draw_legal<R: Rule, L: Arranges, C: Cuts>(
 ) -> Drawn
     ensures answer { MatchDrawn result
         (Passes (C.Idle cuts.now)
-        (filter (may_leave (R.may_be_left leave.now.rule.now) leave.now.bracket.now) (listed drawing.old.kept ++ L.coming drawing.old.level))
-        (candidate.new.lists ∷ filter (may_leave (R.may_be_left leave.now.rule.now) leave.now.bracket.now) (listed drawing.new.kept ++ L.coming drawing.new.level))
+        (filter (may_leave (R.may_be_left leave.now.rule.now) leave.now.bracket.now)
+        (listed drawing.old.kept ++ L.coming drawing.old.level))
+        (candidate.new.lists ∷ filter (may_leave (R.may_be_left leave.now.rule.now) leave.now.bracket.now)
+        (listed drawing.new.kept ++ L.coming drawing.new.level))
         × (candidate.new.down ≡ down leave.now.bracket.now candidate.new.lists))
-        (Passes (C.Idle cuts.now) (filter (may_leave (R.may_be_left leave.now.rule.now) leave.now.bracket.now) (listed drawing.old.kept ++ L.coming drawing.old.level)) [])
+        (Passes (C.Idle cuts.now) (filter (may_leave (R.may_be_left leave.now.rule.now) leave.now.bracket.now)
+        (listed drawing.old.kept ++ L.coming drawing.old.level)) [])
         (Passes (C.Idle cuts.now)
-        (filter (may_leave (R.may_be_left leave.now.rule.now) leave.now.bracket.now) (listed drawing.old.kept ++ L.coming drawing.old.level))
-        (filter (may_leave (R.may_be_left leave.now.rule.now) leave.now.bracket.now) (listed drawing.new.kept ++ L.coming drawing.new.level))
+        (filter (may_leave (R.may_be_left leave.now.rule.now) leave.now.bracket.now)
+        (listed drawing.old.kept ++ L.coming drawing.old.level))
+        (filter (may_leave (R.may_be_left leave.now.rule.now) leave.now.bracket.now)
+        (listed drawing.new.kept ++ L.coming drawing.new.level))
         × (budget.new.used ≡ budget.new.limit)) }
     ensures spends { Spends budget.old budget.new }
 {
@@ -158,7 +172,8 @@ fn start_drawing<'a, R: Rule>(
     requires fits { Fits leave.now.bracket.now shape }
     requires given { Of (λ cursor. IsIn cursor (arrangements leave.now.bracket.now shape)) (option_copied own) }
     ensures kept { drawing.new.kept ≡ None }
-    ensures level { drawing.new.level ≡ in_bracket (R.meets leave.now.rule.now) leave.now.bracket.now shape (option_copied own.entry) }
+    ensures level { drawing.new.level
+        ≡ in_bracket (R.meets leave.now.rule.now) leave.now.bracket.now shape (option_copied own.entry) }
 {
     drawing.kept.clear();
     drawing.level.in_block = false;
@@ -168,9 +183,9 @@ fn start_drawing<'a, R: Rule>(
         .start(leave.bracket, shape, own, leave.rule);
 }
 
-/// The candidates of a bracket and a shape, one by one (C.04.3 B.6, B.7): the arrangements that are legal, in the order of article
-/// D. A step is one number tried at one place of one of the four lists, or the one downfloater of a last or collapsed bracket tried
-/// for C.2. It takes no memory.
+/// The candidates of a bracket and a shape, one by one (C.04.3 B.6, B.7): the arrangements that are legal, in the order
+/// of article D. A step is one number tried at one place of one of the four lists, or the one downfloater of a last or
+/// collapsed bracket tried for C.2. It takes no memory.
 #[derive(Drop)]
 pub struct Candidates<'a, R: Rule> {
     shape: Shape,
@@ -195,16 +210,19 @@ impl<'a, R: Rule> Model for Candidates<'a, R> {
       frame = l.leave.bracket.now;
       shape = l.shape;
       rule = l.leave.rule.now;
-      coming = still_coming l.ended (filter (may_leave (R.may_be_left l.leave.rule.now) l.leave.bracket.now) (listed l.drawing.kept ++ l.drawing.level));
+      coming = still_coming l.ended (filter (may_leave (R.may_be_left l.leave.rule.now) l.leave.bracket.now)
+          (listed l.drawing.kept ++ l.drawing.level));
       latest = l.latest;
       ended = l.ended;
     } };
 
     ghost invariant = { λ l.
         (l.hopeless ≡ (l.leave.bracket.now.last && nat_lt 1 (length l.leave.bracket.now.scores - 2 * l.shape.pairs)))
-        × (l.hopeless ≡ true → filter (may_leave (R.may_be_left l.leave.rule.now) l.leave.bracket.now) (listed l.drawing.kept ++ l.drawing.level) ≡ [])
+        × (l.hopeless ≡ true → filter (may_leave (R.may_be_left l.leave.rule.now) l.leave.bracket.now)
+        (listed l.drawing.kept ++ l.drawing.level) ≡ [])
         × AreCandidates (R.meets l.leave.rule.now) (R.may_be_left l.leave.rule.now) l.leave.bracket.now l.shape
-        (still_coming l.ended (filter (may_leave (R.may_be_left l.leave.rule.now) l.leave.bracket.now) (listed l.drawing.kept ++ l.drawing.level))) };
+        (still_coming l.ended (filter (may_leave (R.may_be_left l.leave.rule.now) l.leave.bracket.now)
+        (listed l.drawing.kept ++ l.drawing.level))) };
 }
 
 impl<'a, R: Rule> Candidates<'a, R> {
@@ -235,7 +253,8 @@ impl<'a, R: Rule> Candidates<'a, R> {
     fn begin(&mut self, shape: Shape, own: Option<&'a Cursor>)
         requires fits { Fits self.old.frame shape }
         requires given { Of (λ cursor. IsIn cursor (arrangements self.old.frame shape)) (option_copied own) }
-        ensures coming { self.new.coming ≡ candidates_from (R.meets self.old.rule) (R.may_be_left self.old.rule) self.old.frame shape (option_copied own.entry) }
+        ensures coming { self.new.coming ≡ candidates_from (R.meets self.old.rule)
+            (R.may_be_left self.old.rule) self.old.frame shape (option_copied own.entry) }
         ensures frame { self.new.frame ≡ self.old.frame }
         ensures shape { self.new.shape ≡ shape }
         ensures rule { self.new.rule ≡ self.old.rule }
@@ -288,7 +307,8 @@ impl<'a, R: Rule> Candidates<'a, R> {
     /// Begins anew in place, with all candidates of a shape for which the bracket has players enough, as `new` does.
     pub fn restart(&mut self, shape: Shape)
         requires { Fits self.old.frame shape }
-        ensures coming { self.new.coming ≡ candidates (R.meets self.old.rule) (R.may_be_left self.old.rule) self.old.frame shape }
+        ensures coming { self.new.coming
+            ≡ candidates (R.meets self.old.rule) (R.may_be_left self.old.rule) self.old.frame shape }
         ensures frame { self.new.frame ≡ self.old.frame }
         ensures shape { self.new.shape ≡ shape }
         ensures rule { self.new.rule ≡ self.old.rule }
@@ -308,13 +328,18 @@ impl<'a, R: Rule> Candidates<'a, R> {
     ) -> Step<()>
         ensures answer { MatchStep result
             (λ _. Passes (C.Idle cuts.now) self.old.coming (candidate.new.lists ∷ self.new.coming)
-            × (candidate.new.down ≡ down self.old.frame candidate.new.lists) × (self.new.latest ≡ Some candidate.new.lists))
+            × (candidate.new.down ≡ down self.old.frame candidate.new.lists)
+            × (self.new.latest ≡ Some candidate.new.lists))
             (Passes (C.Idle cuts.now) self.old.coming [] × (self.new.coming ≡ []) × (self.new.latest ≡ self.old.latest))
-            (Passes (C.Idle cuts.now) self.old.coming self.new.coming × (self.new.latest ≡ self.old.latest) × (budget.new.used ≡ budget.new.limit)) }
-        ensures candidates { AreCandidates (R.meets self.old.rule) (R.may_be_left self.old.rule) self.old.frame self.old.shape self.old.coming }
-        ensures hopeless { (self.old.frame.last && nat_lt 1 (length self.old.frame.scores - 2 * self.old.shape.pairs)) ≡ true
+            (Passes (C.Idle cuts.now) self.old.coming self.new.coming × (self.new.latest ≡ self.old.latest)
+            × (budget.new.used ≡ budget.new.limit)) }
+        ensures candidates { AreCandidates (R.meets self.old.rule)
+            (R.may_be_left self.old.rule) self.old.frame self.old.shape self.old.coming }
+        ensures hopeless { (self.old.frame.last && nat_lt 1 (length self.old.frame.scores - 2 * self.old.shape.pairs))
+            ≡ true
             → MatchStep result (λ _. ⊥) (budget.new.used ≡ budget.old.used) ⊥ }
-        ensures ended { MatchStep result (λ _. self.new.ended ≡ self.old.ended) (self.new.ended ≡ true) (self.new.ended ≡ self.old.ended) }
+        ensures ended { MatchStep result
+            (λ _. self.new.ended ≡ self.old.ended) (self.new.ended ≡ true) (self.new.ended ≡ self.old.ended) }
         ensures after_end { self.old.ended ≡ true → MatchStep result (λ _. ⊥) (budget.new.used ≡ budget.old.used) ⊥ }
         ensures frame { self.new.frame ≡ self.old.frame }
         ensures shape { self.new.shape ≡ self.old.shape }
@@ -351,12 +376,16 @@ impl<'a, R: Rule> Candidates<'a, R> {
     /// Fills `candidate` with the next one, as `next` gives it.
     pub fn put_next(&mut self, candidate: &mut Candidate, budget: &mut Budget) -> Step<()>
         ensures answer { MatchStep result
-            (λ _. (self.old.coming ≡ candidate.new.lists ∷ self.new.coming) × (candidate.new.down ≡ down self.old.frame candidate.new.lists) × (self.new.latest ≡ Some candidate.new.lists))
+            (λ _. (self.old.coming ≡ candidate.new.lists ∷ self.new.coming) × (candidate.new.down
+            ≡ down self.old.frame candidate.new.lists) × (self.new.latest ≡ Some candidate.new.lists))
             ((self.old.coming ≡ []) × (self.new.coming ≡ []) × (self.new.latest ≡ self.old.latest))
-            ((self.new.coming ≡ self.old.coming) × (self.new.latest ≡ self.old.latest) × (budget.new.used ≡ budget.new.limit)) }
-        ensures hopeless { (self.old.frame.last && nat_lt 1 (length self.old.frame.scores - 2 * self.old.shape.pairs)) ≡ true
+            ((self.new.coming ≡ self.old.coming) × (self.new.latest ≡ self.old.latest)
+            × (budget.new.used ≡ budget.new.limit)) }
+        ensures hopeless { (self.old.frame.last && nat_lt 1 (length self.old.frame.scores - 2 * self.old.shape.pairs))
+            ≡ true
             → MatchStep result (λ _. ⊥) (budget.new.used ≡ budget.old.used) ⊥ }
-        ensures ended { MatchStep result (λ _. self.new.ended ≡ self.old.ended) (self.new.ended ≡ true) (self.new.ended ≡ self.old.ended) }
+        ensures ended { MatchStep result
+            (λ _. self.new.ended ≡ self.old.ended) (self.new.ended ≡ true) (self.new.ended ≡ self.old.ended) }
         ensures after_end { self.old.ended ≡ true → MatchStep result (λ _. ⊥) (budget.new.used ≡ budget.old.used) ⊥ }
         ensures frame { self.new.frame ≡ self.old.frame }
         ensures shape { self.new.shape ≡ self.old.shape }
@@ -370,17 +399,22 @@ impl<'a, R: Rule> Candidates<'a, R> {
         }
     }
 
-    /// The next candidate. `Found` gives the first of those to come. `End` says that none is left. `Undecided` says that the budget was
-    /// used up before the next one was found; then what is to come stays as it was. If the bracket may leave over at most one player and
-    /// the shape leaves more, the answer is `End`, without a step. After `End` every further call answers `End` without a step.
+    /// The next candidate. `Found` gives the first of those to come. `End` says that none is left. `Undecided` says
+    /// that the budget was used up before the next one was found; then what is to come stays as it was. If the bracket
+    /// may leave over at most one player and the shape leaves more, the answer is `End`, without a step. After `End`
+    /// every further call answers `End` without a step.
     pub fn next(&mut self, budget: &mut Budget) -> Step<Candidate>
         ensures answer { MatchStep result
-            (λ c. (self.old.coming ≡ c.lists ∷ self.new.coming) × (c.down ≡ down self.old.frame c.lists) × (self.new.latest ≡ Some c.lists))
+            (λ c. (self.old.coming ≡ c.lists ∷ self.new.coming) × (c.down ≡ down self.old.frame c.lists)
+            × (self.new.latest ≡ Some c.lists))
             ((self.old.coming ≡ []) × (self.new.coming ≡ []) × (self.new.latest ≡ self.old.latest))
-            ((self.new.coming ≡ self.old.coming) × (self.new.latest ≡ self.old.latest) × (budget.new.used ≡ budget.new.limit)) }
-        ensures hopeless { (self.old.frame.last && nat_lt 1 (length self.old.frame.scores - 2 * self.old.shape.pairs)) ≡ true
+            ((self.new.coming ≡ self.old.coming) × (self.new.latest ≡ self.old.latest)
+            × (budget.new.used ≡ budget.new.limit)) }
+        ensures hopeless { (self.old.frame.last && nat_lt 1 (length self.old.frame.scores - 2 * self.old.shape.pairs))
+            ≡ true
             → MatchStep result (λ _. ⊥) (budget.new.used ≡ budget.old.used) ⊥ }
-        ensures ended { MatchStep result (λ _. self.new.ended ≡ self.old.ended) (self.new.ended ≡ true) (self.new.ended ≡ self.old.ended) }
+        ensures ended { MatchStep result
+            (λ _. self.new.ended ≡ self.old.ended) (self.new.ended ≡ true) (self.new.ended ≡ self.old.ended) }
         ensures after_end { self.old.ended ≡ true → MatchStep result (λ _. ⊥) (budget.new.used ≡ budget.old.used) ⊥ }
         ensures frame { self.new.frame ≡ self.old.frame }
         ensures shape { self.new.shape ≡ self.old.shape }
@@ -395,14 +429,14 @@ impl<'a, R: Rule> Candidates<'a, R> {
         }
     }
 
-    /// Fills `candidate` with the next one, and may leave out those that the bound knows to be without interest. The bound is asked about
-    /// beginnings of arrangements, which takes no step: about the empty one at each call, and about others while a list
-    /// is filled. And once S1 and S2 are chosen it is asked about exchanges: about all of one number and one
-    /// difference, which is a step if they are left out, and about those that begin alike, which is none. `Found` says
-    /// that `candidate` has one; all that were to come before it are without interest, and those behind it are still to
-    /// come. `End` says that all that were to come are without interest; then none is to come. `Undecided` says that
-    /// the budget was used up first; then a part of what was to come is without interest, and the rest is still to
-    /// come. After `End` every further call answers `End` without a step.
+    /// Fills `candidate` with the next one, and may leave out those that the bound knows to be without interest. The
+    /// bound is asked about beginnings of arrangements, which takes no step: about the empty one at each call, and
+    /// about others while a list is filled. And once S1 and S2 are chosen it is asked about exchanges: about all of one
+    /// number and one difference, which is a step if they are left out, and about those that begin alike, which is
+    /// none. `Found` says that `candidate` has one; all that were to come before it are without interest, and those
+    /// behind it are still to come. `End` says that all that were to come are without interest; then none is to come.
+    /// `Undecided` says that the budget was used up first; then a part of what was to come is without interest, and the
+    /// rest is still to come. After `End` every further call answers `End` without a step.
     pub fn put_next_within<B: Bound>(
         &mut self,
         bound: &B,
@@ -416,12 +450,17 @@ impl<'a, R: Rule> Candidates<'a, R> {
         requires may_be_left { B.may_be_left bound.now ≡ R.may_be_left self.old.rule }
         ensures answer { MatchStep result
             (λ _. Passes (λ a. B.is_dull bound.now a ≡ true) self.old.coming (candidate.new.lists ∷ self.new.coming)
-            × (candidate.new.down ≡ down self.old.frame candidate.new.lists) × (self.new.latest ≡ Some candidate.new.lists))
-            (Passes (λ a. B.is_dull bound.now a ≡ true) self.old.coming [] × (self.new.coming ≡ []) × (self.new.latest ≡ self.old.latest))
-            (Passes (λ a. B.is_dull bound.now a ≡ true) self.old.coming self.new.coming × (self.new.latest ≡ self.old.latest) × (budget.new.used ≡ budget.new.limit)) }
-        ensures hopeless { (self.old.frame.last && nat_lt 1 (length self.old.frame.scores - 2 * self.old.shape.pairs)) ≡ true
+            × (candidate.new.down ≡ down self.old.frame candidate.new.lists)
+            × (self.new.latest ≡ Some candidate.new.lists))
+            (Passes (λ a. B.is_dull bound.now a ≡ true) self.old.coming [] × (self.new.coming ≡ [])
+            × (self.new.latest ≡ self.old.latest))
+            (Passes (λ a. B.is_dull bound.now a ≡ true) self.old.coming self.new.coming
+            × (self.new.latest ≡ self.old.latest) × (budget.new.used ≡ budget.new.limit)) }
+        ensures hopeless { (self.old.frame.last && nat_lt 1 (length self.old.frame.scores - 2 * self.old.shape.pairs))
+            ≡ true
             → MatchStep result (λ _. ⊥) (budget.new.used ≡ budget.old.used) ⊥ }
-        ensures ended { MatchStep result (λ _. self.new.ended ≡ self.old.ended) (self.new.ended ≡ true) (self.new.ended ≡ self.old.ended) }
+        ensures ended { MatchStep result
+            (λ _. self.new.ended ≡ self.old.ended) (self.new.ended ≡ true) (self.new.ended ≡ self.old.ended) }
         ensures after_end { self.old.ended ≡ true → MatchStep result (λ _. ⊥) (budget.new.used ≡ budget.old.used) ⊥ }
         ensures frame { self.new.frame ≡ self.old.frame }
         ensures shape { self.new.shape ≡ self.old.shape }
@@ -447,12 +486,17 @@ impl<'a, R: Rule> Candidates<'a, R> {
         requires meets { B.meets bound.now ≡ R.meets self.old.rule }
         requires may_be_left { B.may_be_left bound.now ≡ R.may_be_left self.old.rule }
         ensures answer { MatchStep result
-            (λ c. Passes (λ a. B.is_dull bound.now a ≡ true) self.old.coming (c.lists ∷ self.new.coming) × (c.down ≡ down self.old.frame c.lists) × (self.new.latest ≡ Some c.lists))
-            (Passes (λ a. B.is_dull bound.now a ≡ true) self.old.coming [] × (self.new.coming ≡ []) × (self.new.latest ≡ self.old.latest))
-            (Passes (λ a. B.is_dull bound.now a ≡ true) self.old.coming self.new.coming × (self.new.latest ≡ self.old.latest) × (budget.new.used ≡ budget.new.limit)) }
-        ensures hopeless { (self.old.frame.last && nat_lt 1 (length self.old.frame.scores - 2 * self.old.shape.pairs)) ≡ true
+            (λ c. Passes (λ a. B.is_dull bound.now a ≡ true) self.old.coming (c.lists ∷ self.new.coming)
+            × (c.down ≡ down self.old.frame c.lists) × (self.new.latest ≡ Some c.lists))
+            (Passes (λ a. B.is_dull bound.now a ≡ true) self.old.coming [] × (self.new.coming ≡ [])
+            × (self.new.latest ≡ self.old.latest))
+            (Passes (λ a. B.is_dull bound.now a ≡ true) self.old.coming self.new.coming
+            × (self.new.latest ≡ self.old.latest) × (budget.new.used ≡ budget.new.limit)) }
+        ensures hopeless { (self.old.frame.last && nat_lt 1 (length self.old.frame.scores - 2 * self.old.shape.pairs))
+            ≡ true
             → MatchStep result (λ _. ⊥) (budget.new.used ≡ budget.old.used) ⊥ }
-        ensures ended { MatchStep result (λ _. self.new.ended ≡ self.old.ended) (self.new.ended ≡ true) (self.new.ended ≡ self.old.ended) }
+        ensures ended { MatchStep result
+            (λ _. self.new.ended ≡ self.old.ended) (self.new.ended ≡ true) (self.new.ended ≡ self.old.ended) }
         ensures after_end { self.old.ended ≡ true → MatchStep result (λ _. ⊥) (budget.new.used ≡ budget.old.used) ⊥ }
         ensures frame { self.new.frame ≡ self.old.frame }
         ensures shape { self.new.shape ≡ self.old.shape }
@@ -467,7 +511,8 @@ impl<'a, R: Rule> Candidates<'a, R> {
         }
     }
 
-    /// The candidate handed out last, or before that, the one behind which the listing began. A later listing can go on behind it.
+    /// The candidate handed out last, or before that, the one behind which the listing began. A later listing can go on
+    /// behind it.
     pub fn cursor(&self) -> Option<Cursor>
         ensures { result ≡ self.now.latest }
     {

@@ -1,15 +1,17 @@
-// The levels of a bracket's arrangements, innermost first: the choice of S2R, of S1R, of S2, and of S1 (C.04.3 B.6, B.7).
+// The levels of a bracket's arrangements, innermost first: the choice of S2R, of S1R, of S2, and of S1 (C.04.3 B.6,
+// B.7).
 //
-// Each level begins anew in place, for the choice that the level above it has made: it copies that choice into lists of its own, so
-// that no block makes a list. Behind a cursor only the first choice of each level can be the cursor's own. In that choice the level
-// below begins behind the cursor too; in all later ones it begins at its first choice.
+// Each level begins anew in place, for the choice that the level above it has made: it copies that choice into lists of
+// its own, so that no block makes a list. Behind a cursor only the first choice of each level can be the cursor's own.
+// In that choice the level below begins behind the cursor too; in all later ones it begins at its first choice.
 ghost use Rattle.std.specs.Prelude.{◌≡◌, ◌+◌, ◌≤◌, ℕ, List, None, [], ◌∷◌, length, option_copied, true};
 ghost use Rattle.std.specs.List.{AllByRecursion};
 ghost use Rattle.std.specs.List.Sorted.{IsStrictlyIncreasing};
 ghost use Rattle.dutch_order.specs.declared.numbers.TheConstants.{LIMIT};
 ghost use Rattle.dutch_order.specs.Arrangements.{Arrangement, Fits, arrangements, left_of};
 ghost use Rattle.dutch_order.specs.Keys.{IsIn};
-ghost use Rattle.dutch_order.specs.Levels.{HasS1r, HasS2, HasS2r, Of, if_own, in_bracket, in_s1, in_s1r, in_s2, joined, without_own};
+ghost use Rattle.dutch_order.specs.Levels.{HasS1r, HasS2, HasS2r, Of, if_own, in_bracket, in_s1, in_s1r, in_s2, joined};
+ghost use Rattle.dutch_order.specs.Levels.{without_own};
 ghost use Rattle.dutch_order.specs.Steps.{MatchDrawn, Passes, Spends};
 
 use crate::arrangement::Arrangement;
@@ -45,7 +47,8 @@ impl<'a, R: Rule> Model for ByS2r<'a, R> {
 
     ghost Value = { List Arrangement };
 
-    ghost view = { λ l. map (arranged l.s1.items l.s2.items l.s1r.items) (without_own (option_copied l.resume) l.lists.coming) };
+    ghost view = { λ l. map (arranged l.s1.items l.s2.items l.s1r.items)
+        (without_own (option_copied l.resume) l.lists.coming) };
 }
 
 impl<'a, R: Rule> ByS2r<'a, R> {
@@ -97,7 +100,8 @@ impl<'a, R: Rule> ByS2r<'a, R> {
     }
 }
 
-/// Fills a list with the next one, except a cursor's own, which may come first. None is skipped before the first one has come.
+/// Fills a list with the next one, except a cursor's own, which may come first. None is skipped before the first one
+/// has come.
 fn put_next_other<R: Rule, C: CutsTuples>(
     lists: &mut Transpositions<'_, R>,
     resume: &mut Option<&Cursor>,
@@ -107,9 +111,11 @@ fn put_next_other<R: Rule, C: CutsTuples>(
     budget: &mut Budget,
 ) -> Drawn
     ensures answer { MatchDrawn result
-        (Passes (C.Idle cuts.now) (without_own (option_copied resume.old) lists.old.coming) (numbers.new.items ∷ without_own (option_copied resume.new) lists.new.coming))
+        (Passes (C.Idle cuts.now) (without_own (option_copied resume.old) lists.old.coming)
+        (numbers.new.items ∷ without_own (option_copied resume.new) lists.new.coming))
         (Passes (C.Idle cuts.now) (without_own (option_copied resume.old) lists.old.coming) [])
-        (Passes (C.Idle cuts.now) (without_own (option_copied resume.old) lists.old.coming) (without_own (option_copied resume.new) lists.new.coming) × (budget.new.used ≡ budget.new.limit)) }
+        (Passes (C.Idle cuts.now) (without_own (option_copied resume.old) lists.old.coming)
+        (without_own (option_copied resume.new) lists.new.coming) × (budget.new.used ≡ budget.new.limit)) }
     ensures spends { Spends budget.old budget.new }
 {
     let Some(cursor) = *resume else {
@@ -181,9 +187,11 @@ impl<'a, R: Rule> Model for ByS1r<'a, R> {
 
     ghost Value = { List (List Arrangement) };
 
-    ghost view = { λ l. s1r_blocks (R.meets l.rule.now) l.s1.items l.s2.items l.remainder.items (option_copied l.resume) l.sets.coming };
+    ghost view = { λ l. s1r_blocks (R.meets l.rule.now) l.s1.items l.s2.items l.remainder.items
+        (option_copied l.resume) l.sets.coming };
 
-    ghost invariant = { λ l. IsStrictlyIncreasing l.remainder.items × Of (HasS2r l.remainder.items) (option_copied l.resume) };
+    ghost invariant = { λ l. IsStrictlyIncreasing l.remainder.items
+        × Of (HasS2r l.remainder.items) (option_copied l.resume) };
 }
 
 impl<'a, R: Rule> ByS1r<'a, R> {
@@ -340,7 +348,8 @@ impl<'a, R: Rule> Model for ByS2<'a, R> {
 
     ghost Value = { List (List Arrangement) };
 
-    ghost view = { λ l. s2_blocks (R.meets l.rule.now) l.k l.s1.items l.residents.items (option_copied l.resume) l.lists.coming };
+    ghost view = { λ l. s2_blocks (R.meets l.rule.now) l.k l.s1.items l.residents.items
+        (option_copied l.resume) l.lists.coming };
 
     ghost invariant = { λ l.
         IsStrictlyIncreasing l.residents.items
@@ -394,7 +403,8 @@ impl<'a, R: Rule> ByS2<'a, R> {
     }
 }
 
-/// Fills a list with the next one: the very next, or one before which only such were skipped as the cuts know to be idle.
+/// Fills a list with the next one: the very next, or one before which only such were skipped as the cuts know to be
+/// idle.
 fn put_next_list<R: Rule, C: CutsTuples>(
     lists: &mut Transpositions<'_, R>,
     very: bool,
@@ -508,7 +518,8 @@ impl<'a, R: Rule> ByS1<'a, R> {
         }
     }
 
-    /// Begins anew with a bracket and a shape for which it has room: all arrangements, or those that stand behind a cursor.
+    /// Begins anew with a bracket and a shape for which it has room: all arrangements, or those that stand behind a
+    /// cursor.
     #[tactic(auto, unfolding(crate::specs::Levels::in_bracket))]
     pub fn start(&mut self, bracket: &Bracket, shape: Shape, own: Option<&'a Cursor>, rule: &'a R)
         requires fits { Fits bracket.now shape }

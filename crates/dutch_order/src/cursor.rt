@@ -1,9 +1,13 @@
-// A cursor, which is an arrangement of a bracket, and its text, specified by what printing gives and which texts are one.
-ghost use Rattle.std.specs.Prelude.{◌≡◌, ℕ, ◌++◌, ◌+◌, ◌*◌, ◌<◌, ◌≤◌, ◌≢◌, ◌∷◌, [], slice_index, codes, decimal, is_some, length, true, false, Some, None, MatchOption, IfSome, ◌&&◌};
+// A cursor, which is an arrangement of a bracket, and its text, specified by what printing gives and which texts are
+// one.
+ghost use Rattle.std.specs.Prelude.{◌≡◌, ℕ, ◌++◌, ◌+◌, ◌*◌, ◌<◌, ◌≤◌, ◌≢◌, ◌∷◌, [], slice_index, codes, decimal};
+ghost use Rattle.std.specs.Prelude.{is_some, length, true, false, Some, None, MatchOption, IfSome, ◌&&◌};
 ghost use Rattle.std.specs.Char.{is_ascii_digit};
 ghost use Rattle.std.specs.List.{list_all, flat_map};
 ghost use Rattle.dutch_order.specs.Arrangements.{left_of};
-ghost use Rattle.dutch_order.specs.Cursors.{list_text, cursor_text, parts, is_numeral, number_after, number_of, numbers_of, list_of, arrangement_of, parsed, has_syntax, ascends_above, are_different, are_of, is_set_of, is_tuple_of, is_among, cursor_of};
+ghost use Rattle.dutch_order.specs.Cursors.{list_text, cursor_text, parts, is_numeral, number_after, number_of};
+ghost use Rattle.dutch_order.specs.Cursors.{numbers_of, list_of, arrangement_of, parsed, has_syntax, ascends_above};
+ghost use Rattle.dutch_order.specs.Cursors.{are_different, are_of, is_set_of, is_tuple_of, is_among, cursor_of};
 ghost use Rattle.dutch_order.specs.CursorLists.{IsLong, is_short};
 ghost use Rattle.arrayvec.specs.ArrayString.{array_string_len};
 
@@ -15,7 +19,8 @@ use itoa::Buffer;
 use std::marker::Model;
 use thiserror::Error;
 
-/// A cursor: an arrangement of a bracket, legal or not (C.04.3 B.2), from which the candidates behind it can be asked for.
+/// A cursor: an arrangement of a bracket, legal or not (C.04.3 B.2), from which the candidates behind it can be asked
+/// for.
 #[derive(Debug, Drop)]
 pub struct Cursor {
     pub(crate) lists: Arrangement,
@@ -40,8 +45,8 @@ pub enum CursorFault {
     NotOfBracket,
 }
 
-/// The bytes of the longest text: each of the four lists has at most `LIMIT` numbers, each number at most five digits, and with each
-/// number there is at most one separator.
+/// The bytes of the longest text: each of the four lists has at most `LIMIT` numbers, each number at most five digits,
+/// and with each number there is at most one separator.
 pub const TEXT_LIMIT: usize = 4 * 6 * LIMIT;
 
 /// The text of a cursor. Every cursor has room in it.
@@ -63,7 +68,8 @@ fn part_len(text: &[u8], separator: u8) -> usize
 
 // The first part of a text and what stands behind its separator, or none where there is only one part.
 fn split_part(text: &[u8], separator: u8) -> Option<(&[u8], &[u8])>
-    ensures parts { MatchOption result (parts separator text.now ≡ text.now ∷ []) (λ x. parts separator text.now ≡ x.0.now ∷ parts separator x.1.now) }
+    ensures parts { MatchOption result (parts separator text.now ≡ text.now ∷ [])
+        (λ x. parts separator text.now ≡ x.0.now ∷ parts separator x.1.now) }
     ensures shorter { IfSome result (λ x. length x.1.now < length text.now) }
 {
     let len = part_len(text, separator);
@@ -150,7 +156,8 @@ struct Lists<'a> {
 
 // The four parts of a text, or none where it has fewer or more.
 fn split_lists(text: &[u8]) -> Option<Lists<'_>>
-    ensures { MatchOption result (parsed text.now ≡ None) (λ x. parts 47 text.now ≡ x.s1.now ∷ x.s2.now ∷ x.s1r.now ∷ x.s2r.now ∷ []) }
+    ensures { MatchOption result (parsed text.now ≡ None)
+        (λ x. parts 47 text.now ≡ x.s1.now ∷ x.s2.now ∷ x.s1r.now ∷ x.s2r.now ∷ []) }
 {
     let (s1, rest) = split_part(text, b'/')?;
     let (s2, rest) = split_part(rest, b'/')?;
@@ -168,7 +175,8 @@ fn split_lists(text: &[u8]) -> Option<Lists<'_>>
 
 // Whether all four parts are lists.
 fn are_lists(lists: &Lists<'_>) -> bool
-    ensures { result ≡ is_some (arrangement_of (lists.now.s1.now ∷ lists.now.s2.now ∷ lists.now.s1r.now ∷ lists.now.s2r.now ∷ [])) }
+    ensures { result ≡ is_some (arrangement_of
+        (lists.now.s1.now ∷ lists.now.s2.now ∷ lists.now.s1r.now ∷ lists.now.s2r.now ∷ [])) }
 {
     is_list(lists.s1) && is_list(lists.s2) && is_list(lists.s1r) && is_list(lists.s2r)
 }
@@ -176,7 +184,8 @@ fn are_lists(lists: &Lists<'_>) -> bool
 // The four parts of a text that has the form of a cursor.
 fn sound_lists(text: &[u8]) -> Option<Lists<'_>>
     ensures { MatchOption result (parsed text.now ≡ None)
-        (λ x. (parts 47 text.now ≡ x.s1.now ∷ x.s2.now ∷ x.s1r.now ∷ x.s2r.now ∷ []) × (is_some (parsed text.now) ≡ true)) }
+        (λ x. (parts 47 text.now ≡ x.s1.now ∷ x.s2.now ∷ x.s1r.now ∷ x.s2r.now ∷ [])
+        × (is_some (parsed text.now) ≡ true)) }
 {
     let lists = split_lists(text)?;
     if are_lists(&lists) { Some(lists) } else { None }
@@ -184,7 +193,8 @@ fn sound_lists(text: &[u8]) -> Option<Lists<'_>>
 
 // The numbers between commas, where all parts are numbers and there is room for them.
 fn numbers_in(text: &[u8]) -> Option<Numbers>
-    ensures { MatchOption result (IsLong (numbers_of (parts 44 text.now))) (λ x. numbers_of (parts 44 text.now) ≡ Some x.items) }
+    ensures { MatchOption result (IsLong (numbers_of (parts 44 text.now)))
+        (λ x. numbers_of (parts 44 text.now) ≡ Some x.items) }
 {
     let mut numbers = Numbers::new();
     let mut rest = text;
@@ -217,8 +227,10 @@ fn list_in(text: &[u8]) -> Option<Numbers>
 // The arrangement that four parts are, where they are one and there is room for it.
 fn arrangement_in(lists: &Lists<'_>) -> Option<Arrangement>
     ensures { MatchOption result
-        (IfSome (arrangement_of (lists.now.s1.now ∷ lists.now.s2.now ∷ lists.now.s1r.now ∷ lists.now.s2r.now ∷ [])) (λ a. is_short a ≡ false))
-        (λ x. arrangement_of (lists.now.s1.now ∷ lists.now.s2.now ∷ lists.now.s1r.now ∷ lists.now.s2r.now ∷ []) ≡ Some x) }
+        (IfSome (arrangement_of (lists.now.s1.now ∷ lists.now.s2.now ∷ lists.now.s1r.now ∷ lists.now.s2r.now ∷ []))
+        (λ a. is_short a ≡ false))
+        (λ x. arrangement_of (lists.now.s1.now ∷ lists.now.s2.now ∷ lists.now.s1r.now ∷ lists.now.s2r.now ∷ [])
+        ≡ Some x) }
 {
     let s1 = list_in(lists.s1)?;
     let s2 = list_in(lists.s2)?;
@@ -321,8 +333,8 @@ impl Cursor {
         }
     }
 
-    /// Whether a text has the form of a cursor, of whatever bracket: four lists joined by `/`, each of them numbers from 1 to `LIMIT`
-    /// joined by `,`, or `0` alone if it is empty.
+    /// Whether a text has the form of a cursor, of whatever bracket: four lists joined by `/`, each of them numbers
+    /// from 1 to `LIMIT` joined by `,`, or `0` alone if it is empty.
     pub fn syntax(text: &str) -> bool
         ensures { result ≡ has_syntax text.now }
     {
@@ -356,9 +368,9 @@ impl Cursor {
             && self.has_remainder(residents, shape.pairs.saturating_sub(shape.mdps))
     }
 
-    /// The cursor that a text is: its players are numbers in the bracket, which count from 1. The fault is `Syntax` exactly if
-    /// `syntax` answers false, and `NotOfBracket` if the lists are no arrangement of the bracket and shape: lengths other than the
-    /// shape's, a number not in its place's pool, a repeated number, or S1 or S1R not ascending.
+    /// The cursor that a text is: its players are numbers in the bracket, which count from 1. The fault is `Syntax`
+    /// exactly if `syntax` answers false, and `NotOfBracket` if the lists are no arrangement of the bracket and shape:
+    /// lengths other than the shape's, a number not in its place's pool, a repeated number, or S1 or S1R not ascending.
     pub fn read(text: &str, bracket: &Bracket, shape: Shape) -> Result<Cursor, CursorFault>
         ensures { result ≡ cursor_of bracket.now shape text.now }
     {

@@ -12,7 +12,8 @@ pub fn arrangements_are_of()
         → is_of frame shape a ≡ true ↔ IsIn a (arrangements frame shape) }
 {}
 
-/// A text is read as an arrangement exactly if this is one of the bracket and shape and the text is what printing gives of it.
+/// A text is read as an arrangement exactly if this is one of the bracket and shape and the text is what printing gives
+/// of it.
 pub fn read_is_print()
     ensures { (frame : Frame) (shape : Shape) (bytes : List ℕ) (a : Arrangement) → IsBracket frame.scores frame.mdps
         → cursor_of frame shape bytes ≡ Ok a ↔ (IsIn a (arrangements frame shape) × (bytes ≡ cursor_text a)) }
@@ -20,5 +21,6 @@ pub fn read_is_print()
 
 /// `Syntax` is answered of exactly the texts that do not have the form of a cursor, of whatever bracket.
 pub fn syntax_is_told()
-    ensures { (frame : Frame) (shape : Shape) (bytes : List ℕ) → cursor_of frame shape bytes ≡ Err Syntax ↔ has_syntax bytes ≡ false }
+    ensures { (frame : Frame) (shape : Shape) (bytes : List ℕ) → cursor_of frame shape bytes ≡ Err Syntax
+        ↔ has_syntax bytes ≡ false }
 {}

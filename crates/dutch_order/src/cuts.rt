@@ -1,4 +1,5 @@
-// What the levels of a listing and the search of their lists see of a bound: which beginnings lead to nothing of interest.
+// What the levels of a listing and the search of their lists see of a bound: which beginnings lead to nothing of
+// interest.
 ghost use Rattle.std.specs.Prelude.{◌≡◌, ℕ, List, true};
 ghost use Rattle.dutch_order.specs.Arrangements.{Arrangement, candidates};
 ghost use Rattle.dutch_order.specs.Exchanged.{IsExchange};
@@ -93,8 +94,8 @@ impl<'b, B: Bound> Cuts for Within<'b, B> {
     type Room = B::Room;
 
     ghost Idle = { λ w a.
-        IsIn a (candidates (B.meets w.bound.now) (B.may_be_left w.bound.now) (B.frame w.bound.now) (B.shape w.bound.now))
-        → B.is_dull w.bound.now a ≡ true };
+        IsIn a (candidates (B.meets w.bound.now) (B.may_be_left w.bound.now) (B.frame w.bound.now)
+        (B.shape w.bound.now)) → B.is_dull w.bound.now a ≡ true };
 
     fn cuts(&self, prefix: &Prefix<'_>, room: &mut Self::Room) -> bool {
         self.bound.cannot_win(prefix, room)

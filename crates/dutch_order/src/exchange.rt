@@ -1,26 +1,30 @@
-// Exchanges, article D.2: sets of a pool by how far they are from the original one, specified by a sorted list of subsets.
+// Exchanges, article D.2: sets of a pool by how far they are from the original one, specified by a sorted list of
+// subsets.
 //
-// The sets are searched in stages, one for each number of exchanged players and each difference of the sums. A stage fills the
-// places of the numbers moved out, highest first, and then those of the numbers moved in, lowest first, and goes on from a place only
-// while the wanted difference lies between the least and the greatest that can still come. So a stage never scans all sets. If
-// the least is more than what is wanted, it is noted. The lowest one noted is the difference of the next stage. So no stage without a
-// set is searched, however far apart the numbers of the pool are.
+// The sets are searched in stages, one for each number of exchanged players and each difference of the sums. A stage
+// fills the places of the numbers moved out, highest first, and then those of the numbers moved in, lowest first, and
+// goes on from a place only while the wanted difference lies between the least and the greatest that can still come. So
+// a stage never scans all sets. If the least is more than what is wanted, it is noted. The lowest one noted is the
+// difference of the next stage. So no stage without a set is searched, however far apart the numbers of the pool are.
 //
-// A search that begins at a set begins in that set's stage, at the set's own path, and then tries the very next difference, since
-// what lies beyond the paths before the set was not seen.
+// A search that begins at a set begins in that set's stage, at the set's own path, and then tries the very next
+// difference, since what lies beyond the paths before the set was not seen.
 //
 // A search past idle sets asks about a whole stage where it begins, and about each path of a stage as far as it has
 // begun: what it tells is who is in each set whose path begins so, and who is in none. What lies beyond paths that were
 // left is not known, so then it tries the very next difference too.
 ghost use Rattle.dutch_order.specs.declared.numbers.TheConstants.{LIMIT};
-ghost use Rattle.std.specs.Prelude.{◌≡◌, ◌+◌, ◌*◌, ◌-◌, ◌<◌, ◌≤◌, ℕ, List, suc, true, false, Some, [], ◌∷◌, ◌++◌, length, map, take, drop, slice_index};
+ghost use Rattle.std.specs.Prelude.{◌≡◌, ◌+◌, ◌*◌, ◌-◌, ◌<◌, ◌≤◌, ℕ, List, suc, true, false, Some, [], ◌∷◌, ◌++◌};
+ghost use Rattle.std.specs.Prelude.{length, map, take, drop, slice_index};
 ghost use Rattle.std.specs.List.{AllByRecursion};
 ghost use Rattle.std.specs.Result.{IsErr};
 ghost use Rattle.dutch_order.specs.Prefixes.{GoesOn};
 ghost use Rattle.dutch_order.specs.Sides.{count_of};
 ghost use Rattle.dutch_order.specs.Stages.{IdleAt, barred_numbers, held_numbers, in_limit};
 ghost use Rattle.dutch_order.specs.Stages.{is_told, out_limit, told_numbers};
-ghost use Rattle.dutch_order.specs.Stages.{least_at, greatest_at, least_difference, greatest_difference, exchange_plan, IsPlace, sets_from, trials_from, stages_ahead, set_of, kept_of, value_of, following, out_places, in_places, exchange_path, exchange_difference};
+ghost use Rattle.dutch_order.specs.Stages.{least_at, greatest_at, least_difference, greatest_difference, exchange_plan};
+ghost use Rattle.dutch_order.specs.Stages.{IsPlace, sets_from, trials_from, stages_ahead, set_of, kept_of, value_of};
+ghost use Rattle.dutch_order.specs.Stages.{following, out_places, in_places, exchange_path, exchange_difference};
 ghost use Rattle.dutch_order.specs.Exchange.{exchanges};
 ghost use Rattle.dutch_order.specs.Choices.{subsets, from_on, numbers_from};
 ghost use Rattle.dutch_order.specs.Keys.{IsIn};
@@ -125,8 +129,10 @@ struct Stage<'a> {
 /// What can still come if a place is tried in a stage.
 #[tactic(auto, unfolding(crate::specs::Halves::half_stop))]
 fn reach_of(stage: &Stage<'_>, path: &[u16], place: usize) -> Reach
-    requires opened { IsOpen (exchange_plan stage.now.pool.now stage.now.k stage.now.size stage.now.difference) path.now }
-    requires tried { place < (exchange_plan stage.now.pool.now stage.now.k stage.now.size stage.now.difference).stop path.now }
+    requires opened { IsOpen (exchange_plan stage.now.pool.now stage.now.k stage.now.size stage.now.difference)
+        path.now }
+    requires tried { let plan = exchange_plan stage.now.pool.now stage.now.k stage.now.size stage.now.difference in
+        place < plan.stop path.now }
     ensures least { result.least ≡ least_at stage.now.pool.now stage.now.k stage.now.size path.now place }
     ensures greatest { result.greatest ≡ greatest_at stage.now.pool.now stage.now.k stage.now.size path.now place }
 {
@@ -303,12 +309,16 @@ fn next_stage(pool: &[u16], k: usize, place: &mut Place) -> bool
     requires ascends { IsStrictlyIncreasing pool.now }
     requires few { length pool.now ≤ LIMIT }
     requires enough { k ≤ length pool.now }
-    requires spent { ahead (hinted place.old.hint.items (exchange_plan pool.now k place.old.size place.old.difference)) place.old.walk.path.items place.old.walk.number ≡ [] }
+    requires spent { ahead (hinted place.old.hint.items
+        (exchange_plan pool.now k place.old.size place.old.difference)) place.old.walk.path.items place.old.walk.number
+        ≡ [] }
     requires standing { IsPlace pool.now k place.old }
     ensures stands { IsPlace pool.now k place.new }
     ensures sets { sets_from pool.now k place.new ≡ sets_from pool.now k place.old }
     ensures trials { trials_from pool.now k place.new ≡ trials_from pool.now k place.old }
-    ensures nearer { result ≡ true → stages_ahead pool.now k place.new.size place.new.difference < stages_ahead pool.now k place.old.size place.old.difference }
+    ensures nearer { result ≡ true
+        → stages_ahead pool.now k place.new.size place.new.difference
+        < stages_ahead pool.now k place.old.size place.old.difference }
     ensures ended { result ≡ false → (sets_from pool.now k place.new ≡ []) × (trials_from pool.now k place.new ≡ 0) }
 {
     if let Some(next) = following_of(
@@ -336,12 +346,15 @@ fn next_set(pool: &[u16], k: usize, place: &mut Place, budget: &mut Budget) -> D
     requires standing { IsPlace pool.now k place.old }
     ensures stands { IsPlace pool.now k place.new }
     ensures answer { MatchDrawn result
-        ((sets_from pool.now k place.old ≡ set_of pool.now k place.new.size place.new.walk.path.items ∷ sets_from pool.now k place.new)
+        ((sets_from pool.now k place.old
+        ≡ set_of pool.now k place.new.size place.new.walk.path.items ∷ sets_from pool.now k place.new)
         × (length place.new.walk.path.items ≡ place.new.size + place.new.size))
-        ((sets_from pool.now k place.old ≡ []) × (sets_from pool.now k place.new ≡ []) × (trials_from pool.now k place.new ≡ 0))
+        ((sets_from pool.now k place.old ≡ []) × (sets_from pool.now k place.new ≡ [])
+        × (trials_from pool.now k place.new ≡ 0))
         ((sets_from pool.now k place.new ≡ sets_from pool.now k place.old)
         × (budget.new.used ≡ budget.new.limit) × (0 < trials_from pool.now k place.new)) }
-    ensures steps { budget.new.used + trials_from pool.now k place.new ≡ budget.old.used + trials_from pool.now k place.old }
+    ensures steps { budget.new.used + trials_from pool.now k place.new
+        ≡ budget.old.used + trials_from pool.now k place.old }
     ensures spends { Spends budget.old budget.new }
 {
     loop {
@@ -705,10 +718,11 @@ fn put_set(pool: &[u16], k: usize, place: &Place, numbers: &mut Numbers)
     put_moved_in(pool, k, ins, numbers);
 }
 
-/// The sets of `k` numbers of a pool, in the order of exchanges between the original set, which is the first `k` numbers, and the
-/// others (C.04.3 D.2): fewer numbers exchanged first; then the smaller difference between the sum of the numbers moved in and the
-/// sum of those moved out; then those moved out compared from the highest, the higher first; then those moved in compared from the
-/// lowest, the lower first. It takes no memory. A step is one place tried for a number moved out or moved in.
+/// The sets of `k` numbers of a pool, in the order of exchanges between the original set, which is the first `k`
+/// numbers, and the others (C.04.3 D.2): fewer numbers exchanged first; then the smaller difference between the sum of
+/// the numbers moved in and the sum of those moved out; then those moved out compared from the highest, the higher
+/// first; then those moved in compared from the lowest, the lower first. It takes no memory. A step is one place tried
+/// for a number moved out or moved in.
 #[derive(Drop)]
 pub struct Exchanges {
     pool: Numbers,
@@ -804,8 +818,9 @@ impl Exchanges {
         enter_at(pool, k, set, &mut self.place);
     }
 
-    /// The next set, in ascending order. `Found` gives the first of those to come. `End` says that none is left. `Undecided` says that the
-    /// budget was used up before the next one was found; then what is to come stays as it was.
+    /// The next set, in ascending order. `Found` gives the first of those to come. `End` says that none is left.
+    /// `Undecided` says that the budget was used up before the next one was found; then what is to come stays as it
+    /// was.
     pub fn next(&mut self, budget: &mut Budget) -> Step<Numbers>
         ensures answer { MatchStep result
             (λ numbers. self.old.coming ≡ numbers.items ∷ self.new.coming)

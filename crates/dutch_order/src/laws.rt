@@ -1,4 +1,5 @@
-// Laws of the definitions alone: the orders of choices are orders, and the lists of choices are what they are said to be.
+// Laws of the definitions alone: the orders of choices are orders, and the lists of choices are what they are said to
+// be.
 ghost use Rattle.std.specs.Prelude.{◌≡◌, ◌≤◌, ◌⊎◌, ◌↔◌, ℕ, Bool, List, true, false, ◌++◌, length, slice_index};
 ghost use Rattle.std.specs.Cmp.{IsTotalOrder};
 ghost use Rattle.std.specs.declared.cmp.Ordering.TheVariants.{Equal};
@@ -21,7 +22,8 @@ pub fn orders_are_total()
 /// Of two different choices one goes before the other: those that an order leaves level are the same choice.
 pub fn different_choices_are_not_level()
     ensures tuples { (a b : List ℕ) → lower_first a b ≡ Equal → a ≡ b }
-    ensures exchanges { (pool : List ℕ) (k : ℕ) (a b : List ℕ) → IsStrictlyIncreasing pool → ((i : ℕ) → slice_index pool i ≤ 65535) → k ≤ length pool
+    ensures exchanges { (pool : List ℕ) (k : ℕ) (a b : List ℕ) → IsStrictlyIncreasing pool
+        → ((i : ℕ) → slice_index pool i ≤ 65535) → k ≤ length pool
         → IsIn a (subsets pool k) → IsIn b (subsets pool k) → exchange_cmp pool k a b ≡ Equal → a ≡ b }
     ensures limbo_exchanges { (scores a b : List ℕ) → limbo_cmp scores a b ≡ Equal → a ≡ b }
 {}
@@ -29,36 +31,45 @@ pub fn different_choices_are_not_level()
 /// Each list of choices ascends in its order: each choice goes before all later ones.
 pub fn choices_ascend()
     ensures tuples { (pool : List ℕ) (k : ℕ) → IsStrictlyIncreasing pool → Ascends lower_first (all_tuples pool k) }
-    ensures transpositions { (meets : ℕ → ℕ → Bool) (first pool : List ℕ) → IsStrictlyIncreasing pool → Ascends lower_first (transpositions meets first pool) }
-    ensures exchanges { (pool : List ℕ) (k : ℕ) → IsStrictlyIncreasing pool → ((i : ℕ) → slice_index pool i ≤ 65535) → k ≤ length pool
+    ensures transpositions { (meets : ℕ → ℕ → Bool) (first pool : List ℕ) → IsStrictlyIncreasing pool
+        → Ascends lower_first (transpositions meets first pool) }
+    ensures exchanges { (pool : List ℕ) (k : ℕ) → IsStrictlyIncreasing pool → ((i : ℕ) → slice_index pool i ≤ 65535)
+        → k ≤ length pool
         → Ascends (exchange_cmp pool k) (exchanges pool k) }
     ensures limbo_exchanges { (scores : List ℕ) (k : ℕ) → Ascends (limbo_cmp scores) (limbo_exchanges scores k) }
 {}
 
-/// Each list of choices has exactly the members of the plain list of tuples or subsets: of tuples those whose players may meet.
+/// Each list of choices has exactly the members of the plain list of tuples or subsets: of tuples those whose players
+/// may meet.
 pub fn choices_are_all()
-    ensures tuples { (pool : List ℕ) (k : ℕ) (tuple : List ℕ) → IsIn tuple (all_tuples pool k) ↔ IsIn tuple (tuples pool k) }
+    ensures tuples { (pool : List ℕ) (k : ℕ) (tuple : List ℕ) → IsIn tuple (all_tuples pool k)
+        ↔ IsIn tuple (tuples pool k) }
     ensures transpositions { (meets : ℕ → ℕ → Bool) (first pool tuple : List ℕ)
-        → IsIn tuple (transpositions meets first pool) ↔ (IsIn tuple (tuples pool (length first)) × (all_meet meets first tuple ≡ true)) }
-    ensures exchanges { (pool : List ℕ) (k : ℕ) (set : List ℕ) → IsIn set (exchanges pool k) ↔ IsIn set (subsets pool k) }
+        → IsIn tuple (transpositions meets first pool)
+        ↔ (IsIn tuple (tuples pool (length first)) × (all_meet meets first tuple ≡ true)) }
+    ensures exchanges { (pool : List ℕ) (k : ℕ) (set : List ℕ) → IsIn set (exchanges pool k)
+        ↔ IsIn set (subsets pool k) }
     ensures limbo_exchanges { (scores : List ℕ) (k : ℕ) (set : List ℕ)
         → IsIn set (limbo_exchanges scores k) ↔ IsIn set (subsets (numbers_from 1 (length scores)) k) }
 {}
 
-/// In every exchange the sum of what is moved in is at least the sum of what is moved out, so the difference of the two sums
-/// loses nothing (D.2).
+/// In every exchange the sum of what is moved in is at least the sum of what is moved out, so the difference of the two
+/// sums loses nothing (D.2).
 pub fn exchanges_lower_no_sum()
     ensures { (pool : List ℕ) (k : ℕ) (set : List ℕ) → IsStrictlyIncreasing pool → IsIn set (subsets pool k)
         → sum_of (moved_out pool k set) ≤ sum_of (moved_in pool k set) }
 {}
 
-/// Each arrangement of a bracket and shape comes once, and none stands behind itself; so each candidate comes once: of all of them, of
-/// those behind an arrangement, and of what is still to come of either.
+/// Each arrangement of a bracket and shape comes once, and none stands behind itself; so each candidate comes once: of
+/// all of them, of those behind an arrangement, and of what is still to come of either.
 pub fn each_arrangement_comes_once()
     ensures arrangements { (frame : Frame) (shape : Shape) → HasEachOnce (arrangements frame shape) }
-    ensures behind { (frame : Frame) (shape : Shape) (a : Arrangement) → ¬ IsIn a (behind a (arrangements frame shape)) }
-    ensures candidates { (meets : ℕ → ℕ → Bool) (may_be_left : ℕ → Bool) (frame : Frame) (shape : Shape) (passed coming : List Arrangement)
+    ensures behind { (frame : Frame) (shape : Shape) (a : Arrangement)
+        → ¬ IsIn a (behind a (arrangements frame shape)) }
+    ensures candidates { (meets : ℕ → ℕ → Bool) (may_be_left : ℕ → Bool) (frame : Frame) (shape : Shape)
+        (passed coming : List Arrangement)
         → candidates meets may_be_left frame shape ≡ passed ++ coming → HasEachOnce coming }
-    ensures rest { (meets : ℕ → ℕ → Bool) (may_be_left : ℕ → Bool) (frame : Frame) (shape : Shape) (a : Arrangement) (passed coming : List Arrangement)
+    ensures rest { (meets : ℕ → ℕ → Bool) (may_be_left : ℕ → Bool) (frame : Frame) (shape : Shape) (a : Arrangement)
+        (passed coming : List Arrangement)
         → rest meets may_be_left frame shape a ≡ passed ++ coming → HasEachOnce coming }
 {}

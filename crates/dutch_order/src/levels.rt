@@ -1,8 +1,8 @@
-// Levels of a listing: each goes through blocks of arrangements, one for each choice, and a block is a level in its turn. Specified
-// by the list of what is still to come.
+// Levels of a listing: each goes through blocks of arrangements, one for each choice, and a block is a level in its
+// turn. Specified by the list of what is still to come.
 //
-// A level stands in a block, or between two of them. Each turn of its loop draws from the block, and asks for the next block if that one
-// has ended. If either call is stopped, what is left stays as it was.
+// A level stands in a block, or between two of them. Each turn of its loop draws from the block, and asks for the next
+// block if that one has ended. If either call is stopped, what is left stays as it was.
 ghost use Rattle.std.specs.Prelude.{◌≡◌, ℕ, List, [], ◌∷◌};
 ghost use Rattle.std.specs.List.{AllByRecursion};
 ghost use Rattle.dutch_order.specs.Arrangements.{Arrangement};
@@ -19,8 +19,8 @@ pub trait Arranges {
     /// The arrangements to come.
     ghost coming: { Self → List Arrangement };
 
-    /// Fills `lists` with the next arrangement. Those that `cuts` knows to be idle may be skipped. If there is none, all that were to come
-    /// are idle; what is to come after that is nowhere said.
+    /// Fills `lists` with the next arrangement. Those that `cuts` knows to be idle may be skipped. If there is none,
+    /// all that were to come are idle; what is to come after that is nowhere said.
     fn next<C: Cuts>(
         &mut self,
         cuts: &C,
@@ -51,9 +51,11 @@ pub trait Blocks {
         budget: &mut Budget,
     ) -> Drawn
         ensures answer { MatchDrawn result
-            (Passes (AllByRecursion (C.Idle cuts.now)) (blocks self.old) (Self.Block.coming block.new ∷ blocks self.new))
+            (Passes (AllByRecursion (C.Idle cuts.now)) (blocks self.old)
+            (Self.Block.coming block.new ∷ blocks self.new))
             (Passes (AllByRecursion (C.Idle cuts.now)) (blocks self.old) [])
-            (Passes (AllByRecursion (C.Idle cuts.now)) (blocks self.old) (blocks self.new) × (budget.new.used ≡ budget.new.limit)) }
+            (Passes (AllByRecursion (C.Idle cuts.now)) (blocks self.old) (blocks self.new)
+            × (budget.new.used ≡ budget.new.limit)) }
         ensures spends { Spends budget.old budget.new };
 }
 
@@ -89,8 +91,8 @@ impl<B: Blocks> Level<B> {
     }
 }
 
-/// Fills `lists` with the next arrangement of the block in which a level stands. A level that stands in none is treated as if its block
-/// had ended.
+/// Fills `lists` with the next arrangement of the block in which a level stands. A level that stands in none is treated
+/// as if its block had ended.
 fn draw<T: Arranges, C: Cuts>(
     in_block: bool,
     block: &mut T,
@@ -100,9 +102,11 @@ fn draw<T: Arranges, C: Cuts>(
     budget: &mut Budget,
 ) -> Drawn
     ensures answer { MatchDrawn result
-        (Passes (C.Idle cuts.now) (within in_block (T.coming block.old)) (lists.new ∷ within in_block (T.coming block.new)))
+        (Passes (C.Idle cuts.now) (within in_block (T.coming block.old))
+        (lists.new ∷ within in_block (T.coming block.new)))
         (Passes (C.Idle cuts.now) (within in_block (T.coming block.old)) [])
-        (Passes (C.Idle cuts.now) (within in_block (T.coming block.old)) (within in_block (T.coming block.new)) × (budget.new.used ≡ budget.new.limit)) }
+        (Passes (C.Idle cuts.now) (within in_block (T.coming block.old)) (within in_block (T.coming block.new))
+        × (budget.new.used ≡ budget.new.limit)) }
     ensures spends { Spends budget.old budget.new }
 {
     Ok(in_block && block.next(cuts, room, lists, budget)?)

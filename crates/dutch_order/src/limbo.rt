@@ -1,4 +1,5 @@
-// Exchanges of moved-down players, article D.3: sets of places by their scores and numbers, specified by a sorted list of subsets.
+// Exchanges of moved-down players, article D.3: sets of places by their scores and numbers, specified by a sorted list
+// of subsets.
 ghost use Rattle.dutch_order.specs.declared.numbers.TheConstants.{LIMIT};
 ghost use Rattle.std.specs.Prelude.{◌≡◌, ◌+◌, ◌*◌, ◌<◌, ◌≤◌, ℕ, [], ◌∷◌, ◌-◌, length, map, slice_index};
 ghost use Rattle.std.specs.List.{AllByRecursion};
@@ -41,8 +42,8 @@ fn place_leads(scores: &[u16], k: usize, path: &[u16], place: usize) -> bool
     place == first_of_half(k, path) || place == 0 || scores[place - 1] != scores[place]
 }
 
-/// Whether a place may be the next one of a set: it has the score that its place has in the first set, and it leaves enough places
-/// with that score for those that must follow.
+/// Whether a place may be the next one of a set: it has the score that its place has in the first set, and it leaves
+/// enough places with that score for those that must follow.
 #[tactic(auto, unfolding(crate::specs::LimboSearch::mirrors))]
 fn place_mirrors(scores: &[u16], k: usize, path: &[u16], place: usize) -> bool
     requires within { AllByRecursion (λ place. place < length scores.now) path.now }
@@ -159,9 +160,9 @@ impl<'a> Tree for Ranked<'a> {
     }
 }
 
-/// The sets of `k` moved-down players who are paired, while the others wait in the Limbo, by their scores and then by their numbers
-/// (C.04.3 D.3). The players are numbered from 1. It takes no memory. A step is one place tried, for the first set with the same
-/// scores or for the set itself.
+/// The sets of `k` moved-down players who are paired, while the others wait in the Limbo, by their scores and then by
+/// their numbers (C.04.3 D.3). The players are numbered from 1. It takes no memory. A step is one place tried, for the
+/// first set with the same scores or for the set itself.
 #[derive(Drop)]
 pub struct LimboExchanges {
     scores: Numbers,
@@ -192,7 +193,8 @@ impl Model for LimboExchanges {
 }
 
 impl LimboExchanges {
-    /// The sets of `k` of the players with these scores, which do not ascend. There are at most `LIMIT` players, and at least `k`.
+    /// The sets of `k` of the players with these scores, which do not ascend. There are at most `LIMIT` players, and at
+    /// least `k`.
     pub fn new(scores: &[u16], k: usize) -> LimboExchanges
         requires descends { IsNonAscending scores.now }
         requires few { length scores.now ≤ LIMIT }
@@ -260,8 +262,9 @@ impl LimboExchanges {
         self.walk.restart(first_hint(&self.hint));
     }
 
-    /// The next set, in ascending order. `Found` gives the first of those to come. `End` says that none is left. `Undecided` says that the
-    /// budget was used up before the next one was found; then what is to come stays as it was.
+    /// The next set, in ascending order. `Found` gives the first of those to come. `End` says that none is left.
+    /// `Undecided` says that the budget was used up before the next one was found; then what is to come stays as it
+    /// was.
     pub fn next(&mut self, budget: &mut Budget) -> Step<Numbers>
         ensures answer { MatchStep result
             (λ numbers. self.old.coming ≡ numbers.items ∷ self.new.coming)

@@ -15,8 +15,8 @@ pub enum Filling {
     S2r,
 }
 
-/// A beginning of an arrangement: nothing; or S1 and a part of S2; or S1, S2 and S1R and a part of S2R. Players are named by their
-/// numbers in the bracket. A list that is not reached yet is empty.
+/// A beginning of an arrangement: nothing; or S1 and a part of S2; or S1, S2 and S1R and a part of S2R. Players are
+/// named by their numbers in the bracket. A list that is not reached yet is empty.
 #[derive(Drop)]
 pub struct Prefix<'a> {
     pub(crate) filling: Filling,

@@ -1,10 +1,12 @@
-// The one search of all generators: a path of numbers that is filled place by place, goes back where no number fits, and can be
-// stopped before each trial.
+// The one search of all generators: a path of numbers that is filled place by place, goes back where no number fits,
+// and can be stopped before each trial.
 //
-// A beginning that leads to nothing of interest is left: if the caller knows that every whole path which begins so is idle, all of them
-// are passed over. So only idle paths are ever passed over, and it costs no step. When you change it, keep this: a path is left only by
-// setting its next number past all that its place tries, and if nothing is idle, each trial is still made and counted.
-ghost use Rattle.std.specs.Prelude.{◌≡◌, ◌+◌, ◌-◌, ◌<◌, ◌≤◌, ◌⊎◌, ℕ, List, None, Some, [], ◌∷◌, ◌++◌, length, true, false};
+// A beginning that leads to nothing of interest is left: if the caller knows that every whole path which begins so is
+// idle, all of them are passed over. So only idle paths are ever passed over, and it costs no step. When you change it,
+// keep this: a path is left only by setting its next number past all that its place tries, and if nothing is idle, each
+// trial is still made and counted.
+ghost use Rattle.std.specs.Prelude.{◌≡◌, ◌+◌, ◌-◌, ◌<◌, ◌≤◌, ◌⊎◌, ℕ, List, None, Some, [], ◌∷◌, ◌++◌, length, true};
+ghost use Rattle.std.specs.Prelude.{false};
 ghost use Rattle.dutch_order.specs.Trials.{Plan, Tried, entry, below, ahead, hits, trials, lower, lowest};
 ghost use Rattle.dutch_order.specs.Hints.{hint_after, first_hint};
 ghost use Rattle.dutch_order.specs.Prefixes.{GoesOn};
@@ -120,7 +122,8 @@ pub fn first_hint(hint: &[u16]) -> usize
     hint_after(hint, &[]).unwrap_or(0)
 }
 
-/// A search that begins at a path which is known: after a beginning of that path it starts with the path's own next number.
+/// A search that begins at a path which is known: after a beginning of that path it starts with the path's own next
+/// number.
 #[derive(Drop)]
 pub struct Hinted<'a, T> {
     pub tree: T,
@@ -158,9 +161,10 @@ impl<'a, T: Tree> Tree for Hinted<'a, T> {
     }
 }
 
-/// Where a search stands: the numbers at the places filled, and the next number to try at the place after them. At a whole path
-/// the next number is 0 until the path has been handed out. And what lies beyond the numbers that were tried is no less
-/// than `beyond`, if anything does; where some were left without a trial, that is 0, so that nothing is known.
+/// Where a search stands: the numbers at the places filled, and the next number to try at the place after them. At a
+/// whole path the next number is 0 until the path has been handed out. And what lies beyond the numbers that were tried
+/// is no less than `beyond`, if anything does; where some were left without a trial, that is 0, so that nothing is
+/// known.
 #[derive(Drop)]
 pub struct Walk {
     pub path: Path,
@@ -252,7 +256,8 @@ fn leave_idle<T: Tree, C: CutsPaths>(tree: &T, cuts: &C, room: &mut C::Room, wal
     }
 }
 
-/// Makes one trial: takes the number if it fits, and otherwise goes on to the next one. The answer is whether it was taken.
+/// Makes one trial: takes the number if it fits, and otherwise goes on to the next one. The answer is whether it was
+/// taken.
 fn try_number<T: Tree>(tree: &T, walk: &mut Walk) -> bool
     requires opened { IsOpen (T.plan tree.now) walk.old.path.items }
     requires tried { walk.old.number < (T.plan tree.now).stop walk.old.path.items }
@@ -262,7 +267,8 @@ fn try_number<T: Tree>(tree: &T, walk: &mut Walk) -> bool
     ensures goes_on { ahead (T.plan tree.now) walk.old.path.items walk.old.number
         ≡ Tried ((T.plan tree.now).beyond walk.old.path.items walk.old.number)
         ∷ ahead (T.plan tree.now) walk.new.path.items walk.new.number }
-    ensures beyond { walk.new.beyond ≡ lower walk.old.beyond ((T.plan tree.now).beyond walk.old.path.items walk.old.number) }
+    ensures beyond { walk.new.beyond
+        ≡ lower walk.old.beyond ((T.plan tree.now).beyond walk.old.path.items walk.old.number) }
     ensures places { length walk.new.path.items ≤ length walk.old.path.items + 1 }
 {
     let number = walk.number as u16;
@@ -277,7 +283,8 @@ fn try_number<T: Tree>(tree: &T, walk: &mut Walk) -> bool
     }
 }
 
-/// Takes the last number from a path below which nothing is left, and goes on to the next one; false if the path is empty.
+/// Takes the last number from a path below which nothing is left, and goes on to the next one; false if the path is
+/// empty.
 fn go_back<T: Tree>(tree: &T, walk: &mut Walk) -> bool
     requires standing { Stands (T.plan tree.now) walk.old.path.items }
     requires spent { IsSpent (T.plan tree.now) walk.old.path.items walk.old.number }
@@ -297,8 +304,9 @@ fn go_back<T: Tree>(tree: &T, walk: &mut Walk) -> bool
     }
 }
 
-/// Goes on to the next whole path, which the walk then has, unless the budget or the search ends before it. It leaves out beginnings
-/// that are known to be idle: it asks at the start, and wherever a number was taken or given back. No question is a step.
+/// Goes on to the next whole path, which the walk then has, unless the budget or the search ends before it. It leaves
+/// out beginnings that are known to be idle: it asks at the start, and wherever a number was taken or given back. No
+/// question is a step.
 pub fn climb_past<T: Tree, C: CutsPaths>(
     tree: &T,
     cuts: &C,
@@ -321,9 +329,11 @@ pub fn climb_past<T: Tree, C: CutsPaths>(
         (hits (ahead (T.plan tree.now) walk.new.path.items walk.new.number))
         × (budget.new.used ≡ budget.new.limit)
         × (0 < trials (ahead (T.plan tree.now) walk.new.path.items walk.new.number))) }
-    ensures steps { NoneIdle (C.Idle cuts.now) → budget.new.used + trials (ahead (T.plan tree.now) walk.new.path.items walk.new.number)
+    ensures steps { NoneIdle (C.Idle cuts.now)
+        → budget.new.used + trials (ahead (T.plan tree.now) walk.new.path.items walk.new.number)
         ≡ budget.old.used + trials (ahead (T.plan tree.now) walk.old.path.items walk.old.number) }
-    ensures beyond { NoneIdle (C.Idle cuts.now) → lower walk.new.beyond (lowest (ahead (T.plan tree.now) walk.new.path.items walk.new.number))
+    ensures beyond { NoneIdle (C.Idle cuts.now)
+        → lower walk.new.beyond (lowest (ahead (T.plan tree.now) walk.new.path.items walk.new.number))
         ≡ lower walk.old.beyond (lowest (ahead (T.plan tree.now) walk.old.path.items walk.old.number)) }
     ensures known { KeepsBeyond (T.plan tree.now) walk.old walk.new }
     ensures spends { Spends budget.old budget.new }

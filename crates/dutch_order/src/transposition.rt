@@ -1,4 +1,5 @@
-// Transpositions, article D.1: tuples of a pool in the order of their numbers, specified by a sorted and filtered list of tuples.
+// Transpositions, article D.1: tuples of a pool in the order of their numbers, specified by a sorted and filtered list
+// of tuples.
 ghost use Rattle.std.specs.Prelude.{◌≡◌, ◌+◌, ◌*◌, ◌<◌, ◌≤◌, ℕ, [], ◌∷◌, length, map, filter};
 ghost use Rattle.std.specs.List.{AllByRecursion};
 ghost use Rattle.std.specs.List.Sorted.{IsStrictlyIncreasing};
@@ -119,9 +120,9 @@ impl<'a, C: CutsTuples> CutsPaths for CutsPlaces<'a, C> {
     }
 }
 
-/// The lists of opponents that the pool has for the first players, one by one, in the order of their numbers (C.04.3 D.1): tuples
-/// of the pool whose players may meet the first ones by the rule, place by place. It takes no memory. A step is one member of the
-/// pool tried at one place.
+/// The lists of opponents that the pool has for the first players, one by one, in the order of their numbers (C.04.3
+/// D.1): tuples of the pool whose players may meet the first ones by the rule, place by place. It takes no memory. A
+/// step is one member of the pool tried at one place.
 #[derive(Drop)]
 pub struct Transpositions<'a, R: Rule> {
     first: Numbers,
@@ -144,17 +145,21 @@ impl<'a, R: Rule> Model for Transpositions<'a, R> {
 
     ghost view = { λ t. record {
       coming = map (numbers_at t.pool.items)
-          (hits (ahead (hinted t.hint.items (transposition_plan (R.meets t.rule.now) t.first.items t.pool.items)) t.walk.path.items t.walk.number));
-      left = trials (ahead (hinted t.hint.items (transposition_plan (R.meets t.rule.now) t.first.items t.pool.items)) t.walk.path.items t.walk.number);
+          (hits (ahead (hinted t.hint.items
+          (transposition_plan (R.meets t.rule.now) t.first.items t.pool.items)) t.walk.path.items t.walk.number));
+      left = trials (ahead (hinted t.hint.items
+          (transposition_plan (R.meets t.rule.now) t.first.items t.pool.items)) t.walk.path.items t.walk.number);
     } };
 
     ghost invariant = { λ t.
         (length t.first.items ≤ LIMIT) × (length t.pool.items ≤ LIMIT)
-        × Stands (hinted t.hint.items (transposition_plan (R.meets t.rule.now) t.first.items t.pool.items)) t.walk.path.items };
+        × Stands (hinted t.hint.items (transposition_plan
+        (R.meets t.rule.now) t.first.items t.pool.items)) t.walk.path.items };
 }
 
 impl<'a, R: Rule> Transpositions<'a, R> {
-    /// The transpositions of a pool for the first players. `first` and `pool` have at most `LIMIT` numbers, and the pool ascends.
+    /// The transpositions of a pool for the first players. `first` and `pool` have at most `LIMIT` numbers, and the
+    /// pool ascends.
     pub fn new(first: &[u16], pool: &[u16], rule: &'a R) -> Transpositions<'a, R>
         requires ascends { IsStrictlyIncreasing pool.now }
         requires few_first { length first.now ≤ LIMIT }
@@ -167,13 +172,15 @@ impl<'a, R: Rule> Transpositions<'a, R> {
         lists
     }
 
-    /// The same from a tuple of the pool on, whether the rule allows it or not. Each of its numbers that is tried again costs a step.
+    /// The same from a tuple of the pool on, whether the rule allows it or not. Each of its numbers that is tried again
+    /// costs a step.
     pub fn from(first: &[u16], pool: &[u16], rule: &'a R, tuple: &[u16]) -> Transpositions<'a, R>
         requires ascends { IsStrictlyIncreasing pool.now }
         requires few_first { length first.now ≤ LIMIT }
         requires few { length pool.now ≤ LIMIT }
         requires given { IsIn tuple.now (tuples pool.now (length first.now)) }
-        ensures coming { result.coming ≡ filter (all_meet (R.meets rule.now) first.now) (from_on tuple.now (all_tuples pool.now (length first.now))) }
+        ensures coming { result.coming ≡ filter (all_meet (R.meets rule.now) first.now)
+            (from_on tuple.now (all_tuples pool.now (length first.now))) }
     {
         let mut lists = Transpositions::ended(rule);
         lists.start_from(first, pool, rule, tuple);
@@ -199,7 +206,8 @@ impl<'a, R: Rule> Transpositions<'a, R> {
         requires few_first { length first.now ≤ LIMIT }
         requires few { length pool.now ≤ LIMIT }
         ensures coming { self.new.coming ≡ transpositions (R.meets rule.now) first.now pool.now }
-        ensures left { self.new.left ≡ length pool.now * length (short_beginnings (R.meets rule.now) first.now pool.now) }
+        ensures left { self.new.left ≡ length pool.now * length
+            (short_beginnings (R.meets rule.now) first.now pool.now) }
     {
         fill(&mut self.first, first);
         fill(&mut self.pool, pool);
@@ -214,7 +222,8 @@ impl<'a, R: Rule> Transpositions<'a, R> {
         requires few_first { length first.now ≤ LIMIT }
         requires few { length pool.now ≤ LIMIT }
         requires given { IsIn tuple.now (tuples pool.now (length first.now)) }
-        ensures coming { self.new.coming ≡ filter (all_meet (R.meets rule.now) first.now) (from_on tuple.now (all_tuples pool.now (length first.now))) }
+        ensures coming { self.new.coming ≡ filter (all_meet (R.meets rule.now) first.now)
+            (from_on tuple.now (all_tuples pool.now (length first.now))) }
     {
         fill(&mut self.first, first);
         fill(&mut self.pool, pool);
@@ -223,8 +232,8 @@ impl<'a, R: Rule> Transpositions<'a, R> {
         self.walk.restart(first_hint(&self.hint));
     }
 
-    /// The next list. `Found` gives the first of those to come. `End` says that none is left. `Undecided` says that the budget was used
-    /// up before the next one was found; then what is to come stays as it was.
+    /// The next list. `Found` gives the first of those to come. `End` says that none is left. `Undecided` says that the
+    /// budget was used up before the next one was found; then what is to come stays as it was.
     pub fn next(&mut self, budget: &mut Budget) -> Step<Numbers>
         ensures answer { MatchStep result
             (λ numbers. self.old.coming ≡ numbers.items ∷ self.new.coming)
@@ -265,8 +274,9 @@ impl<'a, R: Rule> Transpositions<'a, R> {
         Ok(true)
     }
 
-    /// Fills a list with the next one, but lists that the cuts know to be idle may be skipped, at no step: they are asked with the
-    /// numbers of each beginning at which the search arrives. All that was skipped is idle, whatever the answer.
+    /// Fills a list with the next one, but lists that the cuts know to be idle may be skipped, at no step: they are
+    /// asked with the numbers of each beginning at which the search arrives. All that was skipped is idle, whatever the
+    /// answer.
     pub(crate) fn put_next_past<C: CutsTuples>(
         &mut self,
         cuts: &C,

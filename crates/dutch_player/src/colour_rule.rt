@@ -7,11 +7,12 @@ pub enum ColourRule {
     BothPreferences,
     /// E.2: both prefer the same colour, and the one with the stronger preference gets it.
     StrongerPreference,
-    /// E.3: both prefer the same colour, neither more strongly. Seen from the last game back, at the first place where one had white and
-    /// the other black, each had the colour that they do not get now.
+    /// E.3: both prefer the same colour, neither more strongly. Seen from the last game back, at the first place where
+    /// one had white and the other black, each had the colour that they do not get now.
     Alternation,
     /// E.4: both prefer the same colour, neither more strongly, and there is no such place; the higher ranked gets it.
     HigherRank,
-    /// E.5: nobody has a preference; by their start rank the higher ranked player gets the initial colour or the other one.
+    /// E.5: nobody has a preference; by their start rank the higher ranked player gets the initial colour or the other
+    /// one.
     InitialColour,
 }

@@ -2,7 +2,8 @@
 ghost use Rattle.std.specs.Prelude.{◌≡◌, ◌≤◌, length};
 ghost use Rattle.dutch_player.specs.declared.colour_rule.ColourRule.TheVariants.{BothPreferences};
 ghost use Rattle.dutch_player.specs.SeatOf.{facts_in};
-ghost use Rattle.dutch_player.specs.Colours.{grade, distance, is_stronger, alternated, by, by_history, contested, by_preferences, by_start, decided, with_colour};
+ghost use Rattle.dutch_player.specs.Colours.{grade, distance, is_stronger, alternated, by, by_history, contested};
+ghost use Rattle.dutch_player.specs.Colours.{by_preferences, by_start, decided, with_colour};
 
 use crate::colour_rule::ColourRule;
 use crate::meetings::is_absolute;
@@ -65,7 +66,8 @@ fn alternated(mine: &[Colour], theirs: &[Colour]) -> Option<Colour>
     }
 }
 
-// E.3 and E.4: the higher ranked wants a colour; if the colours can alternate, that player gets the one by which they do.
+// E.3 and E.4: the higher ranked wants a colour; if the colours can alternate, that player gets the one by which they
+// do.
 fn by_history(alternate: Option<Colour>, wanted: Colour) -> Decision
     ensures { result ≡ by_history alternate wanted }
 {

@@ -21,7 +21,8 @@ use std::alloc::Global;
 use std::marker::Model;
 use trf16::{Colour, Report};
 
-/// The present players by rank: higher score first, then smaller start rank (A.2). A seat is a place in that order, from 0.
+/// The present players by rank: higher score first, then smaller start rank (A.2). A seat is a place in that order,
+/// from 0.
 #[derive(Drop)]
 pub struct Field {
     pub(crate) seats: Vec<Seat>,
@@ -39,16 +40,22 @@ impl Model for Field {
 
     ghost Value = { Facts };
 
-    ghost view = { λ f. record { seats = map facts_in f.seats.items; round = f.round; total = f.total; initial = f.initial } };
+    ghost view = { λ f. record {
+      seats = map facts_in f.seats.items;
+      round = f.round;
+      total = f.total;
+      initial = f.initial;
+    } };
 
     ghost invariant = { λ f. (vec_len f.seats ≤ MOST_PLAYERS) × (0 < f.round) × IsRanked (map facts_in f.seats.items) };
 }
 
 impl Field {
-    /// The present players of a report, as they are before the round that comes after the last paired one. A total of rounds or an
-    /// initial colour that is given goes before the report's; the initial colour is white if nothing names it. If there is no further
-    /// round, the reason is the first of these: a game without a result (by the players' lines, then by round), the first line that is
-    /// not supported, a total that is not known, a round after the last one, memory.
+    /// The present players of a report, as they are before the round that comes after the last paired one. A total of
+    /// rounds or an initial colour that is given goes before the report's; the initial colour is white if nothing names
+    /// it. If there is no further round, the reason is the first of these: a game without a result (by the players'
+    /// lines, then by round), the first line that is not supported, a total that is not known, a round after the last
+    /// one, memory.
     #[tactic(auto, unfolding(crate::specs::Facts::facts_of))]
     pub fn new(
         alloc: Global,
@@ -159,7 +166,8 @@ impl Field {
         self.seat(seat).preference
     }
 
-    /// Whether the player is a topscorer (A.7): they have more than half of the points that could be had, and only the last round is left.
+    /// Whether the player is a topscorer (A.7): they have more than half of the points that could be had, and only the
+    /// last round is left.
     pub fn topscorer(&self, seat: u16) -> bool
         requires { seat < length self.now.seats }
         ensures { result ≡ is_topscorer self.now (seat_at self.now seat) }
@@ -180,8 +188,8 @@ impl Field {
         self.colours_allow(a, b)
     }
 
-    /// Whether the colours of two players let them meet (C.3): one of them is a topscorer, or they do not both have an absolute preference
-    /// for the same colour.
+    /// Whether the colours of two players let them meet (C.3): one of them is a topscorer, or they do not both have an
+    /// absolute preference for the same colour.
     pub fn colours_allow(&self, a: u16, b: u16) -> bool
         requires first { a < length self.now.seats }
         requires second { b < length self.now.seats }

@@ -1,7 +1,9 @@
-// What the rounds that were paired say of a player: score, floats, colours, opponents, the bye (C.04.3 A.2, A.4, A.6, C.1, C.2).
+// What the rounds that were paired say of a player: score, floats, colours, opponents, the bye (C.04.3 A.2, A.4, A.6,
+// C.1, C.2).
 ghost use Rattle.std.specs.Prelude.{◌≡◌, ◌≤◌, length, IfOk, vec_len};
 ghost use Rattle.std.specs.List.{list_any};
-ghost use Rattle.dutch_player.specs.Histories.{colour_played, played, opponent_played, opponents, bars_bye, may_bye, float_between, float_by, float_in};
+ghost use Rattle.dutch_player.specs.Histories.{colour_played, played, opponent_played, opponents, bars_bye, may_bye};
+ghost use Rattle.dutch_player.specs.Histories.{float_between, float_by, float_in};
 ghost use Rattle.trf16.specs.declared.limits.TheConstants.{MOST_ROUNDS};
 
 use crate::float::Float;

@@ -60,22 +60,26 @@ pub fn seats_are_ranked(field: &Field, a: u16, b: u16)
 /// Scores do not ascend along the seats of a field, of which there are at most `MOST_PLAYERS` of `trf16` (A.2).
 #[tactic(auto, using(crate::proofs::RankLemmas::scores_fall))]
 pub fn scores_do_not_ascend(field: &Field)
-    ensures scores { (a b : ℕ) → a < b → b < length field.now.seats → (seat_at field.now b).score ≤ (seat_at field.now a).score }
+    ensures scores { (a b : ℕ) → a < b → b < length field.now.seats
+        → (seat_at field.now b).score ≤ (seat_at field.now a).score }
     ensures few { length field.now.seats ≤ MOST_PLAYERS }
 {
     let _ = &field.seats;
 }
 
-/// Each player of the report who is present has exactly one seat, and nobody else has any. The round that is to be paired is the report's
-/// next one, and within the total.
+/// Each player of the report who is present has exactly one seat, and nobody else has any. The round that is to be
+/// paired is the report's next one, and within the total.
 pub fn seats_are_present_players()
-    ensures { (sheet : Sheet) (asked : Option ℕ) (initial : Option Colour) (facts : Facts) → HasOwnStarts sheet → facts_of sheet asked initial ≡ Ok facts
+    ensures { (sheet : Sheet) (asked : Option ℕ) (initial : Option Colour) (facts : Facts) → HasOwnStarts sheet
+        → facts_of sheet asked initial ≡ Ok facts
         → IsFieldOf sheet asked facts }
 {}
 
-/// Two seats of a field are kept apart exactly if the report keeps their start ranks apart: these differ, and a line `XXP` names both.
+/// Two seats of a field are kept apart exactly if the report keeps their start ranks apart: these differ, and a line
+/// `XXP` names both.
 pub fn the_report_tells_who_is_kept_apart()
-    ensures { (sheet : Sheet) (asked : Option ℕ) (initial : Option Colour) (facts : Facts) → HasOwnStarts sheet → facts_of sheet asked initial ≡ Ok facts
+    ensures { (sheet : Sheet) (asked : Option ℕ) (initial : Option Colour) (facts : Facts) → HasOwnStarts sheet
+        → facts_of sheet asked initial ≡ Ok facts
         → (a b : ℕ) → a < length facts.seats → b < length facts.seats
         → are_apart (seat_at facts a) (seat_at facts b) ≡ apart sheet (seat_at facts a).start (seat_at facts b).start }
 {}

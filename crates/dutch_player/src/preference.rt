@@ -1,6 +1,7 @@
 // Colour preferences, from the colours of a player's games, the last game first (C.04.3 A.6).
 ghost use Rattle.std.specs.Prelude.{◌≡◌, ◌≤◌, ◌-ℤ◌, ◌≤ℤ◌, pos, length, count_by};
-ghost use Rattle.dutch_player.specs.Preferences.{other, is_white, is_black, is_same, whites, blacks, difference, last_two, mild, strong_or_mild, preference};
+ghost use Rattle.dutch_player.specs.Preferences.{other, is_white, is_black, is_same, whites, blacks, difference};
+ghost use Rattle.dutch_player.specs.Preferences.{last_two, mild, strong_or_mild, preference};
 ghost use Rattle.trf16.specs.declared.limits.TheConstants.{MOST_ROUNDS};
 
 use trf16::Colour;

@@ -1,5 +1,6 @@
-// The folding of a blossom: two outer vertices of one tree are joined, so that the ways from both to the root close a circle of odd length.
-// All its vertices become outer, and it is one vertex from then on, its base: the first that is on both ways.
+// The folding of a blossom: two outer vertices of one tree are joined, so that the ways from both to the root close a
+// circle of odd length. All its vertices become outer, and it is one vertex from then on, its base: the first that is
+// on both ways.
 ghost use Rattle.std.specs.Prelude.{◌≡◌, ◌<◌, length, IfSome};
 
 use crate::forest::{Forest, Mark};
@@ -46,7 +47,8 @@ impl Forest {
         None
     }
 
-    /// Turns the way from a vertex to a base: its outer vertices are now reached the other way round too, the first from `from`.
+    /// Turns the way from a vertex to a base: its outer vertices are now reached the other way round too, the first
+    /// from `from`.
     fn turn_way(&mut self, v: u16, base: u16, from: u16)
         requires start { v < self.old.size }
         requires from { from < self.old.size }

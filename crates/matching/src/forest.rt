@@ -1,9 +1,9 @@
 // Who is paired with whom so far, the tree of the search that goes on, and what the failed searches have left.
 //
-// A search grows a tree from a root that is alone. Its outer vertices are reached from the root by ways of even length: the root, the
-// partners of inner vertices, and all vertices of a blossom, a circle of odd length that is folded into one vertex, its base. If a search
-// fails, its tree is left as it is: no later search enters it. When you change it, keep this: marks, parents and bases of a failed tree
-// stay as they are, since they are its groups and its blockers.
+// A search grows a tree from a root that is alone. Its outer vertices are reached from the root by ways of even length:
+// the root, the partners of inner vertices, and all vertices of a blossom, a circle of odd length that is folded into
+// one vertex, its base. If a search fails, its tree is left as it is: no later search enters it. When you change it,
+// keep this: marks, parents and bases of a failed tree stay as they are, since they are its groups and its blockers.
 ghost use Rattle.std.specs.Prelude.{◌≡◌, ◌≢◌, ◌<◌, ℕ, length, vec_len, IfOk, IfSome, Some};
 ghost use Rattle.std.specs.List.{slice_get};
 ghost use Rattle.std.specs.Option.{MatchOption};

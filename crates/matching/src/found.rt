@@ -20,10 +20,11 @@ pub struct Found {
     pub most: u16,
 }
 
-/// Finds a matching of a graph, with labels. Each vertex that is asked about by the search takes one of the steps left; where none
-/// is left, the search is stopped.
+/// Finds a matching of a graph, with labels. Each vertex that is asked about by the search takes one of the steps left;
+/// where none is left, the search is stopped.
 pub fn greatest<G: Graph>(alloc: Global, graph: &G, left: &mut u64) -> Result<Found, Fault>
-    ensures matching { IfOk result (λ found. IsMatching (G.vertices graph.now) (G.joined graph.now) found.partners.items) }
+    ensures matching { IfOk result
+        (λ found. IsMatching (G.vertices graph.now) (G.joined graph.now) found.partners.items) }
     ensures labels { IfOk result (λ found. AreLabels (G.vertices graph.now) found.most found.labels.items) }
     ensures falls { left.new ≤ left.old }
     ensures few { left.old ≤ left.new + most_steps (G.vertices graph.now) }

@@ -1,5 +1,5 @@
-// Labels for all vertices once the searches have ended: 0 for a blocker, and for each group a number from 1 on, in the order of their
-// bases. The vertices that no failed search has reached are one group.
+// Labels for all vertices once the searches have ended: 0 for a blocker, and for each group a number from 1 on, in the
+// order of their bases. The vertices that no failed search has reached are one group.
 ghost use Rattle.std.specs.Prelude.{◌≡◌, ◌≤◌, ◌<◌, vec_len, All, IfOk};
 ghost use Rattle.matching.specs.Matchings.{AreLabels};
 

@@ -1,5 +1,6 @@
-// The searches: from each vertex that is alone one, for a way to another such vertex on which every second pair is a pair so far.
-// Before them each vertex is paired with the first one that it can have, which saves most searches where many are joined.
+// The searches: from each vertex that is alone one, for a way to another such vertex on which every second pair is a
+// pair so far. Before them each vertex is paired with the first one that it can have, which saves most searches where
+// many are joined.
 ghost use Rattle.std.specs.Prelude.{◌≡◌, ◌≤◌, ◌<◌, ◌+◌, ◌*◌, Some, slice_set, IfSome, IfOk, OnErr};
 ghost use Rattle.std.specs.Option.{MatchOption};
 ghost use Rattle.std.specs.Result.{MatchResult};
@@ -28,7 +29,8 @@ impl Forest {
     fn pair(&mut self, v: u16, u: u16)
         requires one { v < self.old.size }
         requires other { u < self.old.size }
-        ensures partners { self.new.partner.ends.items ≡ slice_set (slice_set self.old.partner.ends.items v (Some u)) u (Some v) }
+        ensures partners { self.new.partner.ends.items
+            ≡ slice_set (slice_set self.old.partner.ends.items v (Some u)) u (Some v) }
         ensures size { self.new.size ≡ self.old.size }
     {
         self.partner.put(v, Some(u));
@@ -41,7 +43,8 @@ impl Forest {
         requires of_graph { self.now.size ≡ G.vertices graph.now }
         ensures behind { IfOk result (λ found. IfSome found (λ u. (v < u) × (u < self.now.size))) }
         ensures steps { MatchResult result
-            (λ found. MatchOption found (left.new + self.now.size ≡ left.old + v + 1) (λ u. left.new + u ≡ left.old + v))
+            (λ found. MatchOption found (left.new + self.now.size ≡ left.old + v + 1)
+            (λ u. left.new + u ≡ left.old + v))
             (λ _. (left.new ≡ 0) × (left.old < self.now.size)) }
     {
         let end = self.size;
@@ -85,7 +88,8 @@ impl Forest {
         Ok(())
     }
 
-    /// Takes a vertex that was not reached into the tree, and its partner as an outer vertex. If it has none, a way ends there: true.
+    /// Takes a vertex that was not reached into the tree, and its partner as an outer vertex. If it has none, a way
+    /// ends there: true.
     fn grow(&mut self, v: u16, u: u16) -> bool
         requires outer { v < self.old.size }
         requires neighbour { u < self.old.size }
@@ -143,7 +147,8 @@ impl Forest {
         Ok(None)
     }
 
-    /// Searches from a vertex that is alone, until a way ends or no neighbour is left. The answer is where the way ends.
+    /// Searches from a vertex that is alone, until a way ends or no neighbour is left. The answer is where the way
+    /// ends.
     fn find_way<G: Graph>(
         &mut self,
         graph: &G,

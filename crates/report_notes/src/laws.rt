@@ -5,9 +5,10 @@ ghost use Rattle.trf16.specs.Sheet.{Sheet, cell_in};
 ghost use Rattle.trf16.specs.Unfinished.{is_unfinished};
 ghost use Rattle.report_notes.specs.Games.{unfinished_behind};
 
-/// Of all rounds of a player exactly those are noted as without a result in which the game has none: none of them is behind the last
-/// round that was paired.
+/// Of all rounds of a player exactly those are noted as without a result in which the game has none: none of them is
+/// behind the last round that was paired.
 pub fn each_round_without_result_is_noted()
     ensures { (sheet : Sheet) → (start : ℕ) → (round : ℕ) → 0 < round
-        → list_any (λ noted. noted == round) (unfinished_behind sheet start 0) ≡ is_unfinished (cell_in sheet start round) }
+        → list_any (λ noted. noted == round) (unfinished_behind sheet start 0)
+        ≡ is_unfinished (cell_in sheet start round) }
 {}

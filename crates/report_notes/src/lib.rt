@@ -1,15 +1,15 @@
-//! What of an accepted report looks like a mistake, though it is none of the format: numbers that no player has, lines of
-//! unknown kinds, lines that begin with a blank, games without a result, and rounds that nobody asks for. Specified by the list
-//! of these, line by line.
+//! What of an accepted report looks like a mistake, though it is none of the format: numbers that no player has, lines
+//! of unknown kinds, lines that begin with a blank, games without a result, and rounds that nobody asks for. Specified
+//! by the list of these, line by line.
 //!
-//! `Place::first` is the place in front of a report's lines, and `next_note` gives the next note behind a place, with the
-//! place behind it. So notes come one by one, each once and in the order of the lines.
+//! `Place::first` is the place in front of a report's lines, and `next_note` gives the next note behind a place, with
+//! the place behind it. So notes come one by one, each once and in the order of the lines.
 //!
-//! Nothing is kept but the place, and nothing here takes memory. All notes together take time in step with the text; and for each
-//! line of a player, with all players and with the rounds that were paired.
+//! Nothing is kept but the place, and nothing here takes memory. All notes together take time in step with the text;
+//! and for each line of a player, with all players and with the rounds that were paired.
 //!
-//! To mind: the bytes are those of the report that is asked. Of other bytes the notes are still what the definition says,
-//! by the players of this report.
+//! To mind: the bytes are those of the report that is asked. Of other bytes the notes are still what the definition
+//! says, by the players of this report.
 #![tactic(auto)]
 
 mod games;

@@ -17,8 +17,8 @@ pub(crate) enum Left<'a> {
     Nothing,
     /// One note.
     One(Note<'a>),
-    /// Of a line `XXP`: those of some words that are the start rank of no player; and then, if so, that all of the line name one
-    /// player.
+    /// Of a line `XXP`: those of some words that are the start rank of no player; and then, if so, that all of the line
+    /// name one player.
     Names { names: &'a [u8], alone: bool },
     /// Of a line `XXZ`: what is to be told of some words.
     Absent(&'a [u8]),
@@ -104,7 +104,8 @@ fn carried_left<'a>(report: &Report<'_>, n: usize, line: &'a [u8]) -> Left<'a>
 
 // The same of a line of a known kind: what `XXZ` and `XXP` name.
 fn extension_left<'a>(report: &Report<'_>, line: &'a [u8]) -> Left<'a>
-    ensures { (n : ℕ) → left_notes report.now n result ≡ extension_notes report.now n (columns report.now.utf8 line.now) }
+    ensures { (n : ℕ) → left_notes report.now n result
+        ≡ extension_notes report.now n (columns report.now.utf8 line.now) }
 {
     let (kind, names) = split_kind(line, report.is_utf8());
     if is_word(kind, b"XXZ") {

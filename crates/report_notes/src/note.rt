@@ -7,8 +7,8 @@ pub enum Note<'a> {
     NoPlayer { line: usize, number: u16 },
     /// A word of a line `XXZ` is the start rank of a player who played a game in the last round that was paired.
     PlayedLast { line: usize, number: u16 },
-    /// A line is of a kind that is neither read nor one of TRF16's. The kind is what stands in its first three columns, or
-    /// in the first three behind blanks in front.
+    /// A line is of a kind that is neither read nor one of TRF16's. The kind is what stands in its first three columns,
+    /// or in the first three behind blanks in front.
     UnknownKind { line: usize, kind: &'a [u8] },
     /// Blanks stand in front of a kind that is known, so the line is carried and not read.
     BlankBefore { line: usize, kind: &'a [u8] },

@@ -88,7 +88,8 @@ fn next_of_cells<'a>(
 
 /// All that is to be told of the line of a player.
 pub(crate) fn player_left(report: &Report<'_>, line: &[u8]) -> PlayerLeft
-    ensures { (n : ℕ) → player_left_notes report.now n result ≡ player_notes report.now n (columns report.now.utf8 line.now) }
+    ensures { (n : ℕ) → player_left_notes report.now n result
+        ≡ player_notes report.now n (columns report.now.utf8 line.now) }
 {
     let utf8 = report.is_utf8();
     let start = start_in(line, utf8);

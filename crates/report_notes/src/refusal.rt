@@ -1,12 +1,13 @@
-// What stands where a report is refused: what the columns hold that a refusal is about, and the sums that a points field was compared
-// with.
+// What stands where a report is refused: what the columns hold that a refusal is about, and the sums that a points
+// field was compared with.
 ghost use Rattle.std.specs.Prelude.{◌≡◌, ℕ, ◌≤◌, List, ◌∷◌, [], Err, not, true, false};
 ghost use Rattle.std.specs.List.{list_all};
 ghost use Rattle.std.specs.Str.{is_utf8};
 ghost use Rattle.trf16.specs.Lines.{columns, ends_line, lines, text, without_marks};
 ghost use Rattle.trf16.specs.Sheet.{entry_of};
 ghost use Rattle.trf16.specs.declared.limits.TheConstants.{LAST_COLUMN};
-ghost use Rattle.report_notes.specs.RefusalNotes.{alone_in_bytes, are_lines_read, columns_around, columns_of, held, line_in, line_of, sums_among, sums_of};
+ghost use Rattle.report_notes.specs.RefusalNotes.{alone_in_bytes, are_lines_read, columns_around, columns_of, held};
+ghost use Rattle.report_notes.specs.RefusalNotes.{line_in, line_of, sums_among, sums_of};
 
 use std::str;
 use trf16::{
@@ -22,7 +23,8 @@ pub struct Columns {
     pub last: usize,
 }
 
-/// A points field and the sums that it was compared with, in half points: over the rounds that were paired, and over all rounds.
+/// A points field and the sums that it was compared with, in half points: over the rounds that were paired, and over
+/// all rounds.
 #[derive(Debug, Clone, Copy, PartialEq, Eq)]
 pub struct Sums {
     pub player: u16,
@@ -58,8 +60,8 @@ fn columns_around(line: usize, column: usize) -> Columns
     }
 }
 
-/// The columns that a refusal is about: opponent, colour and result of a bad cell, or a column that must be blank with what it stands
-/// between.
+/// The columns that a refusal is about: opponent, colour and result of a bad cell, or a column that must be blank with
+/// what it stands between.
 pub fn columns_of(fault: Fault) -> Option<Columns>
     ensures { result ≡ columns_of fault }
 {
@@ -157,8 +159,8 @@ fn player_sums(report: &Report<'_>, player: &Player<'_>) -> Option<Sums>
     })
 }
 
-/// The points field of the player with a start rank, and the sums that it is compared with; none if the field is blank, or if no
-/// player has the start rank.
+/// The points field of the player with a start rank, and the sums that it is compared with; none if the field is blank,
+/// or if no player has the start rank.
 pub fn sums_of(report: &Report<'_>, start: u16) -> Option<Sums>
     ensures { result ≡ sums_among report.now report.now.players start }
 {
@@ -170,9 +172,10 @@ pub fn sums_of(report: &Report<'_>, start: u16) -> Option<Sums>
     None
 }
 
-/// A line alone, as the text that shows whether the line fits in bytes: it is not read as UTF-8, so its columns are bytes, and its
-/// lines are that line and one of a single byte, which is of no kind.
+/// A line alone, as the text that shows whether the line fits in bytes: it is not read as UTF-8, so its columns are
+/// bytes, and its lines are that line and one of a single byte, which is of no kind.
 pub fn line_alone_has_bytes()
     ensures columns { (line : List ℕ) → is_utf8 (without_marks (alone_in_bytes line)) ≡ false }
-    ensures lines { (line : List ℕ) → list_all (λ b. not (ends_line b)) line ≡ true → lines (alone_in_bytes line) ≡ line ∷ (0xFF ∷ []) ∷ [] }
+    ensures lines { (line : List ℕ) → list_all (λ b. not (ends_line b)) line ≡ true
+        → lines (alone_in_bytes line) ≡ line ∷ (0xFF ∷ []) ∷ [] }
 {}

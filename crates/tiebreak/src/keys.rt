@@ -3,7 +3,8 @@ ghost use Rattle.std.specs.Prelude.{◌≡◌, ◌≤◌, ◌||◌, ◌==◌, le
 ghost use Rattle.std.specs.List.{list_all};
 ghost use Rattle.trf16.specs.Sheet.{rounds_played};
 ghost use Rattle.tiebreak.specs.Games.{have_met};
-ghost use Rattle.tiebreak.specs.Keys.{buchholz, sonneborn_berger, group_of, have_all_met, is_against, points_against, points_among, direct_in, value_of};
+ghost use Rattle.tiebreak.specs.Keys.{buchholz, sonneborn_berger, group_of, have_all_met, is_against, points_against};
+ghost use Rattle.tiebreak.specs.Keys.{points_among, direct_in, value_of};
 
 use crate::games::{have_met, opponent_score};
 use crate::key::Key;

@@ -36,5 +36,6 @@ pub fn each_row_has_each_key(report: &Report<'_>, keys: &[Key])
 #[tactic(auto, using(crate::proofs::LevelLemmas::direct_together))]
 pub fn direct_values_come_together(report: &Report<'_>, rows: &[Row], a: &Row, b: &Row)
     requires { is_level a.now b.now ≡ true }
-    ensures { is_some (value_of report.now rows.now Direct a.now) ≡ is_some (value_of report.now rows.now Direct b.now) }
+    ensures { is_some (value_of report.now rows.now Direct a.now)
+        ≡ is_some (value_of report.now rows.now Direct b.now) }
 {}

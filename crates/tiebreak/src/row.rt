@@ -50,8 +50,8 @@ impl Row {
         self.score
     }
 
-    /// The values of the keys, in the order of the keys: half points, and quarters of a point for Sonneborn-Berger. A value is none if
-    /// direct encounter tells nothing.
+    /// The values of the keys, in the order of the keys: half points, and quarters of a point for Sonneborn-Berger. A
+    /// value is none if direct encounter tells nothing.
     pub fn values(&self) -> &[Option<u32>]
         ensures { result.now ≡ self.now.values }
     {

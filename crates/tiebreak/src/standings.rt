@@ -14,8 +14,8 @@ use std::alloc::{AllocError, Global};
 use std::marker::Model;
 use trf16::Report;
 
-/// All players of a report in order: higher score first, then the higher value in the first key in which two differ, then the smaller
-/// start rank.
+/// All players of a report in order: higher score first, then the higher value in the first key in which two differ,
+/// then the smaller start rank.
 #[derive(Drop)]
 pub struct Standings {
     rows: Vec<Row>,
@@ -87,9 +87,9 @@ fn with_keys(alloc: Global, report: &Report<'_>, keys: &[Key]) -> Result<Vec<Row
     Ok(rows)
 }
 
-/// The standings of a report over the rounds that were paired, with the keys that break ties, in their order. A key may be named
-/// twice, and there may be none. If there are no standings, the reason is the first of these: a game without a result (by the players'
-/// lines, then by round), the first line `XXS`, memory.
+/// The standings of a report over the rounds that were paired, with the keys that break ties, in their order. A key may
+/// be named twice, and there may be none. If there are no standings, the reason is the first of these: a game without a
+/// result (by the players' lines, then by round), the first line `XXS`, memory.
 #[tactic(auto, unfolding(crate::specs::Standings::standings_of))]
 pub fn table(alloc: Global, report: &Report<'_>, keys: &[Key]) -> Result<Standings, TieFault>
     ensures { Gives result (standings_of report.now keys.now) }

@@ -4,7 +4,8 @@ ghost use Rattle.std.specs.Option.{option_map_or};
 ghost use Rattle.trf16.specs.Outcomes.{Gives};
 ghost use Rattle.trf16.specs.Sheet.{entry_of, opponent_in_cell, rounds_played};
 ghost use Rattle.trf16.specs.Summed.{all_cells_fit};
-ghost use Rattle.trf16.specs.Answering.{are_opposite, is_forfeit, are_of_one_class, pair_fits, cell_fits, cells_fit, points_fit, player_fits, players_fit};
+ghost use Rattle.trf16.specs.Answering.{are_opposite, is_forfeit, are_of_one_class, pair_fits, cell_fits, cells_fit};
+ghost use Rattle.trf16.specs.Answering.{points_fit, player_fits, players_fit};
 ghost use Rattle.trf16.specs.declared.limits.TheConstants.{MOST_ROUNDS};
 
 use crate::cell::{Cell, Colour};

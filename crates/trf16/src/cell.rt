@@ -62,8 +62,8 @@ pub enum Cell {
 impl Cell {
     ghost use Rattle.trf16.specs.Sheet.{game_points, half_points, opponent_in_cell, colour_in_cell};
 
-    /// The half points of a cell with an opponent: a win and a forfeit win give 2, a draw gives 1, everything else none. A cell without
-    /// an opponent gives none here.
+    /// The half points of a cell with an opponent: a win and a forfeit win give 2, a draw gives 1, everything else
+    /// none. A cell without an opponent gives none here.
     pub fn game_points(&self) -> u16
         ensures value { result ≡ game_points self.now }
         ensures few { result ≤ 2 }
@@ -82,8 +82,8 @@ impl Cell {
         }
     }
 
-    /// The half points of the round, if the pairing-allocated bye `U` gives `bye`, 0 to 2: `F` gives 2, `H` gives 1, `Z` and a blank give
-    /// none, and a cell with an opponent gives its game points.
+    /// The half points of the round, if the pairing-allocated bye `U` gives `bye`, 0 to 2: `F` gives 2, `H` gives 1,
+    /// `Z` and a blank give none, and a cell with an opponent gives its game points.
     pub fn half_points(&self, bye: u16) -> u16
         requires { bye ≤ 2 }
         ensures value { result ≡ half_points bye self.now }

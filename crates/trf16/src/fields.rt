@@ -1,8 +1,10 @@
 // The fields of a line: words, numbers and points.
-ghost use Rattle.std.specs.Prelude.{◌≡◌, ℕ, ◌≢◌, ◌+◌, ◌<◌, ◌≤◌, ◌^◌, ◌∷◌, [], length, slice_index, drop, true, MatchOption, IfSome};
+ghost use Rattle.std.specs.Prelude.{◌≡◌, ℕ, ◌≢◌, ◌+◌, ◌<◌, ◌≤◌, ◌^◌, ◌∷◌, [], length, slice_index, drop, true};
+ghost use Rattle.std.specs.Prelude.{MatchOption, IfSome};
 ghost use Rattle.std.specs.Char.{is_ascii_digit};
 ghost use Rattle.std.specs.List.{list_all};
-ghost use Rattle.trf16.specs.Fields.{words, is_number, number_after, number_of, number_in, half_after, points_after, points_of, points_in, trimmed, without_blanks};
+ghost use Rattle.trf16.specs.Fields.{words, is_number, number_after, number_of, number_in, half_after, points_after};
+ghost use Rattle.trf16.specs.Fields.{points_of, points_in, trimmed, without_blanks};
 
 // How many blanks stand in front.
 fn blank_len(bytes: &[u8]) -> usize

@@ -1,12 +1,14 @@
 // Which cell an opponent, a colour and a result spell: the nine rows of the cell grammar.
 ghost use Rattle.std.specs.Prelude.{◌≡◌, ◌<◌, IfSome};
 ghost use Rattle.trf16.specs.Fields.{words};
-ghost use Rattle.trf16.specs.Cells.{mark_in, colour_of, is_no_colour, bye_cell, forfeit_cell, outcome_of, game_cell, cell_of, opponent_in, cell_from};
+ghost use Rattle.trf16.specs.Cells.{mark_in, colour_of, is_no_colour, bye_cell, forfeit_cell, outcome_of, game_cell};
+ghost use Rattle.trf16.specs.Cells.{cell_of, opponent_in, cell_from};
 
 use crate::cell::{Bye, Cell, Colour, Outcome};
 use crate::fields::{next_word, number_of};
 
-// What stands in one column, a letter in upper case; a missing column is blank, and a character of several bytes is no mark.
+// What stands in one column, a letter in upper case; a missing column is blank, and a character of several bytes is no
+// mark.
 fn mark_in(column: &[u8]) -> Option<u8>
     ensures { result ≡ mark_in column.now }
 {

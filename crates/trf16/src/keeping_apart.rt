@@ -1,5 +1,6 @@
 // Marking which players are named together by lines `XXP`: each line names a set, and each two of it are marked.
-ghost use Rattle.std.specs.Prelude.{◌≡◌, ℕ, ◌<◌, ◌≤◌, ◌&&◌, ◌||◌, ◌==◌, ◌+◌, ◌*◌, [], false, length, slice_index_or, IfOk, vec_len};
+ghost use Rattle.std.specs.Prelude.{◌≡◌, ℕ, ◌<◌, ◌≤◌, ◌&&◌, ◌||◌, ◌==◌, ◌+◌, ◌*◌, [], false, length, slice_index_or};
+ghost use Rattle.std.specs.Prelude.{IfOk, vec_len};
 ghost use Rattle.std.specs.Map.{keys_of};
 ghost use Rattle.trf16.specs.Lines.{lines, columns};
 ghost use Rattle.trf16.specs.Extensions.{names_both};
@@ -77,7 +78,8 @@ impl Apart {
     fn mark_each_two(&mut self, named: &Named)
         requires count { vec_len named.now.marks ≡ vec_len self.old.starts }
         requires room { vec_len self.old.marks ≡ vec_len self.old.starts * vec_len self.old.starts }
-        ensures marked { (k l : ℕ) → l < vec_len self.old.starts → are_marked self.new k l ≡ (are_marked self.old k l || (is_place named.now.places.items k && is_place named.now.places.items l)) }
+        ensures marked { (k l : ℕ) → l < vec_len self.old.starts → are_marked self.new k l
+            ≡ (are_marked self.old k l || (is_place named.now.places.items k && is_place named.now.places.items l)) }
         ensures same { self.new.starts ≡ self.old.starts }
         ensures room { vec_len self.new.marks ≡ vec_len self.new.starts * vec_len self.new.starts }
     {
@@ -99,7 +101,9 @@ impl Apart {
         requires room { vec_len self.old.marks ≡ vec_len self.old.starts * vec_len self.old.starts }
         requires nobody { named.old.places.items ≡ [] }
         requires all { vec_len named.old.marks ≡ length players.now.entries }
-        ensures marked { IfOk result (λ _. (k l : ℕ) → k < vec_len self.old.starts → l < vec_len self.old.starts → are_marked self.new k l ≡ (are_marked self.old k l || names_both (start_at self.old k) (start_at self.old l) (columns utf8 line.now))) }
+        ensures marked { IfOk result (λ _. (k l : ℕ) → k < vec_len self.old.starts → l < vec_len self.old.starts
+            → are_marked self.new k l ≡ (are_marked self.old k l || names_both (start_at self.old k)
+            (start_at self.old l) (columns utf8 line.now))) }
         ensures same { self.new.starts ≡ self.old.starts }
         ensures room { vec_len self.new.marks ≡ vec_len self.new.starts * vec_len self.new.starts }
         ensures nobody { IfOk result (λ _. named.new.places.items ≡ []) }
@@ -123,7 +127,9 @@ impl Apart {
         utf8: bool,
     ) -> Result<Apart, AllocError>
         requires { length players.now.entries ≤ MOST_PLAYERS }
-        ensures both { IfOk result (λ apart. (i j : ℕ) → i < vec_len apart.starts → j < vec_len apart.starts → are_marked apart i j ≡ some_carried (names_both (start_at apart i) (start_at apart j)) (without_players utf8 (lines text.now) 0)) }
+        ensures both { IfOk result (λ apart. (i j : ℕ) → i < vec_len apart.starts → j < vec_len apart.starts
+            → are_marked apart i j ≡ some_carried (names_both (start_at apart i) (start_at apart j))
+            (without_players utf8 (lines text.now) 0)) }
         ensures starts { IfOk result (λ apart. apart.starts.items ≡ keys_of players.now.entries) }
         ensures count { IfOk result (λ apart. vec_len apart.starts ≡ length players.now.entries) }
     {
@@ -156,7 +162,8 @@ fn mark_row(marks: &mut [bool], i: usize, named: &[bool])
     requires row { i < length named.now }
     requires few { length named.now ≤ MOST_PLAYERS }
     requires room { length marks.old ≡ length named.now * length named.now }
-    ensures marked { let n = length named.now in (k l : ℕ) → l < n → slice_index_or marks.new (n * k + l) false ≡ (slice_index_or marks.old (n * k + l) false || ((i == k) && slice_index_or named.now l false)) }
+    ensures marked { let n = length named.now in (k l : ℕ) → l < n → slice_index_or marks.new (n * k + l) false
+        ≡ (slice_index_or marks.old (n * k + l) false || ((i == k) && slice_index_or named.now l false)) }
     ensures len { length marks.new ≡ length marks.old }
 {
     let front = named.len() * i;

@@ -1,14 +1,17 @@
 //! Tournament reports in TRF16 columns: reading them, with every refusal named, asking what they say, and writing them.
 //!
-//! `read` gives the report that a text is, or the first rule that it breaks, in one stated order. A question to a `Report` gives the
-//! value of its definition over the report's lines. `write` gives the canonical text, and what it writes reads back as the same report.
+//! `read` gives the report that a text is, or the first rule that it breaks, in one stated order. A question to a
+//! `Report` gives the value of its definition over the report's lines. `write` gives the canonical text, and what it
+//! writes reads back as the same report.
 //!
-//! A report borrows its text. Beside the text it keeps its players with their cells, at most 1,024 players of 64 rounds; a mark for each
-//! start rank; and if a line `XXP` names players, a mark for each two players. The text is walked over once to read it, or twice if there
-//! is such a line. Questions do not walk over it again, except `carried`, and `apart` of a number that no player has.
+//! A report borrows its text. Beside the text it keeps its players with their cells, at most 1,024 players of 64
+//! rounds; a mark for each start rank; and if a line `XXP` names players, a mark for each two players. The text is
+//! walked over once to read it, or twice if there is such a line. Questions do not walk over it again, except
+//! `carried`, and `apart` of a number that no player has.
 //!
-//! To mind: points are half points, rounds count from 1, and a player is named by their start rank. What the pairing-allocated bye is
-//! worth does not stand in a report, so `read_with` is told it. A call that takes memory says so if it is refused.
+//! To mind: points are half points, rounds count from 1, and a player is named by their start rank. What the
+//! pairing-allocated bye is worth does not stand in a report, so `read_with` is told it. A call that takes memory says
+//! so if it is refused.
 #![tactic(auto)]
 
 mod answering;

@@ -51,7 +51,8 @@ impl StartRanks {
 
     // The start rank that a word is more, if it is one.
     fn mark_word(&mut self, word: &[u8])
-        ensures { (i : ℕ) → has_start self.new i ≡ (has_start self.old i || option_map_or (λ n. n == i) (number_of word.now) false) }
+        ensures { (i : ℕ) → has_start self.new i
+            ≡ (has_start self.old i || option_map_or (λ n. n == i) (number_of word.now) false) }
     {
         if let Some(start) = number_of(word) {
             self.mark(start);

@@ -1,6 +1,7 @@
-// The players whom a line names: a list that is cleared by what it held, so a line takes time in step with its words and
-// with those whom it names.
-ghost use Rattle.std.specs.Prelude.{◌≡◌, ℕ, ◌<◌, ◌&&◌, ◌||◌, ◌==◌, [], false, not, length, slice_index_or, vec_len, IfOk, IfSome};
+// The players whom a line names: a list that is cleared by what it held, so a line takes time in step with its words
+// and with those whom it names.
+ghost use Rattle.std.specs.Prelude.{◌≡◌, ℕ, ◌<◌, ◌&&◌, ◌||◌, ◌==◌, [], false, not, length, slice_index_or, vec_len};
+ghost use Rattle.std.specs.Prelude.{IfOk, IfSome};
 ghost use Rattle.std.proofs.Props.{props};
 ghost use Rattle.std.specs.List.{AllByRecursion};
 ghost use Rattle.std.specs.Map.{keys_of};
@@ -40,7 +41,8 @@ impl Named {
     // One player more.
     fn add(&mut self, place: usize) -> Result<(), AllocError>
         requires { place < vec_len self.old.marks }
-        ensures more { IfOk result (λ _. (k : ℕ) → is_place self.new.places.items k ≡ (is_place self.old.places.items k || (place == k))) }
+        ensures more { IfOk result (λ _. (k : ℕ)
+            → is_place self.new.places.items k ≡ (is_place self.old.places.items k || (place == k))) }
         ensures count { vec_len self.new.marks ≡ vec_len self.old.marks }
     {
         if self.marks[place] {
@@ -58,7 +60,9 @@ impl Named {
         word: &[u8],
     ) -> Result<(), AllocError>
         requires { vec_len self.old.marks ≡ length players.now.entries }
-        ensures more { IfOk result (λ _. (k : ℕ) → k < length players.now.entries → is_place self.new.places.items k ≡ (is_place self.old.places.items k || option_map_or (λ n. n == slice_index_or (keys_of players.now.entries) k 0) (number_of word.now) false)) }
+        ensures more { IfOk result (λ _. (k : ℕ) → k < length players.now.entries
+            → is_place self.new.places.items k ≡ (is_place self.old.places.items k || option_map_or
+            (λ n. n == slice_index_or (keys_of players.now.entries) k 0) (number_of word.now) false)) }
         ensures count { vec_len self.new.marks ≡ vec_len self.old.marks }
     {
         match place_of(players, word) {
@@ -74,7 +78,9 @@ impl Named {
         bytes: &[u8],
     ) -> Result<(), AllocError>
         requires { vec_len self.old.marks ≡ length players.now.entries }
-        ensures more { IfOk result (λ _. (k : ℕ) → k < length players.now.entries → is_place self.new.places.items k ≡ (is_place self.old.places.items k || is_named (words bytes.now) (slice_index_or (keys_of players.now.entries) k 0))) }
+        ensures more { IfOk result (λ _. (k : ℕ) → k < length players.now.entries
+            → is_place self.new.places.items k ≡ (is_place self.old.places.items k || is_named (words bytes.now)
+            (slice_index_or (keys_of players.now.entries) k 0))) }
         ensures count { vec_len self.new.marks ≡ vec_len self.old.marks }
     {
         let mut rest = bytes;
@@ -97,7 +103,8 @@ impl Named {
 
 // The place of the player whose start rank a word is.
 fn place_of(players: &IndexMap<u16, Player<'_>>, word: &[u8]) -> Option<usize>
-    ensures place { (k : ℕ) → k < length players.now.entries → option_map_or (λ place. place == k) result false ≡ option_map_or (λ n. n == slice_index_or (keys_of players.now.entries) k 0) (number_of word.now) false }
+    ensures place { (k : ℕ) → k < length players.now.entries → option_map_or (λ place. place == k) result false
+        ≡ option_map_or (λ n. n == slice_index_or (keys_of players.now.entries) k 0) (number_of word.now) false }
     ensures within { IfSome result (λ place. place < length players.now.entries) }
 {
     let start = number_of(word)?;
@@ -107,7 +114,8 @@ fn place_of(players: &IndexMap<u16, Player<'_>>, word: &[u8]) -> Option<usize>
 // Takes the marks at some places away.
 fn unmark(marks: &mut [bool], places: &[usize])
     requires { AllByRecursion (λ place. place < length marks.old) places.now }
-    ensures away { (k : ℕ) → slice_index_or marks.new k false ≡ (slice_index_or marks.old k false && not (is_place places.now k)) }
+    ensures away { (k : ℕ) → slice_index_or marks.new k false
+        ≡ (slice_index_or marks.old k false && not (is_place places.now k)) }
     ensures len { length marks.new ≡ length marks.old }
 {
     for place in places {

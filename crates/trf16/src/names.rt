@@ -24,8 +24,8 @@ impl<'a> Report<'a> {
         self.utf8
     }
 
-    /// The name of a player: columns 15 to 47 of their line, without the blanks at its ends; empty if nothing stands there, and
-    /// if no player has the start rank.
+    /// The name of a player: columns 15 to 47 of their line, without the blanks at its ends; empty if nothing stands
+    /// there, and if no player has the start rank.
     pub fn name(&self, start: u16) -> &'a [u8]
         ensures { result.now ≡ name_in self.now start }
     {

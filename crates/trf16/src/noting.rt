@@ -57,7 +57,8 @@ impl Notes {
 
     // Marks those whom a line names, if it is of the kind `XXZ`.
     fn note_absent(&mut self, kind: &[u8], rest: &[u8])
-        ensures absent { (i : ℕ) → is_marked self.new i ≡ (is_marked self.old i || (is_word kind.now (codes "XXZ") && is_named (words rest.now) i)) }
+        ensures absent { (i : ℕ) → is_marked self.new i
+            ≡ (is_marked self.old i || (is_word kind.now (codes "XXZ") && is_named (words rest.now) i)) }
         ensures firsts { (kind : LineKind) → first_noted self.new kind ≡ first_noted self.old kind }
         ensures together { self.new.together ≡ self.old.together }
     {
@@ -69,7 +70,8 @@ impl Notes {
     // Notes that line n is of a kind, unless an earlier line is.
     fn note_first(&mut self, found: Option<LineKind>, n: usize)
         ensures absent { (i : ℕ) → is_marked self.new i ≡ is_marked self.old i }
-        ensures firsts { (kind : LineKind) → first_noted self.new kind ≡ noted_first (first_noted self.old kind) (is_kind_of found kind) n }
+        ensures firsts { (kind : LineKind)
+            → first_noted self.new kind ≡ noted_first (first_noted self.old kind) (is_kind_of found kind) n }
         ensures together { self.new.together ≡ self.old.together }
     {
         match found {
@@ -82,8 +84,10 @@ impl Notes {
 
     // Notes what line n says, if it is an extension.
     fn note_extension(&mut self, n: usize, line: &[u8], utf8: bool)
-        ensures absent { (i : ℕ) → is_marked self.new i ≡ (is_marked self.old i || names_absent i (columns utf8 line.now)) }
-        ensures firsts { (kind : LineKind) → first_noted self.new kind ≡ noted_first (first_noted self.old kind) (is_of (columns utf8 line.now) kind) n }
+        ensures absent { (i : ℕ) → is_marked self.new i
+            ≡ (is_marked self.old i || names_absent i (columns utf8 line.now)) }
+        ensures firsts { (kind : LineKind) → first_noted self.new kind
+            ≡ noted_first (first_noted self.old kind) (is_of (columns utf8 line.now) kind) n }
         ensures together { self.new.together ≡ (self.old.together || is_kind (codes "XXP") (columns utf8 line.now)) }
     {
         let (kind, rest) = split_kind(line, utf8);
@@ -94,8 +98,10 @@ impl Notes {
 
     /// Notes what line n says. Most lines are no extensions, and their first byte tells it.
     pub(crate) fn note(&mut self, n: usize, line: &[u8], utf8: bool)
-        ensures absent { (i : ℕ) → is_marked self.new i ≡ (is_marked self.old i || names_absent i (columns utf8 line.now)) }
-        ensures firsts { (kind : LineKind) → first_noted self.new kind ≡ noted_first (first_noted self.old kind) (is_of (columns utf8 line.now) kind) n }
+        ensures absent { (i : ℕ) → is_marked self.new i
+            ≡ (is_marked self.old i || names_absent i (columns utf8 line.now)) }
+        ensures firsts { (kind : LineKind) → first_noted self.new kind
+            ≡ noted_first (first_noted self.old kind) (is_of (columns utf8 line.now) kind) n }
         ensures together { self.new.together ≡ (self.old.together || is_kind (codes "XXP") (columns utf8 line.now)) }
     {
         if begins_with_x(line) {
@@ -116,7 +122,8 @@ fn begins_with_x(line: &[u8]) -> bool
 
 // Which kind that is not supported a line is of, by its first columns and what stands behind them.
 fn kind_of(kind: &[u8], rest: &[u8]) -> Option<LineKind>
-    ensures { (k : LineKind) → (line : List (List ℕ)) → text line 1 3 ≡ kind.now → joined (drop 3 line) ≡ rest.now → is_kind_of result k ≡ is_of line k }
+    ensures { (k : LineKind) → (line : List (List ℕ)) → text line 1 3 ≡ kind.now → joined (drop 3 line) ≡ rest.now
+        → is_kind_of result k ≡ is_of line k }
 {
     if is_word(kind, b"XXA") {
         return Some(LineKind::Xxa);

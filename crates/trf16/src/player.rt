@@ -13,7 +13,8 @@ pub struct Player<'a> {
     pub line: usize,
     /// The points field in half points, if it is not blank.
     pub points: Option<u16>,
-    /// Columns 9 to 80 (sex, title, name, rating, federation, FIDE number, birth date), without the blanks at their end.
+    /// Columns 9 to 80 (sex, title, name, rating, federation, FIDE number, birth date), without the blanks at their
+    /// end.
     pub left: &'a [u8],
     /// Columns 85 to 89 (rank), without the blanks at their end.
     pub right: &'a [u8],

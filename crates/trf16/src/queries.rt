@@ -1,5 +1,5 @@
-// What a report says of the round that comes next: who is absent, the points so far, which game has no result, and what is
-// not supported.
+// What a report says of the round that comes next: who is absent, the points so far, which game has no result, and what
+// is not supported.
 ghost use Rattle.std.specs.Prelude.{◌≡◌, ◌<◌, ◌∷◌, [], length, map, slice_index_or, IfOk, IfSome};
 ghost use Rattle.trf16.specs.Absence.{is_absence, is_named_absent, absent, apart, apart_from, some_carried, first_of};
 ghost use Rattle.trf16.specs.Extensions.{names_both};
@@ -49,8 +49,8 @@ impl<'a> Report<'a> {
         self.first_line(LineKind::Xxs).is_some()
     }
 
-    /// Whether a player is absent from the round after the last one that was paired: a line `XXZ` names them, or their cell there is
-    /// `H`, `F` or `Z`.
+    /// Whether a player is absent from the round after the last one that was paired: a line `XXZ` names them, or their
+    /// cell there is `H`, `F` or `Z`.
     pub fn absent(&self, start: u16) -> bool
         ensures { result ≡ absent self.now start }
     {
@@ -94,15 +94,16 @@ impl<'a> Report<'a> {
         }
     }
 
-    /// Whether a line `XXP` names two different numbers: then the players with these start ranks do not meet in the next round.
-    /// For players it is looked up; for a number that no player has, the time grows with the text.
+    /// Whether a line `XXP` names two different numbers: then the players with these start ranks do not meet in the
+    /// next round. For players it is looked up; for a number that no player has, the time grows with the text.
     pub fn apart(&self, a: u16, b: u16) -> bool
         ensures { result ≡ apart self.now a b }
     {
         a != b && self.are_together(a, b)
     }
 
-    /// The start ranks of the players whom one does not meet in the next round by a line `XXP`, in the order of their lines.
+    /// The start ranks of the players whom one does not meet in the next round by a line `XXP`, in the order of their
+    /// lines.
     ///
     /// # Errors
     /// Memory was refused.
@@ -131,7 +132,8 @@ impl<'a> Report<'a> {
         }
     }
 
-    /// The player and the round of the first game that has no result, by the order of the players' lines and then by round.
+    /// The player and the round of the first game that has no result, by the order of the players' lines and then by
+    /// round.
     pub fn unfinished(&self) -> Option<(u16, usize)>
         ensures { result ≡ unfinished self.now }
     {

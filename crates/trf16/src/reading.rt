@@ -1,5 +1,6 @@
 // Reading a report from its text, line by line, with the first rule that it breaks.
-ghost use Rattle.std.specs.Prelude.{◌≡◌, ℕ, ◌+◌, ◌<◌, ◌≤◌, ◌&&◌, ◌-◌, ◌++◌, false, replicate, Err, IfOk, MatchResult, None, Ok, length, take, vec_len};
+ghost use Rattle.std.specs.Prelude.{◌≡◌, ℕ, ◌+◌, ◌<◌, ◌≤◌, ◌&&◌, ◌-◌, ◌++◌, false, replicate, Err, IfOk, MatchResult};
+ghost use Rattle.std.specs.Prelude.{None, Ok, length, take, vec_len};
 ghost use Rattle.std.specs.Str.{is_utf8};
 ghost use Rattle.trf16.specs.Lines.{lines, columns};
 ghost use Rattle.trf16.specs.Fields.{without_last};
@@ -7,7 +8,11 @@ ghost use Rattle.trf16.specs.Outcomes.{Gives};
 ghost use Rattle.trf16.specs.Sheet.{entry_of, known};
 ghost use Rattle.trf16.specs.Notes.{is_marked, first_noted, Tells};
 ghost use Rattle.trf16.specs.Summed.{verdict_unsummed};
-ghost use Rattle.trf16.specs.Verdict.{blank_at, start_number_at, start_at, points_at, round_at, rounds_at, is_blank_cell, cells_at, player_at, is_player, is_too_long, player_onto, rounds_onto, colour_onto, start_ranks_onto, line_onto, lines_onto, has_too_many_rounds, names_too_many_rounds, without_players, sized, laid_out, verdict};
+ghost use Rattle.trf16.specs.Verdict.{blank_at, start_number_at, start_at, points_at, round_at, rounds_at};
+ghost use Rattle.trf16.specs.Verdict.{is_blank_cell, cells_at, player_at, is_player, is_too_long, player_onto};
+ghost use Rattle.trf16.specs.Verdict.{rounds_onto, colour_onto, start_ranks_onto, line_onto, lines_onto};
+ghost use Rattle.trf16.specs.Verdict.{has_too_many_rounds, names_too_many_rounds, without_players, sized, laid_out};
+ghost use Rattle.trf16.specs.Verdict.{verdict};
 ghost use Rattle.trf16.specs.declared.cell.Cell.TheVariants.{Blank};
 ghost use Rattle.trf16.specs.declared.limits.TheConstants.{MOST_PLAYERS, MOST_ROUNDS, LAST_COLUMN};
 
@@ -102,7 +107,8 @@ fn round_at(n: usize, line: &Line<'_>, before: usize) -> Result<Cell, Fault>
 
 // The rounds that a line goes on to: all others are blank.
 fn rounds_at(alloc: Global, n: usize, line: &Line<'_>) -> Result<Vec<Cell>, Fault>
-    ensures cells { Gives (λ cells. cells.items ++ replicate (MOST_ROUNDS - vec_len cells) Blank) result (rounds_at n line.now 0 MOST_ROUNDS) }
+    ensures cells { Gives (λ cells. cells.items ++ replicate (MOST_ROUNDS - vec_len cells) Blank) result
+        (rounds_at n line.now 0 MOST_ROUNDS) }
     ensures few { IfOk result (λ cells. vec_len cells ≤ MOST_ROUNDS) }
 {
     let mut cells = Vec::new(alloc);
@@ -240,7 +246,8 @@ fn line_onto<'a>(
     bytes: &'a [u8],
 ) -> Result<bool, Fault>
     ensures given { Gives (λ _. draft.new) result (line_onto draft.old n (columns draft.old.utf8 bytes.now)) }
-    ensures long { let line = columns draft.old.utf8 bytes.now in IfOk result (λ long. long ≡ (is_player line && is_too_long line)) }
+    ensures long { let line = columns draft.old.utf8 bytes.now in IfOk result
+        (λ long. long ≡ (is_player line && is_too_long line)) }
 {
     let (kind, _) = split_kind(bytes, draft.is_utf8());
     if kind == b"001".as_slice() {
@@ -363,14 +370,14 @@ pub fn read<'a>(alloc: Global, bytes: &'a [u8]) -> Result<Report<'a>, Fault>
     read_with(alloc, bytes, 2)
 }
 
-/// Reads a report of at most `MOST_BYTES` bytes, `MOST_PLAYERS` players and `MOST_ROUNDS` rounds, in which the pairing-allocated bye gives `bye` half points, 0 to
-/// 2: the report that the text is, or the first rule that it breaks. A column is a character if the text is UTF-8, else a byte; byte
-/// order marks in front are skipped.
+/// Reads a report of at most `MOST_BYTES` bytes, `MOST_PLAYERS` players and `MOST_ROUNDS` rounds, in which the
+/// pairing-allocated bye gives `bye` half points, 0 to 2: the report that the text is, or the first rule that it
+/// breaks. A column is a character if the text is UTF-8, else a byte; byte order marks in front are skipped.
 ///
 /// # Errors
-/// Too many bytes is told first; then what is wrong with a line, in the order of the lines; then too many players, too many
-/// rounds, and no players; then for each player in the order of the lines what does not fit in their rounds, and then their points.
-/// Want of memory may come at any growth.
+/// Too many bytes is told first; then what is wrong with a line, in the order of the lines; then too many players, too
+/// many rounds, and no players; then for each player in the order of the lines what does not fit in their rounds, and
+/// then their points. Want of memory may come at any growth.
 pub fn read_with<'a>(alloc: Global, bytes: &'a [u8], bye: u16) -> Result<Report<'a>, Fault>
     requires { bye ≤ 2 }
     ensures { Gives (λ report. report) result (verdict bytes.now bye) }
@@ -380,7 +387,8 @@ pub fn read_with<'a>(alloc: Global, bytes: &'a [u8], bye: u16) -> Result<Report<
     accepted(report, fits)
 }
 
-/// Reads a report as `read_with` does, but for the last rule: the points fields are read, and not compared with any sum.
+/// Reads a report as `read_with` does, but for the last rule: the points fields are read, and not compared with any
+/// sum.
 ///
 /// # Errors
 /// Those of `read_with`, in the same order, but that a points field is no sum.

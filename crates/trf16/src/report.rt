@@ -2,7 +2,8 @@
 ghost use Rattle.std.specs.Prelude.{◌≡◌, ◌<◌, ◌≤◌, ◌*◌, map, length, option_copied, option_map, IfSome, [], sum_by};
 ghost use Rattle.std.specs.Option.{option_map_or};
 ghost use Rattle.trf16.specs.Names.{player_of};
-ghost use Rattle.trf16.specs.Sheet.{entry_of, known, cells_of, cell_in, carried_in, half_points, last_paired_of, rounds_played};
+ghost use Rattle.trf16.specs.Sheet.{entry_of, known, cells_of, cell_in, carried_in, half_points, last_paired_of};
+ghost use Rattle.trf16.specs.Sheet.{rounds_played};
 ghost use Rattle.trf16.specs.Verdict.{carried_line};
 ghost use Rattle.trf16.specs.declared.limits.TheConstants.{MOST_PLAYERS, MOST_ROUNDS};
 
@@ -61,7 +62,10 @@ impl<'a> Model for Report<'a> {
         × (length r.players.entries ≤ MOST_PLAYERS) × ForSome r.total (λ total. total ≤ MOST_ROUNDS)
         × (r.rounds ≡ last_paired_of (map (λ e. entry_of e.1) r.players.entries)) × (r.rounds ≤ MOST_ROUNDS)
         × Tells r.notes (without_players r.utf8 (lines r.text.now) r.bye) × (r.bye ≤ 2)
-        × TellsApart r.apart (record (without_players r.utf8 (lines r.text.now) r.bye) { players = map (λ e. entry_of e.1) r.players.entries }) };
+        × TellsApart r.apart (record (without_players r.utf8 (lines r.text.now) r.bye) {
+          players = map
+              (λ e. entry_of e.1) r.players.entries;
+        }) };
 }
 
 impl<'a> Report<'a> {
@@ -139,8 +143,8 @@ impl<'a> Report<'a> {
         self.rounds
     }
 
-    /// The line of a number, from 1, as it stands; none if it is a player's line, or if the text has no such line. The time grows with the
-    /// text.
+    /// The line of a number, from 1, as it stands; none if it is a player's line, or if the text has no such line. The
+    /// time grows with the text.
     pub fn carried(&self, line: usize) -> Option<&'a [u8]>
         requires { 0 < line }
         ensures { option_copied result ≡ carried_in self.now line }

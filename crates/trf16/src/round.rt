@@ -1,9 +1,11 @@
 // Pairing the next round of a report: who meets whom in it, and the points so far.
-ghost use Rattle.std.specs.Prelude.{◌≡◌, ◌+◌, ◌<◌, ◌≤◌, ◌&&◌, ◌↔◌, ◌∷◌, [], nat_eq, IfOk, IfSome, IsTrue, length, map, option_copied, option_map, sum_by, take};
+ghost use Rattle.std.specs.Prelude.{◌≡◌, ◌+◌, ◌<◌, ◌≤◌, ◌&&◌, ◌↔◌, ◌∷◌, [], nat_eq, IfOk, IfSome, IsTrue, length, map};
+ghost use Rattle.std.specs.Prelude.{option_copied, option_map, sum_by, take};
 ghost use Rattle.std.specs.List.{list_any};
 ghost use Rattle.trf16.specs.Sheet.{entry_of, half_points, rounds_played};
 ghost use Rattle.trf16.specs.Steps.{is_free, are_free, entry_turned};
-ghost use Rattle.trf16.specs.Round.{CanBePaired, named_by, cell_on, cell_by, with_cell, cells_with, entry_with, with_round};
+ghost use Rattle.trf16.specs.Round.{CanBePaired, named_by, cell_on, cell_by, with_cell, cells_with, entry_with};
+ghost use Rattle.trf16.specs.Round.{with_round};
 ghost use Rattle.trf16.specs.declared.limits.TheConstants.{MOST_ROUNDS};
 
 use crate::cell::{Bye, Cell, Colour};
@@ -118,7 +120,8 @@ impl<'a> Report<'a> {
 
     // The same of both players of a board.
     fn are_free(&self, board: (u16, u16), later: &[(u16, u16)]) -> bool
-        ensures { (result && are_free self.now (named_by later.now)) ≡ are_free self.now (named_by (board ∷ later.now)) }
+        ensures { (result && are_free self.now (named_by later.now))
+            ≡ are_free self.now (named_by (board ∷ later.now)) }
     {
         let (white, black) = board;
         if !self.is_free(white, later) {
@@ -150,7 +153,8 @@ impl<'a> Report<'a> {
         player: &Player<'a>,
     ) -> Result<Player<'a>, AllocError>
         requires { before < MOST_ROUNDS }
-        ensures { IfOk result (λ paired. entry_of paired ≡ entry_with self.now.bye boards.now before (entry_of player.now)) }
+        ensures { IfOk result (λ paired. entry_of paired
+            ≡ entry_with self.now.bye boards.now before (entry_of player.now)) }
     {
         let cells = cells_with(alloc, boards, before, player)?;
         Ok(Player {
@@ -172,7 +176,8 @@ impl<'a> Report<'a> {
         player: &Player<'a>,
     ) -> Result<Player<'a>, AllocError>
         requires { IfSome (option_copied boards) (λ _. rounds < MOST_ROUNDS) }
-        ensures { IfOk result (λ turned. entry_of turned ≡ entry_turned (option_copied boards.entry) self.now.bye rounds (entry_of player.now)) }
+        ensures { IfOk result (λ turned. entry_of turned
+            ≡ entry_turned (option_copied boards.entry) self.now.bye rounds (entry_of player.now)) }
     {
         match boards {
             Some(boards) => self.player_with(alloc, boards, rounds, player),
@@ -188,7 +193,10 @@ impl<'a> Report<'a> {
         rounds: u8,
     ) -> Result<Report<'a>, AllocError>
         requires { IfSome (option_copied boards) (λ _. rounds < MOST_ROUNDS) }
-        ensures { IfOk result (λ report. report ≡ record self.now { players = map (entry_turned (option_copied boards.entry) self.now.bye rounds) self.now.players }) }
+        ensures { IfOk result (λ report. report ≡ record self.now {
+          players = map
+              (entry_turned (option_copied boards.entry) self.now.bye rounds) self.now.players;
+        }) }
     {
         let notes = self.notes.copy(alloc)?;
         let apart = self.apart.copy(alloc)?;
@@ -211,8 +219,8 @@ impl<'a> Report<'a> {
         })
     }
 
-    /// Whether some boards can be the next round: whoever they name is a player of the report, is present, and is named once;
-    /// and the last round that there can be is not paired yet.
+    /// Whether some boards can be the next round: whoever they name is a player of the report, is present, and is named
+    /// once; and the last round that there can be is not paired yet.
     pub fn can_be_paired(&self, boards: &[(u16, u16)]) -> bool
         ensures { IsTrue result ↔ CanBePaired boards.now self.now }
     {

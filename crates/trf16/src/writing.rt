@@ -1,10 +1,13 @@
-// Writing a report as its canonical text: the lines that are carried as they stand, and the lines of the players afresh.
+// Writing a report as its canonical text: the lines that are carried as they stand, and the lines of the players
+// afresh.
 ghost use Rattle.std.specs.Prelude.{◌≡◌, ◌++◌, ◌∷◌, ◌≤◌, ◌/◌, [], codes, decimal, map, option_copied};
 ghost use Rattle.std.specs.List.{flat_map};
 ghost use Rattle.trf16.specs.Output.{use_of, Puts};
 ghost use Rattle.trf16.specs.Steps.{next_text, players_behind};
 ghost use Rattle.trf16.specs.Sheet.{entry_of};
-ghost use Rattle.trf16.specs.Written.{blanks, right_in_four, left_in, points_text, points_field, bye_letter, colour_letter, outcome_letter, meeting_text, cell_text, round_text, player_text, written};
+ghost use Rattle.trf16.specs.Written.{blanks, right_in_four, left_in, points_text, points_field, bye_letter};
+ghost use Rattle.trf16.specs.Written.{colour_letter, outcome_letter, meeting_text, cell_text, round_text, player_text};
+ghost use Rattle.trf16.specs.Written.{written};
 
 use crate::cell::{Bye, Cell, Colour, Outcome};
 use crate::columns::column_count;
@@ -196,8 +199,10 @@ fn put_next<W: Sink>(
     carried: Option<&[u8]>,
     players: &mut Values<'_, u16, Player<'_>>,
 ) -> Result<(), Failed>
-    ensures text { Puts (next_text utf8 (option_copied carried.entry) (map entry_of players.old)) (use_of W.held W.failures w.old w.new) result }
-    ensures players { map entry_of players.new ≡ players_behind (option_copied carried.entry) (map entry_of players.old) }
+    ensures text { Puts (next_text utf8 (option_copied carried.entry) (map entry_of players.old))
+        (use_of W.held W.failures w.old w.new) result }
+    ensures players { map entry_of players.new
+        ≡ players_behind (option_copied carried.entry) (map entry_of players.old) }
 {
     match carried {
         Some(line) => put_line(w, line),
@@ -208,9 +213,9 @@ fn put_next<W: Sink>(
     }
 }
 
-/// Writes a report as its canonical text: each line that is no player's as it stands, and each player's line anew in TRF16's columns, all
-/// ended by LF, with no byte order mark in front. It fails only if the sink does; then a part of the text was written, which ends before
-/// the text does.
+/// Writes a report as its canonical text: each line that is no player's as it stands, and each player's line anew in
+/// TRF16's columns, all ended by LF, with no byte order mark in front. It fails only if the sink does; then a part of
+/// the text was written, which ends before the text does.
 pub fn write<W: Sink>(report: &Report<'_>, w: &mut W) -> Result<(), Failed>
     ensures { Puts (written report.now) (use_of W.held W.failures w.old w.new) result }
 {
