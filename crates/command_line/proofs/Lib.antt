@@ -1,11 +1,5 @@
 pub mod InputLemmas
-pub mod WordLemmas
 pub mod RunLemmas
-pub mod KeyLemmas
-pub mod KeyRule
-pub mod OptionLemmas
-pub mod CommandLemmas
-pub mod RequestLemmas
 pub mod ListingLemmas
 pub mod TableLemmas
 pub mod AskedLemmas

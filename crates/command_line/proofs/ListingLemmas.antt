@@ -19,7 +19,7 @@ use Rattle.command_line.specs.CandidateTexts.{bracket_text, candidate_text, line
 use Rattle.command_line.specs.Replies.{answer_of}
 use Rattle.command_line.specs.Statuses.{not_of_bracket, plain}
 use Rattle.command_line.specs.declared.listing.Ending.{Ending}
-use Rattle.command_line.specs.declared.options.CandidatesOptions.{CandidatesOptions}
+use Rattle.requests.specs.declared.options.CandidatesOptions.{CandidatesOptions}
 use Rattle.command_line.specs.declared.reply.Reply.{Reply}
 use Rattle.command_line.specs.declared.reply.Status.{Status}
 use Rattle.command_line.specs.declared.listing.Ending.TheVariants.{AtEnd, AtCount, Stopped}

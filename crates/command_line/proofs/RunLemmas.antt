@@ -12,9 +12,9 @@ use Rattle.command_line.specs.Statuses.{Answer}
 use Rattle.command_line.specs.Devices.{Reading}
 use Rattle.command_line.specs.Input.{IsRead, most_read}
 use Rattle.command_line.specs.Run.{IsAnswered, IsInput}
-use Rattle.command_line.specs.declared.words.Request.{Request}
-use Rattle.command_line.specs.declared.words.Request.TheVariants.{Check, Format, Pair, Candidates, Explain, Standings}
-use Rattle.command_line.specs.declared.words.Task.{Task}
+use Rattle.requests.specs.declared.words.Request.{Request}
+use Rattle.requests.specs.declared.words.Request.TheVariants.{Check, Format, Pair, Candidates, Explain, Standings}
+use Rattle.requests.specs.declared.words.Task.{Task}
 use Rattle.trf16.specs.declared.limits.TheConstants.{MOST_BYTES}
 
 -- as many bytes as are read at most are too many for a report

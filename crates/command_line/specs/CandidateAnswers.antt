@@ -19,7 +19,7 @@ use Rattle.command_line.specs.CandidateTexts.{bracket_text, line_text}
 use Rattle.command_line.specs.Texts.{undecided_text}
 use Rattle.command_line.specs.declared.listing.Ending.{Ending}
 use Rattle.command_line.specs.declared.listing.Ending.TheVariants.{AtEnd, AtCount, Stopped}
-use Rattle.command_line.specs.declared.options.CandidatesOptions.{CandidatesOptions}
+use Rattle.requests.specs.declared.options.CandidatesOptions.{CandidatesOptions}
 use Rattle.command_line.specs.declared.reply.Status.{Status}
 use Rattle.command_line.specs.declared.reply.Status.TheVariants.{Done, Undecided}
 

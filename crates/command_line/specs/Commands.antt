@@ -14,9 +14,9 @@ use Rattle.command_line.specs.RefusalNoteTexts.{with_note, refusal_note}
 use Rattle.command_line.specs.StandingsAnswers.{standings_answer}
 use Rattle.command_line.specs.Statuses.{Answer, done, refusal, report_answer}
 use Rattle.command_line.specs.Texts.{accepted_text}
-use Rattle.command_line.specs.declared.words.Task.{Task}
-use Rattle.command_line.specs.declared.words.Request.{Request}
-use Rattle.command_line.specs.declared.words.Request.TheVariants.{Check, Format, Pair, Candidates, Explain, Standings}
+use Rattle.requests.specs.declared.words.Task.{Task}
+use Rattle.requests.specs.declared.words.Request.{Request}
+use Rattle.requests.specs.declared.words.Request.TheVariants.{Check, Format, Pair, Candidates, Explain, Standings}
 
 -- how many players and rounds a report has
 abbrev pub size_text : Sheet → List ℕ

@@ -14,8 +14,8 @@ use Rattle.command_line.specs.ExplainTexts.{round_text, stages_text}
 use Rattle.command_line.specs.InsteadAnswers.{AnswersInstead, PairedRound}
 use Rattle.command_line.specs.PlayerTexts.{absent_text, player_text}
 use Rattle.command_line.specs.Statuses.{Answer, behind, done, field_refusal, no_pairing, plain, question_refusal, refusal, undecided}
-use Rattle.command_line.specs.declared.options.ExplainOptions.{ExplainOptions}
-use Rattle.command_line.specs.declared.options.Question.{Question}
+use Rattle.requests.specs.declared.options.ExplainOptions.{ExplainOptions}
+use Rattle.requests.specs.declared.options.Question.{Question}
 use Rattle.command_line.specs.declared.question.QuestionFault.{QuestionFault}
 use Rattle.command_line.specs.declared.question.QuestionFault.TheVariants.{NotKnown, NamedTwice}
 

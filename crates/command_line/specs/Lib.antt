@@ -1,17 +1,12 @@
 -- What the contracts of arbiter name: words, options, texts, answers and runs.
 pub mod Devices
 pub mod Input
-pub mod Words
 pub mod Texts
 pub mod NoteTexts
 pub mod RefusalNoteTexts
 pub mod Commands
 pub mod Run
 pub mod Replies
-pub mod Keys
-pub mod KeySteps
-pub mod Options
-pub mod CommandLine
 pub mod Statuses
 pub mod CandidateTexts
 pub mod CandidateAnswers

@@ -6,11 +6,11 @@ use Rattle.command_line.specs.Commands.{Answers}
 use Rattle.command_line.specs.Statuses.{Answer, is_output, out_of_memory, plain, read_fault}
 use Rattle.command_line.specs.Input.{most_read}
 use Rattle.command_line.specs.Texts.{word_text, write_text}
-use Rattle.command_line.specs.Words.{AsksFor, AsksForHelp, AsksWrongly, IsMistaken, meant}
-use Rattle.command_line.specs.declared.options.WordFault.{WordFault}
+use Rattle.requests.specs.Words.{AsksFor, AsksForHelp, AsksWrongly, IsMistaken, meant}
+use Rattle.requests.specs.declared.options.WordFault.{WordFault}
 use Rattle.command_line.specs.declared.reply.Status.{Status}
 use Rattle.command_line.specs.declared.reply.Status.TheVariants.{Done, BadWords, Trouble}
-use Rattle.command_line.specs.declared.words.Task.{Task}
+use Rattle.requests.specs.declared.words.Task.{Task}
 
 -- ---- what is answered
 

@@ -9,7 +9,7 @@ use Rattle.trf16.specs.declared.fault.Fault.{Fault}
 use Rattle.command_line.specs.StandingsTexts.{rows_text}
 use Rattle.command_line.specs.Statuses.{Answer, done, refusal, tie_refusal}
 use Rattle.command_line.specs.WallTexts.{named_rows_text}
-use Rattle.command_line.specs.declared.options.StandingsOptions.{StandingsOptions}
+use Rattle.requests.specs.declared.options.StandingsOptions.{StandingsOptions}
 
 -- the players in order, without names (false) or with them (true)
 abbrev pub lines_text : Bool → Sheet → List Key → List RowFacts → List ℕ

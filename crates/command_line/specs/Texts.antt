@@ -1,8 +1,8 @@
 -- The texts that the program writes, apart from clap's and from why a report is refused.
 use Rattle.std.specs.Prelude.{ℕ, ◌/◌, ◌%◌, ◌==◌, if◌then◌else◌, List, ◌++◌, codes}
 use Rattle.std.specs.Fmt.{decimal}
-use Rattle.command_line.specs.declared.options.WordFault.{WordFault}
-use Rattle.command_line.specs.declared.options.WordFault.TheVariants.{BadColour, BadKeys, BadCursor, NamesAndReport, InsteadAlone}
+use Rattle.requests.specs.declared.options.WordFault.{WordFault}
+use Rattle.requests.specs.declared.options.WordFault.TheVariants.{BadColour, BadKeys, BadCursor, NamesAndReport, InsteadAlone}
 use Rattle.command_line.specs.declared.question.QuestionFault.{QuestionFault}
 use Rattle.command_line.specs.declared.question.QuestionFault.TheVariants.{NotKnown, NamedTwice}
 

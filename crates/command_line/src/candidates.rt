@@ -11,13 +11,13 @@ ghost use Rattle.command_line.specs.Replies.{answer_of};
 ghost use Rattle.command_line.specs.Statuses.{not_of_bracket, not_reached};
 
 use crate::listing::{Listed, lines};
-use crate::options::CandidatesOptions;
 use crate::refusal::{cannot_be_paired, no_pairing, refused, undecided};
 use crate::reply::{Reply, Status, Text};
 use crate::texts;
 use dutch_order::{Budget, Candidates, Cursor, Rule, Shape};
 use dutch_pair::{BracketAt, PairFault, Reached, bracket_at};
 use dutch_player::{Field, FieldFault};
+use requests::CandidatesOptions;
 use std::alloc::{AllocError, Global};
 use trf16::{Fault, Report};
 

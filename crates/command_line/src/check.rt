@@ -8,11 +8,11 @@ ghost use Rattle.command_line.specs.Replies.{answer_of};
 ghost use Rattle.command_line.specs.Statuses.{done};
 
 use crate::notes::put_notes;
-use crate::options::CheckOptions;
 use crate::refusal::refused;
 use crate::refusal_notes::refused_with_note;
 use crate::reply::{Reply, Status, Text};
 use crate::texts;
+use requests::CheckOptions;
 use std::alloc::{AllocError, Global};
 use trf16::{Fault, Report};
 

@@ -14,13 +14,13 @@ ghost use Rattle.command_line.specs.Statuses.{done};
 use crate::barrier_lines::no_pairing_because;
 use crate::bracket_lines::{put_stages, round_line};
 use crate::instead::{Paired, instead};
-use crate::options::{ExplainOptions, Question};
 use crate::player_line::{put_absent, put_player};
 use crate::question::question_fault;
 use crate::refusal::{cannot_be_asked, cannot_be_paired, refused, undecided};
 use crate::reply::{Reply, Status, Text};
 use dutch_pair::{AllStages, PairFault, stages};
 use dutch_player::{Field, FieldFault};
+use requests::{ExplainOptions, Question};
 use std::alloc::{AllocError, Global};
 use trf16::{Fault, Report};
 

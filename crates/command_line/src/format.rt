@@ -7,9 +7,9 @@ ghost use Rattle.command_line.specs.Commands.{format_answer, format_verdict};
 ghost use Rattle.command_line.specs.Replies.{answer_of};
 ghost use Rattle.command_line.specs.Statuses.{report_answer};
 
-use crate::options::FormatOptions;
 use crate::refusal::refused;
 use crate::reply::{Reply, Status, Text};
+use requests::FormatOptions;
 use std::alloc::{AllocError, Global};
 use trf16::{Counted, Excess, Failed, Fault, MOST_BYTES, Report};
 

@@ -3,12 +3,10 @@
 // streams.
 #![tactic(auto)]
 
-mod arguments;
 mod barrier_lines;
 mod bracket_lines;
 mod candidates;
 mod check;
-mod commands;
 mod controls;
 mod explain;
 mod format;
@@ -16,11 +14,9 @@ mod input;
 mod instead;
 mod instead_laws;
 mod item_lines;
-mod keys;
 mod listing;
 mod notes;
 mod obstacle;
-mod options;
 mod pair;
 mod player_line;
 mod question;
@@ -33,7 +29,6 @@ mod table;
 mod texts;
 mod value_texts;
 mod wall;
-mod words;
 
 pub use reply::Status;
 pub use running::run;

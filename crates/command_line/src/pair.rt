@@ -13,7 +13,6 @@ ghost use Rattle.command_line.specs.Replies.{answer_of};
 ghost use Rattle.command_line.specs.Statuses.{done};
 
 use crate::format::rewritten;
-use crate::options::{PairOptions, Shown};
 use crate::refusal::{cannot_be_paired, no_pairing, refused, undecided};
 use crate::reply::{Reply, Status, Text};
 use crate::wall;
@@ -21,6 +20,7 @@ use dutch_pair::boards::Board;
 use dutch_pair::laws::boards_can_be_the_next_round;
 use dutch_pair::{Outcome, PairFault, pair_round};
 use dutch_player::{Field, FieldFault};
+use requests::{PairOptions, Shown};
 use std::alloc::{AllocError, Global};
 use trf16::{Fault, Report};
 

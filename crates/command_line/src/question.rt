@@ -2,7 +2,7 @@
 ghost use Rattle.std.specs.Prelude.{◌≡◌};
 ghost use Rattle.command_line.specs.ExplainAnswers.{instead_fault, question_fault};
 
-use crate::options::Question;
+use requests::Question;
 use trf16::Report;
 
 /// What is wrong with the players whom a question names.

@@ -8,7 +8,7 @@ ghost use Rattle.trf16.specs.Output.{use_of};
 ghost use Rattle.command_line.specs.Input.{most_read};
 ghost use Rattle.command_line.specs.Replies.{answer_of};
 ghost use Rattle.command_line.specs.Run.{IsAnswer, IsOutOfMemory, IsReplyTo, IsRun};
-ghost use Rattle.command_line.specs.Words.{meant};
+ghost use Rattle.requests.specs.Words.{meant};
 
 use crate::candidates::candidates;
 use crate::check::check;
@@ -19,7 +19,7 @@ use crate::pair::pair;
 use crate::reply::{Reply, Status, Text};
 use crate::standings::standings;
 use crate::texts;
-use crate::words::{Asked, Request, Task, meant, read_words};
+use requests::{Asked, Request, Task, meant, read_words};
 use std::alloc::{AllocError, Global};
 use trf16::{Sink, Source};
 

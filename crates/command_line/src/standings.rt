@@ -6,11 +6,11 @@ ghost use Rattle.command_line.specs.StandingsAnswers.{standings_answer, table_an
 ghost use Rattle.command_line.specs.StandingsTexts.{quarter_text, quarters_text, row_text, rows_text, value_text};
 ghost use Rattle.command_line.specs.StandingsTexts.{values_text};
 
-use crate::options::StandingsOptions;
 use crate::refusal::{has_no_standings, refused};
 use crate::reply::{Reply, Status, Text};
 use crate::texts::halves;
 use crate::wall;
+use requests::StandingsOptions;
 use std::alloc::{AllocError, Global};
 use tiebreak::{Key, Row, TieFault};
 use trf16::{Fault, Report};

@@ -7,10 +7,10 @@ ghost use Rattle.command_line.specs.Texts.{accepted_text, halves_text, not_of_br
 ghost use Rattle.command_line.specs.Texts.{question_text, undecided_text, word_text};
 
 use crate::listing::Ending;
-use crate::options::WordFault;
 use crate::question::QuestionFault;
 use dutch_order::Shape;
 use dutch_pair::BracketKind;
+use requests::WordFault;
 use std::alloc::{AllocError, Global};
 
 /// A report is accepted: how many players it has, and how many rounds were paired.
