@@ -1,16 +1,4 @@
-pub mod InputLemmas
 pub mod RunLemmas
-pub mod ListingLemmas
-pub mod TableLemmas
 pub mod AskedLemmas
+pub mod CandidateLemmas
 pub mod PairLemmas
-pub mod StageLemmas
-pub mod JoinedTexts
-pub mod NoteLemmas
-pub mod PlayerLemmas
-pub mod ObstacleLemmas
-pub mod ObstacleTruth
-pub mod InsteadLemmas
-pub mod DecidedLemmas
-pub mod ReasonLemmas
-pub mod ControlLemmas

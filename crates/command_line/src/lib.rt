@@ -3,32 +3,9 @@
 // streams.
 #![tactic(auto)]
 
-mod barrier_lines;
-mod bracket_lines;
 mod candidates;
-mod check;
-mod controls;
-mod explain;
-mod format;
-mod input;
-mod instead;
-mod instead_laws;
-mod item_lines;
-mod listing;
-mod notes;
-mod obstacle;
 mod pair;
-mod player_line;
-mod question;
-mod refusal;
-mod refusal_notes;
-mod reply;
 mod running;
-mod standings;
-mod table;
-mod texts;
-mod value_texts;
-mod wall;
 
-pub use reply::Status;
+pub use replies::Status;
 pub use running::run;
