@@ -9,14 +9,14 @@ use Rattle.clap.specs.Words.{Row, Text, one_of, subcommand_of}
 use Rattle.dutch_order.specs.Cursors.{has_syntax}
 use Rattle.trf16.specs.declared.cell.Colour.{Colour}
 use Rattle.command_line.specs.Known.{CanBeAnswered, HasFewRounds}
-use Rattle.command_line.specs.Options.{◌>>=◌, bye_in, candidates_options, check_options, explain_options, flag_in, format_options, initial_in, number_in, number_of, pair_options, rounds_in, shown_by, standings_options, steps_in}
-use Rattle.command_line.specs.Words.{AsksFor, arbiter_app, candidates_request, explain_request, pair_request, request_of, standings_request, task_by, with_bye}
-use Rattle.command_line.specs.declared.options.PairOptions.{PairOptions}
-use Rattle.command_line.specs.declared.options.Shown.{Shown}
-use Rattle.command_line.specs.declared.options.WordFault.{WordFault}
-use Rattle.command_line.specs.declared.words.Task.{Task}
-use Rattle.command_line.specs.declared.words.Request.{Request}
-use Rattle.command_line.specs.declared.words.Request.TheVariants.{Check, Format, Pair, Candidates, Explain, Standings}
+use Rattle.requests.specs.Options.{◌>>=◌, bye_in, candidates_options, check_options, explain_options, flag_in, format_options, initial_in, number_in, number_of, pair_options, rounds_in, shown_by, standings_options, steps_in}
+use Rattle.requests.specs.Words.{AsksFor, arbiter_app, candidates_request, explain_request, pair_request, request_of, standings_request, task_by, with_bye}
+use Rattle.requests.specs.declared.options.PairOptions.{PairOptions}
+use Rattle.requests.specs.declared.options.Shown.{Shown}
+use Rattle.requests.specs.declared.options.WordFault.{WordFault}
+use Rattle.requests.specs.declared.words.Task.{Task}
+use Rattle.requests.specs.declared.words.Request.{Request}
+use Rattle.requests.specs.declared.words.Request.TheVariants.{Check, Format, Pair, Candidates, Explain, Standings}
 use Rattle.trf16.specs.declared.limits.TheConstants.{MOST_ROUNDS}
 
 -- what a step gives that met no fault

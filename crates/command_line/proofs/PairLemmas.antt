@@ -12,7 +12,7 @@ use Rattle.dutch_pair.specs.Round.{Pairing, round}
 use Rattle.dutch_pair.specs.declared.round.Outcome.{Outcome}
 use Rattle.dutch_pair.specs.declared.round.Outcome.TheVariants.{Paired, NoPairing, Undecided}
 use Rattle.command_line.specs.Known.{CanBeTold, HasFewRounds, IsAccepted}
-use Rattle.command_line.specs.declared.options.PairOptions.{PairOptions}
+use Rattle.requests.specs.declared.options.PairOptions.{PairOptions}
 use Rattle.trf16.specs.declared.limits.TheConstants.{MOST_ROUNDS}
 
 -- what is known of the boards of a round

@@ -7,14 +7,15 @@ use Rattle.trf16.specs.Verdict.{laid_out, verdict}
 use Rattle.trf16.specs.declared.fault.Excess.TheVariants.{Bytes}
 use Rattle.trf16.specs.declared.fault.Fault.TheVariants.{TooMany}
 use Rattle.trf16.specs.Summed.{verdict_unsummed}
-use Rattle.command_line.specs.Commands.{Answers, AnswersReport, check_answer, format_verdict, verdict_for}
-use Rattle.command_line.specs.Statuses.{Answer}
-use Rattle.command_line.specs.Devices.{Reading}
-use Rattle.command_line.specs.Input.{IsRead, most_read}
+use Rattle.command_line.specs.Commands.{Answers, AnswersReport, verdict_for}
+use Rattle.replies.specs.ReportAnswers.{check_answer, format_verdict}
+use Rattle.replies.specs.Statuses.{Answer}
+use Rattle.replies.specs.Devices.{Reading}
+use Rattle.replies.specs.Input.{IsRead, most_read}
 use Rattle.command_line.specs.Run.{IsAnswered, IsInput}
-use Rattle.command_line.specs.declared.words.Request.{Request}
-use Rattle.command_line.specs.declared.words.Request.TheVariants.{Check, Format, Pair, Candidates, Explain, Standings}
-use Rattle.command_line.specs.declared.words.Task.{Task}
+use Rattle.requests.specs.declared.words.Request.{Request}
+use Rattle.requests.specs.declared.words.Request.TheVariants.{Check, Format, Pair, Candidates, Explain, Standings}
+use Rattle.requests.specs.declared.words.Task.{Task}
 use Rattle.trf16.specs.declared.limits.TheConstants.{MOST_BYTES}
 
 -- as many bytes as are read at most are too many for a report

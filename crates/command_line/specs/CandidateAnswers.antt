@@ -1,11 +1,9 @@
 -- What `candidates` answers: a bracket, its shape, and the candidates of that shape in article D's order, from a cursor on or all.
-use Rattle.std.specs.Prelude.{◌≡◌, ℕ, ◌<◌, ◌≤◌, List, [], ◌++◌, length, take, Option, Some, None, Result, Ok, Err, codes}
-use Rattle.std.specs.List.{flat_map}
+use Rattle.std.specs.Prelude.{◌≡◌, ℕ, List, [], ◌++◌, Option, Some, None, Result, Ok, Err}
 use Rattle.dutch_order.specs.Arrangements.{Arrangement, candidates, rest}
 use Rattle.dutch_order.specs.Cursors.{cursor_of}
 use Rattle.dutch_order.specs.declared.bracket.Shape.{Shape}
 use Rattle.dutch_order.specs.declared.cursor.CursorFault.{CursorFault}
-use Rattle.dutch_order.specs.declared.steps.Budget.{Budget}
 use Rattle.dutch_pair.specs.Outcomes.{IsBracketAt}
 use Rattle.dutch_bracket.specs.Reached.{Reached, frame_of, numbers_meet, number_may_be_left}
 use Rattle.dutch_pair.specs.declared.round.BracketAt.{BracketAt}
@@ -14,40 +12,11 @@ use Rattle.dutch_player.specs.Facts.{Facts, facts_of}
 use Rattle.dutch_player.specs.declared.fault.FieldFault.{FieldFault}
 use Rattle.trf16.specs.Sheet.{Sheet}
 use Rattle.trf16.specs.declared.fault.Fault.{Fault}
-use Rattle.command_line.specs.Statuses.{Answer, field_refusal, no_pairing, not_of_bracket, not_reached, refusal, undecided}
-use Rattle.command_line.specs.CandidateTexts.{bracket_text, line_text}
-use Rattle.command_line.specs.Texts.{undecided_text}
-use Rattle.command_line.specs.declared.listing.Ending.{Ending}
-use Rattle.command_line.specs.declared.listing.Ending.TheVariants.{AtEnd, AtCount, Stopped}
-use Rattle.command_line.specs.declared.options.CandidatesOptions.{CandidatesOptions}
-use Rattle.command_line.specs.declared.reply.Status.{Status}
-use Rattle.command_line.specs.declared.reply.Status.TheVariants.{Done, Undecided}
-
--- the lines of the first `count` of some candidates, by how the listing ends: all came and they are fewer; as many came; or it had
--- used so many steps as it may, before as many came
-abbrev pub IsListing : (Arrangement → List ℕ) → List Arrangement → ℕ → ℕ → Ending → List ℕ → Type 0
-IsListing line coming count steps AtEnd text = (length coming < count) × (text ≡ flat_map line coming)
-IsListing line coming count steps AtCount text = (count ≤ length coming) × (text ≡ flat_map line (take count coming))
-IsListing line coming count steps (Stopped used) text =
-    (used ≡ steps) × ((k : ℕ) × (k < count) × (k ≤ length coming) × (text ≡ flat_map line (take k coming)))
-
--- a listing is stopped only where all steps of its budget are used
-abbrev pub StopsAtLimit : Ending → Budget → Type 0
-StopsAtLimit AtEnd budget = Unit {0}
-StopsAtLimit AtCount budget = Unit {0}
-StopsAtLimit (Stopped used) budget = budget.used ≡ budget.limit
-
--- the status of a listing
-abbrev pub status_of : Ending → Status
-status_of AtEnd = Done
-status_of AtCount = Done
-status_of (Stopped used) = Undecided
-
--- the last line of a listing
-abbrev pub ending_text : ℕ → Ending → List ℕ
-ending_text number AtEnd = codes "end\n"
-ending_text number AtCount = codes "more\n"
-ending_text number (Stopped used) = undecided_text number used
+use Rattle.replies.specs.Statuses.{Answer, field_refusal, no_pairing, not_of_bracket, not_reached, refusal, undecided}
+use Rattle.round_lines.specs.CandidateTexts.{bracket_text, line_text}
+use Rattle.round_lines.specs.Listings.{IsListing, ending_text, status_of}
+use Rattle.round_lines.specs.declared.listing.Ending.{Ending}
+use Rattle.requests.specs.declared.options.CandidatesOptions.{CandidatesOptions}
 
 -- the candidates behind a cursor
 abbrev pub behind_cursor : Facts → Reached → Shape → Result Arrangement CursorFault → Result (List Arrangement) CursorFault

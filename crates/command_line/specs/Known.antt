@@ -5,9 +5,9 @@ use Rattle.dutch_pair.specs.declared.round.Outcome.TheVariants.{Paired, NoPairin
 use Rattle.trf16.specs.Round.{CanBePaired}
 use Rattle.trf16.specs.Sheet.{Sheet}
 use Rattle.trf16.specs.Verdict.{verdict}
-use Rattle.command_line.specs.declared.options.PairOptions.{PairOptions}
-use Rattle.command_line.specs.declared.words.Request.{Request}
-use Rattle.command_line.specs.declared.words.Request.TheVariants.{Check, Format, Pair, Candidates, Explain, Standings}
+use Rattle.requests.specs.declared.options.PairOptions.{PairOptions}
+use Rattle.requests.specs.declared.words.Request.{Request}
+use Rattle.requests.specs.declared.words.Request.TheVariants.{Check, Format, Pair, Candidates, Explain, Standings}
 use Rattle.trf16.specs.declared.limits.TheConstants.{MOST_ROUNDS}
 
 -- a total of rounds that is asked for is not above the most rounds

@@ -1,33 +1,6 @@
--- What the contracts of arbiter name: words, options, texts, answers and runs.
-pub mod Devices
-pub mod Input
-pub mod Words
-pub mod Texts
-pub mod NoteTexts
-pub mod RefusalNoteTexts
+-- What the contracts of command_line name: what is answered to a request, and runs.
 pub mod Commands
 pub mod Run
-pub mod Replies
-pub mod Keys
-pub mod KeySteps
-pub mod Options
-pub mod CommandLine
-pub mod Statuses
-pub mod CandidateTexts
 pub mod CandidateAnswers
 pub mod PairAnswers
-pub mod ItemTexts
-pub mod ExplainTexts
-pub mod BarrierTexts
-pub mod ExplainAnswers
-pub mod StandingsTexts
 pub mod Known
-pub mod Controls
-pub mod Tables
-pub mod WallTexts
-pub mod StandingsAnswers
-pub mod PlayerTexts
-pub mod Obstacles
-pub mod InsteadLaws
-pub mod InsteadTexts
-pub mod InsteadAnswers

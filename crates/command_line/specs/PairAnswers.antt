@@ -11,11 +11,11 @@ use Rattle.trf16.specs.Round.{with_round}
 use Rattle.trf16.specs.Sheet.{Sheet}
 use Rattle.trf16.specs.Written.{written}
 use Rattle.trf16.specs.declared.fault.Fault.{Fault}
-use Rattle.command_line.specs.Statuses.{Answer, done, field_refusal, no_pairing, refusal, report_answer, undecided}
-use Rattle.command_line.specs.WallTexts.{named_boards_text}
-use Rattle.command_line.specs.declared.options.PairOptions.{PairOptions}
-use Rattle.command_line.specs.declared.options.Shown.{Shown}
-use Rattle.command_line.specs.declared.options.Shown.TheVariants.{Boards, Names, Report}
+use Rattle.replies.specs.Statuses.{Answer, done, field_refusal, no_pairing, refusal, report_answer, undecided}
+use Rattle.replies.specs.WallTexts.{named_boards_text}
+use Rattle.requests.specs.declared.options.PairOptions.{PairOptions}
+use Rattle.requests.specs.declared.options.Shown.{Shown}
+use Rattle.requests.specs.declared.options.Shown.TheVariants.{Boards, Names, Report}
 
 -- a board: the start ranks of white and black; of a player who has the bye, and 0
 unfoldable pub board_text : ℕ × ℕ → List ℕ

@@ -5,19 +5,19 @@ ghost use Rattle.dutch_order.specs.Arrangements.{Fits};
 ghost use Rattle.dutch_pair.specs.Outcomes.{IsBracketAt};
 ghost use Rattle.dutch_bracket.specs.Reached.{IsOf, frame_of};
 ghost use Rattle.command_line.specs.CandidateAnswers.{AnswersCandidates, InField, Lists, AnswersFound, coming_of};
-ghost use Rattle.command_line.specs.CandidateAnswers.{ending_text};
-ghost use Rattle.command_line.specs.CandidateTexts.{bracket_text};
-ghost use Rattle.command_line.specs.Replies.{answer_of};
-ghost use Rattle.command_line.specs.Statuses.{not_of_bracket, not_reached};
+ghost use Rattle.round_lines.specs.Listings.{ending_text};
+ghost use Rattle.round_lines.specs.CandidateTexts.{bracket_text};
+ghost use Rattle.replies.specs.Replies.{answer_of};
+ghost use Rattle.replies.specs.Statuses.{not_of_bracket, not_reached};
 
-use crate::listing::{Listed, lines};
-use crate::options::CandidatesOptions;
-use crate::refusal::{cannot_be_paired, no_pairing, refused, undecided};
-use crate::reply::{Reply, Status, Text};
-use crate::texts;
 use dutch_order::{Budget, Candidates, Cursor, Rule, Shape};
 use dutch_pair::{BracketAt, PairFault, Reached, bracket_at};
 use dutch_player::{Field, FieldFault};
+use replies::refusal::{cannot_be_paired, no_pairing, refused, undecided};
+use replies::{Reply, Status, Text, texts};
+use requests::CandidatesOptions;
+use round_lines::bracket_texts;
+use round_lines::listing::{Listed, lines};
 use std::alloc::{AllocError, Global};
 use trf16::{Fault, Report};
 
@@ -54,7 +54,7 @@ fn of_report(
 }
 
 // The same of those whom the next round is paired from.
-#[tactic(auto, using(crate::proofs::ListingLemmas::told))]
+#[tactic(auto, using(crate::proofs::CandidateLemmas::told))]
 fn of_field(
     alloc: Global,
     options: &CandidatesOptions<'_>,
@@ -87,7 +87,7 @@ fn tell(
 }
 
 // A bracket and its candidates, all or those behind the cursor.
-#[tactic(auto, using(crate::proofs::ListingLemmas::cursor_is_in, crate::proofs::ListingLemmas::not_listed))]
+#[tactic(auto, using(crate::proofs::CandidateLemmas::cursor_is_in, crate::proofs::CandidateLemmas::not_listed))]
 fn list(
     alloc: Global,
     options: &CandidatesOptions<'_>,
@@ -118,7 +118,7 @@ fn list(
 }
 
 // A bracket and the candidates to come.
-#[tactic(auto, using(crate::proofs::ListingLemmas::listed))]
+#[tactic(auto, using(crate::proofs::CandidateLemmas::listed))]
 fn list_coming<R: Rule>(
     alloc: Global,
     options: &CandidatesOptions<'_>,
@@ -138,7 +138,7 @@ fn list_coming<R: Rule>(
         used: 0,
     };
     let listed = lines(alloc, field, reached, coming, options.count, &mut budget)?;
-    let first = texts::bracket(alloc, options.bracket, reached.kind(), shape)?;
+    let first = bracket_texts::bracket(alloc, options.bracket, reached.kind(), shape)?;
     let text = listing(alloc, options.bracket, first, &listed)?;
     Ok(Reply {
         status: listed.ending.status(),
@@ -153,7 +153,7 @@ fn listing(alloc: Global, number: u16, first: String, listed: &Listed) -> Result
 {
     let mut text = first;
     text.push_str(listed.text.as_str())?;
-    let last = texts::ending(alloc, number, listed.ending)?;
+    let last = bracket_texts::ending(alloc, number, listed.ending)?;
     text.push_str(last.as_str())?;
     Ok(text)
 }

@@ -3,37 +3,9 @@
 // streams.
 #![tactic(auto)]
 
-mod arguments;
-mod barrier_lines;
-mod bracket_lines;
 mod candidates;
-mod check;
-mod commands;
-mod controls;
-mod explain;
-mod format;
-mod input;
-mod instead;
-mod instead_laws;
-mod item_lines;
-mod keys;
-mod listing;
-mod notes;
-mod obstacle;
-mod options;
 mod pair;
-mod player_line;
-mod question;
-mod refusal;
-mod refusal_notes;
-mod reply;
 mod running;
-mod standings;
-mod table;
-mod texts;
-mod value_texts;
-mod wall;
-mod words;
 
-pub use reply::Status;
+pub use replies::Status;
 pub use running::run;

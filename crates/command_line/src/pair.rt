@@ -9,18 +9,17 @@ ghost use Rattle.trf16.specs.Written.{written};
 ghost use Rattle.command_line.specs.PairAnswers.{AnswersPair, PairsField, TellsBoards, TellsOutcome, TellsReport};
 ghost use Rattle.command_line.specs.PairAnswers.{board_text, boards_text};
 ghost use Rattle.command_line.specs.Known.{CanBeTold, HasFewRounds, IsAccepted};
-ghost use Rattle.command_line.specs.Replies.{answer_of};
-ghost use Rattle.command_line.specs.Statuses.{done};
+ghost use Rattle.replies.specs.Replies.{answer_of};
+ghost use Rattle.replies.specs.Statuses.{done};
 
-use crate::format::rewritten;
-use crate::options::{PairOptions, Shown};
-use crate::refusal::{cannot_be_paired, no_pairing, refused, undecided};
-use crate::reply::{Reply, Status, Text};
-use crate::wall;
 use dutch_pair::boards::Board;
 use dutch_pair::laws::boards_can_be_the_next_round;
 use dutch_pair::{Outcome, PairFault, pair_round};
 use dutch_player::{Field, FieldFault};
+use replies::format::rewritten;
+use replies::refusal::{cannot_be_paired, no_pairing, refused, undecided};
+use replies::{Reply, Status, Text, wall};
+use requests::{PairOptions, Shown};
 use std::alloc::{AllocError, Global};
 use trf16::{Fault, Report};
 

@@ -2,24 +2,22 @@
 ghost use Rattle.std.specs.Prelude.{◌≡◌, ◌≤◌, ◌+◌, IfOk, map};
 ghost use Rattle.command_line.specs.Commands.{Answers};
 ghost use Rattle.command_line.specs.Known.{CanBeAnswered};
-ghost use Rattle.command_line.specs.Statuses.{out_of_memory, read_fault};
-ghost use Rattle.command_line.specs.Devices.{reading_of};
+ghost use Rattle.replies.specs.Statuses.{out_of_memory, read_fault};
+ghost use Rattle.replies.specs.Devices.{reading_of};
 ghost use Rattle.trf16.specs.Output.{use_of};
-ghost use Rattle.command_line.specs.Input.{most_read};
-ghost use Rattle.command_line.specs.Replies.{answer_of};
+ghost use Rattle.replies.specs.Input.{most_read};
+ghost use Rattle.replies.specs.Replies.{answer_of};
 ghost use Rattle.command_line.specs.Run.{IsAnswer, IsOutOfMemory, IsReplyTo, IsRun};
-ghost use Rattle.command_line.specs.Words.{meant};
+ghost use Rattle.requests.specs.Words.{meant};
 
 use crate::candidates::candidates;
-use crate::check::check;
-use crate::explain::explain;
-use crate::format::format;
-use crate::input::{InputFault, read_input};
 use crate::pair::pair;
-use crate::reply::{Reply, Status, Text};
-use crate::standings::standings;
-use crate::texts;
-use crate::words::{Asked, Request, Task, meant, read_words};
+use explained::explain::explain;
+use replies::check::check;
+use replies::format::format;
+use replies::standings::standings;
+use replies::{InputFault, Reply, Status, Text, read_input, texts};
+use requests::{Asked, Request, Task, meant, read_words};
 use std::alloc::{AllocError, Global};
 use trf16::{Sink, Source};
 

@@ -1,0 +1,49 @@
+-- A listing as an answer, and the bracket that is found.
+use Rattle.std.proofs.Common.{◌≡◌, ◌++◌, ℕ, List, Result, Ok, Err, IfOk, sym, subst, refl}
+use Rattle.dutch_order.specs.Arrangements.{Arrangement, Frame, IsBracket, arrangements}
+use Rattle.dutch_order.specs.Cursors.{cursor_of}
+use Rattle.dutch_order.specs.Keys.{IsIn}
+use Rattle.dutch_order.specs.declared.bracket.Shape.{Shape}
+use Rattle.dutch_order.proofs.CursorReads.{read-is}
+use Rattle.dutch_pair.specs.Outcomes.{IsBracketAt}
+use Rattle.dutch_bracket.specs.Reached.{Reached}
+use Rattle.dutch_player.specs.Facts.{Facts}
+use Rattle.dutch_pair.specs.declared.round.BracketAt.{BracketAt}
+use Rattle.dutch_order.specs.declared.cursor.CursorFault.{CursorFault}
+use Rattle.command_line.specs.CandidateAnswers.{IsAnswerToField, Lists, AnswersFound, coming_of}
+use Rattle.round_lines.specs.CandidateTexts.{bracket_text, line_text}
+use Rattle.round_lines.specs.Listings.{IsListing, ending_text, status_of}
+use Rattle.replies.specs.Replies.{answer_of}
+use Rattle.replies.specs.Statuses.{not_of_bracket, plain}
+use Rattle.round_lines.specs.declared.listing.Ending.{Ending}
+use Rattle.requests.specs.declared.options.CandidatesOptions.{CandidatesOptions}
+use Rattle.replies.specs.declared.reply.Reply.{Reply}
+use Rattle.replies.specs.declared.reply.Status.{Status}
+
+-- a text that is read as a cursor is an arrangement of the bracket and shape
+pub cursor_is_in : (frame : Frame) (shape : Shape) (bytes : List ℕ) (a : Arrangement) → IsBracket frame.scores frame.mdps
+    → cursor_of frame shape bytes ≡ Ok a → IsIn a (arrangements frame shape)
+cursor_is_in frame shape bytes a is e = (read-is frame shape bytes a is e).0
+
+-- a listing is answered
+pub listed : (options : CandidatesOptions) (facts : Facts) (reached : Reached) (shape : Shape) (coming : List Arrangement) (status : Status)
+    (text lines : List ℕ) (ending : Ending) → coming_of facts reached shape options.from ≡ Ok coming
+    → IsListing (line_text facts reached) coming options.count options.steps ending lines → status ≡ status_of ending
+    → text ≡ bracket_text options.bracket reached.kind shape ++ (lines ++ ending_text options.bracket ending)
+    → Lists options facts reached shape (coming_of facts reached shape options.from) (plain status text)
+listed options facts reached shape coming status text lines ending e listing s t =
+    subst (λ r. Lists options facts reached shape r (plain status text)) (sym e)
+    (record { ending = ending; lines = lines; listing = listing; status = s; text = t; plain = refl })
+
+-- a cursor of another bracket is told
+pub not_listed : (options : CandidatesOptions) (facts : Facts) (reached : Reached) (shape : Shape) (fault : CursorFault) {E : Type 0} (r : Result Reply E)
+    → coming_of facts reached shape options.from ≡ Err fault → IfOk r (λ reply. answer_of reply ≡ not_of_bracket options.bracket)
+    → IfOk r (λ reply. Lists options facts reached shape (coming_of facts reached shape options.from) (answer_of reply))
+not_listed options facts reached shape fault (Ok reply) e h = subst (λ x. Lists options facts reached shape x (answer_of reply)) (sym e) h
+not_listed options facts reached shape fault (Err error) e h = h
+
+-- what is answered to a bracket that is found
+pub told : (options : CandidatesOptions) (facts : Facts) (found : BracketAt) {E : Type 0} (r : Result Reply E) → IsBracketAt facts options.steps options.bracket found
+    → IfOk r (λ reply. AnswersFound options facts found (answer_of reply)) → IfOk r (λ reply. IsAnswerToField options facts (answer_of reply))
+told options facts found (Ok reply) is h = record { found = found; is = is; tells = h }
+told options facts found (Err error) is h = h

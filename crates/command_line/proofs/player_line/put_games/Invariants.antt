@@ -1,7 +1,0 @@
-use Rattle.std.proofs.Common.{◌≡◌, ◌++◌}
-use Rattle.std.specs.Prelude.{string_bytes}
-use Rattle.command_line.specs.PlayerTexts.{games_text}
-use Rattle.command_line.proofs.player_line.put_games.Given as goal
-
-abbrev pub invariant-loop-round : goal.invariant-loop-round
-invariant-loop-round l = string_bytes l.text ≡ string_bytes l.initial.text ++ games_text l.report l.start l.round

@@ -1,8 +1,0 @@
-use Rattle.std.proofs.Common.{◌≡◌, ◌++◌, drop}
-use Rattle.std.specs.Prelude.{string_bytes}
-use Rattle.command_line.specs.StandingsTexts.{values_text}
-use Rattle.command_line.proofs.standings.put_values.Given as goal
-
-abbrev pub invariant-loop-i : goal.invariant-loop-i
-invariant-loop-i l =
-    string_bytes l.text ++ values_text (drop l.i l.keys) (drop l.i l.values) ≡ string_bytes l.initial.text ++ values_text l.keys l.values

@@ -1,6 +1,0 @@
-use Rattle.std.proofs.Common.{◌≡◌, ◌++◌, drop}
-use Rattle.command_line.specs.Tables.{labels_text}
-use Rattle.command_line.proofs.table.put_line.Given as goal
-
-abbrev pub invariant-loop-i : goal.invariant-loop-i
-invariant-loop-i l = l.text.items ++ labels_text l.utf8 l.widths l.i (drop l.i l.labels) ≡ l.initial.text.items ++ labels_text l.utf8 l.widths 0 l.labels

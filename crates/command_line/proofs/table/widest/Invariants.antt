@@ -1,6 +1,0 @@
-use Rattle.std.proofs.Common.{◌≡◌, max, drop}
-use Rattle.command_line.specs.Tables.{widest}
-use Rattle.command_line.proofs.table.widest.Given as goal
-
-abbrev pub invariant-loop-line : goal.invariant-loop-line
-invariant-loop-line l = max l.most (widest l.utf8 l.column (drop l.line-index l.lines)) ≡ widest l.utf8 l.column l.lines

@@ -1,6 +1,0 @@
-use Rattle.std.proofs.Common.{◌≡◌}
-use Rattle.command_line.specs.Tables.{widths}
-use Rattle.command_line.proofs.table.widths.Given as goal
-
-abbrev pub invariant-loop-column : goal.invariant-loop-column
-invariant-loop-column l = l.all.items ≡ widths l.utf8 l.column l.lines

@@ -1,6 +1,0 @@
-use Rattle.std.proofs.Common.{◌≡◌, ◌+◌, ◌++◌, drop}
-use Rattle.command_line.specs.WallTexts.{rows_labels}
-use Rattle.command_line.proofs.wall.standings.Given as goal
-
-abbrev pub invariant-loop-i : goal.invariant-loop-i
-invariant-loop-i l = l.lines.items ++ rows_labels l.report l.keys (l.i + 1) (drop l.i l.rows) ≡ rows_labels l.report l.keys 1 l.rows

@@ -1,0 +1,41 @@
+-- The number of a seat in a bracket, and what a search answers.
+use Rattle.std.proofs.Common.{◌≡◌, ℕ, true, false, ◌==◌, ◌+◌, ◌≤◌, ◌<◌, List, Result, Ok, Err, IfOk, length, get_or, drop, refl, arith}
+use Rattle.std.specs.List.{position_from}
+use Rattle.std.specs.Option.{option_map_or}
+use Rattle.std.proofs.lemmas.List.{drop_more, drop_all, length-map}
+use Rattle.dutch_order.specs.declared.numbers.TheConstants.{LIMIT}
+use Rattle.dutch_player.specs.Facts.{Facts}
+use Rattle.dutch_pair.specs.Lower.{lower_of}
+use Rattle.dutch_pair.specs.Outcomes.{IsStage}
+use Rattle.dutch_bracket.specs.Seated.{score_at}
+use Rattle.dutch_pair.specs.Instead.{IsInstead}
+use Rattle.dutch_pair.specs.declared.instead.Instead.{Instead}
+use Rattle.dutch_pair.specs.declared.stage.Stage.{Stage}
+use Rattle.dutch_choice.specs.declared.wish.Wish.{Wish}
+use Rattle.explained.specs.InsteadAnswers.{IsSearched}
+use Rattle.explained.specs.InsteadTexts.{search_answer}
+use Rattle.replies.specs.Replies.{answer_of}
+use Rattle.replies.specs.declared.reply.Reply.{Reply}
+
+-- the number that is found from a place on
+abbrev pub from_place : List ℕ → ℕ → ℕ → ℕ
+from_place seats seat i = option_map_or (λ number. number) (position_from (λ other. other == seat) (i + 1) (drop i seats)) 0
+
+pub passed : (seats : List ℕ) (seat i d : ℕ) → i < length seats → (get_or seats i d == seat) ≡ false → from_place seats seat i ≡ from_place seats seat (i + 1)
+passed seats seat i d lt other = rw (drop_more seats i d lt, other) refl
+
+pub found : (seats : List ℕ) (seat i d : ℕ) → i < length seats → (get_or seats i d == seat) ≡ true → from_place seats seat i ≡ i + 1
+found seats seat i d lt same = rw (drop_more seats i d lt, same) refl
+
+pub none : (seats : List ℕ) (seat i : ℕ) → length seats ≤ i → from_place seats seat i ≡ 0
+none seats seat i le = rw (drop_all i seats le) refl
+
+pub few_seats : (facts : Facts) (stage : Stage) → IsStage facts stage → length stage.reached.seats ≤ LIMIT
+few_seats facts stage is = omega (arith, is.bracket.sound.few, length-map stage.reached.seats (score_at facts))
+
+-- what is told of what a search finds
+pub searched : (facts : Facts) (steps number : ℕ) (stage : Stage) (wish : Wish) (found : Instead) {E : Type 0} (r : Result Reply E)
+    → IsInstead facts stage.reached (lower_of facts stage.reached) stage.shape wish steps found
+    → IfOk r (λ reply. answer_of reply ≡ search_answer number stage found) → IfOk r (λ reply. IsSearched facts steps number stage wish (answer_of reply))
+searched facts steps number stage wish found (Ok reply) is tells = record { found = found; is = is; tells = tells }
+searched facts steps number stage wish found (Err error) is tells = tells

@@ -1,0 +1,91 @@
+-- What `explain` answers: the round, bracket by bracket, or what of it one player is told.
+use Rattle.std.specs.Prelude.{◌≡◌, ℕ, IfSome, List, ◌++◌, Option, Some, None, Result, Ok, Err}
+use Rattle.dutch_pair.specs.Barriers.{Barrier, Blocks}
+use Rattle.dutch_pair.specs.Outcomes.{AreStages}
+use Rattle.dutch_pair.specs.declared.round.AllStages.{AllStages}
+use Rattle.dutch_pair.specs.declared.round.AllStages.TheVariants.{Paired, NoPairing, Undecided}
+use Rattle.dutch_player.specs.Facts.{Facts, facts_of}
+use Rattle.dutch_player.specs.StartRanks.{seat_with}
+use Rattle.dutch_player.specs.declared.fault.FieldFault.{FieldFault}
+use Rattle.trf16.specs.Sheet.{Sheet}
+use Rattle.trf16.specs.declared.fault.Fault.{Fault}
+use Rattle.explained.specs.BarrierTexts.{reason_text}
+use Rattle.explained.specs.ExplainTexts.{round_text, stages_text}
+use Rattle.explained.specs.InsteadAnswers.{AnswersInstead, PairedRound}
+use Rattle.round_lines.specs.PlayerTexts.{absent_text, player_text}
+use Rattle.replies.specs.Questions.{question_fault}
+use Rattle.replies.specs.Statuses.{Answer, behind, done, field_refusal, no_pairing, plain, question_refusal, refusal, undecided}
+use Rattle.requests.specs.declared.options.ExplainOptions.{ExplainOptions}
+use Rattle.requests.specs.declared.options.Question.{Question}
+use Rattle.replies.specs.declared.question.QuestionFault.{QuestionFault}
+
+-- the line of a round
+abbrev pub first_text : PairedRound → List ℕ
+first_text round = round_text round.facts round.sheet round.bye
+
+-- what is told of a present player: their line, and the brackets in which they stand
+abbrev pub present_text : PairedRound → ℕ → List ℕ
+present_text round seat = player_text round.sheet round.facts seat ++ stages_text round.facts (Some seat) round.stages
+
+-- what is told of a player, by their start rank and their seat; without a seat they are absent
+abbrev pub about_text : PairedRound → ℕ → Option ℕ → List ℕ
+about_text round player None = absent_text player
+about_text round player (Some seat) = present_text round seat
+
+-- the round, and what is told of a player
+abbrev pub front_text : PairedRound → ℕ → List ℕ
+front_text round player = first_text round ++ about_text round player (seat_with round.facts player)
+
+-- behind that it is told why they do not meet another one, or do not have the bye
+pub record IsToldBehind (round : PairedRound) (steps player number : ℕ) (answer : Answer) : Type 0 where
+  pub line : Answer
+  pub is : AnswersInstead round player number steps line
+  pub tells : answer ≡ behind (front_text round player) line
+
+-- what is answered to a question on a player, and on who is named instead, if one is
+abbrev pub AnswersQuestion : PairedRound → ℕ → ℕ → Option ℕ → Answer → Type 0
+AnswersQuestion round steps player None answer = answer ≡ done (front_text round player)
+AnswersQuestion round steps player (Some number) answer = IsToldBehind round steps player number answer
+
+-- what is told of a round that is paired: all its brackets, or what is asked of a player
+abbrev pub TellsPaired : Option Question → ℕ → PairedRound → Answer → Type 0
+TellsPaired None steps round answer = answer ≡ done (first_text round ++ stages_text round.facts None round.stages)
+TellsPaired (Some question) steps round answer = AnswersQuestion round steps question.player question.instead answer
+
+-- that there is no pairing, and a text behind it
+abbrev pub no_pairing_with : List ℕ → Answer
+no_pairing_with why = plain no_pairing.status (no_pairing.text ++ why)
+
+-- A.9: no pairing, and why: a barrier that blocks the round, if one was found
+pub record TellsWhy (facts : Facts) (answer : Answer) : Type 0 where
+  pub found : Option Barrier
+  pub blocks : IfSome found (Blocks facts)
+  pub tells : answer ≡ no_pairing_with (reason_text facts found)
+
+-- what is told of a round
+abbrev pub TellsRound : ExplainOptions → Sheet → Facts → AllStages → Answer → Type 0
+TellsRound options sheet facts (Paired stages bye) answer =
+    TellsPaired options.question options.steps (record { sheet = sheet; facts = facts; stages = stages.items; bye = bye.items }) answer
+TellsRound options sheet facts NoPairing answer = TellsWhy facts answer
+TellsRound options sheet facts (Undecided number used) answer = answer ≡ undecided number used
+
+-- a field is paired, and its round is told
+pub record IsExplained (options : ExplainOptions) (sheet : Sheet) (facts : Facts) (answer : Answer) : Type 0 where
+  pub stages : AllStages
+  pub are : AreStages facts options.steps stages
+  pub tells : TellsRound options sheet facts stages answer
+
+-- the same, where nothing is wrong with the question; else that is told
+abbrev pub ExplainsAsked : ExplainOptions → Sheet → Facts → Option QuestionFault → Answer → Type 0
+ExplainsAsked options sheet facts None answer = IsExplained options sheet facts answer
+ExplainsAsked options sheet facts (Some fault) answer = answer ≡ question_refusal fault
+
+-- what is answered to a field, or why the round cannot be paired
+abbrev pub ExplainsField : ExplainOptions → Sheet → Result Facts FieldFault → Answer → Type 0
+ExplainsField options sheet (Ok facts) answer = ExplainsAsked options sheet facts (question_fault sheet options.question) answer
+ExplainsField options sheet (Err fault) answer = answer ≡ field_refusal fault
+
+-- `explain`: what is answered to a report, or why it is refused
+abbrev pub AnswersExplain : ExplainOptions → Result Sheet Fault → Answer → Type 0
+AnswersExplain options (Ok sheet) answer = ExplainsField options sheet (facts_of sheet options.rounds options.initial) answer
+AnswersExplain options (Err fault) answer = answer ≡ refusal fault

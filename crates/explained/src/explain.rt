@@ -1,0 +1,196 @@
+// The command `explain`: why the next round is paired as it is, bracket by bracket or for one player.
+ghost use Rattle.std.specs.Prelude.{◌≡◌, ◌<◌, ◌≤◌, ◌++◌, IfOk, Ok, OnOk, length, string_bytes};
+ghost use Rattle.std.specs.List.{AllByRecursion};
+ghost use Rattle.dutch_player.specs.Facts.{facts_of};
+ghost use Rattle.dutch_pair.specs.Outcomes.{AreStages, IsStage};
+ghost use Rattle.trf16.specs.Verdict.{verdict};
+ghost use Rattle.dutch_bracket.specs.Seated.{AreSeats};
+ghost use Rattle.dutch_player.specs.StartRanks.{seat_with};
+ghost use Rattle.explained.specs.ExplainAnswers.{AnswersExplain, AnswersQuestion, ExplainsField, IsExplained};
+ghost use Rattle.explained.specs.ExplainAnswers.{TellsPaired, TellsRound, about_text, front_text, present_text};
+ghost use Rattle.replies.specs.Replies.{answer_of};
+ghost use Rattle.replies.specs.Statuses.{done};
+
+use crate::barrier_lines::no_pairing_because;
+use crate::bracket_lines::{put_stages, round_line};
+use crate::instead::{Paired, instead};
+use dutch_pair::{AllStages, PairFault, stages};
+use dutch_player::{Field, FieldFault};
+use replies::refusal::{cannot_be_asked, cannot_be_paired, refused, undecided};
+use replies::{Reply, Status, Text, question_fault};
+use requests::{ExplainOptions, Question};
+use round_lines::{put_absent, put_player};
+use std::alloc::{AllocError, Global};
+use trf16::{Fault, Report};
+
+/// What `explain` says of the bytes of a report in which the pairing-allocated bye gives `bye` half points.
+pub fn explain(
+    alloc: Global,
+    options: ExplainOptions,
+    bytes: &[u8],
+    bye: u16,
+) -> Result<Reply, AllocError>
+    requires { bye ≤ 2 }
+    ensures { IfOk result (λ reply. AnswersExplain options (verdict bytes.now bye) (answer_of reply)) }
+{
+    match trf16::read_with(alloc, bytes, bye) {
+        Ok(report) => of_report(alloc, options, &report),
+        Err(Fault::OutOfMemory) => Err(AllocError),
+        Err(fault) => refused(alloc, fault),
+    }
+}
+
+// The same of an accepted report.
+fn of_report(
+    alloc: Global,
+    options: ExplainOptions,
+    report: &Report<'_>,
+) -> Result<Reply, AllocError>
+    ensures { IfOk result (λ reply. AnswersExplain options (Ok report.now) (answer_of reply)) }
+{
+    match Field::new(alloc, report, options.rounds, options.initial) {
+        Ok(field) => of_field(alloc, options, report, &field),
+        Err(FieldFault::OutOfMemory) => Err(AllocError),
+        Err(fault) => cannot_be_paired(alloc, fault),
+    }
+}
+
+// The same of those whom the next round is paired from.
+fn of_field(
+    alloc: Global,
+    options: ExplainOptions,
+    report: &Report<'_>,
+    field: &Field,
+) -> Result<Reply, AllocError>
+    ensures { IfOk result (λ reply. ExplainsField options report.now (Ok field.now) (answer_of reply)) }
+{
+    match question_fault(report, options.question) {
+        Some(fault) => cannot_be_asked(alloc, fault),
+        None => of_round(alloc, options, report, field),
+    }
+}
+
+// The same if nothing is wrong with the question.
+fn of_round(
+    alloc: Global,
+    options: ExplainOptions,
+    report: &Report<'_>,
+    field: &Field,
+) -> Result<Reply, AllocError>
+    ensures { IfOk result (λ reply. IsExplained options report.now field.now (answer_of reply)) }
+{
+    match stages(alloc, field, options.steps) {
+        Ok(stages) => tell(alloc, options, report, field, &stages),
+        Err(PairFault::OutOfMemory) => Err(AllocError),
+    }
+}
+
+// What is said of the stages of the round.
+fn tell<'a>(
+    alloc: Global,
+    options: ExplainOptions,
+    report: &'a Report<'a>,
+    field: &'a Field,
+    stages: &'a AllStages,
+) -> Result<Reply, AllocError>
+    requires { AreStages field.now options.steps stages.now }
+    ensures { IfOk result (λ reply. TellsRound options report.now field.now stages.now (answer_of reply)) }
+{
+    match stages {
+        AllStages::Paired { stages, bye } => {
+            let round = Paired {
+                report,
+                field,
+                stages,
+                bye,
+            };
+            tell_paired(alloc, options, &round)
+        }
+        AllStages::NoPairing => no_pairing_because(alloc, field, options.steps),
+        AllStages::Undecided { bracket, used } => undecided(alloc, *bracket, *used),
+    }
+}
+
+// The same of a round that is paired.
+fn tell_paired(
+    alloc: Global,
+    options: ExplainOptions,
+    round: &Paired<'_>,
+) -> Result<Reply, AllocError>
+    requires bye { AreSeats round.now.facts round.now.bye }
+    requires stages { AllByRecursion (IsStage round.now.facts) round.now.stages }
+    ensures { IfOk result (λ reply. TellsPaired options.question options.steps round.now (answer_of reply)) }
+{
+    let mut text = round_line(alloc, round.report, round.field, round.bye)?;
+    match options.question {
+        Some(question) => {
+            put_about(alloc, &mut text, round, question.player)?;
+            with_instead(alloc, text, round, question, options.steps)
+        }
+        None => {
+            put_stages(alloc, &mut text, round.field, round.stages, None)?;
+            Ok(told(text))
+        }
+    }
+}
+
+// Puts what is told of a player: their line and their brackets, or that they are absent.
+fn put_about(
+    alloc: Global,
+    text: &mut String,
+    round: &Paired<'_>,
+    player: u16,
+) -> Result<(), AllocError>
+    requires { AllByRecursion (IsStage round.now.facts) round.now.stages }
+    ensures { OnOk result (string_bytes text.new
+        ≡ string_bytes text.old ++ about_text round.now player (seat_with round.now.facts player)) }
+{
+    match round.field.seat_with(player) {
+        Some(seat) => put_present(alloc, text, round, seat),
+        None => put_absent(alloc, text, player),
+    }
+}
+
+// Puts the line of a present player and their brackets.
+fn put_present(
+    alloc: Global,
+    text: &mut String,
+    round: &Paired<'_>,
+    seat: u16,
+) -> Result<(), AllocError>
+    requires seat { seat < length round.now.facts.seats }
+    requires stages { AllByRecursion (IsStage round.now.facts) round.now.stages }
+    ensures { OnOk result (string_bytes text.new ≡ string_bytes text.old ++ present_text round.now seat) }
+{
+    put_player(alloc, text, round.report, round.field, seat)?;
+    put_stages(alloc, text, round.field, round.stages, Some(seat))
+}
+
+// The text, and behind it why the player does not meet another one, if one is named.
+fn with_instead(
+    alloc: Global,
+    text: String,
+    round: &Paired<'_>,
+    question: Question,
+    steps: u64,
+) -> Result<Reply, AllocError>
+    requires front { string_bytes text ≡ front_text round.now question.player }
+    requires stages { AllByRecursion (IsStage round.now.facts) round.now.stages }
+    ensures { IfOk result (λ reply. AnswersQuestion round.now steps question.player question.instead
+        (answer_of reply)) }
+{
+    match question.instead {
+        Some(number) => instead(alloc, round, question.player, number, steps)?.behind(text),
+        None => Ok(told(text)),
+    }
+}
+
+// A text that is told.
+fn told(text: String) -> Reply
+    ensures { answer_of result ≡ done (string_bytes text) }
+{
+    Reply {
+        status: Status::Done,
+        text: Text::Made(text),
+    }
+}

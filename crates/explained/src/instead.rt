@@ -1,0 +1,329 @@
+// Why a player does not meet another one in the next round, or does not have the bye: what stands against it first.
+ghost use Rattle.std.specs.Prelude.{◌≡◌, ◌<◌, ◌≤◌, IfOk, IfSome, length, string_bytes};
+ghost use Rattle.std.specs.List.{AllByRecursion};
+ghost use Rattle.dutch_order.specs.declared.numbers.TheConstants.{LIMIT};
+ghost use Rattle.dutch_pair.specs.Lower.{lower_of};
+ghost use Rattle.dutch_pair.specs.Outcomes.{IsStage};
+ghost use Rattle.dutch_choice.specs.Wishes.{grants};
+ghost use Rattle.dutch_pair.specs.Instead.{IsInstead};
+ghost use Rattle.explained.specs.InsteadAnswers.{AnswersDecided, AnswersInstead, AnswersWish, IsRival, IsSearched};
+ghost use Rattle.explained.specs.InsteadAnswers.{decided_in, goes_on, number_among, number_in, obstacle_of};
+ghost use Rattle.explained.specs.InsteadAnswers.{rival_of, stands_in, stands_in_one, wish_in};
+ghost use Rattle.explained.specs.InsteadTexts.{instead_text, in_bracket, obstacle_text, search_answer};
+ghost use Rattle.replies.specs.Replies.{answer_of};
+ghost use Rattle.replies.specs.Statuses.{done};
+
+use dutch_pair::{Instead, PairFault, Stage, Wish, best_instead};
+use dutch_player::Field;
+use replies::refusal::undecided;
+use replies::{Reply, Status, Text};
+use round_lines::value_texts::candidate;
+use round_lines::{Obstacle, against_bye, against_meeting};
+use std::alloc::{AllocError, Global};
+use std::marker::Model;
+use trf16::Report;
+
+/// Whom a player asks for instead.
+#[derive(Debug, Clone, Copy, PartialEq, Eq)]
+pub enum Rival {
+    /// Nobody: the player asks for the bye.
+    Bye,
+    /// The player of a seat.
+    Seat(u16),
+}
+
+/// A round that is paired: its report and its field, the brackets that it reached, and the seat that has the bye, if
+/// one has.
+#[derive(Drop)]
+pub struct Paired<'a> {
+    pub report: &'a Report<'a>,
+    pub field: &'a Field,
+    pub stages: &'a [Stage],
+    pub bye: &'a [u16],
+}
+
+impl<'a> Model for Paired<'a> {
+    ghost use Rattle.explained.specs.InsteadAnswers.{PairedRound};
+
+    ghost Value = { PairedRound };
+
+    ghost view = { λ r. record { sheet = r.report.now; facts = r.field.now; stages = r.stages.now; bye = r.bye.now } };
+}
+
+/// What is answered to a player, by their start rank, who asks for another one instead, or for the bye by 0: the first
+/// of these that stands against it: one of the two is absent; C.1; a line `XXP`; C.3; for the bye C.2, or that nobody
+/// has it; then what is chosen in the first bracket behind which one of them does not stand, and the best of its
+/// candidates that would grant it. The search for that candidate may take at most `steps` steps of its own.
+///
+/// # Errors
+/// Memory was refused.
+pub fn instead(
+    alloc: Global,
+    round: &Paired<'_>,
+    player: u16,
+    number: u16,
+    steps: u64,
+) -> Result<Reply, AllocError>
+    requires { AllByRecursion (IsStage round.now.facts) round.now.stages }
+    ensures { IfOk result (λ reply. AnswersInstead round.now player number steps (answer_of reply)) }
+{
+    let Some(player) = round.field.seat_with(player) else {
+        return stands_against(alloc, number, Obstacle::Absent);
+    };
+    let Some(rival) = rival_of(round.field, number) else {
+        return stands_against(alloc, number, Obstacle::Absent);
+    };
+    if let Some(obstacle) = obstacle_of(round, player, rival) {
+        return stands_against(alloc, number, obstacle);
+    }
+    let asked = Asked {
+        number,
+        player,
+        rival,
+        steps,
+    };
+    by_brackets(alloc, round.field, round.stages, asked)
+}
+
+// What is asked: by whom (a seat), for whom, and in how many steps a candidate may be searched for.
+#[derive(Clone, Copy)]
+struct Asked {
+    // of who is asked for, as it is told
+    number: u16,
+    player: u16,
+    rival: Rival,
+    steps: u64,
+}
+
+// The bye for 0; otherwise the seat of a start rank.
+fn rival_of(field: &Field, number: u16) -> Option<Rival>
+    ensures value { result ≡ rival_of field.now number }
+    ensures within { IfSome result (IsRival field.now) }
+{
+    if number == 0 {
+        return Some(Rival::Bye);
+    }
+    match field.seat_with(number) {
+        Some(seat) => Some(Rival::Seat(seat)),
+        None => None,
+    }
+}
+
+// What stands against it, whatever is chosen in a bracket.
+fn obstacle_of(round: &Paired<'_>, player: u16, rival: Rival) -> Option<Obstacle>
+    requires player { player < length round.now.facts.seats }
+    requires rival { IsRival round.now.facts rival }
+    ensures { result ≡ obstacle_of round.now player rival }
+{
+    match rival {
+        Rival::Bye => against_bye(round.field, round.bye, player),
+        Rival::Seat(other) => against_meeting(round.report, round.field, player, other),
+    }
+}
+
+// A line on who is asked for.
+fn line(alloc: Global, number: u16, what: &str) -> Result<Reply, AllocError>
+    ensures { IfOk result (λ reply. answer_of reply ≡ done (instead_text number what.now)) }
+{
+    let text = format!(in alloc; "instead {number} {what}\n")?;
+    Ok(Reply {
+        status: Status::Done,
+        text: Text::Made(text),
+    })
+}
+
+// What stands against it.
+fn obstacle_text(alloc: Global, obstacle: Obstacle) -> Result<String, AllocError>
+    ensures { IfOk result (λ text. string_bytes text ≡ obstacle_text obstacle) }
+{
+    match obstacle {
+        Obstacle::Absent => String::from_str(alloc, "absent"),
+        Obstacle::Met { round } => format!(in alloc; "met round {round} C.1"),
+        Obstacle::Apart => String::from_str(alloc, "apart XXP"),
+        Obstacle::Colours => String::from_str(alloc, "colours C.3"),
+        Obstacle::HadBye => String::from_str(alloc, "bye C.2"),
+        Obstacle::Even => String::from_str(alloc, "even"),
+    }
+}
+
+// The line on what stands against it.
+fn stands_against(alloc: Global, number: u16, obstacle: Obstacle) -> Result<Reply, AllocError>
+    ensures { IfOk result (λ reply. answer_of reply ≡ done (instead_text number (obstacle_text obstacle))) }
+{
+    let what = obstacle_text(alloc, obstacle)?;
+    line(alloc, number, what.as_str())
+}
+
+// Whether a seat stands in a bracket.
+fn stands_in(stage: &Stage, seat: u16) -> bool
+    ensures { result ≡ stands_in seat stage.now }
+{
+    stage.reached().seats().contains(&seat)
+}
+
+// Whether a seat stands in one of some brackets.
+fn stands_in_one(stages: &[Stage], seat: u16) -> bool
+    ensures { result ≡ stands_in_one stages.now seat }
+{
+    stages.iter().any(|stage| stands_in(stage, seat))
+}
+
+// Whether who is asked for stands in one of the brackets that follow; the bye is given behind all of them.
+fn goes_on(stages: &[Stage], rival: Rival) -> bool
+    ensures { result ≡ goes_on stages.now rival }
+{
+    match rival {
+        Rival::Bye => true,
+        Rival::Seat(seat) => stands_in_one(stages, seat),
+    }
+}
+
+// The number of a seat among those of a bracket, from 1; 0 if it does not stand there.
+#[tactic(auto, using(crate::proofs::InsteadLemmas::passed, crate::proofs::InsteadLemmas::found, crate::proofs::InsteadLemmas::none))]
+fn number_among(seats: &[u16], seat: u16) -> u16
+    requires { length seats.now ≤ LIMIT }
+    ensures { result ≡ number_among seats.now seat }
+{
+    for (i, other) in seats.iter().enumerate() {
+        if *other == seat {
+            return i as u16 + 1;
+        }
+    }
+    0
+}
+
+// The number of a seat in a bracket.
+#[tactic(auto, using(crate::proofs::InsteadLemmas::few_seats))]
+fn number_in(field: &Field, stage: &Stage, seat: u16) -> u16
+    requires { IsStage field.now stage.now }
+    ensures { result ≡ number_in stage.now seat }
+{
+    number_among(stage.reached().seats(), seat)
+}
+
+// What is wished in a bracket behind which one of the two does not stand: that they meet, if it is the last bracket of
+// both; otherwise that the one who was paired in it is left over.
+fn wish_in(field: &Field, behind: &[Stage], stage: &Stage, asked: Asked) -> Wish
+    requires { IsStage field.now stage.now }
+    ensures { result ≡ wish_in behind.now stage.now asked.player asked.rival }
+{
+    let player = asked.player;
+    let Rival::Seat(other) = asked.rival else {
+        return Wish::Over(number_in(field, stage, player));
+    };
+    if stands_in_one(behind, other) {
+        return Wish::Over(number_in(field, stage, player));
+    }
+    if stands_in_one(behind, player) {
+        return Wish::Over(number_in(field, stage, other));
+    }
+    Wish::Pair(
+        number_in(field, stage, player),
+        number_in(field, stage, other),
+    )
+}
+
+// A line on what is told of a bracket.
+fn in_bracket(alloc: Global, number: u16, stage: &Stage, what: &str) -> Result<Reply, AllocError>
+    ensures { IfOk result (λ reply. answer_of reply ≡ done (in_bracket number stage.now what.now)) }
+{
+    let bracket = stage.reached().number();
+    let what = format!(in alloc; "bracket {bracket} {what}")?;
+    line(alloc, number, what.as_str())
+}
+
+// What is told of what a search in a bracket found.
+fn tell(alloc: Global, number: u16, stage: &Stage, found: &Instead) -> Result<Reply, AllocError>
+    ensures { IfOk result (λ reply. answer_of reply ≡ search_answer number stage.now found.now) }
+{
+    match found {
+        Instead::Best {
+            candidate: best,
+            quality,
+        } => {
+            let what = candidate(alloc, best, quality, stage.quality())?;
+            in_bracket(alloc, number, stage, what.as_str())
+        }
+        Instead::NoneEligible => in_bracket(alloc, number, stage, "none C.4"),
+        Instead::FewerMovedDown => in_bracket(alloc, number, stage, "none B.1"),
+        Instead::NoneLegal => in_bracket(alloc, number, stage, "none C.5"),
+        Instead::Undecided { used } => undecided(alloc, stage.reached().number(), *used),
+    }
+}
+
+// Searches for a candidate that grants a wish in a bracket.
+fn search(
+    alloc: Global,
+    field: &Field,
+    stage: &Stage,
+    wish: Wish,
+    steps: u64,
+) -> Result<Instead, AllocError>
+    requires { IsStage field.now stage.now }
+    ensures { IfOk result (IsInstead field.now stage.now.reached
+        (lower_of field.now stage.now.reached) stage.now.shape wish steps) }
+{
+    match best_instead(alloc, field, stage, wish, steps) {
+        Ok(found) => Ok(found),
+        Err(PairFault::OutOfMemory) => Err(AllocError),
+    }
+}
+
+// The same, and what is told of what it finds.
+#[tactic(auto, using(crate::proofs::InsteadLemmas::searched))]
+fn by_search(
+    alloc: Global,
+    field: &Field,
+    stage: &Stage,
+    wish: Wish,
+    asked: Asked,
+) -> Result<Reply, AllocError>
+    requires { IsStage field.now stage.now }
+    ensures { IfOk result (λ reply. IsSearched field.now asked.steps asked.number stage.now wish (answer_of reply)) }
+{
+    let found = search(alloc, field, stage, wish, asked.steps)?;
+    tell(alloc, asked.number, stage, &found)
+}
+
+// What is answered to a wish in a bracket: that what is chosen there grants it, or what a search for a candidate that
+// does finds.
+fn by_wish(
+    alloc: Global,
+    field: &Field,
+    stage: &Stage,
+    wish: Wish,
+    asked: Asked,
+) -> Result<Reply, AllocError>
+    requires { IsStage field.now stage.now }
+    ensures { IfOk result (λ reply. AnswersWish field.now asked.steps asked.number stage.now wish
+        (grants wish stage.now.candidate.lists) (answer_of reply)) }
+{
+    if wish.is_granted(stage.candidate()) {
+        return line(alloc, asked.number, "chosen");
+    }
+    by_search(alloc, field, stage, wish, asked)
+}
+
+// What is answered by the bracket in which it was decided: the first behind which one of the two does not stand.
+fn by_brackets(
+    alloc: Global,
+    field: &Field,
+    stages: &[Stage],
+    asked: Asked,
+) -> Result<Reply, AllocError>
+    requires { AllByRecursion (IsStage field.now) stages.now }
+    ensures { IfOk result (λ reply. AnswersDecided field.now asked.steps asked.number
+        (decided_in stages.now asked.player asked.rival) (answer_of reply)) }
+{
+    let [stage, behind @ ..] = stages else {
+        return Ok(Reply {
+            status: Status::Done,
+            text: Text::Fixed(""),
+        });
+    };
+    if stands_in_one(behind, asked.player) && goes_on(behind, asked.rival) {
+        return by_brackets(alloc, field, behind, asked);
+    }
+    let wish = wish_in(field, behind, stage, asked);
+    by_wish(alloc, field, stage, wish, asked)
+}

@@ -1,0 +1,4 @@
+pub mod InputLemmas
+pub mod ControlLemmas
+pub mod NoteLemmas
+pub mod TableLemmas

@@ -1,0 +1,26 @@
+use Rattle.std.proofs.Common.{◌≡◌, IfOk, string_bytes, subst, sym}
+use Rattle.report_notes.specs.NoteOf.{noted}
+use Rattle.report_notes.specs.declared.note.Note.{Note}
+use Rattle.replies.specs.NoteTexts.{front_text}
+use Rattle.replies.proofs.notes.front.Goals as goal
+
+pub returns-in-NoPlayer : goal.returns-in-NoPlayer
+unfolding front_text
+returns-in-NoPlayer c = rw c.in-NoPlayer.is c.format.ensures.ok
+
+pub returns-in-BlankBefore : goal.returns-in-BlankBefore
+unfolding front_text
+returns-in-BlankBefore c =
+    subst (λ (n : Note). IfOk c.format-in-BlankBefore.result (λ text. string_bytes text ≡ front_text (noted n))) (sym c.in-BlankBefore.is) c.format-in-BlankBefore.ensures.ok
+
+pub returns-in-PlayedLast : goal.returns-in-PlayedLast
+unfolding front_text
+returns-in-PlayedLast c = rw c.in-PlayedLast.is c.format-in-PlayedLast.ensures.ok
+
+pub returns-in-NoResult : goal.returns-in-NoResult
+unfolding front_text
+returns-in-NoResult c = rw c.in-NoResult.is c.format-in-NoResult.ensures.ok
+
+pub returns-in-BehindColumn : goal.returns-in-BehindColumn
+unfolding front_text
+returns-in-BehindColumn c = rw c.in-BehindColumn.is c.format-in-BehindColumn.ensures.ok

@@ -1,0 +1,7 @@
+use Rattle.std.proofs.Common.{◌≡◌, ◌+◌, ◌++◌, drop}
+use Rattle.std.specs.Prelude.{string_bytes}
+use Rattle.replies.specs.StandingsTexts.{rows_text}
+use Rattle.replies.proofs.standings.row_lines.Given as goal
+
+abbrev pub invariant-loop-i : goal.invariant-loop-i
+invariant-loop-i l = string_bytes l.text ++ rows_text l.keys (l.i + 1) (drop l.i l.rows) ≡ rows_text l.keys 1 l.rows

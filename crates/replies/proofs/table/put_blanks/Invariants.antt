@@ -1,0 +1,6 @@
+use Rattle.std.proofs.Common.{◌≡◌, ◌++◌}
+use Rattle.trf16.specs.Written.{blanks}
+use Rattle.replies.proofs.table.put_blanks.Given as goal
+
+abbrev pub invariant-loop : goal.invariant-loop
+invariant-loop l = l.text.items ≡ l.initial.text.items ++ blanks l.counter

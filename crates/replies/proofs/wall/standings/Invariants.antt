@@ -1,0 +1,6 @@
+use Rattle.std.proofs.Common.{◌≡◌, ◌+◌, ◌++◌, drop}
+use Rattle.replies.specs.WallTexts.{rows_labels}
+use Rattle.replies.proofs.wall.standings.Given as goal
+
+abbrev pub invariant-loop-i : goal.invariant-loop-i
+invariant-loop-i l = l.lines.items ++ rows_labels l.report l.keys (l.i + 1) (drop l.i l.rows) ≡ rows_labels l.report l.keys 1 l.rows

@@ -1,0 +1,39 @@
+-- What the commands answer that only read a report: `check` and `format`.
+use Rattle.std.specs.Prelude.{ℕ, Bool, true, false, List, ◌++◌, length, Result, Ok, Err}
+use Rattle.report_notes.specs.Notes.{notes_of}
+use Rattle.trf16.specs.Sheet.{Sheet, rounds_played}
+use Rattle.trf16.specs.Summed.{summed, verdict_unsummed}
+use Rattle.trf16.specs.Verdict.{verdict}
+use Rattle.trf16.specs.Written.{written}
+use Rattle.trf16.specs.declared.fault.Fault.{Fault}
+use Rattle.replies.specs.NoteTexts.{notes_text}
+use Rattle.replies.specs.RefusalNoteTexts.{with_note, refusal_note}
+use Rattle.replies.specs.Statuses.{Answer, done, refusal, report_answer}
+use Rattle.replies.specs.Texts.{accepted_text}
+
+-- how many players and rounds a report has
+abbrev pub size_text : Sheet → List ℕ
+size_text sheet = accepted_text (length sheet.players) (rounds_played sheet)
+
+-- `check`: how many players and rounds the report has, with `--notes` (true) followed by what of its bytes looks like a mistake; or why
+-- it is refused, with `--notes` noting what was found
+abbrev pub check_answer : Result Sheet Fault → Bool → List ℕ → ℕ → Answer
+check_answer (Err fault) false input bye = refusal fault
+check_answer (Err fault) true input bye = with_note (refusal fault) (refusal_note fault input bye)
+check_answer (Ok sheet) false input bye = done (size_text sheet)
+check_answer (Ok sheet) true input bye = done (size_text sheet ++ notes_text (notes_of sheet input))
+
+-- the report that `format` writes: as it was read, or with `--points` (true) with its points fields summed
+abbrev pub formatted : Bool → Sheet → Sheet
+formatted false sheet = sheet
+formatted true sheet = summed sheet
+
+-- `format`: the report in canonical columns, or why it is refused, as it was read or as it would be written
+abbrev pub format_answer : Bool → Result Sheet Fault → Answer
+format_answer points (Ok sheet) = report_answer (written (formatted points sheet))
+format_answer points (Err fault) = refusal fault
+
+-- the verdict that `format` goes by: with `--points` (true) no points field is compared
+abbrev pub format_verdict : Bool → List ℕ → ℕ → Result Sheet Fault
+format_verdict false input bye = verdict input bye
+format_verdict true input bye = verdict_unsummed input bye

@@ -1,0 +1,27 @@
+-- What `standings` answers: the lines of the players, with or without names.
+use Rattle.std.specs.Prelude.{ℕ, Bool, true, false, List, Result, Ok, Err}
+use Rattle.tiebreak.specs.Keys.{RowFacts}
+use Rattle.tiebreak.specs.Standings.{standings_of}
+use Rattle.tiebreak.specs.declared.fault.TieFault.{TieFault}
+use Rattle.tiebreak.specs.declared.key.Key.{Key}
+use Rattle.trf16.specs.Sheet.{Sheet}
+use Rattle.trf16.specs.declared.fault.Fault.{Fault}
+use Rattle.replies.specs.StandingsTexts.{rows_text}
+use Rattle.replies.specs.Statuses.{Answer, done, refusal, tie_refusal}
+use Rattle.replies.specs.WallTexts.{named_rows_text}
+use Rattle.requests.specs.declared.options.StandingsOptions.{StandingsOptions}
+
+-- the players in order, without names (false) or with them (true)
+abbrev pub lines_text : Bool → Sheet → List Key → List RowFacts → List ℕ
+lines_text false sheet keys rows = rows_text keys 1 rows
+lines_text true sheet keys rows = named_rows_text sheet keys rows
+
+-- the players in order, or why there are no standings
+abbrev pub table_answer : StandingsOptions → Sheet → Result (List RowFacts) TieFault → Answer
+table_answer options sheet (Ok rows) = done (lines_text options.names sheet options.keys rows)
+table_answer options sheet (Err fault) = tie_refusal fault
+
+-- `standings`: the players in order, or why a report is refused
+abbrev pub standings_answer : StandingsOptions → Result Sheet Fault → Answer
+standings_answer options (Ok sheet) = table_answer options sheet (standings_of sheet options.keys)
+standings_answer options (Err fault) = refusal fault

@@ -1,0 +1,38 @@
+-- The lines of the standings.
+use Rattle.std.specs.Prelude.{ℕ, ◌+◌, ◌/◌, ◌%◌, ◌==◌, if◌then◌else◌, List, [], ◌∷◌, ◌++◌, Option, Some, None, codes}
+use Rattle.std.specs.Fmt.{decimal}
+use Rattle.tiebreak.specs.Keys.{RowFacts}
+use Rattle.tiebreak.specs.declared.key.Key.{Key}
+use Rattle.tiebreak.specs.declared.key.Key.TheVariants.{Direct, Buchholz, SonnebornBerger}
+use Rattle.replies.specs.Texts.{halves_text}
+
+-- the decimals of quarters of a point
+abbrev pub quarter_text : ℕ → List ℕ
+quarter_text quarter = if quarter == 0 then codes ".00" else (if quarter == 1 then codes ".25" else (if quarter == 2 then codes ".50" else codes ".75"))
+
+-- quarters of a point as points with two decimals
+abbrev pub quarters_text : ℕ → List ℕ
+quarters_text quarters = decimal (quarters / 4) ++ quarter_text (quarters % 4)
+
+-- the value of a key: in half points, or in quarters for Sonneborn-Berger
+abbrev pub value_text : Key → Option ℕ → List ℕ
+value_text key None = codes "-"
+value_text Direct (Some value) = halves_text value
+value_text Buchholz (Some value) = halves_text value
+value_text SonnebornBerger (Some value) = quarters_text value
+
+-- the values of some keys, in their order
+abbrev pub values_text : List Key → List (Option ℕ) → List ℕ
+values_text [] values = []
+values_text (key ∷ keys) [] = []
+values_text (key ∷ keys) (value ∷ values) = codes " " ++ (value_text key value ++ values_text keys values)
+
+-- the line of a player: place, start rank, score, and the values of the keys
+unfoldable pub row_text : List Key → ℕ → RowFacts → List ℕ
+row_text keys place row =
+    decimal place ++ (codes " " ++ (decimal row.start ++ (codes " " ++ (halves_text row.score ++ (values_text keys row.values ++ codes "\n")))))
+
+-- the lines of players from a place on
+abbrev pub rows_text : List Key → ℕ → List RowFacts → List ℕ
+rows_text keys place [] = []
+rows_text keys place (row ∷ rows) = row_text keys place row ++ rows_text keys (place + 1) rows

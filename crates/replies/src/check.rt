@@ -1,0 +1,82 @@
+// The command `check`: whether a report is accepted, how many players and rounds it has, and what looks like a mistake.
+ghost use Rattle.std.specs.Prelude.{◌≡◌, ℕ, ◌≤◌, ◌++◌, IfOk, Ok, string_bytes};
+ghost use Rattle.trf16.specs.Verdict.{verdict};
+ghost use Rattle.report_notes.specs.Notes.{notes_of};
+ghost use Rattle.replies.specs.ReportAnswers.{check_answer, size_text};
+ghost use Rattle.replies.specs.NoteTexts.{notes_text};
+ghost use Rattle.replies.specs.Replies.{answer_of};
+ghost use Rattle.replies.specs.Statuses.{done};
+
+use crate::notes::put_notes;
+use crate::refusal::refused;
+use crate::refusal_notes::refused_with_note;
+use crate::reply::{Reply, Status, Text};
+use crate::texts;
+use requests::CheckOptions;
+use std::alloc::{AllocError, Global};
+use trf16::{Fault, Report};
+
+/// What `check` says of the bytes of a report in which the pairing-allocated bye gives `bye` half points.
+pub fn check(
+    alloc: Global,
+    options: CheckOptions,
+    bytes: &[u8],
+    bye: u16,
+) -> Result<Reply, AllocError>
+    requires { bye ≤ 2 }
+    ensures { IfOk result (λ reply. answer_of reply
+        ≡ check_answer (verdict bytes.now bye) options.notes bytes.now bye) }
+{
+    match trf16::read_with(alloc, bytes, bye) {
+        Ok(report) => accepted(alloc, options, &report, bytes),
+        Err(Fault::OutOfMemory) => Err(AllocError),
+        Err(fault) if options.notes => refused_with_note(alloc, fault, bytes, bye),
+        Err(fault) => refused(alloc, fault),
+    }
+}
+
+// What is said of an accepted report.
+fn accepted(
+    alloc: Global,
+    options: CheckOptions,
+    report: &Report<'_>,
+    bytes: &[u8],
+) -> Result<Reply, AllocError>
+    ensures { (bye : ℕ) → IfOk result
+        (λ reply. answer_of reply ≡ check_answer (Ok report.now) options.notes bytes.now bye) }
+{
+    let text = size(alloc, report)?;
+    if options.notes {
+        return with_notes(alloc, text, report, bytes);
+    }
+    Ok(Reply {
+        status: Status::Done,
+        text: Text::Made(text),
+    })
+}
+
+// How large a report is.
+fn size(alloc: Global, report: &Report<'_>) -> Result<String, AllocError>
+    ensures { IfOk result (λ text. string_bytes text ≡ size_text report.now) }
+{
+    let players = report.players().len();
+    texts::accepted(alloc, players, report.rounds_played())
+}
+
+// A text, and behind it the notes of a report that stands in some bytes.
+fn with_notes(
+    alloc: Global,
+    front: String,
+    report: &Report<'_>,
+    bytes: &[u8],
+) -> Result<Reply, AllocError>
+    ensures { IfOk result (λ reply. answer_of reply
+        ≡ done (string_bytes front ++ notes_text (notes_of report.now bytes.now))) }
+{
+    let mut text = front.into_bytes();
+    put_notes(alloc, &mut text, report, bytes)?;
+    Ok(Reply {
+        status: Status::Done,
+        text: Text::Bytes(text),
+    })
+}

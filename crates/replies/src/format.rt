@@ -1,0 +1,88 @@
+// The command `format`: a report in canonical columns.
+ghost use Rattle.std.specs.Prelude.{◌≡◌, ◌≤◌, IfOk, Ok, false, true};
+ghost use Rattle.trf16.specs.Summed.{summed, verdict_unsummed};
+ghost use Rattle.trf16.specs.Verdict.{verdict};
+ghost use Rattle.trf16.specs.Written.{written};
+ghost use Rattle.replies.specs.ReportAnswers.{format_answer, format_verdict};
+ghost use Rattle.replies.specs.Replies.{answer_of};
+ghost use Rattle.replies.specs.Statuses.{report_answer};
+
+use crate::refusal::refused;
+use crate::reply::{Reply, Status, Text};
+use requests::FormatOptions;
+use std::alloc::{AllocError, Global};
+use trf16::{Counted, Excess, Failed, Fault, MOST_BYTES, Report};
+
+/// What `format` says of the bytes of a report in which the pairing-allocated bye gives `bye` half points.
+pub fn format(
+    alloc: Global,
+    options: FormatOptions,
+    bytes: &[u8],
+    bye: u16,
+) -> Result<Reply, AllocError>
+    requires { bye ≤ 2 }
+    ensures { IfOk result (λ reply. answer_of reply
+        ≡ format_answer options.points (format_verdict options.points bytes.now bye)) }
+{
+    if options.points {
+        with_sums(alloc, bytes, bye)
+    } else {
+        as_it_is(alloc, bytes, bye)
+    }
+}
+
+// The report as it was read.
+fn as_it_is(alloc: Global, bytes: &[u8], bye: u16) -> Result<Reply, AllocError>
+    requires { bye ≤ 2 }
+    ensures { IfOk result (λ reply. answer_of reply ≡ format_answer false (verdict bytes.now bye)) }
+{
+    match trf16::read_with(alloc, bytes, bye) {
+        Ok(report) => rewritten(alloc, &report),
+        Err(Fault::OutOfMemory) => Err(AllocError),
+        Err(fault) => refused(alloc, fault),
+    }
+}
+
+// The report with its points fields summed, whatever they say.
+fn with_sums(alloc: Global, bytes: &[u8], bye: u16) -> Result<Reply, AllocError>
+    requires { bye ≤ 2 }
+    ensures { IfOk result (λ reply. answer_of reply ≡ format_answer true (verdict_unsummed bytes.now bye)) }
+{
+    match trf16::read_unsummed(alloc, bytes, bye) {
+        Ok(report) => with_its_sums(alloc, &report),
+        Err(Fault::OutOfMemory) => Err(AllocError),
+        Err(fault) => refused(alloc, fault),
+    }
+}
+
+// The same of a report that was read.
+fn with_its_sums(alloc: Global, report: &Report<'_>) -> Result<Reply, AllocError>
+    ensures { IfOk result (λ reply. answer_of reply ≡ report_answer (written (summed report.now))) }
+{
+    rewritten(alloc, &report.summed(alloc)?)
+}
+
+/// A report in canonical columns, made whole before the first byte is written; or why that text is refused.
+pub fn rewritten(alloc: Global, report: &Report<'_>) -> Result<Reply, AllocError>
+    ensures { IfOk result (λ reply. answer_of reply ≡ report_answer (written report.now)) }
+{
+    let mut text = Counted::new(Vec::new(alloc));
+    match trf16::write(report, &mut text) {
+        Ok(()) => of_text(alloc, text.into_inner()),
+        Err(Failed) => Err(AllocError),
+    }
+}
+
+// The text of a report, or that it is longer than a report may be.
+#[tactic(auto, unfolding(crate::specs::Statuses::report_answer))]
+fn of_text(alloc: Global, text: Vec<u8>) -> Result<Reply, AllocError>
+    ensures { IfOk result (λ reply. answer_of reply ≡ report_answer text.items) }
+{
+    if MOST_BYTES < text.len() {
+        return refused(alloc, Fault::TooMany(Excess::Bytes));
+    }
+    Ok(Reply {
+        status: Status::Done,
+        text: Text::Bytes(text),
+    })
+}

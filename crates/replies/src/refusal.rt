@@ -1,0 +1,82 @@
+// The answers that several commands have: to a report that is refused, and if there is no pairing or the steps end
+// first.
+ghost use Rattle.std.specs.Prelude.{◌≡◌, ◌≢◌, IfOk};
+ghost use Rattle.replies.specs.Statuses.{field_refusal, no_pairing, question_refusal, refusal, tie_refusal};
+ghost use Rattle.replies.specs.Statuses.{undecided};
+ghost use Rattle.replies.specs.Replies.{answer_of};
+
+use crate::question::QuestionFault;
+use crate::reply::{Reply, Status, Text};
+use crate::texts;
+use dutch_player::FieldFault;
+use std::alloc::{AllocError, Global};
+use tiebreak::TieFault;
+use trf16::Fault;
+
+/// Why a report is refused.
+pub fn refused(alloc: Global, fault: Fault) -> Result<Reply, AllocError>
+    requires { fault ≢ Fault.OutOfMemory }
+    ensures { IfOk result (λ reply. answer_of reply ≡ refusal fault) }
+{
+    let text = refusals::refused(alloc, fault)?;
+    Ok(Reply {
+        status: Status::Refused,
+        text: Text::Made(text),
+    })
+}
+
+/// Why the next round cannot be paired from a report.
+pub fn cannot_be_paired(alloc: Global, fault: FieldFault) -> Result<Reply, AllocError>
+    requires { fault ≢ FieldFault.OutOfMemory }
+    ensures { IfOk result (λ reply. answer_of reply ≡ field_refusal fault) }
+{
+    let text = refusals::cannot_be_paired(alloc, fault)?;
+    Ok(Reply {
+        status: Status::Refused,
+        text: Text::Made(text),
+    })
+}
+
+/// Why a report has no standings.
+pub fn has_no_standings(alloc: Global, fault: TieFault) -> Result<Reply, AllocError>
+    requires { fault ≢ TieFault.OutOfMemory }
+    ensures { IfOk result (λ reply. answer_of reply ≡ tie_refusal fault) }
+{
+    let text = refusals::has_no_standings(alloc, fault)?;
+    Ok(Reply {
+        status: Status::Refused,
+        text: Text::Made(text),
+    })
+}
+
+/// What is wrong with the players whom a question names.
+pub fn cannot_be_asked(alloc: Global, fault: QuestionFault) -> Result<Reply, AllocError>
+    ensures { IfOk result (λ reply. answer_of reply ≡ question_refusal fault) }
+{
+    let text = texts::bad_question(alloc, fault)?;
+    Ok(Reply {
+        status: Status::BadWords,
+        text: Text::Made(text),
+    })
+}
+
+/// No pairing meets the absolute criteria.
+pub fn no_pairing() -> Reply
+    ensures { answer_of result ≡ no_pairing }
+{
+    Reply {
+        status: Status::NoPairing,
+        text: Text::Fixed("no pairing\n"),
+    }
+}
+
+/// The steps of a bracket reached the limit before it was decided.
+pub fn undecided(alloc: Global, number: u16, used: u64) -> Result<Reply, AllocError>
+    ensures { IfOk result (λ reply. answer_of reply ≡ undecided number used) }
+{
+    let text = texts::undecided(alloc, number, used)?;
+    Ok(Reply {
+        status: Status::Undecided,
+        text: Text::Made(text),
+    })
+}

@@ -1,0 +1,178 @@
+// The line of `check --notes` beside a refusal: what was found.
+ghost use Rattle.std.specs.Prelude.{◌≡◌, ◌≢◌, ◌≤◌, ◌++◌, IfOk, Err, Ok, codes, string_bytes};
+ghost use Rattle.trf16.specs.Summed.{verdict_unsummed};
+ghost use Rattle.report_notes.specs.RefusalNotes.{alone_in_bytes, are_lines_read, fits_in_bytes};
+ghost use Rattle.replies.specs.RefusalNoteTexts.{bytes_text, columns_text, held_text, line_in_bytes, line_note};
+ghost use Rattle.replies.specs.RefusalNoteTexts.{points_note, refusal_note, sums_text, with_note};
+ghost use Rattle.replies.specs.Replies.{answer_of};
+ghost use Rattle.replies.specs.Statuses.{refusal};
+ghost use Rattle.refusals.specs.Texts.{fault_text};
+
+use crate::controls::without_controls;
+use crate::reply::{Reply, Status, Text};
+use crate::texts::halves;
+use report_notes::{
+    Columns, Sums, are_lines_read, columns_of, has_characters, held, line_in, line_of, sums_of,
+};
+use std::alloc::{AllocError, Global};
+use trf16::{Fault, Report};
+
+/// Why a report that stands in some bytes is refused, and as a note what was found.
+pub fn refused_with_note(
+    alloc: Global,
+    fault: Fault,
+    bytes: &[u8],
+    bye: u16,
+) -> Result<Reply, AllocError>
+    requires known { fault ≢ Fault.OutOfMemory }
+    requires worth { bye ≤ 2 }
+    ensures { IfOk result (λ reply. answer_of reply ≡ with_note (refusal fault) (refusal_note fault bytes.now bye)) }
+{
+    let text = refusals::refused(alloc, fault)?;
+    let note = refusal_note(alloc, fault, bytes, bye)?;
+    Ok(Reply {
+        status: Status::Refused,
+        text: Text::Noted(text, note),
+    })
+}
+
+// What was found: a line, or nothing.
+fn refusal_note(alloc: Global, fault: Fault, bytes: &[u8], bye: u16) -> Result<Vec<u8>, AllocError>
+    requires { bye ≤ 2 }
+    ensures { IfOk result (λ note. note.items ≡ refusal_note fault bytes.now bye) }
+{
+    match fault {
+        Fault::Points { player } => points_note(alloc, player, bytes, bye),
+        _ => line_note(alloc, fault, bytes, bye),
+    }
+}
+
+// What was found where a player's points are refused.
+fn points_note(alloc: Global, player: u16, bytes: &[u8], bye: u16) -> Result<Vec<u8>, AllocError>
+    requires { bye ≤ 2 }
+    ensures { IfOk result (λ note. note.items ≡ points_note player (verdict_unsummed bytes.now bye)) }
+{
+    match trf16::read_unsummed(alloc, bytes, bye) {
+        Ok(report) => sums_note(alloc, &report, player),
+        Err(Fault::OutOfMemory) => Err(AllocError),
+        Err(fault) => next_refusal(alloc, fault),
+    }
+}
+
+// The points field of a player, and the sums that it was compared with.
+fn sums_note(alloc: Global, report: &Report<'_>, player: u16) -> Result<Vec<u8>, AllocError>
+    ensures { IfOk result (λ note. note.items ≡ points_note player (Ok report.now)) }
+{
+    match sums_of(report, player) {
+        Some(sums) => Ok(sums_text(alloc, sums)?.into_bytes()),
+        None => Ok(Vec::new(alloc)),
+    }
+}
+
+#[tactic(auto, unfolding(crate::specs::RefusalNoteTexts::sums_text))]
+fn sums_text(alloc: Global, sums: Sums) -> Result<String, AllocError>
+    ensures { IfOk result (λ text. string_bytes text ≡ sums_text sums) }
+{
+    let player = sums.player;
+    let field = halves(alloc, u32::from(sums.field))?;
+    let paired = halves(alloc, u32::from(sums.paired))?;
+    let all = halves(alloc, u32::from(sums.all))?;
+    let (field, paired, all) = (field.as_str(), paired.as_str(), all.as_str());
+    format!(in alloc;
+        "note player {player}: points field {field}, rounds paired {paired}, all rounds {all}\n"
+    )
+}
+
+// Why a report would be refused next.
+fn next_refusal(alloc: Global, fault: Fault) -> Result<Vec<u8>, AllocError>
+    ensures { IfOk result (λ note. note.items ≡ codes "note then " ++ fault_text fault) }
+{
+    let refusal = refusals::refused(alloc, fault)?;
+    let refusal = refusal.as_str();
+    Ok(format!(in alloc; "note then {refusal}")?.into_bytes())
+}
+
+// What was found where a line is refused.
+fn line_note(alloc: Global, fault: Fault, bytes: &[u8], bye: u16) -> Result<Vec<u8>, AllocError>
+    requires { bye ≤ 2 }
+    ensures { IfOk result (λ note. note.items ≡ line_note fault bytes.now bye) }
+{
+    match line_in_bytes(alloc, fault, bytes, bye)? {
+        Some(line) => Ok(bytes_text(alloc, line)?.into_bytes()),
+        None => held_text(alloc, columns_of(fault), bytes),
+    }
+}
+
+#[tactic(auto, unfolding(crate::specs::RefusalNoteTexts::bytes_text))]
+fn bytes_text(alloc: Global, line: usize) -> Result<String, AllocError>
+    ensures { IfOk result (λ text. string_bytes text ≡ bytes_text line) }
+{
+    format!(in alloc; "note line {line}: fits if columns are bytes\n")
+}
+
+// The line whose columns are at fault, if it fits where they are bytes.
+fn line_in_bytes(
+    alloc: Global,
+    fault: Fault,
+    bytes: &[u8],
+    bye: u16,
+) -> Result<Option<usize>, AllocError>
+    requires { bye ≤ 2 }
+    ensures { IfOk result (λ line. line ≡ line_in_bytes fault bytes.now bye) }
+{
+    let Some(line) = line_of(fault) else {
+        return Ok(None);
+    };
+    if fits_in_bytes(alloc, bytes, bye, line)? {
+        Ok(Some(line))
+    } else {
+        Ok(None)
+    }
+}
+
+// Whether a line of a text in UTF-8 breaks no rule on a line where it stands alone and its columns are bytes.
+fn fits_in_bytes(alloc: Global, bytes: &[u8], bye: u16, n: usize) -> Result<bool, AllocError>
+    requires { bye ≤ 2 }
+    ensures { IfOk result (λ fits. fits ≡ fits_in_bytes bytes.now bye n) }
+{
+    if !has_characters(bytes) {
+        return Ok(false);
+    }
+    let mut alone = Vec::from_slice(alloc, line_in(bytes, n))?;
+    alone.extend_from_slice(b"\n\xFF")?;
+    is_read(alloc, alone.as_slice(), bye)
+}
+
+// Whether no rule on a line is broken in a text.
+fn is_read(alloc: Global, bytes: &[u8], bye: u16) -> Result<bool, AllocError>
+    requires { bye ≤ 2 }
+    ensures { IfOk result (λ read. read ≡ are_lines_read (verdict_unsummed bytes.now bye)) }
+{
+    match trf16::read_unsummed(alloc, bytes, bye) {
+        Ok(_) => Ok(true),
+        Err(Fault::OutOfMemory) => Err(AllocError),
+        Err(fault) => Ok(are_lines_read(fault)),
+    }
+}
+
+// What the columns hold that a refusal is about, or nothing.
+fn held_text(alloc: Global, place: Option<Columns>, bytes: &[u8]) -> Result<Vec<u8>, AllocError>
+    ensures { IfOk result (λ note. note.items ≡ held_text place bytes.now) }
+{
+    let Some(place) = place else {
+        return Ok(Vec::new(alloc));
+    };
+    let mut text = columns_text(alloc, place)?.into_bytes();
+    let shown = without_controls(alloc, held(bytes, place))?;
+    text.extend_from_slice(shown.as_slice())?;
+    text.extend_from_slice(b"\"\n")?;
+    Ok(text)
+}
+
+#[tactic(auto, unfolding(crate::specs::RefusalNoteTexts::columns_text))]
+fn columns_text(alloc: Global, place: Columns) -> Result<String, AllocError>
+    ensures { IfOk result (λ text. string_bytes text ≡ columns_text place) }
+{
+    let Columns { line, first, last } = place;
+    format!(in alloc; "note line {line}: columns {first} to {last} hold \"")
+}

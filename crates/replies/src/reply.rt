@@ -1,0 +1,161 @@
+// The reply of a run: a status and a text, which is written to standard output or to standard error; beside a refusal
+// perhaps a note.
+ghost use Rattle.std.specs.Prelude.{◌≡◌, ◌⊎◌, IfOk, string_bytes};
+ghost use Rattle.trf16.specs.Output.{use_of, Puts};
+ghost use Rattle.replies.specs.Statuses.{behind, code_of, is_output};
+ghost use Rattle.replies.specs.Replies.{answer_of, note_of, text_of};
+ghost use Rattle.replies.specs.WrittenAnswers.{HasTextOrPart, IsCut, IsPrinted, IsToldWith, IsWritten};
+
+use std::alloc::{AllocError, Global};
+use trf16::{Sink, put_all};
+
+// What standard error tells where standard output failed.
+const WRITE_FAILED: &[u8] = b"device: write failed\n";
+
+// Writes a text to standard error, which may fail: then nobody is told.
+fn say<E: Sink>(err: &mut E, text: &[u8])
+    ensures { HasTextOrPart text.now (use_of E.held E.failures err.old err.new) }
+{
+    let _ = put_all(err, text);
+}
+
+/// How a run ended.
+#[derive(Debug, Clone, Copy, PartialEq, Eq)]
+pub enum Status {
+    /// The command was carried out.
+    Done,
+    /// The report is refused.
+    Refused,
+    /// The words are refused.
+    BadWords,
+    /// No pairing meets the absolute criteria.
+    NoPairing,
+    /// A limit of steps was reached first.
+    Undecided,
+    /// A device failed, or memory was refused.
+    Trouble,
+}
+
+impl Status {
+    /// The number with which the program ends.
+    pub fn code(self) -> u8
+        ensures { result ≡ code_of self }
+    {
+        match self {
+            Status::Done => 0,
+            Status::Refused => 1,
+            Status::BadWords => 2,
+            Status::NoPairing => 3,
+            Status::Undecided => 4,
+            Status::Trouble => 5,
+        }
+    }
+
+    // Whether the text goes to standard output.
+    fn is_output(self) -> bool
+        ensures { result ≡ is_output self }
+    {
+        matches!(self, Status::Done | Status::NoPairing | Status::Undecided)
+    }
+}
+
+/// A text of the program: one that it has, one that it made, the bytes of a report, or a refusal with a note of what
+/// was found.
+#[derive(Debug, Drop)]
+pub enum Text {
+    Fixed(&'static str),
+    Made(String),
+    Bytes(Vec<u8>),
+    Noted(String, Vec<u8>),
+}
+
+impl Text {
+    fn as_bytes(&self) -> &[u8]
+        ensures { result.now ≡ text_of self.now }
+    {
+        match self {
+            Text::Fixed(text) => text.as_bytes(),
+            Text::Made(text) => text.as_bytes(),
+            Text::Bytes(text) => text.as_slice(),
+            Text::Noted(text, _) => text.as_bytes(),
+        }
+    }
+
+    // The note that goes with the text.
+    fn note(&self) -> &[u8]
+        ensures { result.now ≡ note_of self.now }
+    {
+        match self {
+            Text::Fixed(_) | Text::Made(_) | Text::Bytes(_) => &[],
+            Text::Noted(_, note) => note.as_slice(),
+        }
+    }
+}
+
+/// What a run says: its status, and the text that goes with it.
+#[derive(Debug, Drop)]
+pub struct Reply {
+    pub status: Status,
+    pub text: Text,
+}
+
+impl Reply {
+    /// The status, and the text behind another one.
+    ///
+    /// # Errors
+    /// Memory was refused.
+    pub fn behind(&self, text: String) -> Result<Reply, AllocError>
+        ensures { IfOk result (λ reply. answer_of reply ≡ behind (string_bytes text) (answer_of self.now)) }
+    {
+        let mut bytes = text.into_bytes();
+        bytes.extend_from_slice(self.text.as_bytes())?;
+        Ok(Reply {
+            status: self.status,
+            text: Text::Bytes(bytes),
+        })
+    }
+
+    // Writes the text to standard error, which may fail, and then the note to standard output, if there is one.
+    fn tell<O: Sink, E: Sink>(&self, out: &mut O, err: &mut E) -> Status
+        ensures { IsToldWith (answer_of self.now).note (answer_of self.now) (use_of O.held O.failures out.old out.new)
+            (use_of E.held E.failures err.old err.new) result }
+    {
+        say(err, self.text.as_bytes());
+        let note = self.text.note();
+        if note.is_empty() {
+            return self.status;
+        }
+        if put_all(out, note).is_err() {
+            say(err, WRITE_FAILED);
+            return Status::Trouble;
+        }
+        self.status
+    }
+
+    // Writes the text to standard output.
+    fn print<O: Sink, E: Sink>(&self, out: &mut O, err: &mut E) -> Status
+        ensures { IsPrinted (answer_of self.now) (use_of O.held O.failures out.old out.new)
+            (use_of E.held E.failures err.old err.new) result
+            ⊎ IsCut (answer_of self.now) (use_of O.held O.failures out.old out.new)
+            (use_of E.held E.failures err.old err.new) result }
+    {
+        if put_all(out, self.text.as_bytes()).is_err() {
+            say(err, WRITE_FAILED);
+            return Status::Trouble;
+        }
+        self.status
+    }
+
+    /// Writes the text where its status says, and a note to standard output, and answers with the status of the run: if
+    /// standard output fails, that is told on standard error. A failure of standard error changes nothing.
+    pub fn write<O: Sink, E: Sink>(&self, out: &mut O, err: &mut E) -> Status
+        ensures { IsWritten (answer_of self.now) (use_of O.held O.failures out.old out.new)
+            (use_of E.held E.failures err.old err.new) result }
+    {
+        if self.status.is_output() {
+            self.print(out, err)
+        } else {
+            self.tell(out, err)
+        }
+    }
+}

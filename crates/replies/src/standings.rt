@@ -1,0 +1,158 @@
+// The command `standings`: the players by score and by the keys that break ties.
+ghost use Rattle.std.specs.Prelude.{◌≡◌, ◌≢◌, ◌++◌, ◌≤◌, ◌<◌, IfOk, Ok, OnOk, length, string_bytes};
+ghost use Rattle.trf16.specs.Verdict.{verdict};
+ghost use Rattle.replies.specs.Replies.{answer_of};
+ghost use Rattle.replies.specs.StandingsAnswers.{standings_answer, table_answer};
+ghost use Rattle.replies.specs.StandingsTexts.{quarter_text, quarters_text, row_text, rows_text, value_text};
+ghost use Rattle.replies.specs.StandingsTexts.{values_text};
+
+use crate::refusal::{has_no_standings, refused};
+use crate::reply::{Reply, Status, Text};
+use crate::texts::halves;
+use crate::wall;
+use requests::StandingsOptions;
+use std::alloc::{AllocError, Global};
+use tiebreak::{Key, Row, TieFault};
+use trf16::{Fault, Report};
+
+/// What `standings` says of the bytes of a report in which the pairing-allocated bye gives `bye` half points.
+pub fn standings(
+    alloc: Global,
+    options: &StandingsOptions,
+    bytes: &[u8],
+    bye: u16,
+) -> Result<Reply, AllocError>
+    requires { bye ≤ 2 }
+    ensures { IfOk result (λ reply. answer_of reply ≡ standings_answer options.now (verdict bytes.now bye)) }
+{
+    match trf16::read_with(alloc, bytes, bye) {
+        Ok(report) => of_report(alloc, options, &report),
+        Err(Fault::OutOfMemory) => Err(AllocError),
+        Err(fault) => refused(alloc, fault),
+    }
+}
+
+// The same of an accepted report.
+fn of_report(
+    alloc: Global,
+    options: &StandingsOptions,
+    report: &Report<'_>,
+) -> Result<Reply, AllocError>
+    ensures { IfOk result (λ reply. answer_of reply ≡ standings_answer options.now (Ok report.now)) }
+{
+    match tiebreak::table(alloc, report, options.keys.as_slice()) {
+        Ok(table) => of_rows(alloc, options, report, table.rows()),
+        Err(TieFault::OutOfMemory) => Err(AllocError),
+        Err(fault) => has_no_standings(alloc, fault),
+    }
+}
+
+// The lines of all players, with or without names.
+fn of_rows(
+    alloc: Global,
+    options: &StandingsOptions,
+    report: &Report<'_>,
+    rows: &[Row],
+) -> Result<Reply, AllocError>
+    ensures { IfOk result (λ reply. answer_of reply ≡ table_answer options.now report.now (Ok rows.now)) }
+{
+    let keys = options.keys.as_slice();
+    if options.names {
+        return wall::standings(alloc, report, keys, rows);
+    }
+    let text = row_lines(alloc, keys, rows)?;
+    Ok(Reply {
+        status: Status::Done,
+        text: Text::Made(text),
+    })
+}
+
+// The lines of all players without names.
+fn row_lines(alloc: Global, keys: &[Key], rows: &[Row]) -> Result<String, AllocError>
+    ensures { IfOk result (λ text. string_bytes text ≡ rows_text keys.now 1 rows.now) }
+{
+    let mut text = String::new(alloc);
+    for (i, row) in rows.iter().enumerate() {
+        put_row(alloc, &mut text, keys, i + 1, row)?;
+    }
+    Ok(text)
+}
+
+// Puts the line of a player.
+#[tactic(auto, unfolding(crate::specs::StandingsTexts::row_text))]
+fn put_row(
+    alloc: Global,
+    text: &mut String,
+    keys: &[Key],
+    place: usize,
+    row: &Row,
+) -> Result<(), AllocError>
+    ensures { OnOk result (string_bytes text.new ≡ string_bytes text.old ++ row_text keys.now place row.now) }
+{
+    let start = row.start();
+    let score = halves(alloc, u32::from(row.score()))?;
+    let score = score.as_str();
+    let front = format!(in alloc; "{place} {start} {score}")?;
+    text.push_str(front.as_str())?;
+    put_values(alloc, text, keys, row.values())?;
+    text.push_str("\n")
+}
+
+// Puts the values of some keys, in their order.
+#[tactic(auto, using(crate::proofs::TableLemmas::values_end))]
+fn put_values(
+    alloc: Global,
+    text: &mut String,
+    keys: &[Key],
+    values: &[Option<u32>],
+) -> Result<(), AllocError>
+    ensures { OnOk result (string_bytes text.new ≡ string_bytes text.old ++ values_text keys.now values.now) }
+{
+    for (i, key) in keys.iter().enumerate() {
+        if values.len() <= i {
+            return Ok(());
+        }
+        text.push_str(" ")?;
+        let made = value_of(alloc, *key, values[i])?;
+        text.push_str(made.as_str())?;
+    }
+    Ok(())
+}
+
+/// The value of a key; a dash if it tells nothing.
+pub fn value_of(alloc: Global, key: Key, value: Option<u32>) -> Result<String, AllocError>
+    ensures { IfOk result (λ text. string_bytes text ≡ value_text key value) }
+{
+    let Some(value) = value else {
+        return String::from_str(alloc, "-");
+    };
+    match key {
+        Key::Direct | Key::Buchholz => halves(alloc, value),
+        Key::SonnebornBerger => quarters(alloc, value),
+    }
+}
+
+// Quarters of a point as points with two decimals.
+fn quarters(alloc: Global, quarters: u32) -> Result<String, AllocError>
+    ensures { IfOk result (λ text. string_bytes text ≡ quarters_text quarters) }
+{
+    let points = quarters / 4;
+    let decimals = quarter(quarters % 4);
+    format!(in alloc; "{points}{decimals}")
+}
+
+// The decimals of quarters of a point.
+fn quarter(quarter: u32) -> &'static str
+    ensures { result.now ≡ quarter_text quarter }
+{
+    if quarter == 0 {
+        return ".00";
+    }
+    if quarter == 1 {
+        return ".25";
+    }
+    if quarter == 2 {
+        return ".50";
+    }
+    ".75"
+}

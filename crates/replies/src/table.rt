@@ -1,0 +1,191 @@
+// Tables: lines of labels that stand in columns, each of them as wide as the widest of its labels.
+ghost use Rattle.std.specs.Prelude.{◌≡◌, ◌++◌, ◌∷◌, [], IfOk, OnOk, replicate, slice_index_or, string_bytes};
+ghost use Rattle.replies.specs.Tables.{gap, labels_text, left, padded, padded_by, right, table_text, widest};
+ghost use Rattle.replies.specs.Tables.{width, width_in, widths};
+ghost use Rattle.trf16.specs.Written.{blanks};
+
+use std::alloc::{AllocError, Global};
+use std::marker::Model;
+use trf16::column_count;
+
+/// The side of its column at which a label stands.
+#[derive(Debug, Clone, Copy, PartialEq, Eq)]
+pub enum Side {
+    Left,
+    Right,
+}
+
+/// A text that stands at a side of its column.
+#[derive(Debug, Drop)]
+pub struct Label {
+    side: Side,
+    text: Vec<u8>,
+}
+
+impl Model for Label {
+    ghost use Rattle.replies.specs.Tables.{LabelFacts};
+
+    ghost Value = { LabelFacts };
+
+    ghost view = { λ l. record { side = l.side; text = l.text.items } };
+}
+
+impl Label {
+    /// A text at the left of its column.
+    pub fn left(text: Vec<u8>) -> Label
+        ensures { result ≡ left text.items }
+    {
+        Label {
+            side: Side::Left,
+            text,
+        }
+    }
+
+    /// A text at the right of its column.
+    pub fn right(text: String) -> Label
+        ensures { result ≡ right (string_bytes text) }
+    {
+        Label {
+            side: Side::Right,
+            text: text.into_bytes(),
+        }
+    }
+
+    // How wide the label is.
+    fn width(&self, utf8: bool) -> usize
+        ensures { result ≡ width utf8 self.now.text }
+    {
+        column_count(self.text.as_slice(), utf8)
+    }
+
+    // Puts the label, with blanks up to a width.
+    fn put(&self, text: &mut Vec<u8>, utf8: bool, wide: usize) -> Result<(), AllocError>
+        ensures { OnOk result (text.new.items ≡ text.old.items ++ padded utf8 wide self.now) }
+    {
+        let missing = wide.saturating_sub(self.width(utf8));
+        match self.side {
+            Side::Left => {
+                text.extend_from_slice(self.text.as_slice())?;
+                put_blanks(text, missing)
+            }
+            Side::Right => {
+                put_blanks(text, missing)?;
+                text.extend_from_slice(self.text.as_slice())
+            }
+        }
+    }
+}
+
+/// A line of a table: its labels from the first column on.
+#[derive(Debug, Drop)]
+pub struct Line {
+    labels: Vec<Label>,
+}
+
+impl Model for Line {
+    ghost use Rattle.std.specs.Prelude.{List};
+    ghost use Rattle.replies.specs.Tables.{LabelFacts};
+
+    ghost Value = { List LabelFacts };
+
+    ghost view = { λ l. l.labels.items };
+}
+
+impl Line {
+    /// A line without labels.
+    pub fn new(alloc: Global) -> Line
+        ensures { result ≡ [] }
+    {
+        Line {
+            labels: Vec::new(alloc),
+        }
+    }
+
+    /// Puts a label in the next column.
+    pub fn push(&mut self, label: Label) -> Result<(), AllocError>
+        ensures { OnOk result (self.new ≡ self.old ++ label ∷ []) }
+    {
+        self.labels.push(label)?;
+        Ok(())
+    }
+
+    // How wide the line is in a column, which counts from 0.
+    fn width_in(&self, utf8: bool, column: usize) -> usize
+        ensures { result ≡ width_in utf8 column self.now }
+    {
+        match self.labels.as_slice().get(column) {
+            Some(label) => label.width(utf8),
+            None => 0,
+        }
+    }
+}
+
+fn put_blanks(text: &mut Vec<u8>, count: usize) -> Result<(), AllocError>
+    ensures { OnOk result (text.new.items ≡ text.old.items ++ blanks count) }
+{
+    for _ in 0..count {
+        text.push(b' ')?;
+    }
+    Ok(())
+}
+
+// How wide a column is.
+fn widest(lines: &[Line], utf8: bool, column: usize) -> usize
+    ensures { result ≡ widest utf8 column lines.now }
+{
+    let mut most = 0usize;
+    for line in lines {
+        most = most.max(line.width_in(utf8, column));
+    }
+    most
+}
+
+// How wide the first columns are, so many of them.
+fn widths(alloc: Global, lines: &[Line], utf8: bool, count: usize) -> Result<Vec<usize>, AllocError>
+    ensures { IfOk result (λ all. all.items ≡ widths utf8 count lines.now) }
+{
+    let mut all = Vec::new(alloc);
+    for column in 0..count {
+        all.push(widest(lines, utf8, column))?;
+    }
+    Ok(all)
+}
+
+// How wide a column is, by the widths of the first columns.
+fn wide_in(widths: &[usize], column: usize) -> usize
+    ensures { result ≡ slice_index_or widths.now column 0 }
+{
+    widths.get(column).copied().unwrap_or(0)
+}
+
+// Puts what parts a label from those behind it, or the end of the line.
+fn put_gap(text: &mut Vec<u8>, behind: &[Label]) -> Result<(), AllocError>
+    ensures { OnOk result (text.new.items ≡ text.old.items ++ gap behind.now) }
+{
+    let part = if behind.is_empty() { "\n" } else { "  " };
+    text.extend_from_slice(part.as_bytes())
+}
+
+// Puts a line, each of its labels as wide as its column.
+fn put_line(text: &mut Vec<u8>, utf8: bool, widths: &[usize], line: &Line) -> Result<(), AllocError>
+    ensures { OnOk result (text.new.items ≡ text.old.items ++ labels_text utf8 widths.now 0 line.now) }
+{
+    let labels = line.labels.as_slice();
+    for (i, label) in labels.iter().enumerate() {
+        label.put(text, utf8, wide_in(widths, i))?;
+        put_gap(text, labels.split_at(i + 1).1)?;
+    }
+    Ok(())
+}
+
+/// The text of a table of `count` columns, whose columns are characters where `utf8` says so, else bytes.
+pub fn table(alloc: Global, lines: &[Line], utf8: bool, count: usize) -> Result<Vec<u8>, AllocError>
+    ensures { IfOk result (λ text. text.items ≡ table_text utf8 count lines.now) }
+{
+    let widths = widths(alloc, lines, utf8, count)?;
+    let mut text = Vec::new(alloc);
+    for line in lines {
+        put_line(&mut text, utf8, widths.as_slice(), line)?;
+    }
+    Ok(text)
+}

@@ -1,0 +1,77 @@
+// The texts of the program, apart from clap's and from why a report is refused.
+ghost use Rattle.std.specs.Prelude.{◌≡◌, ◌++◌, IfOk, codes, string_bytes};
+ghost use Rattle.std.specs.Fmt.{decimal};
+ghost use Rattle.replies.specs.Texts.{accepted_text, halves_text, not_of_bracket_text, not_reached_text};
+ghost use Rattle.replies.specs.Texts.{question_text, undecided_text, word_text};
+
+use crate::question::QuestionFault;
+use requests::WordFault;
+use std::alloc::{AllocError, Global};
+
+/// A report is accepted: how many players it has, and how many rounds were paired.
+pub fn accepted(alloc: Global, players: usize, rounds: u8) -> Result<String, AllocError>
+    ensures { IfOk result (λ text. string_bytes text ≡ accepted_text players rounds) }
+{
+    format!(in alloc; "accepted players {players} rounds {rounds}\n")
+}
+
+/// What is wrong with words that clap lets pass.
+pub fn bad_words(fault: WordFault) -> &'static str
+    ensures { result.now ≡ word_text fault }
+{
+    match fault {
+        WordFault::BadColour => "words: bad colour\n",
+        WordFault::BadKeys => "words: bad keys\n",
+        WordFault::BadCursor => "words: bad cursor\n",
+        WordFault::NamesAndReport => "words: names or report, not both\n",
+        WordFault::InsteadAlone => "words: instead wants a player\n",
+    }
+}
+
+/// What is wrong with the players whom a question names.
+pub fn bad_question(alloc: Global, fault: QuestionFault) -> Result<String, AllocError>
+    ensures { IfOk result (λ text. string_bytes text ≡ question_text fault) }
+{
+    match fault {
+        QuestionFault::NotKnown { player } => {
+            format!(in alloc; "words: player {player} is not known\n")
+        }
+        QuestionFault::NamedTwice { player } => {
+            format!(in alloc; "words: player {player} is named twice\n")
+        }
+    }
+}
+
+/// The steps of a bracket reached the limit before it was decided.
+pub fn undecided(alloc: Global, number: u16, used: u64) -> Result<String, AllocError>
+    ensures { IfOk result (λ text. string_bytes text ≡ undecided_text number used) }
+{
+    format!(in alloc; "undecided bracket {number} steps {used}\n")
+}
+
+/// The round ends before a bracket.
+pub fn not_reached(alloc: Global, number: u16) -> Result<String, AllocError>
+    ensures { IfOk result (λ text. string_bytes text ≡ not_reached_text number) }
+{
+    format!(in alloc; "words: bracket {number} is not reached\n")
+}
+
+/// A cursor is not one of a bracket.
+pub fn not_of_bracket(alloc: Global, number: u16) -> Result<String, AllocError>
+    ensures { IfOk result (λ text. string_bytes text ≡ not_of_bracket_text number) }
+{
+    format!(in alloc; "words: cursor is not of bracket {number}\n")
+}
+
+/// Half points as points with one decimal.
+#[tactic(auto, unfolding(crate::specs::Texts::halves_text))]
+pub fn halves(alloc: Global, halves: u32) -> Result<String, AllocError>
+    ensures { IfOk result (λ text. string_bytes text ≡ halves_text halves) }
+{
+    let points = halves / 2;
+    if halves % 2 == 0 {
+        format!(in alloc; "{points}.0")
+    } else {
+        format!(in alloc; "{points}.5")
+    }
+}

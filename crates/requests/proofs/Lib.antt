@@ -1,0 +1,6 @@
+pub mod WordLemmas
+pub mod KeyLemmas
+pub mod KeyRule
+pub mod OptionLemmas
+pub mod CommandLemmas
+pub mod RequestLemmas

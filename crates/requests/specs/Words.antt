@@ -1,0 +1,152 @@
+-- What the words of a command line ask for, by clap's rules at the program's command.
+use Rattle.std.specs.Prelude.{◌≡◌, ℕ, Bool, true, false, List, [], ◌∷◌, ◌++◌, Option, Some, None, Result, Ok, Err, option_and_then, option_map, codes, if◌then◌else◌}
+use Rattle.std.specs.List.{list_any}
+use Rattle.std.specs.Str.{bytes_eq}
+use Rattle.clap.specs.Words.{App, Row, Text, new_app, subcommand_of, with_rule, with_subcommand, fault_of}
+use Rattle.clap.specs.Simple.{on_top}
+use Rattle.clap.specs.declared.error.kind.ErrorKind.{ErrorKind}
+use Rattle.clap.specs.declared.error.kind.ErrorKind.TheVariants.{DisplayHelp, DisplayVersion, OutOfMemory}
+use Rattle.dutch_order.specs.Cursors.{has_syntax}
+use Rattle.requests.specs.declared.words.Task.{Task}
+use Rattle.requests.specs.declared.words.Request.{Request}
+use Rattle.requests.specs.declared.words.Request.TheVariants.{Check, Format, Pair, Candidates, Explain, Standings}
+use Rattle.requests.specs.CommandLine.{bye_rule, candidates_app, explain_app, notes_rule, pair_app, points_rule, standings_app}
+use Rattle.requests.specs.Options.{◌>>=◌, bye_in, candidates_options, check_options, explain_options, format_options, pair_options, standings_options}
+use Rattle.requests.specs.declared.words.Asked.{Asked}
+use Rattle.requests.specs.declared.words.Asked.TheVariants.{Command, Help, Mistake, Refused}
+use Rattle.requests.specs.declared.options.WordFault.{WordFault}
+
+-- `check`
+unfoldable pub check_app : App
+check_app = with_rule (with_rule (new_app (codes "check")) notes_rule) bye_rule
+
+-- `format`
+unfoldable pub format_app : App
+format_app = with_rule (with_rule (new_app (codes "format")) points_rule) bye_rule
+
+-- a command with a version
+unfoldable pub versioned : App → App
+versioned = on_top (λ top. record top { has_version = true })
+
+-- a command that takes all words as its arguments, has no command `help`, and wants a command
+unfoldable pub settled : App → App
+settled = on_top (λ top. record top {
+  no_binary_name = true;
+  disable_help_subcommand = true;
+  arg_required_else_help = true;
+  subcommand_required = true;
+})
+
+-- a command with those on the next round: `pair`, `candidates` and `explain`
+unfoldable pub with_next_round : App → App
+with_next_round app = with_subcommand (with_subcommand (with_subcommand app pair_app.top) candidates_app.top) explain_app.top
+
+-- the same, and with `standings`
+unfoldable pub with_engine : App → App
+with_engine app = with_subcommand (with_next_round app) standings_app.top
+
+-- the program's command line
+unfoldable pub arbiter_app : App
+arbiter_app = with_engine (with_subcommand (with_subcommand (settled (versioned (new_app (codes "arbiter")))) check_app.top) format_app.top)
+
+-- the request of `pair`
+unfoldable pub pair_request : List Row → Result Request WordFault
+pair_request rows = do
+  options ← pair_options rows
+  Ok (Pair options)
+
+-- the request of `candidates`
+unfoldable pub candidates_request : List Row → Result Request WordFault
+candidates_request rows = do
+  options ← candidates_options has_syntax rows
+  Ok (Candidates options)
+
+-- the request of `explain`
+unfoldable pub explain_request : List Row → Result Request WordFault
+explain_request rows = do
+  options ← explain_options rows
+  Ok (Explain options)
+
+-- the request of `standings`
+unfoldable pub standings_request : List Row → Result Request WordFault
+standings_request rows = do
+  options ← standings_options rows
+  Ok (Standings options)
+
+-- the request that a command and its options make, or what is wrong with them; none where there is no such command
+abbrev pub request_of : Text → List Row → Option (Result Request WordFault)
+request_of name rows =
+    if bytes_eq name (codes "check") then Some (Ok (Check (check_options rows)))
+    else (if bytes_eq name (codes "format") then Some (Ok (Format (format_options rows)))
+    else (if bytes_eq name (codes "pair") then Some (pair_request rows)
+    else (if bytes_eq name (codes "candidates") then Some (candidates_request rows)
+    else (if bytes_eq name (codes "explain") then Some (explain_request rows)
+    else (if bytes_eq name (codes "standings") then Some (standings_request rows) else None)))))
+
+-- a request over a report in which the pairing-allocated bye gives so many half points, or what is wrong with its options
+abbrev pub with_bye : ℕ → Result Request WordFault → Result Task WordFault
+with_bye bye (Ok request) = Ok (record { request = request; bye = bye })
+with_bye bye (Err fault) = Err fault
+
+-- the task that a command and its options make, or what is wrong with them; none where there is no such command
+abbrev pub task_of : Text → List Row → Option (Result Task WordFault)
+task_of name rows = option_map (with_bye (bye_in rows)) (request_of name rows)
+
+-- the same of the command that clap found, with its rows
+abbrev pub task_by : Option (Text × List Row) → Option (Result Task WordFault)
+task_by = option_and_then (λ command. task_of command.0 command.1)
+
+-- what a task comes to, or what is wrong with its options
+abbrev pub asked_by : Result Task WordFault → Asked
+asked_by (Ok task) = Command task
+asked_by (Err fault) = Refused fault
+
+-- the words as clap reads them: `help` in front of some words stands for `--help` behind them
+abbrev pub meant : List Text → List Text
+meant [] = []
+meant (first ∷ rest) = if bytes_eq first (codes "help") then rest ++ codes "--help" ∷ [] else first ∷ rest
+
+-- an error of clap's that shows what was asked for: help, or the version
+abbrev pub is_shown : ErrorKind → Bool
+is_shown DisplayHelp = true
+is_shown DisplayVersion = true
+is_shown _ = false
+
+-- an error of clap's that is a mistake in the words
+abbrev pub is_mistake : ErrorKind → Bool
+is_mistake DisplayHelp = false
+is_mistake DisplayVersion = false
+is_mistake OutOfMemory = false
+is_mistake _ = true
+
+-- the words are accepted by clap's rules, and this is the task that they make
+pub record AsksFor (words : List Text) (task : Task) : Type 0 where
+  pub accepted : fault_of arbiter_app words ≡ []
+  pub named : task_by (subcommand_of arbiter_app words) ≡ Some (Ok task)
+
+-- the words are accepted by clap's rules, and this is wrong with their options
+pub record AsksWrongly (words : List Text) (fault : WordFault) : Type 0 where
+  pub accepted : fault_of arbiter_app words ≡ []
+  pub named : task_by (subcommand_of arbiter_app words) ≡ Some (Err fault)
+
+-- clap's rules answer the words with help or the version
+abbrev pub AsksForHelp : List Text → Type 0
+AsksForHelp words = list_any is_shown (fault_of arbiter_app words) ≡ true
+
+-- clap's rules refuse the words
+abbrev pub IsMistaken : List Text → Type 0
+IsMistaken words = list_any is_mistake (fault_of arbiter_app words) ≡ true
+
+-- what the words come to; the texts of help and mistakes are clap's
+abbrev pub ComesTo : List Text → Asked → Type 0
+ComesTo words (Command task) = AsksFor words task
+ComesTo words (Help text) = AsksForHelp words
+ComesTo words (Mistake text) = IsMistaken words
+ComesTo words (Refused fault) = AsksWrongly words fault
+
+-- the same of one error of clap's
+abbrev pub FitsKind : ErrorKind → Asked → Type 0
+FitsKind kind (Command task) = ⊥
+FitsKind kind (Help text) = is_shown kind ≡ true
+FitsKind kind (Mistake text) = is_mistake kind ≡ true
+FitsKind kind (Refused fault) = ⊥

@@ -1,0 +1,352 @@
+// The options of the commands, from what clap makes of the words.
+ghost use Rattle.std.specs.Prelude.{◌≡◌, ℕ, List, Bool, option_map, codes, if◌then◌else◌};
+ghost use Rattle.clap.specs.Words.{first_of};
+ghost use Rattle.requests.specs.Options.{bracket_in, bye_in, candidates_options, check_options, count_in};
+ghost use Rattle.requests.specs.Options.{explain_options, flag_in, format_options, from_in, initial_in};
+ghost use Rattle.requests.specs.Options.{instead_in, keys_by, pair_options, player_in, question_by, rounds_in};
+ghost use Rattle.requests.specs.Options.{rows_in, shown_by, standings_options, steps_in};
+
+use crate::keys::{Keys, keys_in};
+use clap::ArgMatches;
+use std::marker::Model;
+use trf16::{Colour, MOST_ROUNDS};
+
+/// What is wrong with words that clap lets pass.
+#[derive(Debug, Clone, Copy, PartialEq, Eq)]
+pub enum WordFault {
+    /// `--initial` is neither `white` nor `black`.
+    BadColour,
+    /// `--by` is no list of one to three keys, none twice.
+    BadKeys,
+    /// `--from` is no cursor.
+    BadCursor,
+    /// `--names` and `--report` are both there.
+    NamesAndReport,
+    /// `--instead` is there without `--player`.
+    InsteadAlone,
+}
+
+/// What is asked of `check`.
+#[derive(Debug, Clone, Copy, PartialEq, Eq)]
+pub struct CheckOptions {
+    /// Whether it is told too what looks like a mistake.
+    pub notes: bool,
+}
+
+/// What is asked of `format`.
+#[derive(Debug, Clone, Copy, PartialEq, Eq)]
+pub struct FormatOptions {
+    /// Whether each points field is written as a sum, and compared with none.
+    pub points: bool,
+}
+
+/// What is asked of `pair`.
+#[derive(Debug, Clone, Copy, PartialEq, Eq)]
+pub struct PairOptions {
+    /// The number of rounds of the tournament, where the words name it: at most `MOST_ROUNDS`.
+    pub rounds: Option<u8>,
+    /// The colour of an odd start rank where nothing else decides (C.04.3 E.5), where the words name it.
+    pub initial: Option<Colour>,
+    /// How many steps a bracket may take.
+    pub steps: u64,
+    /// What is printed of the new round.
+    pub shown: Shown,
+}
+
+/// What is printed of a new round.
+#[derive(Debug, Clone, Copy, PartialEq, Eq)]
+pub enum Shown {
+    /// The boards, in start ranks.
+    Boards,
+    /// The boards with names and scores, for the wall.
+    Names,
+    /// The report with the round in it.
+    Report,
+}
+
+/// What is asked of `explain`.
+#[derive(Debug, Clone, Copy, PartialEq, Eq)]
+pub struct ExplainOptions {
+    /// What is asked of one player; else the whole round is explained.
+    pub question: Option<Question>,
+    /// The number of rounds of the tournament, where the words name it: at most `MOST_ROUNDS`.
+    pub rounds: Option<u8>,
+    /// The colour of an odd start rank where nothing else decides (C.04.3 E.5), where the words name it.
+    pub initial: Option<Colour>,
+    /// How many steps a bracket may take, and how many the search for another opponent may.
+    pub steps: u64,
+}
+
+/// What is asked of one player.
+#[derive(Debug, Clone, Copy, PartialEq, Eq)]
+pub struct Question {
+    /// The player's start rank.
+    pub player: u16,
+    /// The start rank of the one whom they might have met instead, or 0 for the bye.
+    pub instead: Option<u16>,
+}
+
+/// What is asked of `standings`.
+#[derive(Debug, Drop)]
+pub struct StandingsOptions {
+    /// What players of one score are told apart by.
+    pub keys: Keys,
+    /// Whether the names are wanted, in columns for the wall.
+    pub names: bool,
+}
+
+/// What is asked of `candidates`.
+#[derive(Debug, Drop)]
+pub struct CandidatesOptions<'a> {
+    /// The number of the bracket, from 1.
+    pub bracket: u16,
+    /// The cursor behind which the candidates begin.
+    pub from: Option<GivenCursor<'a>>,
+    /// How many candidates are wanted.
+    pub count: usize,
+    /// The number of rounds of the tournament, where the words name it.
+    pub rounds: Option<u8>,
+    /// The colour of an odd start rank where nothing else decides (C.04.3 E.5), where the words name it.
+    pub initial: Option<Colour>,
+    /// How many steps a bracket may take, and how many the enumeration may.
+    pub steps: u64,
+}
+
+/// The text of a cursor.
+#[derive(Debug, Drop)]
+pub struct GivenCursor<'a> {
+    text: &'a str,
+}
+
+impl<'a> Model for GivenCursor<'a> {
+    ghost use Rattle.std.specs.Prelude.{ℕ, List};
+
+    ghost Value = { List ℕ };
+
+    ghost view = { λ c. c.text.now };
+}
+
+impl<'a> GivenCursor<'a> {
+    /// The text.
+    pub fn as_str(&self) -> &'a str
+        ensures { result.now ≡ self.now }
+    {
+        self.text
+    }
+}
+
+/// Tells which texts are cursors.
+pub trait CursorSyntax {
+    ghost is_cursor: { List ℕ → Bool };
+
+    /// Whether a text is a cursor.
+    fn is_cursor(text: &str) -> bool
+        ensures { result ≡ is_cursor text.now };
+}
+
+/// The options of `check`.
+pub fn check_options(matches: &ArgMatches<'_>) -> CheckOptions
+    ensures { result ≡ check_options (rows_in matches.now) }
+{
+    CheckOptions {
+        notes: flag_in(matches, "notes"),
+    }
+}
+
+/// The options of `format`.
+pub fn format_options(matches: &ArgMatches<'_>) -> FormatOptions
+    ensures { result ≡ format_options (rows_in matches.now) }
+{
+    FormatOptions {
+        points: flag_in(matches, "points"),
+    }
+}
+
+/// The options of `pair`, or what is wrong with them.
+#[tactic(auto, unfolding(crate::specs::Options::pair_options))]
+pub fn pair_options(matches: &ArgMatches<'_>) -> Result<PairOptions, WordFault>
+    ensures { result ≡ pair_options (rows_in matches.now) }
+{
+    let initial = initial_in(matches)?;
+    let shown = shown_by(flag_in(matches, "report"), flag_in(matches, "names"))?;
+    Ok(PairOptions {
+        rounds: rounds_in(matches),
+        initial,
+        steps: steps_in(matches),
+        shown,
+    })
+}
+
+/// The options of `explain`, or the first thing that is wrong with them.
+#[tactic(auto, unfolding(crate::specs::Options::explain_options))]
+pub fn explain_options(matches: &ArgMatches<'_>) -> Result<ExplainOptions, WordFault>
+    ensures { result ≡ explain_options (rows_in matches.now) }
+{
+    let initial = initial_in(matches)?;
+    let question = question_by(player_in(matches), instead_in(matches))?;
+    Ok(ExplainOptions {
+        question,
+        rounds: rounds_in(matches),
+        initial,
+        steps: steps_in(matches),
+    })
+}
+
+/// The options of `standings`, or what is wrong with them.
+#[tactic(auto, unfolding(crate::specs::Options::standings_options))]
+pub fn standings_options(matches: &ArgMatches<'_>) -> Result<StandingsOptions, WordFault>
+    ensures { result ≡ standings_options (rows_in matches.now) }
+{
+    let keys = keys_by(text_in(matches, "by"))?;
+    let names = flag_in(matches, "names");
+    Ok(StandingsOptions { keys, names })
+}
+
+/// The options of `candidates`, or the first thing that is wrong with them.
+#[tactic(auto, unfolding(crate::specs::Options::candidates_options))]
+pub fn candidates_options<'a, S: CursorSyntax>(
+    matches: &ArgMatches<'a>,
+) -> Result<CandidatesOptions<'a>, WordFault>
+    ensures { result ≡ candidates_options S.is_cursor (rows_in matches.now) }
+{
+    let initial = initial_in(matches)?;
+    let from = from_in::<S>(matches)?;
+    Ok(CandidatesOptions {
+        bracket: bracket_in(matches),
+        from,
+        count: count_in(matches),
+        rounds: rounds_in(matches),
+        initial,
+        steps: steps_in(matches),
+    })
+}
+
+/// `--bye`: what the pairing-allocated bye gives, in half points. No words with one above 2 come here.
+pub fn bye_in(matches: &ArgMatches<'_>) -> u16
+    ensures { result ≡ bye_in (rows_in matches.now) }
+{
+    matches
+        .get_one::<u16>("bye")
+        .filter(|bye| *bye <= 2)
+        .unwrap_or(2)
+}
+
+// `--initial`: the colour of the higher-ranked of two players if nothing else decides and that player's start rank is
+// odd (C.04.3 E.5).
+fn initial_in(matches: &ArgMatches<'_>) -> Result<Option<Colour>, WordFault>
+    ensures { result ≡ initial_in (rows_in matches.now) }
+{
+    match text_in(matches, "initial") {
+        None => Ok(None),
+        Some("white") => Ok(Some(Colour::White)),
+        Some("black") => Ok(Some(Colour::Black)),
+        Some(_) => Err(WordFault::BadColour),
+    }
+}
+
+// `--player` and `--instead`: what is asked of a player.
+fn question_by(player: Option<u16>, instead: Option<u16>) -> Result<Option<Question>, WordFault>
+    ensures { result ≡ question_by player instead }
+{
+    match (player, instead) {
+        (None, None) => Ok(None),
+        (None, Some(_)) => Err(WordFault::InsteadAlone),
+        (Some(player), instead) => Ok(Some(Question { player, instead })),
+    }
+}
+
+// `--report` and `--names`: what is printed of a round.
+fn shown_by(report: bool, names: bool) -> Result<Shown, WordFault>
+    ensures { result ≡ shown_by report names }
+{
+    match (report, names) {
+        (false, false) => Ok(Shown::Boards),
+        (false, true) => Ok(Shown::Names),
+        (true, false) => Ok(Shown::Report),
+        (true, true) => Err(WordFault::NamesAndReport),
+    }
+}
+
+// `--by`: the keys of the standings.
+fn keys_by(text: Option<&str>) -> Result<Keys, WordFault>
+    ensures { result ≡ keys_by (option_map (λ t. t.now) text.entry) }
+{
+    let Some(list) = text else {
+        return Ok(Keys::usual());
+    };
+    match keys_in(list) {
+        Some(keys) => Ok(keys),
+        None => Err(WordFault::BadKeys),
+    }
+}
+
+// `--from`: the cursor behind which the candidates begin.
+fn from_in<'a, S: CursorSyntax>(
+    matches: &ArgMatches<'a>,
+) -> Result<Option<GivenCursor<'a>>, WordFault>
+    ensures { result ≡ from_in S.is_cursor (rows_in matches.now) }
+{
+    match text_in(matches, "from") {
+        None => Ok(None),
+        Some(text) if S::is_cursor(text) => Ok(Some(GivenCursor { text })),
+        Some(_) => Err(WordFault::BadCursor),
+    }
+}
+
+// `--player`: the player of whom it is asked.
+fn player_in(matches: &ArgMatches<'_>) -> Option<u16>
+    ensures { result ≡ player_in (rows_in matches.now) }
+{
+    matches.get_one::<u16>("player")
+}
+
+// `--instead`: whom the player might have met, 0 for the bye.
+fn instead_in(matches: &ArgMatches<'_>) -> Option<u16>
+    ensures { result ≡ instead_in (rows_in matches.now) }
+{
+    matches.get_one::<u16>("instead")
+}
+
+// `--bracket`: the number of the bracket. No words that leave it out come here.
+fn bracket_in(matches: &ArgMatches<'_>) -> u16
+    ensures { result ≡ bracket_in (rows_in matches.now) }
+{
+    matches.get_one::<u16>("bracket").unwrap_or(1)
+}
+
+// `--count`: how many candidates are wanted.
+fn count_in(matches: &ArgMatches<'_>) -> usize
+    ensures { result ≡ count_in (rows_in matches.now) }
+{
+    matches.get_one::<usize>("count").unwrap_or(100)
+}
+
+// `--rounds`: the number of rounds of the tournament. No words with a greater one come here.
+fn rounds_in(matches: &ArgMatches<'_>) -> Option<u8>
+    ensures { result ≡ rounds_in (rows_in matches.now) }
+{
+    matches
+        .get_one::<u8>("rounds")
+        .filter(|rounds| usize::from(*rounds) <= MOST_ROUNDS)
+}
+
+// `--steps`: how many steps a bracket may take.
+fn steps_in(matches: &ArgMatches<'_>) -> u64
+    ensures { result ≡ steps_in (rows_in matches.now) }
+{
+    matches.get_one::<u64>("steps").unwrap_or(10_000_000)
+}
+
+// Whether a flag is set.
+fn flag_in(matches: &ArgMatches<'_>, name: &str) -> bool
+    ensures { result ≡ flag_in name.now (rows_in matches.now) }
+{
+    matches!(text_in(matches, name), Some("true"))
+}
+
+// The text of an option.
+fn text_in<'a>(matches: &ArgMatches<'a>, name: &str) -> Option<&'a str>
+    ensures { option_map (λ t. t.now) result ≡ first_of name.now (rows_in matches.now) }
+{
+    matches.get_str(name)
+}

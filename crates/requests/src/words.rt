@@ -1,0 +1,309 @@
+// The words of the command line: which command they ask for, or what help or refusal they get.
+ghost use Rattle.std.specs.Prelude.{◌≡◌, ◌++◌, ◌∷◌, [], IfOk, map, false, codes};
+ghost use Rattle.clap.specs.declared.Command.{out-Command as fields_of};
+ghost use Rattle.clap.specs.Words.{App, app_of, kind_of, new_app, subcommand_rows_of, with_subcommand};
+ghost use Rattle.dutch_order.specs.Cursors.{has_syntax};
+ghost use Rattle.requests.specs.CommandLine.{IsSeenAs};
+ghost use Rattle.requests.specs.Options.{rows_in};
+ghost use Rattle.requests.specs.Words.{ComesTo, FitsKind, asked_by, candidates_request, explain_request, meant};
+ghost use Rattle.requests.specs.Words.{pair_request, request_of, standings_request, task_by, task_of, with_bye};
+ghost use Rattle.requests.specs.Words.{with_engine, with_next_round};
+ghost use Rattle.requests.specs.Words.{arbiter_app, check_app, format_app, settled, versioned};
+
+use crate::arguments;
+use crate::commands::{
+    Made, candidates_command, described, explain_command, pair_command, standings_command,
+    with_option, with_worth,
+};
+use crate::options::{
+    CandidatesOptions, CheckOptions, CursorSyntax, ExplainOptions, FormatOptions, PairOptions,
+    StandingsOptions, WordFault, bye_in, candidates_options, check_options, explain_options,
+    format_options, pair_options, standings_options,
+};
+use clap::error::ErrorKind;
+use clap::{ArgMatches, Command, Error};
+use dutch_order::Cursor;
+use std::alloc::{AllocError, Global};
+
+/// A command of the program, with its options.
+#[derive(Debug, Drop)]
+pub enum Request<'a> {
+    /// Tells whether a report is accepted.
+    Check(CheckOptions),
+    /// Writes a report in canonical columns.
+    Format(FormatOptions),
+    /// Pairs the next round.
+    Pair(PairOptions),
+    /// Lists candidates of a bracket.
+    Candidates(CandidatesOptions<'a>),
+    /// Tells why the next round is paired as it is.
+    Explain(ExplainOptions),
+    /// Ranks the players.
+    Standings(StandingsOptions),
+}
+
+/// A request, and what its report is read by.
+#[derive(Debug, Drop)]
+pub struct Task<'a> {
+    /// What is asked for.
+    pub request: Request<'a>,
+    /// What the pairing-allocated bye gives in the report, in half points: at most 2.
+    pub bye: u16,
+}
+
+/// What the words of a command line come to.
+#[derive(Debug, Drop)]
+pub enum Asked<'a> {
+    /// They ask for a command.
+    Command(Task<'a>),
+    /// They ask for help or the version, which is this text.
+    Help(String),
+    /// They are refused by clap, for the reason that the text gives.
+    Mistake(String),
+    /// They are refused for what an option says.
+    Refused(WordFault),
+}
+
+/// The words as `read_words` reads them: `help` in front of some words stands for `--help` behind them.
+///
+/// # Errors
+/// Memory was refused.
+pub fn meant<'a>(alloc: Global, words: &'a [&'a str]) -> Result<Vec<&'a str>, AllocError>
+    ensures { IfOk result (λ all. map (λ word. word.now) all.items ≡ meant (map (λ word. word.now) words.now)) }
+{
+    let Some((first, rest)) = words.split_first() else {
+        return Ok(Vec::new(alloc));
+    };
+    match *first {
+        "help" => with_help(alloc, rest),
+        _ => Vec::from_slice(alloc, words),
+    }
+}
+
+// Some words with `--help` behind them.
+fn with_help<'a>(alloc: Global, words: &'a [&'a str]) -> Result<Vec<&'a str>, AllocError>
+    ensures { IfOk result (λ all. map (λ word. word.now) all.items
+        ≡ map (λ word. word.now) words.now ++ codes "--help" ∷ []) }
+{
+    let mut all = Vec::from_slice(alloc, words)?;
+    all.push("--help")?;
+    Ok(all)
+}
+
+/// Reads the words after the program's name.
+pub fn read_words<'a>(alloc: Global, words: &'a [&'a str]) -> Result<Asked<'a>, AllocError>
+    ensures { IfOk result (ComesTo (map (λ word. word.now) words.now)) }
+{
+    match arbiter_command(alloc)?.try_get_matches_from(words) {
+        Ok(matches) => {
+            let Some(task) = task_in(&matches) else {
+                unreachable!();
+            };
+            Ok(asked_by(task))
+        }
+        Err(error) => told(alloc, &error),
+    }
+}
+
+// The task that clap's matches make, or what is wrong with its options.
+fn task_in<'a>(matches: &ArgMatches<'a>) -> Option<Result<Task<'a>, WordFault>>
+    ensures { result ≡ task_by (subcommand_rows_of matches.now) }
+{
+    match matches.subcommand() {
+        Some((name, options)) => task_of(name, options),
+        None => None,
+    }
+}
+
+// The task that a command and its options make, or what is wrong with them; none if there is no such command.
+fn task_of<'a>(name: &str, options: &ArgMatches<'a>) -> Option<Result<Task<'a>, WordFault>>
+    ensures { result ≡ task_of name.now (rows_in options.now) }
+{
+    match request_of(name, options) {
+        Some(request) => Some(with_bye(bye_in(options), request)),
+        None => None,
+    }
+}
+
+// A request over a report in which the pairing-allocated bye gives so many half points, or what is wrong with its
+// options.
+fn with_bye<'a>(bye: u16, request: Result<Request<'a>, WordFault>) -> Result<Task<'a>, WordFault>
+    ensures { result ≡ with_bye bye request.entry }
+{
+    match request {
+        Ok(request) => Ok(Task { request, bye }),
+        Err(fault) => Err(fault),
+    }
+}
+
+// The request that a command and its options make, or what is wrong with them; none if there is no such command.
+fn request_of<'a>(name: &str, options: &ArgMatches<'a>) -> Option<Result<Request<'a>, WordFault>>
+    ensures { result ≡ request_of name.now (rows_in options.now) }
+{
+    match name {
+        "check" => Some(Ok(Request::Check(check_options(options)))),
+        "format" => Some(Ok(Request::Format(format_options(options)))),
+        "pair" => Some(pair_request(options)),
+        "candidates" => Some(candidates_request(options)),
+        "explain" => Some(explain_request(options)),
+        "standings" => Some(standings_request(options)),
+        _ => None,
+    }
+}
+
+// The request of `pair`.
+#[tactic(auto, unfolding(crate::specs::Words::pair_request))]
+fn pair_request<'a>(options: &ArgMatches<'a>) -> Result<Request<'a>, WordFault>
+    ensures { result ≡ pair_request (rows_in options.now) }
+{
+    Ok(Request::Pair(pair_options(options)?))
+}
+
+// The request of `candidates`.
+#[tactic(auto, unfolding(crate::specs::Words::candidates_request))]
+fn candidates_request<'a>(options: &ArgMatches<'a>) -> Result<Request<'a>, WordFault>
+    ensures { result ≡ candidates_request (rows_in options.now) }
+{
+    Ok(Request::Candidates(candidates_options::<Cursor>(options)?))
+}
+
+// The request of `explain`.
+#[tactic(auto, unfolding(crate::specs::Words::explain_request))]
+fn explain_request<'a>(options: &ArgMatches<'a>) -> Result<Request<'a>, WordFault>
+    ensures { result ≡ explain_request (rows_in options.now) }
+{
+    Ok(Request::Explain(explain_options(options)?))
+}
+
+// The request of `standings`.
+#[tactic(auto, unfolding(crate::specs::Words::standings_request))]
+fn standings_request<'a>(options: &ArgMatches<'a>) -> Result<Request<'a>, WordFault>
+    ensures { result ≡ standings_request (rows_in options.now) }
+{
+    Ok(Request::Standings(standings_options(options)?))
+}
+
+impl CursorSyntax for Cursor {
+    ghost is_cursor = { has_syntax };
+
+    fn is_cursor(text: &str) -> bool {
+        Cursor::syntax(text)
+    }
+}
+
+// What a task comes to, or what is wrong with its options.
+fn asked_by<'a>(task: Result<Task<'a>, WordFault>) -> Asked<'a>
+    ensures { result ≡ asked_by task.entry }
+{
+    match task {
+        Ok(task) => Asked::Command(task),
+        Err(fault) => Asked::Refused(fault),
+    }
+}
+
+// What an error of clap's comes to.
+fn told<'a>(alloc: Global, error: &Error) -> Result<Asked<'a>, AllocError>
+    ensures { IfOk result (FitsKind (kind_of error.now)) }
+{
+    match error.kind() {
+        ErrorKind::OutOfMemory => Err(AllocError),
+        ErrorKind::DisplayHelp | ErrorKind::DisplayVersion => {
+            Ok(Asked::Help(error.to_string(alloc)?))
+        }
+        _ => Ok(Asked::Mistake(error.to_string(alloc)?)),
+    }
+}
+
+// The program's command line.
+fn arbiter_command<'a>(alloc: Global) -> Result<Command<'a>, AllocError>
+    ensures app { IfOk result (λ command. app_of command ≡ arbiter_app) }
+    ensures local { IfOk result (λ command. (fields_of command).has_globals ≡ false) }
+{
+    let command = with_settings(named(alloc)?);
+    let command = with_command(Ok(command), check_command(alloc));
+    let command = with_command(command, format_command(alloc));
+    with_engine(alloc, command)
+}
+
+// A program with the commands that ask the engine.
+fn with_engine<'a>(alloc: Global, command: Made<'a>) -> Made<'a>
+    ensures { (app : App) → IfOk command.entry (IsSeenAs app) → IfOk result (IsSeenAs (with_engine app)) }
+{
+    with_command(with_next_round(alloc, command), standings_command(alloc))
+}
+
+// A program with the commands on the next round.
+fn with_next_round<'a>(alloc: Global, command: Made<'a>) -> Made<'a>
+    ensures { (app : App) → IfOk command.entry (IsSeenAs app) → IfOk result (IsSeenAs (with_next_round app)) }
+{
+    let command = with_command(command, pair_command(alloc));
+    let command = with_command(command, candidates_command(alloc));
+    with_command(command, explain_command(alloc))
+}
+
+// A program with one more command.
+fn with_command<'a>(command: Made<'a>, more: Made<'a>) -> Made<'a>
+    ensures { (app below : App) → IfOk command.entry (IsSeenAs app) → IfOk more.entry (IsSeenAs below)
+        → IfOk result (IsSeenAs (with_subcommand app below.top)) }
+{
+    command?.subcommand(more?)
+}
+
+// The name and the texts of the program.
+#[tactic(auto, unfolding(crate::specs::Words::versioned))]
+fn named<'a>(alloc: Global) -> Result<Command<'a>, AllocError>
+    ensures app { IfOk result (λ command. app_of command ≡ versioned (new_app (codes "arbiter"))) }
+    ensures local { IfOk result (λ command. (fields_of command).has_globals ≡ false) }
+{
+    described(
+        alloc,
+        "arbiter",
+        "Pairs, explains, checks, rewrites and ranks a chess tournament whose report, in TRF16 columns, is read from standard input",
+        "The exit status is 0 where all is done, 1 where the report is refused, 2 where the words are, 3 where there is no pairing, 4 where the steps ended first, and 5 where a device failed or memory was refused.\n\nExample: arbiter pair < report.trf",
+    )
+    .version("1.1 (FIDE C.04.3, 2017; TRF16)")
+    .bin_name("arbiter")
+}
+
+// A command that takes all words as arguments, and wants a command among them.
+#[tactic(auto, unfolding(crate::specs::Words::settled))]
+fn with_settings<'a>(command: Command<'a>) -> Command<'a>
+    ensures app { app_of result ≡ settled (app_of command.entry) }
+    ensures local { (fields_of result).has_globals ≡ (fields_of command.entry).has_globals }
+{
+    command
+        .no_binary_name(true)
+        .disable_help_subcommand(true)
+        .subcommand_required(true)
+        .arg_required_else_help(true)
+}
+
+// The command `check`.
+fn check_command<'a>(alloc: Global) -> Result<Command<'a>, AllocError>
+    ensures app { IfOk result (λ command. app_of command ≡ check_app) }
+    ensures local { IfOk result (λ command. (fields_of command).has_globals ≡ false) }
+{
+    let command = described(
+        alloc,
+        "check",
+        "Tells how many players and rounds the report has, or why it is refused",
+        "The report is read from standard input. Printed are the numbers of its players and of the rounds that were paired; why it is refused goes to standard error.\n\nExample: arbiter check < report.trf",
+    );
+    let command = with_option(Ok(command), arguments::notes(alloc));
+    with_worth(alloc, command)
+}
+
+// The command `format`.
+fn format_command<'a>(alloc: Global) -> Result<Command<'a>, AllocError>
+    ensures app { IfOk result (λ command. app_of command ≡ format_app) }
+    ensures local { IfOk result (λ command. (fields_of command).has_globals ≡ false) }
+{
+    let command = described(
+        alloc,
+        "format",
+        "Writes the report in canonical columns, or tells why it is refused",
+        "The report is read from standard input. Printed is each player's line in TRF16's columns, and each other line as it stands.\n\nExample: arbiter format < report.trf > canonical.trf",
+    );
+    let command = with_option(Ok(command), arguments::points(alloc));
+    with_worth(alloc, command)
+}

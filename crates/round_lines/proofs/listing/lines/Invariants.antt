@@ -1,0 +1,18 @@
+use Rattle.std.proofs.Common.{◌≡◌, ◌≤◌, ◌-◌}
+use Rattle.std.specs.Prelude.{string_bytes}
+use Rattle.dutch_order.specs.Steps.{Spends}
+use Rattle.dutch_bracket.specs.Reached.{frame_of}
+use Rattle.round_lines.specs.CandidateTexts.{line_text}
+use Rattle.round_lines.proofs.ListingLemmas.{IsUnderway}
+use Rattle.round_lines.proofs.listing.lines.Given as goal
+
+abbrev pub invariant-loop-done : goal.invariant-loop-done
+invariant-loop-done g l = record {
+  underway : IsUnderway (line_text l.field l.reached) l.initial.coming.coming l.coming.coming l.done (string_bytes l.text);
+  frame : l.coming.frame ≡ frame_of l.field l.reached;
+  within : l.done ≤ l.count;
+  spends : Spends l.initial.budget l.budget;
+}
+
+abbrev pub decreases-loop-done : goal.decreases-loop-done
+decreases-loop-done g l = l.count - l.done

@@ -1,0 +1,9 @@
+use Rattle.std.proofs.Common.{◌≡◌, ◌+◌, ◌-◌}
+use Rattle.std.specs.List.{find}
+use Rattle.dutch_order.specs.Choices.{numbers_from}
+use Rattle.round_lines.specs.Obstacles.{first_meeting, has_played}
+use Rattle.round_lines.proofs.obstacle.first_meeting.Given as goal
+
+abbrev pub invariant-loop-round : goal.invariant-loop-round
+invariant-loop-round l =
+    find (has_played l.report l.one l.other) (numbers_from (l.round + 1) (l.rounds - l.round)) ≡ first_meeting l.report l.one l.other

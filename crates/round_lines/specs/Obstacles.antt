@@ -1,0 +1,42 @@
+-- What stands against a meeting in the next round, or against the bye, whatever is chosen in a bracket (C.04.3 C.1 to C.3).
+use Rattle.std.specs.Prelude.{ℕ, Bool, true, false, ◌==◌, if◌then◌else◌, List, [], ◌∷◌, Option, Some, None}
+use Rattle.std.specs.List.{find}
+use Rattle.std.specs.Option.{option_map_or}
+use Rattle.dutch_order.specs.Choices.{numbers_from}
+use Rattle.dutch_player.specs.Facts.{Facts, seat_at}
+use Rattle.dutch_player.specs.Histories.{opponent_played}
+use Rattle.dutch_player.specs.Meetings.{colours_allow}
+use Rattle.trf16.specs.Absence.{apart}
+use Rattle.trf16.specs.Sheet.{Sheet, cell_in, rounds_played}
+use Rattle.round_lines.specs.declared.obstacle.Obstacle.{Obstacle}
+use Rattle.round_lines.specs.declared.obstacle.Obstacle.TheVariants.{Met, Apart, Colours, HadBye, Even}
+
+-- C.1: one has played a game against the other in a round; a forfeit is none
+abbrev pub has_played : Sheet → ℕ → ℕ → ℕ → Bool
+has_played sheet one other round = option_map_or (λ start. start == other) (opponent_played (cell_in sheet one round)) false
+
+-- C.1: the first round in which they have played, from 1 on
+abbrev pub first_meeting : Sheet → ℕ → ℕ → Option ℕ
+first_meeting sheet one other = find (has_played sheet one other) (numbers_from 1 (rounds_played sheet))
+
+-- what is told of a first meeting, of a line XXP that names both, and of colours that allow it: the first that stands against it
+abbrev pub first_against : Option ℕ → Bool → Bool → Option Obstacle
+first_against (Some round) are_apart allow = Some (Met round)
+first_against None true allow = Some Apart
+first_against None false allow = if allow then None else Some Colours
+
+-- C.1, the lines XXP, C.3: what stands first against a meeting of two seats
+abbrev pub against_meeting : Sheet → Facts → ℕ → ℕ → Option Obstacle
+against_meeting sheet facts one other =
+    let first = (seat_at facts one).start in
+    let second = (seat_at facts other).start in
+    first_against (first_meeting sheet first second) (apart sheet first second) (colours_allow facts (seat_at facts one) (seat_at facts other))
+
+-- nobody has the bye
+abbrev pub is_even : List ℕ → Option Obstacle
+is_even [] = Some Even
+is_even (seat ∷ seats) = None
+
+-- C.2: what stands first against the bye of a seat, where these have it
+abbrev pub against_bye : Facts → List ℕ → ℕ → Option Obstacle
+against_bye facts bye seat = if (seat_at facts seat).may_bye then is_even bye else Some HadBye

@@ -1,0 +1,48 @@
+// The first line of a bracket, and the last line of a listing of its candidates.
+ghost use Rattle.std.specs.Prelude.{◌≡◌, ◌++◌, IfOk, codes, string_bytes};
+ghost use Rattle.std.specs.Fmt.{decimal};
+ghost use Rattle.round_lines.specs.Listings.{ending_text};
+ghost use Rattle.round_lines.specs.CandidateTexts.{bracket_text, kind_text};
+
+use crate::listing::Ending;
+use dutch_bracket::BracketKind;
+use dutch_order::Shape;
+use replies::texts;
+use std::alloc::{AllocError, Global};
+
+/// What a bracket is for the round.
+fn kind(kind: BracketKind) -> &'static str
+    ensures { result.now ≡ kind_text kind }
+{
+    match kind {
+        BracketKind::Ordinary => "ordinary",
+        BracketKind::Last => "last",
+        BracketKind::Penultimate => "penultimate",
+        BracketKind::Collapsed => "collapsed",
+    }
+}
+
+/// The bracket of a number: its kind, how many pairs it makes, and how many moved-down players are in them.
+#[tactic(auto, unfolding(crate::specs::CandidateTexts::bracket_text))]
+pub fn bracket(
+    alloc: Global,
+    number: u16,
+    of_kind: BracketKind,
+    shape: Shape,
+) -> Result<String, AllocError>
+    ensures { IfOk result (λ text. string_bytes text ≡ bracket_text number of_kind shape) }
+{
+    let (word, pairs, mdps) = (kind(of_kind), shape.pairs, shape.mdps);
+    format!(in alloc; "bracket {number} {word} pairs {pairs} mdps {mdps}\n")
+}
+
+/// The last line of a listing.
+pub fn ending(alloc: Global, number: u16, ending: Ending) -> Result<String, AllocError>
+    ensures { IfOk result (λ text. string_bytes text ≡ ending_text number ending) }
+{
+    match ending {
+        Ending::AtEnd => String::from_str(alloc, "end\n"),
+        Ending::AtCount => String::from_str(alloc, "more\n"),
+        Ending::Stopped { used } => texts::undecided(alloc, number, used),
+    }
+}

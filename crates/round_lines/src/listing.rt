@@ -1,0 +1,203 @@
+// The lines of candidates, as many as are asked for, one after the other.
+ghost use Rattle.std.specs.Prelude.{◌≡◌, ◌++◌, ◌∷◌, [], IfOk, OnOk, string_bytes};
+ghost use Rattle.std.specs.List.{flat_map};
+ghost use Rattle.std.specs.Fmt.{decimal};
+ghost use Rattle.std.specs.Prelude.{codes};
+ghost use Rattle.dutch_order.specs.Steps.{Spends};
+ghost use Rattle.dutch_bracket.specs.Reached.{IsOf, frame_of};
+ghost use Rattle.round_lines.specs.Listings.{IsListing, StopsAtLimit, ending_text, status_of};
+ghost use Rattle.round_lines.specs.CandidateTexts.{down_text, candidate_text, line_text, pair_text, pairs_text};
+ghost use Rattle.round_lines.specs.CandidateTexts.{start_of};
+
+use dutch_bracket::Reached;
+use dutch_order::{Budget, Candidate, Candidates, Rule, Step};
+use dutch_player::Field;
+use replies::Status;
+use std::alloc::{AllocError, Global};
+
+/// How a listing ended.
+#[derive(Debug, Clone, Copy, PartialEq, Eq)]
+pub enum Ending {
+    /// No candidate is left.
+    AtEnd,
+    /// As many came as were asked for.
+    AtCount,
+    /// The limit of steps, which is `used`, was reached first.
+    Stopped { used: u64 },
+}
+
+impl Ending {
+    /// The status of a listing that ended so.
+    pub fn status(self) -> Status
+        ensures { result ≡ status_of self }
+    {
+        match self {
+            Ending::AtEnd | Ending::AtCount => Status::Done,
+            Ending::Stopped { .. } => Status::Undecided,
+        }
+    }
+}
+
+/// Lines of candidates, and how they ended.
+#[derive(Drop)]
+pub struct Listed {
+    pub text: String,
+    pub ending: Ending,
+}
+
+/// The lines of the next `count` candidates, or of fewer if no more are left or all steps of the budget are used up
+/// before.
+#[tactic(auto, using(crate::proofs::ListingLemmas::underway_none, crate::proofs::ListingLemmas::underway_line, crate::proofs::ListingLemmas::underway_end, crate::proofs::ListingLemmas::underway_stopped, crate::proofs::ListingLemmas::underway_count))]
+pub fn lines<R: Rule>(
+    alloc: Global,
+    field: &Field,
+    reached: &Reached,
+    mut coming: Candidates<'_, R>,
+    count: usize,
+    budget: &mut Budget,
+) -> Result<Listed, AllocError>
+    requires of { IsOf field.now reached.now }
+    requires frame { coming.frame ≡ frame_of field.now reached.now }
+    ensures listing { IfOk result (λ listed.
+        IsListing (line_text field.now reached.now) coming.entry.coming count budget.old.limit listed.ending
+        (string_bytes listed.text)) }
+    ensures stopped { IfOk result (λ listed. StopsAtLimit listed.ending budget.new) }
+    ensures spends { Spends budget.old budget.new }
+{
+    let mut text = String::new(alloc);
+    let mut done = 0;
+    while done < count {
+        match coming.next(budget) {
+            Step::Found(candidate) => put_line(alloc, &mut text, field, reached, &candidate)?,
+            Step::End => {
+                let ending = Ending::AtEnd;
+                return Ok(Listed { text, ending });
+            }
+            Step::Undecided => {
+                let ending = Ending::Stopped { used: budget.used };
+                return Ok(Listed { text, ending });
+            }
+        }
+        done += 1;
+    }
+    let ending = Ending::AtCount;
+    Ok(Listed { text, ending })
+}
+
+/// Puts the line of a candidate: its cursor, its pairs, and its downfloaters.
+#[tactic(auto, unfolding(crate::specs::CandidateTexts::candidate_text))]
+pub fn put_line(
+    alloc: Global,
+    text: &mut String,
+    field: &Field,
+    reached: &Reached,
+    candidate: &Candidate,
+) -> Result<(), AllocError>
+    requires { IsOf field.now reached.now }
+    ensures { OnOk result (string_bytes text.new
+        ≡ string_bytes text.old ++ candidate_text field.now reached.now candidate.now) }
+{
+    text.push_str(candidate.cursor().print().as_str())?;
+    put_pairs(alloc, text, field, reached, candidate.s1(), candidate.s2())?;
+    put_pairs(
+        alloc,
+        text,
+        field,
+        reached,
+        candidate.s1r(),
+        candidate.s2r(),
+    )?;
+    put_down(alloc, text, field, reached, candidate.down())?;
+    text.push_str("\n")
+}
+
+// Puts the pairs of two lists, place by place.
+#[tactic(auto, using(crate::proofs::ListingLemmas::pairs_end))]
+fn put_pairs(
+    alloc: Global,
+    text: &mut String,
+    field: &Field,
+    reached: &Reached,
+    firsts: &[u16],
+    seconds: &[u16],
+) -> Result<(), AllocError>
+    requires { IsOf field.now reached.now }
+    ensures { OnOk result (string_bytes text.new
+        ≡ string_bytes text.old ++ pairs_text field.now reached.now firsts.now seconds.now) }
+{
+    for (i, first) in firsts.iter().enumerate() {
+        if seconds.len() <= i {
+            return Ok(());
+        }
+        put_pair(alloc, text, field, reached, *first, seconds[i])?;
+    }
+    Ok(())
+}
+
+// Puts two who are paired.
+fn put_pair(
+    alloc: Global,
+    text: &mut String,
+    field: &Field,
+    reached: &Reached,
+    first: u16,
+    second: u16,
+) -> Result<(), AllocError>
+    requires { IsOf field.now reached.now }
+    ensures { OnOk result (string_bytes text.new
+        ≡ string_bytes text.old ++ pair_text field.now reached.now first second) }
+{
+    let first = start_of(field, reached, first);
+    let second = start_of(field, reached, second);
+    let pair = format!(in alloc; " {first}-{second}")?;
+    text.push_str(pair.as_str())
+}
+
+// Puts those who are left over.
+fn put_down(
+    alloc: Global,
+    text: &mut String,
+    field: &Field,
+    reached: &Reached,
+    down: &[u16],
+) -> Result<(), AllocError>
+    requires { IsOf field.now reached.now }
+    ensures { OnOk result (string_bytes text.new ≡ string_bytes text.old ++ down_text field.now reached.now down.now) }
+{
+    if down.is_empty() {
+        return Ok(());
+    }
+    text.push_str(" down")?;
+    put_each(alloc, text, field, reached, down)
+}
+
+// Puts players with a blank before each.
+fn put_each(
+    alloc: Global,
+    text: &mut String,
+    field: &Field,
+    reached: &Reached,
+    numbers: &[u16],
+) -> Result<(), AllocError>
+    requires { IsOf field.now reached.now }
+    ensures { OnOk result (string_bytes text.new ≡ string_bytes text.old
+        ++ flat_map (λ n. codes " " ++ decimal (start_of field.now reached.now n)) numbers.now) }
+{
+    for number in numbers {
+        let start = start_of(field, reached, *number);
+        let player = format!(in alloc; " {start}")?;
+        text.push_str(player.as_str())?;
+    }
+    Ok(())
+}
+
+// The start rank of a number of a bracket; 0 for a number that is none of its.
+fn start_of(field: &Field, reached: &Reached, number: u16) -> u16
+    requires { IsOf field.now reached.now }
+    ensures { result ≡ start_of field.now reached.now number }
+{
+    if !reached.has(number) {
+        return 0;
+    }
+    field.start_rank(reached.seat(number))
+}

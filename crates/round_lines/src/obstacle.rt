@@ -1,0 +1,83 @@
+// What stands against a meeting in the next round, or against the bye, whatever is chosen in a bracket (C.04.3 C.1 to
+// C.3).
+ghost use Rattle.std.specs.Prelude.{◌≡◌, ◌<◌, length};
+ghost use Rattle.round_lines.specs.Obstacles.{against_bye, against_meeting, first_meeting, has_played};
+
+use dutch_player::{Field, opponent_played};
+use trf16::Report;
+
+/// Why a player does not meet another one in the next round, or does not have the bye, whatever is chosen in a bracket.
+#[derive(Debug, Clone, Copy, PartialEq, Eq)]
+pub enum Obstacle {
+    /// One of the two is absent.
+    Absent,
+    /// They have met, in this round for the first time (C.1).
+    Met { round: u8 },
+    /// A line `XXP` keeps them apart.
+    Apart,
+    /// Both have absolute preferences for one colour, and neither is a topscorer (C.3).
+    Colours,
+    /// The player may not have the bye (C.2).
+    HadBye,
+    /// Nobody has the bye.
+    Even,
+}
+
+// Whether one has played a game against the other in a round.
+fn has_played(report: &Report<'_>, one: u16, other: u16, round: u8) -> bool
+    requires { 0 < round }
+    ensures { result ≡ has_played report.now one other round }
+{
+    match opponent_played(&report.cell(one, round)) {
+        Some(start) => start == other,
+        None => false,
+    }
+}
+
+// The first round in which they have played.
+#[tactic(auto, using(crate::proofs::ObstacleLemmas::passed, crate::proofs::ObstacleLemmas::found, crate::proofs::ObstacleLemmas::none))]
+fn first_meeting(report: &Report<'_>, one: u16, other: u16) -> Option<u8>
+    ensures { result ≡ first_meeting report.now one other }
+{
+    let rounds = report.rounds_played();
+    for round in 0..rounds {
+        if has_played(report, one, other, round + 1) {
+            return Some(round + 1);
+        }
+    }
+    None
+}
+
+/// What stands first against a meeting of two seats: a game (C.1), a line `XXP`, their colours (C.3).
+pub fn against_meeting(report: &Report<'_>, field: &Field, one: u16, other: u16) -> Option<Obstacle>
+    requires first { one < length field.now.seats }
+    requires second { other < length field.now.seats }
+    ensures { result ≡ against_meeting report.now field.now one other }
+{
+    let (first, second) = (field.start_rank(one), field.start_rank(other));
+    if let Some(round) = first_meeting(report, first, second) {
+        return Some(Obstacle::Met { round });
+    }
+    if report.apart(first, second) {
+        return Some(Obstacle::Apart);
+    }
+    if field.colours_allow(one, other) {
+        None
+    } else {
+        Some(Obstacle::Colours)
+    }
+}
+
+/// What stands first against the bye of a seat, if these have it: C.2, or that nobody has it.
+pub fn against_bye(field: &Field, bye: &[u16], seat: u16) -> Option<Obstacle>
+    requires { seat < length field.now.seats }
+    ensures { result ≡ against_bye field.now bye.now seat }
+{
+    if !field.may_bye(seat) {
+        return Some(Obstacle::HadBye);
+    }
+    if bye.is_empty() {
+        return Some(Obstacle::Even);
+    }
+    None
+}

@@ -1,0 +1,288 @@
+// The line of a player: what they bring to the next round.
+ghost use Rattle.std.specs.Prelude.{◌≡◌, ◌<◌, ◌++◌, IfOk, OnOk, codes, length, string_bytes};
+ghost use Rattle.std.specs.List.{flat_map};
+ghost use Rattle.std.specs.Fmt.{decimal};
+ghost use Rattle.dutch_player.specs.Facts.{seat_at};
+ghost use Rattle.dutch_player.specs.Preferences.{difference as difference_of};
+ghost use Rattle.trf16.specs.Sheet.{rounds_played};
+ghost use Rattle.round_lines.specs.PlayerTexts.{absent_text, ascending, colour_text, colours_text, difference_text};
+ghost use Rattle.round_lines.specs.PlayerTexts.{float_text, floats_text, game_text, games_text, history_text};
+ghost use Rattle.round_lines.specs.PlayerTexts.{met_text, placed, player_text, preference_text, rights_text};
+ghost use Rattle.round_lines.specs.PlayerTexts.{score_text, strength_text, wish_text, yes_text};
+
+use dutch_player::{Field, Float, Pref, Strength, colour_played};
+use replies::texts::halves;
+use std::alloc::{AllocError, Global};
+use trf16::{Colour, Report};
+
+/// Puts the line of a present player of a report: their score, the colours of their games round by round, what these
+/// come to (A.6), their floats in the last round and in the one before it (A.4), whom they have met (C.1), and whether
+/// they are a topscorer (A.7) and may have the bye (C.2).
+///
+/// # Errors
+/// Memory was refused.
+#[tactic(auto, unfolding(crate::specs::PlayerTexts::player_text))]
+pub fn put_player(
+    alloc: Global,
+    text: &mut String,
+    report: &Report<'_>,
+    field: &Field,
+    seat: u16,
+) -> Result<(), AllocError>
+    requires { seat < length field.now.seats }
+    ensures { OnOk result (string_bytes text.new ≡ string_bytes text.old ++ player_text report.now field.now seat) }
+{
+    put_history(alloc, text, report, field, seat)?;
+    put_floats(text, field, seat)?;
+    text.push_str(" met")?;
+    put_met(alloc, text, field.opponents(seat))?;
+    put_rights(text, field, seat)
+}
+
+// Puts a player's score and colours.
+#[tactic(auto, unfolding(crate::specs::PlayerTexts::history_text))]
+fn put_history(
+    alloc: Global,
+    text: &mut String,
+    report: &Report<'_>,
+    field: &Field,
+    seat: u16,
+) -> Result<(), AllocError>
+    requires { seat < length field.now.seats }
+    ensures { OnOk result (string_bytes text.new
+        ≡ string_bytes text.old ++ history_text report.now (seat_at field.now seat)) }
+{
+    put_score(alloc, text, field, seat)?;
+    text.push_str(" colours")?;
+    put_colours(text, report, field.start_rank(seat))?;
+    put_wish(alloc, text, field, seat)
+}
+
+/// Puts the line of a player who is absent.
+///
+/// # Errors
+/// Memory was refused.
+pub fn put_absent(alloc: Global, text: &mut String, start: u16) -> Result<(), AllocError>
+    ensures { OnOk result (string_bytes text.new ≡ string_bytes text.old ++ absent_text start) }
+{
+    let line = format!(in alloc; "player {start} absent\n")?;
+    text.push_str(line.as_str())
+}
+
+// Puts who a player is, and their score.
+#[tactic(auto, unfolding(crate::specs::PlayerTexts::score_text))]
+fn put_score(alloc: Global, text: &mut String, field: &Field, seat: u16) -> Result<(), AllocError>
+    requires { seat < length field.now.seats }
+    ensures { OnOk result (string_bytes text.new ≡ string_bytes text.old ++ score_text (seat_at field.now seat)) }
+{
+    let start = field.start_rank(seat);
+    let score = halves(alloc, u32::from(field.score(seat)))?;
+    let score = score.as_str();
+    let front = format!(in alloc; "player {start} score {score}")?;
+    text.push_str(front.as_str())
+}
+
+// The colour of a game that was played.
+fn game(colour: Option<Colour>) -> &'static str
+    ensures { result.now ≡ game_text colour }
+{
+    match colour {
+        Some(Colour::White) => " w",
+        Some(Colour::Black) => " b",
+        None => " .",
+    }
+}
+
+// Puts the colours of a player's games, round by round.
+fn put_games(
+    text: &mut String,
+    report: &Report<'_>,
+    start: u16,
+    rounds: u8,
+) -> Result<(), AllocError>
+    ensures { OnOk result (string_bytes text.new ≡ string_bytes text.old ++ games_text report.now start rounds) }
+{
+    for round in 0..rounds {
+        let cell = report.cell(start, round + 1);
+        text.push_str(game(colour_played(&cell)))?;
+    }
+    Ok(())
+}
+
+// Puts the same, or a dash where no round was paired.
+fn put_colours(text: &mut String, report: &Report<'_>, start: u16) -> Result<(), AllocError>
+    ensures { OnOk result (string_bytes text.new
+        ≡ string_bytes text.old ++ colours_text report.now start (rounds_played report.now)) }
+{
+    let rounds = report.rounds_played();
+    if rounds == 0 {
+        return text.push_str(" -");
+    }
+    put_games(text, report, start, rounds)
+}
+
+// A colour difference, with its sign.
+fn difference(alloc: Global, games: i16) -> Result<String, AllocError>
+    ensures { IfOk result (λ text. string_bytes text ≡ difference_text games) }
+{
+    if 0 < games {
+        format!(in alloc; "+{games}")
+    } else {
+        format!(in alloc; "{games}")
+    }
+}
+
+fn strength(kind: Strength) -> &'static str
+    ensures { result.now ≡ strength_text kind }
+{
+    match kind {
+        Strength::Absolute => "absolute",
+        Strength::Strong => "strong",
+        Strength::Mild => "mild",
+    }
+}
+
+fn colour(colour: Colour) -> &'static str
+    ensures { result.now ≡ colour_text colour }
+{
+    match colour {
+        Colour::White => "white",
+        Colour::Black => "black",
+    }
+}
+
+// Puts a preference.
+fn put_preference(text: &mut String, preference: Option<Pref>) -> Result<(), AllocError>
+    ensures { OnOk result (string_bytes text.new ≡ string_bytes text.old ++ preference_text preference) }
+{
+    let Some(wish) = preference else {
+        return text.push_str("none");
+    };
+    text.push_str(strength(wish.strength))?;
+    text.push_str(" ")?;
+    text.push_str(colour(wish.colour))
+}
+
+// Puts a player's colour difference.
+fn put_difference(
+    alloc: Global,
+    text: &mut String,
+    field: &Field,
+    seat: u16,
+) -> Result<(), AllocError>
+    requires { seat < length field.now.seats }
+    ensures { OnOk result (string_bytes text.new
+        ≡ string_bytes text.old ++ difference_text (difference_of (seat_at field.now seat).played)) }
+{
+    let games = difference(alloc, field.difference(seat))?;
+    text.push_str(games.as_str())
+}
+
+// Puts what a player's colours come to.
+#[tactic(auto, unfolding(crate::specs::PlayerTexts::wish_text))]
+fn put_wish(alloc: Global, text: &mut String, field: &Field, seat: u16) -> Result<(), AllocError>
+    requires { seat < length field.now.seats }
+    ensures { OnOk result (string_bytes text.new ≡ string_bytes text.old ++ wish_text (seat_at field.now seat)) }
+{
+    text.push_str(" difference ")?;
+    put_difference(alloc, text, field, seat)?;
+    text.push_str(" prefers ")?;
+    put_preference(text, field.preference(seat))
+}
+
+fn float(float: Option<Float>) -> &'static str
+    ensures { result.now ≡ float_text float }
+{
+    match float {
+        Some(Float::Up) => "up",
+        Some(Float::Down) => "down",
+        None => "none",
+    }
+}
+
+// Puts a player's floats in the last two rounds.
+#[tactic(auto, unfolding(crate::specs::PlayerTexts::floats_text))]
+fn put_floats(text: &mut String, field: &Field, seat: u16) -> Result<(), AllocError>
+    requires { seat < length field.now.seats }
+    ensures { OnOk result (string_bytes text.new ≡ string_bytes text.old ++ floats_text (seat_at field.now seat)) }
+{
+    text.push_str(" floats ")?;
+    text.push_str(float(field.float(seat, 1)))?;
+    text.push_str(" ")?;
+    text.push_str(float(field.float(seat, 2)))
+}
+
+// Puts a number to its place among ascending ones, where it does not stand among them.
+#[tactic(auto, using(crate::proofs::PlayerLemmas::along_more, crate::proofs::PlayerLemmas::along_same, crate::proofs::PlayerLemmas::along_stop, crate::proofs::PlayerLemmas::along_end))]
+fn place(numbers: &mut Vec<u16>, number: u16) -> Result<(), AllocError>
+    ensures { OnOk result (numbers.new.items ≡ placed number numbers.old.items) }
+{
+    for at in 0..numbers.len() {
+        let other = numbers[at];
+        if number == other {
+            return Ok(());
+        }
+        if number < other {
+            numbers.insert(at, number)?;
+            return Ok(());
+        }
+    }
+    numbers.push(number)?;
+    Ok(())
+}
+
+// Some numbers, ascending and each once, put to their places from the last one on.
+fn ascending(alloc: Global, numbers: &[u16]) -> Result<Vec<u16>, AllocError>
+    ensures { IfOk result (λ all. all.items ≡ ascending numbers.now) }
+{
+    let [first, others @ ..] = numbers else {
+        return Ok(Vec::new(alloc));
+    };
+    let mut all = ascending(alloc, others)?;
+    place(&mut all, *first)?;
+    Ok(all)
+}
+
+// Puts start ranks with a blank before each.
+fn put_each(alloc: Global, text: &mut String, starts: &[u16]) -> Result<(), AllocError>
+    ensures { OnOk result (string_bytes text.new
+        ≡ string_bytes text.old ++ flat_map (λ start. codes " " ++ decimal start) starts.now) }
+{
+    for start in starts {
+        let one = *start;
+        let player = format!(in alloc; " {one}")?;
+        text.push_str(player.as_str())?;
+    }
+    Ok(())
+}
+
+// Puts those whom a player has met.
+fn put_met(alloc: Global, text: &mut String, opponents: &[u16]) -> Result<(), AllocError>
+    ensures { OnOk result (string_bytes text.new ≡ string_bytes text.old ++ met_text opponents.now) }
+{
+    if opponents.is_empty() {
+        return text.push_str(" -");
+    }
+    let met = ascending(alloc, opponents)?;
+    put_each(alloc, text, met.as_slice())
+}
+
+fn yes(holds: bool) -> &'static str
+    ensures { result.now ≡ yes_text holds }
+{
+    if holds { "yes" } else { "no" }
+}
+
+// Puts whether a player is a topscorer, and whether they may have the bye.
+#[tactic(auto, unfolding(crate::specs::PlayerTexts::rights_text))]
+fn put_rights(text: &mut String, field: &Field, seat: u16) -> Result<(), AllocError>
+    requires { seat < length field.now.seats }
+    ensures { OnOk result (string_bytes text.new
+        ≡ string_bytes text.old ++ rights_text field.now (seat_at field.now seat)) }
+{
+    text.push_str(" topscorer ")?;
+    text.push_str(yes(field.topscorer(seat)))?;
+    text.push_str(" bye ")?;
+    text.push_str(yes(field.may_bye(seat)))?;
+    text.push_str("\n")
+}
