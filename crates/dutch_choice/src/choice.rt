@@ -1,5 +1,5 @@
 // The choice in a bracket (C.04.3 B.8): its shape, and the first candidate of it that none is better than.
-ghost use Rattle.std.specs.Prelude.{◌≡◌, ◌≤◌, ◌∷◌, [], true, false, Some, None, List, IfOk, IfSome};
+ghost use Rattle.std.specs.Prelude.{◌≡◌, ◌<◌, ◌≤◌, ◌∷◌, [], true, false, Some, None, List, IfOk, IfSome};
 ghost use Rattle.std.specs.Result.{MatchResult};
 ghost use Rattle.dutch_order.specs.Arrangements.{Arrangement, Fits, down};
 ghost use Rattle.dutch_order.specs.Steps.{MatchDrawn, MatchFound, MatchStep, Spends};
@@ -40,6 +40,9 @@ use std::mem::take;
 
 /// A pass is told more so many times at most.
 const MOST_TURNS: u32 = u32::MAX;
+
+/// Behind the few steps that come first, a step counts once more for each so many pairs of the shape.
+const PAIRS_FOR_A_STEP: usize = 64;
 
 /// The pairs of brackets with more players are not weighed.
 const MOST_WEIGHED: usize = 400;
@@ -157,10 +160,21 @@ fn draw_once<'a>(
         .put_next_within(&skipper, &mut judge.room, &mut lister.drawn, budget)
 }
 
+/// For how many steps each one of a pass counts: for one alone in the few steps that come first, and behind them for
+/// the more, the more pairs the questions look at that it asks.
+fn price(pass: &Pass<'_>) -> u64
+    ensures { 0 < result }
+{
+    if pass.is_long {
+        1 + (pass.shape.pairs / PAIRS_FOR_A_STEP) as u64
+    } else {
+        1
+    }
+}
+
 /// The steps of a turn: all that are left, or so many that it is worth while to be told more behind them.
-fn turn(weights: &Option<WeightFloors<'_>>, budget: &Budget) -> Budget
-    ensures used { result.used ≡ budget.now.used }
-    ensures limit { result.limit ≤ budget.now.limit }
+fn turn(pass: &Pass<'_>, weights: &Option<WeightFloors<'_>>, budget: &Budget) -> Budget
+    ensures { result.used ≡ 0 }
 {
     let left = budget.limit - budget.used;
     let steps = match weights {
@@ -168,9 +182,17 @@ fn turn(weights: &Option<WeightFloors<'_>>, budget: &Budget) -> Budget
         None => left,
     };
     Budget {
-        used: budget.used,
-        limit: budget.used + steps,
+        used: 0,
+        limit: steps / price(pass),
     }
+}
+
+/// Counts the steps of a turn.
+fn count(pass: &Pass<'_>, turn: &Budget, budget: &mut Budget)
+    ensures { Spends budget.old budget.new }
+{
+    let steps = turn.used.saturating_mul(price(pass));
+    budget.used = budget.used.saturating_add(steps).min(budget.limit);
 }
 
 /// Behind a turn, where steps are left: tells the walk more, if floors are kept.
@@ -180,7 +202,8 @@ fn go_on(sought: Sought<'_, '_>, judge: &mut Judge<'_>, budget: &mut Budget) -> 
     ensures weights { judge.new.weights ≡ judge.old.weights }
     ensures spends { Spends budget.old budget.new }
 {
-    if budget.used == budget.limit {
+    if budget.limit - budget.used < price(sought.pass) {
+        budget.used = budget.limit;
         return Err(Stopped);
     }
     let bars = bars_of(sought.pass, sought.kept, &judge.weights);
@@ -221,9 +244,9 @@ fn draw<'a>(
     ensures spends { Spends budget.old budget.new }
 {
     for _ in 0..MOST_TURNS {
-        let mut turn = turn(&judge.weights, budget);
+        let mut turn = turn(sought.pass, &judge.weights, budget);
         let step = draw_once(sought, lister, judge, &mut turn);
-        budget.used = turn.used;
+        count(sought.pass, &turn, budget);
         match step {
             Step::Found(()) => return Ok(true),
             Step::End => return Ok(false),
@@ -453,6 +476,7 @@ fn best_by_weight<'a>(
     ensures spends { Spends budget.old budget.new }
 {
     let left = budget.limit - budget.used;
+    pass.is_long = true;
     // (weights are large: those of before go first)
     judge.weights = None;
     let weighed = weigh(pass, next, &mut judge.room, budget)?;
@@ -557,6 +581,7 @@ pub fn best_of<'a>(
         shape,
         wish,
         aim: floors.aim(known),
+        is_long: false,
         floors,
     };
     match best_in_time(&mut pass, &mut judge, budget) {

@@ -44,6 +44,8 @@ pub(crate) struct Pass<'a> {
     pub shape: Shape,
     pub wish: Option<Wish>,
     pub(crate) aim: Option<Quality>,
+    /// The few steps that come first did not suffice.
+    pub(crate) is_long: bool,
     pub(crate) floors: Floors<'a>,
     ghost fits: { Fits (frame_of context.now.facts context.now.reached) shape },
     ghost basis: { IsBasis context.now.facts context.now.reached context.now.lower shape floors },

@@ -1,5 +1,5 @@
 // How many players miss their colour preference at least, by the pairs that are fixed (C.04.3 C.10, C.11).
-ghost use Rattle.std.specs.Prelude.{◌≡◌, ◌+◌, ◌*◌, ◌<◌, ◌≤◌, length, sum_by};
+ghost use Rattle.std.specs.Prelude.{◌≡◌, ◌+◌, ◌-◌, ◌*◌, ◌<◌, ◌≤◌, length, sum_by};
 ghost use Rattle.dutch_order.specs.declared.numbers.TheConstants.{LIMIT};
 ghost use Rattle.dutch_bracket.specs.declared.colours_missed.Miss.TheVariants.{Preference, StrongPreference};
 ghost use Rattle.dutch_bracket.specs.Quality.{misses, count_in, count_in_pairs};
@@ -18,6 +18,13 @@ use trf16::Colour;
 struct Want {
     colour: Colour,
     firm: bool,
+}
+
+/// So many players whose preference is counted.
+#[derive(Clone, Copy)]
+struct Wanted {
+    want: Want,
+    count: usize,
 }
 
 /// How many of a bracket's players want White and how many Black: all whose preference it is, or only those whose is
@@ -111,6 +118,25 @@ fn served(context: &Context<'_>, shape: Shape, known: &Seated) -> usize
     to_make + to_leave.saturating_sub(known.down.len())
 }
 
+/// How many of so many players who are counted can be served neither in known pairs nor beside them. (Where all could
+/// be served beside them, nobody is looked at.)
+fn surplus(context: &Context<'_>, shape: Shape, known: &Seated, wanted: Wanted) -> usize
+    requires inside { HasSeats context.now.facts known.now }
+    requires small { shape.pairs ≤ LIMIT }
+    ensures { let w = wanting wanted.want.firm context.now.facts wanted.want.colour in result
+        ≡ ((wanted.count - sum_by (in_both w) known.now.pairs) - sum_by w known.now.down)
+        - served_in context.now.reached shape known.now }
+{
+    let served = served(context, shape, known);
+    if wanted.count <= served {
+        return 0;
+    }
+    wanted
+        .count
+        .saturating_sub(in_known(context, known, wanted.want))
+        .saturating_sub(served)
+}
+
 /// How many players miss their preference beside those in the pairs that are known (C.10), by how many of the bracket's
 /// players want each colour; or only firm preferences (C.11).
 pub(crate) fn more_missed(
@@ -125,20 +151,21 @@ pub(crate) fn more_missed(
     ensures value { result ≡ more_in wants.firm context.now.facts context.now.reached shape known.now }
     ensures few { result ≤ LIMIT }
 {
-    let white = Want {
-        colour: Colour::White,
-        firm: wants.firm,
+    let white = Wanted {
+        want: Want {
+            colour: Colour::White,
+            firm: wants.firm,
+        },
+        count: wants.white,
     };
-    let black = Want {
-        colour: Colour::Black,
-        firm: wants.firm,
+    let black = Wanted {
+        want: Want {
+            colour: Colour::Black,
+            firm: wants.firm,
+        },
+        count: wants.black,
     };
-    let served = served(context, shape, known);
-    let free_white = wants.white.saturating_sub(in_known(context, known, white));
-    let free_black = wants.black.saturating_sub(in_known(context, known, black));
-    free_white
-        .saturating_sub(served)
-        .max(free_black.saturating_sub(served))
+    surplus(context, shape, known, white).max(surplus(context, shape, known, black))
 }
 
 /// How many players of pairs miss their preference (C.10).
