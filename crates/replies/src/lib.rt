@@ -1,9 +1,10 @@
-//! What is answered where nobody is paired: a status, a text, and perhaps a note. Specified by answers, which are these three, and by how
-//! an answer stands on the standard streams.
+//! What is answered where nobody is paired: a status, a text, and perhaps a note. Specified by answers, which are these
+//! three, and by how an answer stands on the standard streams.
 //!
-//! `read_input` reads what a source has, in a counted number of calls. `check::check`, `format::format` and `standings::standings` answer
-//! to the bytes of a report. `refusal` has the answers that several commands have, `texts` the lines of the program's own, and `wall`
-//! boards and standings with names. `Reply::write` writes a reply where its status says.
+//! `read_input` reads what a source has, in a counted number of calls. `check::check`, `format::format` and
+//! `standings::standings` answer to the bytes of a report. `refusal` has the answers that several commands have,
+//! `texts` the lines of the program's own, and `wall` boards and standings with names. `Reply::write` writes a reply
+//! where its status says.
 //!
 //! To mind: a text is made whole in memory before a byte of it is written, and if memory is refused, a call says so.
 #![tactic(auto)]

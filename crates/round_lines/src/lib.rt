@@ -1,9 +1,10 @@
-//! Lines on what a round is paired from and chosen from, as text for people: a bracket, its candidates, the items of a quality, a player,
-//! and what stands against a meeting or a bye whatever is chosen. Specified by the texts, and by the first candidates to come.
+//! Lines on what a round is paired from and chosen from, as text for people: a bracket, its candidates, the items of a
+//! quality, a player, and what stands against a meeting or a bye whatever is chosen. Specified by the texts, and by the
+//! first candidates to come.
 //!
-//! `listing::lines` lists candidates, as many as are asked for, within a budget of steps. `put_player` puts what a player brings to the
-//! round, `against_meeting` and `against_bye` give what stands against it first (C.04.3 C.1 to C.3). `item_texts` and `value_texts` have
-//! the items that count against a choice (C.6 to C.19).
+//! `listing::lines` lists candidates, as many as are asked for, within a budget of steps. `put_player` puts what a
+//! player brings to the round, `against_meeting` and `against_bye` give what stands against it first (C.04.3 C.1 to
+//! C.3). `item_texts` and `value_texts` have the items that count against a choice (C.6 to C.19).
 //!
 //! To mind: no round is paired here. A call that makes a text needs memory for it, and fails if that is refused.
 #![tactic(auto)]
