@@ -1,4 +1,5 @@
-// The arbiter at the command line: it reads a tournament report from standard input, and checks, rewrites, pairs or ranks it.
+// The arbiter at the command line: it reads a tournament report from standard input, and checks, rewrites, pairs or
+// ranks it.
 #![tactic(auto)]
 
 ghost use Rattle.std.specs.Prelude.{◌≡◌, ◌≢◌};

@@ -1,5 +1,5 @@
-// Standard output and standard error, of which the second falls silent once the reader of the first has gone away: `arbiter .. | head -1`
-// ends with the status of a write that failed, and says nothing, as other programs do.
+// Standard output and standard error, of which the second falls silent once the reader of the first has gone away:
+// `arbiter .. | head -1` ends with the status of a write that failed, and says nothing, as other programs do.
 ghost use Rattle.std.specs.Prelude.{◌≡◌};
 
 use std::cell::Cell;

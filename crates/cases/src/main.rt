@@ -1,5 +1,5 @@
-// Runs the command line over cases and prints what came otherwise than it must. A case is a folder below the one that the program
-// runs in, with the files
+// Runs the command line over cases and prints what came otherwise than it must. A case is a folder below the one that
+// the program runs in, with the files
 //
 //   report.trf  what standard input gives; for a long report its first part, behind which
 //   repeated    stands as often as
@@ -10,8 +10,8 @@
 //   stdout      what must come on standard output
 //   stderr      what must come on standard error
 //
-// Where stdout or stderr is left out, some text must come there, whatever it says: the help and the complaints about words are
-// the command line library's own.
+// Where stdout or stderr is left out, some text must come there, whatever it says: the help and the complaints about
+// words are the command line library's own.
 #![tactic(auto)]
 
 mod case;

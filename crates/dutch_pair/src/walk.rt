@@ -14,7 +14,8 @@ ghost use Rattle.dutch_pair.specs.declared.walk.Halt.TheVariants.{Fault};
 ghost use Rattle.dutch_pair.specs.Round.{everybody, brackets, paired_again};
 ghost use Rattle.dutch_pair.specs.Walk.{Goes};
 ghost use Rattle.dutch_pair.specs.WaysOut.{GoesOut, StandsBefore};
-ghost use Rattle.dutch_pair.specs.Stages.{GoesOn, IsFound, IsHalt, IsSettled, StandsAt, Starts, TellsUsed, group_kind, round_by, round_from, stage_first};
+ghost use Rattle.dutch_pair.specs.Stages.{GoesOn, IsFound, IsHalt, IsSettled, StandsAt, Starts, TellsUsed, group_kind};
+ghost use Rattle.dutch_pair.specs.Stages.{round_by, round_from, stage_first};
 
 use crate::stage::{Stage, settle};
 use dutch_bracket::context::Context;
@@ -128,8 +129,8 @@ fn shape_in(context: &Context<'_>, budget: &mut Budget) -> Result<Shape, Stopped
     }
 }
 
-/// What comes next for some moved down and the seats that are left, by rank: the bracket of the first scoregroup, or the
-/// end.
+/// What comes next for some moved down and the seats that are left, by rank: the bracket of the first scoregroup, or
+/// the end.
 fn first_group<'a>(field: &Field, number: u16, left: Seats, rest: &'a [u16]) -> Next<'a>
     requires goes { Goes field.now left.items rest.now }
     requires out { GoesOut field.now left.items rest.now }
@@ -244,7 +245,8 @@ impl<'a> Walk<'a> {
     /// The bracket that comes next, with its shape; nothing more is asked of it. The answer is none if no bracket
     /// comes.
     pub(crate) fn bracket(&mut self, alloc: Global) -> Result<Option<(Reached, Shape)>, Halt>
-        ensures found { MatchResult result (IsFound self.old.facts self.old.number) (IsHalt self.old.facts self.old.limit) }
+        ensures found { MatchResult result (IsFound self.old.facts self.old.number)
+            (IsHalt self.old.facts self.old.limit) }
         ensures used { IfErr result (TellsUsed self.new.used) }
     {
         scores_do_not_ascend(self.field);

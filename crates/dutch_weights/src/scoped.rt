@@ -59,7 +59,12 @@ impl<'a, 'b> Model for Scoped<'a, 'b> {
 
     ghost Value = { Scoped };
 
-    ghost view = { λ s. record { weighing = s.weighing.now; scope = s.scope.now; reach = s.reach; order = s.order.now } };
+    ghost view = { λ s. record {
+      weighing = s.weighing.now;
+      scope = s.scope.now;
+      reach = s.reach;
+      order = s.order.now;
+    } };
 
     ghost invariant = { λ s.
         TellsSides s.weighing.now.reached.mdps s.scope.now s.sides.items × MeasuresNext s.reach s.weighing.now.scale };

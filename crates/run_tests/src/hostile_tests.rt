@@ -1,5 +1,5 @@
-// Damaged reports and failing devices: each prefix of a report, each of its bytes changed, a read that fails at each call, and writes that
-// end behind each byte.
+// Damaged reports and failing devices: each prefix of a report, each of its bytes changed, a read that fails at each
+// call, and writes that end behind each byte.
 use crate::command_tests::{Breaking, Dripping, check, has_refused, run_on};
 use crate::rows::{line, newcomers, report};
 use command_line::{Status, run};

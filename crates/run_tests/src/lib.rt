@@ -1,5 +1,5 @@
-// Tests of `run` that need a device of their own or many runs; the other runs are the cases in `crates/cases`. They stand in a crate of
-// their own, so that the tests of the crates below need not wait for the command line's proof.
+// Tests of `run` that need a device of their own or many runs; the other runs are the cases in `crates/cases`. They
+// stand in a crate of their own, so that the tests of the crates below need not wait for the command line's proof.
 #![tactic(auto)]
 
 #[cfg(test)]
