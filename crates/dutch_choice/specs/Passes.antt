@@ -1,13 +1,19 @@
 -- What a pass draws, and what it knows by weight (C.04.3 B.8). Only private functions' clauses cite these.
-use Rattle.std.specs.Prelude.{◌≡◌, List, Option, Some, None, true}
+use Rattle.std.specs.Prelude.{◌≡◌, ℕ, ◌+◌, ◌/◌, if◌then◌else◌, List, Option, Some, None, true}
 use Rattle.std.specs.Option.{ForSome, MatchOption}
 use Rattle.dutch_order.specs.Arrangements.{Arrangement}
 use Rattle.dutch_order.specs.Steps.{Passes}
 use Rattle.dutch_choice.specs.declared.choice.Best.{Best}
+use Rattle.dutch_choice.specs.declared.choice.TheConstants.{PAIRS_FOR_A_STEP}
 use Rattle.dutch_choice.specs.declared.skipper.Pass.{Pass}
 use Rattle.dutch_choice.specs.Aims.{aim_in, best_wished, is_dull}
 use Rattle.dutch_choice.specs.Kept.{IsKept}
 use Rattle.dutch_weights.specs.WeightFloors.{AreOf, Weighed}
+
+-- for how many steps each one of a pass counts: for one alone in the few steps that come first, and behind them once more for each so many
+-- pairs of the shape
+abbrev pub price : Pass → ℕ
+price pass = if pass.is_long then 1 + pass.shape.pairs / PAIRS_FOR_A_STEP else 1
 
 -- floors by weight, if there are any, are those of the bracket and the shape of a pass
 abbrev pub HasWeights : Pass → Option Weighed → Type 0

@@ -1,5 +1,5 @@
 // The choice in a bracket (C.04.3 B.8): its shape, and the first candidate of it that none is better than.
-ghost use Rattle.std.specs.Prelude.{◌≡◌, ◌<◌, ◌≤◌, ◌∷◌, [], true, false, Some, None, List, IfOk, IfSome};
+ghost use Rattle.std.specs.Prelude.{◌≡◌, ◌+◌, ◌*◌, ◌≤◌, ◌∷◌, [], true, false, Some, None, List, IfOk, IfSome, min};
 ghost use Rattle.std.specs.Result.{MatchResult};
 ghost use Rattle.dutch_order.specs.Arrangements.{Arrangement, Fits, down};
 ghost use Rattle.dutch_order.specs.Steps.{MatchDrawn, MatchFound, MatchStep, Spends};
@@ -13,7 +13,7 @@ ghost use Rattle.dutch_choice.specs.Aims.{aim_in, best_near, best_wished, best_y
 ghost use Rattle.dutch_choice.specs.Chosen.{IsChoice};
 ghost use Rattle.dutch_floors.specs.Outlooks.{IsOutlook};
 ghost use Rattle.dutch_choice.specs.Remembered.{LooksBelow};
-ghost use Rattle.dutch_choice.specs.Passes.{HasWeights, IsEnd, PassesDull};
+ghost use Rattle.dutch_choice.specs.Passes.{HasWeights, IsEnd, PassesDull, price};
 ghost use Rattle.dutch_weights.specs.WeightFloors.{AreOf};
 
 use crate::aiming::aim_for;
@@ -163,7 +163,7 @@ fn draw_once<'a>(
 /// For how many steps each one of a pass counts: for one alone in the few steps that come first, and behind them for
 /// the more, the more pairs the questions look at that it asks.
 fn price(pass: &Pass<'_>) -> u64
-    ensures { 0 < result }
+    ensures { result ≡ price pass.now }
 {
     if pass.is_long {
         1 + (pass.shape.pairs / PAIRS_FOR_A_STEP) as u64
@@ -187,9 +187,10 @@ fn turn(pass: &Pass<'_>, weights: &Option<WeightFloors<'_>>, budget: &Budget) ->
     }
 }
 
-/// Counts the steps of a turn.
+/// Counts the steps of a turn, each at its price, up to the limit.
 fn count(pass: &Pass<'_>, turn: &Budget, budget: &mut Budget)
-    ensures { Spends budget.old budget.new }
+    ensures counts { budget.new.used ≡ min (budget.old.used + turn.now.used * price pass.now) budget.old.limit }
+    ensures spends { Spends budget.old budget.new }
 {
     let steps = turn.used.saturating_mul(price(pass));
     budget.used = budget.used.saturating_add(steps).min(budget.limit);
