@@ -1,5 +1,5 @@
 // The choice in a bracket (C.04.3 B.8): its shape, and the first candidate of it that none is better than.
-ghost use Rattle.std.specs.Prelude.{◌≡◌, ◌+◌, ◌*◌, ◌≤◌, ◌∷◌, [], true, false, Some, None, List, IfOk, IfSome, min};
+ghost use Rattle.std.specs.Prelude.{◌≡◌, ◌+◌, ◌-◌, ◌*◌, ◌≤◌, ◌∷◌, [], true, false, Some, None, List, IfOk, IfSome, min};
 ghost use Rattle.std.specs.Result.{MatchResult};
 ghost use Rattle.dutch_order.specs.Arrangements.{Arrangement, Fits, down};
 ghost use Rattle.dutch_order.specs.Steps.{MatchDrawn, MatchFound, MatchStep, Spends};
@@ -174,7 +174,8 @@ fn price(pass: &Pass<'_>) -> u64
 
 /// The steps of a turn: all that are left, or so many that it is worth while to be told more behind them.
 fn turn(pass: &Pass<'_>, weights: &Option<WeightFloors<'_>>, budget: &Budget) -> Budget
-    ensures { result.used ≡ 0 }
+    ensures used { result.used ≡ 0 }
+    ensures limit { result.limit * price pass.now ≤ budget.now.limit - budget.now.used }
 {
     let left = budget.limit - budget.used;
     let steps = match weights {
