@@ -23,9 +23,6 @@ loop-rest-preserved c =
     sym (some_of-cons test utf8 line (lines c.next_line.result.1.now) false (not_together c.args.a c.args.b (columns utf8 line)) (sym c.if-names_both.ensures))
     ∙ ap (some_of test utf8) (sym c.next_line.ensures.first) ∙ c.loop-rest.invariant
 
-pub loop-rest-init : goal.loop-rest-init
-loop-rest-init c = refl
-
 pub returns : goal.returns
 returns c =
     let test = names_both c.args.a c.args.b in
