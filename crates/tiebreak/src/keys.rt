@@ -50,15 +50,15 @@ fn group_of(alloc: Global, rows: &[Row], row: &Row) -> Result<Vec<u16>, AllocErr
 fn has_met_all(report: &Report<'_>, start: u16, group: &[u16]) -> bool
     ensures { result ≡ list_all (λ other. (start == other) || have_met report.now start other) group.now }
 {
-    group.iter().all(|other| start == *other || have_met(report, start, *other))
+    group
+        .iter()
+        .all(|other| start == *other || have_met(report, start, *other))
 }
 
 fn have_all_met(report: &Report<'_>, group: &[u16]) -> bool
     ensures { result ≡ have_all_met report.now group.now }
 {
-    group
-        .iter()
-        .all(|start| has_met_all(report, *start, group))
+    group.iter().all(|start| has_met_all(report, *start, group))
 }
 
 // Whether a game was played against one of a group.
