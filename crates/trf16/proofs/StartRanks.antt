@@ -1,5 +1,5 @@
 -- In a report that was read no two players have the same start rank: a line whose start rank is known already is refused.
-use Rattle.std.proofs.Common.{◌≡◌, ℕ, ◌+◌, ◌<◌, ◌≤◌, Bool, true, false, ◌||◌, ◌==◌, nat_eq, nat_lt, cond, List, [], ◌∷◌, ◌++◌, length, refl, sym, ap, subst, arith, inl, inr, Option, Some, None, Result, Ok, Err}
+use Rattle.std.proofs.Common.{◌≡◌, ℕ, ◌+◌, ◌<◌, ◌≤◌, Bool, false, ◌==◌, nat_eq, nat_lt, List, [], ◌∷◌, ◌++◌, refl, sym, ap, subst, arith, inl, inr, Option, Some, None, Ok}
 use Rattle.std.specs.Prelude.{IfSome}
 use Rattle.std.specs.List.{AllByRecursion, IsDistinct, list_any}
 use Rattle.std.specs.Option.{option_map_or}
@@ -15,7 +15,7 @@ use Rattle.trf16.proofs.StepLemmas.{same_ok}
 use Rattle.trf16.proofs.WrittenReport.{are_all_sound, were_sound, accepted, sized_is, first_onto}
 use Rattle.trf16.proofs.LineSteps.{line_keeps, line_adds}
 use Rattle.trf16.proofs.WrittenPlayers.{player_is}
-use Rattle.trf16.specs.declared.limits.TheConstants.{MOST_PLAYERS, MOST_ROUNDS}
+use Rattle.trf16.specs.declared.limits.TheConstants.{MOST_ROUNDS}
 
 all_more : (x : ℕ) (ys : List ℕ) (y : ℕ) → AllByRecursion (λ z. nat_eq x z ≡ false) ys → nat_eq x y ≡ false → AllByRecursion (λ z. nat_eq x z ≡ false) (ys ++ y ∷ [])
 all_more x [] y all other = (other, tt)

@@ -1,7 +1,6 @@
 use Rattle.std.proofs.Common.{refl, [], ◌∷◌}
-use Rattle.std.proofs.lemmas.Result.{IfOk-from_err}
 use Rattle.trf16.specs.Sheet.{entry_of}
-use Rattle.trf16.specs.Verdict.{blank_at, blanks_at, start_at, points_at, cells_at, player_at}
+use Rattle.trf16.specs.Verdict.{blanks_at, start_at, points_at, cells_at, player_at}
 use Rattle.trf16.proofs.ReadingLemmas.{exits}
 use Rattle.trf16.proofs.reading.player_at.Goals as goal
 

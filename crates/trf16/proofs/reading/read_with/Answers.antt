@@ -1,6 +1,6 @@
 use Rattle.std.proofs.Common.{refl}
 use Rattle.trf16.specs.Answering.{players_fit}
-use Rattle.trf16.specs.Verdict.{laid_out, verdict}
+use Rattle.trf16.specs.Verdict.{verdict}
 use Rattle.trf16.proofs.ReadingLemmas.{accepted-gives}
 use Rattle.trf16.proofs.reading.read_with.Goals as goal
 

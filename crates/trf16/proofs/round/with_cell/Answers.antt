@@ -1,5 +1,4 @@
 use Rattle.std.proofs.Common.{slice_set, ap, sym, ◌∙◌, arith}
-use Rattle.std.proofs.lemmas.Result.{err_from_is_err_and}
 use Rattle.trf16.specs.Round.{with_cell}
 use Rattle.trf16.proofs.RoundLemmas.{with_cell-blank, with_cell-set}
 use Rattle.trf16.proofs.round.with_cell.Goals as goal

@@ -1,6 +1,5 @@
 use Rattle.std.proofs.Common.{sym, ap, ◌∙◌}
 use Rattle.std.specs.Prelude.{codes}
-use Rattle.std.proofs.lemmas.Result.{err_from_is_err_and}
 use Rattle.trf16.specs.Extensions.{is_kind}
 use Rattle.trf16.specs.Absence.{some_carried}
 use Rattle.trf16.proofs.ApartLemmas.{nobody_apart}
