@@ -1,6 +1,6 @@
 -- What stands where a report is refused: what the columns hold that a refusal is about, whether they were counted in bytes, and the sums
 -- that a points field was compared with.
-use Rattle.std.specs.Prelude.{ℕ, ◌+◌, ◌-◌, ◌*◌, ◌/◌, Bool, true, false, ◌&&◌, ◌==◌, nat_le, nat_lt, if◌then◌else◌, List, [], ◌∷◌, ◌++◌, sum_by, take, slice_index_or, Option, Some, None, option_map, option_and_then, Result, Err}
+use Rattle.std.specs.Prelude.{ℕ, ◌+◌, ◌-◌, ◌*◌, ◌/◌, Bool, true, false, ◌&&◌, nat_le, nat_lt, if◌then◌else◌, List, [], ◌∷◌, ◌++◌, sum_by, take, slice_index_or, Option, Some, None, option_map, option_and_then, Result, Err}
 use Rattle.std.specs.Str.{byte, is_utf8}
 use Rattle.trf16.specs.Lines.{without_marks, lines, columns, text}
 use Rattle.trf16.specs.Names.{player_of}
