@@ -7,7 +7,7 @@ use Rattle.std.proofs.lemmas.Bool.{eq-eqb, eqb-true, or_left, or_right, or_cases
 use Rattle.std.proofs.lemmas.Bool.Decides.{nat_tests}
 use Rattle.std.proofs.lemmas.List.Elements.{All-from_recursion, All-get_or, recursion_from_All}
 use Rattle.std.proofs.lemmas.List.Folds.{Any-from_list_any}
-use Rattle.std.proofs.lemmas.List.Sorted.{All-permutation, IsPermutation-refl, IsPermutation-cons, IsPermutation-middle, IsPermutation-sym, IsPermutation-trans, IsPermutation-map, list_any-IsPermutation}
+use Rattle.std.proofs.lemmas.List.Sorted.{All-permutation, IsPermutation-map, list_any-IsPermutation}
 use Rattle.std.proofs.lemmas.Map.Keys.{IsDistinct-IsPermutation}
 use Rattle.std.proofs.lemmas.Map.Views.{any-filter_same}
 use Rattle.std.proofs.lemmas.List.{get_or-map, length-map}
@@ -18,33 +18,14 @@ use Rattle.trf16.specs.Absence.{absent, apart, apart_from, some_carried}
 use Rattle.trf16.specs.Extensions.{is_kind, is_named, names_both, words_of}
 use Rattle.trf16.specs.Lines.{columns}
 use Rattle.trf16.specs.Unfinished.{unfinished}
+use Rattle.trf16.proofs.RankLemmas.{ranked_moves}
 use Rattle.trf16.specs.StartRanks.{starts_of, HasOwnStarts}
 use Rattle.dutch_player.specs.declared.fault.FieldFault.{FieldFault}
 use Rattle.dutch_player.specs.declared.fault.FieldFault.TheVariants.{Unfinished, Unsupported, RoundsUnknown, RoundsOver}
 use Rattle.trf16.specs.Outcomes.{◌>>=◌}
-use Rattle.dutch_player.specs.Facts.{SeatFacts, Facts, no_seat, seat_at, goes_before, placed, ranked, seat_of, seats_of, initial_of, total_of, unsupported, refused, total_for, facts_of}
+use Rattle.dutch_player.specs.Facts.{SeatFacts, Facts, no_seat, seat_at, goes_before, ranked, seat_of, seats_of, initial_of, total_of, unsupported, refused, total_for, facts_of}
 use Rattle.dutch_player.specs.Laws.{IsFieldOf, start_ranks}
 use Rattle.dutch_player.specs.Meetings.{is_kept_from, are_apart}
-
--- ---- the order by rank
-
-placed_at : (seat first : SeatFacts) (rest : List SeatFacts) (t : Bool) → IsPermutation (seat ∷ rest) (placed seat rest)
-    → IsPermutation (seat ∷ first ∷ rest) (cond t (first ∷ placed seat rest) (seat ∷ first ∷ rest))
-placed_at seat first rest true more =
-    IsPermutation-trans (seat ∷ first ∷ rest) (first ∷ seat ∷ rest) (first ∷ placed seat rest)
-    (IsPermutation-sym (first ∷ seat ∷ rest) (seat ∷ first ∷ rest) (IsPermutation-middle (first ∷ []) seat rest))
-    (IsPermutation-cons first (seat ∷ rest) (placed seat rest) more)
-placed_at seat first rest false more = IsPermutation-refl (seat ∷ first ∷ rest)
-
-placed_permutes : (seat : SeatFacts) (all : List SeatFacts) → IsPermutation (seat ∷ all) (placed seat all)
-placed_permutes seat [] = IsPermutation-refl (seat ∷ [])
-placed_permutes seat (first ∷ rest) = placed_at seat first rest (goes_before first seat) (placed_permutes seat rest)
-
-ranked_permutes : (all : List SeatFacts) → IsPermutation all (ranked all)
-ranked_permutes [] = IsPermutation-refl []
-ranked_permutes (seat ∷ rest) =
-    IsPermutation-trans (seat ∷ rest) (seat ∷ ranked rest) (ranked (seat ∷ rest))
-    (IsPermutation-cons seat rest (ranked rest) (ranked_permutes rest)) (placed_permutes seat (ranked rest))
 
 -- ---- who is present
 
@@ -181,7 +162,7 @@ field_made : (sheet : Sheet) (asked : Option ℕ) (initial : Option Colour) (tot
 unfolding made starts named_in has_start
 field_made sheet asked initial total own named time =
     let seats : List SeatFacts = seats_of sheet sheet.players in
-    let order : IsPermutation (starts seats) (starts (ranked seats)) = IsPermutation-map (λ (seat : SeatFacts). seat.start) seats (ranked seats) (ranked_permutes seats) in
+    let order : IsPermutation (starts seats) (starts (ranked seats)) = IsPermutation-map (λ (seat : SeatFacts). seat.start) seats (ranked seats) (ranked_moves goes_before seats) in
     let each_seat : (P : ℕ → Type 0) → AllByRecursion (λ (entry : Entry). absent sheet entry.start ≡ false → P entry.start) sheet.players → All P (starts (ranked seats)) =
     λ P each. All-permutation P (starts seats) (starts (ranked seats)) order (All-from_recursion P (starts seats) (seats_all sheet P sheet.players each)) in
     record {
@@ -230,7 +211,7 @@ own_seats sheet asked initial facts e =
     let s = then_ok (total_for sheet asked) (λ total. Ok (made sheet initial total)) facts e in
     let seats : List SeatFacts = seats_of sheet sheet.players in
     subst (λ (f : Facts). All (IsOwn sheet) f.seats) (same_ok (made sheet initial s.0) facts s.2)
-    (All-permutation (IsOwn sheet) seats (ranked seats) (ranked_permutes seats) (All-from_recursion (IsOwn sheet) seats (own_all sheet sheet.players)))
+    (All-permutation (IsOwn sheet) seats (ranked seats) (ranked_moves goes_before seats) (All-from_recursion (IsOwn sheet) seats (own_all sheet sheet.players)))
 
 started : (entries : List Entry) (start : ℕ) → has_start (starts_of entries) start ≡ named_in entries start
 unfolding has_start named_in

@@ -1,5 +1,5 @@
 -- What a round is paired from: the present players by rank, and how it comes from a report (C.04.3 A.2, A.7).
-use Rattle.std.specs.Prelude.{◌≡◌, ℕ, ◌+◌, ◌-◌, Bool, false, ◌&&◌, ◌||◌, ◌==◌, nat_lt, if◌then◌else◌, List, [], ◌∷◌, take, slice_index_or, Option, Some, None, option_map, Result, Ok, Err}
+use Rattle.std.specs.Prelude.{ℕ, ◌+◌, ◌-◌, Bool, false, ◌&&◌, ◌||◌, ◌==◌, nat_lt, if◌then◌else◌, List, [], ◌∷◌, take, slice_index_or, Option, Some, None, option_map, Result, Ok, Err}
 use Rattle.std.specs.Option.{ok_or, option_map_or}
 use Rattle.trf16.specs.declared.cell.Colour.{Colour}
 use Rattle.trf16.specs.declared.cell.Colour.TheVariants.{White}
@@ -8,6 +8,7 @@ use Rattle.trf16.specs.Sheet.{Entry, Sheet, rounds_played}
 use Rattle.trf16.specs.Outcomes.{◌>>=◌}
 use Rattle.trf16.specs.Unfinished.{unfinished}
 use Rattle.trf16.specs.Absence.{absent, apart_from, first_of}
+use Rattle.trf16.specs.Ranking.{ranked_by, IsRankedBy}
 use Rattle.dutch_player.specs.declared.float.Float.{Float}
 use Rattle.dutch_player.specs.declared.fault.FieldFault.{FieldFault}
 use Rattle.dutch_player.specs.declared.fault.FieldFault.TheVariants.{Unfinished, Unsupported, RoundsUnknown, RoundsOver}
@@ -45,25 +46,13 @@ seat_at facts seat = slice_index_or facts.seats seat no_seat
 abbrev pub goes_before : SeatFacts → SeatFacts → Bool
 goes_before a b = nat_lt b.score a.score || ((a.score == b.score) && nat_lt a.start b.start)
 
--- a seat among others by rank, behind all that go before it
-abbrev pub placed : SeatFacts → List SeatFacts → List SeatFacts
-placed seat [] = seat ∷ []
-placed seat (first ∷ rest) = if goes_before first seat then first ∷ placed seat rest else seat ∷ first ∷ rest
-
--- A.2: seats by rank: the first one put to its place among the others by rank
+-- A.2: seats by rank
 abbrev pub ranked : List SeatFacts → List SeatFacts
-ranked [] = []
-ranked (seat ∷ rest) = placed seat (ranked rest)
-
--- none of some seats goes before one
-abbrev pub NoneBefore : SeatFacts → List SeatFacts → Type 0
-NoneBefore seat [] = Unit {0}
-NoneBefore seat (other ∷ rest) = (goes_before other seat ≡ false) × NoneBefore seat rest
+ranked = ranked_by goes_before
 
 -- A.2: no seat goes before one that stands in front of it
 abbrev pub IsRanked : List SeatFacts → Type 0
-IsRanked [] = Unit {0}
-IsRanked (seat ∷ rest) = NoneBefore seat rest × IsRanked rest
+IsRanked = IsRankedBy goes_before
 
 -- what the rounds that were paired make of a player
 unfoldable pub seat_of : Sheet → Entry → SeatFacts

@@ -120,16 +120,17 @@ fn both(colour: Colour) -> Decision
     }
 }
 
-fn by_preferences(
-    initial: Colour,
-    high: &Seat,
-    low: &Seat,
-    wanted: Option<Pref>,
-    theirs: Option<Pref>,
-) -> Decision
-    ensures { result ≡ by_preferences initial (facts_in high.now) (facts_in low.now) wanted theirs }
+// What the higher ranked of two and the other one prefer.
+#[derive(Clone, Copy, Drop)]
+struct Preferences {
+    high: Option<Pref>,
+    low: Option<Pref>,
+}
+
+fn by_preferences(initial: Colour, high: &Seat, low: &Seat, prefer: Preferences) -> Decision
+    ensures { result ≡ by_preferences initial (facts_in high.now) (facts_in low.now) prefer.high prefer.low }
 {
-    match (wanted, theirs) {
+    match (prefer.high, prefer.low) {
         (Some(wanted), Some(theirs)) => {
             if is_same(wanted.colour, theirs.colour) {
                 contested(&high.played, &low.played, wanted, theirs)
@@ -150,7 +151,11 @@ fn by_preferences(
 pub(crate) fn decided(initial: Colour, high: &Seat, low: &Seat) -> Decision
     ensures { result ≡ decided initial (facts_in high.now) (facts_in low.now) }
 {
-    by_preferences(initial, high, low, high.preference, low.preference)
+    let prefer = Preferences {
+        high: high.preference,
+        low: low.preference,
+    };
+    by_preferences(initial, high, low, prefer)
 }
 
 /// Who has white and who has black, if the first gets the given colour.

@@ -47,7 +47,7 @@ pub fn colour_rules_tell(field: &Field, a: u16, b: u16)
 {}
 
 /// Of two seats the one in front has no smaller score, and the other does not go before it (A.2).
-#[tactic(auto, using(crate::proofs::RankLemmas::ranked_at, crate::proofs::RankLemmas::scores_fall))]
+#[tactic(auto, using(crate::proofs::RankLemmas::goes_behind, crate::proofs::RankLemmas::scores_fall))]
 pub fn seats_are_ranked(field: &Field, a: u16, b: u16)
     requires order { a < b }
     requires inside { b < length field.now.seats }

@@ -1,8 +1,9 @@
 -- What stands where a report is refused: what the columns hold that a refusal is about, whether they were counted in bytes, and the sums
 -- that a points field was compared with.
-use Rattle.std.specs.Prelude.{ℕ, ◌+◌, ◌-◌, ◌*◌, ◌/◌, Bool, true, false, ◌&&◌, ◌==◌, nat_le, nat_lt, if◌then◌else◌, List, [], ◌∷◌, ◌++◌, sum_by, take, slice_index_or, Option, Some, None, option_map, Result, Err}
+use Rattle.std.specs.Prelude.{ℕ, ◌+◌, ◌-◌, ◌*◌, ◌/◌, Bool, true, false, ◌&&◌, nat_le, nat_lt, if◌then◌else◌, List, [], ◌∷◌, ◌++◌, sum_by, take, slice_index_or, Option, Some, None, option_map, option_and_then, Result, Err}
 use Rattle.std.specs.Str.{byte, is_utf8}
 use Rattle.trf16.specs.Lines.{without_marks, lines, columns, text}
+use Rattle.trf16.specs.Names.{player_of}
 use Rattle.trf16.specs.Sheet.{Entry, Sheet, half_points, rounds_played}
 use Rattle.trf16.specs.Summed.{verdict_unsummed}
 use Rattle.trf16.specs.declared.fault.Excess.TheVariants.{Bytes}
@@ -79,5 +80,4 @@ sums_of sheet entry = option_map (λ points. record {
 
 -- the same of the player with a start rank, of some
 abbrev pub sums_among : Sheet → List Entry → ℕ → Option Sums
-sums_among sheet [] start = None
-sums_among sheet (entry ∷ rest) start = if entry.start == start then sums_of sheet entry else sums_among sheet rest start
+sums_among sheet entries start = option_and_then (sums_of sheet) (player_of entries start)

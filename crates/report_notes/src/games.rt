@@ -1,18 +1,8 @@
 // The games of a player: those without a result, and that of the last round.
 ghost use Rattle.std.specs.Prelude.{◌≡◌, ◌∷◌, [], MatchOption};
-ghost use Rattle.trf16.specs.Unfinished.{is_unfinished};
 ghost use Rattle.report_notes.specs.Games.{is_played, played_last, unfinished_behind};
 
-use trf16::{Cell, Report};
-
-fn is_unfinished(cell: &Cell) -> bool
-    ensures { result ≡ is_unfinished cell.now }
-{
-    match cell {
-        Cell::Unfinished { .. } => true,
-        _ => false,
-    }
-}
+use trf16::{Cell, Report, is_unfinished};
 
 /// The first round behind a given one in which the game of a player has no result.
 pub(crate) fn next_unfinished(report: &Report<'_>, start: u16, before: u8) -> Option<u8>

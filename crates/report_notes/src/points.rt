@@ -7,16 +7,14 @@ ghost use Rattle.report_notes.specs.Games.{counts_to_come};
 
 use trf16::{Player, Report, front};
 
-/// Whether the points field of the player with a start rank counts a round to come. Time grows with the players.
+/// Whether the points field of the player with a start rank counts a round to come.
 pub(crate) fn counts_to_come(report: &Report<'_>, start: u16) -> bool
     ensures { result ≡ option_map_or (counts_to_come report.now) (player_of report.now.players start) false }
 {
-    for player in report.players() {
-        if player.start == start {
-            return field_counts_to_come(report, player);
-        }
+    match report.player(start) {
+        Some(player) => field_counts_to_come(report, player),
+        None => false,
     }
-    false
 }
 
 // The same of a player.

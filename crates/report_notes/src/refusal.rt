@@ -164,12 +164,7 @@ fn player_sums(report: &Report<'_>, player: &Player<'_>) -> Option<Sums>
 pub fn sums_of(report: &Report<'_>, start: u16) -> Option<Sums>
     ensures { result ≡ sums_among report.now report.now.players start }
 {
-    for player in report.players() {
-        if player.start == start {
-            return player_sums(report, player);
-        }
-    }
-    None
+    player_sums(report, report.player(start)?)
 }
 
 /// A line alone, as the text that shows whether the line fits in bytes: it is not read as UTF-8, so its columns are

@@ -6,9 +6,10 @@ use Rattle.std.proofs.lemmas.List.Sorted.{All-permutation}
 use Rattle.trf16.specs.Sheet.{Sheet}
 use Rattle.tiebreak.specs.declared.key.Key.{Key}
 use Rattle.tiebreak.specs.Keys.{RowFacts, value_of}
-use Rattle.tiebreak.specs.Standings.{ranked, row_of, with_value, with_key, with_keys, judged, standings_of}
+use Rattle.tiebreak.specs.Standings.{goes_before, ranked, row_of, with_value, with_key, with_keys, judged, standings_of}
+use Rattle.trf16.proofs.RankLemmas.{ranked_moves}
 use Rattle.tiebreak.specs.Laws.{HasEachKey}
-use Rattle.tiebreak.proofs.RowLemmas.{ranked-moves, rows-given}
+use Rattle.tiebreak.proofs.RowLemmas.{rows-given}
 
 -- each row has so many values
 abbrev Have : ℕ → List RowFacts → Type 0
@@ -33,7 +34,7 @@ have-none sheet = All-map (λ (row : RowFacts). length row.values ≡ 0) (row_of
 have-all : (sheet : Sheet) (keys : List Key) → Have (length keys) (ranked (with_keys sheet keys (map (row_of sheet) sheet.players)))
 have-all sheet keys =
     let rows = with_keys sheet keys (map (row_of sheet) sheet.players) in
-    All-permutation (λ (row : RowFacts). length row.values ≡ length keys) rows (ranked rows) (ranked-moves rows)
+    All-permutation (λ (row : RowFacts). length row.values ≡ length keys) rows (ranked rows) (ranked_moves goes_before rows)
     (have-keys sheet keys (map (row_of sheet) sheet.players) 0 (length keys) (omega arith) (have-none sheet))
 
 pub has_each_key : (sheet : Sheet) (keys : List Key) → HasEachKey sheet keys

@@ -1,5 +1,4 @@
 pub mod RoundLemmas
-pub mod RankLemmas
 pub mod OrderLemmas
 pub mod RowLemmas
 pub mod LevelLemmas

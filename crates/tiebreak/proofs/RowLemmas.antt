@@ -1,13 +1,14 @@
 -- No pass loses or doubles a row: keys leave the start ranks, and the order only moves rows.
-use Rattle.std.proofs.Common.{◌≡◌, ℕ, Bool, true, false, cond, List, [], ◌∷◌, map, Option, Result, Ok, Err, refl, ap, ◌∙◌, subst}
+use Rattle.std.proofs.Common.{◌≡◌, ℕ, List, [], ◌∷◌, map, Option, Result, Ok, Err, refl, ap, ◌∙◌, subst}
 use Rattle.std.specs.Prelude.{IsPermutation}
-use Rattle.std.proofs.lemmas.List.Sorted.{IsPermutation-refl, IsPermutation-cons, IsPermutation-trans, IsPermutation-map, IsPermutation-middle}
+use Rattle.std.proofs.lemmas.List.Sorted.{IsPermutation-map}
 use Rattle.trf16.specs.Sheet.{Entry, Sheet}
 use Rattle.tiebreak.specs.declared.key.Key.{Key}
 use Rattle.tiebreak.specs.declared.fault.TieFault.{TieFault}
 use Rattle.tiebreak.specs.Keys.{RowFacts, value_of}
+use Rattle.trf16.proofs.RankLemmas.{ranked_moves}
 use Rattle.trf16.specs.Outcomes.{◌>>=◌}
-use Rattle.tiebreak.specs.Standings.{goes_before, placed, ranked, row_of, with_value, with_key, with_keys, judged, standings_of}
+use Rattle.tiebreak.specs.Standings.{goes_before, ranked, row_of, with_value, with_key, with_keys, judged, standings_of}
 use Rattle.tiebreak.specs.Laws.{HasEachOnce}
 
 abbrev starts : List RowFacts → List ℕ
@@ -25,25 +26,8 @@ starts-row_of : (sheet : Sheet) (players : List Entry) → starts (map (row_of s
 starts-row_of sheet [] = refl
 starts-row_of sheet (entry ∷ rest) = ap (λ others. entry.start ∷ others) (starts-row_of sheet rest)
 
-placed-moves-at : (row first : RowFacts) (rest : List RowFacts) (t : Bool) → IsPermutation (row ∷ rest) (placed row rest)
-    → IsPermutation (row ∷ first ∷ rest) (cond t (first ∷ placed row rest) (row ∷ first ∷ rest))
-placed-moves-at row first rest true more =
-    IsPermutation-trans (row ∷ first ∷ rest) (first ∷ row ∷ rest) (first ∷ placed row rest)
-    (IsPermutation-middle (row ∷ []) first rest) (IsPermutation-cons first (row ∷ rest) (placed row rest) more)
-placed-moves-at row first rest false more = IsPermutation-refl (row ∷ first ∷ rest)
-
-placed-moves : (row : RowFacts) (all : List RowFacts) → IsPermutation (row ∷ all) (placed row all)
-placed-moves row [] = IsPermutation-refl (row ∷ [])
-placed-moves row (first ∷ rest) = placed-moves-at row first rest (goes_before first row) (placed-moves row rest)
-
-pub ranked-moves : (all : List RowFacts) → IsPermutation all (ranked all)
-ranked-moves [] = IsPermutation-refl []
-ranked-moves (row ∷ rest) =
-    IsPermutation-trans (row ∷ rest) (row ∷ ranked rest) (ranked (row ∷ rest))
-    (IsPermutation-cons row rest (ranked rest) (ranked-moves rest)) (placed-moves row (ranked rest))
-
 starts-ranked : (all : List RowFacts) → IsPermutation (starts all) (starts (ranked all))
-starts-ranked all = IsPermutation-map (λ row. row.start) all (ranked all) (ranked-moves all)
+starts-ranked all = IsPermutation-map (λ row. row.start) all (ranked all) (ranked_moves goes_before all)
 
 starts-all : (sheet : Sheet) (keys : List Key) → IsPermutation (map (λ entry. entry.start) sheet.players) (starts (ranked (with_keys sheet keys (map (row_of sheet) sheet.players))))
 starts-all sheet keys =

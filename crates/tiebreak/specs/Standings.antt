@@ -1,5 +1,5 @@
 -- The standings: the players by score, then by each key in its order, then by start rank.
-use Rattle.std.specs.Prelude.{◌≡◌, ℕ, Bool, false, if◌then◌else◌, List, [], ◌∷◌, ◌++◌, map, Option, Some, None, option_map, Result, Ok, Err, slice_index_or}
+use Rattle.std.specs.Prelude.{ℕ, Bool, List, [], ◌∷◌, ◌++◌, map, Option, Some, None, option_map, Result, Ok, Err, slice_index_or}
 use Rattle.std.specs.Option.{option_cmp}
 use Rattle.std.specs.Cmp.Lexicographic.{slice_cmp}
 use Rattle.std.specs.declared.cmp.Ordering.{Ordering}
@@ -9,6 +9,7 @@ use Rattle.trf16.specs.Sheet.{Entry, Sheet}
 use Rattle.trf16.specs.Outcomes.{◌>>=◌}
 use Rattle.trf16.specs.Unfinished.{unfinished}
 use Rattle.trf16.specs.Absence.{first_of}
+use Rattle.trf16.specs.Ranking.{ranked_by, IsRankedBy}
 use Rattle.tiebreak.specs.declared.key.Key.{Key}
 use Rattle.tiebreak.specs.declared.fault.TieFault.{TieFault}
 use Rattle.tiebreak.specs.declared.fault.TieFault.TheVariants.{Unfinished, Unsupported}
@@ -41,25 +42,13 @@ row_cmp a b = ordering_then (nat_cmp b.score a.score) (ordering_then (slice_cmp 
 abbrev pub goes_before : RowFacts → RowFacts → Bool
 goes_before a b = is_lt (row_cmp a b)
 
--- a row among others in order, behind all that go before it
-abbrev pub placed : RowFacts → List RowFacts → List RowFacts
-placed row [] = row ∷ []
-placed row (first ∷ rest) = if goes_before first row then first ∷ placed row rest else row ∷ first ∷ rest
-
--- rows in order: the first one put to its place among the others in order
+-- rows in order
 abbrev pub ranked : List RowFacts → List RowFacts
-ranked [] = []
-ranked (row ∷ rest) = placed row (ranked rest)
-
--- none of some rows goes before one
-abbrev pub NoneBefore : RowFacts → List RowFacts → Type 0
-NoneBefore row [] = Unit {0}
-NoneBefore row (other ∷ rest) = (goes_before other row ≡ false) × NoneBefore row rest
+ranked = ranked_by goes_before
 
 -- no row goes before one that stands in front of it
 abbrev pub IsRanked : List RowFacts → Type 0
-IsRanked [] = Unit {0}
-IsRanked (row ∷ rest) = NoneBefore row rest × IsRanked rest
+IsRanked = IsRankedBy goes_before
 
 -- what stands behind the last row
 abbrev pub no_row : RowFacts

@@ -16,10 +16,10 @@ fn is_game_with(cell: &Cell, other: u16) -> bool
 
 /// Whether a game between two was played.
 #[tactic(auto, using(crate::proofs::RoundLemmas::next))]
-pub(crate) fn have_met(report: &Report<'_>, rounds: u8, a: u16, b: u16) -> bool
-    requires { rounds ≡ rounds_played report.now }
+pub(crate) fn have_met(report: &Report<'_>, a: u16, b: u16) -> bool
     ensures { result ≡ have_met report.now a b }
 {
+    let rounds = report.rounds_played();
     for before in 0..rounds {
         if is_game_with(&report.cell(a, before + 1), b) {
             return true;
@@ -29,27 +29,26 @@ pub(crate) fn have_met(report: &Report<'_>, rounds: u8, a: u16, b: u16) -> bool
 }
 
 // The half points of the virtual opponent in a round without a game.
-fn virtual_score(report: &Report<'_>, rounds: u8, start: u16, round: u8) -> u32
-    requires all { rounds ≡ rounds_played report.now }
+fn virtual_score(report: &Report<'_>, start: u16, round: u8) -> u32
     requires from_one { 0 < round }
-    requires paired { round ≤ rounds }
+    requires paired { round ≤ rounds_played report.now }
     ensures value { result ≡ virtual_score report.now start round }
     ensures few { result ≤ 65792 }
 {
+    let rounds = report.rounds_played();
     let missed = 2 - report.cell(start, round).half_points(report.bye());
     u32::from(report.points(start, round - 1)) + u32::from(missed) + u32::from(rounds - round)
 }
 
 /// The score of a player's opponent in a round, in half points.
-pub(crate) fn opponent_score(report: &Report<'_>, rounds: u8, start: u16, round: u8) -> u32
-    requires all { rounds ≡ rounds_played report.now }
+pub(crate) fn opponent_score(report: &Report<'_>, start: u16, round: u8) -> u32
     requires from_one { 0 < round }
-    requires paired { round ≤ rounds }
+    requires paired { round ≤ rounds_played report.now }
     ensures value { result ≡ opponent_score report.now start round }
     ensures few { result ≤ 65792 }
 {
     match report.cell(start, round) {
-        Cell::Game { opponent, .. } => u32::from(report.points(opponent, rounds)),
-        _ => virtual_score(report, rounds, start, round),
+        Cell::Game { opponent, .. } => u32::from(report.points(opponent, report.rounds_played())),
+        _ => virtual_score(report, start, round),
     }
 }

@@ -1,7 +1,6 @@
 // The values of the tie-break keys.
 ghost use Rattle.std.specs.Prelude.{◌≡◌, ◌≤◌, ◌||◌, ◌==◌, length, IfOk};
 ghost use Rattle.std.specs.List.{list_all};
-ghost use Rattle.trf16.specs.Sheet.{rounds_played};
 ghost use Rattle.tiebreak.specs.Games.{have_met};
 ghost use Rattle.tiebreak.specs.Keys.{buchholz, sonneborn_berger, group_of, have_all_met, is_against, points_against};
 ghost use Rattle.tiebreak.specs.Keys.{points_among, direct_in, value_of};
@@ -13,26 +12,26 @@ use std::alloc::{AllocError, Global};
 use trf16::{Cell, Report};
 
 #[tactic(auto, using(crate::proofs::RoundLemmas::next))]
-fn buchholz(report: &Report<'_>, rounds: u8, start: u16) -> u32
-    requires { rounds ≡ rounds_played report.now }
+fn buchholz(report: &Report<'_>, start: u16) -> u32
     ensures { result ≡ buchholz report.now start }
 {
+    let rounds = report.rounds_played();
     let mut sum = 0;
     for before in 0..rounds {
-        sum += opponent_score(report, rounds, start, before + 1);
+        sum += opponent_score(report, start, before + 1);
     }
     sum
 }
 
 #[tactic(auto, using(crate::proofs::RoundLemmas::next))]
-fn sonneborn_berger(report: &Report<'_>, rounds: u8, start: u16) -> u32
-    requires { rounds ≡ rounds_played report.now }
+fn sonneborn_berger(report: &Report<'_>, start: u16) -> u32
     ensures { result ≡ sonneborn_berger report.now start }
 {
+    let rounds = report.rounds_played();
     let mut sum = 0;
     for before in 0..rounds {
         let got = report.cell(start, before + 1).half_points(report.bye());
-        sum += opponent_score(report, rounds, start, before + 1) * u32::from(got);
+        sum += opponent_score(report, start, before + 1) * u32::from(got);
     }
     sum
 }
@@ -48,20 +47,18 @@ fn group_of(alloc: Global, rows: &[Row], row: &Row) -> Result<Vec<u16>, AllocErr
 }
 
 // Whether one of a group has met all others of it.
-fn has_met_all(report: &Report<'_>, rounds: u8, start: u16, group: &[u16]) -> bool
-    requires { rounds ≡ rounds_played report.now }
+fn has_met_all(report: &Report<'_>, start: u16, group: &[u16]) -> bool
     ensures { result ≡ list_all (λ other. (start == other) || have_met report.now start other) group.now }
-{
-    group.iter().all(|other| start == *other || have_met(report, rounds, start, *other))
-}
-
-fn have_all_met(report: &Report<'_>, rounds: u8, group: &[u16]) -> bool
-    requires { rounds ≡ rounds_played report.now }
-    ensures { result ≡ have_all_met report.now group.now }
 {
     group
         .iter()
-        .all(|start| has_met_all(report, rounds, *start, group))
+        .all(|other| start == *other || have_met(report, start, *other))
+}
+
+fn have_all_met(report: &Report<'_>, group: &[u16]) -> bool
+    ensures { result ≡ have_all_met report.now group.now }
+{
+    group.iter().all(|start| has_met_all(report, *start, group))
 }
 
 // Whether a game was played against one of a group.
@@ -86,10 +83,10 @@ fn points_against(group: &[u16], cell: &Cell) -> u16
 }
 
 #[tactic(auto, using(crate::proofs::RoundLemmas::next))]
-fn points_among(report: &Report<'_>, rounds: u8, group: &[u16], start: u16) -> u32
-    requires { rounds ≡ rounds_played report.now }
+fn points_among(report: &Report<'_>, group: &[u16], start: u16) -> u32
     ensures { result ≡ points_among report.now group.now start }
 {
+    let rounds = report.rounds_played();
     let mut sum = 0;
     for before in 0..rounds {
         sum += u32::from(points_against(group, &report.cell(start, before + 1)));
@@ -97,34 +94,38 @@ fn points_among(report: &Report<'_>, rounds: u8, group: &[u16], start: u16) -> u
     sum
 }
 
-fn direct_in(report: &Report<'_>, rounds: u8, group: &[u16], start: u16) -> Option<u32>
-    requires { rounds ≡ rounds_played report.now }
+fn direct_in(report: &Report<'_>, group: &[u16], start: u16) -> Option<u32>
     ensures { result ≡ direct_in report.now group.now start }
 {
-    if 1 < group.len() && have_all_met(report, rounds, group) {
-        return Some(points_among(report, rounds, group, start));
+    if 1 < group.len() && have_all_met(report, group) {
+        return Some(points_among(report, group, start));
     }
     None
 }
 
-/// The value of a key for a row, given rows that have the values of the keys before it.
+/// The rows with the values of the keys so far, and the report that they come from.
+#[derive(Clone, Copy, Drop)]
+pub(crate) struct SoFar<'r, 't> {
+    pub(crate) report: &'r Report<'t>,
+    pub(crate) rows: &'r [Row],
+}
+
+/// The value of the next key for a row.
 pub(crate) fn value_of(
     alloc: Global,
-    report: &Report<'_>,
-    rounds: u8,
-    rows: &[Row],
+    so_far: SoFar<'_, '_>,
     key: Key,
     row: &Row,
 ) -> Result<Option<u32>, AllocError>
-    requires { rounds ≡ rounds_played report.now }
-    ensures { IfOk result (λ value. value ≡ value_of report.now rows.now key row.now) }
+    ensures { IfOk result (λ value. value ≡ value_of so_far.entry.report.now so_far.entry.rows.now key row.now) }
 {
+    let report = so_far.report;
     match key {
         Key::Direct => {
-            let group = group_of(alloc, rows, row)?;
-            Ok(direct_in(report, rounds, &group, row.start()))
+            let group = group_of(alloc, so_far.rows, row)?;
+            Ok(direct_in(report, &group, row.start()))
         }
-        Key::Buchholz => Ok(Some(buchholz(report, rounds, row.start()))),
-        Key::SonnebornBerger => Ok(Some(sonneborn_berger(report, rounds, row.start()))),
+        Key::Buchholz => Ok(Some(buchholz(report, row.start()))),
+        Key::SonnebornBerger => Ok(Some(sonneborn_berger(report, row.start()))),
     }
 }

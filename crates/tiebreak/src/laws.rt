@@ -11,7 +11,7 @@ use crate::standings::Standings;
 use trf16::Report;
 
 /// No row goes before one that stands in front of it.
-#[tactic(auto, using(crate::proofs::OrderLemmas::ranked_at))]
+#[tactic(auto, using(crate::proofs::OrderLemmas::goes_behind))]
 pub fn rows_are_ranked(standings: &Standings, a: usize, b: usize)
     requires order { a < b }
     requires inside { b < length standings.now }

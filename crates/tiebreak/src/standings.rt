@@ -1,12 +1,11 @@
 // The standings of a report.
 ghost use Rattle.std.specs.Prelude.{◌≡◌, [], map, IfOk};
-ghost use Rattle.trf16.specs.Sheet.{rounds_played};
 ghost use Rattle.tiebreak.specs.Outcomes.{Gives};
 ghost use Rattle.tiebreak.specs.Standings.{row_of, with_key, with_keys, IsRanked, standings_of};
 
 use crate::fault::TieFault;
 use crate::key::Key;
-use crate::keys::value_of;
+use crate::keys::{SoFar, value_of};
 use crate::ranking::ranked;
 use crate::refusals::judged;
 use crate::row::Row;
@@ -44,13 +43,12 @@ impl Standings {
 }
 
 // The rows of all players before any key, in the order of their lines.
-fn first_rows(alloc: Global, report: &Report<'_>, rounds: u8) -> Result<Vec<Row>, AllocError>
-    requires { rounds ≡ rounds_played report.now }
+fn first_rows(alloc: Global, report: &Report<'_>) -> Result<Vec<Row>, AllocError>
     ensures { IfOk result (λ v. v.items ≡ map (row_of report.now) report.now.players) }
 {
     let mut rows = Vec::new(alloc);
     for player in report.players() {
-        let score = report.points(player.start, rounds);
+        let score = report.points(player.start, report.rounds_played());
         rows.push(Row::new(alloc, player.start, score))?;
     }
     Ok(rows)
@@ -60,16 +58,14 @@ fn first_rows(alloc: Global, report: &Report<'_>, rounds: u8) -> Result<Vec<Row>
 fn with_key(
     alloc: Global,
     report: &Report<'_>,
-    rounds: u8,
     key: Key,
     rows: &[Row],
 ) -> Result<Vec<Row>, AllocError>
-    requires { rounds ≡ rounds_played report.now }
     ensures { IfOk result (λ v. v.items ≡ with_key report.now key rows.now) }
 {
     let mut longer = Vec::new(alloc);
     for row in rows {
-        let value = value_of(alloc, report, rounds, rows, key, row)?;
+        let value = value_of(alloc, SoFar { report, rows }, key, row)?;
         longer.push(row.with_value(alloc, value)?)?;
     }
     Ok(longer)
@@ -79,10 +75,9 @@ fn with_key(
 fn with_keys(alloc: Global, report: &Report<'_>, keys: &[Key]) -> Result<Vec<Row>, AllocError>
     ensures { IfOk result (λ v. v.items ≡ with_keys report.now keys.now (map (row_of report.now) report.now.players)) }
 {
-    let rounds = report.rounds_played();
-    let mut rows = first_rows(alloc, report, rounds)?;
+    let mut rows = first_rows(alloc, report)?;
     for key in keys {
-        rows = with_key(alloc, report, rounds, *key, &rows)?;
+        rows = with_key(alloc, report, *key, &rows)?;
     }
     Ok(rows)
 }

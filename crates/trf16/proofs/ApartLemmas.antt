@@ -1,5 +1,5 @@
 -- Who is named together, from one sheet to another and from no line at all.
-use Rattle.std.proofs.Common.{◌≡◌, ℕ, ◌<◌, Bool, true, false, ◌||◌, ◌&&◌, ◌==◌, not, List, [], ◌∷◌, length, Option, Some, None, refl, sym, ap, ◌∙◌, subst, arith}
+use Rattle.std.proofs.Common.{◌≡◌, ℕ, ◌<◌, Bool, true, false, ◌&&◌, ◌==◌, not, List, [], ◌∷◌, length, Option, Some, None, refl, sym, ap, ◌∙◌, subst, arith}
 use Rattle.std.specs.Prelude.{codes, slice_index_or, vec_len, filter}
 use Rattle.std.specs.List.{list_any}
 use Rattle.std.specs.Option.{option_map_or}
@@ -12,7 +12,7 @@ use Rattle.std.specs.Prelude.{IfOk, IfSome, Result, Ok, Err, nat_eq}
 use Rattle.std.specs.List.{position}
 use Rattle.std.proofs.lemmas.List.{length-map}
 use Rattle.std.proofs.lemmas.List.Quantifiers.{position-Some}
-use Rattle.std.proofs.lemmas.Bool.{eqb-true}
+use Rattle.std.proofs.lemmas.Bool.{eqb-true, or_parts}
 use Rattle.trf16.specs.Notes.{are_marked, start_at, TellsApart}
 use Rattle.trf16.specs.declared.apart.Apart.{Apart}
 
@@ -38,19 +38,12 @@ apart_same of a b same_columns same_lines same_starts told = apart_again of of a
 pub not_any : (a b : ℕ) (sheet : Sheet) → some_carried (is_kind (codes "XXP")) sheet ≡ false → some_carried (names_both a b) sheet ≡ false
 not_any a b sheet none = lines_none sheet.carried none
   where
-    or_none : (x y : Bool) → (x || y) ≡ false → (x ≡ false) × (y ≡ false)
-    or_none true y e = absurd (differ e)
-      where
-        differ : true ≡ false → ⊥
-        differ e = cc
-    or_none false y e = (refl, e)
-
     lines_none : (ls : List (Option (List ℕ))) → list_any (λ line. option_map_or (λ bytes. is_kind (codes "XXP") (columns sheet.utf8 bytes)) line false) ls ≡ false
         → list_any (λ line. option_map_or (λ bytes. names_both a b (columns sheet.utf8 bytes)) line false) ls ≡ false
     lines_none [] e = refl
     lines_none (None ∷ rest) e = lines_none rest e
     lines_none (Some bytes ∷ rest) e =
-        let parts = or_none (is_kind (codes "XXP") (columns sheet.utf8 bytes)) (list_any (λ line. option_map_or (λ b. is_kind (codes "XXP") (columns sheet.utf8 b)) line false) rest) e in
+        let parts = or_parts (is_kind (codes "XXP") (columns sheet.utf8 bytes)) (list_any (λ line. option_map_or (λ b. is_kind (codes "XXP") (columns sheet.utf8 b)) line false) rest) e in
         rw (parts.0, lines_none rest parts.1) refl
 
 pub nobody_apart : (sheet : Sheet) (start : ℕ) → some_carried (is_kind (codes "XXP")) sheet ≡ false → apart_from sheet start ≡ []
@@ -77,10 +70,6 @@ placed keys starts start (Some i) e same =
 pub some_so : {X : Type 0} (o : Option X) (P Q : X → Type 0) → ((x : X) → P x → Q x) → IfSome o P → IfSome o Q
 some_so None P Q so h = tt
 some_so (Some x) P Q so h = so x h
-
-pub ok_so : {X E : Type 0} (r : Result X E) (P Q R : X → Type 0) → ((x : X) → P x → Q x → R x) → IfOk r P → IfOk r Q → IfOk r R
-ok_so (Ok x) P Q R so p q = so x p q
-ok_so (Err e) P Q R so p q = tt
 
 -- the mark of two players tells whether a line names their start ranks
 pub looked_up : (of : Apart) (sheet : Sheet) (a b i j : ℕ) → TellsApart of sheet → i < length sheet.players → j < length sheet.players

@@ -1,10 +1,10 @@
 -- Whom the boards of a round name, as loops look at them, and that nobody is named twice.
-use Rattle.std.proofs.Common.{◌≡◌, ℕ, zero, suc, ◌+◌, ◌<◌, ◌≤◌, Bool, true, false, not, ◌&&◌, ◌||◌, nat_eq, List, [], ◌∷◌, length, get_or, drop, refl, sym, ap, ◌∙◌, arith, subst}
-use Rattle.std.specs.Prelude.{All}
+use Rattle.std.proofs.Common.{◌≡◌, ℕ, ◌+◌, ◌<◌, ◌≤◌, Bool, true, false, not, ◌&&◌, ◌||◌, nat_eq, List, [], ◌∷◌, length, get_or, drop, refl, sym, ap, ◌∙◌, arith, subst}
 use Rattle.std.specs.List.{IsDistinct, AllByRecursion, list_any}
 use Rattle.std.proofs.lemmas.Bool.{and_parts, eqb-true, true≢false}
 use Rattle.std.proofs.lemmas.Bool.Decides.{nat_tests}
 use Rattle.std.proofs.lemmas.List.{drop_more, drop_all}
+use Rattle.std.proofs.lemmas.List.Elements.{All-from_recursion, recursion_from_All}
 use Rattle.std.proofs.lemmas.Map.Keys.{IsDistinct-head, IsDistinct-tail, IsDistinct-cons}
 use Rattle.trf16.specs.Sheet.{Sheet, known, rounds_played}
 use Rattle.trf16.specs.Absence.{absent}
@@ -17,15 +17,6 @@ eq-self n = grind (arith, nat_tests)
 
 pub eq-sym : (a b : ℕ) → nat_eq a b ≡ nat_eq b a
 eq-sym a b = grind (arith, nat_tests)
-
-pub all_from : (P : ℕ → Type 0) (xs : List ℕ) → All P xs → AllByRecursion P xs
-all_from P [] all = tt
-all_from P (x ∷ xs) all = (all 0 x (omega arith), all_from P xs (λ k d lt. all (suc k) d (omega arith)))
-
-pub all_to : (P : ℕ → Type 0) (xs : List ℕ) → AllByRecursion P xs → All P xs
-all_to P [] all k d lt = absurd (omega arith)
-all_to P (x ∷ xs) all zero d lt = all.0
-all_to P (x ∷ xs) all (suc k) d lt = all_to P xs all.1 k d (omega arith)
 
 pub all_in : (P : ℕ → Type 0) (xs : List ℕ) (n : ℕ) → AllByRecursion P xs → list_any (nat_eq n) xs ≡ true → P n
 all_in P [] n all is = absurd (true≢false (sym is))
@@ -84,16 +75,16 @@ pub paired_from : (boards : List (ℕ × ℕ)) (sheet : Sheet) → rounds_played
 paired_from boards sheet within all =
     let a = are sheet (named_by boards) all in
     record {
-      players = all_to (λ start. known sheet start ≡ true) (named_by boards) a.players;
-      present = all_to (λ start. absent sheet start ≡ false) (named_by boards) a.present;
+      players = All-from_recursion (λ start. known sheet start ≡ true) (named_by boards) a.players;
+      present = All-from_recursion (λ start. absent sheet start ≡ false) (named_by boards) a.present;
       once = a.once;
       within = within;
     }
 
 pub paired_free : (boards : List (ℕ × ℕ)) (sheet : Sheet) → CanBePaired boards sheet → are_free sheet (named_by boards) ≡ true
 paired_free boards sheet can =
-    free sheet (named_by boards) (all_from (λ start. known sheet start ≡ true) (named_by boards) can.players)
-    (all_from (λ start. absent sheet start ≡ false) (named_by boards) can.present) can.once
+    free sheet (named_by boards) (recursion_from_All (λ start. known sheet start ≡ true) (named_by boards) can.players)
+    (recursion_from_All (λ start. absent sheet start ≡ false) (named_by boards) can.present) can.once
 
 pub not_free : (boards : List (ℕ × ℕ)) (sheet : Sheet) (i : ℕ) (d : ℕ × ℕ) (later : List (ℕ × ℕ)) (mine : Bool) → i < length boards → later ≡ drop (i + 1) boards
     → are_free sheet (named_by (drop i boards)) ≡ are_free sheet (named_by boards)

@@ -11,9 +11,6 @@ use Rattle.trf16.proofs.WrittenColumns.{starts, starts-append, columns-append, I
 next_goes_on : (bits : ℕ) → goes_on (128 + bits % 64) ≡ true
 next_goes_on bits = let small : bits % 64 < 64 = omega arith in grind (arith, nat_tests)
 
-low_starts : (c : ℕ) → c < 128 → goes_on c ≡ false
-low_starts c h = grind (arith, nat_tests)
-
 lead_starts : (c : ℕ) → 192 ≤ c → goes_on c ≡ false
 lead_starts c h = grind (arith, nat_tests)
 

@@ -54,18 +54,11 @@ IsFirst-from utf8 bytes column len rest t d e = record {
   rest = rw (d, e) refl;
 }
 
-pub first_byte : (bytes : List ℕ) (b : ℕ) (rest : List ℕ) → bytes ≡ b ∷ rest → IsFirst false bytes 1
-first_byte bytes b rest e = rw e (IsFirst-from false (b ∷ rest) (b ∷ []) 1 rest refl refl (columns-bytes b rest))
-
 pub first_character : (bytes : List ℕ) (b : ℕ) (rest : List ℕ) (n : ℕ) → bytes ≡ b ∷ rest → n ≤ length rest → ((k : ℕ) → k < n → goes_on (get_or rest k 0) ≡ true)
     → (n < length rest → goes_on (get_or rest n 0) ≡ false) → IsFirst true bytes (1 + n)
 first_character bytes b rest n e within inside behind =
     let one_more : 1 + n ≡ suc n = omega arith in
     rw (e, one_more) (IsFirst-from true (b ∷ rest) (b ∷ take n rest) (suc n) (drop n rest) refl refl (columns-character b rest n within inside behind))
-
--- the first column begins at the first byte
-pub IsStart-zero : (utf8 : Bool) (bytes : List ℕ) → IsStart utf8 bytes 0 0
-IsStart-zero utf8 bytes = record { within = omega arith; front = refl; back = refl }
 
 -- the next column begins behind the first of the rest
 pub IsStart-next : (utf8 : Bool) (bytes : List ℕ) (before at len : ℕ) → IsStart utf8 bytes before at → len ≤ length (drop at bytes)

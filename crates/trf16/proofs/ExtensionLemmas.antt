@@ -1,5 +1,5 @@
 -- The first byte of a line tells that it is no extension.
-use Rattle.std.proofs.Common.{◌≡◌, ℕ, Bool, true, false, cond, ◌&&◌, ◌||◌, ◌==◌, List, [], ◌∷◌, map, refl, sym, ap, ◌∙◌, arith}
+use Rattle.std.proofs.Common.{◌≡◌, ℕ, Bool, true, false, cond, ◌&&◌, ◌||◌, ◌==◌, List, [], ◌∷◌, map, refl, ap, ◌∙◌, arith}
 use Rattle.std.specs.Char.{to_ascii_lowercase}
 use Rattle.std.proofs.lemmas.Slice.Eq.{bytes_eq-Decides}
 use Rattle.std.proofs.lemmas.Bool.Decides.{nat_tests}
@@ -22,22 +22,18 @@ kind_begins : (utf8 : Bool) (b : ℕ) (rest : List ℕ) → (w : List ℕ) × (t
 kind_begins utf8 b [] = (_, refl)
 kind_begins utf8 b (c ∷ rest) = one_column b (utf8 && goes_on c) (columns utf8 (c ∷ rest))
 
-first_of_lists : (x y : ℕ) (xs ys : List ℕ) → (x ∷ xs) ≡ (y ∷ ys) → x ≡ y
-first_of_lists x y xs ys e = cc
-
 is_x : (b : ℕ) → to_ascii_lowercase b ≡ 120 → ((b == 88) || (b == 120)) ≡ true
 is_x b e = grind (arith, nat_tests)
 
 other_word : (b : ℕ) (w capitals : List ℕ) → ((b == 88) || (b == 120)) ≡ false → is_word (b ∷ w) (88 ∷ capitals) ≡ false
 other_word b w capitals other = by (is_word (b ∷ w) (88 ∷ capitals)) refl
   where
-    differ : true ≡ false → ⊥
-    differ e = cc
-
     by : (t : Bool) → is_word (b ∷ w) (88 ∷ capitals) ≡ t → t ≡ false
     by true is =
         let same = (bytes_eq-Decides (map to_ascii_lowercase (b ∷ w)) (map to_ascii_lowercase (88 ∷ capitals))).0 is in
-        absurd (differ (sym (is_x b (first_of_lists (to_ascii_lowercase b) 120 (map to_ascii_lowercase w) (map to_ascii_lowercase capitals) same)) ∙ other))
+        let first : to_ascii_lowercase b ≡ 120 = cc in
+        let x = is_x b first in
+        absurd (cc)
     by false is = refl
 
 -- a line that does not begin so is of none of these kinds

@@ -2,6 +2,7 @@ pub mod LineLemmas
 pub mod ColumnLemmas
 pub mod FieldLemmas
 pub mod StepLemmas
+pub mod LineSteps
 pub mod ReadingLemmas
 pub mod ReportLemmas
 pub mod AnsweringLemmas
@@ -27,3 +28,4 @@ pub mod SummedReport
 pub mod BoardLemmas
 pub mod StartRanks
 pub mod PointForms
+pub mod RankLemmas

@@ -10,16 +10,13 @@ one : (b : ℕ) (ends : Bool) → cond ends ([] ∷ []) ((b ∷ []) ∷ []) ≡ 
 one b true = refl
 one b false = refl
 
-cc_no : false ≡ true → ⊥
-cc_no e = cc
-
 step : (b c : ℕ) (rest : List ℕ) (ends both : Bool) (k : ℕ) → (both ≡ true → ends ≡ true) → both ≡ (b == 13) && (c == 10)
     → lines (c ∷ rest) ≡ take k (c ∷ rest) ∷ lines (behind_end (drop k (c ∷ rest)))
     → cond both ([] ∷ lines rest) (cond ends ([] ∷ lines (c ∷ rest)) (onto_first b (lines (c ∷ rest))))
     ≡ take (cond (not ends) (1 + k) 0) (b ∷ c ∷ rest) ∷ lines (behind_end (drop (cond (not ends) (1 + k) 0) (b ∷ c ∷ rest)))
 step b c rest true true k h e others = rw (← e) refl
 step b c rest true false k h e others = rw (← e) refl
-step b c rest false true k h e others = let no : false ≡ true = h refl in absurd (cc_no no)
+step b c rest false true k h e others = let no : false ≡ true = h refl in absurd (cc)
 step b c rest false false k h e others =
     let one_more : 1 + k ≡ suc k = omega arith in
     rw (one_more, others) refl

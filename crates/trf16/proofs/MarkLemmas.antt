@@ -1,5 +1,5 @@
 -- Marks of which none is set, one of them that is set or taken away, and the places of some.
-use Rattle.std.proofs.Common.{◌≡◌, ℕ, zero, suc, ◌+◌, ◌*◌, ◌<◌, ◌≤◌, Bool, true, false, cond, ◌&&◌, ◌||◌, ◌==◌, nat_eq, List, [], ◌∷◌, Option, Some, None, length, refl, sym, ap, ◌∙◌, nat_lt, slice_index_or, inl, inr, ◌≢◌, arith}
+use Rattle.std.proofs.Common.{◌≡◌, ℕ, zero, suc, ◌+◌, ◌*◌, ◌<◌, ◌≤◌, Bool, true, false, cond, ◌&&◌, ◌||◌, ◌==◌, nat_eq, List, [], ◌∷◌, Option, Some, None, length, refl, sym, ap, ◌∙◌, nat_lt, slice_index_or, get_or, inl, inr, ◌≢◌, arith}
 use Rattle.std.specs.List.{AllClonesOf, IsDistinct, position, position_from}
 use Rattle.std.specs.Option.{option_map_or}
 use Rattle.std.proofs.Math.ListN.{set}
@@ -95,24 +95,21 @@ row_more named p l false true =
     ]
 
 -- a key that is nowhere is not at a place, and one is at one place alone
-none_here : (t : ℕ → Bool) (i x : ℕ) (xs : List ℕ) → position_from t i (x ∷ xs) ≡ None → (t x ≡ false) × (position_from t (i + 1) xs ≡ None)
+none_here : {X : Type 0} (t : X → Bool) (i : ℕ) (x : X) (xs : List X) → position_from t i (x ∷ xs) ≡ None → (t x ≡ false) × (position_from t (i + 1) xs ≡ None)
 none_here t i x xs e = by (t x) refl e
   where
-    not_none : (k : ℕ) → ◌≡◌ {A = Option ℕ} (Some k) None → ⊥
-    not_none k e = cc
-
     by : (b : Bool) → t x ≡ b → cond b (Some i) (position_from t (i + 1) xs) ≡ None → (t x ≡ false) × (position_from t (i + 1) xs ≡ None)
-    by true is e = absurd (not_none i e)
+    by true is e = absurd (cc)
     by false is e = (is, e)
 
-none_from : (t : ℕ → Bool) (i : ℕ) (xs : List ℕ) (k : ℕ) → position_from t i xs ≡ None → k < length xs → t (slice_index_or xs k 0) ≡ false
-none_from t i [] k e lt = absurd (omega arith)
-none_from t i (x ∷ xs) zero e lt = (none_here t i x xs e).0
-none_from t i (x ∷ xs) (suc k) e lt = none_from t (i + 1) xs k (none_here t i x xs e).1 (omega arith)
+pub none_from : {X : Type 0} (t : X → Bool) (i : ℕ) (xs : List X) (k : ℕ) (d : X) → position_from t i xs ≡ None → k < length xs → t (get_or xs k d) ≡ false
+none_from t i [] k d e lt = absurd (omega arith)
+none_from t i (x ∷ xs) zero d e lt = (none_here t i x xs e).0
+none_from t i (x ∷ xs) (suc k) d e lt = none_from t (i + 1) xs k d (none_here t i x xs e).1 (omega arith)
 
 pub place_tells : (keys : List ℕ) (start k : ℕ) (found : Option ℕ) → IsDistinct nat_eq keys → found ≡ position (nat_eq start) keys → k < length keys
     → option_map_or (λ place. place == k) found false ≡ (start == slice_index_or keys k 0)
-place_tells keys start k None distinct e lt = sym (none_from (nat_eq start) 0 keys k (sym (position_from-zero (nat_eq start) keys) ∙ sym e) lt)
+place_tells keys start k None distinct e lt = sym (none_from (nat_eq start) 0 keys k 0 (sym (position_from-zero (nat_eq start) keys) ∙ sym e) lt)
 place_tells keys start k (Some i) distinct e lt =
     let found = position-Some (nat_eq start) keys i 0 (sym e) in
     elim (cases_order i k) [

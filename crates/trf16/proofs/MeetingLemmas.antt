@@ -2,13 +2,14 @@
 use Rattle.std.proofs.Common.{◌≡◌, ◌⊎◌, inl, inr, ℕ, zero, suc, Bool, true, false, not, cond, ◌&&◌, ◌||◌, ◌+◌, ◌-◌, ◌≤◌, ◌<◌, nat_eq, nat_le, nat_lt, List, [], ◌∷◌, length, get_or, take, Option, Some, None, Result, Ok, Err, refl, ap, subst, arith}
 use Rattle.std.specs.Prelude.{IfSome, ◌==◌, sum_by}
 use Rattle.std.specs.Option.{option_map_or}
-use Rattle.std.proofs.lemmas.Bool.{eqb-true, eqb-false, ltb-true, leb-true, cases_lt}
+use Rattle.std.proofs.lemmas.Bool.{eqb-true, eqb-false, ltb-true, leb-true, cases_lt, and_parts, or_cases, not-false}
 use Rattle.std.proofs.lemmas.List.{get_or_past}
 use Rattle.trf16.specs.Sheet.{Entry, Sheet, known, cell_in, cells_of, game_points, half_points, opponent_in_cell, colour_in_cell, rounds_played}
 use Rattle.trf16.specs.Answering.{are_opposite, is_forfeit, are_of_one_class, has_other_points, pair_fits, cell_fits, cells_fit, points_fit, player_fits, players_fit}
-use Rattle.trf16.specs.Verdict.{verdict, laid_out}
+use Rattle.trf16.specs.Verdict.{verdict}
 use Rattle.trf16.specs.Meetings.{AnswerEachOther, AreSum, HavePoints}
-use Rattle.trf16.proofs.StepLemmas.{then_ok, same_ok}
+use Rattle.trf16.proofs.StepLemmas.{then_ok}
+use Rattle.trf16.proofs.WrittenReport.{accepted}
 use Rattle.trf16.specs.declared.cell.Cell.{Cell}
 use Rattle.trf16.specs.declared.cell.Cell.TheVariants.{Blank}
 use Rattle.trf16.specs.declared.fault.Fault.{Fault}
@@ -17,35 +18,14 @@ use Rattle.trf16.specs.declared.fault.Fault.TheVariants.{NoSuchOpponent, SelfOpp
 abbrev fits : Result (Unit {0}) Fault
 fits = Ok (tt {0})
 
-failed : {A : Type 0} → Fault → Result A Fault
-failed fault = Err fault
-
-done : {A : Type 0} → A → Result A Fault
-done x = Ok x
-
-never : {A : Type 0} (fault : Fault) (x : A) → failed fault ≡ done x → ⊥
-unfolding failed done
-never fault x e = cc
-
 -- a test that met no fault
 guard : {A : Type 0} (b : Bool) (fault : Fault) (r : Result A Fault) (y : A) → cond b (Err fault) r ≡ Ok y → (b ≡ false) × (r ≡ Ok y)
-unfolding failed done
-guard true fault r y e = absurd (never fault y e)
+guard true fault r y e = absurd (cc)
 guard false fault r y e = (refl, e)
 
 kept : {A : Type 0} (b : Bool) (fault : Fault) (x y : A) → cond b (Ok x) (Err fault) ≡ Ok y → b ≡ true
-unfolding failed done
 kept true fault x y e = refl
-kept false fault x y e = absurd (never fault y e)
-
--- a verdict that is a report has met no fault of two players
-pub accepted : (bytes : List ℕ) (bye : ℕ) (sheet : Sheet) → verdict bytes bye ≡ Ok sheet → players_fit sheet sheet.players ≡ fits
-unfolding verdict done
-accepted bytes bye sheet e =
-    let laid = then_ok (laid_out bytes bye) _ sheet e in
-    let looked = then_ok (players_fit laid.0 laid.0.players) (λ _. Ok laid.0) sheet laid.2 in
-    let is : laid.0 ≡ sheet = same_ok laid.0 sheet looked.2 in
-    subst (λ (s : Sheet). players_fit s s.players ≡ fits) is looked.1
+kept false fault x y e = absurd (cc)
 
 -- the cells of one player fit
 pub cells_of-fit : (sheet : Sheet) (entries : List Entry) (start : ℕ) → players_fit sheet entries ≡ fits → cells_fit sheet start 1 (cells_of entries start) ≡ fits
@@ -75,29 +55,8 @@ cell_of-fit sheet start n (cell ∷ rest) (suc i) lt e =
     let place : n + 1 + i ≡ n + suc i = omega arith in
     subst (λ r. cell_fits sheet start r (get_or rest i Blank) ≡ fits) place (cell_of-fit sheet start (n + 1) rest i (omega arith) here.2)
 
-not_false : (b : Bool) → not b ≡ false → b ≡ true
-not_false true e = refl
-not_false false e = absurd (ends e)
-  where
-    ends : true ≡ false → ⊥
-    ends e' = cc
-
-both_true : (a b : Bool) → (a && b) ≡ true → (a ≡ true) × (b ≡ true)
-both_true true b e = (refl, e)
-both_true false b e = absurd (ends e)
-  where
-    ends : false ≡ true → ⊥
-    ends e' = cc
-
-either_true : (a b : Bool) → (a || b) ≡ true → (a ≡ true) ⊎ (b ≡ true)
-either_true true b e = inl refl
-either_true false b e = inr e
-
 names_him : (o : Option ℕ) (start : ℕ) → option_map_or (λ n. n == start) o false ≡ true → o ≡ Some start
-names_him None start e = absurd (ends e)
-  where
-    ends : false ≡ true → ⊥
-    ends e' = cc
+names_him None start e = absurd (cc)
 names_him (Some n) start e = ap (λ k. Some k) (eqb-true n start e)
 
 -- the two cells of a pair
@@ -111,8 +70,8 @@ unfolding pair_fits
 pair_is start round mine theirs e =
     let colours = guard (not (are_opposite (colour_in_cell mine) (colour_in_cell theirs) || (is_forfeit mine && is_forfeit theirs))) (Colours start round) _ (tt {0}) e in
     let results = guard (not (are_of_one_class mine theirs && nat_le (game_points mine + game_points theirs) 2)) (Results start round) _ (tt {0}) colours.1 in
-    let both = both_true (are_of_one_class mine theirs) _ (not_false _ results.0) in
-    record { colours = not_false _ colours.0; class = both.0; points = leb-true _ _ both.1 }
+    let both = and_parts (are_of_one_class mine theirs) _ (not-false _ results.0) in
+    record { colours = not-false _ colours.0; class = both.0; points = leb-true _ _ both.1 }
 
 -- a cell that names an opponent and fits
 pub record CellFits (sheet : Sheet) (start round opponent : ℕ) (mine : Cell) : Type 0 where
@@ -131,9 +90,9 @@ cell_is sheet start round opponent mine names e =
     let other = guard (opponent == start) (SelfOpponent start round) _ (tt {0}) found.1 in
     let back = guard (not (option_map_or (λ o. o == start) (opponent_in_cell theirs) false)) (NotMutual start round) _ (tt {0}) other.1 in
     record {
-      player = not_false _ found.0;
+      player = not-false _ found.0;
       another = eqb-false opponent start other.0;
-      both_ways = names_him (opponent_in_cell theirs) start (not_false _ back.0);
+      both_ways = names_him (opponent_in_cell theirs) start (not-false _ back.0);
       pair = pair_is start round mine theirs back.1;
     }
 
@@ -141,7 +100,7 @@ cell_is sheet start round opponent mine names e =
 pub answered : (bytes : List ℕ) (bye : ℕ) (sheet : Sheet) → verdict bytes bye ≡ Ok sheet → AnswerEachOther sheet
 answered bytes bye sheet e start round opponent from_one names =
     let cells = cells_of sheet.players start in
-    let all : cells_fit sheet start 1 cells ≡ fits = cells_of-fit sheet sheet.players start (accepted bytes bye sheet e) in
+    let all : cells_fit sheet start 1 cells ≡ fits = cells_of-fit sheet sheet.players start (accepted bytes bye sheet e).1 in
     let within : round - 1 < length cells = inside (cases_lt (round - 1) (length cells)) in
     let place : 1 + (round - 1) ≡ round = omega arith in
     let here : cell_fits sheet start round (cell_in sheet start round) ≡ fits =
@@ -178,7 +137,7 @@ points_of-fit sheet (entry ∷ rest) (suc k) d lt e =
 sums : (sheet : Sheet) (entry : Entry) (points : ℕ)
     → (((points == sum_by (half_points sheet.bye) (take (rounds_played sheet) entry.cells)) || (points == sum_by (half_points sheet.bye) entry.cells)) || (has_other_points sheet && nat_lt points 200)) ≡ true
     → AreSum sheet entry points
-sums sheet entry points e = by (either_true _ _ e)
+sums sheet entry points e = by (or_cases _ _ e)
   where
     one : ((points == sum_by (half_points sheet.bye) (take (rounds_played sheet) entry.cells)) ≡ true) ⊎ ((points == sum_by (half_points sheet.bye) entry.cells) ≡ true) → AreSum sheet entry points
     one (inl f) = inl (eqb-true _ _ f)
@@ -186,8 +145,8 @@ sums sheet entry points e = by (either_true _ _ e)
 
     by : (((points == sum_by (half_points sheet.bye) (take (rounds_played sheet) entry.cells)) || (points == sum_by (half_points sheet.bye) entry.cells)) ≡ true) ⊎ ((has_other_points sheet && nat_lt points 200) ≡ true)
         → AreSum sheet entry points
-    by (inl f) = one (either_true _ _ f)
-    by (inr f) = let both = both_true (has_other_points sheet) (nat_lt points 200) f in inr (inr (both.0, ltb-true points 200 both.1))
+    by (inl f) = one (or_cases _ _ f)
+    by (inr f) = let both = and_parts (has_other_points sheet) (nat_lt points 200) f in inr (inr (both.0, ltb-true points 200 both.1))
 
 points_is : (sheet : Sheet) (entry : Entry) (o : Option ℕ)
     → option_map_or (λ points. cond (((points == sum_by (half_points sheet.bye) (take (rounds_played sheet) entry.cells)) || (points == sum_by (half_points sheet.bye) entry.cells))
@@ -199,5 +158,5 @@ points_is sheet entry (Some points) e = sums sheet entry points (kept _ (Points 
 pub have_points : (bytes : List ℕ) (bye : ℕ) (sheet : Sheet) → verdict bytes bye ≡ Ok sheet → HavePoints sheet
 unfolding points_fit
 have_points bytes bye sheet e entry has =
-    let fit = points_of-fit sheet sheet.players has.0 entry has.1 (accepted bytes bye sheet e) in
+    let fit = points_of-fit sheet sheet.players has.0 entry has.1 (accepted bytes bye sheet e).1 in
     subst (λ (one : Entry). IfSome one.points (AreSum sheet one)) has.2 (points_is sheet (get_or sheet.players has.0 entry) (get_or sheet.players has.0 entry).points fit)

@@ -5,13 +5,11 @@ use Rattle.std.proofs.lemmas.Bool.{le-ltb, ltb-false}
 use Rattle.std.specs.Prelude.{codes}
 use Rattle.std.specs.List.{list_any}
 use Rattle.std.specs.Option.{option_map_or, option_or}
-use Rattle.std.specs.Str.{bytes_eq}
-use Rattle.std.specs.Char.{to_ascii_lowercase}
-use Rattle.std.proofs.lemmas.Slice.Eq.{bytes_eq-Decides}
 use Rattle.trf16.specs.Lines.{columns}
-use Rattle.trf16.specs.Extensions.{is_kind, is_word, names_absent}
+use Rattle.trf16.specs.Extensions.{is_kind, names_absent}
 use Rattle.trf16.specs.Answering.{has_other_points}
 use Rattle.std.proofs.lemmas.Bool.Decides.{nat_tests}
+use Rattle.std.proofs.Math.Bool.{or-false, or_assoc}
 use Rattle.trf16.specs.declared.kind.LineKind.TheVariants.{Xxs}
 use Rattle.trf16.specs.Absence.{is_of, first_at, first_of}
 use Rattle.trf16.specs.Verdict.{carried_line, without_players}
@@ -21,19 +19,9 @@ use Rattle.trf16.specs.declared.kind.LineKind.{LineKind}
 use Rattle.trf16.specs.declared.notes.Notes.{Notes}
 use Rattle.trf16.proofs.AnsweringLemmas.{some_of, some_of-cons, not_of_kind, not_of_kinds, not_absent, first_at-cons}
 
--- a word is one kind at most
-pub not_both : (word one other : List ℕ) → bytes_eq (map to_ascii_lowercase one) (map to_ascii_lowercase other) ≡ false
-    → is_word word one ≡ true → is_word word other ≡ false
-not_both word one other differ is =
-    ap (λ (w : List ℕ). bytes_eq w (map to_ascii_lowercase other)) ((bytes_eq-Decides (map to_ascii_lowercase word) (map to_ascii_lowercase one)).0 is) ∙ differ
-
 -- the lines of a kind
 abbrev pub of_kind : LineKind → List (List ℕ) → Bool
 of_kind kind line = list_any (is_of line) (kind ∷ [])
-
-pub or_false : (b : Bool) → (b || false) ≡ b
-or_false true = refl
-or_false false = refl
 
 -- what is noted, and what the lines from line n on say, are together what all lines say
 pub record AreNoted (notes : Notes) (utf8 : Bool) (n : ℕ) (rest all : List (List ℕ)) : Type 0 where
@@ -41,10 +29,6 @@ pub record AreNoted (notes : Notes) (utf8 : Bool) (n : ℕ) (rest all : List (Li
   pub first : (kind : LineKind) → option_or (first_noted notes kind) (first_at (of_kind kind) utf8 n (map (carried_line utf8) rest))
       ≡ first_at (of_kind kind) utf8 1 (map (carried_line utf8) all)
   pub together : (notes.together || some_of (is_kind (codes "XXP")) utf8 rest) ≡ some_of (is_kind (codes "XXP")) utf8 all
-
-pub or_step : (marked here others : Bool) → ((marked || here) || others) ≡ (marked || (here || others))
-or_step true here others = refl
-or_step false here others = refl
 
 first_step : (before : Option ℕ) (here : Bool) (n : ℕ) (others : Option ℕ)
     → option_or (noted_first before here n) others ≡ option_or before (cond here (Some n) others)
@@ -70,7 +54,7 @@ pub noted-more : (notes next : Notes) (utf8 : Bool) (n : ℕ) (line : List ℕ) 
 noted-more notes next utf8 n line rest all noted marks firsts together = record {
   absent = λ start.
       ap (λ b. b || some_of (names_absent start) utf8 rest) (marks start)
-      ∙ or_step (is_marked notes start) (names_absent start (columns utf8 line)) (some_of (names_absent start) utf8 rest)
+      ∙ or_assoc (is_marked notes start) (names_absent start (columns utf8 line)) (some_of (names_absent start) utf8 rest)
       ∙ ap (λ b. is_marked notes start || b) (sym (some_of-cons (names_absent start) utf8 line rest (names_absent start (columns utf8 line)) (not_absent start (columns utf8 line)) refl))
       ∙ noted.absent start;
   first = λ kind.
@@ -78,13 +62,13 @@ noted-more notes next utf8 n line rest all noted marks firsts together = record 
       let here = is_of (columns utf8 line) kind in
       ap (λ (o : Option ℕ). option_or o others) (firsts kind)
       ∙ first_step (first_noted notes kind) here n others
-      ∙ ap (option_or (first_noted notes kind)) (sym (first_at-cons (of_kind kind) utf8 n line rest here (not_of_kinds (columns utf8 line) (kind ∷ [])) (or_false here)))
+      ∙ ap (option_or (first_noted notes kind)) (sym (first_at-cons (of_kind kind) utf8 n line rest here (not_of_kinds (columns utf8 line) (kind ∷ [])) (or-false here)))
       ∙ noted.first kind;
   together =
       let test = is_kind (codes "XXP") in
       let here = test (columns utf8 line) in
       ap (λ b. b || some_of test utf8 rest) together
-      ∙ or_step notes.together here (some_of test utf8 rest)
+      ∙ or_assoc notes.together here (some_of test utf8 rest)
       ∙ ap (λ b. notes.together || b) (sym (some_of-cons test utf8 line rest here (not_of_kind (columns utf8 line) (codes "XXP") refl) refl))
       ∙ noted.together;
 }
@@ -96,9 +80,9 @@ or_none (Some k) = refl
 -- behind the last line
 pub noted-all : (notes : Notes) (utf8 : Bool) (n : ℕ) (all : List (List ℕ)) (bye : ℕ) → AreNoted notes utf8 n [] all → Tells notes (without_players utf8 all bye)
 noted-all notes utf8 n all bye noted = record {
-  absent = λ start. sym (or_false (is_marked notes start)) ∙ noted.absent start;
+  absent = λ start. sym (or-false (is_marked notes start)) ∙ noted.absent start;
   first = λ kind. sym (or_none (first_noted notes kind)) ∙ noted.first kind;
-  together = sym (or_false notes.together) ∙ noted.together;
+  together = sym (or-false notes.together) ∙ noted.together;
 }
 
 -- what is noted of one sheet is what another with the same lines says
@@ -118,19 +102,13 @@ tells_again notes again sheet marks firsts same told = record {
   together = same ∙ told.together;
 }
 
-no_line : (m : ℕ) → None ≡ Some m → ⊥
-no_line m e = cc
-
-one_line : (k m : ℕ) → Some k ≡ Some m → k ≡ m
-one_line k m e = cc
-
 from_here : (here : Bool) (n m : ℕ) (others : Option ℕ) → (others ≡ Some m → n + 1 ≤ m) → cond here (Some n) others ≡ Some m → n ≤ m
-from_here true n m others behind e = omega (arith, one_line n m e)
+from_here true n m others behind e = let same : n ≡ m = cc in omega arith
 from_here false n m others behind e = omega (arith, behind e)
 
 -- a line that is found is none in front of where the search began
 first-from : (test : List (List ℕ) → Bool) (utf8 : Bool) (n : ℕ) (lines : List (Option (List ℕ))) (m : ℕ) → first_at test utf8 n lines ≡ Some m → n ≤ m
-first-from test utf8 n [] m e = absurd (no_line m e)
+first-from test utf8 n [] m e = absurd (cc)
 first-from test utf8 n (line ∷ rest) m e =
     from_here (option_map_or (λ bytes. test (columns utf8 bytes)) line false) n m (first_at test utf8 (n + 1) rest) (first-from test utf8 (n + 1) rest m) e
 
@@ -148,7 +126,7 @@ earlier_right n (Some m) h = ap (λ (k : ℕ). Some k) (smaller_right (nat_lt n 
 
 two_firsts : (a b : Bool) (n : ℕ) (one other either : Option ℕ) → ((m : ℕ) → one ≡ Some m → n + 1 ≤ m) → ((m : ℕ) → other ≡ Some m → n + 1 ≤ m)
     → earlier one other ≡ either → earlier (cond a (Some n) one) (cond b (Some n) other) ≡ cond (a || b) (Some n) either
-two_firsts true true n one other either first second e = earlier_left n (Some n) (λ m e'. omega (arith, one_line n m e'))
+two_firsts true true n one other either first second e = earlier_left n (Some n) (λ m e'. let same : n ≡ m = cc in omega arith)
 two_firsts true false n one other either first second e = earlier_left n other (λ m e'. omega (arith, second m e'))
 two_firsts false true n one other either first second e = earlier_right n one (λ m e'. omega (arith, first m e'))
 two_firsts false false n one other either first second e = e
@@ -179,7 +157,7 @@ first_of-cons kind kinds utf8 n lines =
     same_first : (ls : List (Option (List ℕ))) (k : ℕ) → first_at (of_kind kind) utf8 k ls ≡ first_at (λ line. is_of line kind) utf8 k ls
     same_first [] k = refl
     same_first (None ∷ rest) k = same_first rest (k + 1)
-    same_first (Some bytes ∷ rest) k = rw (or_false (is_of (columns utf8 bytes) kind), same_first rest (k + 1)) refl
+    same_first (Some bytes ∷ rest) k = rw (or-false (is_of (columns utf8 bytes) kind), same_first rest (k + 1)) refl
 
 -- of two first lines and a third it does not matter which two are compared first
 pub earlier_assoc : (a b c : Option ℕ) → earlier (earlier a b) c ≡ earlier a (earlier b c)
@@ -211,7 +189,7 @@ other_points-first sheet = some_found (of_kind Xxs) sheet.utf8 sheet.carried 1 �
         ≡ list_any (λ line. option_map_or (λ bytes. is_kind (codes "XXS") (columns sheet.utf8 bytes)) line false) lines
     same_any [] = refl
     same_any (None ∷ rest) = same_any rest
-    same_any (Some bytes ∷ rest) = rw (or_false (is_kind (codes "XXS") (columns sheet.utf8 bytes)), same_any rest) refl
+    same_any (Some bytes ∷ rest) = rw (or-false (is_kind (codes "XXS") (columns sheet.utf8 bytes)), same_any rest) refl
 
 -- one more kind is asked for
 pub kinds-more : (sheet : Sheet) (kinds : List LineKind) (i : ℕ) (d : LineKind) (before total : Option ℕ) → i < length kinds

@@ -101,6 +101,8 @@ put_both a b first now last f g h answer one two =
 pub put_neither : (a b : List ℕ) (first last : Option (List ℕ)) (f h : ℕ) → HasPart a (used first last f h) → HasPart (a ++ b) (used first last f h)
 put_neither a b first last f h one = put_fails (a ++ b) (a ++ b) a b first first last f f h (put_nothing (a ++ b) first f) refl one
 
--- nothing is still to be put
-pub put_none : (text : List ℕ) (first : Option (List ℕ)) (f : ℕ) → text ≡ [] → HasText text (used first first f f)
-put_none text first f e = all_put text text (used first first f f) (put_nothing text first f) e
+-- one text is put, and the sink fails behind it
+pub fails_behind : {a b : List ℕ} {first now last : Option (List ℕ)} {f g h : ℕ} → HasText a (used first now f g) → HasPart b (used now last g h)
+    → HasPart (a ++ b) (used first last f h)
+fails_behind {a} {b} {first} {now} {last} {f} {g} {h} one two =
+    put_fails (a ++ b) b b [] first now last f g h (put_next (a ++ b) (a ++ b) a b first first now f f g (put_nothing (a ++ b) first f) refl one) (sym (append-nil b)) two

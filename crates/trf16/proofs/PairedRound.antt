@@ -10,6 +10,7 @@ use Rattle.std.specs.List.{IsDistinct, AllByRecursion, list_all, list_any}
 use Rattle.std.specs.Option.{option_map_or}
 use Rattle.std.proofs.lemmas.Bool.{and_parts, and_from, eqb-true, eqb-false, ne_eqb, ltb-true, lt-ltb, le-ltb, cases_lt, true≢false}
 use Rattle.std.proofs.lemmas.List.{get_or_past}
+use Rattle.std.proofs.lemmas.List.Elements.{recursion_from_All}
 use Rattle.std.proofs.lemmas.Map.Keys.{IsDistinct-head, IsDistinct-tail}
 use Rattle.trf16.specs.Fields.{without_last}
 use Rattle.trf16.specs.Sheet.{Entry, Sheet, known, cell_in, cells_of, is_paired, last_paired, last_paired_of, rounds_played, half_points, opponent_in_cell}
@@ -23,24 +24,19 @@ use Rattle.trf16.specs.declared.cell.Cell.{Cell}
 use Rattle.trf16.specs.declared.cell.Cell.TheVariants.{Blank, Bye, Game, Forfeit, Unfinished}
 use Rattle.trf16.specs.declared.fault.Fault.{Fault}
 use Rattle.trf16.specs.declared.fault.Fault.TheVariants.{NoSuchOpponent, SelfOpponent, NotMutual, Points}
-use Rattle.trf16.proofs.BoardLemmas.{eq-self, eq-sym, all_from, all_in}
+use Rattle.trf16.proofs.BoardLemmas.{eq-self, eq-sym, all_in}
 use Rattle.trf16.proofs.StepLemmas.{then_ok}
 use Rattle.trf16.proofs.MeetingLemmas.{cell_of-fit}
 use Rattle.trf16.proofs.WrittenCells.{is_sound}
 use Rattle.trf16.proofs.WrittenPlayers.{IsSoundEntry}
-use Rattle.trf16.proofs.WrittenReport.{Turns, known-turned, are_all_sound, were_sound, were_fit, written_again}
+use Rattle.trf16.proofs.WrittenReport.{Turns, known-turned, are_all_sound, were_sound, accepted, written_again}
 use Rattle.trf16.specs.declared.limits.TheConstants.{MOST_ROUNDS, MOST_BYTES}
 
 abbrev fits : Result (Unit {0}) Fault
 fits = Ok (tt {0})
 
--- numbers in a list
-
 one_is : {X : Type 0} (x y : X) → ◌≡◌ {A = Option X} (Some x) (Some y) → x ≡ y
 one_is x y e = cc
-
-not_one : {X : Type 0} (x : X) → ◌≡◌ {A = Option X} None (Some x) → ⊥
-not_one x e = cc
 
 -- what a board gives
 
@@ -76,13 +72,13 @@ named_tail board rest n is = by (board.1 == 0)
     by false = rw (is, or_true (nat_eq n board.1)) (or_true (nat_eq n board.0))
 
 bye_given : (boards : List (ℕ × ℕ)) → IsGiven boards (Bye Allocated)
-bye_given boards = record { paired = refl; said = refl; names = λ o e. absurd (not_one o e) }
+bye_given boards = record { paired = refl; said = refl; names = λ o e. absurd (cc) }
 
 given_later : (board : ℕ × ℕ) (rest : List (ℕ × ℕ)) (cell : Cell) → IsGiven rest cell → IsGiven (board ∷ rest) cell
 given_later board rest cell g = record { paired = g.paired; said = g.said; names = λ o names. named_tail board rest o (g.names o names) }
 
 given : (boards : List (ℕ × ℕ)) (start : ℕ) (cell : Cell) → cell_by boards start ≡ Some cell → IsGiven boards cell
-given [] start cell e = absurd (not_one cell e)
+given [] start cell e = absurd (cc)
 given (board ∷ rest) start cell e = by (board.0 == start) (board.1 == 0) refl (board.1 == start) e (λ e'. given_later board rest cell (given rest start cell e'))
   where
     by : (white bye : Bool) → (board.1 == 0) ≡ bye → (black : Bool)
@@ -184,7 +180,7 @@ answered_later board rest start cell a (inr m) = inr (m.0, met_later board rest 
 
 answered : (boards : List (ℕ × ℕ)) (start : ℕ) (cell : Cell) → (start == 0) ≡ false → AllByRecursion (λ n. (n == 0) ≡ false) (named_by boards)
     → IsDistinct nat_eq (named_by boards) → cell_by boards start ≡ Some cell → Answered boards start cell
-answered [] start cell player some distinct e = absurd (not_one cell e)
+answered [] start cell player some distinct e = absurd (cc)
 answered (board ∷ rest) start cell player some distinct e =
     let a = apart board rest some distinct in
     by a (board.0 == start) refl (board.1 == 0) refl (board.1 == start) refl e (λ e'. answered_later board rest start cell a (answered rest start cell player a.some a.distinct e'))
@@ -599,7 +595,7 @@ pub round_again : (bytes : List ℕ) (bye : ℕ) (report : Sheet) (boards : List
 round_again bytes bye report boards worth e can some few =
     let n = rounds_played report in
     let sound = were_sound bytes bye report e in
-    let named : AllByRecursion (λ k. known report k ≡ true) (named_by boards) = all_from (λ k. known report k ≡ true) (named_by boards) can.players in
+    let named : AllByRecursion (λ k. known report k ≡ true) (named_by boards) = recursion_from_All (λ k. known report k ≡ true) (named_by boards) can.players in
     let small : AllByRecursion (λ k. is_small k ≡ true) (named_by boards) =
     all_more (λ k. known report k ≡ true) (λ k. is_small k ≡ true) (named_by boards) (λ k is. known_small report.utf8 report.players k sound is) named in
     let turns : Turns report.utf8 (entry_with report.bye boards n) = turns_with report.utf8 report.bye boards n small can.within in
@@ -614,4 +610,4 @@ round_again bytes bye report boards worth e can some few =
       played = played_again boards report some named;
     } in
     written_again bytes bye report (entry_with report.bye boards n) worth e turns
-    (players_again report.utf8 boards n report (with_round boards report) report.players next sound (omega arith) (were_fit bytes bye report e)) few
+    (players_again report.utf8 boards n report (with_round boards report) report.players next sound (omega arith) (accepted bytes bye report e).1) few

@@ -1,17 +1,19 @@
 -- Reading one thing after the other, as a loop does.
-use Rattle.std.proofs.Common.{◌≡◌, ℕ, Bool, true, false, nat_lt, cond, ◌||◌, suc, ◌-◌, ◌+◌, ◌<◌, List, [], ◌∷◌, ◌++◌, length, Result, Ok, Err, refl, sym, ap, ◌∙◌, append_assoc, arith}
-use Rattle.std.specs.Prelude.{MatchResult, is_ok, is_some, codes, Some}
-use Rattle.std.specs.Option.{ok_or}
-use Rattle.trf16.specs.Extensions.{is_kind, words_of, rounds_in, colour_in, are_start_ranks}
+use Rattle.std.proofs.Common.{◌≡◌, ℕ, Bool, true, false, nat_lt, subst, ◌||◌, suc, ◌-◌, ◌+◌, ◌<◌, ◌≤◌, get_or, drop, List, [], ◌∷◌, ◌++◌, length, Result, Ok, Err, refl, sym, ap, ◌∙◌, append_assoc, arith}
+use Rattle.std.specs.Prelude.{MatchResult, is_ok}
+use Rattle.std.specs.Result.{IsErrAnd}
+use Rattle.std.proofs.lemmas.Result.{err_from_is_err_and}
+use Rattle.std.proofs.lemmas.List.{drop_more, drop_all}
 use Rattle.std.specs.Str.{is_utf8, IsUtf8}
 use Rattle.std.proofs.lemmas.Str.{is_utf8-from_IsUtf8, IsUtf8-from_is_utf8}
 use Rattle.trf16.specs.declared.cell.Cell.{Cell}
 use Rattle.trf16.specs.declared.fault.Fault.{Fault}
 use Rattle.trf16.specs.declared.fault.Fault.TheVariants.{BadNumber, Duplicate, Misaligned, BadCell, BadExtension, TooMany, NoPlayers, NoSuchOpponent, SelfOpponent, NotMutual, Colours, Results, Points, OutOfMemory}
-use Rattle.trf16.specs.Verdict.{round_at, rounds_at, player_at, is_player, player_onto, rounds_onto, colour_onto, start_ranks_onto, line_onto, lines_onto, has_too_many_rounds, without_players, sized, laid_out}
-use Rattle.trf16.specs.Sheet.{Sheet, with_player}
+use Rattle.trf16.specs.Verdict.{blank_at, blanks_at, round_at, rounds_at, is_player, line_onto, lines_onto, has_too_many_rounds, without_players, sized, laid_out}
+use Rattle.trf16.specs.Sheet.{Sheet}
 use Rattle.trf16.specs.Lines.{columns, lines, without_marks}
 use Rattle.trf16.specs.Outcomes.{◌>>=◌, Fails, Gives}
+use Rattle.trf16.proofs.LineSteps.{line_keeps, line_adds}
 use Rattle.trf16.specs.declared.limits.TheConstants.{MOST_BYTES, MOST_ROUNDS}
 
 -- what was read before, and what is still read
@@ -36,6 +38,26 @@ Fails-on (Colours p r) first whole on h = on (Colours p r) h
 Fails-on (Results p r) first whole on h = on (Results p r) h
 Fails-on (Points p) first whole on h = on (Points p) h
 
+-- the exit of a `?`, where the steps before it met no fault
+pub exits : {X Y A : Type 0} (view : X → Y) (answer : Result X Fault) (fault : Fault) (step : Result A Fault) (whole : Result Y Fault)
+    → IsErrAnd answer (λ met. met ≡ fault) → Fails fault step → ((f : Fault) → step ≡ Err f → whole ≡ Err f) → Gives view answer whole
+exits view answer fault step whole is met on = let p = err_from_is_err_and answer is in rw (p.1, p.2) (Fails-on fault step whole on met)
+
+-- columns that must be blank, one by one
+pub blanks_more : (n : ℕ) (line : List (List ℕ)) (columns : List ℕ) (i : ℕ) (d : ℕ) → i < length columns → blank_at n line (get_or columns i d) ≡ Ok tt
+    → blanks_at n line (drop i columns) ≡ blanks_at n line (drop (i + 1) columns)
+unfolding blanks_at
+blanks_more n line columns i d lt e = rw (drop_more columns i d lt, e) refl
+
+pub blanks_fail : (n : ℕ) (line : List (List ℕ)) (columns : List ℕ) (i : ℕ) (d : ℕ) (fault : Fault) → i < length columns
+    → blank_at n line (get_or columns i d) ≡ Err fault → blanks_at n line (drop i columns) ≡ Err fault
+unfolding blanks_at
+blanks_fail n line columns i d fault lt e = rw (drop_more columns i d lt, e) refl
+
+pub blanks_end : (n : ℕ) (line : List (List ℕ)) (columns : List ℕ) (i : ℕ) → length columns ≤ i → blanks_at n line (drop i columns) ≡ Ok tt
+unfolding blanks_at
+blanks_end n line columns i le = rw (drop_all i columns le) refl
+
 regroup : (front : List Cell) (cell : Cell) (read : Result (List Cell) Fault)
     → behind front (read >>= λ others. Ok (cell ∷ others)) ≡ behind (front ++ cell ∷ []) read
 regroup front cell (Ok others) = ap (λ (cells : List Cell). Ok cells) (sym (append_assoc front (cell ∷ []) others))
@@ -59,80 +81,17 @@ rounds-fail n line front before total lt so_far fault here =
     let one : behind front (rounds_at n line before (MOST_ROUNDS - before)) ≡ Err fault = rw (more, here) refl in
     sym so_far ∙ one
 
-done : Sheet → Result Sheet Fault
-done sheet = Ok sheet
-
-failed : Fault → Result Sheet Fault
-failed fault = Err fault
-
-differ : (fault : Fault) (next : Sheet) → failed fault ≡ done next → ⊥
-unfolding done failed
-differ fault next e = cc
-
-same_sheet : (sheet next : Sheet) → done sheet ≡ done next → sheet ≡ next
-unfolding done
-same_sheet sheet next e = cc
-
 -- a sheet of the same text: its columns and its lines
 abbrev pub SameText : Sheet → Sheet → Type 0
 SameText sheet next = (next.utf8 ≡ sheet.utf8) × (next.carried ≡ sheet.carried)
 
-same_text : (sheet next : Sheet) → sheet ≡ next → SameText sheet next
-same_text sheet next e = (ap (λ (s : Sheet). s.utf8) (sym e), ap (λ (s : Sheet). s.carried) (sym e))
-
--- a step that changes a sheet by `change` only, and keeps its text
-stays_so : {X : Type 0} (sheet next : Sheet) (change : X → Sheet) (read : Result X Fault) → ((x : X) → SameText sheet (change x))
-    → (read >>= λ x. Ok (change x)) ≡ Ok next → SameText sheet next
-unfolding done failed
-stays_so sheet next change (Ok x) keeps e =
-    let same = same_text (change x) next (same_sheet (change x) next e) in
-    (same.0 ∙ (keeps x).0, same.1 ∙ (keeps x).1)
-stays_so sheet next change (Err fault) keeps e = absurd (differ fault next e)
-
-player_onto-text : (sheet : Sheet) (n : ℕ) (line : List (List ℕ)) (next : Sheet) → player_onto sheet n line ≡ Ok next → SameText sheet next
-unfolding player_onto
-player_onto-text sheet n line next e = stays_so sheet next (with_player sheet) (player_at sheet n line) (λ x. (refl, refl)) e
-
-colour_onto-text : (sheet : Sheet) (n : ℕ) (line : List (List ℕ)) (next : Sheet) → colour_onto sheet n line ≡ Ok next → SameText sheet next
-unfolding colour_onto
-colour_onto-text sheet n line next e =
-    stays_so sheet next (λ initial. record sheet { initial = initial }) (ok_or (colour_in sheet.initial (words_of line)) (BadExtension n)) (λ x. (refl, refl)) e
-
-rounds_named : (sheet next : Sheet) (n : ℕ) (named : Bool) (read : Result ℕ Fault)
-    → (read >>= λ rounds. cond named (Err (Duplicate n)) (Ok (record sheet { total = Some rounds }))) ≡ Ok next → SameText sheet next
-unfolding done failed
-rounds_named sheet next n true (Ok rounds) e = absurd (differ (Duplicate n) next e)
-rounds_named sheet next n false (Ok rounds) e = same_text (record sheet { total = Some rounds }) next (same_sheet (record sheet { total = Some rounds }) next e)
-rounds_named sheet next n named (Err fault) e = absurd (differ fault next e)
-
-rounds_onto-text : (sheet : Sheet) (n : ℕ) (line : List (List ℕ)) (next : Sheet) → rounds_onto sheet n line ≡ Ok next → SameText sheet next
-unfolding rounds_onto
-rounds_onto-text sheet n line next e = rounds_named sheet next n (is_some sheet.total) (ok_or (rounds_in (words_of line)) (BadExtension n)) e
-
-start_ranks_named : (sheet next : Sheet) (n : ℕ) (fits : Bool) → cond fits (Ok sheet) (Err (BadExtension n)) ≡ Ok next → SameText sheet next
-unfolding done failed
-start_ranks_named sheet next n true e = same_text sheet next (same_sheet sheet next e)
-start_ranks_named sheet next n false e = absurd (differ (BadExtension n) next e)
-
-start_ranks_onto-text : (sheet : Sheet) (n : ℕ) (line : List (List ℕ)) (next : Sheet) → start_ranks_onto sheet n line ≡ Ok next → SameText sheet next
-unfolding start_ranks_onto
-start_ranks_onto-text sheet n line next e = start_ranks_named sheet next n (are_start_ranks (words_of line)) e
-
-by_kind : (sheet : Sheet) (n : ℕ) (line : List (List ℕ)) (next : Sheet) (player rounds colour absence : Bool)
-    → cond player (player_onto sheet n line) (cond rounds (rounds_onto sheet n line) (cond colour (colour_onto sheet n line)
-    (cond absence (start_ranks_onto sheet n line) (Ok sheet)))) ≡ Ok next → SameText sheet next
-unfolding done
-by_kind sheet n line next true rounds colour absence e = player_onto-text sheet n line next e
-by_kind sheet n line next false true colour absence e = rounds_onto-text sheet n line next e
-by_kind sheet n line next false false true absence e = colour_onto-text sheet n line next e
-by_kind sheet n line next false false false true e = start_ranks_onto-text sheet n line next e
-by_kind sheet n line next false false false false e = same_text sheet next (same_sheet sheet next e)
-
 -- what a line adds does not change the text
 pub line_onto-text : (sheet : Sheet) (n : ℕ) (line : List (List ℕ)) (next : Sheet) → line_onto sheet n line ≡ Ok next → SameText sheet next
-unfolding line_onto
-line_onto-text sheet n line next e =
-    by_kind sheet n line next (is_player line) (is_kind (codes "XXR") line) (is_kind (codes "XXC") line) (is_kind (codes "XXZ") line || is_kind (codes "XXP") line) e
+line_onto-text sheet n line next e = by (is_player line) refl
+  where
+    by : (named : Bool) → is_player line ≡ named → SameText sheet next
+    by true named = let adds = line_adds sheet n line next named e in subst (SameText sheet) adds.2 (refl, refl)
+    by false other = let keeps = line_keeps (λ entry. entry) sheet n line next other e in (keeps.utf8, keeps.carried)
 
 pub lines-go_on : (sheet next : Sheet) (n : ℕ) (line : List ℕ) (rest : List (List ℕ)) → line_onto sheet n (columns sheet.utf8 line) ≡ Ok next
     → lines_onto sheet n (line ∷ rest) ≡ lines_onto next (n + 1) rest

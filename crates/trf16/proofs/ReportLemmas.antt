@@ -12,16 +12,6 @@ use Rattle.trf16.specs.declared.cell.Cell.{Cell}
 use Rattle.trf16.specs.Names.{player_of}
 use Rattle.trf16.specs.Sheet.{Entry, entry_of, cells_of, is_paired, last_paired}
 
--- entries whose keys are the start ranks of their players
-pub record AreKeyed (entries : List (ℕ × Player)) : Type 0 where
-  pub keys : keys_of entries ≡ map (λ e. e.1.start) entries
-
-first_of_lists : (x y : ℕ) (xs ys : List ℕ) → (x ∷ xs) ≡ (y ∷ ys) → x ≡ y
-first_of_lists x y xs ys e = cc
-
-rest_of_lists : (x y : ℕ) (xs ys : List ℕ) → (x ∷ xs) ≡ (y ∷ ys) → xs ≡ ys
-rest_of_lists x y xs ys e = cc
-
 eq-sym : (a b : ℕ) → nat_eq a b ≡ nat_eq b a
 eq-sym a b = grind (arith, nat_tests)
 
@@ -39,8 +29,8 @@ pub known-lookup : (es : List (ℕ × Player)) (start : ℕ) → keys_of es ≡ 
 known-lookup [] start keyed = refl
 known-lookup (e ∷ es) start keyed =
     known_step e.0 start e.1 (lookup (nat_eq start) es) (list_any (λ (entry : Entry). entry.start == start) (map (λ e. entry_of e.1) es))
-    (first_of_lists e.0 e.1.start (keys_of es) (map (λ e. e.1.start) es) keyed)
-    (known-lookup es start (rest_of_lists e.0 e.1.start (keys_of es) (map (λ e. e.1.start) es) keyed))
+    (let first : e.0 ≡ e.1.start = cc in first)
+    (known-lookup es start (let rest : keys_of es ≡ map (λ e. e.1.start) es = cc in rest))
 
 pub entries-values : (es : List (ℕ × Player)) → map entry_of (map (λ e. e.1) es) ≡ map (λ e. entry_of e.1) es
 entries-values [] = refl
@@ -48,10 +38,7 @@ entries-values (e ∷ es) = ap (λ (rest : List Entry). entry_of e.1 ∷ rest) (
 
 pub none_from : {X : Type 0} (o : Option X) → is_some o ≡ false → o ≡ None
 none_from None e = refl
-none_from (Some x) e = absurd (true_false e)
-  where
-    true_false : true ≡ false → ⊥
-    true_false e = cc
+none_from (Some x) e = absurd (cc)
 
 -- a player whose key is their start rank keeps the entries keyed
 pub keyed-push : (es : List (ℕ × Player)) (p : Player) → keys_of es ≡ map (λ e. e.1.start) es
@@ -75,8 +62,8 @@ pub cells-lookup : (es : List (ℕ × Player)) (start : ℕ) → keys_of es ≡ 
 cells-lookup [] start keyed = refl
 cells-lookup (e ∷ es) start keyed =
     cells_step e.0 start e.1 (lookup (nat_eq start) es) (cells_of (map (λ e. entry_of e.1) es) start)
-    (first_of_lists e.0 e.1.start (keys_of es) (map (λ e. e.1.start) es) keyed)
-    (cells-lookup es start (rest_of_lists e.0 e.1.start (keys_of es) (map (λ e. e.1.start) es) keyed))
+    (let first : e.0 ≡ e.1.start = cc in first)
+    (cells-lookup es start (let rest : keys_of es ≡ map (λ e. e.1.start) es = cc in rest))
 
 entry_step : (k start : ℕ) (p : Player) (found : Option Player) (others : Option Entry) → k ≡ p.start → option_map entry_of found ≡ others
     → option_map entry_of (cond (nat_eq start k) (Some p) found) ≡ cond (p.start == start) (Some (entry_of p)) others
@@ -92,8 +79,8 @@ pub entry-lookup : (es : List (ℕ × Player)) (start : ℕ) → keys_of es ≡ 
 entry-lookup [] start keyed = refl
 entry-lookup (e ∷ es) start keyed =
     entry_step e.0 start e.1 (lookup (nat_eq start) es) (player_of (map (λ e. entry_of e.1) es) start)
-    (first_of_lists e.0 e.1.start (keys_of es) (map (λ e. e.1.start) es) keyed)
-    (entry-lookup es start (rest_of_lists e.0 e.1.start (keys_of es) (map (λ e. e.1.start) es) keyed))
+    (let first : e.0 ≡ e.1.start = cc in first)
+    (entry-lookup es start (let rest : keys_of es ≡ map (λ e. e.1.start) es = cc in rest))
 
 paired_step : (len others : ℕ) (first last : Bool) → 0 < len + 1
     → cond (nat_lt 0 (cond last (len + 1) others)) (cond last (len + 1) others + 1) (cond first 1 0)

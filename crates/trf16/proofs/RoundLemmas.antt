@@ -1,27 +1,20 @@
 -- The boards and the cells of the next round, as loops look at them.
-use Rattle.std.proofs.Common.{◌≡◌, ℕ, zero, suc, ◌+◌, ◌<◌, ◌≤◌, false, nat_eq, List, [], ◌∷◌, ◌++◌, length, set, drop, get_or, map, Some, None, refl, sym, ap, ◌∙◌, subst, append_assoc, arith}
+use Rattle.std.proofs.Common.{◌≡◌, ℕ, zero, suc, ◌<◌, ◌≤◌, false, nat_eq, List, [], ◌∷◌, ◌++◌, length, set, map, None, refl, sym, ap, ◌∙◌, subst, append_assoc, arith}
 use Rattle.std.specs.List.{IsDistinct, AllByRecursion, list_any}
 use Rattle.std.specs.Map.{keys_of, lookup}
-use Rattle.std.specs.Option.{option_map_or}
-use Rattle.std.proofs.lemmas.Bool.Decides.{nat_tests}
-use Rattle.std.proofs.lemmas.List.{drop_more, drop_all, append-nil, map-append, length-map}
+use Rattle.std.proofs.lemmas.List.{append-nil, map-append, length-map}
 use Rattle.std.proofs.lemmas.Map.Keys.{IsDistinct-head, IsDistinct-tail}
 use Rattle.std.proofs.lemmas.Map.Made.{is_some-lookup}
 use Rattle.indexmap.specs.IndexMap.{IndexMap, insert_entry}
 use Rattle.indexmap.proofs.CallerLemmas.{insert_entry-new}
 use Rattle.trf16.specs.Sheet.{Entry, entry_of}
-use Rattle.trf16.specs.Round.{cell_on, cell_by, with_cell}
+use Rattle.trf16.specs.StartRanks.{starts_of}
+use Rattle.trf16.specs.Round.{with_cell}
 use Rattle.trf16.specs.declared.player.Player.{Player}
 use Rattle.trf16.specs.declared.cell.Cell.{Cell}
 use Rattle.trf16.specs.declared.cell.Cell.TheVariants.{Blank}
+use Rattle.trf16.proofs.BoardLemmas.{eq-sym}
 use Rattle.trf16.proofs.ReportLemmas.{none_from, keyed-push}
-
-pub cell_by-more : (boards : List (ℕ × ℕ)) (start i : ℕ) (d : ℕ × ℕ) → i < length boards
-    → cell_by (drop i boards) start ≡ option_map_or (λ cell. Some cell) (cell_on (get_or boards i d) start) (cell_by (drop (i + 1) boards) start)
-cell_by-more boards start i d lt = rw (drop_more boards i d lt) refl
-
-pub cell_by-end : (boards : List (ℕ × ℕ)) (start i : ℕ) → length boards ≤ i → cell_by (drop i boards) start ≡ None
-cell_by-end boards start i le = rw (drop_all i boards le) refl
 
 -- a blank cell behind the last makes no difference
 pub with_cell-blank : (before : ℕ) (cell : Cell) (cells : List Cell) → length cells ≤ before → with_cell before cell (cells ++ Blank ∷ []) ≡ with_cell before cell cells
@@ -45,9 +38,6 @@ pub record AreTurned (turn : Entry → Entry) (done : List (ℕ × Player)) (res
 abbrev pub KeepsStart : (Entry → Entry) → Type 0
 KeepsStart turn = (entry : Entry) → (turn entry).start ≡ entry.start
 
-abbrev starts_of : List Entry → List ℕ
-starts_of entries = map (λ (e : Entry). e.start) entries
-
 pub starts-entries : (es : List (ℕ × Player)) → map (λ e. e.1.start) es ≡ starts_of (map (λ e. entry_of e.1) es)
 starts-entries [] = refl
 starts-entries (e ∷ es) = ap (λ (starts : List ℕ). e.1.start ∷ starts) (starts-entries es)
@@ -59,9 +49,6 @@ starts-with turn keeps (entry ∷ entries) = rw (keeps entry) (ap (λ (starts : 
 all_at : (P : ℕ → Type 0) (ks : List ℕ) (k : ℕ) (rest : List ℕ) → AllByRecursion P (ks ++ k ∷ rest) → P k
 all_at P [] k rest all = all.0
 all_at P (x ∷ ks) k rest all = all_at P ks k rest all.1
-
-eq-sym : (a b : ℕ) → nat_eq a b ≡ nat_eq b a
-eq-sym a b = grind (arith, nat_tests)
 
 -- a number behind distinct ones is none of them
 fresh : (ks : List ℕ) (k : ℕ) (rest : List ℕ) → IsDistinct nat_eq (ks ++ k ∷ rest) → list_any (nat_eq k) ks ≡ false

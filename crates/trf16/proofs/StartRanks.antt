@@ -1,5 +1,5 @@
 -- In a report that was read no two players have the same start rank: a line whose start rank is known already is refused.
-use Rattle.std.proofs.Common.{◌≡◌, ℕ, ◌+◌, ◌<◌, ◌≤◌, Bool, true, false, ◌||◌, ◌==◌, nat_eq, nat_lt, cond, List, [], ◌∷◌, ◌++◌, length, refl, sym, ap, subst, arith, inl, inr, Option, Some, None, Result, Ok, Err}
+use Rattle.std.proofs.Common.{◌≡◌, ℕ, ◌+◌, ◌<◌, ◌≤◌, Bool, false, ◌==◌, nat_eq, nat_lt, List, [], ◌∷◌, ◌++◌, refl, sym, ap, subst, arith, inl, inr, Option, Some, None, Ok}
 use Rattle.std.specs.Prelude.{IfSome}
 use Rattle.std.specs.List.{AllByRecursion, IsDistinct, list_any}
 use Rattle.std.specs.Option.{option_map_or}
@@ -10,13 +10,12 @@ use Rattle.std.proofs.lemmas.List.Elements.{All-from_recursion}
 use Rattle.trf16.specs.Lines.{columns, lines, without_marks}
 use Rattle.trf16.specs.Sheet.{Entry, Sheet, with_player}
 use Rattle.trf16.specs.StartRanks.{starts_of, HasOwnStarts}
-use Rattle.trf16.specs.Verdict.{is_player, line_onto, lines_onto, without_players, has_too_many_rounds, names_too_many_rounds, sized, verdict}
-use Rattle.trf16.specs.declared.fault.Excess.TheVariants.{Players, Rounds}
-use Rattle.trf16.specs.declared.fault.Fault.{Fault}
-use Rattle.trf16.specs.declared.fault.Fault.TheVariants.{TooMany, NoPlayers}
+use Rattle.trf16.specs.Verdict.{is_player, line_onto, lines_onto, without_players, has_too_many_rounds, verdict}
 use Rattle.trf16.proofs.StepLemmas.{same_ok}
-use Rattle.trf16.proofs.WrittenReport.{are_all_sound, were_sound, verdict_is, report_is, line_keeps, line_adds, first_onto}
-use Rattle.trf16.specs.declared.limits.TheConstants.{MOST_PLAYERS, MOST_ROUNDS}
+use Rattle.trf16.proofs.WrittenReport.{are_all_sound, were_sound, accepted, sized_is, first_onto}
+use Rattle.trf16.proofs.LineSteps.{line_keeps, line_adds}
+use Rattle.trf16.proofs.WrittenPlayers.{player_is}
+use Rattle.trf16.specs.declared.limits.TheConstants.{MOST_ROUNDS}
 
 all_more : (x : ℕ) (ys : List ℕ) (y : ℕ) → AllByRecursion (λ z. nat_eq x z ≡ false) ys → nat_eq x y ≡ false → AllByRecursion (λ z. nat_eq x z ≡ false) (ys ++ y ∷ [])
 all_more x [] y all other = (other, tt)
@@ -40,11 +39,11 @@ line_distinct : (sheet next : Sheet) (n : ℕ) (line : List (List ℕ)) → line
 line_distinct sheet next n line e distinct = elim (cases_Bool (is_player line)) [
   | inl named ↦
       let adds = line_adds sheet n line next named e in
-      let more = one_more sheet.players adds.entry distinct adds.player.fresh in
-      let whole : IsDistinct nat_eq (starts_of (with_player sheet adds.entry).players) = subst (IsDistinct nat_eq) (sym (starts-append sheet.players adds.entry)) more in
-      subst (λ (s : Sheet). IsDistinct nat_eq (starts_of s.players)) adds.next_is whole
+      let more = one_more sheet.players adds.0 distinct (player_is sheet n line adds.0 adds.1).fresh in
+      let whole : IsDistinct nat_eq (starts_of (with_player sheet adds.0).players) = subst (IsDistinct nat_eq) (sym (starts-append sheet.players adds.0)) more in
+      subst (λ (s : Sheet). IsDistinct nat_eq (starts_of s.players)) adds.2 whole
   | inr other ↦
-      let keeps = line_keeps sheet n line next other e in
+      let keeps = line_keeps (λ entry. entry) sheet n line next other e in
       subst (λ (ps : List Entry). IsDistinct nat_eq (starts_of ps)) (sym keeps.players) distinct
 ]
 
@@ -56,24 +55,9 @@ lines_distinct sheet final n (line ∷ rest) e distinct =
     let first = first_onto sheet final n line rest e in
     lines_distinct first.0 final (n + 1) rest first.2 (line_distinct sheet first.0 n (columns sheet.utf8 line) first.1 distinct)
 
--- what a fault would be
-not_ok : {A : Type 0} (fault : Fault) (x : A) → ◌≡◌ {A = Result A Fault} (Err fault) (Ok x) → ⊥
-not_ok fault x e = cc
-
 few_rounds : (total : Option ℕ) → option_map_or (λ total. nat_lt MOST_ROUNDS total) total false ≡ false → IfSome total (λ total. total ≤ MOST_ROUNDS)
 few_rounds None e = tt
 few_rounds (Some total) e = grind (arith, nat_tests)
-
-few_named : (sheet : Sheet) (long : Bool) → sized sheet long ≡ Ok sheet → names_too_many_rounds sheet ≡ false
-unfolding sized
-few_named sheet long e = by (nat_lt MOST_PLAYERS (length sheet.players)) (length sheet.players == 0) long (names_too_many_rounds sheet) e
-  where
-    by : (many none long named : Bool)
-        → ◌≡◌ {A = Result Sheet Fault} (cond many (Err (TooMany Players)) (cond (long || named) (Err (TooMany Rounds)) (cond none (Err NoPlayers) (Ok sheet)))) (Ok sheet) → named ≡ false
-    by many none long false e = refl
-    by true none long true e = absurd (not_ok (TooMany Players) sheet e)
-    by false none true true e = absurd (not_ok (TooMany Rounds) sheet e)
-    by false none false true e = absurd (not_ok (TooMany Rounds) sheet e)
 
 all_within : (utf8 : Bool) (entries : List Entry) → are_all_sound utf8 entries → AllByRecursion (λ start. (0 < start) × (start ≤ 9999)) (starts_of entries)
 all_within utf8 [] sound = tt
@@ -90,9 +74,9 @@ unfolding IsDistinct
 own_starts bytes bye sheet e =
     let utf8 = is_utf8 (without_marks bytes) in
     let all = lines (without_marks bytes) in
-    let r = report_is utf8 all bye sheet (verdict_is bytes bye sheet e) in
+    let r = (accepted bytes bye sheet e).0 in
     record {
       different = lines_distinct (without_players utf8 all bye) sheet 1 all r.read tt;
       within = All-from_recursion (λ start. (0 < start) × (start ≤ 9999)) (starts_of sheet.players) (all_within sheet.utf8 sheet.players (were_sound bytes bye sheet e));
-      rounds = few_rounds sheet.total (few_named sheet (has_too_many_rounds utf8 all) r.size);
+      rounds = few_rounds sheet.total (sized_is sheet sheet (has_too_many_rounds utf8 all) r.size).named;
     }

@@ -6,16 +6,7 @@ use Rattle.trf16.specs.declared.fault.Fault.{Fault}
 -- the value of a step that met no fault
 pub then_ok : {A B : Type 0} (read : Result A Fault) (next : A → Result B Fault) (y : B) → (read >>= next) ≡ Ok y → (x : A) × (read ≡ Ok x) × (next x ≡ Ok y)
 then_ok (Ok x) next y e = (x, refl, e)
-then_ok {A} {B} (Err fault) next y e = absurd (differ fault y e)
-  where
-    differ : (fault : Fault) (y : B) → Err fault ≡ Ok y → ⊥
-    differ fault y e = cc
+then_ok (Err fault) next y e = absurd (cc)
 
 pub same_ok : {A : Type 0} (x y : A) → ◌≡◌ {A = Result A Fault} (Ok x) (Ok y) → x ≡ y
 same_ok x y e = cc
-
--- steps one after the other, grouped
-pub then_assoc : {A B C : Type 0} (read : Result A Fault) (next : A → Result B Fault) (last : B → Result C Fault)
-    → ((read >>= next) >>= last) ≡ (read >>= λ x. next x >>= last)
-then_assoc (Ok x) next last = refl
-then_assoc (Err fault) next last = refl

@@ -3,7 +3,7 @@
 --
 -- Summing is a change of players as the round trip allows it (`Turns`). Start ranks and cells stay, so the rules on two players hold
 -- as before; each points field is the sum over the rounds that were paired, so the rule on points holds too.
-use Rattle.std.proofs.Common.{◌≡◌, ◌⊎◌, inl, inr, ℕ, ◌+◌, ◌≤◌, Bool, true, false, ◌&&◌, ◌||◌, ◌==◌, nat_lt, max, cond, List, [], ◌∷◌, length, take, map, refl, ap, ◌∙◌, subst, Option, Some, None, Result, Ok, Err}
+use Rattle.std.proofs.Common.{◌≡◌, ◌⊎◌, inl, inr, ℕ, ◌+◌, ◌≤◌, Bool, true, false, ◌&&◌, ◌||◌, ◌==◌, nat_lt, max, cond, List, [], ◌∷◌, length, take, map, refl, ap, ◌∙◌, Option, Some, None, Result, Ok, Err}
 use Rattle.std.specs.Prelude.{sum_by}
 use Rattle.std.specs.List.{list_any}
 use Rattle.std.specs.Option.{option_map_or}
@@ -18,8 +18,8 @@ use Rattle.trf16.specs.declared.fault.Fault.{Fault}
 use Rattle.trf16.specs.declared.fault.Fault.TheVariants.{Points}
 use Rattle.trf16.proofs.BoardLemmas.{eq-self}
 use Rattle.trf16.proofs.PairedRound.{fits-same}
-use Rattle.trf16.proofs.StepLemmas.{then_ok, same_ok}
-use Rattle.trf16.proofs.WrittenReport.{IsLaidOutOf, Turns, laid_again, laid_of}
+use Rattle.trf16.proofs.StepLemmas.{then_ok}
+use Rattle.trf16.proofs.WrittenReport.{IsLaidOutOf, Turns, laid_again, rule_met}
 use Rattle.trf16.specs.declared.limits.TheConstants.{MOST_BYTES}
 
 abbrev fits : Result (Unit {0}) Fault
@@ -132,20 +132,10 @@ turns_summed utf8 bye rounds = record {
 
 -- the whole
 
-record IsUnsummed (bytes : List ℕ) (bye : ℕ) (report : Sheet) : Type 0 where
-  laid : IsLaidOutOf bytes bye report
-  fit : all_cells_fit report report.players ≡ fits
-
-unsummed_is : (bytes : List ℕ) (bye : ℕ) (report : Sheet) → verdict_unsummed bytes bye ≡ Ok report → IsUnsummed bytes bye report
+unsummed_is : (bytes : List ℕ) (bye : ℕ) (report : Sheet) → verdict_unsummed bytes bye ≡ Ok report
+    → IsLaidOutOf bytes bye report × (all_cells_fit report report.players ≡ fits)
 unfolding verdict_unsummed
-unsummed_is bytes bye report e =
-    let laid = then_ok (laid_out bytes bye) (λ sheet. all_cells_fit sheet sheet.players >>= λ _. Ok sheet) report e in
-    let looked = then_ok (all_cells_fit laid.0 laid.0.players) (λ _. Ok laid.0) report laid.2 in
-    let same : laid.0 ≡ report = same_ok laid.0 report looked.2 in
-    record {
-      laid = laid_of bytes bye report (laid.1 ∙ ap (λ (s : Sheet). Ok s) same);
-      fit = subst (λ (s : Sheet). all_cells_fit s s.players ≡ fits) same looked.1;
-    }
+unsummed_is bytes bye report e = rule_met bytes bye report (λ sheet. all_cells_fit sheet sheet.players) e
 
 pub summed_again : (bytes : List ℕ) (bye : ℕ) (report : Sheet) → bye ≤ 2 → verdict_unsummed bytes bye ≡ Ok report → length (written (summed report)) ≤ MOST_BYTES
     → verdict (written (summed report)) report.bye ≡ Ok (summed report)
@@ -157,5 +147,5 @@ summed_again bytes bye report worth e few =
       players = λ start. known_same report.bye rounds start report.players;
       cells = λ start round. ap (λ (cells : List Cell). cell_at cells round) (cells_same report.bye rounds start report.players);
     } in
-    laid_again bytes bye report turn worth u.laid (turns_summed report.utf8 report.bye rounds)
-    (players_summed report (summed report) rounds report.players same (played_same report.bye rounds report.players) u.fit) few
+    laid_again bytes bye report turn worth u.0 (turns_summed report.utf8 report.bye rounds)
+    (players_summed report (summed report) rounds report.players same (played_same report.bye rounds report.players) u.1) few

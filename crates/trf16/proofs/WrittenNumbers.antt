@@ -12,9 +12,6 @@ use Rattle.trf16.specs.Written.{blanks, right_in_four, points_text}
 use Rattle.trf16.proofs.WrittenColumns.{is_plain}
 use Rattle.trf16.proofs.FieldLemmas.{words-blank, not_blank}
 
-pub all_digits : List ℕ → Type 0
-all_digits bs = list_all is_ascii_digit bs ≡ true
-
 own : IsNumeralModel (λ bs. list_all is_ascii_digit bs ≡ true) (number_after 0)
 own = numerals_by_fold (λ bs. list_all is_ascii_digit bs ≡ true) (search rules) number_after (search rules)
 

@@ -15,7 +15,7 @@ use Rattle.trf16.specs.Fields.{words, number_in, points_in, without_last, trimme
 use Rattle.trf16.specs.Cells.{cell_from}
 use Rattle.trf16.specs.Sheet.{Entry, Sheet, known}
 use Rattle.trf16.specs.Outcomes.{◌>>=◌}
-use Rattle.trf16.specs.Verdict.{blank_at, start_number_at, start_at, points_at, rounds_at, is_blank_cell, cells_at, player_at, is_player, is_too_long}
+use Rattle.trf16.specs.Verdict.{blank_at, blanks_at, start_number_at, start_at, points_at, rounds_at, is_blank_cell, cells_at, player_at, is_player, is_too_long}
 use Rattle.trf16.specs.Written.{right_in_four, left_in, points_field, cell_text, round_text, player_text}
 use Rattle.trf16.specs.declared.cell.Cell.{Cell}
 use Rattle.trf16.specs.declared.cell.Cell.TheVariants.{Blank}
@@ -26,7 +26,7 @@ use Rattle.trf16.proofs.WrittenNumbers.{numbers}
 use Rattle.trf16.proofs.WrittenColumns.{is_plain, each, joined-each, length-each, starts-append, starts-ascii, columns-append, columns-ascii, AreColumns, AreColumns-drop, columns-are, ascii-plain, slice_part}
 use Rattle.trf16.proofs.WrittenCells.{is_sound, fields_of, text-behind, list_all-append, plain-number, length-four, four_are}
 use Rattle.trf16.proofs.StepLemmas.{then_ok, same_ok}
-use Rattle.trf16.proofs.WrittenRounds.{ok_or_ok, blank_ok, blank_from, tail_of, tail-rounds, lead_blank, rounds-written, rounds_were, ascii-blank, ascii_from, joined_at, fields_are}
+use Rattle.trf16.proofs.WrittenRounds.{ok_or_ok, blank_ok, blank_from, blanks_ok, blanks_from, tail_of, tail-rounds, lead_blank, rounds-written, rounds_were, ascii-blank, ascii_from, joined_at, fields_are}
 use Rattle.trf16.proofs.WrittenText.{is_inside, utf8_split, utf8_nil, utf8_behind, utf8_front}
 use Rattle.trf16.proofs.WrittenFields.{without_last-append, without_last-twice, cut, all_cut, length_cut, IsCarried, carried_is, filled, inside-plain, are_small, points_field_is, ascii-points, ascii-number}
 use Rattle.trf16.specs.declared.limits.TheConstants.{MOST_ROUNDS, LAST_COLUMN}
@@ -54,8 +54,7 @@ player_from sheet n line entry p =
       p.some,
       p.fresh,
       p.points,
-      blank_from n line 90 p.blank90,
-      blank_from n line 91 p.blank91,
+      blanks_from n line (90 ∷ 91 ∷ []) (p.blank90, (p.blank91, tt)),
       p.cells,
       p.numbered,
       p.left,
@@ -64,10 +63,7 @@ player_from sheet n line entry p =
 
 -- a step that is refused where a test holds
 unless_ok : (b : Bool) (x y : ℕ) (fault : Fault) → ◌≡◌ {A = Result ℕ Fault} (cond b (Err fault) (Ok x)) (Ok y) → (b ≡ false) × (x ≡ y)
-unless_ok true x y fault e = absurd (differ e)
-  where
-    differ : ◌≡◌ {A = Result ℕ Fault} (Err fault) (Ok y) → ⊥
-    differ e = cc
+unless_ok true x y fault e = absurd (cc)
 unless_ok false x y fault e = (refl, same_ok x y e)
 
 record IsStart (sheet : Sheet) (n : ℕ) (line : List (List ℕ)) (start : ℕ) : Type 0 where
@@ -98,29 +94,30 @@ unfolding player_at points_at
 player_is sheet n line entry e =
     let made : ℕ → Option ℕ → List Cell → Entry = λ start points cells.
     record { start = start; line = n; points = points; left = trimmed (text line 9 80); right = trimmed (text line 85 89); cells = cells } in
-    let s1 = then_ok (blank_at n line 4) (λ _. start_at sheet n line >>= λ start. points_at n line >>= λ points. blank_at n line 90 >>= λ _. blank_at n line 91 >>= λ _. cells_at n line >>= λ cells. Ok (made start points cells)) entry e in
-    let s2 = then_ok (start_at sheet n line) (λ start. points_at n line >>= λ points. blank_at n line 90 >>= λ _. blank_at n line 91 >>= λ _. cells_at n line >>= λ cells. Ok (made start points cells)) entry s1.2 in
-    let s3 = then_ok (points_at n line) (λ points. blank_at n line 90 >>= λ _. blank_at n line 91 >>= λ _. cells_at n line >>= λ cells. Ok (made s2.0 points cells)) entry s2.2 in
-    let s4 = then_ok (blank_at n line 90) (λ _. blank_at n line 91 >>= λ _. cells_at n line >>= λ cells. Ok (made s2.0 s3.0 cells)) entry s3.2 in
-    let s5 = then_ok (blank_at n line 91) (λ _. cells_at n line >>= λ cells. Ok (made s2.0 s3.0 cells)) entry s4.2 in
-    let s6 = then_ok (cells_at n line) (λ cells. Ok (made s2.0 s3.0 cells)) entry s5.2 in
-    let same : made s2.0 s3.0 s6.0 ≡ entry = same_ok (made s2.0 s3.0 s6.0) entry s6.2 in
+    let rest : ℕ → Option ℕ → Result Entry Fault = λ start points. blanks_at n line (90 ∷ 91 ∷ []) >>= λ _. cells_at n line >>= λ cells. Ok (made start points cells) in
+    let s1 = then_ok (blank_at n line 4) (λ _. start_at sheet n line >>= λ start. points_at n line >>= rest start) entry e in
+    let s2 = then_ok (start_at sheet n line) (λ start. points_at n line >>= rest start) entry s1.2 in
+    let s3 = then_ok (points_at n line) (rest s2.0) entry s2.2 in
+    let s4 = then_ok (blanks_at n line (90 ∷ 91 ∷ [])) (λ _. cells_at n line >>= λ cells. Ok (made s2.0 s3.0 cells)) entry s3.2 in
+    let blank = blanks_ok n line (90 ∷ 91 ∷ []) s4.0 s4.1 in
+    let s5 = then_ok (cells_at n line) (λ cells. Ok (made s2.0 s3.0 cells)) entry s4.2 in
+    let same : made s2.0 s3.0 s5.0 ≡ entry = same_ok (made s2.0 s3.0 s5.0) entry s5.2 in
     let start = start_is sheet n line s2.0 s2.1 in
     let points : points_in (words (text line 81 84)) ≡ Some s3.0 = ok_or_ok (points_in (words (text line 81 84))) (BadNumber n) s3.0 s3.1 in
-    let built : IsPlayer sheet n line (made s2.0 s3.0 s6.0) = record {
+    let built : IsPlayer sheet n line (made s2.0 s3.0 s5.0) = record {
       blank4 = blank_ok n line 4 s1.0 s1.1;
       number = start.number;
       some = start.some;
       fresh = start.fresh;
       points = points;
-      blank90 = blank_ok n line 90 s4.0 s4.1;
-      blank91 = blank_ok n line 91 s5.0 s5.1;
-      cells = s6.1;
+      blank90 = blank.0;
+      blank91 = blank.1.0;
+      cells = s5.1;
       numbered = refl;
       left = refl;
       right = refl;
     } in
-    is_same sheet n line (made s2.0 s3.0 s6.0) entry same built
+    is_same sheet n line (made s2.0 s3.0 s5.0) entry same built
 
 -- what is known of a player who was read
 pub record IsSoundEntry (utf8 : Bool) (entry : Entry) : Type 0 where
@@ -307,10 +304,7 @@ utf8_skip : (i k : ℕ) (cols : List (List ℕ)) → list_all is_ascii (joined (
 utf8_skip i k cols h = ap is_utf8 (joined_at i k cols) ∙ utf8_behind (joined (take k (drop i cols))) (joined (drop (i + k) cols)) h
 
 nil_no_column : (utf8 : Bool) → columns utf8 [] ≡ [] ∷ [] → ⊥
-nil_no_column utf8 e = differ e
-  where
-    differ : ◌≡◌ {A = List (List ℕ)} [] ([] ∷ []) → ⊥
-    differ e = cc
+nil_no_column utf8 e = cc
 
 join_columns : (utf8 : Bool) (left : List ℕ) (cols : List (List ℕ)) → AreColumns utf8 cols → list_all is_ascii (joined (take 4 cols)) ≡ true
     → is_utf8 (left ++ joined cols) ≡ (is_utf8 left && is_utf8 (joined cols))

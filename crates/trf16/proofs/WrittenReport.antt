@@ -9,19 +9,18 @@
 -- A new field of a player's line wants: what its reading tells (`was_player`), its columns (`written_player`), and that the
 -- reading finds it there (`IsPlayer`, in both directions).
 use Rattle.std.proofs.Common.{◌≡◌, ℕ, ◌+◌, ◌*◌, ◌<◌, ◌≤◌, Bool, true, false, ◌&&◌, ◌||◌, ◌==◌, nat_lt, cond, List, [], ◌∷◌, ◌++◌, length, take, map, refl, sym, ap, ◌∙◌, append_assoc, arith, subst, inl, inr, Option, Some, None, Result, Ok, Err}
-use Rattle.std.specs.Prelude.{codes, sum_by, is_some}
+use Rattle.std.specs.Prelude.{sum_by}
 use Rattle.std.specs.List.{list_all, list_any}
-use Rattle.std.specs.Option.{option_map_or, ok_or}
+use Rattle.std.specs.Option.{option_map_or}
 use Rattle.std.specs.Str.{is_utf8}
 use Rattle.std.proofs.lemmas.Bool.{and_parts, or_parts, or_cases, eqb-true, ltb-true, le-ltb}
 use Rattle.std.proofs.lemmas.List.{append-nil, map-append, map-id, length-map}
 use Rattle.std.proofs.lemmas.List.Sums.{sum_by-cons, sum_by-take-le}
 use Rattle.trf16.specs.Lines.{columns, lines, without_marks}
-use Rattle.trf16.specs.Extensions.{is_kind, words_of, rounds_in, colour_in, are_start_ranks}
 use Rattle.trf16.specs.Sheet.{Entry, Sheet, with_player, known, half_points, rounds_played}
 use Rattle.trf16.specs.Outcomes.{◌>>=◌}
 use Rattle.trf16.specs.Answering.{cells_fit, points_fit, player_fits, players_fit, has_other_points}
-use Rattle.trf16.specs.Verdict.{player_at, is_player, is_too_long, rounds_onto, colour_onto, start_ranks_onto, player_onto, line_onto, lines_onto, carried_line, without_players, has_too_many_rounds, names_too_many_rounds, sized, laid_out, verdict}
+use Rattle.trf16.specs.Verdict.{player_at, is_player, is_too_long, player_onto, line_onto, lines_onto, carried_line, without_players, has_too_many_rounds, names_too_many_rounds, sized, laid_out, verdict}
 use Rattle.trf16.specs.Written.{player_text, lines_text, written}
 use Rattle.trf16.specs.declared.cell.Bye.TheVariants.{Half, Full, Allocated, Zero}
 use Rattle.trf16.specs.declared.cell.Outcome.TheVariants.{Win, Draw, Loss}
@@ -29,16 +28,13 @@ use Rattle.trf16.specs.declared.cell.Cell.{Cell}
 use Rattle.trf16.specs.declared.cell.Cell.TheVariants.{Blank, Bye, Game, Forfeit, Unfinished}
 use Rattle.trf16.specs.declared.fault.Excess.TheVariants.{Bytes, Players, Rounds}
 use Rattle.trf16.specs.declared.fault.Fault.{Fault}
-use Rattle.trf16.specs.declared.fault.Fault.TheVariants.{BadExtension, Duplicate, Points, TooMany, NoPlayers}
-use Rattle.trf16.proofs.StepLemmas.{then_assoc, then_ok, same_ok}
+use Rattle.trf16.specs.declared.fault.Fault.TheVariants.{Points, TooMany, NoPlayers}
+use Rattle.trf16.proofs.StepLemmas.{then_ok, same_ok}
+use Rattle.trf16.proofs.LineSteps.{turned, line_keeps, line_adds}
 use Rattle.trf16.proofs.WrittenText.{is_inside, are_inside, are_utf8, lines-line, lines-inside, utf8_lines, has_mark, no_mark, without_marks-no_mark, line-no_mark}
 use Rattle.trf16.proofs.WrittenFields.{are_small}
 use Rattle.trf16.proofs.WrittenPlayers.{IsPlayer, IsSoundEntry, player_is, was_player, written_player}
 use Rattle.trf16.specs.declared.limits.TheConstants.{MOST_PLAYERS, MOST_ROUNDS, MOST_BYTES}
-
--- what a fault would be
-not_ok : {A : Type 0} (fault : Fault) (y : A) → ◌≡◌ {A = Result A Fault} (Err fault) (Ok y) → ⊥
-not_ok fault y e = cc
 
 -- a change of players that leaves their start ranks, lines and carried columns, and whom the reading can find again
 pub record Turns (utf8 : Bool) (turn : Entry → Entry) : Type 0 where
@@ -48,115 +44,10 @@ pub record Turns (utf8 : Bool) (turn : Entry → Entry) : Type 0 where
   pub right : (entry : Entry) → (turn entry).right ≡ entry.right
   pub sound : (entry : Entry) → IsSoundEntry utf8 entry → IsSoundEntry utf8 (turn entry)
 
--- a report whose players are changed
-abbrev pub turned : (Entry → Entry) → Sheet → Sheet
-turned turn sheet = record sheet { players = map turn sheet.players }
-
 pub known-turned : (utf8 : Bool) (turn : Entry → Entry) (entries : List Entry) (start : ℕ) → Turns utf8 turn
     → list_any (λ (entry : Entry). entry.start == start) (map turn entries) ≡ list_any (λ (entry : Entry). entry.start == start) entries
 known-turned utf8 turn [] start t = refl
 known-turned utf8 turn (entry ∷ entries) start t = rw (t.start entry, known-turned utf8 turn entries start t) refl
-
--- what a line changes where it is no player's
-pub record Keeps (sheet next : Sheet) : Type 0 where
-  pub utf8 : next.utf8 ≡ sheet.utf8
-  pub carried : next.carried ≡ sheet.carried
-  pub players : next.players ≡ sheet.players
-  pub bye : next.bye ≡ sheet.bye
-
-keeps_from : (sheet made next : Sheet) → ◌≡◌ {A = Result Sheet Fault} (Ok made) (Ok next) → Keeps sheet made → Keeps sheet next
-keeps_from sheet made next e k = subst (Keeps sheet) (same_ok made next e) k
-
-rounds_keep : (sheet : Sheet) (n : ℕ) (line : List (List ℕ)) (next : Sheet) → rounds_onto sheet n line ≡ Ok next → Keeps sheet next
-unfolding rounds_onto
-rounds_keep sheet n line next e =
-    let s = then_ok (ok_or (rounds_in (words_of line)) (BadExtension n)) (λ rounds. cond (is_some sheet.total) (Err (Duplicate n)) (Ok (record sheet { total = Some rounds }))) next e in
-    by (is_some sheet.total) s.0 s.2
-  where
-    by : (b : Bool) (rounds : ℕ) → ◌≡◌ {A = Result Sheet Fault} (cond b (Err (Duplicate n)) (Ok (record sheet { total = Some rounds }))) (Ok next) → Keeps sheet next
-    by true rounds e = absurd (not_ok (Duplicate n) next e)
-    by false rounds e = keeps_from sheet (record sheet { total = Some rounds }) next e (record { utf8 = refl; carried = refl; players = refl; bye = refl })
-
-colour_keep : (sheet : Sheet) (n : ℕ) (line : List (List ℕ)) (next : Sheet) → colour_onto sheet n line ≡ Ok next → Keeps sheet next
-unfolding colour_onto
-colour_keep sheet n line next e =
-    let s = then_ok (ok_or (colour_in sheet.initial (words_of line)) (BadExtension n)) (λ initial. Ok (record sheet { initial = initial })) next e in
-    keeps_from sheet (record sheet { initial = s.0 }) next s.2 (record { utf8 = refl; carried = refl; players = refl; bye = refl })
-
-start_ranks_keep : (sheet : Sheet) (n : ℕ) (line : List (List ℕ)) (next : Sheet) → start_ranks_onto sheet n line ≡ Ok next → Keeps sheet next
-unfolding start_ranks_onto
-start_ranks_keep sheet n line next e = by (are_start_ranks (words_of line)) e
-  where
-    by : (b : Bool) → ◌≡◌ {A = Result Sheet Fault} (cond b (Ok sheet) (Err (BadExtension n))) (Ok next) → Keeps sheet next
-    by true e = keeps_from sheet sheet next e (record { utf8 = refl; carried = refl; players = refl; bye = refl })
-    by false e = absurd (not_ok (BadExtension n) next e)
-
-pub line_keeps : (sheet : Sheet) (n : ℕ) (line : List (List ℕ)) (next : Sheet) → is_player line ≡ false → line_onto sheet n line ≡ Ok next → Keeps sheet next
-unfolding line_onto
-line_keeps sheet n line next other e =
-    by (is_kind (codes "XXR") line) (is_kind (codes "XXC") line) (is_kind (codes "XXZ") line || is_kind (codes "XXP") line) (rw other at e)
-  where
-    by : (r c z : Bool) → cond r (rounds_onto sheet n line) (cond c (colour_onto sheet n line) (cond z (start_ranks_onto sheet n line) (Ok sheet))) ≡ Ok next → Keeps sheet next
-    by true c z e = rounds_keep sheet n line next e
-    by false true z e = colour_keep sheet n line next e
-    by false false true e = start_ranks_keep sheet n line next e
-    by false false false e = keeps_from sheet sheet next e (record { utf8 = refl; carried = refl; players = refl; bye = refl })
-
--- the same change where the players are others
-rounds_turn : (turn : Entry → Entry) (sheet : Sheet) (n : ℕ) (line : List (List ℕ)) (next : Sheet) → rounds_onto sheet n line ≡ Ok next
-    → rounds_onto (turned turn sheet) n line ≡ Ok (turned turn next)
-unfolding rounds_onto
-rounds_turn turn sheet n line next e =
-    let s = then_ok (ok_or (rounds_in (words_of line)) (BadExtension n)) (λ rounds. cond (is_some sheet.total) (Err (Duplicate n)) (Ok (record sheet { total = Some rounds }))) next e in
-    rw s.1 (by (is_some sheet.total) s.0 s.2)
-  where
-    by : (b : Bool) (rounds : ℕ) → ◌≡◌ {A = Result Sheet Fault} (cond b (Err (Duplicate n)) (Ok (record sheet { total = Some rounds }))) (Ok next)
-        → ◌≡◌ {A = Result Sheet Fault} (cond b (Err (Duplicate n)) (Ok (record (turned turn sheet) { total = Some rounds }))) (Ok (turned turn next))
-    by true rounds e = absurd (not_ok (Duplicate n) next e)
-    by false rounds e = ap (λ (made : Sheet). Ok (turned turn made)) (same_ok (record sheet { total = Some rounds }) next e)
-
-colour_turn : (turn : Entry → Entry) (sheet : Sheet) (n : ℕ) (line : List (List ℕ)) (next : Sheet) → colour_onto sheet n line ≡ Ok next
-    → colour_onto (turned turn sheet) n line ≡ Ok (turned turn next)
-unfolding colour_onto
-colour_turn turn sheet n line next e =
-    let s = then_ok (ok_or (colour_in sheet.initial (words_of line)) (BadExtension n)) (λ initial. Ok (record sheet { initial = initial })) next e in
-    rw s.1 (ap (λ (made : Sheet). Ok (turned turn made)) (same_ok (record sheet { initial = s.0 }) next s.2))
-
-start_ranks_turn : (turn : Entry → Entry) (sheet : Sheet) (n : ℕ) (line : List (List ℕ)) (next : Sheet) → start_ranks_onto sheet n line ≡ Ok next
-    → start_ranks_onto (turned turn sheet) n line ≡ Ok (turned turn next)
-unfolding start_ranks_onto
-start_ranks_turn turn sheet n line next e = by (are_start_ranks (words_of line)) e
-  where
-    by : (b : Bool) → ◌≡◌ {A = Result Sheet Fault} (cond b (Ok sheet) (Err (BadExtension n))) (Ok next)
-        → ◌≡◌ {A = Result Sheet Fault} (cond b (Ok (turned turn sheet)) (Err (BadExtension n))) (Ok (turned turn next))
-    by true e = ap (λ (made : Sheet). Ok (turned turn made)) (same_ok sheet next e)
-    by false e = absurd (not_ok (BadExtension n) next e)
-
-line_turns : (turn : Entry → Entry) (sheet : Sheet) (n : ℕ) (line : List (List ℕ)) (next : Sheet) → is_player line ≡ false → line_onto sheet n line ≡ Ok next
-    → line_onto (turned turn sheet) n line ≡ Ok (turned turn next)
-unfolding line_onto
-line_turns turn sheet n line next other e =
-    rw other (by (is_kind (codes "XXR") line) (is_kind (codes "XXC") line) (is_kind (codes "XXZ") line || is_kind (codes "XXP") line) (rw other at e))
-  where
-    by : (r c z : Bool) → cond r (rounds_onto sheet n line) (cond c (colour_onto sheet n line) (cond z (start_ranks_onto sheet n line) (Ok sheet))) ≡ Ok next
-        → cond r (rounds_onto (turned turn sheet) n line) (cond c (colour_onto (turned turn sheet) n line) (cond z (start_ranks_onto (turned turn sheet) n line) (Ok (turned turn sheet))))
-        ≡ Ok (turned turn next)
-    by true c z e = rounds_turn turn sheet n line next e
-    by false true z e = colour_turn turn sheet n line next e
-    by false false true e = start_ranks_turn turn sheet n line next e
-    by false false false e = ap (λ (made : Sheet). Ok (turned turn made)) (same_ok sheet next e)
-
--- what a player's line adds
-pub record Adds (sheet : Sheet) (n : ℕ) (line : List (List ℕ)) (next : Sheet) : Type 0 where
-  pub entry : Entry
-  pub player : IsPlayer sheet n line entry
-  pub next_is : with_player sheet entry ≡ next
-
-pub line_adds : (sheet : Sheet) (n : ℕ) (line : List (List ℕ)) (next : Sheet) → is_player line ≡ true → line_onto sheet n line ≡ Ok next → Adds sheet n line next
-unfolding line_onto player_onto
-line_adds sheet n line next named e =
-    let s = then_ok (player_at sheet n line) (λ entry. Ok (with_player sheet entry)) next (rw named at e) in
-    record { entry = s.0; player = player_is sheet n line s.0 s.1; next_is = same_ok (with_player sheet s.0) next s.2 }
 
 line_from : (sheet : Sheet) (n : ℕ) (line : List (List ℕ)) (entry : Entry) → is_player line ≡ true → player_at sheet n line ≡ Ok entry
     → line_onto sheet n line ≡ Ok (with_player sheet entry)
@@ -231,7 +122,7 @@ carried_read : (utf8 : Bool) (sheet next final : Sheet) (n : ℕ) (line : List �
     → is_player (columns utf8 line) ≡ false → line_onto sheet n (columns sheet.utf8 line) ≡ Ok next → WereRead utf8 next final (n + 1) rest
     → WereRead utf8 sheet final n (line ∷ rest)
 carried_read utf8 sheet next final n line rest u inside other e later =
-    let keeps = line_keeps sheet n (columns sheet.utf8 line) next (rw u other) e in
+    let keeps = line_keeps (λ entry. entry) sheet n (columns sheet.utf8 line) next (rw u other) e in
     record {
       entries = later.entries;
       utf8_is = later.utf8_is;
@@ -241,11 +132,10 @@ carried_read utf8 sheet next final n line rest u inside other e later =
       sound = later.sound;
       copied = λ turn t small.
           let c = later.copied turn t small in
-          let again : line_onto (turned turn sheet) n (columns sheet.utf8 line) ≡ Ok (turned turn next) =
-          line_turns turn sheet n (columns sheet.utf8 line) next (rw u other) e in
+          let again = line_keeps turn sheet n (columns sheet.utf8 line) next (rw u other) e in
           record {
             copy = line ∷ c.copy;
-            read = onto_from (turned turn sheet) (turned turn next) (turned turn final) n line c.copy again c.read;
+            read = onto_from (turned turn sheet) (turned turn next) (turned turn final) n line c.copy again.turns c.read;
             carried = ap (λ (ls : List (Option (List ℕ))). carried_line utf8 line ∷ ls) c.carried;
             short = rw other c.short;
             same = ap (λ b. is_utf8 line && b) c.same;
@@ -259,15 +149,15 @@ player_read : (utf8 : Bool) (sheet next final : Sheet) (n : ℕ) (line : List �
     → WereRead utf8 next final (n + 1) rest → WereRead utf8 sheet final n (line ∷ rest)
 player_read utf8 sheet next final n line rest u inside named short e later =
     let adds = line_adds sheet n (columns sheet.utf8 line) next (rw u named) e in
-    let entry = adds.entry in
-    let player : IsPlayer sheet n (columns utf8 line) entry = subst (λ b. IsPlayer sheet n (columns b line) entry) u adds.player in
+    let entry = adds.0 in
+    let player : IsPlayer sheet n (columns utf8 line) entry = subst (λ b. IsPlayer sheet n (columns b line) entry) u (player_is sheet n (columns sheet.utf8 line) entry adds.1) in
     let was = was_player utf8 sheet n line entry inside named short player in
     record {
       entries = entry ∷ later.entries;
       utf8_is = later.utf8_is;
-      carried = later.carried ∙ ap (λ (s : Sheet). s.carried) (sym adds.next_is);
-      players = later.players ∙ ap (λ (s : Sheet). s.players ++ later.entries) (sym adds.next_is) ∙ append_assoc sheet.players (entry ∷ []) later.entries;
-      bye_is = later.bye_is ∙ ap (λ (s : Sheet). s.bye) (sym adds.next_is);
+      carried = later.carried ∙ ap (λ (s : Sheet). s.carried) (sym adds.2);
+      players = later.players ∙ ap (λ (s : Sheet). s.players ++ later.entries) (sym adds.2) ∙ append_assoc sheet.players (entry ∷ []) later.entries;
+      bye_is = later.bye_is ∙ ap (λ (s : Sheet). s.bye) (sym adds.2);
       sound = (was.sound, later.sound);
       copied = λ turn t small.
           let c = later.copied turn t small.1 in
@@ -280,7 +170,7 @@ player_read utf8 sheet next final n line rest u inside named short e later =
           ∙ line_from (turned turn sheet) n (columns utf8 text) (turn entry) w.named
           (ap (λ k. player_at (turned turn sheet) k (columns utf8 text)) (player.numbered ∙ sym (t.line entry)) ∙ w.read)
           ∙ ap (λ (ps : List Entry). Ok (record sheet { players = ps })) (sym (map-append turn sheet.players (entry ∷ [])))
-          ∙ ap (λ (s : Sheet). Ok (turned turn s)) adds.next_is in
+          ∙ ap (λ (s : Sheet). Ok (turned turn s)) adds.2 in
           record {
             copy = text ∷ c.copy;
             read = onto_from (turned turn sheet) (turned turn next) (turned turn final) n text c.copy again c.read;
@@ -306,9 +196,9 @@ were_read utf8 sheet final n (line ∷ rest) u inside short e =
         → (named && is_too_long (columns utf8 line)) ≡ false → (next.utf8 ≡ utf8 → WereRead utf8 next final (n + 1) rest) → WereRead utf8 sheet final n (line ∷ rest)
     by true named next e inside short later =
         let adds = line_adds sheet n (columns sheet.utf8 line) next (rw u named) e in
-        player_read utf8 sheet next final n line rest u inside named short e (later (ap (λ (s : Sheet). s.utf8) (sym adds.next_is) ∙ u))
+        player_read utf8 sheet next final n line rest u inside named short e (later (ap (λ (s : Sheet). s.utf8) (sym adds.2) ∙ u))
     by false named next e inside short later =
-        let keeps = line_keeps sheet n (columns sheet.utf8 line) next (rw u named) e in
+        let keeps = line_keeps (λ entry. entry) sheet n (columns sheet.utf8 line) next (rw u named) e in
         carried_read utf8 sheet next final n line rest u inside named e (later (keeps.utf8 ∙ u))
 
 -- points
@@ -363,7 +253,7 @@ small_points sheet entry y worth few e = by entry.points e
 
     decide : (points : ℕ) (b : Bool) → (b ≡ true → points < 200) → ◌≡◌ {A = Result (Unit {0}) Fault} (cond b (Ok tt) (Err (Points entry.start))) (Ok y) → points < 200
     decide points true h e = h refl
-    decide points false h e = absurd (not_ok (Points entry.start) y e)
+    decide points false h e = absurd (cc)
 
     by : (points : Option ℕ)
         → option_map_or (λ p.
@@ -385,93 +275,46 @@ all_small utf8 sheet (entry ∷ entries) y worth sound e =
 
 -- the whole
 
-record IsSized (sheet sized_sheet : Sheet) (long : Bool) : Type 0 where
-  same : sheet ≡ sized_sheet
-  short : long ≡ false
+-- what a report of a sound size is
+pub record IsSized (sheet next : Sheet) (long : Bool) : Type 0 where
+  pub same : sheet ≡ next
+  pub few : nat_lt MOST_PLAYERS (length sheet.players) ≡ false
+  pub short : long ≡ false
+  pub named : names_too_many_rounds sheet ≡ false
+  pub some : (length sheet.players == 0) ≡ false
 
-sized_is : (sheet next : Sheet) (long : Bool) → sized sheet long ≡ Ok next → IsSized sheet next long
+pub sized_is : (sheet next : Sheet) (long : Bool) → sized sheet long ≡ Ok next → IsSized sheet next long
 unfolding sized
-sized_is sheet next long e = by (nat_lt MOST_PLAYERS (length sheet.players)) (length sheet.players == 0) long (names_too_many_rounds sheet) e
+sized_is sheet next long e =
+    let are = by (nat_lt MOST_PLAYERS (length sheet.players)) (length sheet.players == 0) long (names_too_many_rounds sheet) e in
+    record { same = are.0; few = are.1; short = are.2; named = are.3; some = are.4 }
   where
     by : (many none long named : Bool)
-        → ◌≡◌ {A = Result Sheet Fault} (cond many (Err (TooMany Players)) (cond (long || named) (Err (TooMany Rounds)) (cond none (Err NoPlayers) (Ok sheet)))) (Ok next) → IsSized sheet next long
-    by true none long named e = absurd (not_ok (TooMany Players) next e)
-    by false none true named e = absurd (not_ok (TooMany Rounds) next e)
-    by false none false true e = absurd (not_ok (TooMany Rounds) next e)
-    by false true false false e = absurd (not_ok NoPlayers next e)
-    by false false false false e = record { same = same_ok sheet next e; short = refl }
+        → ◌≡◌ {A = Result Sheet Fault} (cond many (Err (TooMany Players)) (cond (long || named) (Err (TooMany Rounds)) (cond none (Err NoPlayers) (Ok sheet)))) (Ok next)
+        → (sheet ≡ next) × (many ≡ false) × (long ≡ false) × (named ≡ false) × (none ≡ false)
+    by true none long named e = absurd (cc)
+    by false none true named e = absurd (cc)
+    by false none false true e = absurd (cc)
+    by false true false false e = absurd (cc)
+    by false false false false e = (same_ok sheet next e, refl, refl, refl, refl)
 
 sized_turn : (turn : Entry → Entry) (sheet : Sheet) (long : Bool) → sized sheet long ≡ Ok sheet → sized (turned turn sheet) long ≡ Ok (turned turn sheet)
 unfolding sized
-sized_turn turn sheet long e = rw (length-map sheet.players turn) (by (nat_lt MOST_PLAYERS (length sheet.players)) (length sheet.players == 0) long (names_too_many_rounds sheet) e)
-  where
-    by : (many none long named : Bool)
-        → ◌≡◌ {A = Result Sheet Fault} (cond many (Err (TooMany Players)) (cond (long || named) (Err (TooMany Rounds)) (cond none (Err NoPlayers) (Ok sheet)))) (Ok sheet)
-        → ◌≡◌ {A = Result Sheet Fault} (cond many (Err (TooMany Players)) (cond (long || named) (Err (TooMany Rounds)) (cond none (Err NoPlayers) (Ok (turned turn sheet))))) (Ok (turned turn sheet))
-    by true none long named e = absurd (not_ok (TooMany Players) sheet e)
-    by false none true named e = absurd (not_ok (TooMany Rounds) sheet e)
-    by false none false true e = absurd (not_ok (TooMany Rounds) sheet e)
-    by false true false false e = absurd (not_ok NoPlayers sheet e)
-    by false false false false e = refl
+sized_turn turn sheet long e =
+    let s = sized_is sheet sheet long e in
+    rw (length-map sheet.players turn, s.few, s.short, s.named, s.some) refl
 
--- the report that some lines are: the steps of the verdict in a row
-unfoldable pub report_of : Bool → List (List ℕ) → ℕ → Result Sheet Fault
-report_of utf8 all bye =
-    lines_onto (without_players utf8 all bye) 1 all >>= λ sheet. sized sheet (has_too_many_rounds utf8 all) >>= λ sheet. players_fit sheet sheet.players >>= λ _. Ok sheet
-
--- what a report that was read is
-pub record IsReport (utf8 : Bool) (all : List (List ℕ)) (bye : ℕ) (report : Sheet) : Type 0 where
-  pub read : lines_onto (without_players utf8 all bye) 1 all ≡ Ok report
-  pub size : sized report (has_too_many_rounds utf8 all) ≡ Ok report
-  pub short : has_too_many_rounds utf8 all ≡ false
-  pub fit : players_fit report report.players ≡ Ok tt
-
--- the same before the rules on its players are looked at
+-- what a report is before the rules on its players are looked at
 pub record IsLaidOut (utf8 : Bool) (all : List (List ℕ)) (bye : ℕ) (report : Sheet) : Type 0 where
   pub read : lines_onto (without_players utf8 all bye) 1 all ≡ Ok report
   pub size : sized report (has_too_many_rounds utf8 all) ≡ Ok report
   pub short : has_too_many_rounds utf8 all ≡ false
 
-laid_report : (utf8 : Bool) (all : List (List ℕ)) (bye : ℕ) (report : Sheet) → IsReport utf8 all bye report → IsLaidOut utf8 all bye report
-laid_report utf8 all bye report r = record { read = r.read; size = r.size; short = r.short }
-
-pub laid_from : (utf8 : Bool) (all : List (List ℕ)) (bye : ℕ) (report laid next : Sheet) → lines_onto (without_players utf8 all bye) 1 all ≡ Ok laid
-    → sized laid (has_too_many_rounds utf8 all) ≡ Ok next → next ≡ report → IsLaidOut utf8 all bye report
-laid_from utf8 all bye report laid next read size same =
-    let s = sized_is laid next (has_too_many_rounds utf8 all) size in
-    let all_same : laid ≡ report = s.same ∙ same in
-    record {
-      read = read ∙ ap (λ (s : Sheet). Ok s) all_same;
-      size = ap (λ (s : Sheet). sized s (has_too_many_rounds utf8 all)) (sym all_same) ∙ size ∙ ap (λ (s : Sheet). Ok s) same;
-      short = s.short;
-    }
-
-pub report_is : (utf8 : Bool) (all : List (List ℕ)) (bye : ℕ) (report : Sheet) → report_of utf8 all bye ≡ Ok report → IsReport utf8 all bye report
-unfolding report_of
-report_is utf8 all bye report e =
-    let long = has_too_many_rounds utf8 all in
-    let s1 = then_ok (lines_onto (without_players utf8 all bye) 1 all) (λ sheet. sized sheet long >>= λ sheet. players_fit sheet sheet.players >>= λ _. Ok sheet) report e in
-    let s2 = then_ok (sized s1.0 long) (λ sheet. players_fit sheet sheet.players >>= λ _. Ok sheet) report s1.2 in
-    let s3 = then_ok (players_fit s2.0 s2.0.players) (λ _. Ok s2.0) report s2.2 in
-    let same2 : s2.0 ≡ report = same_ok s2.0 report s3.2 in
-    let size = sized_is s1.0 s2.0 long s2.1 in
-    let same1 : s1.0 ≡ report = size.same ∙ same2 in
-    record {
-      read = s1.1 ∙ ap (λ (s : Sheet). Ok s) same1;
-      size = ap (λ (s : Sheet). sized s long) (sym same1) ∙ s2.1 ∙ ap (λ (s : Sheet). Ok s) same2;
-      short = size.short;
-      fit = subst (λ (s : Sheet). players_fit s s.players ≡ Ok tt) same2 s3.1;
-    }
-
-report_from : (utf8 : Bool) (all : List (List ℕ)) (bye : ℕ) (report : Sheet) → IsReport utf8 all bye report → report_of utf8 all bye ≡ Ok report
-unfolding report_of
-report_from utf8 all bye report r = rw (r.read, r.size, r.fit) refl
-
 -- the canonical text, by its lines
 record IsText (utf8 : Bool) (all : List (List ℕ)) (bytes : List ℕ) (bye : ℕ) (report : Sheet) : Type 0 where
   unmarked : has_mark (written report) ≡ false
   same : is_utf8 (written report) ≡ are_utf8 all
-  read : report_of utf8 (lines (written report)) bye ≡ Ok report
+  laid : IsLaidOut utf8 (lines (written report)) bye report
 
 text_by : (b utf8 : Bool) (ls carried : List (Option (List ℕ))) (ps players : List Entry) → b ≡ utf8 → ls ≡ carried → ps ≡ players
     → lines_text b ls ps ≡ lines_text utf8 carried players
@@ -492,43 +335,21 @@ text_is utf8 bytes bye report turn worth unmarked r turns fit =
     text_by report.utf8 utf8 report.carried (map (carried_line utf8) all) (map turn report.players) (map turn w.entries) w.utf8_is w.carried (ap (map turn) w.players) in
     let copy : lines (written (turned turn report)) ≡ c.copy = ap lines text ∙ c.text in
     let empty : without_players utf8 c.copy bye ≡ without_players utf8 all bye = rw c.carried refl in
-    let again : IsReport utf8 c.copy bye (turned turn report) = record {
+    let again : IsLaidOut utf8 c.copy bye (turned turn report) = record {
       read = ap (λ (s : Sheet). lines_onto s 1 c.copy) empty ∙ c.read;
       size = ap (sized (turned turn report)) (c.short ∙ sym r.short) ∙ sized_turn turn report (has_too_many_rounds utf8 all) r.size;
       short = c.short;
-      fit = fit;
     } in
     record {
       unmarked = ap has_mark text ∙ c.unmarked bytes refl unmarked;
       same = utf8_lines (written (turned turn report)) ∙ ap are_utf8 copy ∙ c.same;
-      read = ap (λ (all' : List (List ℕ)). report_of utf8 all' bye) copy ∙ report_from utf8 c.copy bye (turned turn report) again;
+      laid = subst (λ (all' : List (List ℕ)). IsLaidOut utf8 all' bye (turned turn report)) (sym copy) again;
     }
 
--- the rules on the players of a report, at the end of its verdict
-rules : Sheet → Result Sheet Fault
-rules sheet = players_fit sheet sheet.players >>= λ _. Ok sheet
-
-pub verdict_is : (bytes : List ℕ) (bye : ℕ) (report : Sheet) → verdict bytes bye ≡ Ok report
-    → report_of (is_utf8 (without_marks bytes)) (lines (without_marks bytes)) bye ≡ Ok report
-unfolding verdict laid_out report_of rules
-verdict_is bytes bye report e = by (nat_lt MOST_BYTES (length bytes)) e
-  where
-    read : Result Sheet Fault
-    read = lines_onto (without_players (is_utf8 (without_marks bytes)) (lines (without_marks bytes)) bye) 1 (lines (without_marks bytes))
-
-    size : Sheet → Result Sheet Fault
-    size = λ sheet. sized sheet (has_too_many_rounds (is_utf8 (without_marks bytes)) (lines (without_marks bytes)))
-
-    by : (b : Bool) → (cond b (Err (TooMany Bytes)) (read >>= size) >>= rules) ≡ Ok report → (read >>= λ sheet. size sheet >>= rules) ≡ Ok report
-    by true e = absurd (not_ok (TooMany Bytes) report e)
-    by false e = sym (then_assoc read size rules) ∙ e
-
 verdict_from : (bytes : List ℕ) (bye : ℕ) (report : Sheet) → length bytes ≤ MOST_BYTES → without_marks bytes ≡ bytes
-    → report_of (is_utf8 bytes) (lines bytes) bye ≡ Ok report → verdict bytes bye ≡ Ok report
-unfolding verdict laid_out report_of rules
-verdict_from bytes bye report few same e =
-    rw (le-ltb MOST_BYTES (length bytes) few, same)
-    (then_assoc (lines_onto (without_players (is_utf8 bytes) (lines bytes) bye) 1 (lines bytes)) (λ sheet. sized sheet (has_too_many_rounds (is_utf8 bytes) (lines bytes))) rules ∙ e)
+    → IsLaidOut (is_utf8 bytes) (lines bytes) bye report → players_fit report report.players ≡ Ok tt → verdict bytes bye ≡ Ok report
+unfolding verdict laid_out
+verdict_from bytes bye report few same r fit = rw (le-ltb MOST_BYTES (length bytes) few, same, r.read, r.size, fit) refl
 
 -- the lines of a text behind its marks, laid out
 abbrev pub IsLaidOutOf : List ℕ → ℕ → Sheet → Type 0
@@ -549,7 +370,7 @@ laid_is bytes bye report r =
       bye_is = w.bye_is;
     }
 
-pub laid_of : (bytes : List ℕ) (bye : ℕ) (report : Sheet) → laid_out bytes bye ≡ Ok report → IsLaidOutOf bytes bye report
+laid_of : (bytes : List ℕ) (bye : ℕ) (report : Sheet) → laid_out bytes bye ≡ Ok report → IsLaidOutOf bytes bye report
 unfolding laid_out
 laid_of bytes bye report e = by (nat_lt MOST_BYTES (length bytes)) e
   where
@@ -558,33 +379,39 @@ laid_of bytes bye report e = by (nat_lt MOST_BYTES (length bytes)) e
         (lines_onto (without_players (is_utf8 (without_marks bytes)) (lines (without_marks bytes)) bye) 1 (lines (without_marks bytes))
         >>= λ sheet. sized sheet (has_too_many_rounds (is_utf8 (without_marks bytes)) (lines (without_marks bytes)))) ≡ Ok report
         → IsLaidOutOf bytes bye report
-    by true e = absurd (not_ok (TooMany Bytes) report e)
+    by true e = absurd (cc)
     by false e =
         let utf8 = is_utf8 (without_marks bytes) in
         let all = lines (without_marks bytes) in
-        let s = then_ok (lines_onto (without_players utf8 all bye) 1 all) (λ sheet. sized sheet (has_too_many_rounds utf8 all)) report e in
-        laid_from utf8 all bye report s.0 report s.1 s.2 refl
+        let long = has_too_many_rounds utf8 all in
+        let s = then_ok (lines_onto (without_players utf8 all bye) 1 all) (λ sheet. sized sheet long) report e in
+        let size = sized_is s.0 report long s.2 in
+        record {
+          read = s.1 ∙ ap (λ (s : Sheet). Ok s) size.same;
+          size = ap (λ (s : Sheet). sized s long) (sym size.same) ∙ s.2;
+          short = size.short;
+        }
 
-pub laid_sound : (bytes : List ℕ) (bye : ℕ) (report : Sheet) → IsLaidOutOf bytes bye report → are_all_sound report.utf8 report.players
-laid_sound bytes bye report r = (laid_is bytes bye report r).sound
+-- a report that is laid out and meets a rule on its players
+pub rule_met : (bytes : List ℕ) (bye : ℕ) (report : Sheet) (rule : Sheet → Result (Unit {0}) Fault)
+    → (laid_out bytes bye >>= λ sheet. rule sheet >>= λ _. Ok sheet) ≡ Ok report → IsLaidOutOf bytes bye report × (rule report ≡ Ok tt)
+rule_met bytes bye report rule e =
+    let laid = then_ok (laid_out bytes bye) (λ sheet. rule sheet >>= λ _. Ok sheet) report e in
+    let looked = then_ok (rule laid.0) (λ _. Ok laid.0) report laid.2 in
+    let same : laid.0 ≡ report = same_ok laid.0 report looked.2 in
+    (laid_of bytes bye report (laid.1 ∙ ap (λ (s : Sheet). Ok s) same), subst (λ (s : Sheet). rule s ≡ Ok tt) same looked.1)
 
-read_laid : (bytes : List ℕ) (bye : ℕ) (report : Sheet) → verdict bytes bye ≡ Ok report → IsLaidOutOf bytes bye report
-read_laid bytes bye report e =
-    let body = without_marks bytes in
-    laid_report (is_utf8 body) (lines body) bye report (report_is (is_utf8 body) (lines body) bye report (verdict_is bytes bye report e))
+pub accepted : (bytes : List ℕ) (bye : ℕ) (report : Sheet) → verdict bytes bye ≡ Ok report → IsLaidOutOf bytes bye report × (players_fit report report.players ≡ Ok tt)
+unfolding verdict
+accepted bytes bye report e = rule_met bytes bye report (λ sheet. players_fit sheet sheet.players) e
 
 -- what the players of a report that was read are
 pub were_sound : (bytes : List ℕ) (bye : ℕ) (report : Sheet) → verdict bytes bye ≡ Ok report → are_all_sound report.utf8 report.players
-were_sound bytes bye report e = laid_sound bytes bye report (read_laid bytes bye report e)
-
-pub were_fit : (bytes : List ℕ) (bye : ℕ) (report : Sheet) → verdict bytes bye ≡ Ok report → players_fit report report.players ≡ Ok tt
-were_fit bytes bye report e =
-    let body = without_marks bytes in
-    (report_is (is_utf8 body) (lines body) bye report (verdict_is bytes bye report e)).fit
+were_sound bytes bye report e = (laid_is bytes bye report (accepted bytes bye report e).0).sound
 
 -- a report keeps what the pairing-allocated bye gives in it
 pub kept_bye : (bytes : List ℕ) (bye : ℕ) (report : Sheet) → verdict bytes bye ≡ Ok report → report.bye ≡ bye
-kept_bye bytes bye report e = (laid_is bytes bye report (read_laid bytes bye report e)).bye_is
+kept_bye bytes bye report e = (laid_is bytes bye report (accepted bytes bye report e).0).bye_is
 
 -- the text of a report that is laid out and whose players were changed
 pub laid_again : (bytes : List ℕ) (bye : ℕ) (report : Sheet) (turn : Entry → Entry) → bye ≤ 2 → IsLaidOutOf bytes bye report → Turns report.utf8 turn
@@ -596,13 +423,13 @@ laid_again bytes bye report turn worth r turns fit few =
     let same : is_utf8 (written (turned turn report)) ≡ is_utf8 body = t.same ∙ sym (utf8_lines body) in
     ap (verdict (written (turned turn report))) (laid_is bytes bye report r).bye_is
     ∙ verdict_from (written (turned turn report)) bye (turned turn report) few (no_mark (written (turned turn report)) t.unmarked)
-    (ap (λ b. report_of b (lines (written (turned turn report))) bye) same ∙ t.read)
+    (subst (λ b. IsLaidOut b (lines (written (turned turn report))) bye (turned turn report)) (sym same) t.laid) fit
 
 -- the same of a report that was read
 pub written_again : (bytes : List ℕ) (bye : ℕ) (report : Sheet) (turn : Entry → Entry) → bye ≤ 2 → verdict bytes bye ≡ Ok report → Turns report.utf8 turn
     → players_fit (turned turn report) (map turn report.players) ≡ Ok tt → length (written (turned turn report)) ≤ MOST_BYTES
     → verdict (written (turned turn report)) report.bye ≡ Ok (turned turn report)
-written_again bytes bye report turn worth e turns fit few = laid_again bytes bye report turn worth (read_laid bytes bye report e) turns fit few
+written_again bytes bye report turn worth e turns fit few = laid_again bytes bye report turn worth (accepted bytes bye report e).0 turns fit few
 
 unchanged : (utf8 : Bool) → Turns utf8 (λ entry. entry)
 unchanged utf8 = record { start = λ entry. refl; line = λ entry. refl; left = λ entry. refl; right = λ entry. refl; sound = λ entry sound. sound }
@@ -612,6 +439,6 @@ pub round_trip : (bytes : List ℕ) (bye : ℕ) (report : Sheet) → bye ≤ 2 �
 round_trip bytes bye report worth e few =
     let same : turned (λ entry. entry) report ≡ report = ap (λ (ps : List Entry). record report { players = ps }) (map-id report.players) in
     let fit : players_fit (turned (λ entry. entry) report) (map (λ entry. entry) report.players) ≡ Ok tt =
-    subst (λ (s : Sheet). players_fit s s.players ≡ Ok tt) (sym same) (were_fit bytes bye report e) in
+    subst (λ (s : Sheet). players_fit s s.players ≡ Ok tt) (sym same) (accepted bytes bye report e).1 in
     subst (λ (s : Sheet). verdict (written s) report.bye ≡ Ok s) same
     (written_again bytes bye report (λ entry. entry) worth e (unchanged report.utf8) fit (subst (λ (s : Sheet). length (written s) ≤ MOST_BYTES) (sym same) few))

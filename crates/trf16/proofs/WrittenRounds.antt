@@ -1,7 +1,7 @@
 -- The rounds of a line: what is known of those that were read, and that they read back where they are written.
-use Rattle.std.proofs.Common.{Result, ◌≡◌, ℕ, zero, suc, ◌+◌, ◌-◌, ◌*◌, ◌<◌, ◌≤◌, Bool, true, false, ◌&&◌, ◌==◌, nat_lt, nat_le, cond, List, [], ◌∷◌, ◌++◌, length, take, drop, replicate, refl, sym, ap, ◌∙◌, arith, subst, ◌⊎◌, inl, inr, Option, Some, None, Ok, Err}
+use Rattle.std.proofs.Common.{◌≡◌, ℕ, zero, suc, ◌+◌, ◌-◌, ◌*◌, ◌<◌, ◌≤◌, Bool, true, false, ◌&&◌, ◌==◌, nat_lt, nat_le, cond, List, [], ◌∷◌, ◌++◌, length, take, drop, replicate, refl, sym, ap, ◌∙◌, arith, subst, ◌⊎◌, inl, inr, Option, Some, None, Ok, Err}
 use Rattle.std.specs.Prelude.{option_and_then}
-use Rattle.std.specs.List.{list_all, flat_map}
+use Rattle.std.specs.List.{AllByRecursion, list_all, flat_map}
 use Rattle.std.specs.Option.{option_map_or, ok_or}
 use Rattle.std.specs.Char.{is_ascii, is_ascii_digit, to_ascii_uppercase}
 use Rattle.std.proofs.lemmas.Bool.{and_parts, and_from, lt-ltb, ltb-false, leb-true, ne_eqb, eqb-true}
@@ -12,7 +12,7 @@ use Rattle.trf16.specs.Fields.{words, number_of, number_after, is_number}
 use Rattle.trf16.specs.Cells.{cell_from, cell_of, opponent_in, opponent_of, mark_in, bye_cell, game_cell, forfeit_cell, outcome_of, colour_of, is_no_colour}
 use Rattle.trf16.specs.Sheet.{opponent_in_cell}
 use Rattle.trf16.specs.Outcomes.{◌>>=◌}
-use Rattle.trf16.specs.Verdict.{blank_at, round_at, rounds_at}
+use Rattle.trf16.specs.Verdict.{blank_at, blanks_at, round_at, rounds_at}
 use Rattle.trf16.specs.Written.{cell_text, round_text}
 use Rattle.trf16.specs.declared.cell.Colour.{Colour}
 use Rattle.trf16.specs.declared.cell.Outcome.{Outcome}
@@ -28,17 +28,11 @@ use Rattle.trf16.proofs.WrittenCells.{is_sound, fields_of, four_are, text-behind
 
 pub then_some : {A B : Type 0} (o : Option A) (next : A → Option B) (y : B) → option_and_then next o ≡ Some y → (x : A) × (o ≡ Some x) × (next x ≡ Some y)
 then_some (Some x) next y e = (x, refl, e)
-then_some {A} {B} None next y e = absurd (differ y e)
-  where
-    differ : (y : B) → None ≡ Some y → ⊥
-    differ y e = cc
+then_some None next y e = absurd (cc)
 
 pub ok_or_ok : {A : Type 0} (o : Option A) (fault : Fault) (y : A) → ok_or o fault ≡ Ok y → o ≡ Some y
 ok_or_ok (Some x) fault y e = let same : x ≡ y = cc in ap (λ z. Some z) same
-ok_or_ok {A} None fault y e = absurd (differ fault y e)
-  where
-    differ : (fault : Fault) (y : A) → Err fault ≡ Ok y → ⊥
-    differ fault y e = cc
+ok_or_ok None fault y e = absurd (cc)
 
 pub blank_ok : (n : ℕ) (line : List (List ℕ)) (k : ℕ) (y : Unit {0}) → blank_at n line k ≡ Ok y → is_blank (text line k k) ≡ true
 unfolding blank_at
@@ -46,14 +40,25 @@ blank_ok n line k y e = by (is_blank (text line k k)) e
   where
     by : (b : Bool) → cond b (Ok tt) (Err (Misaligned n k)) ≡ Ok y → b ≡ true
     by true e = refl
-    by false e = absurd (cc_no e)
-      where
-        cc_no : Err (Misaligned n k) ≡ Ok y → ⊥
-        cc_no e = cc
+    by false e = absurd (cc)
 
 pub blank_from : (n : ℕ) (line : List (List ℕ)) (k : ℕ) → is_blank (text line k k) ≡ true → blank_at n line k ≡ Ok tt
 unfolding blank_at
 blank_from n line k e = rw e refl
+
+pub blanks_ok : (n : ℕ) (line : List (List ℕ)) (columns : List ℕ) (y : Unit {0}) → blanks_at n line columns ≡ Ok y
+    → AllByRecursion (λ k. is_blank (text line k k) ≡ true) columns
+unfolding blanks_at
+blanks_ok n line [] y e = tt
+blanks_ok n line (k ∷ others) y e =
+    let s = then_ok (blank_at n line k) (λ _. blanks_at n line others) y e in
+    (blank_ok n line k s.0 s.1, blanks_ok n line others y s.2)
+
+pub blanks_from : (n : ℕ) (line : List (List ℕ)) (columns : List ℕ) → AllByRecursion (λ k. is_blank (text line k k) ≡ true) columns
+    → blanks_at n line columns ≡ Ok tt
+unfolding blanks_at
+blanks_from n line [] all = refl
+blanks_from n line (k ∷ others) all = rw (blank_from n line k all.0) (blanks_from n line others all.1)
 
 -- what the columns of a round are
 pub record IsRound (cols : List (List ℕ)) (cell : Cell) : Type 0 where
@@ -63,64 +68,39 @@ pub record IsRound (cols : List (List ℕ)) (cell : Cell) : Type 0 where
   pub blank10 : is_blank (text cols 10 10) ≡ true
   pub read : cell_from (text cols 1 4) (text cols 6 6) (text cols 8 8) ≡ Some cell
 
--- a round by the places behind the column before it
-unfoldable round_behind : ℕ → List (List ℕ) → ℕ → Result Cell Fault
-round_behind n line before = do
-  let at = 91 + 10 * before
-  _ ← blank_at n line (at + 5)
-  _ ← blank_at n line (at + 7)
-  _ ← blank_at n line (at + 9)
-  _ ← blank_at n line (at + 10)
-  ok_or (cell_from (text line (at + 1) (at + 4)) (text line (at + 6) (at + 6)) (text line (at + 8) (at + 8))) (BadCell n (before + 1))
-
-round_same : (n : ℕ) (line : List (List ℕ)) (before : ℕ) → round_at n line before ≡ round_behind n line before
-unfolding round_at round_behind
-round_same n line before =
-    let column : (k m : ℕ) → k ≡ 91 + m → k + 10 * before ≡ (91 + 10 * before) + m = λ k m e. omega (arith, e) in
-    rw (column 92 1 refl, column 95 4 refl, column 96 5 refl, column 97 6 refl, column 98 7 refl, column 99 8 refl, column 100 9 refl, column 101 10 refl) refl
-
-behind_from : (n : ℕ) (line : List (List ℕ)) (before : ℕ) (cell : Cell) → IsRound (drop (91 + 10 * before) line) cell → round_behind n line before ≡ Ok cell
-unfolding round_behind
-behind_from n line before cell r =
+pub round_from : (n : ℕ) (line : List (List ℕ)) (before : ℕ) (cell : Cell) → IsRound (drop (91 + 10 * before) line) cell → round_at n line before ≡ Ok cell
+unfolding round_at
+round_from n line before cell r =
     let at = 91 + 10 * before in
     let D = drop at line in
-    let at_blank : (k : ℕ) → 0 < k → is_blank (text D k k) ≡ true → blank_at n line (at + k) ≡ Ok tt =
-    λ k some h. blank_from n line (at + k) (ap is_blank (text-behind line at k k some) ∙ h) in
+    let blank : (k : ℕ) → 0 < k → is_blank (text D k k) ≡ true → is_blank (text line (at + k) (at + k)) ≡ true =
+    λ k some h. ap is_blank (text-behind line at k k some) ∙ h in
     rw (
-      at_blank 5 (omega arith) r.blank5,
-      at_blank 7 (omega arith) r.blank7,
-      at_blank 9 (omega arith) r.blank9,
-      at_blank 10 (omega arith) r.blank10,
+      blanks_from n line ((at + 5) ∷ (at + 7) ∷ (at + 9) ∷ (at + 10) ∷ [])
+          (blank 5 (omega arith) r.blank5, (blank 7 (omega arith) r.blank7, (blank 9 (omega arith) r.blank9, (blank 10 (omega arith) r.blank10, tt)))),
       text-behind line at 1 4 (omega arith),
       text-behind line at 6 6 (omega arith),
       text-behind line at 8 8 (omega arith),
       r.read,
     ) refl
 
-behind_is : (n : ℕ) (line : List (List ℕ)) (before : ℕ) (cell : Cell) → round_behind n line before ≡ Ok cell → IsRound (drop (91 + 10 * before) line) cell
-unfolding round_behind
-behind_is n line before cell e =
+pub round_is : (n : ℕ) (line : List (List ℕ)) (before : ℕ) (cell : Cell) → round_at n line before ≡ Ok cell → IsRound (drop (91 + 10 * before) line) cell
+unfolding round_at
+round_is n line before cell e =
     let at = 91 + 10 * before in
     let D = drop at line in
     let fields = cell_from (text line (at + 1) (at + 4)) (text line (at + 6) (at + 6)) (text line (at + 8) (at + 8)) in
-    let e5 = then_ok (blank_at n line (at + 5)) (λ _. blank_at n line (at + 7) >>= λ _. blank_at n line (at + 9) >>= λ _. blank_at n line (at + 10) >>= λ _. ok_or fields (BadCell n (before + 1))) cell e in
-    let e7 = then_ok (blank_at n line (at + 7)) (λ _. blank_at n line (at + 9) >>= λ _. blank_at n line (at + 10) >>= λ _. ok_or fields (BadCell n (before + 1))) cell e5.2 in
-    let e9 = then_ok (blank_at n line (at + 9)) (λ _. blank_at n line (at + 10) >>= λ _. ok_or fields (BadCell n (before + 1))) cell e7.2 in
-    let e10 = then_ok (blank_at n line (at + 10)) (λ _. ok_or fields (BadCell n (before + 1))) cell e9.2 in
-    let read : fields ≡ Some cell = ok_or_ok fields (BadCell n (before + 1)) cell e10.2 in
+    let places = (at + 5) ∷ (at + 7) ∷ (at + 9) ∷ (at + 10) ∷ [] in
+    let s = then_ok (blanks_at n line places) (λ _. ok_or fields (BadCell n (before + 1))) cell e in
+    let blank = blanks_ok n line places s.0 s.1 in
+    let read : fields ≡ Some cell = ok_or_ok fields (BadCell n (before + 1)) cell s.2 in
     record {
-      blank5 = ap is_blank (sym (text-behind line at 5 5 (omega arith))) ∙ blank_ok n line (at + 5) e5.0 e5.1;
-      blank7 = ap is_blank (sym (text-behind line at 7 7 (omega arith))) ∙ blank_ok n line (at + 7) e7.0 e7.1;
-      blank9 = ap is_blank (sym (text-behind line at 9 9 (omega arith))) ∙ blank_ok n line (at + 9) e9.0 e9.1;
-      blank10 = ap is_blank (sym (text-behind line at 10 10 (omega arith))) ∙ blank_ok n line (at + 10) e10.0 e10.1;
+      blank5 = ap is_blank (sym (text-behind line at 5 5 (omega arith))) ∙ blank.0;
+      blank7 = ap is_blank (sym (text-behind line at 7 7 (omega arith))) ∙ blank.1.0;
+      blank9 = ap is_blank (sym (text-behind line at 9 9 (omega arith))) ∙ blank.1.1.0;
+      blank10 = ap is_blank (sym (text-behind line at 10 10 (omega arith))) ∙ blank.1.1.1.0;
       read = rw (← text-behind line at 1 4 (omega arith), ← text-behind line at 6 6 (omega arith), ← text-behind line at 8 8 (omega arith)) read;
     }
-
-pub round_from : (n : ℕ) (line : List (List ℕ)) (before : ℕ) (cell : Cell) → IsRound (drop (91 + 10 * before) line) cell → round_at n line before ≡ Ok cell
-round_from n line before cell r = round_same n line before ∙ behind_from n line before cell r
-
-pub round_is : (n : ℕ) (line : List (List ℕ)) (before : ℕ) (cell : Cell) → round_at n line before ≡ Ok cell → IsRound (drop (91 + 10 * before) line) cell
-round_is n line before cell e = behind_is n line before cell (sym (round_same n line before) ∙ e)
 
 -- written rounds
 
@@ -224,9 +204,6 @@ ascii_both b rest h h' = and_from (is_ascii b) (list_all is_ascii rest) h h'
 ascii_32 : (b : ℕ) → b ≡ 32 → is_ascii b ≡ true
 ascii_32 b e = rw e refl
 
-are_ascii : List (List ℕ) → Type 0
-are_ascii all = list_all (λ word. list_all is_ascii word) all ≡ true
-
 pub ascii-words : (bytes : List ℕ) → list_all (λ word. list_all is_ascii word) (words bytes) ≡ true → list_all is_ascii bytes ≡ true
 ascii-words [] h = refl
 ascii-words (b ∷ []) h =
@@ -264,10 +241,7 @@ number_is word n e = by (is_number word) refl e
         let below : number_after 0 word < 10000 = value_below word one.1 (leb-true (length word) 4 two.1) in
         let same : number_after 0 word ≡ n = cc in
         record { digits = one.1; below = omega arith }
-    by false is e' = absurd (differ n e')
-      where
-        differ : (n : ℕ) → None ≡ Some n → ⊥
-        differ n e = cc
+    by false is e' = absurd (cc)
 
 abbrev pub is_start : Option ℕ → Type 0
 is_start None = Unit {0}
@@ -291,10 +265,7 @@ opponent_is (word ∷ []) o e =
   where
     same_some : (x y : Option ℕ) → Some x ≡ Some y → x ≡ y
     same_some x y e = cc
-opponent_is (word ∷ word' ∷ all) o e = absurd (differ o e)
-  where
-    differ : (o : Option ℕ) → None ≡ Some o → ⊥
-    differ o e = cc
+opponent_is (word ∷ word' ∷ all) o e = absurd (cc)
 
 -- what names this opponent
 Names : Option ℕ → Option Cell → Type 0
@@ -379,10 +350,7 @@ upper_ascii b m e h = grind (arith, nat_tests)
 mark_ascii : (field : List ℕ) (m : ℕ) → mark_in field ≡ Some m → is_ascii m ≡ true → list_all is_ascii field ≡ true
 mark_ascii [] m e h = refl
 mark_ascii (b ∷ []) m e h = let same : to_ascii_uppercase b ≡ m = cc in ascii_both b [] (upper_ascii b m same h) refl
-mark_ascii (b ∷ c ∷ rest) m e h = absurd (differ m e)
-  where
-    differ : (m : ℕ) → None ≡ Some m → ⊥
-    differ m e = cc
+mark_ascii (b ∷ c ∷ rest) m e h = absurd (cc)
 
 sound_start : (o : Option ℕ) → is_start o → option_map_or (λ n. nat_lt 0 n && nat_lt n 10000) o true ≡ true
 sound_start None h = refl

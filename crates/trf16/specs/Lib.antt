@@ -21,3 +21,4 @@ pub mod StartRanks
 pub mod Points
 pub mod Names
 pub mod Summed
+pub mod Ranking

@@ -21,6 +21,13 @@ use Rattle.trf16.specs.declared.limits.TheConstants.{MOST_PLAYERS, MOST_ROUNDS, 
 unfoldable pub blank_at : ℕ → List (List ℕ) → ℕ → Result (Unit {0}) Fault
 blank_at n line k = if is_blank (text line k k) then Ok tt else Err (Misaligned n k)
 
+-- some columns of line n must be blank
+unfoldable pub blanks_at : ℕ → List (List ℕ) → List ℕ → Result (Unit {0}) Fault
+blanks_at n line [] = Ok tt
+blanks_at n line (k ∷ others) = do
+  _ ← blank_at n line k
+  blanks_at n line others
+
 -- columns 5 to 8: the start rank, 1 to 9999
 unfoldable pub start_number_at : ℕ → List (List ℕ) → Result ℕ Fault
 start_number_at n line = do
@@ -37,16 +44,13 @@ start_at sheet n line = do
 unfoldable pub points_at : ℕ → List (List ℕ) → Result (Option ℕ) Fault
 points_at n line = ok_or (points_in (words (text line 81 84))) (BadNumber n)
 
--- the round that follows `before` others: opponent in columns 92 to 95, colour in 97 and result in 99, columns 96, 98, 100 and 101 blank, and each
--- round stands ten columns further on
+-- the round that follows `before` others, in the ten columns behind the first 91 + 10 before: opponent in columns 1 to 4 of the ten, colour in
+-- the sixth and result in the eighth, and the other four blank
 unfoldable pub round_at : ℕ → List (List ℕ) → ℕ → Result Cell Fault
 round_at n line before = do
-  let further = 10 * before
-  _ ← blank_at n line (96 + further)
-  _ ← blank_at n line (98 + further)
-  _ ← blank_at n line (100 + further)
-  _ ← blank_at n line (101 + further)
-  ok_or (cell_from (text line (92 + further) (95 + further)) (text line (97 + further) (97 + further)) (text line (99 + further) (99 + further))) (BadCell n (before + 1))
+  let at = 91 + 10 * before
+  _ ← blanks_at n line ((at + 5) ∷ (at + 7) ∷ (at + 9) ∷ (at + 10) ∷ [])
+  ok_or (cell_from (text line (at + 1) (at + 4)) (text line (at + 6) (at + 6)) (text line (at + 8) (at + 8))) (BadCell n (before + 1))
 
 -- some rounds one after the other, of which `before` others stand in front
 unfoldable pub rounds_at : ℕ → List (List ℕ) → ℕ → ℕ → Result (List Cell) Fault
@@ -73,8 +77,7 @@ player_at sheet n line = do
   _ ← blank_at n line 4
   start ← start_at sheet n line
   points ← points_at n line
-  _ ← blank_at n line 90
-  _ ← blank_at n line 91
+  _ ← blanks_at n line (90 ∷ 91 ∷ [])
   cells ← cells_at n line
   Ok (record { start = start; line = n; points = points; left = trimmed (text line 9 80); right = trimmed (text line 85 89); cells = cells })
 

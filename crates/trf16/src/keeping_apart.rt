@@ -19,6 +19,13 @@ use crate::player::Player;
 use indexmap::IndexMap;
 use std::alloc::{AllocError, Global};
 
+// A line as it stands, and whether its columns are characters.
+#[derive(Clone, Copy, Drop)]
+struct RawLine<'t> {
+    bytes: &'t [u8],
+    utf8: bool,
+}
+
 impl Apart {
     /// Nobody is named together with another.
     pub(crate) fn none(
@@ -93,8 +100,7 @@ impl Apart {
         &mut self,
         players: &IndexMap<u16, Player<'_>>,
         named: &mut Named,
-        line: &[u8],
-        utf8: bool,
+        line: RawLine<'_>,
     ) -> Result<(), AllocError>
         requires starts { self.old.starts.items ≡ keys_of players.now.entries }
         requires count { vec_len self.old.starts ≡ length players.now.entries }
@@ -103,13 +109,13 @@ impl Apart {
         requires all { vec_len named.old.marks ≡ length players.now.entries }
         ensures marked { IfOk result (λ _. (k l : ℕ) → k < vec_len self.old.starts → l < vec_len self.old.starts
             → are_marked self.new k l ≡ (are_marked self.old k l || names_both (start_at self.old k)
-            (start_at self.old l) (columns utf8 line.now))) }
+            (start_at self.old l) (columns line.entry.utf8 line.entry.bytes.now))) }
         ensures same { self.new.starts ≡ self.old.starts }
         ensures room { vec_len self.new.marks ≡ vec_len self.new.starts * vec_len self.new.starts }
         ensures nobody { IfOk result (λ _. named.new.places.items ≡ []) }
         ensures all { vec_len named.new.marks ≡ vec_len named.old.marks }
     {
-        let (kind, rest) = split_kind(line, utf8);
+        let (kind, rest) = split_kind(line.bytes, line.utf8);
         if !is_word(kind, b"XXP") {
             return Ok(());
         }
@@ -138,7 +144,7 @@ impl Apart {
         let mut rest = text;
         while !rest.is_empty() {
             let (line, after) = next_line(rest);
-            apart.mark_line(players, &mut named, line, utf8)?;
+            apart.mark_line(players, &mut named, RawLine { bytes: line, utf8 })?;
             rest = after;
         }
         Ok(apart)

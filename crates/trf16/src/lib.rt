@@ -47,7 +47,7 @@ mod summed;
 mod writing;
 
 pub use cell::{Bye, Cell, Colour, Outcome};
-pub use cells::{cell_at, front};
+pub use cells::{cell_at, front, is_unfinished};
 pub use columns::{column_count, is_blank, split_columns, split_kind};
 pub use devices::{Counted, Failed, Sink, Source};
 pub use extensions::is_word;

@@ -1,6 +1,7 @@
 // Reading a report from its text, line by line, with the first rule that it breaks.
 ghost use Rattle.std.specs.Prelude.{◌≡◌, ℕ, ◌+◌, ◌<◌, ◌≤◌, ◌&&◌, ◌-◌, ◌++◌, false, replicate, Err, IfOk, MatchResult};
 ghost use Rattle.std.specs.Prelude.{None, Ok, length, take, vec_len};
+ghost use Rattle.std.specs.List.{AllByRecursion};
 ghost use Rattle.std.specs.Str.{is_utf8};
 ghost use Rattle.trf16.specs.Lines.{lines, columns};
 ghost use Rattle.trf16.specs.Fields.{without_last};
@@ -8,7 +9,7 @@ ghost use Rattle.trf16.specs.Outcomes.{Gives};
 ghost use Rattle.trf16.specs.Sheet.{entry_of, known};
 ghost use Rattle.trf16.specs.Notes.{is_marked, first_noted, Tells};
 ghost use Rattle.trf16.specs.Summed.{verdict_unsummed};
-ghost use Rattle.trf16.specs.Verdict.{blank_at, start_number_at, start_at, points_at, round_at, rounds_at};
+ghost use Rattle.trf16.specs.Verdict.{blank_at, blanks_at, start_number_at, start_at, points_at, round_at, rounds_at};
 ghost use Rattle.trf16.specs.Verdict.{is_blank_cell, cells_at, player_at, is_player, is_too_long, player_onto};
 ghost use Rattle.trf16.specs.Verdict.{rounds_onto, colour_onto, start_ranks_onto, line_onto, lines_onto};
 ghost use Rattle.trf16.specs.Verdict.{has_too_many_rounds, names_too_many_rounds, without_players, sized, laid_out};
@@ -47,6 +48,18 @@ fn blank_at(n: usize, line: &Line<'_>, k: usize) -> Result<(), Fault>
     }
 }
 
+// Some columns of line n must be blank.
+#[tactic(auto, using(crate::proofs::ReadingLemmas::blanks_more, crate::proofs::ReadingLemmas::blanks_end))]
+fn blanks_at(n: usize, line: &Line<'_>, columns: &[usize]) -> Result<(), Fault>
+    requires { AllByRecursion (λ k. (0 < k) × (k ≤ LAST_COLUMN)) columns.now }
+    ensures { Gives (λ x. x) result (blanks_at n line.now columns.now) }
+{
+    for column in columns {
+        blank_at(n, line, *column)?;
+    }
+    Ok(())
+}
+
 // The start rank that line n names.
 #[tactic(auto, unfolding(crate::specs::Verdict::start_number_at))]
 fn start_number_at(n: usize, line: &Line<'_>) -> Result<u16, Fault>
@@ -81,21 +94,18 @@ fn points_at(n: usize, line: &Line<'_>) -> Result<Option<u16>, Fault>
     }
 }
 
-// The round behind `before` others.
+// The round behind `before` others, in the ten columns behind theirs.
 #[tactic(auto, unfolding(crate::specs::Verdict::round_at))]
 fn round_at(n: usize, line: &Line<'_>, before: usize) -> Result<Cell, Fault>
     requires { before < MOST_ROUNDS }
     ensures { Gives (λ x. x) result (round_at n line.now before) }
 {
-    let further = 10 * before;
-    blank_at(n, line, 96 + further)?;
-    blank_at(n, line, 98 + further)?;
-    blank_at(n, line, 100 + further)?;
-    blank_at(n, line, 101 + further)?;
+    let at = 91 + 10 * before;
+    blanks_at(n, line, &[at + 5, at + 7, at + 9, at + 10])?;
     match cell_from(
-        line.text(92 + further, 95 + further),
-        line.text(97 + further, 97 + further),
-        line.text(99 + further, 99 + further),
+        line.text(at + 1, at + 4),
+        line.text(at + 6, at + 6),
+        line.text(at + 8, at + 8),
     ) {
         None => Err(Fault::BadCell {
             line: n,
@@ -166,8 +176,7 @@ fn player_at<'a>(
     blank_at(n, line, 4)?;
     let start = start_at(draft, n, line)?;
     let points = points_at(n, line)?;
-    blank_at(n, line, 90)?;
-    blank_at(n, line, 91)?;
+    blanks_at(n, line, &[90, 91])?;
     let cells = cells_at(alloc, n, line)?;
     Ok(Player {
         start,
@@ -378,6 +387,7 @@ pub fn read<'a>(alloc: Global, bytes: &'a [u8]) -> Result<Report<'a>, Fault>
 /// Too many bytes is told first; then what is wrong with a line, in the order of the lines; then too many players, too
 /// many rounds, and no players; then for each player in the order of the lines what does not fit in their rounds, and
 /// then their points. Want of memory may come at any growth.
+#[tactic(auto, unfolding(crate::specs::Verdict::verdict))]
 pub fn read_with<'a>(alloc: Global, bytes: &'a [u8], bye: u16) -> Result<Report<'a>, Fault>
     requires { bye ≤ 2 }
     ensures { Gives (λ report. report) result (verdict bytes.now bye) }
@@ -392,6 +402,7 @@ pub fn read_with<'a>(alloc: Global, bytes: &'a [u8], bye: u16) -> Result<Report<
 ///
 /// # Errors
 /// Those of `read_with`, in the same order, but that a points field is no sum.
+#[tactic(auto, unfolding(crate::specs::Summed::verdict_unsummed))]
 pub fn read_unsummed<'a>(alloc: Global, bytes: &'a [u8], bye: u16) -> Result<Report<'a>, Fault>
     requires { bye ≤ 2 }
     ensures { Gives (λ report. report) result (verdict_unsummed bytes.now bye) }

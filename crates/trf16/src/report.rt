@@ -116,8 +116,8 @@ impl<'a> Report<'a> {
         self.players.contains_key(&start)
     }
 
-    // The player with a start rank.
-    pub(crate) fn player(&self, start: u16) -> Option<&Player<'a>>
+    /// The player with a start rank, if a player has it.
+    pub fn player(&self, start: u16) -> Option<&Player<'a>>
         ensures cells { option_map_or (λ p. p.now.cells.items) result [] ≡ cells_of self.now.players start }
         ensures entry { option_map (λ p. entry_of p.now) result ≡ player_of self.now.players start }
     {

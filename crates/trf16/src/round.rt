@@ -149,13 +149,13 @@ impl<'a> Report<'a> {
         &self,
         alloc: Global,
         boards: &[(u16, u16)],
-        before: u8,
         player: &Player<'a>,
     ) -> Result<Player<'a>, AllocError>
-        requires { before < MOST_ROUNDS }
+        requires { rounds_played self.now < MOST_ROUNDS }
         ensures { IfOk result (λ paired. entry_of paired
-            ≡ entry_with self.now.bye boards.now before (entry_of player.now)) }
+            ≡ entry_with self.now.bye boards.now (rounds_played self.now) (entry_of player.now)) }
     {
+        let before = self.rounds_played();
         let cells = cells_with(alloc, boards, before, player)?;
         Ok(Player {
             start: player.start,
@@ -172,16 +172,15 @@ impl<'a> Report<'a> {
         &self,
         alloc: Global,
         boards: Option<&[(u16, u16)]>,
-        rounds: u8,
         player: &Player<'a>,
     ) -> Result<Player<'a>, AllocError>
-        requires { IfSome (option_copied boards) (λ _. rounds < MOST_ROUNDS) }
+        requires { IfSome (option_copied boards) (λ _. rounds_played self.now < MOST_ROUNDS) }
         ensures { IfOk result (λ turned. entry_of turned
-            ≡ entry_turned (option_copied boards.entry) self.now.bye rounds (entry_of player.now)) }
+            ≡ entry_turned (option_copied boards.entry) self.now.bye (rounds_played self.now) (entry_of player.now)) }
     {
         match boards {
-            Some(boards) => self.player_with(alloc, boards, rounds, player),
-            None => self.player_summed(alloc, rounds, player),
+            Some(boards) => self.player_with(alloc, boards, player),
+            None => self.player_summed(alloc, player),
         }
     }
 
@@ -190,19 +189,18 @@ impl<'a> Report<'a> {
         &self,
         alloc: Global,
         boards: Option<&[(u16, u16)]>,
-        rounds: u8,
     ) -> Result<Report<'a>, AllocError>
-        requires { IfSome (option_copied boards) (λ _. rounds < MOST_ROUNDS) }
+        requires { IfSome (option_copied boards) (λ _. rounds_played self.now < MOST_ROUNDS) }
         ensures { IfOk result (λ report. report ≡ record self.now {
           players = map
-              (entry_turned (option_copied boards.entry) self.now.bye rounds) self.now.players;
+              (entry_turned (option_copied boards.entry) self.now.bye (rounds_played self.now)) self.now.players;
         }) }
     {
         let notes = self.notes.copy(alloc)?;
         let apart = self.apart.copy(alloc)?;
         let mut players = IndexMap::with_capacity(alloc, self.players.len())?;
         for player in self.players() {
-            let turned = self.player_turned(alloc, boards, rounds, player)?;
+            let turned = self.player_turned(alloc, boards, player)?;
             players.insert(player.start, turned)?;
         }
         let last = last_round_of(&players);
@@ -244,6 +242,6 @@ impl<'a> Report<'a> {
         requires { CanBePaired boards.now self.now }
         ensures { IfOk result (λ report. report ≡ with_round boards.now self.now) }
     {
-        self.turned(alloc, Some(boards), self.rounds_played())
+        self.turned(alloc, Some(boards))
     }
 }

@@ -1,6 +1,6 @@
 // A report with each of its points fields summed.
 ghost use Rattle.std.specs.Prelude.{◌≡◌, IfOk};
-ghost use Rattle.trf16.specs.Sheet.{entry_of};
+ghost use Rattle.trf16.specs.Sheet.{entry_of, rounds_played};
 ghost use Rattle.trf16.specs.Summed.{entry_summed, summed};
 
 use crate::cells::front;
@@ -9,15 +9,16 @@ use crate::report::Report;
 use std::alloc::{AllocError, Global};
 
 impl<'a> Report<'a> {
-    // A player whose points field is the sum over the first rounds.
+    // A player whose points field is the sum over the rounds that were paired.
     pub(crate) fn player_summed(
         &self,
         alloc: Global,
-        rounds: u8,
         player: &Player<'a>,
     ) -> Result<Player<'a>, AllocError>
-        ensures { IfOk result (λ player'. entry_of player' ≡ entry_summed self.now.bye rounds (entry_of player.now)) }
+        ensures { IfOk result (λ player'. entry_of player'
+            ≡ entry_summed self.now.bye (rounds_played self.now) (entry_of player.now)) }
     {
+        let rounds = self.rounds_played();
         Ok(Player {
             start: player.start,
             line: player.line,
@@ -35,6 +36,6 @@ impl<'a> Report<'a> {
     pub fn summed(&self, alloc: Global) -> Result<Report<'a>, AllocError>
         ensures { IfOk result (λ report. report ≡ summed self.now) }
     {
-        self.turned(alloc, None, self.rounds_played())
+        self.turned(alloc, None)
     }
 }

@@ -9,7 +9,8 @@ use Rattle.trf16.specs.Extensions.{is_kind, names_absent}
 use Rattle.trf16.specs.Absence.{is_of}
 use Rattle.trf16.specs.declared.kind.LineKind.{LineKind}
 use Rattle.trf16.specs.Notes.{is_marked, first_noted, noted_first}
-use Rattle.trf16.proofs.NoteLemmas.{AreNoted, noted-none, noted-more, noted-all, or_false}
+use Rattle.trf16.proofs.NoteLemmas.{AreNoted, noted-none, noted-more, noted-all}
+use Rattle.std.proofs.Math.Bool.{or-false}
 use Rattle.trf16.proofs.reading.lines_onto.Goals as goal
 use Rattle.trf16.proofs.reading.lines_onto.Goals.{then-long, else-long}
 
@@ -68,22 +69,10 @@ loop-rest-init c = (
   noted-none c.args.notes.now c.args.draft.now.utf8 (lines c.args.text.now) c.requires.absent c.requires.firsts c.requires.together,
 )
 
-pub returns-in_err-too_long-clause-long : goal.returns-in_err-too_long-clause-long
-returns-in_err-too_long-clause-long c = let p = err_from_is_err_and c.from_residual.result c.from_residual.ensures.1 in rw p.1 tt
-
-pub returns-in_err-too_long-clause-same : goal.returns-in_err-too_long-clause-same
-returns-in_err-too_long-clause-same c = let p = err_from_is_err_and c.from_residual.result c.from_residual.ensures.1 in rw p.1 tt
-
-pub returns-in_err-too_long-clause-noted : goal.returns-in_err-too_long-clause-noted
-returns-in_err-too_long-clause-noted c = let p = err_from_is_err_and c.from_residual.result c.from_residual.ensures.1 in rw p.1 tt
-
 pub returns-clause-long : goal.returns-clause-long
 returns-clause-long c =
     let nothing : c.loop-rest.rest.now ≡ [] = nil_from_length c.loop-rest.rest.now (eqb-true _ _ (sym c.loop-rest-test.ensures)) in
-    sym (or_false c.loop-rest.long) ∙ ap (λ (bytes : List ℕ). c.loop-rest.long || has_too_many_rounds c.args.draft.now.utf8 (lines bytes)) (sym nothing) ∙ c.loop-rest.invariant.1
-
-pub returns-clause-same : goal.returns-clause-same
-returns-clause-same c = c.loop-rest.invariant.2
+    sym (or-false c.loop-rest.long) ∙ ap (λ (bytes : List ℕ). c.loop-rest.long || has_too_many_rounds c.args.draft.now.utf8 (lines bytes)) (sym nothing) ∙ c.loop-rest.invariant.1
 
 pub returns-clause-noted : goal.returns-clause-noted
 returns-clause-noted c =

@@ -45,6 +45,3 @@ returns-clause-cells c =
           rw none refl
     ] in
     sym c.loop-cells.invariant.0 ∙ ap (behind cells.items) blank
-
-pub returns-in_err-round_at-clause-few : goal.returns-in_err-round_at-clause-few
-returns-in_err-round_at-clause-few c = let p = err_from_is_err_and c.from_residual.result c.from_residual.ensures.1 in rw p.1 tt

@@ -1,5 +1,4 @@
 use Rattle.std.proofs.Common.{slice_set, ap, sym, ◌∙◌, arith}
-use Rattle.std.proofs.lemmas.Result.{err_from_is_err_and}
 use Rattle.trf16.specs.Round.{with_cell}
 use Rattle.trf16.proofs.RoundLemmas.{with_cell-blank, with_cell-set}
 use Rattle.trf16.proofs.round.with_cell.Goals as goal
@@ -14,15 +13,3 @@ pub returns-clause-set : goal.returns-clause-set
 returns-clause-set c =
     let place = c.from-place.ensures in
     ap (λ k. slice_set c.loop-set.set.items k c.args.cell) place ∙ sym (with_cell-set c.args.before c.args.cell c.loop-set.set.items (omega arith)) ∙ c.loop-set.invariant.0
-
-pub returns-in_err-set-clause-set : goal.returns-in_err-set-clause-set
-returns-in_err-set-clause-set c = let p = err_from_is_err_and c.from_residual.result c.from_residual.ensures.1 in rw p.1 tt
-
-pub returns-in_err-set-clause-few : goal.returns-in_err-set-clause-few
-returns-in_err-set-clause-few c = let p = err_from_is_err_and c.from_residual.result c.from_residual.ensures.1 in rw p.1 tt
-
-pub returns-in_err-push-clause-set : goal.returns-in_err-push-clause-set
-returns-in_err-push-clause-set c = let p = err_from_is_err_and c.from_residual-in_err-push.result c.from_residual-in_err-push.ensures.1 in rw p.1 tt
-
-pub returns-in_err-push-clause-few : goal.returns-in_err-push-clause-few
-returns-in_err-push-clause-few c = let p = err_from_is_err_and c.from_residual-in_err-push.result c.from_residual-in_err-push.ensures.1 in rw p.1 tt

@@ -4,7 +4,7 @@ use Rattle.trf16.specs.Lines.{columns, lines}
 use Rattle.trf16.specs.Extensions.{names_both}
 use Rattle.trf16.specs.Notes.{are_marked, start_at}
 use Rattle.trf16.proofs.AnsweringLemmas.{some_of, some_of-cons, not_together}
-use Rattle.trf16.proofs.NoteLemmas.{or_step}
+use Rattle.std.proofs.Math.Bool.{or_assoc}
 use Rattle.trf16.proofs.apart.Apart.read.Goals as goal
 
 pub loop-rest-preserved : goal.loop-rest-preserved
@@ -23,7 +23,7 @@ loop-rest-preserved c =
           let test = names_both (start_at old i) (start_at old j) in
           let here = test (columns utf8 line) in
           ap (λ b. b || some_of test utf8 after) (c.in_ok-mark_line.ensures.marked i j li lj)
-          ∙ or_step (are_marked old i j) here (some_of test utf8 after)
+          ∙ or_assoc (are_marked old i j) here (some_of test utf8 after)
           ∙ ap (λ b. are_marked old i j || b) (sym (some_of-cons test utf8 line after here (not_together (start_at old i) (start_at old j) (columns utf8 line)) refl))
           ∙ ap (λ (ls : List (List ℕ)). are_marked old i j || some_of test utf8 ls) (sym c.next_line.ensures.first)
           ∙ before.both i j li lj);

@@ -5,7 +5,7 @@ use Rattle.std.specs.Prelude.{slice_index_or}
 use Rattle.trf16.specs.Fields.{words, number_of}
 use Rattle.trf16.specs.Extensions.{is_named}
 use Rattle.trf16.specs.Places.{is_place}
-use Rattle.trf16.proofs.NoteLemmas.{or_step}
+use Rattle.std.proofs.Math.Bool.{or_assoc}
 use Rattle.trf16.proofs.named.Named.add_words.Goals as goal
 
 pub loop-word-preserved : goal.loop-word-preserved
@@ -15,7 +15,7 @@ loop-word-preserved c = (
       let before = is_place c.loop-word.self.places.items k in
       let others = is_named (words c.in-Some.after.now) start in
       ap (λ b. b || others) (c.in_ok-add_word.ensures.more k lt)
-      ∙ or_step before (option_map_or (λ n. n == start) (number_of c.in-Some.word.now) false) others
+      ∙ or_assoc before (option_map_or (λ n. n == start) (number_of c.in-Some.word.now) false) others
       ∙ ap (λ (ws : List (List ℕ)). before || is_named ws start) (sym c.in-Some.ensures.first)
       ∙ c.loop-word.invariant.0 k lt,
   c.in_ok-add_word.ensures.count ∙ c.loop-word.invariant.1,

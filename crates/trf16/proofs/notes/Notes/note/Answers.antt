@@ -3,14 +3,15 @@ use Rattle.trf16.specs.Lines.{columns}
 use Rattle.trf16.specs.Extensions.{is_named, words_of}
 use Rattle.trf16.specs.Notes.{begins_with_x, is_marked, first_noted, noted_first}
 use Rattle.trf16.proofs.ExtensionLemmas.{no_extension, of_no_kind}
-use Rattle.trf16.proofs.NoteLemmas.{or_false, or_none}
+use Rattle.trf16.proofs.NoteLemmas.{or_none}
+use Rattle.std.proofs.Math.Bool.{or-false}
 use Rattle.trf16.proofs.notes.Notes.note.Goals as goal
 
 pub returns-else-begins_with_x-clause-absent : goal.returns-else-begins_with_x-clause-absent
 returns-else-begins_with_x-clause-absent c = λ i.
     let line = columns c.args.utf8 c.args.line.now in
     let other : begins_with_x c.args.line.now ≡ false = sym c.begins_with_x.ensures ∙ c.if-begins_with_x.false in
-    sym (ap (λ b. is_marked c.args.self.now i || (b && is_named (words_of line) i)) (no_extension c.args.utf8 c.args.line.now (88 ∷ 90 ∷ []) other) ∙ or_false (is_marked c.args.self.now i))
+    sym (ap (λ b. is_marked c.args.self.now i || (b && is_named (words_of line) i)) (no_extension c.args.utf8 c.args.line.now (88 ∷ 90 ∷ []) other) ∙ or-false (is_marked c.args.self.now i))
 
 pub returns-else-begins_with_x-clause-firsts : goal.returns-else-begins_with_x-clause-firsts
 returns-else-begins_with_x-clause-firsts c = λ kind.
@@ -20,4 +21,4 @@ returns-else-begins_with_x-clause-firsts c = λ kind.
 pub returns-else-begins_with_x-clause-together : goal.returns-else-begins_with_x-clause-together
 returns-else-begins_with_x-clause-together c =
     let other : begins_with_x c.args.line.now ≡ false = sym c.begins_with_x.ensures ∙ c.if-begins_with_x.false in
-    sym (ap (λ b. c.args.self.now.together || b) (no_extension c.args.utf8 c.args.line.now (88 ∷ 80 ∷ []) other) ∙ or_false c.args.self.now.together)
+    sym (ap (λ b. c.args.self.now.together || b) (no_extension c.args.utf8 c.args.line.now (88 ∷ 80 ∷ []) other) ∙ or-false c.args.self.now.together)

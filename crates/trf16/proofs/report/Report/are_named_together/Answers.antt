@@ -1,4 +1,4 @@
-use Rattle.std.proofs.Common.{◌≡◌, ℕ, List, [], true, false, ap, refl, sym, ◌∙◌}
+use Rattle.std.proofs.Common.{◌≡◌, ℕ, List, [], true, false, ap, sym, ◌∙◌}
 use Rattle.std.proofs.lemmas.Bool.{eqb-true}
 use Rattle.trf16.specs.Lines.{columns, lines}
 use Rattle.trf16.specs.Extensions.{names_both}
@@ -22,9 +22,6 @@ loop-rest-preserved c =
     let test = names_both c.args.a c.args.b in
     sym (some_of-cons test utf8 line (lines c.next_line.result.1.now) false (not_together c.args.a c.args.b (columns utf8 line)) (sym c.if-names_both.ensures))
     ∙ ap (some_of test utf8) (sym c.next_line.ensures.first) ∙ c.loop-rest.invariant
-
-pub loop-rest-init : goal.loop-rest-init
-loop-rest-init c = refl
 
 pub returns : goal.returns
 returns c =

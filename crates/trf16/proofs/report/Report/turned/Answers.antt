@@ -1,11 +1,10 @@
 use Rattle.std.proofs.Common.{◌≡◌, ℕ, ◌≤◌, List, map, length, nat_eq, refl, subst, sym, ap, ◌∙◌, arith}
 use Rattle.std.proofs.lemmas.List.{length-map}
 use Rattle.std.specs.List.{IsDistinct}
-use Rattle.std.proofs.lemmas.Result.{err_from_is_err_and}
 use Rattle.trf16.specs.declared.player.Player.{Player}
 use Rattle.trf16.specs.Lines.{lines}
 use Rattle.trf16.specs.Verdict.{carried_line, without_players}
-use Rattle.trf16.specs.Sheet.{Entry, Sheet, entry_of}
+use Rattle.trf16.specs.Sheet.{Entry, Sheet, entry_of, rounds_played}
 use Rattle.std.specs.Prelude.{Option, Some, None, option_copied}
 use denote.Ref.{Bor}
 use Rattle.trf16.specs.Steps.{entry_turned}
@@ -25,7 +24,7 @@ keeps (Some boards) bye rounds entry = refl
 
 pub loop-player-preserved-in_ok-insert : goal.loop-player-preserved-in_ok-insert
 loop-player-preserved-in_ok-insert c =
-    turned-insert (turn c.args.boards c.args.self.now.bye c.args.rounds) (keeps c.args.boards c.args.self.now.bye c.args.rounds) c.loop-player.players (entry_of c.in-Some.player.now) (map entry_of c.loop-player.player-iterator)
+    turned-insert (turn c.args.boards c.args.self.now.bye (rounds_played c.args.self.now)) (keeps c.args.boards c.args.self.now.bye (rounds_played c.args.self.now)) c.loop-player.players (entry_of c.in-Some.player.now) (map entry_of c.loop-player.player-iterator)
     (map entry_of c.next.new.self) c.args.self.now.players c.in_ok-turned.turned c.insert.new.self.entries (ap (map entry_of) c.in-Some.ensures.steps)
     c.loop-player.invariant c.in_ok-turned.ensures c.in_ok-insert.ensures.entries
     (subst (λ (sheet : Sheet). IsDistinct nat_eq (map (λ (e : Entry). e.start) sheet.players)) c.self.view_is
@@ -33,7 +32,7 @@ loop-player-preserved-in_ok-insert c =
 
 pub loop-player-preserved : goal.loop-player-preserved
 loop-player-preserved c =
-    turned-insert (turn c.args.boards c.args.self.now.bye c.args.rounds) (keeps c.args.boards c.args.self.now.bye c.args.rounds) c.loop-player.players (entry_of c.in-Some.player.now) (map entry_of c.loop-player.player-iterator)
+    turned-insert (turn c.args.boards c.args.self.now.bye (rounds_played c.args.self.now)) (keeps c.args.boards c.args.self.now.bye (rounds_played c.args.self.now)) c.loop-player.players (entry_of c.in-Some.player.now) (map entry_of c.loop-player.player-iterator)
     (map entry_of c.next.new.self) c.args.self.now.players c.in_ok-turned.turned c.insert.new.self.entries (ap (map entry_of) c.in-Some.ensures.steps)
     c.loop-player.invariant c.in_ok-turned.ensures c.in_ok-insert.ensures.entries
     (subst (λ (sheet : Sheet). IsDistinct nat_eq (map (λ (e : Entry). e.start) sheet.players)) c.self.view_is
@@ -43,10 +42,10 @@ pub invariant_of-result : goal.invariant_of-result
 invariant_of-result c =
     let done = c.loop-player.players.entries in
     let all = c.args.self.now.players in
-    let same = turned-end (turn c.args.boards c.args.self.now.bye c.args.rounds) done (map entry_of c.loop-player.player-iterator) all
+    let same = turned-end (turn c.args.boards c.args.self.now.bye (rounds_played c.args.self.now)) done (map entry_of c.loop-player.player-iterator) all
     (ap (map entry_of) c.in-None.ensures.steps.0) c.loop-player.invariant in
     let size : length done ≡ length c.self.inside.players.entries =
-    turned-length (turn c.args.boards c.args.self.now.bye c.args.rounds) done all same ∙ ap (λ (sheet : Sheet). length sheet.players) (sym c.self.view_is)
+    turned-length (turn c.args.boards c.args.self.now.bye (rounds_played c.args.self.now)) done all same ∙ ap (λ (sheet : Sheet). length sheet.players) (sym c.self.view_is)
     ∙ length-map c.self.inside.players.entries (λ (e : ℕ × Player). entry_of e.1) in
     let few : length c.self.inside.players.entries ≤ MOST_PLAYERS = c.self.invariant.1 in (
       c.loop-player.invariant.keyed,
@@ -60,32 +59,17 @@ invariant_of-result c =
           (record (without_players c.self.inside.utf8 (lines c.self.inside.text.now) c.self.inside.bye) { players = map (λ e. entry_of e.1) c.self.inside.players.entries })
           (record (without_players c.self.inside.utf8 (lines c.self.inside.text.now) c.self.inside.bye) { players = map (λ e. entry_of e.1) done })
           c.in_ok-apart.ensures.both c.in_ok-apart.ensures.same c.in_ok-apart.ensures.len refl refl
-          (ap starts_of same ∙ starts-with (turn c.args.boards c.args.self.now.bye c.args.rounds) (keeps c.args.boards c.args.self.now.bye c.args.rounds) all ∙ ap (λ (sheet : Sheet). starts_of sheet.players) (sym c.self.view_is))
+          (ap starts_of same ∙ starts-with (turn c.args.boards c.args.self.now.bye (rounds_played c.args.self.now)) (keeps c.args.boards c.args.self.now.bye (rounds_played c.args.self.now)) all ∙ ap (λ (sheet : Sheet). starts_of sheet.players) (sym c.self.view_is))
           c.self.invariant.7,
     )
 
 pub returns : goal.returns
 returns c =
     let inside = c.self.inside in
-    let turned = turn c.args.boards c.args.self.now.bye c.args.rounds in
+    let turned = turn c.args.boards c.args.self.now.bye (rounds_played c.args.self.now) in
     let made : List Entry → Sheet = λ players.
     record { utf8 = inside.utf8; carried = map (carried_line inside.utf8) (lines inside.text.now); players = players; total = inside.total; initial = inside.initial; bye = inside.bye } in
     let all = c.args.self.now.players in
     let same = turned-end turned c.loop-player.players.entries (map entry_of c.loop-player.player-iterator) all
     (ap (map entry_of) c.in-None.ensures.steps.0) c.loop-player.invariant in
     ap made same ∙ ap (λ (sheet : Sheet). record sheet { players = map turned all }) c.self.view_is
-
-pub returns-in_err-notes : goal.returns-in_err-notes
-returns-in_err-notes c = let p = err_from_is_err_and c.from_residual.result c.from_residual.ensures.1 in rw p.1 tt
-
-pub returns-in_err-apart : goal.returns-in_err-apart
-returns-in_err-apart c = let p = err_from_is_err_and c.from_residual-in_err-apart.result c.from_residual-in_err-apart.ensures.1 in rw p.1 tt
-
-pub returns-in_err-players : goal.returns-in_err-players
-returns-in_err-players c = let p = err_from_is_err_and c.from_residual-in_err-players.result c.from_residual-in_err-players.ensures.1 in rw p.1 tt
-
-pub returns-in_err-turned : goal.returns-in_err-turned
-returns-in_err-turned c = let p = err_from_is_err_and c.from_residual-in_err-turned.result c.from_residual-in_err-turned.ensures.1 in rw p.1 tt
-
-pub returns-in_err-insert : goal.returns-in_err-insert
-returns-in_err-insert c = let p = err_from_is_err_and c.from_residual-in_err-insert.result c.from_residual-in_err-insert.ensures.1 in rw p.1 tt

@@ -3,7 +3,7 @@ use Rattle.std.specs.Option.{option_map_or}
 use Rattle.trf16.specs.Fields.{words, number_of}
 use Rattle.trf16.specs.Extensions.{is_named}
 use Rattle.trf16.specs.Notes.{has_start}
-use Rattle.trf16.proofs.NoteLemmas.{or_step}
+use Rattle.std.proofs.Math.Bool.{or_assoc}
 use Rattle.trf16.proofs.start_ranks.StartRanks.mark_words.Goals as goal
 
 pub loop-word-preserved : goal.loop-word-preserved
@@ -11,6 +11,6 @@ loop-word-preserved c = λ i.
     let marked = has_start c.loop-word.self i in
     let others = is_named (words c.in-Some.after.now) i in
     ap (λ b. b || others) (c.mark_word.ensures i)
-    ∙ or_step marked (option_map_or (λ n. n == i) (number_of c.in-Some.word.now) false) others
+    ∙ or_assoc marked (option_map_or (λ n. n == i) (number_of c.in-Some.word.now) false) others
     ∙ ap (λ (ws : List (List ℕ)). marked || is_named ws i) (sym c.in-Some.ensures.first)
     ∙ c.loop-word.invariant i
