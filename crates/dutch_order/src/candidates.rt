@@ -140,10 +140,12 @@ fn draw_legal<R: Rule, L: Arranges, C: Cuts>(
         (Passes (C.Idle asking.now.cuts.now)
         (filter (may_leave (R.may_be_left asking.now.leave.now.rule.now) asking.now.leave.now.bracket.now)
         (listed drawing.old.kept ++ L.coming drawing.old.level))
-        (candidate.new.lists ∷ filter (may_leave (R.may_be_left asking.now.leave.now.rule.now) asking.now.leave.now.bracket.now)
+        (candidate.new.lists
+        ∷ filter (may_leave (R.may_be_left asking.now.leave.now.rule.now) asking.now.leave.now.bracket.now)
         (listed drawing.new.kept ++ L.coming drawing.new.level))
         × (candidate.new.down ≡ down asking.now.leave.now.bracket.now candidate.new.lists))
-        (Passes (C.Idle asking.now.cuts.now) (filter (may_leave (R.may_be_left asking.now.leave.now.rule.now) asking.now.leave.now.bracket.now)
+        (Passes (C.Idle asking.now.cuts.now)
+        (filter (may_leave (R.may_be_left asking.now.leave.now.rule.now) asking.now.leave.now.bracket.now)
         (listed drawing.old.kept ++ L.coming drawing.old.level)) [])
         (Passes (C.Idle asking.now.cuts.now)
         (filter (may_leave (R.may_be_left asking.now.leave.now.rule.now) asking.now.leave.now.bracket.now)
@@ -222,7 +224,8 @@ pub struct Candidates<'a, R: Rule> {
 impl<'a, R: Rule> Model for Candidates<'a, R> {
     ghost use Rattle.std.specs.Prelude.{◌≡◌, ◌++◌, ◌&&◌, ◌-◌, ◌*◌, [], filter, length, nat_lt, true};
     ghost use Rattle.dutch_order.specs.Levels.{may_leave};
-    ghost use Rattle.dutch_order.specs.Listings.{AreCandidates, Listing, leaves_too_many, listed, only_if, still_coming};
+    ghost use Rattle.dutch_order.specs.Listings.{AreCandidates, Listing, leaves_too_many, listed, only_if};
+    ghost use Rattle.dutch_order.specs.Listings.{still_coming};
 
     ghost Value = { Listing R };
 

@@ -50,7 +50,8 @@ fn reach_in(stage: &Stage<'_>, path: &[u16], place: usize) -> Reach
     requires second { stage.now.size ≤ length path.now }
     requires opened { length path.now < stage.now.size + stage.now.size }
     requires walked_out { AllByRecursion (λ place. place < stage.now.k) (take stage.now.size path.now) }
-    requires walked_in { AllByRecursion (λ place. place < length stage.now.pool.now - stage.now.k) (drop stage.now.size path.now) }
+    requires walked_in { AllByRecursion (λ place. place < length stage.now.pool.now - stage.now.k)
+        (drop stage.now.size path.now) }
     requires room { place + (stage.now.size + stage.now.size - 1 - length path.now)
         < length stage.now.pool.now - stage.now.k }
     ensures least { result.least ≡ least_at stage.now.pool.now stage.now.k stage.now.size path.now place }

@@ -210,7 +210,8 @@ impl<'a, R: Rule> Transpositions<'a, R> {
         requires ascends { IsStrictlyIncreasing meeting.now.pool.now }
         requires few_first { length meeting.now.first.now ≤ LIMIT }
         requires few { length meeting.now.pool.now ≤ LIMIT }
-        ensures coming { self.new.coming ≡ transpositions (R.meets rule.now) meeting.now.first.now meeting.now.pool.now }
+        ensures coming { self.new.coming
+            ≡ transpositions (R.meets rule.now) meeting.now.first.now meeting.now.pool.now }
         ensures left { self.new.left ≡ length meeting.now.pool.now * length
             (short_beginnings (R.meets rule.now) meeting.now.first.now meeting.now.pool.now) }
     {
