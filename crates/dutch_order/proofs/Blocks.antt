@@ -1,14 +1,15 @@
 -- One turn of a level that goes through its blocks: the choice that comes is the cursor's own, or any other.
-use Rattle.std.proofs.Common.{◌≡◌, ℕ, Bool, true, if◌then◌else◌, List, [], ◌∷◌, refl, map, sym, subst, inl, inr, append-nil, is_some, option_copied, Bor, Option, Some, None, ap, ◌∙◌}
+use Rattle.std.proofs.Common.{◌≡◌, ℕ, Bool, true, false, if◌then◌else◌, List, [], ◌∷◌, refl, map, sym, subst, inl, inr, append-nil, is_some, option_copied, Bor, Option, Some, None, ap, ◌∙◌}
 use Rattle.std.specs.List.{AllByRecursion}
 use Rattle.dutch_order.specs.Arrangements.{Arrangement, left_of}
 use Rattle.dutch_order.specs.Choices.{is_same}
-use Rattle.dutch_order.specs.Levels.{Of, arranged, blocks_from, if_own, in_s1r, in_s2, s1r_blocks, s2_blocks}
+use Rattle.dutch_order.specs.Levels.{Of, arranged, blocks_from, if_own, in_s1r, in_s2, s1r_blocks}
 use Rattle.dutch_order.specs.Exchange.{exchanges}
 use Rattle.dutch_order.specs.Prefixes.{GoesOn}
 use Rattle.dutch_order.specs.Steps.{Passes}
-use Rattle.std.proofs.lemmas.Bool.{cases_Bool}
+use Rattle.std.proofs.lemmas.Bool.{cases_Bool, true≢false}
 use Rattle.dutch_order.proofs.FromOn.{is_same-true}
+use Rattle.dutch_order.proofs.LeftOut.{passes-nothing}
 use Rattle.dutch_order.proofs.Skipping.{all-joined, passes-map, passes-none}
 
 -- the next choice is taken: its block stands before whole ones
@@ -91,60 +92,45 @@ same-lists a b s1 s2 s1r s2r =
     ∙ ap (λ list. arranged b.s1 b.s2 list a.s2r) s1r
     ∙ ap (λ list. arranged b.s1 b.s2 b.s1r list) s2r
 
--- where S1 is chosen and no cursor is left, blocks are skipped as their S2 are
-pub passes-s2 : (Idle : Arrangement → Type 0) (meets : ℕ → ℕ → Bool) (k : ℕ) (s1 chosen residents : List ℕ) (own : Option Arrangement) → chosen ≡ s1 → own ≡ None → (xs ys : List (List ℕ)) → Passes (λ s2. (a : Arrangement) → chosen ≡ a.s1 → s2 ≡ a.s2 → Idle a) xs ys → Passes (AllByRecursion Idle) (s2_blocks meets k s1 residents own xs) (s2_blocks meets k s1 residents None ys)
-passes-s2 Idle meets k s1 chosen residents own at_s1 none xs ys passes =
-    subst (λ own. Passes (AllByRecursion Idle) (s2_blocks meets k s1 residents own xs) (s2_blocks meets k s1 residents None ys)) (sym none)
-    (passes-map (λ s2. (a : Arrangement) → chosen ≡ a.s1 → s2 ≡ a.s2 → Idle a) (AllByRecursion Idle) (in_s2 meets k s1 residents None) xs ys
-    (λ s2 each. idle-in-s2 Idle s1 s2 (λ a first second. each a (at_s1 ∙ first) second) meets k residents)
-    passes)
-
 -- whether there is one, lent or copied
 pub some-lent : {T : Type 0} (own : Option (Bor T)) → is_some (option_copied own) ≡ is_some own
 some-lent None = refl
 some-lent (Some own) = refl
 
--- the next S2 comes: where a cursor is left, the very next one
-pub comes-s2 : (Idle : Arrangement → Type 0) (meets : ℕ → ℕ → Bool) (k : ℕ) (s1 residents : List ℕ) (own : Option Arrangement) (xs ys : List (List ℕ)) (s2 : List ℕ) → Passes (λ s2. (a : Arrangement) → s1 ≡ a.s1 → s2 ≡ a.s2 → Idle a) xs (s2 ∷ ys) → (is_some own ≡ true → xs ≡ s2 ∷ ys) → Passes (AllByRecursion Idle) (s2_blocks meets k s1 residents own xs) (in_s2 meets k s1 residents (if_own (λ a. a.s2) own s2) s2 ∷ s2_blocks meets k s1 residents None ys)
-comes-s2 Idle meets k s1 residents None xs ys s2 passes very = passes-s2 Idle meets k s1 s1 residents None refl refl xs (s2 ∷ ys) passes
-comes-s2 Idle meets k s1 residents (Some own) xs ys s2 passes very =
-    passes-none (AllByRecursion Idle) _ _ (block-comes (λ a. a.s2) (in_s2 meets k s1 residents) (Some own) s2 xs ys (very refl))
+-- each arrangement with an S1 and an S2 is idle, and each with an S1R too
+abbrev pub IdleS2 : (Arrangement → Type 0) → List ℕ → List ℕ → Type 0
+IdleS2 Idle s1 s2 = (a : Arrangement) → s1 ≡ a.s1 → s2 ≡ a.s2 → Idle a
 
--- none comes any more
-pub ends-s2 : (Idle : Arrangement → Type 0) (meets : ℕ → ℕ → Bool) (k : ℕ) (s1 residents : List ℕ) (own : Option Arrangement) (xs : List (List ℕ)) → Passes (λ s2. (a : Arrangement) → s1 ≡ a.s1 → s2 ≡ a.s2 → Idle a) xs [] → (is_some own ≡ true → xs ≡ []) → Passes (AllByRecursion Idle) (s2_blocks meets k s1 residents own xs) []
-ends-s2 Idle meets k s1 residents None xs passes very = passes-s2 Idle meets k s1 s1 residents None refl refl xs [] passes
-ends-s2 Idle meets k s1 residents (Some own) xs passes very =
-    passes-none (AllByRecursion Idle) _ _ (ap (s2_blocks meets k s1 residents (Some own)) (very refl))
+abbrev pub IdleS1r : (Arrangement → Type 0) → List ℕ → List ℕ → List ℕ → Type 0
+IdleS1r Idle s1 s2 s1r = (a : Arrangement) → s1 ≡ a.s1 → s2 ≡ a.s2 → s1r ≡ a.s1r → Idle a
 
--- the search for one is stopped
-pub stops-s2 : (Idle : Arrangement → Type 0) (meets : ℕ → ℕ → Bool) (k : ℕ) (s1 residents : List ℕ) (own : Option Arrangement) (xs ys : List (List ℕ)) → Passes (λ s2. (a : Arrangement) → s1 ≡ a.s1 → s2 ≡ a.s2 → Idle a) xs ys → (is_some own ≡ true → ys ≡ xs) → Passes (AllByRecursion Idle) (s2_blocks meets k s1 residents own xs) (s2_blocks meets k s1 residents own ys)
-stops-s2 Idle meets k s1 residents None xs ys passes very = passes-s2 Idle meets k s1 s1 residents None refl refl xs ys passes
-stops-s2 Idle meets k s1 residents (Some own) xs ys passes very =
-    passes-none (AllByRecursion Idle) _ _ (ap (s2_blocks meets k s1 residents (Some own)) (sym (very refl)))
+-- once S1, S2 and S1R are chosen, all is idle where each arrangement that has them is
+pub idle-in-s1r : (Idle : Arrangement → Type 0) (meets : ℕ → ℕ → Bool) (s1 s2 remainder s1r : List ℕ) → IdleS1r Idle s1 s2 s1r → AllByRecursion Idle (in_s1r meets s1 s2 remainder None s1r)
+unfolding in_s1r
+idle-in-s1r Idle meets s1 s2 remainder s1r each = all-made Idle (arranged s1 s2 s1r) _ (λ s2r. each (arranged s1 s2 s1r s2r) refl refl refl)
 
--- the same of S1R, where S1 and S2 are chosen
-module _ (Idle : Arrangement → Type 0) (meets : ℕ → ℕ → Bool) (s1 s2 remainder : List ℕ) where
-  abbrev idle_s1r : List ℕ → Type 0
-  idle_s1r s1r = (a : Arrangement) → s1 ≡ a.s1 → s2 ≡ a.s2 → s1r ≡ a.s1r → Idle a
+-- choices of which idle ones may be passed over, but none while a cursor is left: the next one, the end, or a stop
+module _ (Idle : Arrangement → Type 0) (part : Arrangement → List ℕ) (block : Option Arrangement → List ℕ → List Arrangement) (IsIdle : List ℕ → Type 0) (each : (choice : List ℕ) → IsIdle choice → AllByRecursion Idle (block None choice)) (very : Bool) where
+  abbrev IsPassed : List ℕ → Type 0
+  IsPassed choice = (very ≡ false) × IsIdle choice
 
-  passes-s1r : (xs ys : List (List ℕ)) → Passes idle_s1r xs ys → Passes (AllByRecursion Idle) (s1r_blocks meets s1 s2 remainder None xs) (s1r_blocks meets s1 s2 remainder None ys)
-  unfolding in_s1r
-  passes-s1r xs ys passes =
-      passes-map idle_s1r (AllByRecursion Idle) (in_s1r meets s1 s2 remainder None) xs ys
-      (λ s1r each. all-made Idle (arranged s1 s2 s1r) _ (λ s2r. each (arranged s1 s2 s1r s2r) refl refl refl))
-      passes
+  passes-choices : (xs ys : List (List ℕ)) → Passes IsPassed xs ys → Passes (AllByRecursion Idle) (map (block None) xs) (map (block None) ys)
+  passes-choices xs ys passes = passes-map IsPassed (AllByRecursion Idle) (block None) xs ys (λ choice passed. each choice passed.1) passes
 
-  pub comes-s1r : (own : Option Arrangement) (xs ys : List (List ℕ)) (s1r : List ℕ) → Passes idle_s1r xs (s1r ∷ ys) → (is_some own ≡ true → xs ≡ s1r ∷ ys) → Passes (AllByRecursion Idle) (s1r_blocks meets s1 s2 remainder own xs) (in_s1r meets s1 s2 remainder (if_own (λ a. a.s1r) own s1r) s1r ∷ s1r_blocks meets s1 s2 remainder None ys)
-  comes-s1r None xs ys s1r passes very = passes-s1r xs (s1r ∷ ys) passes
-  comes-s1r (Some own) xs ys s1r passes very =
-      passes-none (AllByRecursion Idle) _ _ (block-comes (λ a. a.s1r) (in_s1r meets s1 s2 remainder) (Some own) s1r xs ys (very refl))
+  none-passed-over : very ≡ true → (xs ys : List (List ℕ)) → Passes IsPassed xs ys → xs ≡ ys
+  none-passed-over is = passes-nothing IsPassed (λ choice passed. true≢false (sym is ∙ passed.0))
 
-  pub ends-s1r : (own : Option Arrangement) (xs : List (List ℕ)) → Passes idle_s1r xs [] → (is_some own ≡ true → xs ≡ []) → Passes (AllByRecursion Idle) (s1r_blocks meets s1 s2 remainder own xs) []
-  ends-s1r None xs passes very = passes-s1r xs [] passes
-  ends-s1r (Some own) xs passes very =
-      passes-none (AllByRecursion Idle) _ _ (ap (s1r_blocks meets s1 s2 remainder (Some own)) (very refl))
+  pub comes : (own : Option Arrangement) → very ≡ is_some own → (xs ys : List (List ℕ)) (choice : List ℕ) → Passes IsPassed xs (choice ∷ ys) → Passes (AllByRecursion Idle) (blocks_from part block own xs) (block (if_own part own choice) choice ∷ map (block None) ys)
+  comes None is xs ys choice passes = passes-choices xs (choice ∷ ys) passes
+  comes (Some own) is xs ys choice passes =
+      passes-none (AllByRecursion Idle) _ _ (block-comes part block (Some own) choice xs ys (none-passed-over is xs (choice ∷ ys) passes))
 
-  pub stops-s1r : (own : Option Arrangement) (xs ys : List (List ℕ)) → Passes idle_s1r xs ys → (is_some own ≡ true → ys ≡ xs) → Passes (AllByRecursion Idle) (s1r_blocks meets s1 s2 remainder own xs) (s1r_blocks meets s1 s2 remainder own ys)
-  stops-s1r None xs ys passes very = passes-s1r xs ys passes
-  stops-s1r (Some own) xs ys passes very =
-      passes-none (AllByRecursion Idle) _ _ (ap (s1r_blocks meets s1 s2 remainder (Some own)) (sym (very refl)))
+  pub ends : (own : Option Arrangement) → very ≡ is_some own → (xs : List (List ℕ)) → Passes IsPassed xs [] → Passes (AllByRecursion Idle) (blocks_from part block own xs) []
+  ends None is xs passes = passes-choices xs [] passes
+  ends (Some own) is xs passes =
+      passes-none (AllByRecursion Idle) _ _ (ap (blocks_from part block (Some own)) (none-passed-over is xs [] passes))
+
+  pub stops : (own : Option Arrangement) → very ≡ is_some own → (xs ys : List (List ℕ)) → Passes IsPassed xs ys → Passes (AllByRecursion Idle) (blocks_from part block own xs) (blocks_from part block own ys)
+  stops None is xs ys passes = passes-choices xs ys passes
+  stops (Some own) is xs ys passes =
+      passes-none (AllByRecursion Idle) _ _ (ap (blocks_from part block (Some own)) (none-passed-over is xs ys passes))

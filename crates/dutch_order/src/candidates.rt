@@ -10,14 +10,16 @@ ghost use Rattle.dutch_order.specs.Arrangements.{Fits, arrangements, candidates,
 ghost use Rattle.dutch_order.specs.Choices.{is_member};
 ghost use Rattle.dutch_order.specs.Keys.{IsIn};
 ghost use Rattle.dutch_order.specs.Levels.{Of, in_bracket, may_leave};
-ghost use Rattle.dutch_order.specs.Listings.{AreCandidates, candidates_from, listed};
+ghost use Rattle.dutch_order.specs.Listings.{AreCandidates, candidates_from, leaves_too_many, listed};
+ghost use Rattle.dutch_order.specs.Listings.{EndsAtOnce, TellsEnd, Gives, Ends, Stops, GivesPast, EndsPast, StopsPast};
 ghost use Rattle.dutch_order.specs.Steps.{MatchDrawn, MatchStep, Passes, Spends};
+ghost use Rattle.dutch_order.specs.declared.steps.Step.TheVariants.{Found, End, Undecided};
 
 use crate::arrangement::{Arrangement, Held};
 use crate::bound::Bound;
 use crate::bracket::{Bracket, Shape};
 use crate::candidate::Candidate;
-use crate::choices::{Levels, no_levels};
+use crate::choices::{InBracket, Levels, no_levels};
 use crate::cursor::Cursor;
 use crate::cuts::{Cuts, NoCuts, Within};
 use crate::levels::Arranges;
@@ -25,6 +27,7 @@ use crate::numbers::Numbers;
 use crate::prefix::Prefix;
 use crate::rules::Rule;
 use crate::steps::{Budget, Drawn, Step, Stopped};
+use std::cell::RefCell;
 use std::marker::Model;
 
 /// Whether a player is in one of the four lists.
@@ -94,7 +97,7 @@ fn ask_leave<R: Rule>(rule: &R, last: bool, down: &[u16], budget: &mut Budget) -
 /// most one.
 fn leaves_too_many(bracket: &Bracket, shape: Shape) -> bool
     requires { Fits bracket.now shape }
-    ensures { result ≡ (bracket.now.last && nat_lt 1 (length bracket.now.scores - 2 * shape.pairs)) }
+    ensures { result ≡ leaves_too_many bracket.now shape }
 {
     bracket.is_last() && bracket.len() - 2 * shape.pairs > 1
 }
@@ -103,7 +106,6 @@ fn leaves_too_many(bracket: &Bracket, shape: Shape) -> bool
 fn draw_listed<L: Arranges, C: Cuts>(
     drawing: &mut Drawing<L>,
     cuts: &C,
-    room: &mut C::Room,
     lists: &mut Arrangement,
     budget: &mut Budget,
 ) -> Drawn
@@ -116,38 +118,46 @@ fn draw_listed<L: Arranges, C: Cuts>(
     ensures taken { drawing.new.kept ≡ None }
     ensures spends { Spends budget.old budget.new }
 {
-    Ok(drawing.kept.take(lists) || drawing.level.next(cuts, room, lists, budget)?)
+    Ok(drawing.kept.take(lists) || drawing.level.next(cuts, lists, budget)?)
 }
 
-/// Draws the next arrangement that leaves over whom its bracket may leave. It may skip those that `cuts` knows to be
+/// What an arrangement is asked: whom it leaves over, and whether it is idle.
+#[derive(Drop)]
+struct Asking<'q, 'a, R, C> {
+    leave: &'q Leave<'a, R>,
+    cuts: &'q C,
+}
+
+/// Draws the next arrangement that leaves over whom its bracket may leave. It may skip those that the cuts know to be
 /// idle.
 fn draw_legal<R: Rule, L: Arranges, C: Cuts>(
-    leave: &Leave<'_, R>,
+    asking: &Asking<'_, '_, R, C>,
     drawing: &mut Drawing<L>,
-    cuts: &C,
-    room: &mut C::Room,
     candidate: &mut Candidate,
     budget: &mut Budget,
 ) -> Drawn
     ensures answer { MatchDrawn result
-        (Passes (C.Idle cuts.now)
-        (filter (may_leave (R.may_be_left leave.now.rule.now) leave.now.bracket.now)
+        (Passes (C.Idle asking.now.cuts.now)
+        (filter (may_leave (R.may_be_left asking.now.leave.now.rule.now) asking.now.leave.now.bracket.now)
         (listed drawing.old.kept ++ L.coming drawing.old.level))
-        (candidate.new.lists ∷ filter (may_leave (R.may_be_left leave.now.rule.now) leave.now.bracket.now)
+        (candidate.new.lists
+        ∷ filter (may_leave (R.may_be_left asking.now.leave.now.rule.now) asking.now.leave.now.bracket.now)
         (listed drawing.new.kept ++ L.coming drawing.new.level))
-        × (candidate.new.down ≡ down leave.now.bracket.now candidate.new.lists))
-        (Passes (C.Idle cuts.now) (filter (may_leave (R.may_be_left leave.now.rule.now) leave.now.bracket.now)
+        × (candidate.new.down ≡ down asking.now.leave.now.bracket.now candidate.new.lists))
+        (Passes (C.Idle asking.now.cuts.now)
+        (filter (may_leave (R.may_be_left asking.now.leave.now.rule.now) asking.now.leave.now.bracket.now)
         (listed drawing.old.kept ++ L.coming drawing.old.level)) [])
-        (Passes (C.Idle cuts.now)
-        (filter (may_leave (R.may_be_left leave.now.rule.now) leave.now.bracket.now)
+        (Passes (C.Idle asking.now.cuts.now)
+        (filter (may_leave (R.may_be_left asking.now.leave.now.rule.now) asking.now.leave.now.bracket.now)
         (listed drawing.old.kept ++ L.coming drawing.old.level))
-        (filter (may_leave (R.may_be_left leave.now.rule.now) leave.now.bracket.now)
+        (filter (may_leave (R.may_be_left asking.now.leave.now.rule.now) asking.now.leave.now.bracket.now)
         (listed drawing.new.kept ++ L.coming drawing.new.level))
         × (budget.new.used ≡ budget.new.limit)) }
     ensures spends { Spends budget.old budget.new }
 {
+    let leave = asking.leave;
     loop {
-        if !draw_listed(drawing, cuts, room, &mut candidate.lists, budget)? {
+        if !draw_listed(drawing, asking.cuts, &mut candidate.lists, budget)? {
             return Ok(false);
         }
         put_left_over(leave.bracket, &candidate.lists, &mut candidate.down);
@@ -176,11 +186,23 @@ fn start_drawing<'a, R: Rule>(
         ≡ in_bracket (R.meets leave.now.rule.now) leave.now.bracket.now shape (option_copied own.entry) }
 {
     drawing.kept.clear();
-    drawing.level.in_block = false;
-    drawing
-        .level
-        .blocks
-        .start(leave.bracket, shape, own, leave.rule);
+    drawing.level.block.is_begun = false;
+    let from = InBracket {
+        bracket: leave.bracket,
+        shape,
+    };
+    drawing.level.blocks.start(&from, own, leave.rule);
+}
+
+/// The same answer, with the candidate that was filled where one was found.
+fn holding(step: Step<()>, filled: Candidate) -> Step<Candidate>
+    ensures { MatchStep step (λ _. result ≡ Found filled) (result ≡ End) (result ≡ Undecided) }
+{
+    match step {
+        Step::Found(()) => Step::Found(filled),
+        Step::End => Step::End,
+        Step::Undecided => Step::Undecided,
+    }
 }
 
 /// The candidates of a bracket and a shape, one by one (C.04.3 B.6, B.7): the arrangements that are legal, in the order
@@ -202,7 +224,8 @@ pub struct Candidates<'a, R: Rule> {
 impl<'a, R: Rule> Model for Candidates<'a, R> {
     ghost use Rattle.std.specs.Prelude.{◌≡◌, ◌++◌, ◌&&◌, ◌-◌, ◌*◌, [], filter, length, nat_lt, true};
     ghost use Rattle.dutch_order.specs.Levels.{may_leave};
-    ghost use Rattle.dutch_order.specs.Listings.{AreCandidates, Listing, listed, only_if, still_coming};
+    ghost use Rattle.dutch_order.specs.Listings.{AreCandidates, Listing, leaves_too_many, listed, only_if};
+    ghost use Rattle.dutch_order.specs.Listings.{still_coming};
 
     ghost Value = { Listing R };
 
@@ -217,7 +240,7 @@ impl<'a, R: Rule> Model for Candidates<'a, R> {
     } };
 
     ghost invariant = { λ l.
-        (l.hopeless ≡ (l.leave.bracket.now.last && nat_lt 1 (length l.leave.bracket.now.scores - 2 * l.shape.pairs)))
+        (l.hopeless ≡ leaves_too_many l.leave.bracket.now l.shape)
         × (l.hopeless ≡ true → filter (may_leave (R.may_be_left l.leave.rule.now) l.leave.bracket.now)
         (listed l.drawing.kept ++ l.drawing.level) ≡ [])
         × AreCandidates (R.meets l.leave.rule.now) (R.may_be_left l.leave.rule.now) l.leave.bracket.now l.shape
@@ -322,25 +345,19 @@ impl<'a, R: Rule> Candidates<'a, R> {
     fn go_on<C: Cuts>(
         &mut self,
         cuts: &C,
-        room: &mut C::Room,
         candidate: &mut Candidate,
         budget: &mut Budget,
     ) -> Step<()>
         ensures answer { MatchStep result
-            (λ _. Passes (C.Idle cuts.now) self.old.coming (candidate.new.lists ∷ self.new.coming)
-            × (candidate.new.down ≡ down self.old.frame candidate.new.lists)
-            × (self.new.latest ≡ Some candidate.new.lists))
-            (Passes (C.Idle cuts.now) self.old.coming [] × (self.new.coming ≡ []) × (self.new.latest ≡ self.old.latest))
-            (Passes (C.Idle cuts.now) self.old.coming self.new.coming × (self.new.latest ≡ self.old.latest)
-            × (budget.new.used ≡ budget.new.limit)) }
+            (λ _. GivesPast self.old self.new (C.Idle cuts.now) candidate.new)
+            (EndsPast self.old self.new (C.Idle cuts.now))
+            (StopsPast self.old self.new (C.Idle cuts.now) budget.new) }
         ensures candidates { AreCandidates (R.meets self.old.rule)
             (R.may_be_left self.old.rule) self.old.frame self.old.shape self.old.coming }
-        ensures hopeless { (self.old.frame.last && nat_lt 1 (length self.old.frame.scores - 2 * self.old.shape.pairs))
-            ≡ true
-            → MatchStep result (λ _. ⊥) (budget.new.used ≡ budget.old.used) ⊥ }
-        ensures ended { MatchStep result
-            (λ _. self.new.ended ≡ self.old.ended) (self.new.ended ≡ true) (self.new.ended ≡ self.old.ended) }
-        ensures after_end { self.old.ended ≡ true → MatchStep result (λ _. ⊥) (budget.new.used ≡ budget.old.used) ⊥ }
+        ensures hopeless { leaves_too_many self.old.frame self.old.shape ≡ true
+            → EndsAtOnce result budget.old budget.new }
+        ensures ended { TellsEnd self.old self.new result }
+        ensures after_end { self.old.ended ≡ true → EndsAtOnce result budget.old budget.new }
         ensures frame { self.new.frame ≡ self.old.frame }
         ensures shape { self.new.shape ≡ self.old.shape }
         ensures rule { self.new.rule ≡ self.old.rule }
@@ -349,18 +366,15 @@ impl<'a, R: Rule> Candidates<'a, R> {
         if self.ended {
             return Step::End;
         }
-        if self.hopeless || cuts.cuts(&Prefix::nothing(), room) {
+        if self.hopeless || cuts.cuts(&Prefix::nothing()) {
             self.ended = true;
             return Step::End;
         }
-        match draw_legal(
-            &self.leave,
-            &mut self.drawing,
+        let asking = Asking {
+            leave: &self.leave,
             cuts,
-            room,
-            candidate,
-            budget,
-        ) {
+        };
+        match draw_legal(&asking, &mut self.drawing, candidate, budget) {
             Ok(true) => {
                 self.latest.hold(&candidate.lists);
                 Step::Found(())
@@ -375,28 +389,18 @@ impl<'a, R: Rule> Candidates<'a, R> {
 
     /// Fills `candidate` with the next one, as `next` gives it.
     pub fn put_next(&mut self, candidate: &mut Candidate, budget: &mut Budget) -> Step<()>
-        ensures answer { MatchStep result
-            (λ _. (self.old.coming ≡ candidate.new.lists ∷ self.new.coming) × (candidate.new.down
-            ≡ down self.old.frame candidate.new.lists) × (self.new.latest ≡ Some candidate.new.lists))
-            ((self.old.coming ≡ []) × (self.new.coming ≡ []) × (self.new.latest ≡ self.old.latest))
-            ((self.new.coming ≡ self.old.coming) × (self.new.latest ≡ self.old.latest)
-            × (budget.new.used ≡ budget.new.limit)) }
-        ensures hopeless { (self.old.frame.last && nat_lt 1 (length self.old.frame.scores - 2 * self.old.shape.pairs))
-            ≡ true
-            → MatchStep result (λ _. ⊥) (budget.new.used ≡ budget.old.used) ⊥ }
-        ensures ended { MatchStep result
-            (λ _. self.new.ended ≡ self.old.ended) (self.new.ended ≡ true) (self.new.ended ≡ self.old.ended) }
-        ensures after_end { self.old.ended ≡ true → MatchStep result (λ _. ⊥) (budget.new.used ≡ budget.old.used) ⊥ }
+        ensures answer { MatchStep result (λ _. Gives self.old self.new candidate.new)
+            (Ends self.old self.new) (Stops self.old self.new budget.new) }
+        ensures hopeless { leaves_too_many self.old.frame self.old.shape ≡ true
+            → EndsAtOnce result budget.old budget.new }
+        ensures ended { TellsEnd self.old self.new result }
+        ensures after_end { self.old.ended ≡ true → EndsAtOnce result budget.old budget.new }
         ensures frame { self.new.frame ≡ self.old.frame }
         ensures shape { self.new.shape ≡ self.old.shape }
         ensures rule { self.new.rule ≡ self.old.rule }
         ensures spends { Spends budget.old budget.new }
     {
-        match self.go_on(&NoCuts, &mut (), candidate, budget) {
-            Step::Found(()) => Step::Found(()),
-            Step::End => Step::End,
-            Step::Undecided => Step::Undecided,
-        }
+        self.go_on(&NoCuts, candidate, budget)
     }
 
     /// The next candidate. `Found` gives the first of those to come. `End` says that none is left. `Undecided` says
@@ -404,29 +408,20 @@ impl<'a, R: Rule> Candidates<'a, R> {
     /// may leave over at most one player and the shape leaves more, the answer is `End`, without a step. After `End`
     /// every further call answers `End` without a step.
     pub fn next(&mut self, budget: &mut Budget) -> Step<Candidate>
-        ensures answer { MatchStep result
-            (λ c. (self.old.coming ≡ c.lists ∷ self.new.coming) × (c.down ≡ down self.old.frame c.lists)
-            × (self.new.latest ≡ Some c.lists))
-            ((self.old.coming ≡ []) × (self.new.coming ≡ []) × (self.new.latest ≡ self.old.latest))
-            ((self.new.coming ≡ self.old.coming) × (self.new.latest ≡ self.old.latest)
-            × (budget.new.used ≡ budget.new.limit)) }
-        ensures hopeless { (self.old.frame.last && nat_lt 1 (length self.old.frame.scores - 2 * self.old.shape.pairs))
-            ≡ true
-            → MatchStep result (λ _. ⊥) (budget.new.used ≡ budget.old.used) ⊥ }
-        ensures ended { MatchStep result
-            (λ _. self.new.ended ≡ self.old.ended) (self.new.ended ≡ true) (self.new.ended ≡ self.old.ended) }
-        ensures after_end { self.old.ended ≡ true → MatchStep result (λ _. ⊥) (budget.new.used ≡ budget.old.used) ⊥ }
+        ensures answer { MatchStep result (λ c. Gives self.old self.new c)
+            (Ends self.old self.new) (Stops self.old self.new budget.new) }
+        ensures hopeless { leaves_too_many self.old.frame self.old.shape ≡ true
+            → EndsAtOnce result budget.old budget.new }
+        ensures ended { TellsEnd self.old self.new result }
+        ensures after_end { self.old.ended ≡ true → EndsAtOnce result budget.old budget.new }
         ensures frame { self.new.frame ≡ self.old.frame }
         ensures shape { self.new.shape ≡ self.old.shape }
         ensures rule { self.new.rule ≡ self.old.rule }
         ensures spends { Spends budget.old budget.new }
     {
         let mut candidate = Candidate::empty();
-        match self.put_next(&mut candidate, budget) {
-            Step::Found(()) => Step::Found(candidate),
-            Step::End => Step::End,
-            Step::Undecided => Step::Undecided,
-        }
+        let step = self.put_next(&mut candidate, budget);
+        holding(step, candidate)
     }
 
     /// Fills `candidate` with the next one, and may leave out those that the bound knows to be without interest. The
@@ -449,29 +444,23 @@ impl<'a, R: Rule> Candidates<'a, R> {
         requires meets { B.meets bound.now ≡ R.meets self.old.rule }
         requires may_be_left { B.may_be_left bound.now ≡ R.may_be_left self.old.rule }
         ensures answer { MatchStep result
-            (λ _. Passes (λ a. B.is_dull bound.now a ≡ true) self.old.coming (candidate.new.lists ∷ self.new.coming)
-            × (candidate.new.down ≡ down self.old.frame candidate.new.lists)
-            × (self.new.latest ≡ Some candidate.new.lists))
-            (Passes (λ a. B.is_dull bound.now a ≡ true) self.old.coming [] × (self.new.coming ≡ [])
-            × (self.new.latest ≡ self.old.latest))
-            (Passes (λ a. B.is_dull bound.now a ≡ true) self.old.coming self.new.coming
-            × (self.new.latest ≡ self.old.latest) × (budget.new.used ≡ budget.new.limit)) }
-        ensures hopeless { (self.old.frame.last && nat_lt 1 (length self.old.frame.scores - 2 * self.old.shape.pairs))
-            ≡ true
-            → MatchStep result (λ _. ⊥) (budget.new.used ≡ budget.old.used) ⊥ }
-        ensures ended { MatchStep result
-            (λ _. self.new.ended ≡ self.old.ended) (self.new.ended ≡ true) (self.new.ended ≡ self.old.ended) }
-        ensures after_end { self.old.ended ≡ true → MatchStep result (λ _. ⊥) (budget.new.used ≡ budget.old.used) ⊥ }
+            (λ _. GivesPast self.old self.new (λ a. B.is_dull bound.now a ≡ true) candidate.new)
+            (EndsPast self.old self.new (λ a. B.is_dull bound.now a ≡ true))
+            (StopsPast self.old self.new (λ a. B.is_dull bound.now a ≡ true) budget.new) }
+        ensures hopeless { leaves_too_many self.old.frame self.old.shape ≡ true
+            → EndsAtOnce result budget.old budget.new }
+        ensures ended { TellsEnd self.old self.new result }
+        ensures after_end { self.old.ended ≡ true → EndsAtOnce result budget.old budget.new }
         ensures frame { self.new.frame ≡ self.old.frame }
         ensures shape { self.new.shape ≡ self.old.shape }
         ensures rule { self.new.rule ≡ self.old.rule }
         ensures spends { Spends budget.old budget.new }
     {
-        match self.go_on(&Within { bound }, room, candidate, budget) {
-            Step::Found(()) => Step::Found(()),
-            Step::End => Step::End,
-            Step::Undecided => Step::Undecided,
-        }
+        let within = Within {
+            bound,
+            room: RefCell::new(room),
+        };
+        self.go_on(&within, candidate, budget)
     }
 
     /// The next candidate, as `put_next_within` finds it.
@@ -486,29 +475,21 @@ impl<'a, R: Rule> Candidates<'a, R> {
         requires meets { B.meets bound.now ≡ R.meets self.old.rule }
         requires may_be_left { B.may_be_left bound.now ≡ R.may_be_left self.old.rule }
         ensures answer { MatchStep result
-            (λ c. Passes (λ a. B.is_dull bound.now a ≡ true) self.old.coming (c.lists ∷ self.new.coming)
-            × (c.down ≡ down self.old.frame c.lists) × (self.new.latest ≡ Some c.lists))
-            (Passes (λ a. B.is_dull bound.now a ≡ true) self.old.coming [] × (self.new.coming ≡ [])
-            × (self.new.latest ≡ self.old.latest))
-            (Passes (λ a. B.is_dull bound.now a ≡ true) self.old.coming self.new.coming
-            × (self.new.latest ≡ self.old.latest) × (budget.new.used ≡ budget.new.limit)) }
-        ensures hopeless { (self.old.frame.last && nat_lt 1 (length self.old.frame.scores - 2 * self.old.shape.pairs))
-            ≡ true
-            → MatchStep result (λ _. ⊥) (budget.new.used ≡ budget.old.used) ⊥ }
-        ensures ended { MatchStep result
-            (λ _. self.new.ended ≡ self.old.ended) (self.new.ended ≡ true) (self.new.ended ≡ self.old.ended) }
-        ensures after_end { self.old.ended ≡ true → MatchStep result (λ _. ⊥) (budget.new.used ≡ budget.old.used) ⊥ }
+            (λ c. GivesPast self.old self.new (λ a. B.is_dull bound.now a ≡ true) c)
+            (EndsPast self.old self.new (λ a. B.is_dull bound.now a ≡ true))
+            (StopsPast self.old self.new (λ a. B.is_dull bound.now a ≡ true) budget.new) }
+        ensures hopeless { leaves_too_many self.old.frame self.old.shape ≡ true
+            → EndsAtOnce result budget.old budget.new }
+        ensures ended { TellsEnd self.old self.new result }
+        ensures after_end { self.old.ended ≡ true → EndsAtOnce result budget.old budget.new }
         ensures frame { self.new.frame ≡ self.old.frame }
         ensures shape { self.new.shape ≡ self.old.shape }
         ensures rule { self.new.rule ≡ self.old.rule }
         ensures spends { Spends budget.old budget.new }
     {
         let mut candidate = Candidate::empty();
-        match self.put_next_within(bound, room, &mut candidate, budget) {
-            Step::Found(()) => Step::Found(candidate),
-            Step::End => Step::End,
-            Step::Undecided => Step::Undecided,
-        }
+        let step = self.put_next_within(bound, room, &mut candidate, budget);
+        holding(step, candidate)
     }
 
     /// The candidate handed out last, or before that, the one behind which the listing began. A later listing can go on

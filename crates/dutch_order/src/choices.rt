@@ -17,14 +17,14 @@ ghost use Rattle.dutch_order.specs.Steps.{MatchDrawn, Passes, Spends};
 use crate::arrangement::Arrangement;
 use crate::bracket::{Bracket, Shape};
 use crate::cursor::Cursor;
-use crate::cuts::{Cuts, CutsExchanges, CutsTuples, OfS1r, OfS2, OfS2r};
+use crate::cuts::{Cuts, CutsTuples, OfS1r, OfS2, OfS2r, Unless};
 use crate::exchange::Exchanges;
 use crate::levels::{Arranges, Blocks, Level};
 use crate::limbo::LimboExchanges;
 use crate::numbers::{Numbers, fill, is_same, put_left_of, refill};
 use crate::rules::Rule;
 use crate::steps::{Budget, Drawn};
-use crate::transposition::Transpositions;
+use crate::transposition::{Meeting, Transpositions};
 use std::marker::Model;
 
 /// Arrangements with the same S1, S2 and S1R: one for each S2R, by article D.1.
@@ -35,9 +35,24 @@ pub struct ByS2r<'a, R: Rule> {
     s1r: Numbers,
     // who is left for S2R
     pool: Numbers,
+    others: Others<'a, R>,
+}
+
+/// Lists S2R, all but a cursor's own.
+#[derive(Drop)]
+struct Others<'a, R: Rule> {
     lists: Transpositions<'a, R>,
     // the cursor behind which the lists begin, until the first one has come
     resume: Option<&'a Cursor>,
+}
+
+/// An S1, an S2 and an S1R out of the remainder, from which a level begins.
+#[derive(Drop)]
+struct InS1r<'s> {
+    s1: &'s [u16],
+    s2: &'s [u16],
+    remainder: &'s [u16],
+    s1r: &'s [u16],
 }
 
 impl<'a, R: Rule> Model for ByS2r<'a, R> {
@@ -48,7 +63,7 @@ impl<'a, R: Rule> Model for ByS2r<'a, R> {
     ghost Value = { List Arrangement };
 
     ghost view = { λ l. map (arranged l.s1.items l.s2.items l.s1r.items)
-        (without_own (option_copied l.resume) l.lists.coming) };
+        (without_own (option_copied l.others.resume) l.others.lists.coming) };
 }
 
 impl<'a, R: Rule> ByS2r<'a, R> {
@@ -61,41 +76,41 @@ impl<'a, R: Rule> ByS2r<'a, R> {
             s2: Numbers::new(),
             s1r: Numbers::new(),
             pool: Numbers::new(),
-            lists: Transpositions::ended(rule),
-            resume: None,
+            others: Others {
+                lists: Transpositions::ended(rule),
+                resume: None,
+            },
         }
     }
 
-    /// Begins anew with an S1, an S2 and an S1R out of the remainder.
+    /// Begins anew.
     #[tactic(auto, unfolding(crate::specs::Levels::in_s1r))]
-    fn start(
-        &mut self,
-        s1: &[u16],
-        s2: &[u16],
-        remainder: &[u16],
-        s1r: &[u16],
-        own: Option<&'a Cursor>,
-        rule: &'a R,
-    )
-        requires few_s1 { length s1.now ≤ LIMIT }
-        requires few_s2 { length s2.now ≤ LIMIT }
-        requires few_s1r { length s1r.now ≤ LIMIT }
-        requires few { length remainder.now ≤ LIMIT }
-        requires ascends { IsStrictlyIncreasing remainder.now }
-        requires same { Of (λ cursor. cursor.s1r ≡ s1r.now) (option_copied own) }
-        requires given { Of (HasS2r remainder.now) (option_copied own) }
-        ensures { self.new ≡ in_s1r (R.meets rule.now) s1.now s2.now remainder.now (option_copied own.entry) s1r.now }
+    fn start(&mut self, from: &InS1r<'_>, own: Option<&'a Cursor>, rule: &'a R)
+        requires few_s1 { length from.now.s1.now ≤ LIMIT }
+        requires few_s2 { length from.now.s2.now ≤ LIMIT }
+        requires few_s1r { length from.now.s1r.now ≤ LIMIT }
+        requires few { length from.now.remainder.now ≤ LIMIT }
+        requires ascends { IsStrictlyIncreasing from.now.remainder.now }
+        requires same { Of (λ cursor. cursor.s1r ≡ from.now.s1r.now) (option_copied own) }
+        requires given { Of (HasS2r from.now.remainder.now) (option_copied own) }
+        ensures { self.new ≡ in_s1r (R.meets rule.now) from.now.s1.now from.now.s2.now from.now.remainder.now
+            (option_copied own.entry) from.now.s1r.now }
     {
-        fill(&mut self.s1, s1);
-        fill(&mut self.s2, s2);
-        fill(&mut self.s1r, s1r);
-        put_left_of(remainder, s1r, &mut self.pool);
-        self.resume = own;
+        fill(&mut self.s1, from.s1);
+        fill(&mut self.s2, from.s2);
+        fill(&mut self.s1r, from.s1r);
+        put_left_of(from.remainder, from.s1r, &mut self.pool);
+        self.others.resume = own;
+        let meeting = Meeting {
+            first: from.s1r,
+            pool: &self.pool,
+        };
         match own {
             Some(cursor) => self
+                .others
                 .lists
-                .start_from(s1r, &self.pool, rule, &cursor.lists.s2r),
-            None => self.lists.start(s1r, &self.pool, rule),
+                .start_from(&meeting, rule, &cursor.lists.s2r),
+            None => self.others.lists.start(&meeting, rule),
         }
     }
 }
@@ -103,59 +118,45 @@ impl<'a, R: Rule> ByS2r<'a, R> {
 /// Fills a list with the next one, except a cursor's own, which may come first. None is skipped before the first one
 /// has come.
 fn put_next_other<R: Rule, C: CutsTuples>(
-    lists: &mut Transpositions<'_, R>,
-    resume: &mut Option<&Cursor>,
+    others: &mut Others<'_, R>,
     cuts: &C,
-    room: &mut C::Room,
     numbers: &mut Numbers,
     budget: &mut Budget,
 ) -> Drawn
     ensures answer { MatchDrawn result
-        (Passes (C.Idle cuts.now) (without_own (option_copied resume.old) lists.old.coming)
-        (numbers.new.items ∷ without_own (option_copied resume.new) lists.new.coming))
-        (Passes (C.Idle cuts.now) (without_own (option_copied resume.old) lists.old.coming) [])
-        (Passes (C.Idle cuts.now) (without_own (option_copied resume.old) lists.old.coming)
-        (without_own (option_copied resume.new) lists.new.coming) × (budget.new.used ≡ budget.new.limit)) }
+        (Passes (C.Idle cuts.now) (without_own (option_copied others.old.resume) others.old.lists.coming)
+        (numbers.new.items ∷ without_own (option_copied others.new.resume) others.new.lists.coming))
+        (Passes (C.Idle cuts.now) (without_own (option_copied others.old.resume) others.old.lists.coming) [])
+        (Passes (C.Idle cuts.now) (without_own (option_copied others.old.resume) others.old.lists.coming)
+        (without_own (option_copied others.new.resume) others.new.lists.coming)
+        × (budget.new.used ≡ budget.new.limit)) }
     ensures spends { Spends budget.old budget.new }
 {
-    let Some(cursor) = *resume else {
-        return lists.put_next_past(cuts, room, numbers, budget);
+    let Some(cursor) = others.resume else {
+        return others.lists.put_next_past(cuts, numbers, budget);
     };
-    if !lists.put_next(numbers, budget)? {
+    if !others.lists.put_next(numbers, budget)? {
         return Ok(false);
     }
     let is_own = is_same(numbers, &cursor.lists.s2r);
-    *resume = None;
+    others.resume = None;
     if !is_own {
         return Ok(true);
     }
-    lists.put_next_past(cuts, room, numbers, budget)
+    others.lists.put_next_past(cuts, numbers, budget)
 }
 
 impl<'a, R: Rule> Arranges for ByS2r<'a, R> {
     ghost coming = { λ l. l };
 
-    fn next<C: Cuts>(
-        &mut self,
-        cuts: &C,
-        room: &mut C::Room,
-        lists: &mut Arrangement,
-        budget: &mut Budget,
-    ) -> Drawn {
+    fn next<C: Cuts>(&mut self, cuts: &C, lists: &mut Arrangement, budget: &mut Budget) -> Drawn {
         let tuples = OfS2r {
             cuts,
             s1: &self.s1,
             s2: &self.s2,
             s1r: &self.s1r,
         };
-        if !put_next_other(
-            &mut self.lists,
-            &mut self.resume,
-            &tuples,
-            room,
-            &mut lists.s2r,
-            budget,
-        )? {
+        if !put_next_other(&mut self.others, &tuples, &mut lists.s2r, budget)? {
             return Ok(false);
         }
         refill(&mut lists.s1, &self.s1);
@@ -177,6 +178,15 @@ pub struct ByS1r<'a, R: Rule> {
     rule: &'a R,
     // the cursor behind which the blocks begin, until the first one has come
     resume: Option<&'a Cursor>,
+}
+
+/// An S1 and an S2 out of the residents, from which a level begins; the remainder makes `k` pairs.
+#[derive(Drop)]
+struct InS2<'s> {
+    k: usize,
+    s1: &'s [u16],
+    residents: &'s [u16],
+    s2: &'s [u16],
 }
 
 impl<'a, R: Rule> Model for ByS1r<'a, R> {
@@ -210,61 +220,29 @@ impl<'a, R: Rule> ByS1r<'a, R> {
         }
     }
 
-    /// Begins anew with an S1 and an S2 out of the residents; the remainder makes `k` pairs.
+    /// Begins anew.
     #[tactic(auto, unfolding(crate::specs::Levels::in_s2))]
-    fn start(
-        &mut self,
-        k: usize,
-        s1: &[u16],
-        residents: &[u16],
-        s2: &[u16],
-        own: Option<&'a Cursor>,
-        rule: &'a R,
-    )
-        requires few_s1 { length s1.now ≤ LIMIT }
-        requires few_s2 { length s2.now ≤ LIMIT }
-        requires few { length residents.now ≤ LIMIT }
-        requires ascends { IsStrictlyIncreasing residents.now }
-        requires enough { k ≤ length (left_of residents.now s2.now) }
-        requires given { Of (HasS1r k (left_of residents.now s2.now)) (option_copied own) }
-        ensures { joined self.new ≡ in_s2 (R.meets rule.now) k s1.now residents.now (option_copied own.entry) s2.now }
+    fn start(&mut self, from: &InS2<'_>, own: Option<&'a Cursor>, rule: &'a R)
+        requires few_s1 { length from.now.s1.now ≤ LIMIT }
+        requires few_s2 { length from.now.s2.now ≤ LIMIT }
+        requires few { length from.now.residents.now ≤ LIMIT }
+        requires ascends { IsStrictlyIncreasing from.now.residents.now }
+        requires enough { from.now.k ≤ length (left_of from.now.residents.now from.now.s2.now) }
+        requires given { Of (HasS1r from.now.k (left_of from.now.residents.now from.now.s2.now)) (option_copied own) }
+        ensures { joined self.new ≡ in_s2 (R.meets rule.now) from.now.k from.now.s1.now from.now.residents.now
+            (option_copied own.entry) from.now.s2.now }
     {
-        fill(&mut self.s1, s1);
-        fill(&mut self.s2, s2);
-        put_left_of(residents, s2, &mut self.remainder);
+        fill(&mut self.s1, from.s1);
+        fill(&mut self.s2, from.s2);
+        put_left_of(from.residents, from.s2, &mut self.remainder);
         self.rule = rule;
         self.resume = own;
         match own {
-            Some(cursor) => self.sets.start_from(&self.remainder, k, &cursor.lists.s1r),
-            None => self.sets.start(&self.remainder, k),
+            Some(cursor) => self
+                .sets
+                .start_from(&self.remainder, from.k, &cursor.lists.s1r),
+            None => self.sets.start(&self.remainder, from.k),
         }
-    }
-}
-
-/// Fills a list with the next set: the very next, or one before which only such were skipped as the cuts know to be
-/// idle.
-fn put_next_set<C: CutsExchanges>(
-    sets: &mut Exchanges,
-    very: bool,
-    cuts: &C,
-    room: &mut C::Room,
-    numbers: &mut Numbers,
-    budget: &mut Budget,
-) -> Drawn
-    ensures answer { MatchDrawn result
-        (Passes (C.Idle cuts.now) sets.old.coming (numbers.new.items ∷ sets.new.coming))
-        (Passes (C.Idle cuts.now) sets.old.coming [] × (sets.new.coming ≡ []))
-        (Passes (C.Idle cuts.now) sets.old.coming sets.new.coming × (budget.new.used ≡ budget.new.limit)) }
-    ensures very { very ≡ true → MatchDrawn result
-        (sets.old.coming ≡ numbers.new.items ∷ sets.new.coming)
-        (sets.old.coming ≡ [])
-        (sets.new.coming ≡ sets.old.coming) }
-    ensures spends { Spends budget.old budget.new }
-{
-    if very {
-        sets.put_next(numbers, budget)
-    } else {
-        sets.put_next_past(cuts, room, numbers, budget)
     }
 }
 
@@ -289,12 +267,11 @@ impl<'a, R: Rule> Blocks for ByS1r<'a, R> {
     fn next_block<C: Cuts>(
         &mut self,
         cuts: &C,
-        room: &mut C::Room,
         block: &mut ByS2r<'a, R>,
         budget: &mut Budget,
     ) -> Drawn {
         let tuples = OfS2 { cuts, s1: &self.s1 };
-        if tuples.cuts(&self.s2, room) {
+        if tuples.cuts(&self.s2) {
             return Ok(false);
         }
         let exchanges = OfS1r {
@@ -302,25 +279,21 @@ impl<'a, R: Rule> Blocks for ByS1r<'a, R> {
             s1: &self.s1,
             s2: &self.s2,
         };
-        if !put_next_set(
-            &mut self.sets,
-            self.resume.is_some(),
-            &exchanges,
-            room,
-            &mut self.s1r,
-            budget,
-        )? {
+        let exchanges = Unless {
+            very: self.resume.is_some(),
+            cuts: &exchanges,
+        };
+        if !self.sets.put_next_past(&exchanges, &mut self.s1r, budget)? {
             return Ok(false);
         }
         let own = take_by_s1r(&mut self.resume, &self.s1r);
-        block.start(
-            &self.s1,
-            &self.s2,
-            &self.remainder,
-            &self.s1r,
-            own,
-            self.rule,
-        );
+        let from = InS1r {
+            s1: &self.s1,
+            s2: &self.s2,
+            remainder: &self.remainder,
+            s1r: &self.s1r,
+        };
+        block.start(&from, own, self.rule);
         Ok(true)
     }
 }
@@ -337,6 +310,14 @@ pub struct ByS2<'a, R: Rule> {
     rule: &'a R,
     // the cursor behind which the blocks begin, until the first one has come
     resume: Option<&'a Cursor>,
+}
+
+/// An S1 and the residents, from which a level begins; the remainder makes `k` pairs.
+#[derive(Drop)]
+struct InS1<'s> {
+    k: usize,
+    residents: &'s [u16],
+    s1: &'s [u16],
 }
 
 impl<'a, R: Rule> Model for ByS2<'a, R> {
@@ -373,60 +354,31 @@ impl<'a, R: Rule> ByS2<'a, R> {
         }
     }
 
-    /// Begins anew with an S1; the remainder makes `k` pairs.
+    /// Begins anew.
     #[tactic(auto, unfolding(crate::specs::Levels::in_s1))]
-    fn start(
-        &mut self,
-        k: usize,
-        residents: &[u16],
-        s1: &[u16],
-        own: Option<&'a Cursor>,
-        rule: &'a R,
-    )
-        requires few_s1 { length s1.now ≤ LIMIT }
-        requires few { length residents.now ≤ LIMIT }
-        requires ascends { IsStrictlyIncreasing residents.now }
-        requires enough { length s1.now + k ≤ length residents.now }
-        requires same { Of (λ cursor. cursor.s1 ≡ s1.now) (option_copied own) }
-        requires given { Of (HasS2 k residents.now) (option_copied own) }
-        ensures { joined self.new ≡ in_s1 (R.meets rule.now) k residents.now (option_copied own.entry) s1.now }
+    fn start(&mut self, from: &InS1<'_>, own: Option<&'a Cursor>, rule: &'a R)
+        requires few_s1 { length from.now.s1.now ≤ LIMIT }
+        requires few { length from.now.residents.now ≤ LIMIT }
+        requires ascends { IsStrictlyIncreasing from.now.residents.now }
+        requires enough { length from.now.s1.now + from.now.k ≤ length from.now.residents.now }
+        requires same { Of (λ cursor. cursor.s1 ≡ from.now.s1.now) (option_copied own) }
+        requires given { Of (HasS2 from.now.k from.now.residents.now) (option_copied own) }
+        ensures { joined self.new ≡ in_s1 (R.meets rule.now) from.now.k from.now.residents.now
+            (option_copied own.entry) from.now.s1.now }
     {
-        self.k = k;
-        fill(&mut self.s1, s1);
-        fill(&mut self.residents, residents);
+        self.k = from.k;
+        fill(&mut self.s1, from.s1);
+        fill(&mut self.residents, from.residents);
         self.rule = rule;
         self.resume = own;
+        let meeting = Meeting {
+            first: from.s1,
+            pool: from.residents,
+        };
         match own {
-            Some(cursor) => self.lists.start_from(s1, residents, rule, &cursor.lists.s2),
-            None => self.lists.start(s1, residents, rule),
+            Some(cursor) => self.lists.start_from(&meeting, rule, &cursor.lists.s2),
+            None => self.lists.start(&meeting, rule),
         }
-    }
-}
-
-/// Fills a list with the next one: the very next, or one before which only such were skipped as the cuts know to be
-/// idle.
-fn put_next_list<R: Rule, C: CutsTuples>(
-    lists: &mut Transpositions<'_, R>,
-    very: bool,
-    cuts: &C,
-    room: &mut C::Room,
-    numbers: &mut Numbers,
-    budget: &mut Budget,
-) -> Drawn
-    ensures answer { MatchDrawn result
-        (Passes (C.Idle cuts.now) lists.old.coming (numbers.new.items ∷ lists.new.coming))
-        (Passes (C.Idle cuts.now) lists.old.coming [] × (lists.new.coming ≡ []))
-        (Passes (C.Idle cuts.now) lists.old.coming lists.new.coming × (budget.new.used ≡ budget.new.limit)) }
-    ensures very { very ≡ true → MatchDrawn result
-        (lists.old.coming ≡ numbers.new.items ∷ lists.new.coming)
-        (lists.old.coming ≡ [])
-        (lists.new.coming ≡ lists.old.coming) }
-    ensures spends { Spends budget.old budget.new }
-{
-    if very {
-        lists.put_next(numbers, budget)
-    } else {
-        lists.put_next_past(cuts, room, numbers, budget)
     }
 }
 
@@ -451,24 +403,26 @@ impl<'a, R: Rule> Blocks for ByS2<'a, R> {
     fn next_block<C: Cuts>(
         &mut self,
         cuts: &C,
-        room: &mut C::Room,
         block: &mut Level<ByS1r<'a, R>>,
         budget: &mut Budget,
     ) -> Drawn {
         let tuples = OfS2 { cuts, s1: &self.s1 };
-        if !put_next_list(
-            &mut self.lists,
-            self.resume.is_some(),
-            &tuples,
-            room,
-            &mut self.s2,
-            budget,
-        )? {
+        let tuples = Unless {
+            very: self.resume.is_some(),
+            cuts: &tuples,
+        };
+        if !self.lists.put_next_past(&tuples, &mut self.s2, budget)? {
             return Ok(false);
         }
         let own = take_by_s2(&mut self.resume, &self.s2);
-        block.in_block = false;
-        block.blocks.start(self.k, &self.s1, &self.residents, &self.s2, own, self.rule);
+        let from = InS2 {
+            k: self.k,
+            s1: &self.s1,
+            residents: &self.residents,
+            s2: &self.s2,
+        };
+        block.block.is_begun = false;
+        block.blocks.start(&from, own, self.rule);
         Ok(true)
     }
 }
@@ -484,6 +438,13 @@ pub struct ByS1<'a, R: Rule> {
     rule: &'a R,
     // the cursor behind which the blocks begin, until the first one has come
     resume: Option<&'a Cursor>,
+}
+
+/// A bracket and a shape for which it has room, from which the levels begin.
+#[derive(Drop)]
+pub struct InBracket<'s> {
+    pub bracket: &'s Bracket,
+    pub shape: Shape,
 }
 
 impl<'a, R: Rule> Model for ByS1<'a, R> {
@@ -518,22 +479,25 @@ impl<'a, R: Rule> ByS1<'a, R> {
         }
     }
 
-    /// Begins anew with a bracket and a shape for which it has room: all arrangements, or those that stand behind a
-    /// cursor.
+    /// Begins anew: all arrangements, or those that stand behind a cursor.
     #[tactic(auto, unfolding(crate::specs::Levels::in_bracket))]
-    pub fn start(&mut self, bracket: &Bracket, shape: Shape, own: Option<&'a Cursor>, rule: &'a R)
-        requires fits { Fits bracket.now shape }
-        requires given { Of (λ cursor. IsIn cursor (arrangements bracket.now shape)) (option_copied own) }
-        ensures { joined self.new ≡ in_bracket (R.meets rule.now) bracket.now shape (option_copied own.entry) }
+    pub fn start(&mut self, from: &InBracket<'_>, own: Option<&'a Cursor>, rule: &'a R)
+        requires fits { Fits from.now.bracket.now from.now.shape }
+        requires given { Of (λ cursor. IsIn cursor (arrangements from.now.bracket.now from.now.shape))
+            (option_copied own) }
+        ensures { joined self.new
+            ≡ in_bracket (R.meets rule.now) from.now.bracket.now from.now.shape (option_copied own.entry) }
     {
-        let scores = &bracket.scores()[..bracket.mdps()];
-        self.k = shape.pairs - shape.mdps;
-        bracket.put_residents(&mut self.residents);
+        let scores = &from.bracket.scores()[..from.bracket.mdps()];
+        self.k = from.shape.pairs - from.shape.mdps;
+        from.bracket.put_residents(&mut self.residents);
         self.rule = rule;
         self.resume = own;
         match own {
-            Some(cursor) => self.sets.start_from(scores, shape.mdps, &cursor.lists.s1),
-            None => self.sets.start(scores, shape.mdps),
+            Some(cursor) => self
+                .sets
+                .start_from(scores, from.shape.mdps, &cursor.lists.s1),
+            None => self.sets.start(scores, from.shape.mdps),
         }
     }
 }
@@ -559,7 +523,6 @@ impl<'a, R: Rule> Blocks for ByS1<'a, R> {
     fn next_block<C: Cuts>(
         &mut self,
         _cuts: &C,
-        _room: &mut C::Room,
         block: &mut Level<ByS2<'a, R>>,
         budget: &mut Budget,
     ) -> Drawn {
@@ -567,10 +530,13 @@ impl<'a, R: Rule> Blocks for ByS1<'a, R> {
             return Ok(false);
         }
         let own = take_by_s1(&mut self.resume, &self.s1);
-        block.in_block = false;
-        block
-            .blocks
-            .start(self.k, &self.residents, &self.s1, own, self.rule);
+        let from = InS1 {
+            k: self.k,
+            residents: &self.residents,
+            s1: &self.s1,
+        };
+        block.block.is_begun = false;
+        block.blocks.start(&from, own, self.rule);
         Ok(true)
     }
 }

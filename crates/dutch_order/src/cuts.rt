@@ -1,6 +1,6 @@
 // What the levels of a listing and the search of their lists see of a bound: which beginnings lead to nothing of
 // interest.
-ghost use Rattle.std.specs.Prelude.{◌≡◌, ℕ, List, true};
+ghost use Rattle.std.specs.Prelude.{◌≡◌, ℕ, List, false, true};
 ghost use Rattle.dutch_order.specs.Arrangements.{Arrangement, candidates};
 ghost use Rattle.dutch_order.specs.Exchanged.{IsExchange};
 ghost use Rattle.dutch_order.specs.Keys.{IsIn};
@@ -11,53 +11,40 @@ use crate::bound::Bound;
 use crate::exchanged::Exchange;
 use crate::numbers::Numbers;
 use crate::prefix::{Filling, Prefix};
+use std::cell::RefCell;
 
 /// Tells of a beginning of arrangements whether all arrangements that begin so are idle.
 pub trait Cuts {
-    /// What a question is worked out in.
-    type Room;
-
     /// An arrangement is idle.
     ghost Idle: { Self → Arrangement → Type 0 };
 
     /// Whether all arrangements that begin so are known to be idle.
-    fn cuts(&self, prefix: &Prefix<'_>, room: &mut Self::Room) -> bool
+    fn cuts(&self, prefix: &Prefix<'_>) -> bool
         ensures { result ≡ true → (a : Arrangement) → Begins prefix.now a → Idle self.now a };
 
     /// Whether all arrangements that begin so, and whose S1R is such an exchange, are known to be idle.
-    fn cuts_exchange(
-        &self,
-        prefix: &Prefix<'_>,
-        exchange: &Exchange<'_>,
-        room: &mut Self::Room,
-    ) -> bool
+    fn cuts_exchange(&self, prefix: &Prefix<'_>, exchange: &Exchange<'_>) -> bool
         ensures { result ≡ true → (a : Arrangement) → Begins prefix.now a → IsExchange exchange.now a.s1r
             → Idle self.now a };
 }
 
 /// Tells of an exchange whether all sets that are such are idle.
 pub trait CutsExchanges {
-    /// What a question is worked out in.
-    type Room;
-
     /// A set is idle.
     ghost Idle: { Self → List ℕ → Type 0 };
 
     /// Whether all sets that are such an exchange are known to be idle.
-    fn cuts(&self, exchange: &Exchange<'_>, room: &mut Self::Room) -> bool
+    fn cuts(&self, exchange: &Exchange<'_>) -> bool
         ensures { result ≡ true → (set : List ℕ) → IsExchange exchange.now set → Idle self.now set };
 }
 
 /// Tells of a beginning of tuples whether all tuples that begin so are idle.
 pub trait CutsTuples {
-    /// What a question is worked out in.
-    type Room;
-
     /// A tuple is idle.
     ghost Idle: { Self → List ℕ → Type 0 };
 
     /// Whether all tuples that begin so are known to be idle.
-    fn cuts(&self, begun: &[u16], room: &mut Self::Room) -> bool
+    fn cuts(&self, begun: &[u16]) -> bool
         ensures { result ≡ true → (tuple : List ℕ) → GoesOn begun.now tuple → Idle self.now tuple };
 }
 
@@ -66,48 +53,42 @@ pub trait CutsTuples {
 pub struct NoCuts;
 
 impl Cuts for NoCuts {
-    type Room = ();
-
     ghost Idle = { λ _ _. ⊥ };
 
-    fn cuts(&self, _prefix: &Prefix<'_>, _room: &mut ()) -> bool {
+    fn cuts(&self, _prefix: &Prefix<'_>) -> bool {
         false
     }
 
-    fn cuts_exchange(
-        &self,
-        _prefix: &Prefix<'_>,
-        _exchange: &Exchange<'_>,
-        _room: &mut (),
-    ) -> bool {
+    fn cuts_exchange(&self, _prefix: &Prefix<'_>, _exchange: &Exchange<'_>) -> bool {
         false
     }
 }
 
 /// What a bound tells: an arrangement is idle if it is no candidate, or one without interest.
 #[derive(Drop)]
-pub struct Within<'b, B> {
+pub struct Within<'b, B: Bound> {
     pub bound: &'b B,
+    // lent for one question after another
+    pub room: RefCell<&'b mut B::Room>,
 }
 
 impl<'b, B: Bound> Cuts for Within<'b, B> {
-    type Room = B::Room;
-
     ghost Idle = { λ w a.
         IsIn a (candidates (B.meets w.bound.now) (B.may_be_left w.bound.now) (B.frame w.bound.now)
         (B.shape w.bound.now)) → B.is_dull w.bound.now a ≡ true };
 
-    fn cuts(&self, prefix: &Prefix<'_>, room: &mut Self::Room) -> bool {
-        self.bound.cannot_win(prefix, room)
+    fn cuts(&self, prefix: &Prefix<'_>) -> bool {
+        match self.room.try_borrow_mut() {
+            Ok(mut room) => self.bound.cannot_win(prefix, &mut *room),
+            Err(_) => false,
+        }
     }
 
-    fn cuts_exchange(
-        &self,
-        prefix: &Prefix<'_>,
-        exchange: &Exchange<'_>,
-        room: &mut Self::Room,
-    ) -> bool {
-        self.bound.cannot_win_with(prefix, exchange, room)
+    fn cuts_exchange(&self, prefix: &Prefix<'_>, exchange: &Exchange<'_>) -> bool {
+        match self.room.try_borrow_mut() {
+            Ok(mut room) => self.bound.cannot_win_with(prefix, exchange, &mut *room),
+            Err(_) => false,
+        }
     }
 }
 
@@ -119,11 +100,9 @@ pub struct OfS2<'c, C> {
 }
 
 impl<'c, C: Cuts> CutsTuples for OfS2<'c, C> {
-    type Room = C::Room;
-
     ghost Idle = { λ o s2. (a : Arrangement) → o.s1.now.items ≡ a.s1 → s2 ≡ a.s2 → C.Idle o.cuts.now a };
 
-    fn cuts(&self, begun: &[u16], room: &mut Self::Room) -> bool {
+    fn cuts(&self, begun: &[u16]) -> bool {
         let prefix = Prefix {
             filling: Filling::S2,
             s1: self.s1,
@@ -131,7 +110,7 @@ impl<'c, C: Cuts> CutsTuples for OfS2<'c, C> {
             s1r: &[],
             s2r: &[],
         };
-        self.cuts.cuts(&prefix, room)
+        self.cuts.cuts(&prefix)
     }
 }
 
@@ -144,12 +123,10 @@ pub struct OfS1r<'c, C> {
 }
 
 impl<'c, C: Cuts> CutsExchanges for OfS1r<'c, C> {
-    type Room = C::Room;
-
     ghost Idle = { λ o s1r.
         (a : Arrangement) → o.s1.now.items ≡ a.s1 → o.s2.now.items ≡ a.s2 → s1r ≡ a.s1r → C.Idle o.cuts.now a };
 
-    fn cuts(&self, exchange: &Exchange<'_>, room: &mut Self::Room) -> bool {
+    fn cuts(&self, exchange: &Exchange<'_>) -> bool {
         let prefix = Prefix {
             filling: Filling::S2,
             s1: self.s1,
@@ -157,7 +134,7 @@ impl<'c, C: Cuts> CutsExchanges for OfS1r<'c, C> {
             s1r: &[],
             s2r: &[],
         };
-        self.cuts.cuts_exchange(&prefix, exchange, room)
+        self.cuts.cuts_exchange(&prefix, exchange)
     }
 }
 
@@ -171,11 +148,9 @@ pub struct OfS2r<'c, C> {
 }
 
 impl<'c, C: Cuts> CutsTuples for OfS2r<'c, C> {
-    type Room = C::Room;
-
     ghost Idle = { λ o s2r. C.Idle o.cuts.now (arranged o.s1.now.items o.s2.now.items o.s1r.now.items s2r) };
 
-    fn cuts(&self, begun: &[u16], room: &mut Self::Room) -> bool {
+    fn cuts(&self, begun: &[u16]) -> bool {
         let prefix = Prefix {
             filling: Filling::S2r,
             s1: self.s1,
@@ -183,6 +158,29 @@ impl<'c, C: Cuts> CutsTuples for OfS2r<'c, C> {
             s1r: self.s1r,
             s2r: begun,
         };
-        self.cuts.cuts(&prefix, room)
+        self.cuts.cuts(&prefix)
+    }
+}
+
+/// What is told of choices, but nothing while the very next one is wanted.
+#[derive(Drop)]
+pub struct Unless<'c, C> {
+    pub very: bool,
+    pub cuts: &'c C,
+}
+
+impl<'c, C: CutsTuples> CutsTuples for Unless<'c, C> {
+    ghost Idle = { λ u tuple. (u.very ≡ false) × C.Idle u.cuts.now tuple };
+
+    fn cuts(&self, begun: &[u16]) -> bool {
+        !self.very && self.cuts.cuts(begun)
+    }
+}
+
+impl<'c, C: CutsExchanges> CutsExchanges for Unless<'c, C> {
+    ghost Idle = { λ u set. (u.very ≡ false) × C.Idle u.cuts.now set };
+
+    fn cuts(&self, exchange: &Exchange<'_>) -> bool {
+        !self.very && self.cuts.cuts(exchange)
     }
 }

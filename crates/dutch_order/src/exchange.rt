@@ -22,7 +22,7 @@ ghost use Rattle.dutch_order.specs.Prefixes.{GoesOn};
 ghost use Rattle.dutch_order.specs.Sides.{count_of};
 ghost use Rattle.dutch_order.specs.Stages.{IdleAt, barred_numbers, held_numbers, in_limit};
 ghost use Rattle.dutch_order.specs.Stages.{is_told, out_limit, told_numbers};
-ghost use Rattle.dutch_order.specs.Stages.{least_at, greatest_at, least_difference, greatest_difference, exchange_plan};
+ghost use Rattle.dutch_order.specs.Stages.{least_difference, greatest_difference, exchange_plan};
 ghost use Rattle.dutch_order.specs.Stages.{IsPlace, sets_from, trials_from, stages_ahead, set_of, kept_of, value_of};
 ghost use Rattle.dutch_order.specs.Stages.{following, out_places, in_places, exchange_path, exchange_difference};
 ghost use Rattle.dutch_order.specs.Exchange.{exchanges};
@@ -37,13 +37,14 @@ ghost use Rattle.dutch_order.specs.Hints.{hinted, first_hint};
 
 use crate::cuts::CutsExchanges;
 use crate::exchanged::Exchange;
-use crate::halves::{end_of_half, first_of_half};
+use crate::halves::first_of_half;
 use crate::numbers::{LIMIT, Numbers, fill};
 use crate::search::{
-    CutsPaths, Hinted, Path, Tree, Walk, climb_on, climb_past, end_number, first_hint, put_behind,
+    CutsPaths, Hinted, Path, Walk, climb_on, climb_past, end_number, first_hint, put_behind,
 };
+use crate::stage::{Stage, greatest_of, least_of};
 use crate::steps::{Budget, Drawn, Step, Stopped};
-use crate::sums::{run_of, total_of, value_at};
+use crate::sums::{total_of, value_at};
 use arrayvec::ArrayVec;
 use std::marker::Model;
 
@@ -52,157 +53,6 @@ use std::marker::Model;
 pub(crate) enum Side {
     Out,
     In,
-}
-
-/// The differences of the sums that an exchange can still have.
-#[derive(Clone, Copy)]
-struct Reach {
-    least: usize,
-    greatest: usize,
-}
-
-/// What can still come if a place is tried for a number moved out.
-#[tactic(auto, unfolding(crate::specs::Stages::least_at, crate::specs::Stages::greatest_at))]
-fn reach_out(pool: &[u16], k: usize, size: usize, path: &[u16], place: usize) -> Reach
-    requires few { length pool.now ≤ LIMIT }
-    requires enough { k ≤ length pool.now }
-    requires outs { size ≤ k }
-    requires ins { size ≤ length pool.now - k }
-    requires opened { length path.now < size }
-    requires walked { AllByRecursion (λ place. place < k) path.now }
-    requires room { place + (size - 1 - length path.now) < k }
-    ensures least { result.least ≡ least_at pool.now k size path.now place }
-    ensures greatest { result.greatest ≡ greatest_at pool.now k size path.now place }
-{
-    let rest = size - 1 - path.len();
-    let out = total_of(pool, k, Side::Out, path) + value_at(pool, k, Side::Out, place);
-    let most_out = out + run_of(pool, k, Side::Out, place + 1, rest);
-    let least_out = out + run_of(pool, k, Side::Out, k - rest, rest);
-    let least_in = run_of(pool, k, Side::In, 0, size);
-    let most_in = run_of(pool, k, Side::In, pool.len() - k - size, size);
-    Reach {
-        least: least_in.saturating_sub(most_out),
-        greatest: most_in.saturating_sub(least_out),
-    }
-}
-
-/// What can still come if a place is tried for a number moved in.
-#[tactic(auto, unfolding(crate::specs::Stages::least_at, crate::specs::Stages::greatest_at))]
-fn reach_in(pool: &[u16], k: usize, size: usize, path: &[u16], place: usize) -> Reach
-    requires few { length pool.now ≤ LIMIT }
-    requires enough { k ≤ length pool.now }
-    requires outs { size ≤ k }
-    requires ins { size ≤ length pool.now - k }
-    requires second { size ≤ length path.now }
-    requires opened { length path.now < size + size }
-    requires walked_out { AllByRecursion (λ place. place < k) (take size path.now) }
-    requires walked_in { AllByRecursion (λ place. place < length pool.now - k) (drop size path.now) }
-    requires room { place + (size + size - 1 - length path.now) < length pool.now - k }
-    ensures least { result.least ≡ least_at pool.now k size path.now place }
-    ensures greatest { result.greatest ≡ greatest_at pool.now k size path.now place }
-{
-    let rest = size + size - 1 - path.len();
-    let (outs, ins) = path.split_at(size);
-    let out = total_of(pool, k, Side::Out, outs);
-    let moved = total_of(pool, k, Side::In, ins) + value_at(pool, k, Side::In, place);
-    let least_in = moved + run_of(pool, k, Side::In, place + 1, rest);
-    let most_in = moved + run_of(pool, k, Side::In, pool.len() - k - rest, rest);
-    Reach {
-        least: least_in.saturating_sub(out),
-        greatest: most_in.saturating_sub(out),
-    }
-}
-
-/// One stage of the search: a number of exchanged players, and a difference of the sums.
-#[derive(Drop)]
-struct Stage<'a> {
-    pool: &'a [u16],
-    k: usize,
-    size: usize,
-    difference: usize,
-    ghost few: { length pool.now ≤ LIMIT },
-    ghost enough: { k ≤ length pool.now },
-    ghost outs: { size ≤ k },
-    ghost ins: { size ≤ length pool.now - k },
-}
-
-/// What can still come if a place is tried in a stage.
-#[tactic(auto, unfolding(crate::specs::Halves::half_stop))]
-fn reach_of(stage: &Stage<'_>, path: &[u16], place: usize) -> Reach
-    requires opened { IsOpen (exchange_plan stage.now.pool.now stage.now.k stage.now.size stage.now.difference)
-        path.now }
-    requires tried { let plan = exchange_plan stage.now.pool.now stage.now.k stage.now.size stage.now.difference in
-        place < plan.stop path.now }
-    ensures least { result.least ≡ least_at stage.now.pool.now stage.now.k stage.now.size path.now place }
-    ensures greatest { result.greatest ≡ greatest_at stage.now.pool.now stage.now.k stage.now.size path.now place }
-{
-    if path.len() < stage.size {
-        reach_out(stage.pool, stage.k, stage.size, path, place)
-    } else {
-        reach_in(stage.pool, stage.k, stage.size, path, place)
-    }
-}
-
-impl<'a> Tree for Stage<'a> {
-    ghost use Rattle.dutch_order.specs.Halves.{half_stop};
-    ghost use Rattle.dutch_order.specs.Stages.{exchange_plan};
-    ghost use Rattle.std.proofs.Common.{arith};
-    ghost use Rattle.std.proofs.lemmas.Bool.Decides.{nat_tests};
-
-    ghost plan = { λ t. exchange_plan t.pool.now t.k t.size t.difference };
-
-    ghost within = { λ t path. unfold half_stop in Prim.grind (arith, nat_tests) };
-
-    fn places(&self) -> usize {
-        self.size + self.size
-    }
-
-    fn start(&self, path: &[u16]) -> usize {
-        first_of_half(self.size, path)
-    }
-
-    fn stop(&self, path: &[u16]) -> usize {
-        end_of_half(self.size, self.k, self.pool.len() - self.k, path)
-    }
-
-    #[tactic(auto, unfolding(crate::specs::Stages::within_reach))]
-    fn admits(&self, path: &[u16], place: u16) -> bool {
-        let reach = reach_of(self, path, place as usize);
-        reach.least <= self.difference && self.difference <= reach.greatest
-    }
-
-    #[tactic(auto, unfolding(crate::specs::Stages::beyond_reach))]
-    fn beyond(&self, path: &[u16], place: u16) -> Option<usize> {
-        let reach = reach_of(self, path, place as usize);
-        if self.difference < reach.least {
-            Some(reach.least)
-        } else {
-            None
-        }
-    }
-}
-
-/// The least difference of the sums of exchanges of so many.
-fn least_of(pool: &[u16], k: usize, size: usize) -> usize
-    requires few { length pool.now ≤ LIMIT }
-    requires enough { k ≤ length pool.now }
-    requires outs { size ≤ k }
-    requires ins { size ≤ length pool.now - k }
-    ensures { result ≡ least_difference pool.now k size }
-{
-    run_of(pool, k, Side::In, 0, size).saturating_sub(run_of(pool, k, Side::Out, 0, size))
-}
-
-/// The greatest one.
-fn greatest_of(pool: &[u16], k: usize, size: usize) -> usize
-    requires few { length pool.now ≤ LIMIT }
-    requires enough { k ≤ length pool.now }
-    requires outs { size ≤ k }
-    requires ins { size ≤ length pool.now - k }
-    ensures { result ≡ greatest_difference pool.now k size }
-{
-    let most_in = run_of(pool, k, Side::In, pool.len() - k - size, size);
-    most_in.saturating_sub(run_of(pool, k, Side::Out, k - size, size))
 }
 
 /// The next difference after one, up to a greatest one.
@@ -497,7 +347,6 @@ fn cuts_begun<C: CutsExchanges>(
     cuts: &C,
     begun: &[u16],
     numbers: &mut Numbers,
-    room: &mut C::Room,
 ) -> bool
     requires ascends { IsStrictlyIncreasing stage.now.pool.now }
     requires small { (i : ℕ) → slice_index stage.now.pool.now i ≤ 65535 }
@@ -518,7 +367,7 @@ fn cuts_begun<C: CutsExchanges>(
         held,
         barred,
     };
-    cuts.cuts(&exchange, room)
+    cuts.cuts(&exchange)
 }
 
 /// What is told of exchanges, told of the paths of a stage that have begun.
@@ -533,16 +382,14 @@ struct OfStage<'c, C> {
 impl<'c, C: CutsExchanges> CutsPaths for OfStage<'c, C> {
     ghost use Rattle.dutch_order.specs.Stages.{IdleAt};
 
-    type Room = C::Room;
-
     ghost Idle = { λ t path. IdleAt t.stage.now.pool.now t.stage.now.k (C.Idle t.cuts.now) t.stage.now.size
         t.stage.now.difference path };
 
     ghost MayAsk = { λ _ _. Unit {0} };
 
-    fn cuts(&self, begun: &[u16], numbers: &mut Numbers, room: &mut C::Room) -> bool {
+    fn cuts(&self, begun: &[u16], numbers: &mut Numbers) -> bool {
         // a whole stage is asked about where it begins, since that is a step
-        !begun.is_empty() && cuts_begun(self.stage, self.cuts, begun, numbers, room)
+        !begun.is_empty() && cuts_begun(self.stage, self.cuts, begun, numbers)
     }
 }
 
@@ -551,7 +398,6 @@ impl<'c, C: CutsExchanges> CutsPaths for OfStage<'c, C> {
 fn leave_stage<C: CutsExchanges>(
     tree: &Hinted<'_, Stage<'_>>,
     cuts: &C,
-    room: &mut C::Room,
     walk: &mut Walk,
     budget: &mut Budget,
 ) -> Result<(), Stopped>
@@ -578,7 +424,7 @@ fn leave_stage<C: CutsExchanges>(
     if budget.used == budget.limit {
         return Err(Stopped);
     }
-    if cuts_begun(&tree.tree, cuts, &walk.path, &mut walk.room, room) {
+    if cuts_begun(&tree.tree, cuts, &walk.path, &mut walk.room) {
         budget.used += 1;
         walk.number = stop;
         walk.beyond = Some(0);
@@ -590,7 +436,6 @@ fn leave_stage<C: CutsExchanges>(
 fn climb_stage<C: CutsExchanges>(
     tree: &Hinted<'_, Stage<'_>>,
     cuts: &C,
-    room: &mut C::Room,
     walk: &mut Walk,
     budget: &mut Budget,
 ) -> Drawn
@@ -625,12 +470,12 @@ fn climb_stage<C: CutsExchanges>(
         tree.now.tree.size tree.now.tree.difference)) walk.old walk.new }
     ensures spends { Spends budget.old budget.new }
 {
-    leave_stage(tree, cuts, room, walk, budget)?;
+    leave_stage(tree, cuts, walk, budget)?;
     let paths = OfStage {
         stage: &tree.tree,
         cuts,
     };
-    climb_past(tree, &paths, room, walk, budget)
+    climb_past(tree, &paths, walk, budget)
 }
 
 /// Goes on to the next set, whose path the walk then has, past such as are known to be idle. All that was passed over
@@ -639,7 +484,6 @@ fn next_set_past<C: CutsExchanges>(
     pool: &[u16],
     k: usize,
     cuts: &C,
-    room: &mut C::Room,
     place: &mut Place,
     budget: &mut Budget,
 ) -> Drawn
@@ -667,7 +511,7 @@ fn next_set_past<C: CutsExchanges>(
             },
             hint: &place.hint,
         };
-        if climb_stage(&tree, cuts, room, &mut place.walk, budget)? {
+        if climb_stage(&tree, cuts, &mut place.walk, budget)? {
             return Ok(true);
         }
         if !next_stage(pool, k, place) {
@@ -859,7 +703,6 @@ impl Exchanges {
     pub(crate) fn put_next_past<C: CutsExchanges>(
         &mut self,
         cuts: &C,
-        room: &mut C::Room,
         numbers: &mut Numbers,
         budget: &mut Budget,
     ) -> Drawn
@@ -869,7 +712,7 @@ impl Exchanges {
             (Passes (C.Idle cuts.now) self.old.coming self.new.coming × (budget.new.used ≡ budget.new.limit)) }
         ensures spends { Spends budget.old budget.new }
     {
-        if !next_set_past(&self.pool, self.k, cuts, room, &mut self.place, budget)? {
+        if !next_set_past(&self.pool, self.k, cuts, &mut self.place, budget)? {
             return Ok(false);
         }
         put_set(&self.pool, self.k, &self.place, numbers);

@@ -21,13 +21,7 @@ pub trait Arranges {
 
     /// Fills `lists` with the next arrangement. Those that `cuts` knows to be idle may be skipped. If there is none,
     /// all that were to come are idle; what is to come after that is nowhere said.
-    fn next<C: Cuts>(
-        &mut self,
-        cuts: &C,
-        room: &mut C::Room,
-        lists: &mut Arrangement,
-        budget: &mut Budget,
-    ) -> Drawn
+    fn next<C: Cuts>(&mut self, cuts: &C, lists: &mut Arrangement, budget: &mut Budget) -> Drawn
         ensures answer { MatchDrawn result
             (Passes (C.Idle cuts.now) (coming self.old) (lists.new ∷ coming self.new))
             (Passes (C.Idle cuts.now) (coming self.old) [])
@@ -46,7 +40,6 @@ pub trait Blocks {
     fn next_block<C: Cuts>(
         &mut self,
         cuts: &C,
-        room: &mut C::Room,
         block: &mut Self::Block,
         budget: &mut Budget,
     ) -> Drawn
@@ -59,13 +52,29 @@ pub trait Blocks {
         ensures spends { Spends budget.old budget.new };
 }
 
-/// The arrangements of blocks, one block after another. There is one place for a block, in which each begins anew.
+/// The place in which one block after another begins anew.
+#[derive(Drop)]
+pub struct Block<T> {
+    pub(crate) level: T,
+    // whether a block has begun in it
+    pub(crate) is_begun: bool,
+}
+
+impl<T: Arranges> Arranges for Block<T> {
+    ghost use Rattle.dutch_order.specs.Levels.{within};
+
+    ghost coming = { λ b. within b.is_begun (T.coming b.level) };
+
+    fn next<C: Cuts>(&mut self, cuts: &C, lists: &mut Arrangement, budget: &mut Budget) -> Drawn {
+        Ok(self.is_begun && self.level.next(cuts, lists, budget)?)
+    }
+}
+
+/// The arrangements of blocks, one block after another.
 #[derive(Drop)]
 pub struct Level<B: Blocks> {
     pub(crate) blocks: B,
-    // whether it stands in the block
-    pub(crate) in_block: bool,
-    block: B::Block,
+    pub(crate) block: Block<B::Block>,
 }
 
 impl<B: Blocks> Model for Level<B> {
@@ -75,62 +84,37 @@ impl<B: Blocks> Model for Level<B> {
 
     ghost Value = { List Arrangement };
 
-    ghost view = { λ l. within l.in_block (B.Block.coming l.block) ++ joined (B.blocks l.blocks) };
+    ghost view = { λ l. within l.block.is_begun (B.Block.coming l.block.level) ++ joined (B.blocks l.blocks) };
 }
 
 impl<B: Blocks> Level<B> {
     /// A level that stands before the first block, with a place for one.
-    pub fn new(blocks: B, block: B::Block) -> Level<B>
+    pub fn new(blocks: B, level: B::Block) -> Level<B>
         ensures { result ≡ joined (B.blocks blocks) }
     {
         Level {
             blocks,
-            in_block: false,
-            block,
+            block: Block {
+                level,
+                is_begun: false,
+            },
         }
     }
-}
-
-/// Fills `lists` with the next arrangement of the block in which a level stands. A level that stands in none is treated
-/// as if its block had ended.
-fn draw<T: Arranges, C: Cuts>(
-    in_block: bool,
-    block: &mut T,
-    cuts: &C,
-    room: &mut C::Room,
-    lists: &mut Arrangement,
-    budget: &mut Budget,
-) -> Drawn
-    ensures answer { MatchDrawn result
-        (Passes (C.Idle cuts.now) (within in_block (T.coming block.old))
-        (lists.new ∷ within in_block (T.coming block.new)))
-        (Passes (C.Idle cuts.now) (within in_block (T.coming block.old)) [])
-        (Passes (C.Idle cuts.now) (within in_block (T.coming block.old)) (within in_block (T.coming block.new))
-        × (budget.new.used ≡ budget.new.limit)) }
-    ensures spends { Spends budget.old budget.new }
-{
-    Ok(in_block && block.next(cuts, room, lists, budget)?)
 }
 
 impl<B: Blocks> Arranges for Level<B> {
     ghost coming = { λ l. l };
 
-    fn next<C: Cuts>(
-        &mut self,
-        cuts: &C,
-        room: &mut C::Room,
-        lists: &mut Arrangement,
-        budget: &mut Budget,
-    ) -> Drawn {
+    fn next<C: Cuts>(&mut self, cuts: &C, lists: &mut Arrangement, budget: &mut Budget) -> Drawn {
         loop {
-            if draw(self.in_block, &mut self.block, cuts, room, lists, budget)? {
+            if self.block.next(cuts, lists, budget)? {
                 return Ok(true);
             }
-            self.in_block = false;
-            if !self.blocks.next_block(cuts, room, &mut self.block, budget)? {
+            self.block.is_begun = false;
+            if !self.blocks.next_block(cuts, &mut self.block.level, budget)? {
                 return Ok(false);
             }
-            self.in_block = true;
+            self.block.is_begun = true;
         }
     }
 }

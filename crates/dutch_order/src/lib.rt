@@ -36,6 +36,7 @@ mod numbers;
 mod prefix;
 mod rules;
 mod search;
+mod stage;
 mod steps;
 mod sums;
 mod transposition;

@@ -59,9 +59,6 @@ pub trait Tree {
 
 /// Tells of a beginning of paths whether all whole paths that begin so are idle.
 pub trait CutsPaths {
-    /// What a question is worked out in.
-    type Room;
-
     /// A whole path is idle.
     ghost Idle: { Self → List ℕ → Type 0 };
 
@@ -69,7 +66,7 @@ pub trait CutsPaths {
     ghost MayAsk: { Self → List ℕ → Type 0 };
 
     /// Whether all paths that begin so are known to be idle. There is a list for the numbers that a path stands for.
-    fn cuts(&self, begun: &[u16], numbers: &mut Numbers, room: &mut Self::Room) -> bool
+    fn cuts(&self, begun: &[u16], numbers: &mut Numbers) -> bool
         requires { MayAsk self.now begun.now }
         ensures { result ≡ true → (path : List ℕ) → GoesOn begun.now path → Idle self.now path };
 }
@@ -79,13 +76,11 @@ pub trait CutsPaths {
 struct CutsNothing;
 
 impl CutsPaths for CutsNothing {
-    type Room = ();
-
     ghost Idle = { λ _ _. ⊥ };
 
     ghost MayAsk = { λ _ _. Unit {0} };
 
-    fn cuts(&self, _begun: &[u16], _numbers: &mut Numbers, _room: &mut ()) -> bool {
+    fn cuts(&self, _begun: &[u16], _numbers: &mut Numbers) -> bool {
         false
     }
 }
@@ -238,7 +233,7 @@ pub fn end_number<T: Tree>(tree: &T, path: &[u16]) -> usize
 
 /// Leaves out all that is still to come below a path, if all of it is known to be idle. What lies beyond it is not
 /// known then.
-fn leave_idle<T: Tree, C: CutsPaths>(tree: &T, cuts: &C, room: &mut C::Room, walk: &mut Walk)
+fn leave_idle<T: Tree, C: CutsPaths>(tree: &T, cuts: &C, walk: &mut Walk)
     requires standing { Stands (T.plan tree.now) walk.old.path.items }
     requires may_ask { (path : List ℕ) → Stands (T.plan tree.now) path → C.MayAsk cuts.now path }
     ensures path { walk.new.path.items ≡ walk.old.path.items }
@@ -250,7 +245,7 @@ fn leave_idle<T: Tree, C: CutsPaths>(tree: &T, cuts: &C, room: &mut C::Room, wal
         ⊎ ((walk.new.number ≡ walk.old.number) × (walk.new.beyond ≡ walk.old.beyond)) }
 {
     let end = end_number(tree, &walk.path);
-    if walk.number < end && cuts.cuts(&walk.path, &mut walk.room, room) {
+    if walk.number < end && cuts.cuts(&walk.path, &mut walk.room) {
         walk.number = end;
         walk.beyond = Some(0);
     }
@@ -310,7 +305,6 @@ fn go_back<T: Tree>(tree: &T, walk: &mut Walk) -> bool
 pub fn climb_past<T: Tree, C: CutsPaths>(
     tree: &T,
     cuts: &C,
-    room: &mut C::Room,
     walk: &mut Walk,
     budget: &mut Budget,
 ) -> Drawn
@@ -338,7 +332,7 @@ pub fn climb_past<T: Tree, C: CutsPaths>(
     ensures known { KeepsBeyond (T.plan tree.now) walk.old walk.new }
     ensures spends { Spends budget.old budget.new }
 {
-    leave_idle(tree, cuts, room, walk);
+    leave_idle(tree, cuts, walk);
     loop {
         if walk.path.len() == tree.places() {
             if walk.number == 0 {
@@ -351,14 +345,14 @@ pub fn climb_past<T: Tree, C: CutsPaths>(
             }
             budget.used += 1;
             if try_number(tree, walk) {
-                leave_idle(tree, cuts, room, walk);
+                leave_idle(tree, cuts, walk);
             }
             continue;
         }
         if !go_back(tree, walk) {
             return Ok(false);
         }
-        leave_idle(tree, cuts, room, walk);
+        leave_idle(tree, cuts, walk);
     }
 }
 
@@ -385,5 +379,5 @@ pub fn climb_on<T: Tree>(tree: &T, walk: &mut Walk, budget: &mut Budget) -> Draw
         ≡ lower walk.old.beyond (lowest (ahead (T.plan tree.now) walk.old.path.items walk.old.number)) }
     ensures spends { Spends budget.old budget.new }
 {
-    climb_past(tree, &CutsNothing, &mut (), walk, budget)
+    climb_past(tree, &CutsNothing, walk, budget)
 }

@@ -56,7 +56,14 @@ fn put_places(pool: &[u16], numbers: &[u16], path: &mut Path)
     }
 }
 
-/// First players and the pool from which each gets an opponent.
+/// First players, and the pool from which each gets an opponent.
+#[derive(Drop)]
+pub(crate) struct Meeting<'s> {
+    pub first: &'s [u16],
+    pub pool: &'s [u16],
+}
+
+/// The same, with the rule that says who may meet.
 #[derive(Drop)]
 struct Opponents<'a, R> {
     first: &'a Numbers,
@@ -108,15 +115,13 @@ impl<'a, C: CutsTuples> CutsPaths for CutsPlaces<'a, C> {
     ghost use Rattle.std.specs.List.{AllByRecursion};
     ghost use Rattle.dutch_order.specs.TranspositionSearch.{numbers_at};
 
-    type Room = C::Room;
-
     ghost Idle = { λ t path. C.Idle t.cuts.now (numbers_at t.pool.now.items path) };
 
     ghost MayAsk = { λ t path. AllByRecursion (λ place. place < length t.pool.now.items) path × (length path ≤ LIMIT) };
 
-    fn cuts(&self, begun: &[u16], numbers: &mut Numbers, room: &mut C::Room) -> bool {
+    fn cuts(&self, begun: &[u16], numbers: &mut Numbers) -> bool {
         pick(self.pool, begun, numbers);
-        self.cuts.cuts(numbers, room)
+        self.cuts.cuts(numbers)
     }
 }
 
@@ -168,7 +173,7 @@ impl<'a, R: Rule> Transpositions<'a, R> {
         ensures left { result.left ≡ length pool.now * length (short_beginnings (R.meets rule.now) first.now pool.now) }
     {
         let mut lists = Transpositions::ended(rule);
-        lists.start(first, pool, rule);
+        lists.start(&Meeting { first, pool }, rule);
         lists
     }
 
@@ -183,7 +188,7 @@ impl<'a, R: Rule> Transpositions<'a, R> {
             (from_on tuple.now (all_tuples pool.now (length first.now))) }
     {
         let mut lists = Transpositions::ended(rule);
-        lists.start_from(first, pool, rule, tuple);
+        lists.start_from(&Meeting { first, pool }, rule, tuple);
         lists
     }
 
@@ -201,34 +206,35 @@ impl<'a, R: Rule> Transpositions<'a, R> {
     }
 
     /// Begins anew, in place, as `new` does.
-    pub(crate) fn start(&mut self, first: &[u16], pool: &[u16], rule: &'a R)
-        requires ascends { IsStrictlyIncreasing pool.now }
-        requires few_first { length first.now ≤ LIMIT }
-        requires few { length pool.now ≤ LIMIT }
-        ensures coming { self.new.coming ≡ transpositions (R.meets rule.now) first.now pool.now }
-        ensures left { self.new.left ≡ length pool.now * length
-            (short_beginnings (R.meets rule.now) first.now pool.now) }
+    pub(crate) fn start(&mut self, meeting: &Meeting<'_>, rule: &'a R)
+        requires ascends { IsStrictlyIncreasing meeting.now.pool.now }
+        requires few_first { length meeting.now.first.now ≤ LIMIT }
+        requires few { length meeting.now.pool.now ≤ LIMIT }
+        ensures coming { self.new.coming
+            ≡ transpositions (R.meets rule.now) meeting.now.first.now meeting.now.pool.now }
+        ensures left { self.new.left ≡ length meeting.now.pool.now * length
+            (short_beginnings (R.meets rule.now) meeting.now.first.now meeting.now.pool.now) }
     {
-        fill(&mut self.first, first);
-        fill(&mut self.pool, pool);
+        fill(&mut self.first, meeting.first);
+        fill(&mut self.pool, meeting.pool);
         self.rule = rule;
         self.hint.clear();
         self.walk.restart(0);
     }
 
     /// Begins anew, in place, as `from` does.
-    pub(crate) fn start_from(&mut self, first: &[u16], pool: &[u16], rule: &'a R, tuple: &[u16])
-        requires ascends { IsStrictlyIncreasing pool.now }
-        requires few_first { length first.now ≤ LIMIT }
-        requires few { length pool.now ≤ LIMIT }
-        requires given { IsIn tuple.now (tuples pool.now (length first.now)) }
-        ensures coming { self.new.coming ≡ filter (all_meet (R.meets rule.now) first.now)
-            (from_on tuple.now (all_tuples pool.now (length first.now))) }
+    pub(crate) fn start_from(&mut self, meeting: &Meeting<'_>, rule: &'a R, tuple: &[u16])
+        requires ascends { IsStrictlyIncreasing meeting.now.pool.now }
+        requires few_first { length meeting.now.first.now ≤ LIMIT }
+        requires few { length meeting.now.pool.now ≤ LIMIT }
+        requires given { IsIn tuple.now (tuples meeting.now.pool.now (length meeting.now.first.now)) }
+        ensures coming { self.new.coming ≡ filter (all_meet (R.meets rule.now) meeting.now.first.now)
+            (from_on tuple.now (all_tuples meeting.now.pool.now (length meeting.now.first.now))) }
     {
-        fill(&mut self.first, first);
-        fill(&mut self.pool, pool);
+        fill(&mut self.first, meeting.first);
+        fill(&mut self.pool, meeting.pool);
         self.rule = rule;
-        put_places(pool, tuple, &mut self.hint);
+        put_places(meeting.pool, tuple, &mut self.hint);
         self.walk.restart(first_hint(&self.hint));
     }
 
@@ -280,7 +286,6 @@ impl<'a, R: Rule> Transpositions<'a, R> {
     pub(crate) fn put_next_past<C: CutsTuples>(
         &mut self,
         cuts: &C,
-        room: &mut C::Room,
         numbers: &mut Numbers,
         budget: &mut Budget,
     ) -> Drawn
@@ -302,7 +307,7 @@ impl<'a, R: Rule> Transpositions<'a, R> {
             pool: &self.pool,
             cuts,
         };
-        if !climb_past(&tree, &places, room, &mut self.walk, budget)? {
+        if !climb_past(&tree, &places, &mut self.walk, budget)? {
             return Ok(false);
         }
         pick(&self.pool, &self.walk.path, numbers);

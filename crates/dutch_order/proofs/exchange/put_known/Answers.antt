@@ -1,5 +1,6 @@
-use Rattle.std.proofs.Common.{rules, ◌≡◌, ◌-◌, ◌≤◌, ◌++◌, ℕ, List, length, take, drop, true, false, ap, sym, ◌∙◌, append_assoc, arith, length-append}
+use Rattle.std.proofs.Common.{rules, ◌≡◌, ◌-◌, ◌+◌, ◌≤◌, ◌++◌, ℕ, List, length, take, drop, true, false, ap, sym, ◌∙◌, append_assoc, arith, length-append}
 use Rattle.dutch_order.specs.Sides.{count_of}
+use Rattle.dutch_order.specs.declared.exchange.Side.{Side}
 use Rattle.dutch_order.specs.Stages.{out_limit, told_numbers}
 use Rattle.dutch_order.specs.declared.exchange.Side.TheVariants.{In, Out}
 use Rattle.dutch_order.specs.declared.numbers.TheConstants.{LIMIT}
@@ -7,61 +8,53 @@ use Rattle.dutch_order.proofs.Asked.{told-room}
 use Rattle.dutch_order.proofs.Reach.{take_front_of}
 use Rattle.dutch_order.proofs.exchange.put_known.Goals as goal
 
+-- what is told of both sides is no more than the pool has
+told-fit : (pool : List ℕ) (k : ℕ) (out in' : Side) (outs ins : List ℕ) (below below' : ℕ) → out ≡ Out → in' ≡ In → k ≤ length pool
+    → length (told_numbers pool k out outs below false) + length (told_numbers pool k in' ins below' true) + length (told_numbers pool k out outs below true) + length (told_numbers pool k in' ins below' false) ≤ length pool
+told-fit pool k out in' outs ins below below' is_out is_in enough =
+    let out_count : count_of pool k out ≡ k = ap (count_of pool k) is_out in
+    let in_count : count_of pool k in' ≡ length pool - k = ap (count_of pool k) is_in in
+    omega (arith, told-room pool k out outs below, told-room pool k in' ins below', out_count, in_count, enough)
+
 pub put_told-requires : goal.put_told-requires
 put_told-requires c =
     let pool = c.args.stage.now.pool.now in
     let k = c.args.stage.now.k in
-    let enough : k ≤ length pool = search rules in
     let few : length pool ≤ LIMIT = search rules in
     let o = c.told_out-outs.result in
     let i = c.told_in-ins.result in
-    let outs = told-room pool k o.side o.taken.now o.limit in
-    let out_count : count_of pool k o.side ≡ k = ap (count_of pool k) c.told_out-outs.ensures.side in
-    let ins = told-room pool k i.side i.taken.now i.limit in
-    let in_count : count_of pool k i.side ≡ length pool - k = ap (count_of pool k) c.told_in-ins.ensures.side in
-    record { room = omega (arith, ap length c.clear.ensures, outs, out_count, ins, in_count, enough, few) }
+    let fit = told-fit pool k o.side i.side o.taken.now i.taken.now o.limit i.limit c.told_out-outs.ensures.side c.told_in-ins.ensures.side (search rules) in
+    record { room = omega (arith, fit, few, ap length c.clear.ensures) }
 
 pub put_told-requires-2 : goal.put_told-requires-2
 put_told-requires-2 c =
     let pool = c.args.stage.now.pool.now in
     let k = c.args.stage.now.k in
-    let enough : k ≤ length pool = search rules in
     let few : length pool ≤ LIMIT = search rules in
     let o = c.told_out-outs.result in
     let i = c.told_in-ins.result in
-    let outs = told-room pool k o.side o.taken.now o.limit in
-    let out_count : count_of pool k o.side ≡ k = ap (count_of pool k) c.told_out-outs.ensures.side in
-    let ins = told-room pool k i.side i.taken.now i.limit in
-    let in_count : count_of pool k i.side ≡ length pool - k = ap (count_of pool k) c.told_in-ins.ensures.side in
-    record { room = omega (arith, ap length c.clear.ensures, outs, out_count, ins, in_count, enough, few, ap length c.put_told.ensures, length-append c.clear.new.self.items (told_numbers pool k o.side o.taken.now o.limit false)) }
+    let fit = told-fit pool k o.side i.side o.taken.now i.taken.now o.limit i.limit c.told_out-outs.ensures.side c.told_in-ins.ensures.side (search rules) in
+    record { room = omega (arith, fit, few, ap length c.clear.ensures, ap length c.put_told.ensures, length-append c.clear.new.self.items (told_numbers pool k o.side o.taken.now o.limit false)) }
 
 pub put_told-requires-3 : goal.put_told-requires-3
 put_told-requires-3 c =
     let pool = c.args.stage.now.pool.now in
     let k = c.args.stage.now.k in
-    let enough : k ≤ length pool = search rules in
     let few : length pool ≤ LIMIT = search rules in
     let o = c.told_out-outs.result in
     let i = c.told_in-ins.result in
-    let outs = told-room pool k o.side o.taken.now o.limit in
-    let out_count : count_of pool k o.side ≡ k = ap (count_of pool k) c.told_out-outs.ensures.side in
-    let ins = told-room pool k i.side i.taken.now i.limit in
-    let in_count : count_of pool k i.side ≡ length pool - k = ap (count_of pool k) c.told_in-ins.ensures.side in
-    record { room = omega (arith, ap length c.clear.ensures, outs, out_count, ins, in_count, enough, few, ap length c.put_told.ensures, length-append c.clear.new.self.items (told_numbers pool k o.side o.taken.now o.limit false), ap length c.put_told-2.ensures, length-append c.put_told.new.numbers.items (told_numbers pool k i.side i.taken.now i.limit true)) }
+    let fit = told-fit pool k o.side i.side o.taken.now i.taken.now o.limit i.limit c.told_out-outs.ensures.side c.told_in-ins.ensures.side (search rules) in
+    record { room = omega (arith, fit, few, ap length c.clear.ensures, ap length c.put_told.ensures, length-append c.clear.new.self.items (told_numbers pool k o.side o.taken.now o.limit false), ap length c.put_told-2.ensures, length-append c.put_told.new.numbers.items (told_numbers pool k i.side i.taken.now i.limit true)) }
 
 pub put_told-requires-4 : goal.put_told-requires-4
 put_told-requires-4 c =
     let pool = c.args.stage.now.pool.now in
     let k = c.args.stage.now.k in
-    let enough : k ≤ length pool = search rules in
     let few : length pool ≤ LIMIT = search rules in
     let o = c.told_out-outs.result in
     let i = c.told_in-ins.result in
-    let outs = told-room pool k o.side o.taken.now o.limit in
-    let out_count : count_of pool k o.side ≡ k = ap (count_of pool k) c.told_out-outs.ensures.side in
-    let ins = told-room pool k i.side i.taken.now i.limit in
-    let in_count : count_of pool k i.side ≡ length pool - k = ap (count_of pool k) c.told_in-ins.ensures.side in
-    record { room = omega (arith, ap length c.clear.ensures, outs, out_count, ins, in_count, enough, few, ap length c.put_told.ensures, length-append c.clear.new.self.items (told_numbers pool k o.side o.taken.now o.limit false), ap length c.put_told-2.ensures, length-append c.put_told.new.numbers.items (told_numbers pool k i.side i.taken.now i.limit true), ap length c.put_told-3.ensures, length-append c.put_told-2.new.numbers.items (told_numbers pool k o.side o.taken.now o.limit true)) }
+    let fit = told-fit pool k o.side i.side o.taken.now i.taken.now o.limit i.limit c.told_out-outs.ensures.side c.told_in-ins.ensures.side (search rules) in
+    record { room = omega (arith, fit, few, ap length c.clear.ensures, ap length c.put_told.ensures, length-append c.clear.new.self.items (told_numbers pool k o.side o.taken.now o.limit false), ap length c.put_told-2.ensures, length-append c.put_told.new.numbers.items (told_numbers pool k i.side i.taken.now i.limit true), ap length c.put_told-3.ensures, length-append c.put_told-2.new.numbers.items (told_numbers pool k o.side o.taken.now o.limit true)) }
 
 pub returns-clause-held : goal.returns-clause-held
 returns-clause-held c =

@@ -1,37 +1,14 @@
+use Rattle.dutch_order.proofs.Nexts.{step-holding}
 use Rattle.dutch_order.proofs.candidates.Candidates.next_within.Goals as goal
 
-pub returns-in-Found : goal.returns-in-Found
-returns-in-Found g c = record {
-  answer = c.in-Found.ensures.answer;
-  hopeless = c.in-Found.ensures.hopeless;
-  ended = c.in-Found.ensures.ended;
-  after_end = c.in-Found.ensures.after_end;
-  frame = c.in-Found.ensures.frame;
-  shape = c.in-Found.ensures.shape;
-  rule = c.in-Found.ensures.rule;
-  spends = c.in-Found.ensures.spends;
-}
+pub returns-clause-answer : goal.returns-clause-answer
+returns-clause-answer g c = step-holding _ _ _ c.put_next_within-step.new.candidate c.put_next_within-step.result c.holding.result c.holding.ensures c.put_next_within-step.ensures.answer
 
-pub returns-in-End : goal.returns-in-End
-returns-in-End g c = record {
-  answer = c.in-End.ensures.answer;
-  hopeless = c.in-End.ensures.hopeless;
-  ended = c.in-End.ensures.ended;
-  after_end = c.in-End.ensures.after_end;
-  frame = c.in-End.ensures.frame;
-  shape = c.in-End.ensures.shape;
-  rule = c.in-End.ensures.rule;
-  spends = c.in-End.ensures.spends;
-}
+pub returns-clause-hopeless : goal.returns-clause-hopeless
+returns-clause-hopeless g c many = step-holding _ _ _ c.put_next_within-step.new.candidate c.put_next_within-step.result c.holding.result c.holding.ensures (c.put_next_within-step.ensures.hopeless many)
 
-pub returns-in-Undecided : goal.returns-in-Undecided
-returns-in-Undecided g c = record {
-  answer = c.in-Undecided.ensures.answer;
-  hopeless = c.in-Undecided.ensures.hopeless;
-  ended = c.in-Undecided.ensures.ended;
-  after_end = c.in-Undecided.ensures.after_end;
-  frame = c.in-Undecided.ensures.frame;
-  shape = c.in-Undecided.ensures.shape;
-  rule = c.in-Undecided.ensures.rule;
-  spends = c.in-Undecided.ensures.spends;
-}
+pub returns-clause-ended : goal.returns-clause-ended
+returns-clause-ended g c = step-holding _ _ _ c.put_next_within-step.new.candidate c.put_next_within-step.result c.holding.result c.holding.ensures c.put_next_within-step.ensures.ended
+
+pub returns-clause-after_end : goal.returns-clause-after_end
+returns-clause-after_end g c told = step-holding _ _ _ c.put_next_within-step.new.candidate c.put_next_within-step.result c.holding.result c.holding.ensures (c.put_next_within-step.ensures.after_end told)

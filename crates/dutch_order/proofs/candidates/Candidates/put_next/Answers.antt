@@ -1,39 +1,12 @@
 use Rattle.std.proofs.Common.{sym}
 use Rattle.dutch_order.proofs.Skipping.{none-passed}
+use Rattle.dutch_order.proofs.Nexts.{step-each}
 use Rattle.dutch_order.proofs.candidates.Candidates.put_next.Goals as goal
 
-pub returns-in-Found : goal.returns-in-Found
-returns-in-Found g c = record {
-  answer = (none-passed _ _ c.in-Found.ensures.answer.0, c.in-Found.ensures.answer.1, c.in-Found.ensures.answer.2);
-  hopeless = c.in-Found.ensures.hopeless;
-  ended = c.in-Found.ensures.ended;
-  after_end = c.in-Found.ensures.after_end;
-  frame = c.in-Found.ensures.frame;
-  shape = c.in-Found.ensures.shape;
-  rule = c.in-Found.ensures.rule;
-  spends = c.in-Found.ensures.spends;
-}
-
-pub returns-in-End : goal.returns-in-End
-returns-in-End g c = record {
-  answer = (none-passed _ _ c.in-End.ensures.answer.0, c.in-End.ensures.answer.1, c.in-End.ensures.answer.2);
-  hopeless = c.in-End.ensures.hopeless;
-  ended = c.in-End.ensures.ended;
-  after_end = c.in-End.ensures.after_end;
-  frame = c.in-End.ensures.frame;
-  shape = c.in-End.ensures.shape;
-  rule = c.in-End.ensures.rule;
-  spends = c.in-End.ensures.spends;
-}
-
-pub returns-in-Undecided : goal.returns-in-Undecided
-returns-in-Undecided g c = record {
-  answer = (sym (none-passed _ _ c.in-Undecided.ensures.answer.0), c.in-Undecided.ensures.answer.1, c.in-Undecided.ensures.answer.2);
-  hopeless = c.in-Undecided.ensures.hopeless;
-  ended = c.in-Undecided.ensures.ended;
-  after_end = c.in-Undecided.ensures.after_end;
-  frame = c.in-Undecided.ensures.frame;
-  shape = c.in-Undecided.ensures.shape;
-  rule = c.in-Undecided.ensures.rule;
-  spends = c.in-Undecided.ensures.spends;
-}
+pub returns-clause-answer : goal.returns-clause-answer
+returns-clause-answer g c =
+    step-each _ _ _ _ _ _
+    (λ _ given. (none-passed _ _ given.0, given.1, given.2))
+    (λ given. (none-passed _ _ given.0, given.1, given.2))
+    (λ given. (sym (none-passed _ _ given.0), given.1, given.2))
+    c.go_on.result c.go_on.ensures.answer

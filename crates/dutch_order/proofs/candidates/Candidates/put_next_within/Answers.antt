@@ -6,6 +6,7 @@ use Rattle.dutch_order.specs.Listings.{AreCandidates}
 use Rattle.dutch_order.specs.Steps.{Passes}
 use Rattle.dutch_order.specs.declared.bracket.Shape.{Shape}
 use Rattle.dutch_order.proofs.Skipping.{passes-weaker}
+use Rattle.dutch_order.proofs.Nexts.{step-each}
 use Rattle.dutch_order.proofs.candidates.Candidates.put_next_within.Goals as goal
 
 -- of the candidates of a listing, which are those that a bound knows, those that are idle are without interest
@@ -19,50 +20,11 @@ dull-passed meets own_meets may_be_left own_left frame own_frame shape own_shape
     passes-weaker (λ a. IsIn a all → IsDull a) IsDull (λ a. IsIn a all) before after (λ a m idle. idle m)
     (subst (λ own. AllByRecursion (λ a. IsIn a own) before) (sym same) known) passed
 
-pub returns-in-Found : goal.returns-in-Found
-returns-in-Found g c = record {
-  answer = (
-    dull-passed _ _ _ _ _ _ _ _ c.requires.meets c.requires.may_be_left c.requires.frame c.requires.shape (λ a. g.B.Bound.is_dull c.args.bound.now a ≡ true) _ _ c.go_on.ensures.candidates c.in-Found.ensures.answer.0,
-    c.in-Found.ensures.answer.1,
-    c.in-Found.ensures.answer.2,
-  );
-  hopeless = c.in-Found.ensures.hopeless;
-  ended = c.in-Found.ensures.ended;
-  after_end = c.in-Found.ensures.after_end;
-  frame = c.in-Found.ensures.frame;
-  shape = c.in-Found.ensures.shape;
-  rule = c.in-Found.ensures.rule;
-  spends = c.in-Found.ensures.spends;
-}
-
-pub returns-in-End : goal.returns-in-End
-returns-in-End g c = record {
-  answer = (
-    dull-passed _ _ _ _ _ _ _ _ c.requires.meets c.requires.may_be_left c.requires.frame c.requires.shape (λ a. g.B.Bound.is_dull c.args.bound.now a ≡ true) _ _ c.go_on.ensures.candidates c.in-End.ensures.answer.0,
-    c.in-End.ensures.answer.1,
-    c.in-End.ensures.answer.2,
-  );
-  hopeless = c.in-End.ensures.hopeless;
-  ended = c.in-End.ensures.ended;
-  after_end = c.in-End.ensures.after_end;
-  frame = c.in-End.ensures.frame;
-  shape = c.in-End.ensures.shape;
-  rule = c.in-End.ensures.rule;
-  spends = c.in-End.ensures.spends;
-}
-
-pub returns-in-Undecided : goal.returns-in-Undecided
-returns-in-Undecided g c = record {
-  answer = (
-    dull-passed _ _ _ _ _ _ _ _ c.requires.meets c.requires.may_be_left c.requires.frame c.requires.shape (λ a. g.B.Bound.is_dull c.args.bound.now a ≡ true) _ _ c.go_on.ensures.candidates c.in-Undecided.ensures.answer.0,
-    c.in-Undecided.ensures.answer.1,
-    c.in-Undecided.ensures.answer.2,
-  );
-  hopeless = c.in-Undecided.ensures.hopeless;
-  ended = c.in-Undecided.ensures.ended;
-  after_end = c.in-Undecided.ensures.after_end;
-  frame = c.in-Undecided.ensures.frame;
-  shape = c.in-Undecided.ensures.shape;
-  rule = c.in-Undecided.ensures.rule;
-  spends = c.in-Undecided.ensures.spends;
-}
+pub returns-clause-answer : goal.returns-clause-answer
+returns-clause-answer g c =
+    let dull = dull-passed _ _ _ _ _ _ _ _ c.requires.meets c.requires.may_be_left c.requires.frame c.requires.shape (λ a. g.B.Bound.is_dull c.args.bound.now a ≡ true) in
+    step-each _ _ _ _ _ _
+    (λ _ given. (dull _ _ c.go_on.ensures.candidates given.0, given.1, given.2))
+    (λ given. (dull _ _ c.go_on.ensures.candidates given.0, given.1, given.2))
+    (λ given. (dull _ _ c.go_on.ensures.candidates given.0, given.1, given.2))
+    c.go_on.result c.go_on.ensures.answer

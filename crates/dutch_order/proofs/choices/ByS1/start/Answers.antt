@@ -13,8 +13,8 @@ use Rattle.dutch_order.proofs.choices.ByS1.start.Goals as goal
 
 pub start_from-requires-clause-given : goal.start_from-requires-clause-given
 start_from-requires-clause-given g c =
-    let frame = c.args.bracket.now in
-    let shape = c.args.shape in
+    let frame = c.args.from.now.bracket.now in
+    let shape = c.args.from.now.shape in
     let given = subst (λ own. Of (λ cursor. IsIn cursor (arrangements frame shape)) (option_copied own)) c.in-Some.is c.requires.given in
     let scores : take frame.mdps frame.scores ≡ take c.mdps.result c.scores.result.now =
     ap (λ n. take n frame.scores) (sym c.mdps.ensures) ∙ ap (take c.mdps.result) (sym c.scores.ensures.scores) in
@@ -25,8 +25,8 @@ start_from-requires-clause-given g c =
 
 pub invariant_of-self : goal.invariant_of-self
 invariant_of-self g c =
-    let frame = c.args.bracket.now in
-    let shape = c.args.shape in
+    let frame = c.args.from.now.bracket.now in
+    let shape = c.args.from.now.shape in
     let k = shape.pairs - shape.mdps in
     let room = length c.put_residents.new.residents.items in
     let sets = limbo_exchanges (take c.mdps.result c.scores.result.now) shape.mdps in
@@ -41,8 +41,8 @@ invariant_of-self g c =
 
 pub invariant_of-self-in-None : goal.invariant_of-self-in-None
 invariant_of-self-in-None g c =
-    let frame = c.args.bracket.now in
-    let shape = c.args.shape in
+    let frame = c.args.from.now.bracket.now in
+    let shape = c.args.from.now.shape in
     let k = shape.pairs - shape.mdps in
     let room = length c.put_residents.new.residents.items in
     let enough : shape.mdps + k ≤ room =
@@ -57,8 +57,8 @@ invariant_of-self-in-None g c =
 pub returns-in-Some : goal.returns-in-Some
 unfolding in_bracket
 returns-in-Some g c =
-    let frame = c.args.bracket.now in
-    let shape = c.args.shape in
+    let frame = c.args.from.now.bracket.now in
+    let shape = c.args.from.now.shape in
     let k = shape.pairs - shape.mdps in
     let meets = g.R.Rule.meets c.args.rule.now in
     let at = option_copied c.args.own in
@@ -77,8 +77,8 @@ returns-in-Some g c =
 pub returns-in-None : goal.returns-in-None
 unfolding in_bracket
 returns-in-None g c =
-    let frame = c.args.bracket.now in
-    let shape = c.args.shape in
+    let frame = c.args.from.now.bracket.now in
+    let shape = c.args.from.now.shape in
     let k = shape.pairs - shape.mdps in
     let meets = g.R.Rule.meets c.args.rule.now in
     let at = option_copied c.args.own in

@@ -9,10 +9,10 @@ use Rattle.dutch_order.proofs.choices.ByS1r.start.Goals as goal
 pub returns-in-Some : goal.returns-in-Some
 unfolding in_s2
 returns-in-Some g c =
-    let k = c.args.k in
-    let s1 = c.args.s1.now in
-    let s2 = c.args.s2.now in
-    let remainder = left_of c.args.residents.now s2 in
+    let k = c.args.from.now.k in
+    let s1 = c.args.from.now.s1.now in
+    let s2 = c.args.from.now.s2.now in
+    let remainder = left_of c.args.from.now.residents.now s2 in
     let meets = g.R.Rule.meets c.args.rule.now in
     let at = option_copied c.args.own in
     let own = c.in-Some.cursor.now in
@@ -30,10 +30,10 @@ returns-in-Some g c =
 pub returns-in-None : goal.returns-in-None
 unfolding in_s2
 returns-in-None g c =
-    let k = c.args.k in
-    let s1 = c.args.s1.now in
-    let s2 = c.args.s2.now in
-    let remainder = left_of c.args.residents.now s2 in
+    let k = c.args.from.now.k in
+    let s1 = c.args.from.now.s1.now in
+    let s2 = c.args.from.now.s2.now in
+    let remainder = left_of c.args.from.now.residents.now s2 in
     let meets = g.R.Rule.meets c.args.rule.now in
     let at = option_copied c.args.own in
     let all = exchanges remainder k in

@@ -1,7 +1,7 @@
 use Rattle.std.proofs.Common.{◌≡◌, ◌∷◌, None, sym, ap, subst, refl, ◌∙◌, option_copied}
 use Rattle.std.specs.List.{AllByRecursion}
 use Rattle.dutch_order.specs.Levels.{HasS2r, if_own, in_s1r, s1r_blocks}
-use Rattle.dutch_order.proofs.Blocks.{comes-s1r, ends-s1r, goes-whole, idle-s1r-blocks, some-lent, stops-s1r, taken}
+use Rattle.dutch_order.proofs.Blocks.{IdleS1r, comes, ends, goes-whole, idle-in-s1r, idle-s1r-blocks, some-lent, stops, taken}
 use Rattle.dutch_order.proofs.LeftOut.{passes-same}
 use Rattle.dutch_order.proofs.Skipping.{passes-all, drawn, drawn-stopped}
 use Rattle.dutch_order.proofs.choices.ByS1rBlocks.next_block.Goals as goal
@@ -19,15 +19,15 @@ returns-then-cuts-clause-answer g c =
 pub start-requires-clause-same : goal.start-requires-clause-same
 start-requires-clause-same g c =
     let own = c.self.inside in
-    taken (λ a. a.s1r) (HasS2r own.remainder.items) (λ a. a.s1r ≡ c.deref-5.result.now) (option_copied own.resume) _ c.put_next_set.new.numbers.items
+    taken (λ a. a.s1r) (HasS2r own.remainder.items) (λ a. a.s1r ≡ c.deref-5.result.now) (option_copied own.resume) _ c.put_next_past.new.numbers.items
     c.take_by_s1r-own.ensures.own c.self.invariant.1 (λ a has same. same ∙ sym c.deref-5.ensures.0)
 
 pub returns-clause-answer : goal.returns-clause-answer
 returns-clause-answer g c =
     let own = c.self.inside in
     let at = option_copied own.resume in
-    let s1r = c.put_next_set.new.numbers.items in
-    let later = c.put_next_set.new.sets.coming in
+    let s1r = c.put_next_past.new.numbers.items in
+    let later = c.put_next_past.new.self.coming in
     let meets = g.R.Rule.meets own.rule.now in
     let made : c.start.new.self ≡ in_s1r meets own.s1.items own.s2.items own.remainder.items (if_own (λ a. a.s1r) at s1r) s1r =
     c.start.ensures
@@ -36,23 +36,25 @@ returns-clause-answer g c =
     ∙ ap (λ remainder. in_s1r meets own.s1.items own.s2.items remainder (option_copied c.take_by_s1r-own.result) c.deref-5.result.now) c.deref-4.ensures.0
     ∙ ap (in_s1r meets own.s1.items own.s2.items own.remainder.items (option_copied c.take_by_s1r-own.result)) c.deref-5.ensures.0
     ∙ ap (λ taken. in_s1r meets own.s1.items own.s2.items own.remainder.items taken s1r) c.take_by_s1r-own.ensures.own in
-    let idle = g.C.Cuts.Idle c.args.cuts.now in
-    let found = drawn _ _ _ c.if-not-branch.false c.in_ok-put_next_set.ensures.answer in
-    rw (← c.self.view_is) (passes-same (AllByRecursion idle) _ _ _
-    (comes-s1r idle meets own.s1.items own.s2.items own.remainder.items at own.sets.coming later s1r found (λ some. drawn _ _ _ c.if-not-branch.false (c.in_ok-put_next_set.ensures.very (c.is_some.ensures ∙ sym (some-lent own.resume) ∙ some))))
+    let Idle = g.C.Cuts.Idle c.args.cuts.now in
+    rw (← c.self.view_is) (passes-same (AllByRecursion Idle) _ _ _
+    (comes Idle (λ a. a.s1r) (in_s1r meets own.s1.items own.s2.items own.remainder.items) (IdleS1r Idle own.s1.items own.s2.items) (idle-in-s1r Idle meets own.s1.items own.s2.items own.remainder.items) c.is_some.result at (c.is_some.ensures ∙ sym (some-lent own.resume)) own.sets.coming later s1r (drawn _ _ _ c.if-not-branch.false c.in_ok-put_next_past.ensures.answer))
     (ap (λ block. block ∷ s1r_blocks meets own.s1.items own.s2.items own.remainder.items None later) (sym made)
     ∙ ap (λ resume. c.start.new.self ∷ s1r_blocks meets own.s1.items own.s2.items own.remainder.items (option_copied resume) later) (sym c.take_by_s1r-own.ensures.taken)))
 
-pub returns-in_err-put_next_set-clause-answer : goal.returns-in_err-put_next_set-clause-answer
-returns-in_err-put_next_set-clause-answer g c =
+pub returns-in_err-put_next_past-clause-answer : goal.returns-in_err-put_next_past-clause-answer
+returns-in_err-put_next_past-clause-answer g c =
     let own = c.self.inside in
+    let Idle = g.C.Cuts.Idle c.args.cuts.now in
+    let meets = g.R.Rule.meets own.rule.now in
     rw (← c.self.view_is) (drawn-stopped _ _ _ _ c.from_residual.ensures.0 (
-      stops-s1r (g.C.Cuts.Idle c.args.cuts.now) (g.R.Rule.meets own.rule.now) own.s1.items own.s2.items own.remainder.items (option_copied own.resume) _ _ c.in_err-put_next_set.ensures.answer.0 (λ some. c.in_err-put_next_set.ensures.very (c.is_some.ensures ∙ sym (some-lent own.resume) ∙ some)),
-      c.in_err-put_next_set.ensures.answer.1,
+      stops Idle (λ a. a.s1r) (in_s1r meets own.s1.items own.s2.items own.remainder.items) (IdleS1r Idle own.s1.items own.s2.items) (idle-in-s1r Idle meets own.s1.items own.s2.items own.remainder.items) c.is_some.result (option_copied own.resume) (c.is_some.ensures ∙ sym (some-lent own.resume)) _ _ c.in_err-put_next_past.ensures.answer.0,
+      c.in_err-put_next_past.ensures.answer.1,
     ))
 
 pub returns-then-not-branch-clause-answer : goal.returns-then-not-branch-clause-answer
 returns-then-not-branch-clause-answer g c =
     let own = c.self.inside in
-    let ended = drawn _ _ _ c.if-not-branch.true c.in_ok-put_next_set.ensures.answer in
-    rw (← c.self.view_is) (ends-s1r (g.C.Cuts.Idle c.args.cuts.now) (g.R.Rule.meets own.rule.now) own.s1.items own.s2.items own.remainder.items (option_copied own.resume) _ ended.0 (λ some. drawn _ _ _ c.if-not-branch.true (c.in_ok-put_next_set.ensures.very (c.is_some.ensures ∙ sym (some-lent own.resume) ∙ some))))
+    let Idle = g.C.Cuts.Idle c.args.cuts.now in
+    let meets = g.R.Rule.meets own.rule.now in
+    rw (← c.self.view_is) (ends Idle (λ a. a.s1r) (in_s1r meets own.s1.items own.s2.items own.remainder.items) (IdleS1r Idle own.s1.items own.s2.items) (idle-in-s1r Idle meets own.s1.items own.s2.items own.remainder.items) c.is_some.result (option_copied own.resume) (c.is_some.ensures ∙ sym (some-lent own.resume)) _ (drawn _ _ _ c.if-not-branch.true c.in_ok-put_next_past.ensures.answer).0)

@@ -13,33 +13,33 @@ use Rattle.dutch_order.proofs.choices.ByS2.start.Goals as goal
 pub invariant_of-self : goal.invariant_of-self
 invariant_of-self g c =
     let meets = g.R.Rule.meets c.args.rule.now in
-    let residents = c.args.residents.now in (
+    let residents = c.args.from.now.residents.now in (
       subst IsStrictlyIncreasing (sym c.fill-2.ensures) c.requires.ascends,
-      subst (λ numbers. AllByRecursion (λ s2. c.args.k ≤ length (left_of numbers s2)) c.start_from.new.self.coming) (sym c.fill-2.ensures)
-          (subst (AllByRecursion (λ s2. c.args.k ≤ length (left_of residents s2))) (sym c.start_from.ensures.coming)
-          (opponents-leave-from meets c.args.s1.now residents c.deref.result.now c.args.k c.requires.ascends c.requires.enough)),
-      subst (λ numbers. Of (λ own. HasS1r c.args.k (left_of numbers own.s2) own) (option_copied c.args.own)) (sym c.fill-2.ensures)
-          (of-both (HasS2 c.args.k residents) (λ own. HasS1r c.args.k (left_of residents own.s2) own) (option_copied c.args.own) (λ own has. has.1) c.requires.given),
+      subst (λ numbers. AllByRecursion (λ s2. c.args.from.now.k ≤ length (left_of numbers s2)) c.start_from.new.self.coming) (sym c.fill-2.ensures)
+          (subst (AllByRecursion (λ s2. c.args.from.now.k ≤ length (left_of residents s2))) (sym c.start_from.ensures.coming)
+          (opponents-leave-from meets c.args.from.now.s1.now residents c.deref.result.now c.args.from.now.k c.requires.ascends c.requires.enough)),
+      subst (λ numbers. Of (λ own. HasS1r c.args.from.now.k (left_of numbers own.s2) own) (option_copied c.args.own)) (sym c.fill-2.ensures)
+          (of-both (HasS2 c.args.from.now.k residents) (λ own. HasS1r c.args.from.now.k (left_of residents own.s2) own) (option_copied c.args.own) (λ own has. has.1) c.requires.given),
     )
 
 pub invariant_of-self-in-None : goal.invariant_of-self-in-None
 invariant_of-self-in-None g c =
     let meets = g.R.Rule.meets c.args.rule.now in
-    let residents = c.args.residents.now in (
+    let residents = c.args.from.now.residents.now in (
       subst IsStrictlyIncreasing (sym c.fill-2.ensures) c.requires.ascends,
-      subst (λ numbers. AllByRecursion (λ s2. c.args.k ≤ length (left_of numbers s2)) c.start.new.self.coming) (sym c.fill-2.ensures)
-          (subst (AllByRecursion (λ s2. c.args.k ≤ length (left_of residents s2))) (sym c.start.ensures.coming)
-          (opponents-leave meets c.args.s1.now residents c.args.k c.requires.ascends c.requires.enough)),
-      subst (λ numbers. Of (λ own. HasS1r c.args.k (left_of numbers own.s2) own) (option_copied c.args.own)) (sym c.fill-2.ensures)
-          (of-both (HasS2 c.args.k residents) (λ own. HasS1r c.args.k (left_of residents own.s2) own) (option_copied c.args.own) (λ own has. has.1) c.requires.given),
+      subst (λ numbers. AllByRecursion (λ s2. c.args.from.now.k ≤ length (left_of numbers s2)) c.start.new.self.coming) (sym c.fill-2.ensures)
+          (subst (AllByRecursion (λ s2. c.args.from.now.k ≤ length (left_of residents s2))) (sym c.start.ensures.coming)
+          (opponents-leave meets c.args.from.now.s1.now residents c.args.from.now.k c.requires.ascends c.requires.enough)),
+      subst (λ numbers. Of (λ own. HasS1r c.args.from.now.k (left_of numbers own.s2) own) (option_copied c.args.own)) (sym c.fill-2.ensures)
+          (of-both (HasS2 c.args.from.now.k residents) (λ own. HasS1r c.args.from.now.k (left_of residents own.s2) own) (option_copied c.args.own) (λ own has. has.1) c.requires.given),
     )
 
 pub returns-in-Some : goal.returns-in-Some
 unfolding in_s1
 returns-in-Some g c =
-    let k = c.args.k in
-    let s1 = c.args.s1.now in
-    let residents = c.args.residents.now in
+    let k = c.args.from.now.k in
+    let s1 = c.args.from.now.s1.now in
+    let residents = c.args.from.now.residents.now in
     let meets = g.R.Rule.meets c.args.rule.now in
     let at = option_copied c.args.own in
     let own = c.in-Some.cursor.now in
@@ -55,9 +55,9 @@ returns-in-Some g c =
 pub returns-in-None : goal.returns-in-None
 unfolding in_s1
 returns-in-None g c =
-    let k = c.args.k in
-    let s1 = c.args.s1.now in
-    let residents = c.args.residents.now in
+    let k = c.args.from.now.k in
+    let s1 = c.args.from.now.s1.now in
+    let residents = c.args.from.now.residents.now in
     let meets = g.R.Rule.meets c.args.rule.now in
     let at = option_copied c.args.own in
     let all = all_tuples residents (length s1) in

@@ -24,4 +24,4 @@ returns-clause-answer g c =
     (sym c.refill.ensures) (sym c.refill-2.ensures) (sym c.refill-3.ensures) refl in
     rw (← c.self.view_is) (passes-more Idle _ _ _
     (passes-arranged Idle own.s1.items own.s2.items own.s1r.items _ _ _ refl refl refl _ _ (drawn _ _ _ c.if-not-branch.false c.in_ok-put_next_other.ensures.answer))
-    (passes-none Idle _ _ (ap (λ a. a ∷ map (arranged own.s1.items own.s2.items own.s1r.items) (without_own (option_copied c.put_next_other.new.resume) c.put_next_other.new.lists.coming)) made)))
+    (passes-none Idle _ _ (ap (λ a. a ∷ map (arranged own.s1.items own.s2.items own.s1r.items) (without_own (option_copied c.put_next_other.new.others.resume) c.put_next_other.new.others.lists.coming)) made)))

@@ -16,8 +16,8 @@ loop-self-preserved g c =
     let Idle = g.C.Cuts.Idle c.args.cuts.now in
     record {
       passes = passes-more Idle _ _ _ c.loop-self.invariant.passes
-          (passes-between Idle _ _ _ (drawn _ _ _ c.if-branch.false c.in_ok-draw.ensures.answer) (drawn _ _ _ c.if-not-branch.false c.in_ok-next_block.ensures.answer));
-      spends = spends-more (spends-more c.loop-self.invariant.spends c.draw.ensures.spends) c.next_block.ensures.spends;
+          (passes-between Idle _ _ _ (drawn _ _ _ c.if-branch.false c.in_ok-next.ensures.answer) (drawn _ _ _ c.if-not-branch.false c.in_ok-next_block.ensures.answer));
+      spends = spends-more (spends-more c.loop-self.invariant.spends c.next.ensures.spends) c.next_block.ensures.spends;
     }
 
 pub loop-self-smaller : goal.loop-self-smaller
@@ -27,23 +27,23 @@ loop-self-smaller g c =
 pub returns-then-branch-clause-answer : goal.returns-then-branch-clause-answer
 returns-then-branch-clause-answer g c =
     let Idle = g.C.Cuts.Idle c.args.cuts.now in
-    let passed = passes-before Idle _ _ (joined (g.B.Blocks.blocks c.loop-self.self-inside.blocks)) (drawn _ _ _ c.if-branch.true c.in_ok-draw.ensures.answer) in
+    let passed = passes-before Idle _ _ (joined (g.B.Blocks.blocks c.loop-self.self-inside.blocks)) (drawn _ _ _ c.if-branch.true c.in_ok-next.ensures.answer) in
     rw (← c.self.view_is) (passes-more Idle _ _ _ c.loop-self.invariant.passes passed)
 
-pub returns-in_err-draw-clause-answer : goal.returns-in_err-draw-clause-answer
-returns-in_err-draw-clause-answer g c =
+pub returns-in_err-next-clause-answer : goal.returns-in_err-next-clause-answer
+returns-in_err-next-clause-answer g c =
     let Idle = g.C.Cuts.Idle c.args.cuts.now in
-    let passed = passes-before Idle _ _ (joined (g.B.Blocks.blocks c.loop-self.self-inside.blocks)) c.in_err-draw.ensures.answer.0 in
-    rw (← c.self.view_is) (drawn-stopped _ _ _ _ c.from_residual.ensures.0 (passes-more Idle _ _ _ c.loop-self.invariant.passes passed, c.in_err-draw.ensures.answer.1))
+    let passed = passes-before Idle _ _ (joined (g.B.Blocks.blocks c.loop-self.self-inside.blocks)) c.in_err-next.ensures.answer.0 in
+    rw (← c.self.view_is) (drawn-stopped _ _ _ _ c.from_residual.ensures.0 (passes-more Idle _ _ _ c.loop-self.invariant.passes passed, c.in_err-next.ensures.answer.1))
 
 pub returns-in_err-next_block-clause-answer : goal.returns-in_err-next_block-clause-answer
 returns-in_err-next_block-clause-answer g c =
     let Idle = g.C.Cuts.Idle c.args.cuts.now in
-    let passed = passes-between Idle _ _ _ (drawn _ _ _ c.if-branch.false c.in_ok-draw.ensures.answer) c.in_err-next_block.ensures.answer.0 in
+    let passed = passes-between Idle _ _ _ (drawn _ _ _ c.if-branch.false c.in_ok-next.ensures.answer) c.in_err-next_block.ensures.answer.0 in
     rw (← c.self.view_is) (drawn-stopped _ _ _ _ c.from_residual-in_err-next_block.ensures.0 (passes-more Idle _ _ _ c.loop-self.invariant.passes passed, c.in_err-next_block.ensures.answer.1))
 
 pub returns-then-not-branch-clause-answer : goal.returns-then-not-branch-clause-answer
 returns-then-not-branch-clause-answer g c =
     let Idle = g.C.Cuts.Idle c.args.cuts.now in
-    let passed = passes-between Idle _ _ _ (drawn _ _ _ c.if-branch.false c.in_ok-draw.ensures.answer) (drawn _ _ _ c.if-not-branch.true c.in_ok-next_block.ensures.answer) in
+    let passed = passes-between Idle _ _ _ (drawn _ _ _ c.if-branch.false c.in_ok-next.ensures.answer) (drawn _ _ _ c.if-not-branch.true c.in_ok-next_block.ensures.answer) in
     rw (← c.self.view_is) (passes-more Idle _ _ _ c.loop-self.invariant.passes passed)
