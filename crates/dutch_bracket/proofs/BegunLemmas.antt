@@ -1,8 +1,9 @@
 -- The lists of a beginning: the fronts of S1 and of S1R that have opponents.
-use Rattle.std.proofs.Common.{◌≡◌, ℕ, zero, suc, List, [], ◌∷◌, length, take, refl, ap, sym, subst, inl, inr}
+use Rattle.std.proofs.Common.{◌≡◌, ◌<◌, ◌≤◌, ℕ, List, [], ◌∷◌, length, take, refl, ap, sym, subst, inl, inr}
 use Rattle.dutch_order.specs.Arrangements.{Arrangement}
 use Rattle.dutch_order.specs.declared.prefix.Filling.{Filling}
 use Rattle.dutch_order.specs.declared.prefix.Filling.TheVariants.{S1, S2, S2r}
+use Rattle.dutch_order.proofs.Moves.{AllByRecursion-take}
 use Rattle.dutch_order.specs.Prefixes.{BeginsAt, GoesOn}
 use Rattle.dutch_player.specs.Facts.{Facts}
 use Rattle.dutch_bracket.specs.Seated.{IsPair}
@@ -20,9 +21,7 @@ front_pairs seats (a ∷ firsts) [] = refl
 front_pairs seats (a ∷ firsts) (b ∷ seconds) = ap (λ pairs. (seat_of seats a, seat_of seats b) ∷ pairs) (front_pairs seats firsts seconds)
 
 pub front_numbers : (seats numbers : List ℕ) (count : ℕ) → AllNumbers seats numbers → AllNumbers seats (take count numbers)
-front_numbers seats numbers zero h = tt
-front_numbers seats [] (suc count) h = tt
-front_numbers seats (x ∷ numbers) (suc count) h = (h.0, front_numbers seats numbers count h.1)
+front_numbers seats numbers count h = AllByRecursion-take (λ i. (0 < i) × (i ≤ length seats)) count numbers h
 
 pub fixed_within : (facts : Facts) (reached : Reached) (lists : Arrangement) (pairs : List (ℕ × ℕ)) → AreSeats facts reached.seats
     → AllNumbers reached.seats lists.s1 → AllNumbers reached.seats lists.s2 → AllNumbers reached.seats lists.s1r → AllNumbers reached.seats lists.s2r

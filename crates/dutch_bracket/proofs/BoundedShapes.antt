@@ -1,15 +1,16 @@
 -- A shape with more pairs, or more moved-down players in pairs, than any candidate has counts no candidate (C.04.3 C.5, B.1).
-use Rattle.std.proofs.Common.{◌≡◌, ℕ, zero, suc, ◌<◌, Bool, false, List, [], map, None, ◌⊎◌, inl, inr, ◌∙◌, arith}
+use Rattle.std.proofs.Common.{◌≡◌, ℕ, ◌<◌, Bool, false, List, None, ◌⊎◌, inl, inr, ap, ◌∙◌, arith}
 use Rattle.std.proofs.lemmas.Bool.{false_from_ne_true, and_parts}
 use Rattle.dutch_order.specs.declared.bracket.Shape.{Shape}
 use Rattle.dutch_order.specs.Arrangements.{Fits}
+use Rattle.dutch_order.proofs.Orders.{IsIn-map}
 use Rattle.dutch_player.specs.Facts.{Facts}
 use Rattle.dutch_bracket.specs.Joins.{IsMost}
 use Rattle.dutch_bracket.specs.Reached.{Reached, frame_of}
 use Rattle.dutch_bracket.specs.Brackets.{eligible}
 use Rattle.dutch_bracket.specs.Shapes.{down_from, fits, has_member, shapes_with}
 use Rattle.dutch_bracket.proofs.JoinedPairs.{eligible_candidate}
-use Rattle.dutch_bracket.proofs.ShapeSearch.{fits_by_test, found_in, has, passed, shape_with}
+use Rattle.dutch_bracket.proofs.ShapeSearch.{fits_by_test, found_in, has, none_in, shape_with}
 
 module _ (facts : Facts) (reached : Reached) (lower : List ℕ) (most : Shape) (bound : IsMost facts reached most) where
   -- such a shape has no candidate that can be chosen
@@ -30,12 +31,8 @@ module _ (facts : Facts) (reached : Reached) (lower : List ℕ) (most : Shape) (
       let none = has_none_beyond (shape_with pairs mdps) (fits_by_test (frame_of facts reached) (shape_with pairs mdps) parts.0) (inl more) in
       let some = parts.1 in cc)
 
-  none_upto : (pairs n : ℕ) → most.pairs < pairs → found_in (eligible facts reached lower) (fits (frame_of facts reached)) (map (shape_with pairs) (down_from n)) ≡ None
-  none_upto pairs zero more = passed (eligible facts reached lower) (fits (frame_of facts reached)) (shape_with pairs zero) [] (none_there pairs zero more)
-  none_upto pairs (suc n) more =
-      passed (eligible facts reached lower) (fits (frame_of facts reached)) (shape_with pairs (suc n)) (map (shape_with pairs) (down_from n)) (none_there pairs (suc n) more)
-      ∙ none_upto pairs n more
-
   -- so no shape with so many pairs is found
   pub none_with_more : (pairs : ℕ) → most.pairs < pairs → found_in (eligible facts reached lower) (fits (frame_of facts reached)) (shapes_with pairs) ≡ None
-  none_with_more pairs more = none_upto pairs pairs more
+  none_with_more pairs more =
+      none_in (eligible facts reached lower) (fits (frame_of facts reached)) (shapes_with pairs) (λ shape m.
+      let from = IsIn-map (shape_with pairs) shape (down_from pairs) m in ap counts from.1 ∙ none_there pairs from.0 more)

@@ -6,14 +6,14 @@ use Rattle.dutch_order.specs.Choices.{numbers_from}
 use Rattle.dutch_order.specs.Keys.{IsIn}
 use Rattle.dutch_order.specs.Arrangements.{Frame, Arrangement, down, left_of, residents_of, remainder_pairs, arrangements}
 use Rattle.dutch_order.proofs.Lists.{map-numbers_from}
-use Rattle.dutch_order.proofs.Members.{numbers-append}
+use Rattle.dutch_order.proofs.Members.{length-numbers, numbers-append}
 use Rattle.dutch_player.specs.Facts.{Facts}
 use Rattle.dutch_bracket.specs.Seated.{seat_of, score_at, pairs_of, all_pairs}
 use Rattle.dutch_bracket.specs.Reached.{Reached, frame_of}
 use Rattle.dutch_bracket.specs.Brackets.{downfloaters}
 use Rattle.dutch_bracket.proofs.ArrangementParts.{subset_whole, numbers_rise, lists_of, residents_whole, parts_of}
 use Rattle.dutch_bracket.proofs.PsdParts.{down_parts}
-use Rattle.dutch_bracket.proofs.Totals.{total, total_append, total_map}
+use Rattle.dutch_bracket.proofs.Totals.{total, total_append, total_length, total_map}
 
 module _ (w : ℕ → ℕ) where
   -- the four lists of an arrangement
@@ -36,6 +36,22 @@ module _ (w : ℕ → ℕ) where
       ap (numbers_from 1) (let e : n ≡ q + (n - q) = omega arith in e) ∙ numbers-append 1 q (n - q) ∙ ap (λ k. low ++ numbers_from k (n - q)) (let e : 1 + q ≡ q + 1 = omega arith in e) in
       let halves = ap (total w) whole ∙ total_append w low pool in
       omega (arith, moved_down, residents, left, both, halves)
+
+-- how many they are
+pub how_many : (frame : Frame) (shape : Shape) (a : Arrangement) → frame.mdps ≤ length frame.scores → IsIn a (arrangements frame shape)
+    → length (down frame a) + ((length a.s1 + length a.s2) + (length a.s1r + length a.s2r)) ≡ length frame.scores
+how_many frame shape a inside m =
+    omega (
+      arith,
+      arranged (λ x. 1) frame shape a inside m,
+      total_length (down frame a),
+      total_length a.s1,
+      total_length a.s2,
+      total_length a.s1r,
+      total_length a.s2r,
+      total_length (numbers_from 1 (length frame.scores)),
+      length-numbers 1 (length frame.scores),
+    )
 
 -- the seats of some pairs
 abbrev pub pairs_total : (ℕ → ℕ) → List (ℕ × ℕ) → ℕ

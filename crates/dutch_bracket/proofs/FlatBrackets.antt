@@ -1,37 +1,29 @@
 -- Brackets whose residents have one score, and the candidates of a bracket.
-use Rattle.std.proofs.Common.{◌≡◌, ℕ, zero, suc, ◌+◌, ◌-◌, ◌<◌, ◌≤◌, min, List, [], ◌∷◌, length, get_or, ◌⊎◌, inl, inr, refl, sym, ap, ◌∙◌, subst, arith, length-append}
-use Rattle.std.specs.Prelude.{filter, slice_index, Some}
+use Rattle.std.proofs.Common.{◌≡◌, ℕ, zero, suc, ◌+◌, ◌-◌, ◌<◌, ◌≤◌, List, [], ◌∷◌, length, get_or, inl, inr, refl, sym, ap, ◌∙◌, subst, arith}
+use Rattle.std.specs.Prelude.{slice_index, Some}
 use Rattle.std.proofs.lemmas.List.{get_or-map}
 use Rattle.std.proofs.lemmas.Bool.{cases_lt}
 use Rattle.dutch_order.specs.declared.bracket.Shape.{Shape}
-use Rattle.dutch_order.specs.Choices.{numbers_from, is_member}
 use Rattle.dutch_order.specs.Keys.{IsIn}
 use Rattle.dutch_order.specs.Limbo.{IsNonAscending}
 use Rattle.dutch_order.specs.Candidates.{Candidate}
-use Rattle.dutch_order.specs.Arrangements.{Frame, Arrangement, candidates, left_of, remainder_pairs, arrangements, is_legal, down}
-use Rattle.dutch_order.proofs.HalfWalks.{Climbs}
-use Rattle.dutch_order.proofs.Members.{climbs-filter, filter-length, length-numbers}
+use Rattle.dutch_order.specs.Arrangements.{Frame, Arrangement, candidates, arrangements, is_legal, down}
 use Rattle.dutch_player.specs.Facts.{Facts}
-use Rattle.dutch_bracket.specs.Seated.{seat_of, score_at, lowest, lowest_upto, by_seats, AllNumbers, IsCandidate}
+use Rattle.dutch_bracket.specs.Seated.{seat_of, score_at, lowest, by_seats, AllNumbers, IsCandidate}
 use Rattle.dutch_bracket.specs.Reached.{Reached, frame_of, numbers_meet, number_may_be_left, IsOf}
 use Rattle.dutch_bracket.specs.Quality.{NextValue, psd}
 use Rattle.dutch_bracket.specs.Shapes.{IsFirst, greatest_shape}
 use Rattle.dutch_bracket.specs.NextBracket.{legal_in, psd_in, value_of_shape, IsFlat}
 use Rattle.dutch_bracket.proofs.ArrangementParts.{parts_of, Residents}
-use Rattle.dutch_bracket.proofs.PsdParts.{OneScore, down_parts}
+use Rattle.dutch_bracket.proofs.Everybody.{how_many}
+use Rattle.dutch_bracket.proofs.PsdParts.{OneScore}
+use Rattle.dutch_bracket.proofs.Descents.{lowest_is_one, none_lower}
 use Rattle.dutch_bracket.proofs.DownLemmas.{players, down_numbers}
-use Rattle.dutch_bracket.proofs.LeastPsd.{Descends, first_is_least, in_filter}
+use Rattle.dutch_bracket.proofs.LeastPsd.{Descends, all_climb, first_is_least, in_filter}
 use Rattle.dutch_order.specs.declared.numbers.TheConstants.{LIMIT}
 
 seat_score : (facts : Facts) (reached : Reached) (i : ℕ) → i < length reached.seats → slice_index (frame_of facts reached).scores i ≡ score_at facts (get_or reached.seats i 0)
 seat_score facts reached i h = get_or-map (score_at facts) reached.seats i 0 0 h
-
-climbing_numbers : (seats : List ℕ) (q low : ℕ) (xs : List ℕ) → 0 < low → q ≤ length seats → Climbs low (1 + q) xs → AllNumbers seats xs
-climbing_numbers seats q low [] p h climbs = tt
-climbing_numbers seats q low (x ∷ xs) p h climbs =
-    let le : low ≤ x = climbs.0 in
-    let lt : x < 1 + q = climbs.1 in
-    ((omega arith, omega arith), climbing_numbers seats q (suc x) xs (omega arith) h climbs.2)
 
 resident_numbers : (seats : List ℕ) (q n : ℕ) (xs : List ℕ) → n ≤ length seats → Residents q n xs → AllNumbers seats xs
 resident_numbers seats q n [] h residents = tt
@@ -48,23 +40,16 @@ candidate_of facts reached shape candidate of' m e =
     let inside : q ≤ n = of'.sound.within in
     let parts = parts_of frame shape candidate.lists inside m in
     let a : Arrangement = candidate.lists in
-    let rest : List ℕ = left_of (left_of (left_of (numbers_from (q + 1) (n - q)) a.s2) a.s1r) a.s2r in
-    let low : List ℕ = left_of (numbers_from 1 q) a.s1 in
-    let found : length (filter (λ x. is_member x a.s1) (numbers_from 1 q)) ≡ length a.s1 = ap length (climbs-filter 1 q a.s1 parts.s1) in
-    let shared = filter-length (λ x. is_member x a.s1) (numbers_from 1 q) in
-    let counted : length (numbers_from 1 q) ≡ q = length-numbers 1 q in
-    let halves : length candidate.down ≡ length low + length rest = ap length (e ∙ down_parts frame shape.mdps (remainder_pairs shape) a inside parts) ∙ length-append low rest in
-    let left : length rest + (shape.mdps + (remainder_pairs shape + remainder_pairs shape)) ≡ n - q = parts.left in
     let few : n ≤ LIMIT = of'.sound.few in
     record {
       moved_down = parts.s1_count ∙ sym parts.s2_count;
       residents = parts.s1r_count ∙ sym parts.s2r_count;
-      s1 = climbing_numbers reached.seats q 1 a.s1 (omega arith) (omega arith) parts.s1;
+      s1 = all_climb (λ i. (0 < i) × (i ≤ length reached.seats)) q 1 a.s1 (omega arith) (λ i first last. (first, omega (arith, last, inside, same))) parts.s1;
       s2 = resident_numbers reached.seats q n a.s2 (omega arith) parts.s2;
       s1r = resident_numbers reached.seats q n a.s1r (omega arith) parts.s1r;
       s2r = resident_numbers reached.seats q n a.s2r (omega arith) parts.s2r;
       down = subst (AllNumbers reached.seats) (sym e) (down_numbers facts reached a);
-      few = omega (arith, found, shared, counted, halves, left, few, parts.s1_count, parts.s1r_count);
+      few = omega (arith, how_many frame shape a inside m, few, parts.s1_count, parts.s2_count, ap length e);
     }
 
 -- scores that do not ascend, far apart
@@ -102,25 +87,13 @@ descends_of facts reached of' small =
     }
 
 -- the lowest score is one that a seat has, and which none is below
-lowest_is : (facts : Facts) (s least : ℕ) (seats : List ℕ) → s ≤ least → ((i : ℕ) → i < length seats → s ≤ score_at facts (get_or seats i 0))
-    → (least ≡ s) ⊎ ((i : ℕ) × (i < length seats) × (score_at facts (get_or seats i 0) ≡ s)) → lowest_upto facts least seats ≡ s
-lowest_is facts s least [] h each (inl e) = e
-lowest_is facts s least [] h each (inr found) = absurd (let lt : found.0 < 0 = found.1 in omega arith)
-lowest_is facts s least (seat ∷ seats) h each (inl e) =
-    let first : s ≤ score_at facts seat = each 0 (omega arith) in
-    lowest_is facts s (min least (score_at facts seat)) seats (omega arith) (λ i lt. each (suc i) (omega arith)) (inl (omega arith))
-lowest_is facts s least (seat ∷ seats) h each (inr (zero, lt, e)) =
-    let first : s ≤ score_at facts seat = each 0 (omega arith) in
-    lowest_is facts s (min least (score_at facts seat)) seats (omega arith) (λ i lt. each (suc i) (omega arith)) (inl (omega (arith, e)))
-lowest_is facts s least (seat ∷ seats) h each (inr (suc i, lt, e)) =
-    let first : s ≤ score_at facts seat = each 0 (omega arith) in
-    lowest_is facts s (min least (score_at facts seat)) seats (omega arith) (λ i lt. each (suc i) (omega arith)) (inr (i, omega arith, e))
-
 lowest_of : (facts : Facts) (s : ℕ) (seats : List ℕ) (k : ℕ) → k < length seats → ((i : ℕ) → i < length seats → s ≤ score_at facts (get_or seats i 0))
     → score_at facts (get_or seats k 0) ≡ s → lowest facts seats ≡ s
-lowest_of facts s [] k h each e = absurd (omega arith)
-lowest_of facts s (seat ∷ seats) zero h each e = lowest_is facts s (score_at facts seat) seats (each 0 (omega arith)) (λ i lt. each (suc i) (omega arith)) (inl e)
-lowest_of facts s (seat ∷ seats) (suc k) h each e = lowest_is facts s (score_at facts seat) seats (each 0 (omega arith)) (λ i lt. each (suc i) (omega arith)) (inr (k, omega arith, e))
+lowest_of facts s seats k h each e =
+    let one = lowest_is_one facts seats (omega (arith, h)) in
+    let low : s ≤ score_at facts (slice_index seats one.0) = each one.0 one.1 in
+    let high : lowest facts seats ≤ score_at facts (get_or seats k 0) = none_lower facts seats k h in
+    omega (arith, low, high, one.2, e)
 
 pub one_score_of : (facts : Facts) (reached : Reached) → IsOf facts reached → IsFlat facts reached → OneScore facts reached (score_at facts (seat_of reached.seats (reached.mdps + 1)))
 one_score_of facts reached of' flat =

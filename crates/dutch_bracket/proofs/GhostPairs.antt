@@ -1,15 +1,13 @@
 -- Whoever meets a player of a bracket meets the ghost that stands for that player, and a ghost may have the bye if its player may
 -- (C.04.3 C.7).
-use Rattle.std.proofs.Common.{◌≡◌, ℕ, zero, suc, ◌+◌, ◌-◌, ◌*◌, ◌<◌, ◌≤◌, Bool, true, false, nat_le, cond, inl, inr, List, [], ◌∷◌, map, filter, length, get_or, refl, sym, ap, ◌∙◌, arith, length-append}
+use Rattle.std.proofs.Common.{◌≡◌, ℕ, zero, suc, ◌+◌, ◌-◌, ◌*◌, ◌<◌, ◌≤◌, Bool, true, false, nat_le, cond, inl, inr, List, [], ◌∷◌, map, length, get_or, refl, sym, ap, ◌∙◌, arith}
 use Rattle.std.specs.Prelude.{if◌then◌else◌}
 use Rattle.std.specs.List.{list_any}
 use Rattle.std.proofs.lemmas.List.Folds.{list_any_at}
 use Rattle.std.proofs.lemmas.Bool.Decides.{nat_tests}
 use Rattle.dutch_order.specs.declared.bracket.Shape.{Shape}
-use Rattle.dutch_order.specs.Choices.{numbers_from, is_member}
 use Rattle.dutch_order.specs.Keys.{IsIn}
-use Rattle.dutch_order.specs.Arrangements.{Frame, Arrangement, left_of, remainder_pairs, arrangements, down}
-use Rattle.dutch_order.proofs.Members.{climbs-filter, filter-length, length-numbers}
+use Rattle.dutch_order.specs.Arrangements.{Frame, Arrangement, arrangements, down}
 use Rattle.dutch_player.specs.Facts.{Facts}
 use Rattle.dutch_player.specs.Meetings.{may_meet}
 use Rattle.dutch_player.proofs.LawLemmas.{meeting_sym}
@@ -17,23 +15,14 @@ use Rattle.dutch_bracket.specs.Seated.{seat_of, AllNumbers}
 use Rattle.dutch_bracket.specs.GhostLaws.{two_sides, low_low, low_high, high_low, high_high}
 use Rattle.dutch_bracket.specs.Ghosts.{ghost_pair, may_bye}
 use Rattle.dutch_bracket.proofs.ArrangementParts.{parts_of}
-use Rattle.dutch_bracket.proofs.PsdParts.{down_parts}
+use Rattle.dutch_bracket.proofs.Everybody.{how_many}
 
 -- how many an arrangement leaves over
 pub down_count : (frame : Frame) (shape : Shape) (a : Arrangement) → frame.mdps ≤ length frame.scores → shape.mdps ≤ shape.pairs
     → IsIn a (arrangements frame shape) → length (down frame a) + 2 * shape.pairs ≡ length frame.scores
 down_count frame shape a inside within m =
-    let q = frame.mdps in
-    let n = length frame.scores in
     let parts = parts_of frame shape a inside m in
-    let rest : List ℕ = left_of (left_of (left_of (numbers_from (q + 1) (n - q)) a.s2) a.s1r) a.s2r in
-    let low : List ℕ = left_of (numbers_from 1 q) a.s1 in
-    let found : length (filter (λ x. is_member x a.s1) (numbers_from 1 q)) ≡ length a.s1 = ap length (climbs-filter 1 q a.s1 parts.s1) in
-    let shared = filter-length (λ x. is_member x a.s1) (numbers_from 1 q) in
-    let counted : length (numbers_from 1 q) ≡ q = length-numbers 1 q in
-    let halves : length (down frame a) ≡ length low + length rest = ap length (down_parts frame shape.mdps (remainder_pairs shape) a inside parts) ∙ length-append low rest in
-    let left : length rest + (shape.mdps + (remainder_pairs shape + remainder_pairs shape)) ≡ n - q = parts.left in
-    omega (arith, found, shared, counted, halves, left, parts.s1_count, inside, within)
+    omega (arith, how_many frame shape a inside m, parts.s1_count, parts.s2_count, parts.s1r_count, parts.s2r_count, within)
 
 -- a seat is that of some number of a list of seats
 pub record IsOneOf (seats : List ℕ) (a : ℕ) : Type 0 where

@@ -9,12 +9,11 @@ use Rattle.std.specs.Ordering.{is_lt, is_ne, ordering_then}
 use Rattle.std.proofs.lemmas.Cmp.{tied_itself}
 use Rattle.dutch_order.specs.Keys.{IsIn}
 use Rattle.dutch_bracket.specs.declared.item.Item.{Item}
-use Rattle.dutch_bracket.specs.declared.item.Item.TheVariants.{Psd, NextBracket, WideDifferences, ThirdColours, MissedPreferences, MissedStrong, DownAgain, UpAgain, DownAgainBefore, UpAgainBefore, DownAgainBy, UpAgainBy, DownAgainBeforeBy, UpAgainBeforeBy}
 use Rattle.dutch_bracket.specs.Items.{DifferFirstIn, IsInFrontIn, article}
 use Rattle.dutch_bracket.specs.Quality.{all_items, compared_in, differs, first_difference, first_that_differs}
 use Rattle.dutch_bracket.specs.Quality.{Quality, is_better}
 use Rattle.dutch_bracket.proofs.InTurn.{compared_in_turn, in_turn}
-use Rattle.dutch_bracket.proofs.QualityOrder.{both_tied, compared_total, irreflexive, less, same_items}
+use Rattle.dutch_bracket.proofs.QualityOrder.{both_tied, compared_total, irreflexive, less, listed, same_items}
 
 module _ (a b : Quality) where
   -- ---- the items before the first that differs
@@ -69,23 +68,6 @@ module _ (a b : Quality) where
   none_in_turn (x ∷ items) tied =
       let both = both_tied (compared_in x a b) (in_turn a b items) tied in
       ap (λ o. if is_ne o then Some x else first_that_differs items a b) both.0 ∙ none_in_turn items both.1
-
--- each item is one of all
-listed : (item : Item) → IsIn item all_items
-listed Psd = inl refl
-listed NextBracket = inr (inl refl)
-listed WideDifferences = inr (inr (inl refl))
-listed ThirdColours = inr (inr (inr (inl refl)))
-listed MissedPreferences = inr (inr (inr (inr (inl refl))))
-listed MissedStrong = inr (inr (inr (inr (inr (inl refl)))))
-listed DownAgain = inr (inr (inr (inr (inr (inr (inl refl))))))
-listed UpAgain = inr (inr (inr (inr (inr (inr (inr (inl refl)))))))
-listed DownAgainBefore = inr (inr (inr (inr (inr (inr (inr (inr (inl refl))))))))
-listed UpAgainBefore = inr (inr (inr (inr (inr (inr (inr (inr (inr (inl refl)))))))))
-listed DownAgainBy = inr (inr (inr (inr (inr (inr (inr (inr (inr (inr (inl refl))))))))))
-listed UpAgainBy = inr (inr (inr (inr (inr (inr (inr (inr (inr (inr (inr (inl refl)))))))))))
-listed DownAgainBeforeBy = inr (inr (inr (inr (inr (inr (inr (inr (inr (inr (inr (inr (inl refl))))))))))))
-listed UpAgainBeforeBy = inr (inr (inr (inr (inr (inr (inr (inr (inr (inr (inr (inr (inr (inl refl)))))))))))))
 
 all_count_up : (a b : Quality) → CountUp a b 6 all_items
 all_count_up a b = (refl, (refl, (refl, (refl, (refl, (refl, (refl, (refl, (refl, (refl, (refl, (refl, (refl, (refl, tt))))))))))))))

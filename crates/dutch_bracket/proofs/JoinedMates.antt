@@ -1,9 +1,9 @@
 -- A matching of a bracket's graph is the pairs of a candidate (C.04.3 B.2, C.1 to C.3); and the shape that such a candidate has, and that
 -- no candidate exceeds, is the bracket's (C.5, B.1).
-use Rattle.std.proofs.Common.{◌≡◌, ℕ, ◌+◌, ◌-◌, ◌≤◌, ◌⊎◌, Bool, true, false, not, ◌||◌, ◌==◌, nat_le, ltb, cond, All, List, [], ◌∷◌, length, Option, Some, None, inl, inr, refl, sym, ap, ◌∙◌, subst, arith}
+use Rattle.std.proofs.Common.{◌≡◌, ℕ, ◌+◌, ◌-◌, ◌≤◌, ◌⊎◌, Bool, true, false, not, ◌==◌, nat_le, ltb, cond, All, List, [], ◌∷◌, length, Option, Some, None, inl, inr, refl, sym, ap, ◌∙◌, subst, arith}
 use Rattle.std.specs.Prelude.{filter}
 use Rattle.std.specs.List.{slice_get}
-use Rattle.std.proofs.lemmas.Bool.{cases_eq, cases_lt, eq-eqb, ne_eqb, and_parts, le-leb}
+use Rattle.std.proofs.lemmas.Bool.{cases_Bool, cases_eq, cases_lt, eq-eqb, ne_eqb, and_parts, le-leb}
 use Rattle.std.proofs.lemmas.List.{length-map}
 use Rattle.std.proofs.lemmas.List.Elements.{All-head, All-tail}
 use Rattle.std.proofs.lemmas.Option.{slice_get_within}
@@ -13,16 +13,14 @@ use Rattle.dutch_order.specs.Choices.{numbers_from}
 use Rattle.dutch_order.specs.Forms.{IsMovedDown}
 use Rattle.dutch_order.specs.Keys.{IsIn}
 use Rattle.dutch_order.proofs.FoundPaths.{in-numbers}
-use Rattle.dutch_order.specs.Arrangements.{Arrangement, Frame, Fits, candidates}
+use Rattle.dutch_order.specs.Arrangements.{Frame, Fits, candidates}
 use Rattle.dutch_player.specs.Facts.{Facts}
-use Rattle.dutch_bracket.specs.declared.reached.BracketKind.{BracketKind}
 use Rattle.dutch_bracket.specs.Reached.{Reached, IsOf, ends_round, frame_of, numbers_meet, number_may_be_left}
 use Rattle.dutch_bracket.specs.Brackets.{candidates_of, eligible, is_penultimate, shape_of}
-use Rattle.dutch_bracket.specs.Eligible.{can_be_chosen}
 use Rattle.dutch_bracket.specs.Seated.{score_at}
 use Rattle.dutch_bracket.specs.Shapes.{IsGreater, has_member}
 use Rattle.dutch_bracket.specs.Joins.{AreMatched, Joins, IsMost, go_together, is_matched, is_matched_at, joined, joins_of_all, mate_at, mate_of, matched_shape, may_pair, takes_bye, vertices}
-use Rattle.dutch_bracket.proofs.EligibleLemmas.{eligible_is}
+use Rattle.dutch_bracket.proofs.EligibleLemmas.{eligible_all}
 use Rattle.dutch_bracket.proofs.JoinedPairs.{eligible_candidate}
 use Rattle.dutch_bracket.proofs.MateLists.{IsNumber, NumberMates, mates_candidate, mates_fit, mates_open, mates_shape}
 use Rattle.dutch_bracket.proofs.ShapeLaws.{has_one, has_room, none_has_one, none_is_greater}
@@ -182,19 +180,10 @@ module _ (joins : Joins) (partners : List (Option ℕ)) (matching : IsMatching (
 
 -- ---- the shape of a bracket
 
-no_penultimate : (kind : BracketKind) (complete : Bool) → is_penultimate kind ≡ false → (not (is_penultimate kind) || complete) ≡ true
-no_penultimate kind complete e = ap (λ t. not t || complete) e
-
 -- where all candidates can be chosen, those are there that are candidates
 pub candidate_eligible : (facts : Facts) (reached : Reached) (lower : List ℕ) (shape : Shape) → is_penultimate reached.kind ≡ false
     → has_member (candidates_of facts reached shape) ≡ true → has_member (eligible facts reached lower shape) ≡ true
-candidate_eligible facts reached lower shape open' has =
-    ap has_member (eligible_is facts reached lower shape) ∙ all_kept (candidates_of facts reached shape) has where
-      all_kept : (some : List Arrangement) → has_member some ≡ true → has_member (filter (can_be_chosen facts reached lower) some) ≡ true
-      all_kept [] h = absurd (cc)
-      all_kept (a ∷ rest) h =
-          ap (λ t. has_member (cond t (a ∷ filter (can_be_chosen facts reached lower) rest) (filter (can_be_chosen facts reached lower) rest)))
-          (no_penultimate reached.kind _ open')
+candidate_eligible facts reached lower shape open' has = ap has_member (eligible_all facts reached lower shape open') ∙ has
 
 same_shape_as : (s t : Shape) → s.pairs ≤ t.pairs → s.mdps ≤ t.mdps → ¬ IsGreater t s → s ≡ t
 same_shape_as s t fewer less level =
@@ -214,10 +203,6 @@ module _ (facts : Facts) (reached : Reached) (lower : List ℕ) (t : Shape) (mos
   pub is_shape : shape_of facts reached lower ≡ Some t
   is_shape = is_at (shape_of facts reached lower) refl
 
-ends_or_not : (kind : BracketKind) (b : Bool) → ends_round kind ≡ b → (ends_round kind ≡ true) ⊎ (ends_round kind ≡ false)
-ends_or_not kind true e = inl e
-ends_or_not kind false e = inr e
-
 -- a bracket that is not the penultimate one has the shape of a matching that no candidate exceeds
 pub shape_matched : (facts : Facts) (reached : Reached) (lower : List ℕ) (partners : List (Option ℕ)) (most : Shape) → is_penultimate reached.kind ≡ false → IsOf facts reached
     → (ends_round reached.kind ≡ true → AreMatched reached partners)
@@ -227,7 +212,7 @@ shape_matched facts reached lower partners most again sound last matching bound 
     let within : reached.mdps ≤ length reached.seats = omega (arith, sound.sound.within, length-map reached.seats (score_at facts)) in
     let shape : Shape = matched_shape reached partners in
     let joins : Joins = joins_of_all facts reached in
-    let candidate : has_member (candidates_of facts reached shape) ≡ true = elim (ends_or_not reached.kind (ends_round reached.kind) refl) [
+    let candidate : has_member (candidates_of facts reached shape) ≡ true = elim (cases_Bool (ends_round reached.kind)) [
       | inl ends ↦ matched_last joins partners matching within (last ends)
       | inr goes_on ↦ matched_candidate joins partners matching within goes_on
     ] in

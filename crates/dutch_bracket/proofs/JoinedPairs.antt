@@ -1,5 +1,5 @@
 -- The pairs of a candidate are pairs of a bracket's graph (C.04.3 B.2, C.1 to C.3): so what the graph does not have, no candidate has.
-use Rattle.std.proofs.Common.{◌≡◌, ℕ, zero, suc, ◌+◌, ◌-◌, ◌/◌, ◌<◌, ◌≤◌, Bool, true, false, ◌||◌, nat_le, List, [], ◌∷◌, ◌++◌, All, length, sum_by, inl, inr, refl, sym, ap, ◌∙◌, subst, arith}
+use Rattle.std.proofs.Common.{◌≡◌, ℕ, suc, ◌+◌, ◌-◌, ◌/◌, ◌<◌, ◌≤◌, Bool, true, false, ◌||◌, nat_le, List, [], ◌∷◌, ◌++◌, All, length, sum_by, inl, inr, refl, sym, ap, ◌∙◌, subst, arith}
 use Rattle.std.proofs.lemmas.Bool.{and_parts, and_from, le-leb}
 use Rattle.std.proofs.lemmas.Bool.Decides.{nat_tests}
 use Rattle.std.proofs.lemmas.List.{length-map, length-append}
@@ -14,7 +14,7 @@ use Rattle.dutch_order.specs.Forms.{by_place, IsMovedDown, IsResident}
 use Rattle.dutch_order.specs.Arrangements.{Frame, Arrangement, left_of, residents_of}
 use Rattle.dutch_order.proofs.CursorSets.{AreLists}
 use Rattle.dutch_order.proofs.FormArrangements.{lists-in, in-moved_down, in-residents}
-use Rattle.dutch_order.proofs.Members.{length-numbers}
+use Rattle.dutch_order.proofs.Members.{length-numbers, numbers-append}
 use Rattle.dutch_order.proofs.NoneTwice.{in-left}
 use Rattle.dutch_player.specs.Facts.{Facts}
 use Rattle.dutch_bracket.specs.Reached.{Reached, frame_of, numbers_meet}
@@ -27,7 +27,8 @@ use Rattle.dutch_bracket.proofs.ArrangementParts.{FourLists, lists_of, residents
 use Rattle.dutch_bracket.proofs.EligibleLemmas.{eligible_is}
 use Rattle.dutch_bracket.proofs.LeastPsd.{in_filter}
 use Rattle.dutch_bracket.proofs.LegalPairs.{IsArranged, legal_of}
-use Rattle.dutch_bracket.proofs.Totals.{total}
+use Rattle.dutch_bracket.proofs.ShapeSearch.{has_in, member_of}
+use Rattle.dutch_bracket.proofs.Totals.{total, total_append}
 
 -- ---- sums
 
@@ -36,15 +37,8 @@ total_is w [] = refl
 total_is w (x ∷ xs) = omega (arith, total_is w xs, sum_by-cons w x xs)
 
 numbers_total : (w : ℕ → ℕ) (first more count : ℕ) → total w (numbers_from first (more + count)) ≡ total w (numbers_from first more) + total w (numbers_from (first + more) count)
-numbers_total w first zero count =
-    omega (arith, ap (λ (k : ℕ). total w (numbers_from first k)) (let e : zero + count ≡ count = omega arith in e), ap (λ (k : ℕ). total w (numbers_from k count)) (let e : first + zero ≡ first = omega arith in e))
-numbers_total w first (suc more) count =
-    omega (
-      arith,
-      ap (λ (k : ℕ). total w (numbers_from first k)) (let e : suc more + count ≡ suc (more + count) = omega arith in e),
-      numbers_total w (suc first) more count,
-      ap (λ (k : ℕ). total w (numbers_from k count)) (let e : suc first + more ≡ first + suc more = omega arith in e),
-    )
+numbers_total w first more count =
+    ap (total w) (numbers-append first more count) ∙ total_append w (numbers_from first more) (numbers_from (first + more) count)
 
 -- the players of two lists, place by place
 places_total : (w : ℕ → ℕ) (firsts seconds : List ℕ) → length firsts ≡ length seconds → sum_by (in_both w) (by_place firsts seconds) ≡ total w firsts + total w seconds
@@ -223,10 +217,6 @@ module _ (facts : Facts) (reached : Reached) (shape : Shape) (a : Arrangement) (
 
 -- ---- what barriers tell of shapes
 
-pub member_of : (some : List Arrangement) → has_member some ≡ true → (a : Arrangement) × IsIn a some
-member_of [] h = absurd (cc)
-member_of (a ∷ rest) h = (a, inl refl)
-
 -- half of those who are not left over at least
 pub few_matched : (joins : Joins) (count least : ℕ) (players : List ℕ) → players ≡ numbers_from 1 count → length joins.reached.seats ≡ count
     → ((pairs : List (ℕ × ℕ)) (out : List ℕ) → MakeUp players pairs out → All (λ pair. may_pair joins pair.0 pair.1 ≡ true) pairs → least ≤ length out)
@@ -252,8 +242,5 @@ pub eligible_candidate : (facts : Facts) (reached : Reached) (lower : List ℕ) 
     → has_member (candidates_of facts reached shape) ≡ true
 eligible_candidate facts reached lower shape has =
     let one = member_of (eligible facts reached lower shape) has in
-    has_of one.0 (candidates_of facts reached shape)
-    (in_filter (can_be_chosen facts reached lower) one.0 (candidates_of facts reached shape) (subst (IsIn one.0) (eligible_is facts reached lower shape) one.1)) where
-      has_of : (a : Arrangement) (some : List Arrangement) → IsIn a some → has_member some ≡ true
-      has_of a [] m = absurd m
-      has_of a (b ∷ rest) m = refl
+    has_in one.0 (candidates_of facts reached shape)
+    (in_filter (can_be_chosen facts reached lower) one.0 (candidates_of facts reached shape) (subst (IsIn one.0) (eligible_is facts reached lower shape) one.1))

@@ -150,7 +150,7 @@ limbo_ascends scores k small =
     sorted-ascends (limbo_key scores) (limbo_cmp scores) sets (λ a b m n. limbo_cmp-is 65535 scores small a b (long a b m n)) (subsets-ascend 1 (length scores) k)
     (λ a b m n same. limbo_key-apart 65535 scores a b (long a b m n) same)
 
-all_climb : (P : ℕ → Type 0) (q low : ℕ) (xs : List ℕ) → 0 < low → ((i : ℕ) → 0 < i → i ≤ q → P i) → Climbs low (1 + q) xs → AllByRecursion P xs
+pub all_climb : (P : ℕ → Type 0) (q low : ℕ) (xs : List ℕ) → 0 < low → ((i : ℕ) → 0 < i → i ≤ q → P i) → Climbs low (1 + q) xs → AllByRecursion P xs
 all_climb P q low [] p each climbs = tt
 all_climb P q low (x ∷ xs) p each climbs =
     let le : low ≤ x = climbs.0 in

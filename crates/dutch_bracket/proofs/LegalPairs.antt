@@ -1,8 +1,8 @@
 -- The pairs of a candidate, those of a beginning and the others, may meet (C.04.3 C.1, C.3).
-use Rattle.std.proofs.Common.{◌≡◌, ℕ, Bool, true, not, ◌&&◌, ◌==◌, cond, List, [], ◌∷◌, ◌++◌, inl, inr, ap, ◌∙◌, subst}
+use Rattle.std.proofs.Common.{◌≡◌, ℕ, Bool, true, not, ◌&&◌, ◌==◌, List, [], ◌∷◌, ◌++◌}
 use Rattle.std.specs.Prelude.{filter}
 use Rattle.std.specs.List.{AllByRecursion}
-use Rattle.std.proofs.lemmas.Bool.{and_parts, cases_Bool}
+use Rattle.std.proofs.lemmas.Bool.{and_parts}
 use Rattle.dutch_order.specs.declared.bracket.Shape.{Shape}
 use Rattle.dutch_order.specs.Choices.{all_meet}
 use Rattle.dutch_order.specs.Keys.{IsIn}
@@ -14,15 +14,10 @@ use Rattle.dutch_bracket.specs.Reached.{Reached, frame_of, is_number, numbers_me
 use Rattle.dutch_bracket.specs.Brackets.{candidates_of}
 use Rattle.dutch_bracket.proofs.AllLemmas.{all_join}
 use Rattle.dutch_bracket.proofs.FixedPairs.{Beside}
-use Rattle.dutch_bracket.proofs.LeastPsd.{in_filter}
-use Rattle.dutch_order.proofs.Orders.{all_members, member_has}
+use Rattle.dutch_order.proofs.Orders.{IsIn-filter, all_members, member_has}
 
 pub in_passes : {X : Type 0} (p : X → Bool) (x : X) (xs : List X) → IsIn x (filter p xs) → p x ≡ true
-in_passes p x [] m = absurd m
-in_passes p x (y ∷ ys) m = elim (cases_Bool (p y)) [
-  | inl passes ↦ elim (subst (λ b. IsIn x (cond b (y ∷ filter p ys) (filter p ys))) passes m) [ inl same ↦ ap p same ∙ passes | inr later ↦ in_passes p x ys later ]
-  | inr fails ↦ in_passes p x ys (subst (λ b. IsIn x (cond b (y ∷ filter p ys) (filter p ys))) fails m)
-]
+in_passes p x xs m = (IsIn-filter p x xs m).1
 
 -- a candidate is an arrangement whose pairs meet
 pub record IsArranged (facts : Facts) (reached : Reached) (shape : Shape) (a : Arrangement) : Type 0 where
@@ -33,10 +28,10 @@ pub record IsArranged (facts : Facts) (reached : Reached) (shape : Shape) (a : A
 pub legal_of : (facts : Facts) (reached : Reached) (shape : Shape) (a : Arrangement) → IsIn a (candidates_of facts reached shape) → IsArranged facts reached shape a
 unfolding candidates_of
 legal_of facts reached shape a m =
-    let test : Arrangement → Bool = is_legal (numbers_meet facts reached) (number_may_be_left facts reached) (frame_of facts reached) in
-    let first = and_parts (all_meet (numbers_meet facts reached) a.s1 a.s2) _ (in_passes test a (arrangements (frame_of facts reached) shape) m) in
+    let kept = IsIn-filter (is_legal (numbers_meet facts reached) (number_may_be_left facts reached) (frame_of facts reached)) a (arrangements (frame_of facts reached) shape) m in
+    let first = and_parts (all_meet (numbers_meet facts reached) a.s1 a.s2) _ kept.1 in
     let second = and_parts (all_meet (numbers_meet facts reached) a.s1r a.s2r) _ first.1 in
-    record { arranged = in_filter test a (arrangements (frame_of facts reached) shape) m; moved_down = first.0; residents = second.0 }
+    record { arranged = kept.0; moved_down = first.0; residents = second.0 }
 
 -- the players of a pair may meet
 abbrev pub MayMeet : Facts → ℕ × ℕ → Type 0

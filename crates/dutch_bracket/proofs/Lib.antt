@@ -34,7 +34,6 @@ pub mod PairSearch
 pub mod PairsWithBeginning
 pub mod NextGroups
 pub mod TakenSteps
-pub mod TakersSearch
 pub mod Turned
 pub mod Places
 pub mod PsdParts

@@ -1,6 +1,6 @@
 -- Mates among the players of a bracket, of whom no two are moved down, are the pairs of an arrangement; its downfloaters are their
 -- own mates.
-use Rattle.std.proofs.Common.{◌≡◌, ℕ, ◌+◌, ◌-◌, ◌<◌, ◌≤◌, Bool, true, false, not, ◌||◌, ◌==◌, ltb, cond, List, [], ◌∷◌, ◌++◌, map, length, refl, sym, ap, ◌∙◌, arith, subst, inl, inr}
+use Rattle.std.proofs.Common.{◌≡◌, ℕ, ◌+◌, ◌-◌, ◌<◌, ◌≤◌, Bool, true, false, not, ◌||◌, ◌==◌, ltb, List, [], ◌∷◌, ◌++◌, map, length, refl, sym, ap, ◌∙◌, arith, subst, inl, inr}
 use Rattle.std.specs.List.{filter}
 use Rattle.std.proofs.lemmas.List.{length-map}
 use Rattle.std.proofs.lemmas.Bool.{cases_eq, cases_order, cases_lt, eq-eqb, ne_eqb, ltb-true, lt-ltb, not_from_false, not-true, and_from, true≢false, or_right}
@@ -17,6 +17,7 @@ use Rattle.dutch_order.proofs.Orders.{Rises-filter, IsIn-front, IsIn-back, IsIn-
 use Rattle.dutch_order.proofs.StageSets.{Climbs-length}
 use Rattle.dutch_bracket.specs.Shapes.{has_member}
 use Rattle.dutch_bracket.proofs.ArrangementParts.{numbers_rise, parts_of}
+use Rattle.dutch_bracket.proofs.ShapeSearch.{has_in}
 
 -- a shape with an arrangement has room
 pub fits_arrangement : (frame : Frame) (shape : Shape) (a : Arrangement) → frame.mdps ≤ length frame.scores → shape.mdps ≤ shape.pairs → IsIn a (arrangements frame shape) → Fits frame shape
@@ -31,10 +32,7 @@ fits_arrangement frame shape a within fewer m =
 
 -- what passes a test stands among what passes it
 pub has_kept : (p : Arrangement → Bool) (a : Arrangement) (all : List Arrangement) → IsIn a all → p a ≡ true → has_member (filter p all) ≡ true
-has_kept p a [] m e = absurd m
-has_kept p a (b ∷ all) (inl same) e = ap (λ t. has_member (cond t (b ∷ filter p all) (filter p all))) (ap p (sym same) ∙ e)
-has_kept p a (b ∷ all) (inr m) e =
-    elim (p b) as (λ t. has_member (cond t (b ∷ filter p all) (filter p all)) ≡ true) [ true ↦ refl | false ↦ has_kept p a all m e ]
+has_kept p a all m e = has_in a (filter p all) (filter-IsIn p a all m e)
 
 pub twice_map : (f : ℕ → ℕ) (xs : List ℕ) → NoneTwice xs → ((x y : ℕ) → IsIn x xs → IsIn y xs → f x ≡ f y → x ≡ y) → NoneTwice (map f xs)
 twice_map f [] twice apart = tt

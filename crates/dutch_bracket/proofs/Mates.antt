@@ -214,14 +214,17 @@ module _ (meets : ℕ → ℕ → Bool) where
             ]);
       }
 
-    record HasMates (players out : List ℕ) : Type 0 where
+    -- each of the pairs is of two mates, who are not one player
+    record HasMates (players out : List ℕ) (pairs : List (ℕ × ℕ)) : Type 0 where
       mate : ℕ → ℕ
       mated : Mated players out mate
+      told : (a b : ℕ) → IsIn (a, b) pairs → IsIn a players × (mate a ≡ b) × (a ≡ b → ⊥)
 
-    mates_of_covers : (pairs : List (ℕ × ℕ)) (players out : List ℕ) → NoneTwice players → Covers meets players pairs out → HasMates players out
+    mates_of_covers : (pairs : List (ℕ × ℕ)) (players out : List ℕ) → NoneTwice players → Covers meets players pairs out → HasMates players out pairs
     mates_of_covers [] players out twice same = record {
       mate = λ a. a;
       mated = record { inside = λ a m. m; outside = λ a off. refl; back = λ a. refl; met = λ a ne. absurd (ne refl); alone = λ a m e. subst (IsIn a) same m };
+      told = λ a b m. absurd m;
     }
     mates_of_covers (pair ∷ pairs) players out twice c =
         let skipped = c.skipped in
@@ -260,6 +263,21 @@ module _ (meets : ℕ → ℕ → Bool) where
               (λ a m. subst (IsIn a) (sym c.out_are) (IsIn-front a skipped c.later m))
               (λ a m. subst (IsIn a) (sym c.out_are) (IsIn-back a skipped c.later m))
               less.mated;
+          told = λ a b m. elim m [
+            | inl same ↦
+                (let first : a ≡ u = ap (λ (p : ℕ × ℕ). p.0) same in
+                let second : b ≡ v = ap (λ (p : ℕ × ℕ). p.1) same in (
+                  all_in a (inl first),
+                  ap (swapped u v less.mate) first ∙ swapped_first u v less.mate ∙ sym second,
+                  λ e. back.0 (subst (λ w. IsIn w tail) (sym second ∙ sym e ∙ first) (in-middle v v between behind (inl refl))),
+                ))
+            | inr later ↦
+                (let told = less.told a b later in (
+                  all_in a (inr (tail_in a told.0)),
+                  swapped_other u v less.mate a (λ e. back.0 (subst (λ w. IsIn w tail) e (tail_in a told.0))) (λ e. off_v.0 (subst (λ w. IsIn w rest) e told.0)) ∙ told.1,
+                  told.2,
+                ))
+          ];
         }
 
     one_out : (may_be_left : ℕ → Bool) (out : List ℕ) → MayBeLeftOut may_be_left out → (a : ℕ) → IsIn a out → (may_be_left a ≡ true) × ((b : ℕ) → IsIn b out → a ≡ b)
@@ -268,40 +286,6 @@ module _ (meets : ℕ → ℕ → Bool) where
         (ap may_be_left same ∙ left, λ b m. elim m [ inl same' ↦ same ∙ sym same' | inr none ↦ absurd none ])
     one_out may_be_left (x ∷ []) left a (inr none) = absurd none
     one_out may_be_left (x ∷ y ∷ rest) left a m = absurd left
-
-    -- each of the pairs is of two mates, who are not one player
-    mates_told : (pairs : List (ℕ × ℕ)) (players out : List ℕ) (twice : NoneTwice players) (c : Covers meets players pairs out) (a b : ℕ) → IsIn (a, b) pairs
-        → IsIn a players × ((mates_of_covers pairs players out twice c).mate a ≡ b) × (a ≡ b → ⊥)
-    unfolding mates_of_covers
-    mates_told [] players out twice c a b m = absurd m
-    mates_told (pair ∷ pairs) players out twice c a b m =
-        let skipped = c.skipped in
-        let between = c.between in
-        let behind = c.behind in
-        let u = pair.0 in
-        let v = pair.1 in
-        let tail = between ++ v ∷ behind in
-        let twice' : NoneTwice (skipped ++ u ∷ tail) = subst NoneTwice c.players_are twice in
-        let back : NoneTwice (u ∷ tail) = twice-back skipped (u ∷ tail) twice' in
-        let off_v = twice-middle v between behind back.1 in
-        let less = mates_of_covers pairs (between ++ behind) c.later off_v.1 c.covered in
-        let tail_in : (z : ℕ) → IsIn z (between ++ behind) → IsIn z tail = λ z n. in-middle z v between behind (inr n) in
-        let all_in : (z : ℕ) → IsIn z (u ∷ tail) → IsIn z players = λ z n. subst (IsIn z) (sym c.players_are) (IsIn-back z skipped (u ∷ tail) n) in
-        elim m [
-          | inl same ↦
-              let first : a ≡ u = ap (λ (p : ℕ × ℕ). p.0) same in
-              let second : b ≡ v = ap (λ (p : ℕ × ℕ). p.1) same in (
-                all_in a (inl first),
-                ap (swapped u v less.mate) first ∙ swapped_first u v less.mate ∙ sym second,
-                λ e. back.0 (subst (λ w. IsIn w tail) (sym second ∙ sym e ∙ first) (in-middle v v between behind (inl refl))),
-              )
-          | inr later ↦
-              let told = mates_told pairs (between ++ behind) c.later off_v.1 c.covered a b later in (
-                all_in a (inr (tail_in a told.0)),
-                swapped_other u v less.mate a (λ e. back.0 (subst (λ w. IsIn w tail) e (tail_in a told.0))) (λ e. off_v.0 (subst (λ w. IsIn w (between ++ behind)) e told.0)) ∙ told.1,
-                told.2,
-              )
-        ]
 
     -- the mates of players whom a list of pairs pairs out
     pub record PairMates (may_be_left : ℕ → Bool) (players : List ℕ) (pairs : List (ℕ × ℕ)) : Type 0 where
@@ -323,7 +307,7 @@ module _ (meets : ℕ → ℕ → Bool) where
             one = λ a b m n e f. (one_out may_be_left out left_out a (mated.alone a m e)).1 b (mated.alone b n f);
             left = λ a m e. (one_out may_be_left out left_out a (mated.alone a m e)).0;
           };
-          tells = λ a b m. let told = mates_told pairs players out twice covered a b m in (told.1, told.2);
+          tells = λ a b m. let told = found.told a b m in (told.1, told.2);
         }
 
     pub record FoundMates (may_be_left : ℕ → Bool) (players : List ℕ) : Type 0 where

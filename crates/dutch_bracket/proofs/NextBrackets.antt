@@ -1,5 +1,5 @@
 -- The next bracket is one of the field, and its residents have one score.
-use Rattle.std.proofs.Common.{◌≡◌, ℕ, zero, suc, ◌+◌, ◌-◌, ◌<◌, ◌≤◌, not, List, [], ◌∷◌, ◌++◌, map, length, get_or, inl, inr, refl, sym, ap, ◌∙◌, subst, arith, length-append}
+use Rattle.std.proofs.Common.{◌≡◌, ℕ, suc, ◌+◌, ◌-◌, ◌<◌, ◌≤◌, not, List, [], ◌∷◌, ◌++◌, map, length, get_or, inl, inr, refl, sym, ap, ◌∙◌, subst, arith, length-append}
 use Rattle.std.specs.List.{AllByRecursion}
 use Rattle.std.specs.Prelude.{slice_index}
 use Rattle.std.specs.List.Sorted.{IsStrictlyIncreasing}
@@ -9,7 +9,6 @@ use Rattle.std.proofs.lemmas.Simd.{map-map}
 use Rattle.std.proofs.lemmas.Bool.{cases_lt}
 use Rattle.dutch_order.specs.Choices.{numbers_from, is_member}
 use Rattle.dutch_order.specs.Candidates.{Candidate}
-use Rattle.dutch_order.specs.Limbo.{IsNonAscending}
 use Rattle.dutch_order.specs.Arrangements.{paired}
 use Rattle.dutch_order.proofs.Counts.{numbers-rise}
 use Rattle.dutch_order.proofs.Orders.{Rises, Rises-from}
@@ -19,33 +18,21 @@ use Rattle.dutch_bracket.specs.declared.reached.BracketKind.TheVariants.{Ordinar
 use Rattle.dutch_bracket.specs.Seated.{seat_of, score_at, AreSeats, AllNumbers}
 use Rattle.dutch_bracket.specs.Reached.{Reached, frame_of, IsOf}
 use Rattle.dutch_bracket.specs.NextBracket.{next_bracket, IsFlat, IsOfBracket, AreLeft, IsNext}
-use Rattle.dutch_bracket.proofs.AllLemmas.{all_join}
+use Rattle.dutch_bracket.proofs.AllLemmas.{all_at, all_join}
 use Rattle.dutch_bracket.proofs.CandidateSeats.{all_within}
 use Rattle.dutch_bracket.proofs.DownLemmas.{down_numbers}
 use Rattle.dutch_bracket.proofs.FlatBrackets.{seats_fall}
-use Rattle.dutch_bracket.proofs.Copies.{Falls}
-
-falls_index : (xs : List ℕ) → Falls xs → IsNonAscending xs
-falls_index [] falls i h = absurd (omega arith)
-falls_index (x ∷ []) falls i h = absurd (omega arith)
-falls_index (x ∷ y ∷ xs) falls zero h = falls.0.0
-falls_index (x ∷ y ∷ xs) falls (suc i) h =
-    let lower : get_or (y ∷ xs) (i + 1) 0 ≤ get_or (y ∷ xs) i 0 = falls_index (y ∷ xs) falls.1 i (omega arith) in
-    omega (arith, lower, ap (λ k. get_or (x ∷ y ∷ xs) k 0) (let e : suc i + 1 ≡ suc (i + 1) = omega arith in e))
-
-all_below : (x : ℕ) (ys : List ℕ) → ((j : ℕ) → j < length ys → get_or ys j 0 ≤ x) → AllByRecursion (λ y. y ≤ x) ys
-all_below x [] each = tt
-all_below x (y ∷ ys) each = (each 0 (omega arith), all_below x ys (λ j h. each (suc j) (omega arith)))
+use Rattle.dutch_bracket.proofs.Copies.{Falls, falls_index}
 
 falls_append : (xs ys : List ℕ) → Falls xs → Falls ys → ((i j : ℕ) → i < length xs → j < length ys → get_or ys j 0 ≤ get_or xs i 0) → Falls (xs ++ ys)
 falls_append [] ys p q apart = q
 falls_append (x ∷ xs) ys p q apart =
-    (all_join (λ z. z ≤ x) xs ys p.0 (all_below x ys (λ j h. apart 0 j (omega arith) h)), falls_append xs ys p.1 q (λ i j h g. apart (suc i) j (omega arith) g))
+    (all_join (λ z. z ≤ x) xs ys p.0 (all_at (λ z. z ≤ x) ys (λ j h. apart 0 j (omega arith) h)), falls_append xs ys p.1 q (λ i j h g. apart (suc i) j (omega arith) g))
 
 flat_falls : (f : ℕ → ℕ) (xs : List ℕ) → ((i j : ℕ) → i < length xs → j < length xs → f (get_or xs i 0) ≡ f (get_or xs j 0)) → Falls (map f xs)
 flat_falls f [] same = tt
 flat_falls f (x ∷ xs) same = (
-  all_below (f x) (map f xs) (λ j h. let lt : j < length xs = (let e = length-map xs f in omega arith) in
+  all_at (λ y. y ≤ f x) (map f xs) (λ j h. let lt : j < length xs = (let e = length-map xs f in omega arith) in
       let e : f x ≡ f (get_or xs j 0) = same 0 (suc j) (omega arith) (omega arith) in omega (arith, e, get_or-map f xs j 0 0 lt)),
   flat_falls f xs (λ i j h g. same (suc i) (suc j) (omega arith) (omega arith)),
 )

@@ -1,148 +1,180 @@
--- The steps of the search for a completion.
-use Rattle.std.proofs.Common.{◌≡◌, ◌≢◌, ℕ, zero, suc, ◌+◌, ◌-◌, ◌*◌, ◌%◌, ◌<◌, ◌≤◌, Bool, true, false, ◌&&◌, ◌||◌, List, [], ◌∷◌, ◌++◌, length, take, drop, get_or, refl, sym, ◌∙◌, ap, arith, add-one}
-use Rattle.std.specs.Prelude.{if◌then◌else◌}
+-- The search for a way to pair players out: what two ways tell together, what one partner after the other tells, and the ways of a first player.
+use Rattle.std.proofs.Common.{◌≡◌, ◌≢◌, ℕ, zero, suc, ◌+◌, ◌-◌, ◌*◌, ◌%◌, ◌<◌, ◌≤◌, Bool, true, false, ◌&&◌, ◌||◌, List, [], ◌∷◌, ◌++◌, length, take, drop, get_or, refl, sym, ◌∙◌, ap, subst, arith, add-one}
+use Rattle.std.specs.Prelude.{if◌then◌else◌, slice_index, swap}
 use Rattle.std.proofs.Math.Bool.{and-true}
 use Rattle.std.proofs.Math.Nat.{mul-le-mul_right}
 use Rattle.std.proofs.lemmas.List.{drop_more, drop_all, take_more}
 use Rattle.dutch_order.specs.declared.steps.Budget.{Budget}
 use Rattle.dutch_bracket.specs.declared.completion.Answer.{Answer}
 use Rattle.dutch_bracket.specs.declared.completion.Answer.TheVariants.{Yes, No, Undecided}
-use Rattle.dutch_bracket.specs.Completion.{most, Spends, IsStopped, Takes, Tells}
-use Rattle.dutch_bracket.specs.CompletionSearch.{some_partner, nobody, left_over, can_cover}
+use Rattle.dutch_bracket.specs.declared.completion.Spare.{Spare}
+use Rattle.dutch_bracket.specs.Completion.{most_of_bye, most_of_one, most_taking}
+use Rattle.dutch_bracket.specs.CompletionSearch.{Searched, can_cover, can_go, left_over, meets_one, nobody, some_partner, takes_one}
+use Rattle.dutch_bracket.proofs.Turned.{brought, swap-turned, turned}
 
-tells_same : (answer : Answer) (test same : Bool) (stopped kept : Type 0) → test ≡ same → (stopped → kept) → Tells answer test stopped → Tells answer same kept
-tells_same Yes test same stopped kept e f told = sym e ∙ told
-tells_same No test same stopped kept e f told = sym e ∙ told
-tells_same Undecided test same stopped kept e f told = f told
+-- No at once
+pub no_step : (test : Bool) (n p k : ℕ) (old : Budget) → test ≡ false → k ≡ 0 → Searched No test n p k old old
+no_step test n p k old off none = record { told = off; steps = record { few = omega arith; rises = omega arith; limit = refl }; taken = omega (arith, none) }
 
 -- an answer for one of two ways that is not No serves for both
-tells_first : (answer : Answer) (test other both : Bool) (stopped kept : Type 0) → answer ≢ No → both ≡ (test || other) → (stopped → kept)
-    → Tells answer test stopped → Tells answer both kept
-tells_first Yes test other both stopped kept ne e f told = e ∙ ap (λ t. t || other) told
-tells_first No test other both stopped kept ne e f told = absurd (ne refl)
-tells_first Undecided test other both stopped kept ne e f told = f told
-
-pub spends-within : (k i m : ℕ) (old mid new : Budget) → i < k → Spends (i * (1 + m)) old mid → Spends (1 + m) mid new → Spends (k * (1 + m)) old new
-spends-within k i m old mid new lt first second =
-    let le : (i + 1) * (1 + m) ≤ k * (1 + m) = mul-le-mul_right (1 + m) (omega arith) in
+pub either : (answer : Answer) (test other : Bool) (n m p q k l : ℕ) (old new : Budget) → answer ≢ No → n ≤ m → q ≤ p
+    → Searched answer test n p k old new → Searched answer (test || other) m q l old new
+either Yes test other n m p q k l old new ne le few one =
     record {
-      few = omega arith;
-      rises = omega arith;
-      limit = second.limit ∙ first.limit;
+      told = ap (λ t. t || other) one.told;
+      steps = record { few = omega (arith, one.steps.few, le); rises = one.steps.rises; limit = one.steps.limit };
+      taken = omega (arith, one.taken, few);
+    }
+either No test other n m p q k l old new ne le few one = absurd (ne refl)
+either Undecided test other n m p q k l old new ne le few one =
+    record {
+      told = record { reached = one.told.reached; needed = omega (arith, one.told.needed, le) };
+      steps = record { few = omega (arith, one.steps.few, le); rises = one.steps.rises; limit = one.steps.limit };
+      taken = tt {0};
     }
 
-stopped-within : (k i m : ℕ) (old mid new : Budget) → i < k → Spends (i * (1 + m)) old mid → IsStopped (1 + m) mid new → IsStopped (k * (1 + m)) old new
-stopped-within k i m old mid new lt first second =
-    let le : (i + 1) * (1 + m) ≤ k * (1 + m) = mul-le-mul_right (1 + m) (omega arith) in
-    record { reached = second.reached; needed = omega arith }
+-- No for one of two ways, and an answer for the other
+pub after_no : (answer : Answer) (test other : Bool) (n m p q j k l : ℕ) (old mid new : Budget) → q ≤ p → l ≤ j + k
+    → Searched No test n p j old mid → Searched answer other m p k mid new → Searched answer (test || other) (n + m) q l old new
+after_no Yes test other n m p q j k l old mid new few trials one two =
+    record {
+      told = ap (λ t. t || other) one.told ∙ two.told;
+      steps = record { few = omega (arith, one.steps.few, two.steps.few); rises = omega (arith, one.steps.rises, two.steps.rises); limit = two.steps.limit ∙ one.steps.limit };
+      taken = omega (arith, one.steps.rises, two.taken, few);
+    }
+after_no No test other n m p q j k l old mid new few trials one two =
+    record {
+      told = ap (λ t. t || other) one.told ∙ two.told;
+      steps = record { few = omega (arith, one.steps.few, two.steps.few); rises = omega (arith, one.steps.rises, two.steps.rises); limit = two.steps.limit ∙ one.steps.limit };
+      taken = omega (arith, one.taken, two.taken, trials);
+    }
+after_no Undecided test other n m p q j k l old mid new few trials one two =
+    record {
+      told = record { reached = two.told.reached; needed = omega (arith, one.steps.few, one.steps.limit, two.told.needed) };
+      steps = record { few = omega (arith, one.steps.few, two.steps.few); rises = omega (arith, one.steps.rises, two.steps.rises); limit = two.steps.limit ∙ one.steps.limit };
+      taken = tt {0};
+    }
 
--- what an answer takes that is not No
-pub takes-found : (answer : Answer) (n k players trials : ℕ) (old mid new : Budget) → old.used ≤ mid.used → players ≤ n → answer ≢ No
-    → Takes answer n k mid new → Takes answer players trials old new
-takes-found Yes n k players trials old mid new first few ne taken = omega arith
-takes-found No n k players trials old mid new first few ne taken = absurd (ne refl)
-takes-found Undecided n k players trials old mid new first few ne taken = tt {0}
+-- ---- one partner after the other
 
-pub some_partner-step : (meets : ℕ → Bool) (holds : List ℕ → Bool) (later : List ℕ) (i : ℕ) → i < length later
-    → some_partner meets holds (take i later) (drop i later)
-    ≡ ((meets (get_or later i 0) && holds (take i later ++ drop (i + 1) later)) || some_partner meets holds (take (i + 1) later) (drop (i + 1) later))
-some_partner-step meets holds later i lt =
-    ap (λ rest. some_partner meets holds (take i later) rest) (drop_more later i 0 lt)
-    ∙ ap
-    (λ front. (meets (get_or later i 0) && holds (take i later ++ drop (i + 1) later)) || some_partner meets holds front (drop (i + 1) later))
-    (sym (take_more later i 0 lt))
+module _ (meets : ℕ → Bool) (holds : List ℕ → Bool) (all : List ℕ) (place : ℕ) (lt : place < length all) where
+  abbrev here : Bool
+  here = meets (get_or all place 0) && holds (take place all ++ drop (place + 1) all)
 
--- one partner fails, and then all have failed
-pub partner_fails : (meets : ℕ → Bool) (holds : List ℕ → Bool) (later : List ℕ) (i : ℕ) → i < length later
-    → (meets (get_or later i 0) && holds (take i later ++ drop (i + 1) later)) ≡ false
-    → some_partner meets holds (take i later) (drop i later) ≡ some_partner meets holds [] later
-    → some_partner meets holds (take (i + 1) later) (drop (i + 1) later) ≡ some_partner meets holds [] later
-partner_fails meets holds later i lt fails same =
-    sym (some_partner-step meets holds later i lt ∙ ap (λ t. t || some_partner meets holds (take (i + 1) later) (drop (i + 1) later)) fails) ∙ same
+  abbrev further : Bool
+  further = some_partner meets holds (take (place + 1) all) (drop (place + 1) all)
 
-pub all_fail : (meets : ℕ → Bool) (holds : List ℕ → Bool) (later : List ℕ) (i : ℕ) → length later ≤ i
-    → some_partner meets holds (take i later) (drop i later) ≡ some_partner meets holds [] later → some_partner meets holds [] later ≡ false
-all_fail meets holds later i le same = sym same ∙ ap (λ rest. some_partner meets holds (take i later) rest) (drop_all i later le)
+  -- no partner so far tells of those to come
+  abbrev SameAt : ℕ → Type 0
+  SameAt i = some_partner meets holds (take i all) (drop i all) ≡ some_partner meets holds [] all
 
--- an answer for one partner that is not No serves for all
-pub told_by_partner : (meets : ℕ → Bool) (holds : List ℕ → Bool) (later : List ℕ) (i m : ℕ) (old mid new : Budget) (answer : Answer) → i < length later
-    → some_partner meets holds (take i later) (drop i later) ≡ some_partner meets holds [] later
-    → Spends (i * (1 + m)) old mid → answer ≢ No
-    → Tells answer (meets (get_or later i 0) && holds (take i later ++ drop (i + 1) later)) (IsStopped (1 + m) mid new)
-    → Tells answer (some_partner meets holds [] later) (IsStopped (length later * (1 + m)) old new)
-told_by_partner meets holds later i m old mid new answer lt same first ne told =
-    tells_first answer (meets (get_or later i 0) && holds (take i later ++ drop (i + 1) later))
-    (some_partner meets holds (take (i + 1) later) (drop (i + 1) later)) (some_partner meets holds [] later)
-    (IsStopped (1 + m) mid new) (IsStopped (length later * (1 + m)) old new) ne
-    (sym same ∙ some_partner-step meets holds later i lt)
-    (stopped-within (length later) i m old mid new lt first)
-    told
+  step_is : some_partner meets holds (take place all) (drop place all) ≡ (here || further)
+  step_is =
+      ap (λ rest. some_partner meets holds (take place all) rest) (drop_more all place 0 lt)
+      ∙ ap (λ front. here || some_partner meets holds front (drop (place + 1) all)) (sym (take_more all place 0 lt))
 
-can_cover-first : (meets : ℕ → ℕ → Bool) (may_be_left : ℕ → Bool) (a : ℕ) (later : List ℕ)
-    → can_cover meets may_be_left (length (a ∷ later)) (a ∷ later)
-    ≡ (some_partner (meets a) (can_cover meets may_be_left (length later - 1)) [] later || (may_be_left a && can_cover meets nobody (length later) later))
-can_cover-first meets may_be_left a [] = sym (and-true (may_be_left a))
-can_cover-first meets may_be_left a (b ∷ rest) =
-    let e : length rest ≡ suc (length rest) - 1 = omega arith in
-    ap
-    (λ n. some_partner (meets a) (can_cover meets may_be_left n) [] (b ∷ rest) || (may_be_left a && can_cover meets nobody (suc (length rest)) (b ∷ rest)))
-    e
+  pub partner_fails : here ≡ false → SameAt place → SameAt (place + 1)
+  partner_fails fails same = sym (step_is ∙ ap (λ t. t || further) fails) ∙ same
 
--- what it takes to leave the first of some players out
-abbrev leaving : ℕ → Bool → ℕ
-leaving n bye = if bye then 1 + most n false else 0
+  module _ (m : ℕ) (old mid new : Budget) (none : Searched No false (place * (1 + m)) (length all + 1) place old mid) where
+    -- one more who fails
+    pub one_more_fails : Searched No here (1 + m) (length all + 1) 1 mid new → Searched No false ((place + 1) * (1 + m)) (length all + 1) (place + 1) old new
+    one_more_fails one =
+        subst (λ i. Searched No false i (length all + 1) (place + 1) old new) (let e : place * (1 + m) + (1 + m) ≡ (place + 1) * (1 + m) = omega arith in e)
+        (subst (λ b. Searched No b (place * (1 + m) + (1 + m)) (length all + 1) (place + 1) old new) one.told
+        (after_no No false here (place * (1 + m)) (1 + m) (length all + 1) (length all + 1) place 1 (place + 1) old mid new (omega arith) (omega arith) none one))
 
-most-first : (n : ℕ) (bye : Bool) → most (suc n) bye ≡ n * (1 + most (n - 1) bye) + leaving n bye
-most-first zero true = refl
-most-first zero false = refl
-most-first (suc n) bye =
+    -- one who does not fail serves for all
+    pub one_serves : (answer : Answer) → answer ≢ No → SameAt place → Searched answer here (1 + m) (length all + 1) 1 mid new
+        → Searched answer (some_partner meets holds [] all) (length all * (1 + m)) (length all + 1) (length all) old new
+    one_serves answer ne same one =
+        let le : (place + 1) * (1 + m) ≤ length all * (1 + m) = mul-le-mul_right (1 + m) (omega (arith, lt)) in
+        subst (λ b. Searched answer b (length all * (1 + m)) (length all + 1) (length all) old new) (sym step_is ∙ same)
+        (either answer here further (place * (1 + m) + (1 + m)) (length all * (1 + m)) (length all + 1) (length all + 1) (place + 1) (length all) old new ne (omega (arith, le)) (omega arith)
+        (after_no answer false here (place * (1 + m)) (1 + m) (length all + 1) (length all + 1) place 1 (place + 1) old mid new (omega arith) (omega arith) none one))
+
+pub all_fail : (meets : ℕ → Bool) (holds : List ℕ → Bool) (all : List ℕ) (i m : ℕ) (old new : Budget) → i ≡ length all
+    → some_partner meets holds (take i all) (drop i all) ≡ some_partner meets holds [] all → Searched No false (i * (1 + m)) (length all + 1) i old new
+    → Searched No (some_partner meets holds [] all) (length all * (1 + m)) (length all + 1) (length all) old new
+all_fail meets holds all i m old new e same none =
+    subst (λ (j : ℕ). Searched No (some_partner meets holds [] all) (j * (1 + m)) (length all + 1) j old new) e
+    (subst (λ b. Searched No b (i * (1 + m)) (length all + 1) i old new)
+    (sym (ap (λ rest. some_partner meets holds (take i all) rest) (drop_all i all (omega (arith, e)))) ∙ same) none)
+
+pub brought_to : (place : ℕ) (all now ys : List ℕ) → now ≡ turned place all → ys ≡ swap now 0 place → place < length all → ys ≡ brought place all
+brought_to place all now ys before after lt = after ∙ ap (λ (xs : List ℕ). swap xs 0 place) before ∙ swap-turned place all lt
+
+-- what is told of the first of a list and of the others, after one was swapped to the front
+pub tried : (answer : Answer) (meets : ℕ → Bool) (cover : ℕ → List ℕ → Bool) (most : ℕ → ℕ) (place : ℕ) (all now ys : List ℕ) (mid new : Budget) → now ≡ turned place all
+    → ys ≡ swap now 0 place → length ys ≡ length all → place < length all
+    → Searched answer (meets (slice_index ys 0) && cover (length ys - 1) (drop 1 ys)) (1 + most (length ys - 1)) (length ys + 1) 1 mid new
+    → Searched answer (meets (get_or all place 0) && cover (length all - 1) (take place all ++ drop (place + 1) all)) (1 + most (length all - 1)) (length all + 1) 1 mid new
+tried answer meets cover most place all now ys mid new before after len lt one =
+    subst (λ zs. Searched answer (meets (slice_index zs 0) && cover (length all - 1) (drop 1 zs)) (1 + most (length all - 1)) (length all + 1) 1 mid new)
+    (brought_to place all now ys before after lt)
+    (subst (λ (n : ℕ). Searched answer (meets (slice_index ys 0) && cover (n - 1) (drop 1 ys)) (1 + most (n - 1)) (n + 1) 1 mid new) len one)
+
+-- ---- the ways of a first player
+
+most-first : (n k : ℕ) (bye : Bool)
+    → most_taking (suc n) k bye ≡ n * (1 + most_taking (n - 1) k bye) + (most_of_one (λ j. most_taking n j bye) k + most_of_bye (most_taking n k false) bye)
+most-first zero k bye = omega arith
+most-first (suc n) k bye =
     let e : n ≡ suc n - 1 = omega arith in
-    ap (λ k. k * (1 + most n bye) + leaving (suc n) bye) (add-one n)
-    ∙ ap (λ k. suc n * (1 + most k bye) + leaving (suc n) bye) e
+    let others = most_of_one (λ j. most_taking (suc n) j bye) k + most_of_bye (most_taking (suc n) k false) bye in
+    ap (λ m. m * (1 + most_taking n k bye) + others) (add-one n)
+    ∙ ap (λ m. suc n * (1 + most_taking m k bye) + others) e
 
-module _ (meets : ℕ → ℕ → Bool) (may_be_left : ℕ → Bool) (a : ℕ) (later : List ℕ) (bye : Bool) (old mid new : Budget) where
-  -- whether the first player can be paired, and in how many steps it is told
-  abbrev paired : Bool
-  paired = some_partner (meets a) (can_cover meets (left_over bye may_be_left) (length later - 1)) [] later
+module _ (meets : ℕ → ℕ → Bool) (may_be_left : ℕ → Bool) (takers : List ℕ) (spare : Spare) (a : ℕ) where
+  abbrev pub go : Spare → ℕ → List ℕ → Bool
+  go s = can_go meets may_be_left takers s
 
-  abbrev pairing : ℕ
-  pairing = length later * (1 + most (length later - 1) bye)
+  abbrev pub paired : List ℕ → Bool
+  paired later = some_partner (meets a) (go spare (length later - 1)) [] later
 
-  abbrev left : Bool
-  left = left_over bye may_be_left a && can_cover meets nobody (length later) later
+  abbrev pub spared : List ℕ → Bool
+  spared later = takes_one (meets_one meets takers a) (λ k. go (record { takers = k; bye = spare.bye }) (length later) later) spare.takers
+      || (left_over spare.bye may_be_left a && go (record { takers = spare.takers; bye = false }) (length later) later)
 
-  abbrev whole : Bool
-  whole = can_cover meets (left_over bye may_be_left) (length (a ∷ later)) (a ∷ later)
+  abbrev pub pairing : ℕ → ℕ
+  pairing n = n * (1 + most_taking (n - 1) spare.takers spare.bye)
 
-  abbrev all_steps : ℕ
-  all_steps = most (length (a ∷ later)) bye
+  abbrev pub sparing : ℕ → ℕ
+  sparing n = most_of_one (λ k. most_taking n k spare.bye) spare.takers + most_of_bye (most_taking n spare.takers false) spare.bye
 
-  pub told_by_pairs : (answer : Answer) → answer ≢ No → Tells answer paired (IsStopped pairing old new) → Tells answer whole (IsStopped all_steps old new)
-  told_by_pairs answer ne told =
-      tells_first answer paired left whole (IsStopped pairing old new) (IsStopped all_steps old new) ne
-      (can_cover-first meets (left_over bye may_be_left) a later)
-      (λ stopped. record { reached = stopped.reached; needed = omega (arith, most-first (length later) bye) })
-      told
+  first_ways : (later : List ℕ) → (paired later || spared later) ≡ go spare (length (a ∷ later)) (a ∷ later)
+  first_ways [] = ap (λ t. takes_one (meets_one meets takers a) (λ j. true) spare.takers || t) (and-true (left_over spare.bye may_be_left a))
+  first_ways (b ∷ rest) =
+      let e : suc (length rest) - 1 ≡ length rest = omega arith in ap (λ n. some_partner (meets a) (go spare n) [] (b ∷ rest) || spared (b ∷ rest)) e
 
-  pub told_by_bye : (answer : Answer) → paired ≡ false → Spends pairing old mid → Tells answer left (IsStopped (leaving (length later) bye) mid new)
-      → Tells answer whole (IsStopped all_steps old new)
-  told_by_bye answer none first told =
-      tells_same answer left whole (IsStopped (leaving (length later) bye) mid new) (IsStopped all_steps old new)
-      (sym (can_cover-first meets (left_over bye may_be_left) a later ∙ ap (λ t. t || left) none))
-      (λ stopped. record { reached = stopped.reached; needed = omega (arith, most-first (length later) bye) })
-      told
+  module _ (later : List ℕ) (l : ℕ) (answer : Answer) where
+    abbrev Whole : Budget → Budget → Type 0
+    Whole old new =
+        Searched answer (go spare (length (a ∷ later)) (a ∷ later)) (most_taking (length (a ∷ later)) spare.takers spare.bye) (length (a ∷ later)) l old new
 
-  pub spent_by_pairs : Spends pairing old new → Spends all_steps old new
-  spent_by_pairs first =
-      record { few = omega (arith, most-first (length later) bye); rises = first.rises; limit = first.limit }
+    whole : (old new : Budget) → Searched answer (paired later || spared later) (pairing (length later) + sparing (length later)) (length (a ∷ later)) l old new → Whole old new
+    whole old new both =
+        subst (λ i. Searched answer (go spare (length (a ∷ later)) (a ∷ later)) i (length (a ∷ later)) l old new) (sym (most-first (length later) spare.takers spare.bye))
+        (subst (λ b. Searched answer b (pairing (length later) + sparing (length later)) (length (a ∷ later)) l old new) (first_ways later) both)
 
-  pub spent_by_bye : Spends pairing old mid → Spends (leaving (length later) bye) mid new → Spends all_steps old new
-  spent_by_bye first second =
-      record {
-        few = omega (arith, most-first (length later) bye);
-        rises = omega arith;
-        limit = second.limit ∙ first.limit;
-      }
+    pub by_pair : (old new : Budget) → answer ≢ No → Searched answer (paired later) (pairing (length later)) (length later + 1) (length later) old new → Whole old new
+    by_pair old new ne one =
+        whole old new
+        (either answer (paired later) (spared later) (pairing (length later)) (pairing (length later) + sparing (length later)) (length later + 1) (length (a ∷ later)) (length later) l
+        old new ne (omega arith) (omega arith) one)
+
+    pub by_spare : (k : ℕ) (old mid new : Budget) → l ≤ length later + k → Searched No (paired later) (pairing (length later)) (length later + 1) (length later) old mid
+        → Searched answer (spared later) (sparing (length later)) (length later + 1) k mid new → Whole old new
+    by_spare k old mid new trials one two =
+        whole old new
+        (after_no answer (paired later) (spared later) (pairing (length later)) (sparing (length later)) (length later + 1) (length (a ∷ later)) (length later) k l
+        old mid new (omega arith) trials one two)
+
+pub trials : (bye : Bool) (n : ℕ) → (if bye then suc n else 0) ≤ n + (if bye then 1 else 0)
+trials true n = omega arith
+trials false n = omega arith
+
+-- ---- an odd number of players
 
 and-false-or : (s t : Bool) → t ≡ false → ((s && false) || t) ≡ false
 and-false-or true t e = e
@@ -155,17 +187,18 @@ some_partner-none meets holds none between (b ∷ after) =
     ∙ and-false-or (meets b) (some_partner meets holds (between ++ b ∷ []) after) (some_partner-none meets holds none (between ++ b ∷ []) after)
 
 -- an odd number of players cannot be paired
-pub odd_uncovered : (meets : ℕ → ℕ → Bool) (n : ℕ) → n % 2 ≡ 1 → (players : List ℕ) → can_cover meets nobody n players ≡ false
-odd_uncovered meets zero odd players = absurd (omega (arith, odd))
-odd_uncovered meets (suc zero) odd [] = refl
-odd_uncovered meets (suc zero) odd (a ∷ later) = refl
-odd_uncovered meets (suc (suc n)) odd [] = refl
-odd_uncovered meets (suc (suc n)) odd (a ∷ later) =
+pub odd_uncovered : (meets : ℕ → ℕ → Bool) (may_go : ℕ → Bool) (n : ℕ) → n % 2 ≡ 1 → (players : List ℕ) → can_cover meets may_go nobody n 0 players ≡ false
+odd_uncovered meets may_go zero odd players = absurd (omega (arith, odd))
+odd_uncovered meets may_go (suc zero) odd [] = refl
+odd_uncovered meets may_go (suc zero) odd (a ∷ later) = refl
+odd_uncovered meets may_go (suc (suc n)) odd [] = refl
+odd_uncovered meets may_go (suc (suc n)) odd (a ∷ later) =
     let less : n % 2 ≡ 1 = omega (arith, odd) in
-    ap (λ t. t || (false && can_cover meets nobody (suc n) later)) (some_partner-none (meets a) (can_cover meets nobody n) (odd_uncovered meets n less) [] later)
+    ap (λ t. t || (false && can_cover meets may_go nobody (suc n) 0 later)) (some_partner-none (meets a) (can_cover meets may_go nobody n 0) (odd_uncovered meets may_go n less) [] later)
 
-pub odd_unpaired : (meets : ℕ → ℕ → Bool) (may_be_left : ℕ → Bool) (a : ℕ) (later : List ℕ) (bye : Bool) → bye ≡ false → length later % 2 ≡ 0
-    → can_cover meets (left_over bye may_be_left) (length (a ∷ later)) (a ∷ later) ≡ false
-odd_unpaired meets may_be_left a later bye none even =
-    ap (λ b. can_cover meets (left_over b may_be_left) (length (a ∷ later)) (a ∷ later)) none
-    ∙ odd_uncovered meets (suc (length later)) (omega (arith, even)) (a ∷ later)
+pub odd_unpaired : (meets : ℕ → ℕ → Bool) (may_be_left : ℕ → Bool) (takers : List ℕ) (spare : Spare) (a : ℕ) (later : List ℕ) → spare.bye ≡ false → spare.takers ≡ 0
+    → length later % 2 ≡ 0 → can_go meets may_be_left takers spare (length (a ∷ later)) (a ∷ later) ≡ false
+odd_unpaired meets may_be_left takers spare a later none no_taker even =
+    ap (λ b. can_go meets may_be_left takers (record { takers = spare.takers; bye = b }) (length (a ∷ later)) (a ∷ later)) none
+    ∙ ap (λ k. can_go meets may_be_left takers (record { takers = k; bye = false }) (length (a ∷ later)) (a ∷ later)) no_taker
+    ∙ odd_uncovered meets (meets_one meets takers) (suc (length later)) (omega (arith, even)) (a ∷ later)

@@ -1,5 +1,5 @@
 -- Better qualities are in a strict and total order.
-use Rattle.std.proofs.Common.{◌≡◌, ℕ, true, false, List, ◌⊎◌, inl, inr, refl, ap, sym, ◌∙◌}
+use Rattle.std.proofs.Common.{◌≡◌, ℕ, true, false, List, [], ◌∷◌, ◌⊎◌, inl, inr, refl, ap, sym, ◌∙◌}
 use Rattle.std.specs.declared.cmp.Ordering.{Ordering}
 use Rattle.std.specs.declared.cmp.Ordering.TheVariants.{Less, Equal, Greater}
 use Rattle.std.specs.Ordering.{nat_cmp, is_lt, ordering_reverse}
@@ -7,8 +7,11 @@ use Rattle.std.specs.Cmp.{IsTotalOrder}
 use Rattle.std.specs.Cmp.Lexicographic.{slice_cmp}
 use Rattle.std.proofs.lemmas.Cmp.{then_total, on_total, back_total, nat_cmp_total, nat_list_cmp_total, tied_itself}
 pub use Rattle.dutch_order.proofs.Comparing.{both_tied, numbers_tied, lists_tied}
-use Rattle.dutch_bracket.specs.Quality.{Quality, is_better}
-use Rattle.dutch_bracket.proofs.InTurn.{better_in_turn, number_then, list_then, compared, compared_by_colours, compared_by_floats, compared_by_differences}
+use Rattle.dutch_order.specs.Keys.{IsIn}
+use Rattle.dutch_bracket.specs.declared.item.Item.{Item}
+use Rattle.dutch_bracket.specs.declared.item.Item.TheVariants.{Psd, NextBracket, WideDifferences, ThirdColours, MissedPreferences, MissedStrong, DownAgain, UpAgain, DownAgainBefore, UpAgainBefore, DownAgainBy, UpAgainBy, DownAgainBeforeBy, UpAgainBeforeBy}
+use Rattle.dutch_bracket.specs.Quality.{Quality, all_items, compared_in, is_better}
+use Rattle.dutch_bracket.proofs.InTurn.{better_in_turn, compared_in_turn, in_turn, number_then, list_then, compared, compared_by_colours, compared_by_floats, compared_by_differences}
 
 number_total : (item : Quality → ℕ) {others : Quality → Quality → Ordering} → IsTotalOrder others → IsTotalOrder (number_then item others)
 number_total item total = then_total (on_total item nat_cmp_total) total
@@ -32,66 +35,51 @@ pub compared_total : IsTotalOrder compared
 compared_total =
     list_total (λ q. q.psd) (then_total (on_total (λ (q : Quality). q.next_pairs) (back_total nat_cmp_total)) (list_total (λ q. q.next_psd) colours_total))
 
--- what is not told apart is the same, item by item
-differences_tied : (a b : Quality) → compared_by_differences a b ≡ Equal
-    → (a.down_again_by ≡ b.down_again_by) × (a.up_again_by ≡ b.up_again_by)
-    × (a.down_again_before_by ≡ b.down_again_before_by) × (a.up_again_before_by ≡ b.up_again_before_by)
-differences_tied a b e =
-    let one = both_tied (slice_cmp nat_cmp a.down_again_by b.down_again_by) _ e in
-    let two = both_tied (slice_cmp nat_cmp a.up_again_by b.up_again_by) _ one.1 in
-    let three = both_tied (slice_cmp nat_cmp a.down_again_before_by b.down_again_before_by) _ two.1 in
-    (lists_tied _ _ one.0, lists_tied _ _ two.0, lists_tied _ _ three.0, lists_tied _ _ three.1)
+-- each item is one of all
+pub listed : (item : Item) → IsIn item all_items
+listed Psd = inl refl
+listed NextBracket = inr (inl refl)
+listed WideDifferences = inr (inr (inl refl))
+listed ThirdColours = inr (inr (inr (inl refl)))
+listed MissedPreferences = inr (inr (inr (inr (inl refl))))
+listed MissedStrong = inr (inr (inr (inr (inr (inl refl)))))
+listed DownAgain = inr (inr (inr (inr (inr (inr (inl refl))))))
+listed UpAgain = inr (inr (inr (inr (inr (inr (inr (inl refl)))))))
+listed DownAgainBefore = inr (inr (inr (inr (inr (inr (inr (inr (inl refl))))))))
+listed UpAgainBefore = inr (inr (inr (inr (inr (inr (inr (inr (inr (inl refl)))))))))
+listed DownAgainBy = inr (inr (inr (inr (inr (inr (inr (inr (inr (inr (inl refl))))))))))
+listed UpAgainBy = inr (inr (inr (inr (inr (inr (inr (inr (inr (inr (inr (inl refl)))))))))))
+listed DownAgainBeforeBy = inr (inr (inr (inr (inr (inr (inr (inr (inr (inr (inr (inr (inl refl))))))))))))
+listed UpAgainBeforeBy = inr (inr (inr (inr (inr (inr (inr (inr (inr (inr (inr (inr (inr (inl refl)))))))))))))
 
-floats_tied : (a b : Quality) → compared_by_floats a b ≡ Equal
-    → (a.down_again ≡ b.down_again) × (a.up_again ≡ b.up_again)
-    × (a.down_again_before ≡ b.down_again_before) × (a.up_again_before ≡ b.up_again_before) × (compared_by_differences a b ≡ Equal)
-floats_tied a b e =
-    let one = both_tied (nat_cmp a.down_again b.down_again) _ e in
-    let two = both_tied (nat_cmp a.up_again b.up_again) _ one.1 in
-    let three = both_tied (nat_cmp a.down_again_before b.down_again_before) _ two.1 in
-    let four = both_tied (nat_cmp a.up_again_before b.up_again_before) _ three.1 in
-    (numbers_tied _ _ one.0, numbers_tied _ _ two.0, numbers_tied _ _ three.0, numbers_tied _ _ four.0, four.1)
+-- what is not told apart in turn is not told apart by any item
+tied_each : (a b : Quality) (items : List Item) (item : Item) → in_turn a b items ≡ Equal → IsIn item items → compared_in item a b ≡ Equal
+tied_each a b [] item e m = absurd m
+tied_each a b (x ∷ items) item e (inl same) = ap (λ i. compared_in i a b) same ∙ (both_tied (compared_in x a b) (in_turn a b items) e).0
+tied_each a b (x ∷ items) item e (inr m) = tied_each a b items item (both_tied (compared_in x a b) (in_turn a b items) e).1 m
 
-colours_tied : (a b : Quality) → compared_by_colours a b ≡ Equal
-    → (a.wide_differences ≡ b.wide_differences) × (a.third_colours ≡ b.third_colours)
-    × (a.missed_preferences ≡ b.missed_preferences) × (a.missed_strong ≡ b.missed_strong) × (compared_by_floats a b ≡ Equal)
-colours_tied a b e =
-    let one = both_tied (nat_cmp a.wide_differences b.wide_differences) _ e in
-    let two = both_tied (nat_cmp a.third_colours b.third_colours) _ one.1 in
-    let three = both_tied (nat_cmp a.missed_preferences b.missed_preferences) _ two.1 in
-    let four = both_tied (nat_cmp a.missed_strong b.missed_strong) _ three.1 in
-    (numbers_tied _ _ one.0, numbers_tied _ _ two.0, numbers_tied _ _ three.0, numbers_tied _ _ four.0, four.1)
-
-top_tied : (a b : Quality) → compared a b ≡ Equal
-    → (a.psd ≡ b.psd) × (a.next_pairs ≡ b.next_pairs) × (a.next_psd ≡ b.next_psd) × (compared_by_colours a b ≡ Equal)
-top_tied a b e =
-    let one = both_tied (slice_cmp nat_cmp a.psd b.psd) _ e in
-    let two = both_tied (nat_cmp b.next_pairs a.next_pairs) _ one.1 in
-    let three = both_tied (slice_cmp nat_cmp a.next_psd b.next_psd) _ two.1 in
-    (lists_tied _ _ one.0, sym (numbers_tied _ _ two.0), lists_tied _ _ three.0, three.1)
-
+-- so it is the same
 pub same_items : (a b : Quality) → compared a b ≡ Equal → a ≡ b
 same_items a b e =
-    let top = top_tied a b e in
-    let colours = colours_tied a b top.3 in
-    let floats = floats_tied a b colours.4 in
-    let by = differences_tied a b floats.4 in
+    let each : (item : Item) → compared_in item a b ≡ Equal = λ item. tied_each a b all_items item (sym (compared_in_turn a b) ∙ e) (listed item) in
+    let next = both_tied (nat_cmp b.next_pairs a.next_pairs) (slice_cmp nat_cmp a.next_psd b.next_psd) (each NextBracket) in
+    let pairs : a.next_pairs ≡ b.next_pairs = sym (numbers_tied b.next_pairs a.next_pairs next.0) in
     λ i. record {
-      psd = top.0 i;
-      next_pairs = top.1 i;
-      next_psd = top.2 i;
-      wide_differences = colours.0 i;
-      third_colours = colours.1 i;
-      missed_preferences = colours.2 i;
-      missed_strong = colours.3 i;
-      down_again = floats.0 i;
-      up_again = floats.1 i;
-      down_again_before = floats.2 i;
-      up_again_before = floats.3 i;
-      down_again_by = by.0 i;
-      up_again_by = by.1 i;
-      down_again_before_by = by.2 i;
-      up_again_before_by = by.3 i;
+      psd = lists_tied a.psd b.psd (each Psd) i;
+      next_pairs = pairs i;
+      next_psd = lists_tied a.next_psd b.next_psd next.1 i;
+      wide_differences = numbers_tied a.wide_differences b.wide_differences (each WideDifferences) i;
+      third_colours = numbers_tied a.third_colours b.third_colours (each ThirdColours) i;
+      missed_preferences = numbers_tied a.missed_preferences b.missed_preferences (each MissedPreferences) i;
+      missed_strong = numbers_tied a.missed_strong b.missed_strong (each MissedStrong) i;
+      down_again = numbers_tied a.down_again b.down_again (each DownAgain) i;
+      up_again = numbers_tied a.up_again b.up_again (each UpAgain) i;
+      down_again_before = numbers_tied a.down_again_before b.down_again_before (each DownAgainBefore) i;
+      up_again_before = numbers_tied a.up_again_before b.up_again_before (each UpAgainBefore) i;
+      down_again_by = lists_tied a.down_again_by b.down_again_by (each DownAgainBy) i;
+      up_again_by = lists_tied a.up_again_by b.up_again_by (each UpAgainBy) i;
+      down_again_before_by = lists_tied a.down_again_before_by b.down_again_before_by (each DownAgainBeforeBy) i;
+      up_again_before_by = lists_tied a.up_again_before_by b.up_again_before_by (each UpAgainBeforeBy) i;
     }
 
 pub less : (o : Ordering) → is_lt o ≡ true → o ≡ Less

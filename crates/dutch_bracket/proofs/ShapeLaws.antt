@@ -1,15 +1,17 @@
 -- The shape that is found is the greatest that a bracket has room for and that has a candidate (C.04.3 C.5, B.1).
-use Rattle.std.proofs.Common.{◌≡◌, ℕ, zero, suc, ◌+◌, ◌-◌, ◌*◌, ◌/◌, ◌<◌, ◌≤◌, ◌⊎◌, ◌↔◌, Bool, true, false, not, nat_lt, List, [], map, length, Option, Some, None, inl, inr, refl, sym, ap, ◌∙◌, subst, arith}
+use Rattle.std.proofs.Common.{◌≡◌, ℕ, zero, suc, ◌+◌, ◌-◌, ◌*◌, ◌/◌, ◌<◌, ◌≤◌, ◌↔◌, Bool, true, false, not, nat_lt, List, [], ◌∷◌, ◌++◌, length, Option, Some, None, inl, inr, refl, sym, ap, ◌∙◌, subst, arith}
 use Rattle.std.specs.Prelude.{flat_map}
-use Rattle.std.proofs.lemmas.Bool.{and_from, and_parts, cases_lt}
+use Rattle.std.proofs.lemmas.Bool.{and_from, and_parts, cases_Bool, cases_lt}
 use Rattle.std.proofs.lemmas.Bool.Decides.{nat_tests}
 use Rattle.dutch_order.specs.declared.bracket.Shape.{Shape}
+use Rattle.dutch_order.specs.Keys.{IsIn}
+use Rattle.dutch_order.proofs.Orders.{IsIn-append, IsIn-flat_map, IsIn-map, flat_map-IsIn, map-IsIn}
 use Rattle.dutch_order.specs.Arrangements.{Frame, Arrangement, Fits, remainder_pairs}
 use Rattle.dutch_player.specs.Facts.{Facts}
 use Rattle.dutch_bracket.specs.Reached.{Reached, frame_of}
 use Rattle.dutch_bracket.specs.Brackets.{eligible, shape_of}
-use Rattle.dutch_bracket.specs.Shapes.{IsGreater, down_from, fits, has_member, shapes_with}
-use Rattle.dutch_bracket.proofs.ShapeSearch.{fits_by_test, found_in, has, passed, shape_with, taken, some_first, none_first}
+use Rattle.dutch_bracket.specs.Shapes.{IsGreater, down_from, fits, greatest_shape, has_member, shapes_upto, shapes_with}
+use Rattle.dutch_bracket.proofs.ShapeSearch.{fits_by_test, found_in, has, passed, shape_with, taken}
 use Rattle.dutch_bracket.specs.Eligible.{HasCandidate}
 
 at_most : (a b : ℕ) → b ≤ a → not (nat_lt a b) ≡ true
@@ -39,124 +41,97 @@ not_greater t s fewer level (inr h) =
     let le : t.mdps ≤ s.mdps = level (sym h.0) in
     let lt : s.mdps < t.mdps = h.1 in omega (arith, le, lt)
 
+-- ---- shapes of which none is greater than one before it
+
+abbrev Falls : List Shape → Type 0
+Falls [] = Unit {0}
+Falls (s ∷ rest) = ((t : Shape) → IsIn t rest → ¬ IsGreater t s) × Falls rest
+
+falls_append : (xs ys : List Shape) → Falls xs → Falls ys → ((s t : Shape) → IsIn s xs → IsIn t ys → ¬ IsGreater t s) → Falls (xs ++ ys)
+falls_append [] ys f g apart = g
+falls_append (x ∷ xs) ys f g apart = (
+  λ t m. elim (IsIn-append t xs ys m) [ inl front ↦ f.0 t front | inr back ↦ apart x t (inl refl) back ],
+  falls_append xs ys f.1 g (λ s t m n. apart s t (inr m) n),
+)
+
+in_down : (k n : ℕ) → k ≤ n → IsIn k (down_from n)
+in_down k zero le = inl (omega (arith, le))
+in_down k (suc n) le = elim (cases_lt n k) [ inl more ↦ inl (omega (arith, le, more)) | inr few ↦ inr (in_down k n few) ]
+
+pub down_in : (k n : ℕ) → IsIn k (down_from n) → k ≤ n
+down_in k zero (inl same) = omega (arith, same)
+down_in k zero (inr none) = absurd none
+down_in k (suc n) (inl same) = omega (arith, same)
+down_in k (suc n) (inr m) = omega (arith, down_in k n m)
+
+pub of_pairs : (p n : ℕ) (t : Shape) → IsIn t (shapes_upto p n) → (t.pairs ≡ p) × (t.mdps ≤ n)
+of_pairs p n t m =
+    let from = IsIn-map (shape_with p) t (down_from n) m in
+    (ap (λ (s : Shape). s.pairs) from.1, omega (arith, ap (λ (s : Shape). s.mdps) from.1, down_in from.0 n from.2))
+
+falls_upto : (p n : ℕ) → Falls (shapes_upto p n)
+falls_upto p zero = (λ t m. absurd m, tt)
+falls_upto p (suc n) =
+    (λ t m. let h = of_pairs p n t m in not_greater t (shape_with p (suc n)) (omega (arith, h.0)) (λ e. omega (arith, h.1)), falls_upto p n)
+
+-- the shapes with at most so many pairs
+abbrev pub all : ℕ → List Shape
+all n = flat_map shapes_with (down_from n)
+
+falls_all : (n : ℕ) → Falls (all n)
+falls_all zero = (λ t m. absurd m, tt)
+falls_all (suc n) =
+    falls_append (shapes_with (suc n)) (all n) (falls_upto (suc n) (suc n)) (falls_all n) (λ s t m m'.
+    let from = IsIn-flat_map shapes_with t (down_from n) m' in
+    let low = down_in from.0 n from.1 in
+    let first = of_pairs (suc n) (suc n) s m in
+    let second = of_pairs from.0 from.0 t from.2 in
+    not_greater t s (omega (arith, first.0, low, second.0)) (λ e. absurd (omega (arith, first.0, low, second.0, e))))
+
+pub among : (n : ℕ) (t : Shape) → t.pairs ≤ n → t.mdps ≤ t.pairs → IsIn t (all n)
+among n t few low =
+    flat_map-IsIn shapes_with t t.pairs (down_from n) (in_down t.pairs n few) (map-IsIn (shape_with t.pairs) t.mdps (down_from t.pairs) (in_down t.mdps t.pairs low))
+
 module _ (eligible_in : Shape → List Arrangement) (room : Shape → Bool) where
   abbrev counts : Shape → Bool
   counts = has eligible_in room
 
-  abbrev found : List Shape → Option Shape
-  found = found_in eligible_in room
-
   -- of some shapes one is found: it counts, and none that counts is greater; or none is found: none counts
-  abbrev IsGreatestOf : (Shape → Type 0) → Option Shape → Type 0
-  IsGreatestOf among None = (t : Shape) → among t → counts t ≡ true → ⊥
-  IsGreatestOf among (Some s) = among s × (counts s ≡ true) × ((t : Shape) → among t → counts t ≡ true → ¬ IsGreater t s)
+  abbrev pub IsGreatestOf : List Shape → Option Shape → Type 0
+  IsGreatestOf some None = (t : Shape) → IsIn t some → counts t ≡ true → ⊥
+  IsGreatestOf some (Some s) = IsIn s some × (counts s ≡ true) × ((t : Shape) → IsIn t some → counts t ≡ true → ¬ IsGreater t s)
 
-  -- ---- with one number of pairs
+  later_one : (s t : Shape) (rest : List Shape) → counts s ≡ false → counts t ≡ true → IsIn t (s ∷ rest) → IsIn t rest
+  later_one s t rest off on (inl same) = let bad : true ≡ false = sym on ∙ ap counts same ∙ off in absurd (cc)
+  later_one s t rest off on (inr m) = m
 
-  abbrev Upto : ℕ → ℕ → Shape → Type 0
-  Upto p n t = (t.pairs ≡ p) × (t.mdps ≤ n)
+  one_more : (s : Shape) (rest : List Shape) (o : Option Shape) → counts s ≡ false → IsGreatestOf rest o → IsGreatestOf (s ∷ rest) o
+  one_more s rest None off less = λ t m on. less t (later_one s t rest off on m) on
+  one_more s rest (Some best) off less = (inr less.0, less.1, λ t m on. less.2 t (later_one s t rest off on m) on)
 
-  abbrev upto : ℕ → ℕ → List Shape
-  upto p n = map (shape_with p) (down_from n)
+  greatest_of : (some : List Shape) → Falls some → IsGreatestOf some (found_in eligible_in room some)
+  greatest_of [] falls = λ t m on. absurd m
+  greatest_of (s ∷ rest) falls =
+      elim (cases_Bool (counts s)) [
+        | inl on ↦
+            subst (IsGreatestOf (s ∷ rest)) (sym (taken eligible_in room s rest on)) (
+              inl refl,
+              on,
+              λ t m here. elim m [
+                | inl same ↦ not_greater t s (omega (arith, ap (λ (x : Shape). x.pairs) same)) (λ e. omega (arith, ap (λ (x : Shape). x.mdps) same))
+                | inr later ↦ falls.0 t later
+              ],
+            )
+        | inr off ↦
+            subst (IsGreatestOf (s ∷ rest)) (sym (passed eligible_in room s rest off)) (one_more s rest (found_in eligible_in room rest) off (greatest_of rest falls.1))
+      ]
 
-  same_shape : (p n : ℕ) (t : Shape) → t.pairs ≡ p → t.mdps ≡ n → counts t ≡ counts (shape_with p n)
-  same_shape p n t e h = ap (λ (pairs : ℕ). counts (shape_with pairs t.mdps)) e ∙ ap (λ (mdps : ℕ). counts (shape_with p mdps)) h
-
-  most_first : (p n : ℕ) → counts (shape_with p n) ≡ true → IsGreatestOf (Upto p n) (Some (shape_with p n))
-  most_first p n h =
-      ((refl, omega arith), h, λ t among counts'. not_greater t (shape_with p n) (omega (arith, among.0)) (λ e. among.1))
-
-  other_counts : (p n : ℕ) (t : Shape) → counts (shape_with p n) ≡ false → t.pairs ≡ p → counts t ≡ true → ¬ (t.mdps ≡ n)
-  other_counts p n t h e counts' same = let bad : true ≡ false = sym counts' ∙ (same_shape p n t e same ∙ h) in cc
-
-  fewer_still : (p n : ℕ) (t : Shape) → counts (shape_with p (suc n)) ≡ false → Upto p (suc n) t → counts t ≡ true → Upto p n t
-  fewer_still p n t h among counts' =
-      let other = other_counts p (suc n) t h among.0 counts' in
-      let le : t.mdps ≤ suc n = among.1 in (among.0, omega (arith, other, le))
-
-  one_more : (p n : ℕ) (o : Option Shape) → counts (shape_with p (suc n)) ≡ false → IsGreatestOf (Upto p n) o → IsGreatestOf (Upto p (suc n)) o
-  one_more p n None h less = λ t among counts'. less t (fewer_still p n t h among counts') counts'
-  one_more p n (Some s) h less =
-      let le : s.mdps ≤ n = less.0.1 in
-      ((less.0.0, omega (arith, le)), less.1, λ t among counts'. less.2 t (fewer_still p n t h among counts') counts')
-
-  greatest_at : (p n : ℕ) (b : Bool) → counts (shape_with p (suc n)) ≡ b → IsGreatestOf (Upto p n) (found (upto p n)) → IsGreatestOf (Upto p (suc n)) (found (upto p (suc n)))
-  greatest_at p n true h less =
-      subst (IsGreatestOf (Upto p (suc n))) (sym (taken eligible_in room (shape_with p (suc n)) (upto p n) h)) (most_first p (suc n) h)
-  greatest_at p n false h less =
-      subst (IsGreatestOf (Upto p (suc n))) (sym (passed eligible_in room (shape_with p (suc n)) (upto p n) h)) (one_more p n (found (upto p n)) h less)
-
-  greatest_zero : (p : ℕ) (b : Bool) → counts (shape_with p 0) ≡ b → IsGreatestOf (Upto p 0) (found (upto p 0))
-  greatest_zero p true h =
-      subst (IsGreatestOf (Upto p 0)) (sym (taken eligible_in room (shape_with p 0) [] h)) (most_first p 0 h)
-  greatest_zero p false h =
-      subst (IsGreatestOf (Upto p 0)) (sym (passed eligible_in room (shape_with p 0) [] h))
-      (λ t among counts'. let le : t.mdps ≤ 0 = among.1 in other_counts p 0 t h among.0 counts' (omega (arith, le)))
-
-  greatest_upto : (p n : ℕ) → IsGreatestOf (Upto p n) (found (upto p n))
-  greatest_upto p zero = greatest_zero p (counts (shape_with p 0)) refl
-  greatest_upto p (suc n) = greatest_at p n (counts (shape_with p (suc n))) refl (greatest_upto p n)
-
-  -- ---- with at most so many pairs
-
-  abbrev AtMost : ℕ → Shape → Type 0
-  AtMost n t = (t.pairs ≤ n) × (t.mdps ≤ t.pairs)
-
-  abbrev all : ℕ → List Shape
-  all n = flat_map shapes_with (down_from n)
-
-  pairs_zero : (o : Option Shape) → IsGreatestOf (Upto 0 0) o → IsGreatestOf (AtMost 0) o
-  pairs_zero None h = λ t among. let none : t.pairs ≤ 0 = among.0 in let few : t.mdps ≤ t.pairs = among.1 in h t (omega (arith, none), omega (arith, none, few))
-  pairs_zero (Some s) h =
-      let own : s.pairs ≡ 0 = h.0.0 in
-      let few : s.mdps ≤ 0 = h.0.1 in (
-        (omega (arith, own), omega (arith, few)),
-        h.1,
-        λ t among. let none : t.pairs ≤ 0 = among.0 in let few : t.mdps ≤ t.pairs = among.1 in h.2 t (omega (arith, none), omega (arith, none, few)),
-      )
-
-  -- a shape with so many pairs is not less than one with as many that counts, nor than one with fewer
-  pairs_some : (n : ℕ) (s t : Shape) → IsGreatestOf (Upto (suc n) (suc n)) (Some s) → AtMost (suc n) t → counts t ≡ true → (n < t.pairs) ⊎ (t.pairs ≤ n) → ¬ IsGreater t s
-  pairs_some n s t h among counts' (inl more) =
-      let most : t.pairs ≤ suc n = among.0 in
-      let few : t.mdps ≤ t.pairs = among.1 in h.2 t (omega (arith, most, more), omega (arith, most, few)) counts'
-  pairs_some n s t h among counts' (inr fewer) =
-      let own : s.pairs ≡ suc n = h.0.0 in
-      not_greater t s (omega (arith, own, fewer)) (λ e. absurd (omega (arith, own, fewer, e)))
-
-  fewer_pairs : (n : ℕ) (t : Shape) → IsGreatestOf (Upto (suc n) (suc n)) None → AtMost (suc n) t → counts t ≡ true → (n < t.pairs) ⊎ (t.pairs ≤ n) → AtMost n t
-  fewer_pairs n t h among counts' (inl more) =
-      let most : t.pairs ≤ suc n = among.0 in
-      let few : t.mdps ≤ t.pairs = among.1 in
-      absurd (h t (omega (arith, most, more), omega (arith, most, few)) counts')
-  fewer_pairs n t h among counts' (inr fewer) = (fewer, among.1)
-
-  none_with : (n : ℕ) (o : Option Shape) → IsGreatestOf (Upto (suc n) (suc n)) None → IsGreatestOf (AtMost n) o → IsGreatestOf (AtMost (suc n)) o
-  none_with n None h less = λ t among counts'. less t (fewer_pairs n t h among counts' (cases_lt n t.pairs)) counts'
-  none_with n (Some s) h less =
-      let le : s.pairs ≤ n = less.0.0 in
-      ((omega (arith, le), less.0.1), less.1, λ t among counts'. less.2 t (fewer_pairs n t h among counts' (cases_lt n t.pairs)) counts')
-
-  some_with : (n : ℕ) (s : Shape) → IsGreatestOf (Upto (suc n) (suc n)) (Some s) → IsGreatestOf (AtMost (suc n)) (Some s)
-  some_with n s h =
-      let own : s.pairs ≡ suc n = h.0.0 in
-      let few : s.mdps ≤ suc n = h.0.1 in
-      ((omega (arith, own), omega (arith, own, few)), h.1, λ t among counts'. pairs_some n s t h among counts' (cases_lt n t.pairs))
-
-  pairs_at : (n : ℕ) (o : Option Shape) → found (shapes_with (suc n)) ≡ o → IsGreatestOf (Upto (suc n) (suc n)) o → IsGreatestOf (AtMost n) (found (all n))
-      → IsGreatestOf (AtMost (suc n)) (found (all (suc n)))
-  pairs_at n None e h less =
-      subst (IsGreatestOf (AtMost (suc n))) (sym (none_first eligible_in room (shapes_with (suc n)) (all n) e)) (none_with n (found (all n)) h less)
-  pairs_at n (Some s) e h less =
-      subst (IsGreatestOf (AtMost (suc n))) (sym (some_first eligible_in room (shapes_with (suc n)) (all n) s e)) (some_with n s h)
-
-  zero_at : (o : Option Shape) → found (shapes_with 0) ≡ o → IsGreatestOf (AtMost 0) o → IsGreatestOf (AtMost 0) (found (all 0))
-  zero_at None e h = subst (IsGreatestOf (AtMost 0)) (sym (none_first eligible_in room (shapes_with 0) [] e)) h
-  zero_at (Some s) e h = subst (IsGreatestOf (AtMost 0)) (sym (some_first eligible_in room (shapes_with 0) [] s e)) h
-
-  greatest_pairs : (n : ℕ) → IsGreatestOf (AtMost n) (found (all n))
-  greatest_pairs zero = zero_at (found (shapes_with 0)) refl (pairs_zero (found (shapes_with 0)) (greatest_upto 0 0))
-  greatest_pairs (suc n) = pairs_at n (found (shapes_with (suc n))) refl (greatest_upto (suc n) (suc n)) (greatest_pairs n)
+-- what is found in a bracket is the greatest of its shapes
+pub greatest_known : (eligible_in : Shape → List Arrangement) (frame : Frame) (o : Option Shape) → greatest_shape eligible_in frame ≡ o
+    → IsGreatestOf eligible_in (fits frame) (all (length frame.scores / 2)) o
+greatest_known eligible_in frame o e =
+    subst (IsGreatestOf eligible_in (fits frame) (all (length frame.scores / 2))) e
+    (greatest_of eligible_in (fits frame) (all (length frame.scores / 2)) (falls_all (length frame.scores / 2)))
 
 -- ---- in a bracket
 
@@ -164,20 +139,18 @@ module _ (facts : Facts) (reached : Reached) (lower : List ℕ) where
   abbrev room_here : Shape → Bool
   room_here = fits (frame_of facts reached)
 
-  abbrev most_here : ℕ
-  most_here = length (frame_of facts reached).scores / 2
+  abbrev all_here : List Shape
+  all_here = all (length (frame_of facts reached).scores / 2)
 
-  among_here : (t : Shape) → Fits (frame_of facts reached) t → AtMost (eligible facts reached lower) room_here most_here t
-  among_here t h = (few_pairs (frame_of facts reached) t h, h.within_pairs)
+  among_here : (t : Shape) → Fits (frame_of facts reached) t → IsIn t all_here
+  among_here t h = among (length (frame_of facts reached).scores / 2) t (few_pairs (frame_of facts reached) t h) h.within_pairs
 
   counts_here : (t : Shape) → Fits (frame_of facts reached) t → has_member (eligible facts reached lower t) ≡ true → has (eligible facts reached lower) room_here t ≡ true
   counts_here t h has' = and_from (room_here t) (has_member (eligible facts reached lower t)) (test_by_fits (frame_of facts reached) t h) has'
 
-  known : (o : Option Shape) → shape_of facts reached lower ≡ o → IsGreatestOf (eligible facts reached lower) room_here (AtMost (eligible facts reached lower) room_here most_here) o
+  known : (o : Option Shape) → shape_of facts reached lower ≡ o → IsGreatestOf (eligible facts reached lower) room_here all_here o
   unfolding shape_of
-  known o e =
-      subst (IsGreatestOf (eligible facts reached lower) room_here (AtMost (eligible facts reached lower) room_here most_here)) e
-      (greatest_pairs (eligible facts reached lower) room_here most_here)
+  known o e = greatest_known (eligible facts reached lower) (frame_of facts reached) o e
 
   pub none_is_greater : (s t : Shape) → shape_of facts reached lower ≡ Some s → Fits (frame_of facts reached) t → has_member (eligible facts reached lower t) ≡ true → ¬ IsGreater t s
   none_is_greater s t e h has' = (known (Some s) e).2 t (among_here t h) (counts_here t h has')

@@ -1,10 +1,11 @@
 -- The first shape that has a candidate, one shape after another.
-use Rattle.std.proofs.Common.{◌≡◌, ℕ, zero, suc, ◌+◌, ◌-◌, ◌*◌, ◌<◌, ◌≤◌, Bool, true, false, not, ◌&&◌, nat_lt, cond, List, [], ◌∷◌, ◌++◌, map, filter, length, Option, Some, None, refl, sym, ap, ◌∙◌, arith}
+use Rattle.std.proofs.Common.{◌≡◌, ℕ, zero, suc, ◌+◌, ◌-◌, ◌*◌, ◌<◌, ◌≤◌, Bool, true, false, not, ◌&&◌, nat_lt, cond, List, [], ◌∷◌, ◌++◌, map, filter, length, Option, Some, None, inl, inr, refl, sym, ap, ◌∙◌, arith}
 use Rattle.std.specs.Prelude.{flat_map}
 use Rattle.std.proofs.lemmas.Bool.Decides.{nat_tests}
 use Rattle.dutch_order.specs.declared.bracket.Shape.{Shape}
 use Rattle.dutch_order.specs.Arrangements.{Frame, Arrangement, Fits, remainder_pairs}
 use Rattle.dutch_order.specs.Candidates.{Candidate}
+use Rattle.dutch_order.specs.Keys.{IsIn}
 use Rattle.dutch_bracket.specs.Shapes.{IsFirst, down_from, fits, shapes_with, has_member, first_with}
 use Rattle.std.proofs.lemmas.Bool.{and_parts}
 
@@ -24,6 +25,15 @@ fits_by_test frame shape h =
 -- a shape of which there is a first arrangement has one
 pub first_there : (some : List Arrangement) (frame : Frame) (candidate : Candidate) → IsFirst some frame candidate → has_member some ≡ true
 first_there some frame candidate h = ap has_member h.first
+
+-- some arrangement is there exactly where one is a member
+pub member_of : (some : List Arrangement) → has_member some ≡ true → (a : Arrangement) × IsIn a some
+member_of [] h = absurd (cc)
+member_of (a ∷ rest) h = (a, inl refl)
+
+pub has_in : (a : Arrangement) (some : List Arrangement) → IsIn a some → has_member some ≡ true
+has_in a [] m = absurd m
+has_in a (b ∷ rest) m = refl
 
 pub down_one : (n : ℕ) → 0 < n → down_from n ≡ n ∷ down_from (n - 1)
 down_one zero h = let bad : ⊥ = omega (arith, h) in absurd bad
@@ -64,6 +74,11 @@ module _ (eligible : Shape → List Arrangement) (room : Shape → Bool) where
 
   pub passed : (shape : Shape) (rest : List Shape) → has shape ≡ false → found_in (shape ∷ rest) ≡ found_in rest
   passed shape rest h = first_of shape rest ∙ ap (λ t. cond t (Some shape) (found_in rest)) h
+
+  -- none of some shapes has a candidate
+  pub none_in : (shapes : List Shape) → ((shape : Shape) → IsIn shape shapes → has shape ≡ false) → found_in shapes ≡ None
+  none_in [] none = refl
+  none_in (shape ∷ rest) none = passed shape rest (none shape (inl refl)) ∙ none_in rest (λ s m. none s (inr m))
 
   -- from a number of moved-down players downwards
   pub mdps_taken : (pairs n : ℕ) → has (shape_with pairs n) ≡ true → found_in (map (shape_with pairs) (down_from n)) ≡ Some (shape_with pairs n)

@@ -1,5 +1,5 @@
 -- A list of which one after the other is swapped to the front: those who stood in front follow in their order.
-use Rattle.std.proofs.Common.{◌≡◌, ℕ, zero, suc, ◌+◌, ◌-◌, ◌<◌, Bool, ◌&&◌, List, [], ◌∷◌, ◌++◌, length, take, drop, get_or, refl, sym, ◌∙◌, ap, arith, add-one}
+use Rattle.std.proofs.Common.{◌≡◌, ℕ, zero, suc, ◌+◌, ◌<◌, List, [], ◌∷◌, ◌++◌, length, take, drop, refl, sym, ◌∙◌, ap, arith, add-one}
 use Rattle.std.specs.Prelude.{slice_index, swap}
 use Rattle.std.specs.List.{slice_set, slice_index_or}
 
@@ -36,10 +36,3 @@ swap-turned (suc k) (x ∷ xs) lt =
 
 pub turned-more : (k : ℕ) (xs : List ℕ) → brought k xs ≡ turned (k + 1) xs
 turned-more k xs = ap (λ j. turned j xs) (sym (add-one k))
-
--- what is asked of the first of a list, and of the others, after one was brought to the front
-pub of_brought : (meets : ℕ → Bool) (cover : ℕ → List ℕ → Bool) (k : ℕ) (xs ys : List ℕ) → ys ≡ brought k xs → length ys ≡ length xs
-    → (meets (slice_index ys 0) && cover (length ys - 1) (drop 1 ys)) ≡ (meets (get_or xs k 0) && cover (length xs - 1) (take k xs ++ drop (k + 1) xs))
-of_brought meets cover k xs ys same len =
-    ap (λ n. meets (slice_index ys 0) && cover (n - 1) (drop 1 ys)) len
-    ∙ ap (λ zs. meets (slice_index zs 0) && cover (length xs - 1) (drop 1 zs)) same

@@ -1,38 +1,13 @@
 -- Which players can be paired out (C.04.3 A.9), and how many steps it may take to tell.
-use Rattle.std.specs.Prelude.{◌≡◌, ℕ, zero, suc, ◌+◌, ◌*◌, ◌<◌, ◌≤◌, Bool, true, false, ◌&&◌, List, [], ◌∷◌, ◌++◌, flat_map, map, if◌then◌else◌}
+use Rattle.std.specs.Prelude.{◌≡◌, ℕ, zero, suc, ◌+◌, ◌*◌, ◌<◌, ◌≤◌, Bool, true, false, ◌&&◌, List, [], ◌∷◌, flat_map, map}
 use Rattle.std.specs.List.{list_all, list_any}
 use Rattle.dutch_order.specs.Arrangements.{leaves_one}
 use Rattle.dutch_order.specs.declared.steps.Budget.{Budget}
 use Rattle.dutch_bracket.specs.declared.completion.Answer.{Answer}
 use Rattle.dutch_bracket.specs.declared.completion.Answer.TheVariants.{Yes, No, Undecided}
-
--- pairs of players, in each the one first who stands earlier in the list (our own choice), the pairs in the order of their first
--- members, each of two who may meet; and the players that are left out
-abbrev pub Covers : (ℕ → ℕ → Bool) → List ℕ → List (ℕ × ℕ) → List ℕ → Type 0
-Covers meets players [] out = players ≡ out
-Covers meets players (pair ∷ pairs) out = record {
-  skipped : List ℕ;
-  between : List ℕ;
-  behind : List ℕ;
-  later : List ℕ;
-  players_are : players ≡ skipped ++ pair.0 ∷ (between ++ pair.1 ∷ behind);
-  may_meet : meets pair.0 pair.1 ≡ true;
-  out_are : out ≡ skipped ++ later;
-  covered : Covers meets (between ++ behind) pairs later;
-}
-
--- C.2: nobody is left out, or one player who may be
-abbrev pub MayBeLeftOut : (ℕ → Bool) → List ℕ → Type 0
-MayBeLeftOut may_be_left [] = Unit {0}
-MayBeLeftOut may_be_left (a ∷ []) = may_be_left a ≡ true
-MayBeLeftOut may_be_left (a ∷ b ∷ rest) = ⊥
-
--- A.9: some list of pairs of those who may meet leaves out at most one of the players, who may be left out
-pub record Completable (meets : ℕ → ℕ → Bool) (may_be_left : ℕ → Bool) (players : List ℕ) : Type 0 where
-  pub pairs : List (ℕ × ℕ)
-  pub out : List ℕ
-  pub covered : Covers meets players pairs out
-  pub left_out : MayBeLeftOut may_be_left out
+-- A.9: some list of pairs of those who may meet leaves out at most one of the players, who may be left out; in each pair the one first who
+-- stands earlier in the list (our own choice), the pairs in the order of their first members
+pub use Rattle.dual.specs.Matchings.{Covers, MayBeLeftOut, Completable}
 
 -- a way to pair some players: its pairs, and those whom it leaves out
 pub record Way : Type 0 where
@@ -73,11 +48,27 @@ is_complete meets may_be_left way = list_all (λ pair. meets pair.0 pair.1) way.
 abbrev pub can_complete : (ℕ → ℕ → Bool) → (ℕ → Bool) → List ℕ → Bool
 can_complete meets may_be_left players = list_any (is_complete meets may_be_left) (all_pairings players)
 
--- the most steps that it takes to tell whether n players are completable, where one may be left out and where none may
+-- the steps of one taker: none where there is none, else the question and what one with one fewer of them may take
+abbrev pub most_of_one : (ℕ → ℕ) → ℕ → ℕ
+most_of_one most zero = 0
+most_of_one most (suc k) = 1 + most k
+
+-- the steps of one who is left out, if one may be: the question and what the others may take
+abbrev pub most_of_bye : ℕ → Bool → ℕ
+most_of_bye most true = 1 + most
+most_of_bye most false = 0
+
+-- the most steps that it takes to tell whether n players can be paired out, at most k of them with takers, where one may be left out and
+-- where none may: the partners of the first, the takers, and the bye
+abbrev pub most_taking : ℕ → ℕ → Bool → ℕ
+most_taking zero k bye = 0
+most_taking (suc zero) k bye = most_of_one (λ j. 0) k + most_of_bye 0 bye
+most_taking (suc (suc n)) k bye =
+    (n + 1) * (1 + most_taking n k bye) + (most_of_one (λ j. most_taking (suc n) j bye) k + most_of_bye (most_taking (suc n) k false) bye)
+
+-- the most steps that it takes to tell whether n players are completable, where one may be left out and where none may: with no taker
 abbrev pub most : ℕ → Bool → ℕ
-most zero bye = 0
-most (suc zero) bye = if bye then 1 else 0
-most (suc (suc n)) bye = (n + 1) * (1 + most n bye) + (if bye then 1 + most (suc n) false else 0)
+most n bye = most_taking n 0 bye
 
 -- a call made at most n steps and took none back, and the limit stays
 pub record Spends (n : ℕ) (old new : Budget) : Type 0 where

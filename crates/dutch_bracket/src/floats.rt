@@ -1,10 +1,10 @@
 // Players who go down or up again, as in one of the last two rounds (C.04.3 C.12 to C.19).
-ghost use Rattle.std.specs.Prelude.{◌≡◌, ◌+◌, ◌≤◌, length, map, filter};
+ghost use Rattle.std.specs.Prelude.{◌≡◌, ◌+◌, ◌<◌, ◌≤◌, length, map, filter};
 ghost use Rattle.arrayvec.specs.ArrayVec.{array_vec_len};
 ghost use Rattle.dutch_player.specs.declared.float.Float.TheVariants.{Up, Down};
 ghost use Rattle.dutch_bracket.specs.Seated.{is_uneven, goes, floats_down, going_down, going_up, AreSeats, AllPairs};
 ghost use Rattle.dutch_bracket.specs.Seated.{HasSeats};
-ghost use Rattle.dutch_bracket.specs.Quality.{is_float, again, placed_all, differences};
+ghost use Rattle.dutch_bracket.specs.Quality.{again, differences, float_of, is_float, placed_all};
 
 use crate::differences::put;
 use crate::seated::{Pair, Seated, difference_down, goes, is_uneven};
@@ -20,22 +20,50 @@ pub fn is_float(float: Float, had: Option<Float>) -> bool
     }
 }
 
-/// Puts the differences of the players of pairs who float so, and did in the last round (1) or in the one before it
-/// (2), to their places.
-fn put_pairs(field: &Field, float: Float, back: u8, pairs: &[Pair], by: &mut Numbers)
-    requires inside { AllPairs field.now pairs.now }
+/// A float in the last round of a field (1) or in the one before it (2).
+#[derive(Clone, Copy)]
+pub struct Past<'a> {
+    pub field: &'a Field,
+    pub float: Float,
+    pub back: u8,
+    ghost one: { 1 ≤ back },
+    ghost two: { back ≤ 2 },
+}
+
+impl<'a> Past<'a> {
+    /// A float so many rounds ago.
+    pub fn new(field: &'a Field, float: Float, back: u8) -> Past<'a>
+        requires one { 1 ≤ back }
+        requires two { back ≤ 2 }
+        ensures field { result.field.now ≡ field.now }
+        ensures float { result.float ≡ float }
+        ensures back { result.back ≡ back }
+    {
+        Past { field, float, back }
+    }
+
+    /// Whether a seat had it.
+    pub fn was_of(&self, seat: u16) -> bool
+        requires { seat < length self.now.field.now.seats }
+        ensures { result ≡ is_float self.now.float (float_of self.now.field.now self.now.back seat) }
+    {
+        is_float(self.float, self.field.float(seat, self.back))
+    }
+}
+
+/// Puts the differences of the players of pairs who float as in a round before to their places.
+fn put_pairs(past: Past<'_>, pairs: &[Pair], by: &mut Numbers)
+    requires inside { AllPairs past.field.now pairs.now }
     requires room { array_vec_len by.old + length pairs.now ≤ LIMIT }
-    requires one { 1 ≤ back }
-    requires two { back ≤ 2 }
     ensures items { by.new.items ≡ placed_all by.old.items
-        (map (λ floater. floater.by)
-        (again field.now float back (map (goes field.now float) (filter (is_uneven field.now) pairs.now)))) }
+        (map (λ floater. floater.by) (again past.entry.field.now past.entry.float past.entry.back
+        (map (goes past.entry.field.now past.entry.float) (filter (is_uneven past.entry.field.now) pairs.now)))) }
     ensures len { array_vec_len by.new ≤ array_vec_len by.old + length pairs.now }
 {
     for pair in pairs {
-        if is_uneven(field, *pair) {
-            let floater = goes(field, float, *pair);
-            if is_float(float, field.float(floater.seat, back)) {
+        if is_uneven(past.field, *pair) {
+            let floater = goes(past.field, past.float, *pair);
+            if past.was_of(floater.seat) {
                 put(by, floater.by);
             }
         }
@@ -43,18 +71,16 @@ fn put_pairs(field: &Field, float: Float, back: u8, pairs: &[Pair], by: &mut Num
 }
 
 /// The same of downfloaters.
-fn put_down(field: &Field, least: u16, back: u8, down: &[u16], by: &mut Numbers)
-    requires inside { AreSeats field.now down.now }
+fn put_down(past: Past<'_>, least: u16, down: &[u16], by: &mut Numbers)
+    requires inside { AreSeats past.field.now down.now }
     requires room { array_vec_len by.old + length down.now ≤ LIMIT }
-    requires one { 1 ≤ back }
-    requires two { back ≤ 2 }
-    ensures items { by.new.items
-        ≡ placed_all by.old.items
-        (map (λ floater. floater.by) (again field.now Down back (map (floats_down field.now least) down.now))) }
+    ensures items { by.new.items ≡ placed_all by.old.items
+        (map (λ floater. floater.by) (again past.entry.field.now past.entry.float past.entry.back
+        (map (floats_down past.entry.field.now least) down.now))) }
 {
     for seat in down {
-        if is_float(Float::Down, field.float(*seat, back)) {
-            put(by, difference_down(field, least, *seat));
+        if past.was_of(*seat) {
+            put(by, difference_down(past.field, least, *seat));
         }
     }
 }
@@ -69,8 +95,9 @@ pub(crate) fn fill_down_again(field: &Field, candidate: &Seated, back: u8, by: &
     ensures { by.new.items ≡ differences (again field.now Down back (going_down field.now candidate.now)) }
 {
     by.clear();
-    put_pairs(field, Float::Down, back, &candidate.pairs, by);
-    put_down(field, candidate.lowest, back, &candidate.down, by);
+    let past = Past::new(field, Float::Down, back);
+    put_pairs(past, &candidate.pairs, by);
+    put_down(past, candidate.lowest, &candidate.down, by);
 }
 
 /// The same of those who go up and had an upfloat.
@@ -82,5 +109,5 @@ pub(crate) fn fill_up_again(field: &Field, candidate: &Seated, back: u8, by: &mu
     ensures { by.new.items ≡ differences (again field.now Up back (going_up field.now candidate.now)) }
 {
     by.clear();
-    put_pairs(field, Float::Up, back, &candidate.pairs, by);
+    put_pairs(Past::new(field, Float::Up, back), &candidate.pairs, by);
 }

@@ -1,31 +1,39 @@
--- No partner tried so far completes the players, and each trial took its steps.
-use Rattle.std.proofs.Common.{◌≡◌, ◌+◌, ◌*◌, ◌-◌, ◌≤◌, take, drop, length, []}
-use Rattle.dutch_bracket.specs.Completion.{most, Spends}
-use Rattle.dutch_bracket.specs.CompletionSearch.{can_cover, left_over, some_partner}
+-- No partner tried so far leaves players who can be paired out, and each trial took its steps.
+use Rattle.std.proofs.Common.{◌≡◌, ◌+◌, ◌*◌, ◌-◌, false, take, drop, length, []}
+use Rattle.dutch_bracket.specs.declared.completion.Answer.TheVariants.{No}
+use Rattle.dutch_bracket.specs.Completion.{most_taking}
+use Rattle.dutch_bracket.specs.CompletionSearch.{Searched, can_go, some_partner}
 use Rattle.dutch_bracket.proofs.Turned.{turned}
 use Rattle.dutch_bracket.proofs.completion.+search.Given as goal
 
 abbrev pub decreases-can_pair : goal.decreases-can_pair
-decreases-can_pair g l = 3 * length l.players.now
+decreases-can_pair g l = 4 * length l.players.now
 
 abbrev pub decreases-pair_first : goal.decreases-pair_first
-decreases-pair_first g l = 3 * length l.later.now + 2
+decreases-pair_first g l = 4 * length l.later.now + 3
 
 abbrev pub decreases-pair_with : goal.decreases-pair_with
-decreases-pair_with g l = 3 * length l.later.now + 1
+decreases-pair_with g l = 4 * length l.later.now + 2
+
+abbrev pub decreases-spare_first : goal.decreases-spare_first
+decreases-spare_first g l = 4 * length l.later.now + 2
+
+abbrev pub decreases-take_first : goal.decreases-take_first
+decreases-take_first g l = 4 * length l.later.now + 1
 
 abbrev pub decreases-leave_first : goal.decreases-leave_first
-decreases-leave_first g l = 3 * length l.later.now + 1
+decreases-leave_first g l = 4 * length l.later.now + 1
 
 abbrev pub invariant-pair_first-loop-place : goal.invariant-pair_first-loop-place
 invariant-pair_first-loop-place g l =
-    let meets = g.R.Rule.meets l.rule in
+    let meets = g.R.Rule.meets l.search.rule.now in
     let all = l.initial.later in
-    let holds = can_cover meets (left_over l.bye (g.R.Rule.may_be_left l.rule)) (length all - 1) in
+    let spare = l.first.spare in
+    let holds = can_go meets (g.R.Rule.may_be_left l.search.rule.now) l.search.takers.now spare (length all - 1) in
+    let m = most_taking (length all - 1) spare.takers spare.bye in
     record {
       turned : l.later ≡ turned l.place all;
       len : length l.later ≡ length all;
-      same : some_partner (meets l.first) holds (take l.place all) (drop l.place all) ≡ some_partner (meets l.first) holds [] all;
-      steps : Spends (l.place * (1 + most (length all - 1) l.bye)) l.initial.budget l.budget;
-      taken : l.initial.budget.used + l.place ≤ l.budget.used;
+      same : some_partner (meets l.first.player) holds (take l.place all) (drop l.place all) ≡ some_partner (meets l.first.player) holds [] all;
+      searched : Searched No false (l.place * (1 + m)) (length all + 1) l.place l.initial.budget l.budget;
     }

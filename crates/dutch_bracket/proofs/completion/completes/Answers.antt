@@ -1,15 +1,27 @@
--- The list in which the search works holds the players.
-use Rattle.std.proofs.Common.{◌≡◌, ◌∙◌, ◌++◌, ℕ, List, true, length, ap, subst}
-use Rattle.dutch_bracket.specs.Completion.{Completable, most, IsStopped, MatchAnswer}
+-- The list in which the search works holds the players, and what it tells is the answer about a list of pairs.
+use Rattle.std.proofs.Common.{◌≡◌, ◌∙◌, ◌++◌, ℕ, List, [], true, length, ap, subst}
+use Rattle.dutch_bracket.specs.Completion.{Completable, most, IsStopped, MatchAnswer, Spends, Takes}
+use Rattle.dutch_bracket.proofs.Covering.{answer_by_search}
 use Rattle.dutch_bracket.proofs.completion.completes.Goals as goal
+
+copied : (list all none players : List ℕ) → list ≡ all → all ≡ none ++ players → none ≡ [] → list ≡ players
+copied list all none players e f g = e ∙ (f ∙ ap (λ (xs : List ℕ). xs ++ players) g)
 
 pub returns-clause-answer : goal.returns-clause-answer
 returns-clause-answer g c =
     let meets = g.R.Rule.meets c.args.rule.now in
     let may_be_left = g.R.Rule.may_be_left c.args.rule.now in
-    let copied : c.deref_mut.result.now ≡ c.args.players.now =
-    c.deref_mut.ensures.value ∙ (c.push_all.ensures ∙ ap (λ (xs : List ℕ). xs ++ c.args.players.now) c.new-all.ensures) in
     subst
-    (λ (xs : List ℕ). MatchAnswer c.completes_in.result (Completable meets may_be_left xs) (¬ Completable meets may_be_left xs)
-    (IsStopped (most (length xs) true) c.args.budget.now c.completes_in.new.budget))
-    copied c.completes_in.ensures.answer
+    (λ (xs : List ℕ). MatchAnswer c.can_pair.result (Completable meets may_be_left xs) (¬ Completable meets may_be_left xs)
+    (IsStopped (most (length xs) true) c.args.budget.now c.can_pair.new.budget)) (copied _ _ _ _ c.deref_mut.ensures.value c.push_all.ensures c.new-all.ensures)
+    (answer_by_search meets _ may_be_left c.deref_mut.result.now c.can_pair.result (IsStopped (most (length c.deref_mut.result.now) true) c.args.budget.now c.can_pair.new.budget)
+    c.can_pair.ensures.searched.told)
+
+pub returns-clause-steps : goal.returns-clause-steps
+returns-clause-steps g c =
+    subst (λ (xs : List ℕ). Spends (most (length xs) true) c.args.budget.now c.can_pair.new.budget) (copied _ _ _ _ c.deref_mut.ensures.value c.push_all.ensures c.new-all.ensures) c.can_pair.ensures.searched.steps
+
+pub returns-clause-taken : goal.returns-clause-taken
+returns-clause-taken g c =
+    subst (λ (xs : List ℕ). Takes c.can_pair.result (length xs) (length xs) c.args.budget.now c.can_pair.new.budget) (copied _ _ _ _ c.deref_mut.ensures.value c.push_all.ensures c.new-all.ensures)
+    c.can_pair.ensures.searched.taken

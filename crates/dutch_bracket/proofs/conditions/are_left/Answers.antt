@@ -1,18 +1,10 @@
-use Rattle.std.proofs.Common.{arith, ◌≡◌, ℕ, zero, suc, ◌+◌, ◌-◌, ◌<◌, ◌≤◌, inl, inr, true, false, nat_le, List, [], ◌∷◌, length, slice_index, refl, sym, ◌∙◌, subst}
+use Rattle.std.proofs.Common.{arith, ◌≡◌, ◌+◌, ◌-◌, ◌<◌, ◌≤◌, inl, inr, true, false, nat_le, length, slice_index, refl, sym, ◌∙◌, subst}
 use Rattle.std.proofs.lemmas.Bool.{and_from, cases_lt, le-leb}
 use Rattle.dutch_bracket.specs.Reached.{is_number}
-use Rattle.dutch_bracket.specs.Seated.{AllNumbers}
+use Rattle.dutch_order.proofs.Turns.{at_index}
+use Rattle.dutch_bracket.proofs.AllLemmas.{all_at}
 use Rattle.dutch_bracket.proofs.conditions.are_left.Goals.{then-number-last-via-then-number-last, then-number-last-via-else-number-last+then-not-has}
 use Rattle.dutch_bracket.proofs.conditions.are_left.Goals as goal
-
-number_at : (seats numbers : List ℕ) (i : ℕ) → AllNumbers seats numbers → i < length numbers → (0 < slice_index numbers i) × (slice_index numbers i ≤ length seats)
-number_at seats [] i all lt = elim lt [ ]
-number_at seats (number ∷ numbers) zero all lt = all.0
-number_at seats (number ∷ numbers) (suc i) all lt = number_at seats numbers i all.1 (omega (arith, lt))
-
-numbers_all : (seats numbers : List ℕ) → ((i : ℕ) → i < length numbers → (0 < slice_index numbers i) × (slice_index numbers i ≤ length seats)) → AllNumbers seats numbers
-numbers_all seats [] each = tt
-numbers_all seats (number ∷ numbers) each = (each zero (omega arith), numbers_all seats numbers (λ i lt. each (suc i) (omega (arith, lt))))
 
 pub returns-then-number-last : goal.returns-then-number-last
 returns-then-number-last c =
@@ -21,7 +13,8 @@ returns-then-number-last c =
     let seats = c.args.reached.now.seats in (
       (λ e. let bad : false ≡ true = e in cc),
       λ left.
-          let here = number_at seats down i left.numbers c.loop-number-test.true in
+          let here : (0 < slice_index down i) × (slice_index down i ≤ length seats) =
+          at_index (λ n. (0 < n) × (n ≤ length seats)) down i left.numbers c.loop-number-test.true in
           elim c.then-number-last.branch [
             | then-number-last-via-then-number-last w ↦
                 elim (cases_lt 0 i) [
@@ -49,7 +42,7 @@ returns c =
     let ascend = c.loop-number.invariant.ascend in
     let all = c.loop-number-test.false in (
       (λ e. record {
-        numbers = numbers_all c.args.reached.now.seats c.args.down.now (λ i lt. numbers i (omega (arith, lt, all)));
+        numbers = all_at (λ n. (0 < n) × (n ≤ length c.args.reached.now.seats)) c.args.down.now (λ i lt. numbers i (omega (arith, lt, all)));
         ascend = (λ i lt. ascend i (omega (arith, lt, all)));
       }),
       λ left. refl,

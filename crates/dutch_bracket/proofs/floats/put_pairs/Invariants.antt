@@ -7,7 +7,7 @@ use Rattle.dutch_bracket.proofs.floats.put_pairs.Given as goal
 
 abbrev pub invariant-loop-pair : goal.invariant-loop-pair
 invariant-loop-pair l = record {
-  items : placed_all l.by.items (map (λ floater. floater.by) (again l.field l.float l.back (map (goes l.field l.float) (filter (is_uneven l.field) (drop l.pair-index l.pairs)))))
-      ≡ placed_all l.initial.by.items (map (λ floater. floater.by) (again l.field l.float l.back (map (goes l.field l.float) (filter (is_uneven l.field) l.pairs))));
+  items : placed_all l.by.items (map (λ floater. floater.by) (again l.past.field.now l.past.float l.past.back (map (goes l.past.field.now l.past.float) (filter (is_uneven l.past.field.now) (drop l.pair-index l.pairs)))))
+      ≡ placed_all l.initial.by.items (map (λ floater. floater.by) (again l.past.field.now l.past.float l.past.back (map (goes l.past.field.now l.past.float) (filter (is_uneven l.past.field.now) l.pairs))));
   len : array_vec_len l.by ≤ array_vec_len l.initial.by + l.pair-index;
 }
