@@ -55,17 +55,14 @@ abbrev pub IsLook : NextValue → Type 0 → Look → Type 0
 IsLook value stopped (Value pairs psd) = value ≡ record { pairs = pairs; psd = psd.items }
 IsLook value stopped Undecided = stopped
 
--- what is kept after an answer: with a value its list, which was used, unless memory was refused for a new one; where the limit was
--- reached, all is as it was
-abbrev pub IsKeptAfter : List ℕ → Remembered → Remembered → Look → Type 0
-IsKeptAfter down old new (Value pairs psd) = (new ≡ after_use down old) ⊎ ((is_kept down old.kept ≡ false) × (new ≡ after_refusal old))
-IsKeptAfter down old new Undecided = new ≡ old
+-- the value of a list was used: the list is kept, unless memory was refused for a new one
+abbrev pub IsUsed : List ℕ → Remembered → Remembered → Type 0
+IsUsed down old new = (new ≡ after_use down old) ⊎ ((is_kept down old.kept ≡ false) × (new ≡ after_refusal old))
 
--- a look-ahead still looks from its bracket to its next scoregroup, whatever it keeps
-pub record LooksOn (old new : Remembered) : Type 0 where
-  pub facts : new.facts ≡ old.facts
-  pub reached : new.reached ≡ old.reached
-  pub next : new.next ≡ old.next
+-- what is kept after an answer: with a value its list, which was used; where the limit was reached, all is as it was
+abbrev pub IsKeptAfter : List ℕ → Remembered → Remembered → Look → Type 0
+IsKeptAfter down old new (Value pairs psd) = IsUsed down old new
+IsKeptAfter down old new Undecided = new ≡ old
 
 -- a look-ahead of an ordinary bracket above lower seats: it looks to their first scoregroup
 pub record LooksFrom (facts : Facts) (reached : Reached) (lower : List ℕ) (look : Remembered) : Type 0 where

@@ -13,7 +13,7 @@ ghost use Rattle.dutch_bracket.specs.Reached.{IsOf};
 ghost use Rattle.dutch_bracket.specs.NextBracket.{IsNext, IsOfBracket, AreLeft, quality};
 ghost use Rattle.dutch_bracket.specs.QualityIn.{quality_in, next_in};
 ghost use Rattle.dutch_bracket.specs.Brackets.{quality_of};
-ghost use Rattle.dutch_choice.specs.Remembered.{value_below, is_kept, is_key, IsLook, IsKeptAfter, LooksOn, LooksBelow};
+ghost use Rattle.dutch_choice.specs.Remembered.{value_below, is_kept, is_key, IsLook, IsUsed, IsKeptAfter, LooksBelow, after_use};
 ghost use Rattle.dutch_order.specs.Steps.{Spends};
 
 use dutch_bracket::context::Context;
@@ -214,14 +214,15 @@ impl<'a> LookAhead<'a> {
         requires { AreLeft self.old.reached down.now }
         ensures put { result ≡ true
             → next_in (quality_in quality.new) ≡ value_below self.old.facts self.old.reached self.old.next down.now }
-        ensures none { result ≡ false → is_kept down.now self.new.kept ≡ false }
-        ensures looks_on { LooksOn self.old self.new }
+        ensures none { result ≡ false → is_kept down.now self.old.kept ≡ false }
+        ensures used { result ≡ true → self.new ≡ after_use down.now self.old }
+        ensures unused { result ≡ false → self.new ≡ self.old }
     {
         fill_key(down, &mut self.key);
         put_recalled(&mut self.values, &self.key, quality)
     }
 
-    /// Fills the quality of a candidate of the bracket.
+    /// Fills the quality of a candidate of the bracket. A value that is kept takes no step.
     #[tactic(auto, using(dutch_bracket::proofs::NextBrackets::left_by_candidate), unfolding(dutch_bracket::specs::NextBracket::quality, dutch_bracket::specs::Quality::quality_with))]
     fn fill_quality(
         &mut self,
@@ -233,7 +234,10 @@ impl<'a> LookAhead<'a> {
         ensures answer { MatchResult result
             (λ _. quality_in room.new.quality ≡ quality self.old.facts self.old.reached self.old.next candidate.now)
             (λ _. budget.new.used ≡ budget.new.limit) }
-        ensures looks_on { LooksOn self.old self.new }
+        ensures free { is_kept candidate.now.down self.old.kept ≡ true → budget.new.used ≡ budget.old.used }
+        ensures kept { MatchResult result
+            (λ _. IsUsed candidate.now.down self.old self.new)
+            (λ _. self.new ≡ self.old) }
         ensures spends { Spends budget.old budget.new }
     {
         let (field, reached, down) = (self.field, self.reached, candidate.down());
