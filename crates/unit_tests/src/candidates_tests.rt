@@ -53,16 +53,23 @@ fn listing(
     Ok((numbers, budget.used))
 }
 
-// Whether the candidates have these numbers, with ample steps and, in as many, under limits that rise from 0.
-fn are_listed(
-    alloc: Global,
-    bracket: &Bracket,
+// A bracket whose candidates are asked for, their shape, and who may meet.
+#[derive(Drop)]
+struct Asked<'a> {
+    bracket: &'a Bracket,
     shape: Shape,
-    rule: &Barred,
-    numbers: &[u16],
-) -> Result<bool, Fail>
-    requires { Fits bracket.now shape }
+    rule: &'a Barred,
+}
+
+// Whether the candidates have these numbers, with ample steps and, in as many, under limits that rise from 0.
+fn are_listed(alloc: Global, asked: &Asked<'_>, numbers: &[u16]) -> Result<bool, Fail>
+    requires { Fits asked.now.bracket.now asked.now.shape }
 {
+    let Asked {
+        bracket,
+        shape,
+        rule,
+    } = *asked;
     let (ample, used) = listing(alloc, Candidates::new(bracket, shape, rule), ALL, AMPLE)?;
     let (raised, used_again) = listing(alloc, Candidates::new(bracket, shape, rule), ALL, 0)?;
     Ok(ample.as_slice() == numbers && raised.as_slice() == numbers && used == used_again)
@@ -70,16 +77,14 @@ fn are_listed(
 
 // From how many arrangements of the bracket and shape come exactly the legal ones behind them: those of the first
 // `most` that stand before the first one from which others come. `legal` has the numbers of the legal ones.
-fn right_rests(
-    alloc: Global,
-    bracket: &Bracket,
-    shape: Shape,
-    rule: &Barred,
-    legal: &[u16],
-    most: usize,
-) -> Result<usize, Fail>
-    requires { Fits bracket.now shape }
+fn right_rests(alloc: Global, asked: &Asked<'_>, legal: &[u16], most: usize) -> Result<usize, Fail>
+    requires { Fits asked.now.bracket.now asked.now.shape }
 {
+    let Asked {
+        bracket,
+        shape,
+        rule,
+    } = *asked;
     let mut arrangements = Candidates::new(bracket, shape, &FREE);
     let mut budget = Budget {
         limit: AMPLE,
@@ -115,11 +120,13 @@ fn four_moved_down_of_whom_two_are_paired(rt: HostRuntime) -> Result<(), Fail> {
     let alloc = rt.alloc();
     let bracket = Bracket::new(&[6, 6, 4, 2, 0, 0], 4, false);
     let shape = Shape { pairs: 2, mdps: 2 };
-    assert!(rt; are_listed(alloc, &bracket, shape, &FREE, &MOVED_DOWN)?);
-    assert_eq!(rt;
-        right_rests(alloc, &bracket, shape, &FREE, &MOVED_DOWN, ALL)?,
-        12
-    );
+    let asked = Asked {
+        bracket: &bracket,
+        shape,
+        rule: &FREE,
+    };
+    assert!(rt; are_listed(alloc, &asked, &MOVED_DOWN)?);
+    assert_eq!(rt; right_rests(alloc, &asked, &MOVED_DOWN, ALL)?, 12);
     Ok(())
 }
 
@@ -133,8 +140,13 @@ fn four_players_of_one_score(rt: HostRuntime) -> Result<(), Fail> {
     let alloc = rt.alloc();
     let bracket = Bracket::new(&[0, 0, 0, 0], 0, true);
     let shape = Shape { pairs: 2, mdps: 0 };
-    assert!(rt; are_listed(alloc, &bracket, shape, &FREE, &FOUR)?);
-    assert_eq!(rt; right_rests(alloc, &bracket, shape, &FREE, &FOUR, ALL)?, 12);
+    let asked = Asked {
+        bracket: &bracket,
+        shape,
+        rule: &FREE,
+    };
+    assert!(rt; are_listed(alloc, &asked, &FOUR)?);
+    assert_eq!(rt; right_rests(alloc, &asked, &FOUR, ALL)?, 12);
     Ok(())
 }
 
@@ -152,11 +164,13 @@ fn from_legal_and_barred_arrangements_of_four(rt: HostRuntime) -> Result<(), Fai
     };
     let bracket = Bracket::new(&[0, 0, 0, 0], 0, true);
     let shape = Shape { pairs: 2, mdps: 0 };
-    assert!(rt; are_listed(alloc, &bracket, shape, &rule, &FOUR_WITH_A_BAR)?);
-    assert_eq!(rt;
-        right_rests(alloc, &bracket, shape, &rule, &FOUR_WITH_A_BAR, ALL)?,
-        12
-    );
+    let asked = Asked {
+        bracket: &bracket,
+        shape,
+        rule: &rule,
+    };
+    assert!(rt; are_listed(alloc, &asked, &FOUR_WITH_A_BAR)?);
+    assert_eq!(rt; right_rests(alloc, &asked, &FOUR_WITH_A_BAR, ALL)?, 12);
     Ok(())
 }
 
@@ -165,14 +179,16 @@ fn the_first_candidates_of_eleven(rt: HostRuntime) -> Result<(), Fail> {
     let alloc = rt.alloc();
     let bracket = Bracket::new(&[0, 0, 0, 0, 0, 0, 0, 0, 0, 0, 0], 0, true);
     let shape = Shape { pairs: 5, mdps: 0 };
+    let asked = Asked {
+        bracket: &bracket,
+        shape,
+        rule: &FREE,
+    };
     let candidates = Candidates::new(&bracket, shape, &FREE);
     let (first, _) = listing(alloc, candidates, 200, AMPLE)?;
     assert_eq!(rt; first.len(), 2200);
     assert!(rt; first.ends_with(&[1, 2, 3, 4, 5, 7, 10, 8, 6, 11, 9]));
-    assert_eq!(rt;
-        right_rests(alloc, &bracket, shape, &FREE, &first, 200)?,
-        200
-    );
+    assert_eq!(rt; right_rests(alloc, &asked, &first, 200)?, 200);
     Ok(())
 }
 
@@ -197,8 +213,13 @@ const STAYS: Barred = Barred {
 fn the_one_left_over_is_asked_about(rt: HostRuntime) -> Result<(), Fail> {
     let bracket = Bracket::new(&[2, 2, 0], 2, true);
     let shape = Shape { pairs: 1, mdps: 1 };
+    let asked = Asked {
+        bracket: &bracket,
+        shape,
+        rule: &STAYS,
+    };
     let numbers = [1, 3, 2, 2, 3, 1];
-    assert!(rt; are_listed(rt.alloc(), &bracket, shape, &STAYS, &numbers)?);
+    assert!(rt; are_listed(rt.alloc(), &asked, &numbers)?);
     Ok(())
 }
 
@@ -207,12 +228,14 @@ fn the_resident_left_over_is_asked_about(rt: HostRuntime) -> Result<(), Fail> {
     let alloc = rt.alloc();
     let bracket = Bracket::new(&[0, 0, 0], 0, true);
     let shape = Shape { pairs: 1, mdps: 0 };
+    let asked = Asked {
+        bracket: &bracket,
+        shape,
+        rule: &STAYS,
+    };
     let numbers = [1, 3, 2, 2, 3, 1, 3, 1, 2, 3, 2, 1];
-    assert!(rt; are_listed(alloc, &bracket, shape, &STAYS, &numbers)?);
-    assert_eq!(rt;
-        right_rests(alloc, &bracket, shape, &STAYS, &numbers, ALL)?,
-        6
-    );
+    assert!(rt; are_listed(alloc, &asked, &numbers)?);
+    assert_eq!(rt; right_rests(alloc, &asked, &numbers, ALL)?, 6);
     Ok(())
 }
 
@@ -305,11 +328,10 @@ impl<'a> Bound for ByDifference<'a> {
 }
 
 // Whether a listing within a bound gives candidates with these numbers and then ends.
-fn are_left<B: Bound>(
+fn are_left<B: Bound<Room = ()>>(
     alloc: Global,
     mut candidates: Candidates<'_, Barred>,
     bound: &B,
-    room: &mut B::Room,
     numbers: &[u16],
 ) -> Result<bool, Fail>
     requires frame { B.frame bound.now ≡ candidates.frame }
@@ -323,7 +345,7 @@ fn are_left<B: Bound>(
     };
     let mut left = Vec::new(alloc);
     for _turn in 0..100u32 {
-        match candidates.next_within(bound, room, &mut budget) {
+        match candidates.next_within(bound, &mut (), &mut budget) {
             Step::Found(candidate) => left.extend_from_slice(&numbers_of(alloc, &candidate)?)?,
             Step::End => return Ok(left.as_slice() == numbers),
             Step::Undecided => return Ok(false),
@@ -344,7 +366,7 @@ fn a_bound_leaves_one_s1r(rt: HostRuntime) -> Result<(), Fail> {
     };
     let candidates = Candidates::new(&bracket, shape, &FREE);
     let numbers = [1, 2, 3, 4, 1, 2, 4, 3];
-    assert!(rt; are_left(rt.alloc(), candidates, &bound, &mut (), &numbers)?);
+    assert!(rt; are_left(rt.alloc(), candidates, &bound, &numbers)?);
     Ok(())
 }
 
@@ -359,7 +381,7 @@ fn a_bound_that_always_says_no_leaves_all(rt: HostRuntime) -> Result<(), Fail> {
         all: true,
     };
     let candidates = Candidates::new(&bracket, shape, &FREE);
-    assert!(rt; are_left(rt.alloc(), candidates, &bound, &mut (), &FOUR)?);
+    assert!(rt; are_left(rt.alloc(), candidates, &bound, &FOUR)?);
     Ok(())
 }
 
@@ -378,15 +400,7 @@ fn a_bound_leaves_out_a_stage_of_exchanges(rt: HostRuntime) -> Result<(), Fail> 
         rule: &FREE,
     };
     let candidates = Candidates::new(&bracket, shape, &FREE);
-    assert!(rt;
-        are_left(
-            rt.alloc(),
-            candidates,
-            &bound,
-            &mut (),
-            &FOUR_WITHOUT_A_STAGE
-        )?
-    );
+    assert!(rt; are_left(rt.alloc(), candidates, &bound, &FOUR_WITHOUT_A_STAGE)?);
     Ok(())
 }
 

@@ -1,5 +1,8 @@
 // Certificates, barriers and witnesses of a few players, worked by hand.
-ghost use Rattle.std.specs.Prelude.{◌≤◌, IfOk, length};
+//
+// Each question to a certificate or a floor stands once, in a function that answers whether it says what it must: so the
+// tests themselves hold no certificate and no wide number, and are proved in little time.
+ghost use Rattle.std.specs.Prelude.{◌≤◌, IfSome, length};
 
 use dual::{Floor, MarkedSet, Rule, Table, tells_completable, tells_incompletable};
 use std::alloc::Global;
@@ -73,7 +76,7 @@ fn three_groups_behind_one_blocker(rt: HostRuntime) {
     ];
     for (labels, most, told) in table {
         let answer = tells_incompletable(labels, most, &leaving(1), &ten);
-        assert_eq!(rt; answer, told, "{labels:?}");
+        assert!(rt; answer == told, "{most}");
     }
 }
 
@@ -95,7 +98,7 @@ fn who_may_be_left_over_decides(rt: HostRuntime) {
     ];
     for (leaves, players, told) in table {
         let answer = tells_incompletable(&labels, 2, &leaving(leaves), players);
-        assert_eq!(rt; answer, told, "{leaves} left of {}", players.len());
+        assert!(rt; answer == told, "{leaves} left of {}", players.len());
     }
 }
 
@@ -117,54 +120,120 @@ fn witnesses_of_five(rt: HostRuntime) {
     ];
     for (leaves, pairs, left, told) in table {
         let answer = tells_completable(&pairs, left, &leaving(leaves), &five);
-        assert_eq!(rt; answer, told, "{pairs:?} with {leaves}");
+        assert!(rt; answer == told, "{pairs:?} with {leaves}");
     }
 }
 
 // A certificate by its potentials, what is given to a pair and to one left over, and the marks and price of one set.
-fn table(
-    alloc: Global,
-    potentials: &[u64],
+#[derive(Drop)]
+struct Certificate<'a> {
+    potentials: &'a [u64],
     given: (u64, u64),
-    set: (&[bool], u64),
-) -> Result<Table, Fail> {
+    marks: &'a [bool],
+    price: u64,
+}
+
+// Whom a certificate is asked about, and how many of them are left over; `None`: any number.
+#[derive(Drop)]
+struct Asked<'a> {
+    rule: &'a Fours,
+    players: &'a [u16],
+    left: Option<usize>,
+}
+
+fn table(alloc: Global, certificate: &Certificate<'_>) -> Result<Table, Fail> {
+    let (given, given_left) = certificate.given;
     let mut marks = Vec::new(alloc);
-    marks.extend_from_slice(set.0)?;
+    marks.extend_from_slice(certificate.marks)?;
     let mut sets = Vec::new(alloc);
     sets.push(MarkedSet {
         marks,
-        price: Wide::from_u64(set.1),
+        price: Wide::from_u64(certificate.price),
     })?;
     Ok(Table {
-        potentials: potentials
+        potentials: certificate
+            .potentials
             .iter()
             .map(|potential| Wide::from_u64(*potential))
             .collect(alloc)?,
-        given: Wide::from_u64(given.0),
-        given_left: Wide::from_u64(given.1),
+        given: Wide::from_u64(given),
+        given_left: Wide::from_u64(given_left),
         sets,
     })
 }
 
-// The base of the floor less its debt; none where that is negative, or where there is no floor.
-fn base(
+// The floor of a certificate.
+fn floor_of(
     alloc: Global,
-    table: &Table,
-    rule: &Fours,
-    players: &[u16],
-    left: usize,
-) -> Result<Option<Wide>, Fail>
-    requires few { length players.now ≤ 65536 }
-    requires some { left ≤ length players.now }
+    certificate: &Certificate<'_>,
+    asked: &Asked<'_>,
+) -> Result<Option<Floor>, Fail>
+    requires few { length asked.now.players.now ≤ 65536 }
+    requires some { IfSome asked.now.left (λ left. left ≤ length asked.now.players.now) }
 {
-    let Some(floor) = table.floor(alloc, rule, players, left)? else {
-        return Ok(None);
+    let table = table(alloc, certificate)?;
+    let floor = match asked.left {
+        Some(left) => table.floor(alloc, asked.rule, asked.players, left)?,
+        None => table.floor_for_any(alloc, asked.rule, asked.players)?,
     };
-    Ok(floor.base().minus(floor.debt()))
+    Ok(floor)
 }
 
-fn number(value: u64) -> Option<Wide> {
-    Some(Wide::from_u64(value))
+fn is_number(found: Option<Wide>, wanted: u64) -> bool {
+    found == Some(Wide::from_u64(wanted))
+}
+
+// Whether a floor has this base and this debt.
+fn has_sums(floor: &Floor, base: u64, debt: u64) -> bool {
+    floor.base() == Wide::from_u64(base) && floor.debt() == Wide::from_u64(debt)
+}
+
+// Whether pairs that are known add so much.
+fn adds(floor: &Floor, extras: &[(u16, u16, u64)]) -> bool {
+    extras.iter().all(|(a, b, extra)| floor.extra(*a, *b) == Wide::from_u64(*extra))
+}
+
+// Whether players who are known to be left over add so much.
+fn adds_left(floor: &Floor, extras: &[(u16, u64)]) -> bool {
+    extras.iter().all(|(a, extra)| floor.extra_left(*a) == Wide::from_u64(*extra))
+}
+
+// Whether the base of the floor, less its debt, is this; `None`: it is negative, or there is no floor.
+fn has_bound(
+    alloc: Global,
+    certificate: &Certificate<'_>,
+    asked: &Asked<'_>,
+    bound: Option<u64>,
+) -> Result<bool, Fail>
+    requires few { length asked.now.players.now ≤ 65536 }
+    requires some { IfSome asked.now.left (λ left. left ≤ length asked.now.players.now) }
+{
+    let floor = floor_of(alloc, certificate, asked)?;
+    let found = match &floor {
+        Some(floor) => floor.base().minus(floor.debt()),
+        None => None,
+    };
+    Ok(match bound {
+        Some(bound) => is_number(found, bound),
+        None => found.is_none(),
+    })
+}
+
+// Whether there is a floor, with this base and this debt.
+fn has_floor(
+    alloc: Global,
+    certificate: &Certificate<'_>,
+    asked: &Asked<'_>,
+    sums: (u64, u64),
+) -> Result<bool, Fail>
+    requires few { length asked.now.players.now ≤ 65536 }
+    requires some { IfSome asked.now.left (λ left. left ≤ length asked.now.players.now) }
+{
+    let floor = floor_of(alloc, certificate, asked)?;
+    Ok(match &floor {
+        Some(floor) => has_sums(floor, sums.0, sums.1),
+        None => false,
+    })
 }
 
 const THREE: [bool; 4] = [false, true, true, true];
@@ -173,24 +242,41 @@ const THREE: [bool; 4] = [false, true, true, true];
 // 20 by the price of their set, and only one pair pays it.
 #[test]
 fn a_priced_set_of_three(rt: HostRuntime) -> Result<(), Fail> {
-    let six = [1, 2, 3, 4, 5, 6];
-    let rule = leaving(NOBODY);
-    let potentials = [0, 10, 10, 10];
-    let priced = table(rt.alloc(), &potentials, (0, 0), (&THREE, 20))?;
-    assert_eq!(rt; base(rt.alloc(), &priced, &rule, &six, 0)?, number(10));
-    let cheap = table(rt.alloc(), &potentials, (0, 0), (&THREE, 19))?;
-    assert_eq!(rt; base(rt.alloc(), &cheap, &rule, &six, 0)?, None);
+    let asked = Asked {
+        rule: &leaving(NOBODY),
+        players: &[1, 2, 3, 4, 5, 6],
+        left: Some(0),
+    };
+    for (price, bound) in [(20, Some(10)), (19, None)] {
+        let certificate = Certificate {
+            potentials: &[0, 10, 10, 10],
+            given: (0, 0),
+            marks: &THREE,
+            price,
+        };
+        assert!(rt;
+            has_bound(rt.alloc(), &certificate, &asked, bound)?,
+            "{price}"
+        );
+    }
     Ok(())
 }
 
 // 4 meets one of 1, 2 and 3, for 10, and the other two meet. A set of all four has room for two pairs.
 #[test]
 fn a_priced_set_of_four(rt: HostRuntime) -> Result<(), Fail> {
-    let four = [1, 2, 3, 4];
-    let all = [false, true, true, true, true];
-    let priced = table(rt.alloc(), &[0, 5, 5, 5, 15], (0, 0), (&all, 10))?;
-    let rule = leaving(NOBODY);
-    assert_eq!(rt; base(rt.alloc(), &priced, &rule, &four, 0)?, number(10));
+    let asked = Asked {
+        rule: &leaving(NOBODY),
+        players: &[1, 2, 3, 4],
+        left: Some(0),
+    };
+    let certificate = Certificate {
+        potentials: &[0, 5, 5, 5, 15],
+        given: (0, 0),
+        marks: &[false, true, true, true, true],
+        price: 10,
+    };
+    assert!(rt; has_bound(rt.alloc(), &certificate, &asked, Some(10))?);
     Ok(())
 }
 
@@ -199,35 +285,38 @@ fn a_priced_set_of_four(rt: HostRuntime) -> Result<(), Fail> {
 // is left over adds nothing.
 #[test]
 fn known_pairs_bring_their_slack(rt: HostRuntime) -> Result<(), Fail> {
-    let six = [1, 2, 3, 4, 5, 6];
-    let priced = table(rt.alloc(), &[0, 2, 2, 2], (0, 0), (&THREE, 3))?;
     let rule = Fours {
         near: 2,
         leaves: 6,
         left: 7,
     };
-    let floor = priced.floor(rt.alloc(), &rule, &six, 0)?;
-    let Some(floor) = floor else {
+    let asked = Asked {
+        rule: &rule,
+        players: &[1, 2, 3, 4, 5, 6],
+        left: Some(0),
+    };
+    let certificate = Certificate {
+        potentials: &[0, 2, 2, 2],
+        given: (0, 0),
+        marks: &THREE,
+        price: 3,
+    };
+    let Some(floor) = floor_of(rt.alloc(), &certificate, &asked)? else {
         return Err(Fail::new("a floor"));
     };
-    assert_eq!(rt; floor.base(), Wide::from_u64(6));
-    assert_eq!(rt; floor.debt(), Wide::from_u64(3));
-    for (a, b, extra) in [
+    assert!(rt; has_sums(&floor, 6, 3));
+    let extras = [
         (5, 6, 2),
         (3, 4, 8),
         (1, 2, 1),
         (3, 5, 0),
         (7, 5, 0),
         (5, 7, 0),
-    ] {
-        assert_eq!(rt; floor.extra(a, b), Wide::from_u64(extra));
-    }
-    for (a, extra) in [(6, 7), (5, 0), (700, 0)] {
-        assert_eq!(rt; floor.extra_left(a), Wide::from_u64(extra));
-    }
+    ];
+    assert!(rt; adds(&floor, &extras));
+    assert!(rt; adds_left(&floor, &[(6, 7), (5, 0), (700, 0)]));
     let without_left = floor.without_left();
-    assert_eq!(rt; without_left.extra(3, 4), Wide::from_u64(8));
-    assert_eq!(rt; without_left.extra_left(6), Wide::zero());
+    assert!(rt; adds(&without_left, &[(3, 4, 8)]) && adds_left(&without_left, &[(6, 0)]));
     Ok(())
 }
 
@@ -235,97 +324,160 @@ fn known_pairs_bring_their_slack(rt: HostRuntime) -> Result<(), Fail> {
 // more is given.
 #[test]
 fn one_is_left_over(rt: HostRuntime) -> Result<(), Fail> {
-    let three = [1, 2, 3];
-    for (left, given_left, bound) in [(7, 0, number(11)), (6, 0, None), (6, 1, number(10))] {
+    for (left, given_left, bound) in [(7, 0, Some(11)), (6, 0, None), (6, 1, Some(10))] {
         let rule = Fours {
             near: 4,
             leaves: 3,
             left,
         };
-        let given = (10, given_left);
-        let certificate = table(rt.alloc(), &[0, 7, 7, 7], given, (&THREE, 0))?;
-        assert_eq!(rt; base(rt.alloc(), &certificate, &rule, &three, 1)?, bound);
+        let asked = Asked {
+            rule: &rule,
+            players: &[1, 2, 3],
+            left: Some(1),
+        };
+        let certificate = Certificate {
+            potentials: &[0, 7, 7, 7],
+            given: (10, given_left),
+            marks: &THREE,
+            price: 0,
+        };
+        assert!(rt;
+            has_bound(rt.alloc(), &certificate, &asked, bound)?,
+            "{left} {given_left}"
+        );
     }
     Ok(())
+}
+
+// Whether what a floor tells of a pair that is known, less its debt, is this.
+fn tells_of(floor: &Floor, pair: (u16, u16), bound: u64) -> bool {
+    match floor.base().plus(floor.extra(pair.0, pair.1)) {
+        Some(sum) => is_number(sum.minus(floor.debt()), bound),
+        None => false,
+    }
 }
 
 // 1 meets 2, for 7, and 3 is left over. A certificate that gives away more than it gains is a floor too: alone it tells
 // nothing, but a pair that is known pays its debt, and all that the pair costs is told then.
 #[test]
 fn a_known_pair_pays_the_debt(rt: HostRuntime) -> Result<(), Fail> {
-    let three = [1, 2, 3];
     let rule = Fours {
         near: 7,
         leaves: 3,
         left: 0,
     };
-    let giving = table(rt.alloc(), &[0, 1, 1, 1], (4, 1), (&THREE, 2))?;
-    let Some(floor) = giving.floor(rt.alloc(), &rule, &three, 1)? else {
+    let asked = Asked {
+        rule: &rule,
+        players: &[1, 2, 3],
+        left: Some(1),
+    };
+    let giving = Certificate {
+        potentials: &[0, 1, 1, 1],
+        given: (4, 1),
+        marks: &THREE,
+        price: 2,
+    };
+    assert!(rt; has_bound(rt.alloc(), &giving, &asked, None)?);
+    let Some(floor) = floor_of(rt.alloc(), &giving, &asked)? else {
         return Err(Fail::new("a floor"));
     };
-    assert_eq!(rt; floor.base(), Wide::from_u64(3));
-    assert_eq!(rt; floor.debt(), Wide::from_u64(7));
-    assert!(rt; floor.base().is_less(floor.debt()));
-    assert_eq!(rt; base(rt.alloc(), &giving, &rule, &three, 1)?, None);
-    assert_eq!(rt; floor.extra(1, 2), Wide::from_u64(11));
-    assert_eq!(rt; floor.extra_left(3), Wide::zero());
-    let Some(bound) = floor.base().plus(floor.extra(1, 2)) else {
-        return Err(Fail::new("a bound"));
-    };
-    assert_eq!(rt; bound.minus(floor.debt()), number(7));
+    assert!(rt; has_sums(&floor, 3, 7) && floor.base().is_less(floor.debt()));
+    assert!(rt; adds(&floor, &[(1, 2, 11)]) && adds_left(&floor, &[(3, 0)]));
+    assert!(rt; tells_of(&floor, (1, 2), 7));
     Ok(())
 }
 
-// Of a certificate that is not feasible there is no floor, and there is none where a sum does not fit.
+// Of a certificate that is not feasible there is no floor.
 #[test]
-fn some_certificates_are_no_floor(rt: HostRuntime) -> Result<(), Fail> {
-    let three = [1, 2, 3];
-    let rule = leaving(3);
-    let greedy = table(rt.alloc(), &[0, 1, 1, 1], (4, 0), (&THREE, 0))?;
-    let none = greedy.floor(rt.alloc(), &rule, &three, 1)?;
-    assert!(rt; none.is_none());
-    let mut great = table(rt.alloc(), &[], (0, 0), (&THREE, 0))?;
-    assert_eq!(rt; base(rt.alloc(), &great, &rule, &three, 1)?, number(0));
+fn a_certificate_that_is_not_feasible_is_no_floor(rt: HostRuntime) -> Result<(), Fail> {
+    let asked = Asked {
+        rule: &leaving(3),
+        players: &[1, 2, 3],
+        left: Some(1),
+    };
+    let greedy = Certificate {
+        potentials: &[0, 1, 1, 1],
+        given: (4, 0),
+        marks: &THREE,
+        price: 0,
+    };
+    assert!(rt; floor_of(rt.alloc(), &greedy, &asked)?.is_none());
+    Ok(())
+}
+
+// A certificate that gives nothing, and one that gives 2^511 to a pair and has a set of that price.
+const NOTHING: Certificate<'static> = Certificate {
+    potentials: &[],
+    given: (0, 0),
+    marks: &THREE,
+    price: 0,
+};
+
+fn great(alloc: Global) -> Result<Table, Fail> {
     let half = Wide::power_of_two(511).unwrap_or(Wide::zero());
+    let mut great = table(alloc, &NOTHING)?;
     great.given = half;
     for set in &mut great.sets {
         set.price = half;
     }
-    let none = great.floor(rt.alloc(), &rule, &three, 1)?;
-    assert!(rt; none.is_none());
-    Ok(())
+    Ok(great)
 }
 
-// The base of a floor and its debt; none where there is no floor.
-fn sums(floor: &Option<Floor>) -> Option<(Wide, Wide)> {
-    match floor {
-        Some(floor) => Some((floor.base(), floor.debt())),
-        None => None,
-    }
+// There is no floor where a sum does not fit.
+#[test]
+fn a_sum_that_does_not_fit_is_no_floor(rt: HostRuntime) -> Result<(), Fail> {
+    let rule = leaving(3);
+    let asked = Asked {
+        rule: &rule,
+        players: &[1, 2, 3],
+        left: Some(1),
+    };
+    assert!(rt; has_bound(rt.alloc(), &NOTHING, &asked, Some(0))?);
+    let none = great(rt.alloc())?.floor(rt.alloc(), &rule, &[1, 2, 3], 1)?;
+    assert!(rt; none.is_none());
+    Ok(())
 }
 
 // 1, 2 and 3 meet each other for 4, and meet 4 for 10; to leave 3 over costs 2. A certificate that gives a pair 10, and
 // a player left over 5, gains 34 of the four and owes 20, whether nobody is left over or two are; of 1, 2 and 3 it
 // gains 21 and owes 15.
+const FOUR: Fours = Fours {
+    near: 4,
+    leaves: 3,
+    left: 2,
+};
+
+const EVEN: Certificate<'static> = Certificate {
+    potentials: &[0, 7, 7, 7, 13],
+    given: (10, 5),
+    marks: &THREE,
+    price: 0,
+};
+
+// What is asked of all four.
+fn of_four(left: Option<usize>) -> Asked<'static>
+    requires { IfSome left (λ left. left ≤ 4) }
+    ensures few { length result.players.now ≤ 65536 }
+    ensures some { IfSome result.left (λ left. left ≤ length result.players.now) }
+{
+    Asked {
+        rule: &FOUR,
+        players: &[1, 2, 3, 4],
+        left,
+    }
+}
+
 #[test]
 fn as_much_is_owed_however_many_are_left_over(rt: HostRuntime) -> Result<(), Fail> {
-    let four = [1, 2, 3, 4];
-    let rule = Fours {
-        near: 4,
-        leaves: 3,
-        left: 2,
+    assert!(rt; has_floor(rt.alloc(), &EVEN, &of_four(None), (34, 20))?);
+    assert!(rt; has_floor(rt.alloc(), &EVEN, &of_four(Some(0)), (34, 20))?);
+    assert!(rt; has_floor(rt.alloc(), &EVEN, &of_four(Some(2)), (34, 20))?);
+    let of_three = Asked {
+        rule: &FOUR,
+        players: &[1, 2, 3],
+        left: None,
     };
-    let even = table(rt.alloc(), &[0, 7, 7, 7, 13], (10, 5), (&THREE, 0))?;
-    let all = Some((Wide::from_u64(34), Wide::from_u64(20)));
-    let for_any = even.floor_for_any(rt.alloc(), &rule, &four)?;
-    assert_eq!(rt; sums(&for_any), all);
-    for left in [0, 2] {
-        let floor = even.floor(rt.alloc(), &rule, &four, left)?;
-        assert_eq!(rt; sums(&floor), all, "{left} left over");
-    }
-    let three = Some((Wide::from_u64(21), Wide::from_u64(15)));
-    let for_any = even.floor_for_any(rt.alloc(), &rule, &four[..3])?;
-    assert_eq!(rt; sums(&for_any), three);
+    assert!(rt; has_floor(rt.alloc(), &EVEN, &of_three, (21, 15))?);
     Ok(())
 }
 
@@ -333,18 +485,15 @@ fn as_much_is_owed_however_many_are_left_over(rt: HostRuntime) -> Result<(), Fai
 // but none for any number.
 #[test]
 fn what_gives_unevenly_is_no_floor_for_any_number(rt: HostRuntime) -> Result<(), Fail> {
-    let four = [1, 2, 3, 4];
-    let rule = Fours {
-        near: 4,
-        leaves: 3,
-        left: 2,
-    };
     for given in [(11, 5), (10, 6)] {
-        let uneven = table(rt.alloc(), &[0, 7, 7, 7, 13], given, (&THREE, 0))?;
-        let floor = uneven.floor(rt.alloc(), &rule, &four, 0)?;
-        assert!(rt; floor.is_some());
-        let for_any = uneven.floor_for_any(rt.alloc(), &rule, &four)?;
-        assert!(rt; for_any.is_none());
+        let uneven = Certificate {
+            potentials: &[0, 7, 7, 7, 13],
+            given,
+            marks: &THREE,
+            price: 0,
+        };
+        assert!(rt; floor_of(rt.alloc(), &uneven, &of_four(Some(0)))?.is_some());
+        assert!(rt; floor_of(rt.alloc(), &uneven, &of_four(None))?.is_none());
     }
     Ok(())
 }

@@ -53,18 +53,17 @@ fn has_floats(field: &Field, seat: u16, latest: Option<Float>, earlier: Option<F
         && field.float(seat, 2) == earlier
 }
 
-// Whether a seat has this colour difference, this colour in its last two games, and this preference.
-fn has_colours(
-    field: &Field,
-    seat: u16,
-    difference: i16,
-    last_two: Option<Colour>,
-    preference: Option<Pref>,
-) -> bool {
+// What a field knows of a seat's colours: their difference, the colour of the last two games, and the preference.
+type Colours = (i16, Option<Colour>, Option<Pref>);
+
+// Whether a seat has these colours.
+fn has_colours(field: &Field, seat: u16, colours: Colours) -> bool {
     usize::from(seat) < field.len()
-        && field.difference(seat) == difference
-        && field.last_two(seat) == last_two
-        && field.preference(seat) == preference
+        && (
+            field.difference(seat),
+            field.last_two(seat),
+            field.preference(seat),
+        ) == colours
 }
 
 // Whether two seats may meet; none where the field has not both.
@@ -110,65 +109,68 @@ fn topscorer(field: &Field, seat: u16) -> Option<bool> {
     }
 }
 
+const TWICE_MORE_WHITE: [Line<'static>; 7] = [
+    (
+        "001    1",
+        "   2 w =     3 w =     4 w =     5 w =     6 b =     7 b =",
+    ),
+    ("001    2", "   1 b ="),
+    ("001    3", "             1 b ="),
+    ("001    4", "                       1 b ="),
+    ("001    5", "                                 1 b ="),
+    (
+        "001    6",
+        "                                           1 w =",
+    ),
+    (
+        "001    7",
+        "                                                     1 w =",
+    ),
+];
+
 #[test]
 fn a_difference_of_two_is_absolute(rt: HostRuntime) -> Result<(), Fail> {
-    let lines = [
-        (
-            "001    1",
-            "   2 w =     3 w =     4 w =     5 w =     6 b =     7 b =",
-        ),
-        ("001    2", "   1 b ="),
-        ("001    3", "             1 b ="),
-        ("001    4", "                       1 b ="),
-        ("001    5", "                                 1 b ="),
-        (
-            "001    6",
-            "                                           1 w =",
-        ),
-        (
-            "001    7",
-            "                                                     1 w =",
-        ),
-    ];
-    let field = field_of(rt.alloc(), &lines, Some(9), None)?;
+    let field = field_of(rt.alloc(), &TWICE_MORE_WHITE, Some(9), None)?;
     assert!(rt; field.len() == 7 && is_player(&field, 0, 1, 6));
     let black = Some(Colour::Black);
     assert!(rt;
-        has_colours(&field, 0, 2, black, ABSOLUTE_BLACK),
+        has_colours(&field, 0, (2, black, ABSOLUTE_BLACK)),
         "the difference decides"
     );
     Ok(())
 }
 
+const BLACK_TWICE: [Line<'static>; 5] = [
+    ("001    1", "   2 w =     3 w =     4 b =     5 b ="),
+    ("001    2", "   1 b ="),
+    ("001    3", "             1 b ="),
+    ("001    4", "                       1 w ="),
+    ("001    5", "                                 1 w ="),
+];
+
 #[test]
 fn two_games_with_one_colour_are_absolute(rt: HostRuntime) -> Result<(), Fail> {
-    let lines = [
-        ("001    1", "   2 w =     3 w =     4 b =     5 b ="),
-        ("001    2", "   1 b ="),
-        ("001    3", "             1 b ="),
-        ("001    4", "                       1 w ="),
-        ("001    5", "                                 1 w ="),
-    ];
-    let field = field_of(rt.alloc(), &lines, Some(9), None)?;
-    assert!(rt; has_colours(&field, 0, 0, Some(Colour::Black), ABSOLUTE_WHITE));
+    let field = field_of(rt.alloc(), &BLACK_TWICE, Some(9), None)?;
+    assert!(rt; has_colours(&field, 0, (0, Some(Colour::Black), ABSOLUTE_WHITE)));
     assert!(rt; may_meet(&field, 1, 2) == Some(true));
     assert!(rt; may_meet(&field, 0, 1) == Some(false), "they have met");
     Ok(())
 }
 
+const FOUR_GAMES: [Line<'static>; 6] = [
+    ("001    1", "   3 b =     4 w =     5 w =     6 b ="),
+    ("001    2", "   4 w =     5 b =     6 w =     3 b ="),
+    ("001    3", "   1 w =                         2 w ="),
+    ("001    4", "   2 b =     1 b ="),
+    ("001    5", "             2 w =     1 b ="),
+    ("001    6", "                       2 b =     1 w ="),
+];
+
 #[test]
 fn the_last_games_that_differ_decide(rt: HostRuntime) -> Result<(), Fail> {
-    let lines = [
-        ("001    1", "   3 b =     4 w =     5 w =     6 b ="),
-        ("001    2", "   4 w =     5 b =     6 w =     3 b ="),
-        ("001    3", "   1 w =                         2 w ="),
-        ("001    4", "   2 b =     1 b ="),
-        ("001    5", "             2 w =     1 b ="),
-        ("001    6", "                       2 b =     1 w ="),
-    ];
-    let field = field_of(rt.alloc(), &lines, Some(9), None)?;
-    assert!(rt; has_colours(&field, 0, 0, None, MILD_WHITE));
-    assert!(rt; has_colours(&field, 1, 0, None, MILD_WHITE));
+    let field = field_of(rt.alloc(), &FOUR_GAMES, Some(9), None)?;
+    assert!(rt; has_colours(&field, 0, (0, None, MILD_WHITE)));
+    assert!(rt; has_colours(&field, 1, (0, None, MILD_WHITE)));
     assert!(rt; gets_white(&field, 1, 0));
     assert!(rt; decides(&field, ColourRule::Alternation, 1, 0));
     Ok(())
@@ -213,32 +215,37 @@ fn topscorers_meet_in_the_last_round_alone(rt: HostRuntime) -> Result<(), Fail> 
         (5, 2, ColourRule::BothPreferences),
         (3, 4, ColourRule::StrongerPreference),
     ] {
-        assert!(rt; gets_white(&last, white, black));
-        assert!(rt; decides(&last, rule, white, black));
+        assert!(rt; gets_white(&last, white, black) && decides(&last, rule, white, black));
     }
+    Ok(())
+}
+
+#[test]
+fn topscorers_do_not_meet_earlier(rt: HostRuntime) -> Result<(), Fail> {
     let earlier = field_of(rt.alloc(), &TOPSCORERS, Some(4), None)?;
     assert!(rt; topscorer(&earlier, 0) == Some(false));
     assert!(rt; may_meet(&earlier, 0, 1) == Some(false));
     Ok(())
 }
 
+const A_FORFEIT: [Line<'static>; 8] = [
+    ("XXR 5", ""),
+    ("XXZ 4 5 6", ""),
+    ("001    1", "   5 w 1"),
+    ("001    2", "   6 b 1"),
+    ("001    3", "   4 w +"),
+    ("001    4", "   3 b -"),
+    ("001    5", "   1 b 0"),
+    ("001    6", "   2 w 0"),
+];
+
 #[test]
 fn a_forfeit_is_no_game(rt: HostRuntime) -> Result<(), Fail> {
-    let lines = [
-        ("XXR 5", ""),
-        ("XXZ 4 5 6", ""),
-        ("001    1", "   5 w 1"),
-        ("001    2", "   6 b 1"),
-        ("001    3", "   4 w +"),
-        ("001    4", "   3 b -"),
-        ("001    5", "   1 b 0"),
-        ("001    6", "   2 w 0"),
-    ];
-    let field = field_of(rt.alloc(), &lines, None, None)?;
+    let field = field_of(rt.alloc(), &A_FORFEIT, None, None)?;
     assert!(rt; field.len() == 3 && is_player(&field, 2, 3, 2));
     assert!(rt; has_met(&field, 0, &[5]) && has_met(&field, 2, &[]));
     assert!(rt; has_floats(&field, 2, Some(Float::Down), None));
-    assert!(rt; has_colours(&field, 2, 0, None, None));
+    assert!(rt; has_colours(&field, 2, (0, None, None)));
     assert!(rt; may_bye(&field, 2) == Some(false) && may_bye(&field, 1) == Some(true));
     assert!(rt; gets_white(&field, 2, 0));
     Ok(())
@@ -263,49 +270,58 @@ fn a_forfeit_has_no_colour_and_no_opponent(rt: HostRuntime) -> Result<(), Fail> 
     Ok(())
 }
 
+const WITHOUT_GAMES: [Line<'static>; 6] = [
+    ("XXR 5", ""),
+    ("XXC black1", ""),
+    ("001    1", ""),
+    ("001    2", ""),
+    ("001    3", ""),
+    ("001    4", ""),
+];
+
 #[test]
 fn without_games_the_start_rank_decides(rt: HostRuntime) -> Result<(), Fail> {
-    let lines = [
-        ("XXR 5", ""),
-        ("XXC black1", ""),
-        ("001    1", ""),
-        ("001    2", ""),
-        ("001    3", ""),
-        ("001    4", ""),
-    ];
-    let asked = field_of(rt.alloc(), &lines, None, Some(Colour::White))?;
+    let asked = field_of(rt.alloc(), &WITHOUT_GAMES, None, Some(Colour::White))?;
     assert!(rt; gets_white(&asked, 0, 2) && gets_white(&asked, 3, 1));
     assert!(rt; decides(&asked, ColourRule::InitialColour, 0, 2));
-    let other = field_of(rt.alloc(), &lines, None, None)?;
-    assert!(rt; gets_white(&other, 2, 0), "the report's initial colour");
     Ok(())
 }
 
 #[test]
+fn without_games_the_initial_colour_is_the_reports(rt: HostRuntime) -> Result<(), Fail> {
+    let field = field_of(rt.alloc(), &WITHOUT_GAMES, None, None)?;
+    assert!(rt; gets_white(&field, 2, 0));
+    Ok(())
+}
+
+const WITHOUT_A_RESULT: [Line<'static>; 3] = [
+    ("001    1", "   2 w"),
+    ("001    2", "   1 b"),
+    ("XXS x", ""),
+];
+
+#[test]
 fn a_game_without_a_result_is_told_first(rt: HostRuntime) -> Result<(), Fail> {
-    let lines = [
-        ("001    1", "   2 w"),
-        ("001    2", "   1 b"),
-        ("XXS x", ""),
-    ];
-    let fault = refusal_of(rt.alloc(), &lines, None)?;
+    let fault = refusal_of(rt.alloc(), &WITHOUT_A_RESULT, None)?;
     let unfinished = FieldFault::Unfinished {
         player: 1,
         round: 1,
     };
-    assert_eq!(rt; fault, Some(unfinished));
+    assert!(rt; fault == Some(unfinished));
     Ok(())
 }
 
+const UNSUPPORTED: [Line<'static>; 3] = [("001    1", ""), ("001    2", ""), ("XXS x", "")];
+
+const ONE_ROUND: [Line<'static>; 2] = [("001    1", "   2 w 1"), ("001    2", "   1 b 0")];
+
 #[test]
 fn other_refusals_come_in_their_order(rt: HostRuntime) -> Result<(), Fail> {
-    let lines = [("001    1", ""), ("001    2", ""), ("XXS x", "")];
-    let fault = refusal_of(rt.alloc(), &lines, None)?;
-    assert_eq!(rt; fault, Some(FieldFault::Unsupported { line: 3 }));
-    let lines = [("001    1", "   2 w 1"), ("001    2", "   1 b 0")];
-    let fault = refusal_of(rt.alloc(), &lines, None)?;
-    assert_eq!(rt; fault, Some(FieldFault::RoundsUnknown));
-    let fault = refusal_of(rt.alloc(), &lines, Some(1))?;
-    assert_eq!(rt; fault, Some(FieldFault::RoundsOver));
+    let unsupported = refusal_of(rt.alloc(), &UNSUPPORTED, None)?;
+    assert!(rt; unsupported == Some(FieldFault::Unsupported { line: 3 }));
+    let unknown = refusal_of(rt.alloc(), &ONE_ROUND, None)?;
+    assert!(rt; unknown == Some(FieldFault::RoundsUnknown));
+    let over = refusal_of(rt.alloc(), &ONE_ROUND, Some(1))?;
+    assert!(rt; over == Some(FieldFault::RoundsOver));
     Ok(())
 }

@@ -31,21 +31,22 @@ fn has_rows(standings: &Standings, wanted: &[Wanted<'_>]) -> bool {
         })
 }
 
+const TWO_WHO_DREW: [Line<'static>; 4] = [
+    ("001    1", "   3 w 1"),
+    ("001    2", "   4 b ="),
+    ("001    3", "   1 b 0"),
+    ("001    4", "   2 w ="),
+];
+
 #[test]
 fn two_who_drew_are_told_apart_by_start_rank(rt: HostRuntime) -> Result<(), Fail> {
-    let lines = [
-        ("001    1", "   3 w 1"),
-        ("001    2", "   4 b ="),
-        ("001    3", "   1 b 0"),
-        ("001    4", "   2 w ="),
-    ];
     let all: [Wanted<'_>; 4] = [
         (1, 2, &[None, Some(0), Some(0)]),
         (2, 1, &[Some(1), Some(1), Some(1)]),
         (4, 1, &[Some(1), Some(1), Some(1)]),
         (3, 0, &[None, Some(2), Some(0)]),
     ];
-    assert!(rt; has_rows(&table_of(rt.alloc(), &lines, &KEYS)?, &all));
+    assert!(rt; has_rows(&table_of(rt.alloc(), &TWO_WHO_DREW, &KEYS)?, &all));
     let one: [Wanted<'_>; 4] = [
         (1, 2, &[Some(0)]),
         (2, 1, &[Some(1)]),
@@ -54,67 +55,71 @@ fn two_who_drew_are_told_apart_by_start_rank(rt: HostRuntime) -> Result<(), Fail
     ];
     assert!(rt;
         has_rows(
-            &table_of(rt.alloc(), &lines, &[Key::SonnebornBerger])?,
+            &table_of(rt.alloc(), &TWO_WHO_DREW, &[Key::SonnebornBerger])?,
             &one
         )
     );
     Ok(())
 }
 
+const WITHOUT_A_GAME: [Line<'static>; 3] = [
+    ("001    1", "0000 - H     2 w +"),
+    ("001    2", "   3 w 1     1 b -"),
+    ("001    3", "   2 b 0  0000 - U"),
+];
+
 #[test]
 fn rounds_without_a_game_have_a_virtual_opponent(rt: HostRuntime) -> Result<(), Fail> {
-    let lines = [
-        ("001    1", "0000 - H     2 w +"),
-        ("001    2", "   3 w 1     1 b -"),
-        ("001    3", "   2 b 0  0000 - U"),
-    ];
     let wanted: [Wanted<'_>; 3] = [
         (1, 3, &[None, Some(3), Some(4)]),
         (2, 2, &[Some(2), Some(6), Some(4)]),
         (3, 2, &[Some(0), Some(2), Some(0)]),
     ];
-    assert!(rt; has_rows(&table_of(rt.alloc(), &lines, &KEYS)?, &wanted));
+    assert!(rt; has_rows(&table_of(rt.alloc(), &WITHOUT_A_GAME, &KEYS)?, &wanted));
     Ok(())
 }
 
+const BEHIND_THE_LAST: [Line<'static>; 3] = [
+    ("001    1", "   2 w 1  0000 - H"),
+    ("001    2", "   1 b 0"),
+    ("001    3", ""),
+];
+
 #[test]
 fn rounds_behind_the_last_that_was_paired_do_not_count(rt: HostRuntime) -> Result<(), Fail> {
-    let lines = [
-        ("001    1", "   2 w 1  0000 - H"),
-        ("001    2", "   1 b 0"),
-        ("001    3", ""),
-    ];
     let keys = [Key::Buchholz, Key::SonnebornBerger];
     let wanted: [Wanted<'_>; 3] = [
         (1, 2, &[Some(0), Some(0)]),
         (2, 0, &[Some(2), Some(0)]),
         (3, 0, &[Some(2), Some(0)]),
     ];
-    assert!(rt; has_rows(&table_of(rt.alloc(), &lines, &keys)?, &wanted));
+    assert!(rt; has_rows(&table_of(rt.alloc(), &BEHIND_THE_LAST, &keys)?, &wanted));
     Ok(())
 }
+
+const LEVEL: [Line<'static>; 3] = [
+    ("001    1", "   2 w 0     3 b 1"),
+    ("001    2", "   1 b 1  0000 - Z"),
+    ("001    3", "0000 - Z     1 w 0"),
+];
 
 #[test]
 fn who_won_against_a_level_player_goes_first(rt: HostRuntime) -> Result<(), Fail> {
-    let lines = [
-        ("001    1", "   2 w 0     3 b 1"),
-        ("001    2", "   1 b 1  0000 - Z"),
-        ("001    3", "0000 - Z     1 w 0"),
-    ];
     let wanted: [Wanted<'_>; 3] = [(2, 2, &[Some(2)]), (1, 2, &[Some(0)]), (3, 0, &[None])];
-    assert!(rt; has_rows(&table_of(rt.alloc(), &lines, &[Key::Direct])?, &wanted));
+    assert!(rt; has_rows(&table_of(rt.alloc(), &LEVEL, &[Key::Direct])?, &wanted));
     Ok(())
 }
 
+const TWICE_DIRECT: [Line<'static>; 5] = [
+    ("001    1", "   2 w =  0000 - H"),
+    ("001    2", "   1 b =  0000 - H"),
+    ("001    3", "0000 - U  0000 - Z"),
+    ("001    4", "             5 w 0"),
+    ("001    5", "             4 b 0"),
+];
+
 #[test]
 fn direct_encounter_sees_the_keys_before_it(rt: HostRuntime) -> Result<(), Fail> {
-    let lines = [
-        ("001    1", "   2 w =  0000 - H"),
-        ("001    2", "   1 b =  0000 - H"),
-        ("001    3", "0000 - U  0000 - Z"),
-        ("001    4", "             5 w 0"),
-        ("001    5", "             4 b 0"),
-    ];
     let keys = [Key::Direct, Key::Buchholz, Key::Direct];
     let wanted: [Wanted<'_>; 5] = [
         (3, 2, &[None, Some(5), None]),
@@ -123,7 +128,7 @@ fn direct_encounter_sees_the_keys_before_it(rt: HostRuntime) -> Result<(), Fail>
         (4, 0, &[Some(0), Some(3), Some(0)]),
         (5, 0, &[Some(0), Some(3), Some(0)]),
     ];
-    assert!(rt; has_rows(&table_of(rt.alloc(), &lines, &keys)?, &wanted));
+    assert!(rt; has_rows(&table_of(rt.alloc(), &TWICE_DIRECT, &keys)?, &wanted));
     Ok(())
 }
 
@@ -141,31 +146,33 @@ fn a_tie_in_every_key_goes_by_start_rank(rt: HostRuntime) -> Result<(), Fail> {
     Ok(())
 }
 
+const WITHOUT_A_RESULT: [Line<'static>; 4] = [
+    ("XXS 1", ""),
+    ("001    2", "   3 w 1     1 w  "),
+    ("001    1", "             2 b  "),
+    ("001    3", "   2 b 0"),
+];
+
 #[test]
 fn a_game_without_a_result_is_refused_first(rt: HostRuntime) -> Result<(), Fail> {
-    let lines = [
-        ("XXS 1", ""),
-        ("001    2", "   3 w 1     1 w  "),
-        ("001    1", "             2 b  "),
-        ("001    3", "   2 b 0"),
-    ];
     let unfinished = TieFault::Unfinished {
         player: 2,
         round: 2,
     };
-    assert_eq!(rt; refusal_of(rt.alloc(), &lines)?, Some(unfinished));
+    assert!(rt; refusal_of(rt.alloc(), &WITHOUT_A_RESULT)? == Some(unfinished));
     Ok(())
 }
 
+const OTHER_POINTS: [Line<'static>; 4] = [
+    ("XXA 1", ""),
+    ("001    2", ""),
+    ("xxs x", ""),
+    ("XXS y", ""),
+];
+
 #[test]
 fn other_points_for_games_are_refused(rt: HostRuntime) -> Result<(), Fail> {
-    let lines = [
-        ("XXA 1", ""),
-        ("001    2", ""),
-        ("xxs x", ""),
-        ("XXS y", ""),
-    ];
     let unsupported = TieFault::Unsupported { line: 3 };
-    assert_eq!(rt; refusal_of(rt.alloc(), &lines)?, Some(unsupported));
+    assert!(rt; refusal_of(rt.alloc(), &OTHER_POINTS)? == Some(unsupported));
     Ok(())
 }

@@ -15,7 +15,7 @@ kept-all P p (x ∷ xs) all =
 
 pub loop-turn-init : goal.loop-turn-init
 loop-turn-init c =
-    let all = arrangements c.args.bracket.now c.args.shape in
+    let all = arrangements c.args.asked.now.bracket.now c.args.asked.now.shape in
     record {
       members = subst (AllByRecursion (λ a. IsIn a all)) (sym c.new-arrangements.ensures.coming)
           (kept-all (λ a. IsIn a all) _ all (all_members (λ a. IsIn a all) all (λ a m. m)));
