@@ -13,7 +13,7 @@ use Rattle.dutch_order.specs.Keys.{IsIn}
 use Rattle.dutch_order.specs.Prefixes.{Begins, Beginning}
 use Rattle.dutch_player.specs.Facts.{Facts}
 use mathlib.Core.Bool.{Bool-set}
-use Rattle.dutch_floors.specs.FloorOf.{Basis, IsBasis}
+use Rattle.dutch_floors.specs.FloorOf.{Basis, IsBasis, s1_by, s1_of}
 use Rattle.dutch_bracket.specs.PsdFloors.{is_uniform}
 use Rattle.dutch_bracket.specs.Beginnings.{fixed_lists, has_s1}
 use Rattle.dutch_bracket.specs.NextBracket.{is_lower, HasNoBetter, IsNoBetter}
@@ -151,13 +151,13 @@ weighs_behind context shape of' fits w are Among least is a m among can weights 
 pub awaited_by : (facts : Facts) (reached : Reached) (lower : List ℕ) (shape : Shape) (basis : Basis) → IsBasis facts reached lower shape basis → IsOf facts reached
     → (b : Beginning) (other : NextValue)
     → ((has_s1 b.filling || is_uniform basis.facts basis.reached basis.shape) ≡ true)
-    × IsNoBetter (awaited basis.facts basis.reached basis.shape basis.outlook b.filling (fixed_lists b).s1) other
+    × IsNoBetter (awaited basis.facts basis.reached basis.shape basis.outlook (s1_of basis b)) other
     → (a : Arrangement) → IsIn a (candidates_of facts reached shape) → Begins b a → HasNoBetter (quality_of facts reached lower a) other
 awaited_by facts reached lower shape basis is of' b other known a m begins =
     let Tells : Basis → Type 0 = λ k. ((has_s1 b.filling || is_uniform k.facts k.reached k.shape) ≡ true)
-    × IsNoBetter (awaited k.facts k.reached k.shape k.outlook b.filling (fixed_lists b).s1) other in
+    × IsNoBetter (awaited k.facts k.reached k.shape k.outlook (s1_of k b)) other in
     let made : basis ≡ record { facts = facts; reached = reached; shape = shape; outlook = basis.outlook } =
     λ i. record { facts = is.facts_are i; reached = is.stand_is i; shape = is.shape_is i; outlook = basis.outlook } in
     let told = subst Tells made known in
-    none_better_on (quality_of facts reached lower a) (awaited facts reached shape basis.outlook b.filling (fixed_lists b).s1) other
+    none_better_on (quality_of facts reached lower a) (awaited facts reached shape basis.outlook (s1_by b.filling shape (fixed_lists b).s1)) other
     (awaited_holds facts reached lower shape basis.outlook of' is.outlook b.filling b.lists a (legal_of facts reached shape a m).arranged begins told.0) told.1

@@ -14,7 +14,7 @@ use Rattle.dutch_player.specs.Facts.{Facts}
 use Rattle.dutch_bracket.specs.declared.colours_missed.Miss.TheVariants.{Preference}
 use Rattle.dutch_bracket.specs.Beginnings.{HasPairsOf, fixed, fixed_lists, has_s1, is_of_shape, lists_by}
 use Rattle.dutch_bracket.specs.ColourFloors.{residents_down}
-use Rattle.dutch_floors.specs.FloorOf.{Basis, IsBasis, floor_of, is_flat, is_known, more_by, more_in, psd_by, residents_score, s1_by, floor_by, psd_over}
+use Rattle.dutch_floors.specs.FloorOf.{Basis, IsBasis, floor_of, is_flat, is_known, more_by, more_in, psd_over, residents_score, s1_by, s1_of}
 use Rattle.dutch_bracket.specs.PsdFloors.{is_uniform, psd_with, repeated}
 use Rattle.dutch_floors.specs.Outlooks.{IsOutlook, awaited}
 use Rattle.dutch_bracket.specs.NextBracket.{IsFlat, is_lower, quality}
@@ -110,13 +110,13 @@ pub floor_stands : (basis : Basis) (lower : List ℕ) (b : Beginning) (a : Arran
     → (has_s1 b.filling || is_uniform basis.facts basis.reached basis.shape) ≡ true
     → IsOutlook basis.facts basis.reached lower basis.shape basis.outlook
     → is_better (quality_of basis.facts basis.reached lower a) (floor_of basis b) ≡ false
-unfolding quality_of quality quality_with floor_of floor_over floor_by psd_over
+unfolding quality_of quality quality_with floor_of floor_over psd_over
 floor_stands basis lower b a of' m h known outlook =
     let legal = legal_of basis.facts basis.reached basis.shape a m in
     let within : basis.reached.mdps ≤ length basis.reached.seats = subst (λ n. basis.reached.mdps ≤ n) (length-map basis.reached.seats (score_at basis.facts)) of'.sound.within in
     let later = awaited_holds basis.facts basis.reached lower basis.shape basis.outlook of' outlook b.filling b.lists a legal.arranged h known in
-    floor_holds basis.facts basis.reached lower (psd_by b.filling basis (fixed_lists b))
-    (awaited basis.facts basis.reached basis.shape basis.outlook b.filling (fixed_lists b).s1) (more_by b.filling basis (fixed_lists b))
+    floor_holds basis.facts basis.reached lower (psd_over basis (s1_of basis b) (fixed basis.facts basis.reached (fixed_lists b)))
+    (awaited basis.facts basis.reached basis.shape basis.outlook (s1_of basis b)) (more_by b.filling basis (fixed_lists b))
     (more_in true basis.facts basis.reached basis.shape (fixed basis.facts basis.reached (fixed_lists b))) (fixed_lists b) a
     (begun_pairs b.filling b.lists a h)
     (psd_holds basis lower b.filling b.lists a of' legal.arranged h known (is_flat basis.facts basis.reached) refl)

@@ -104,30 +104,30 @@ module _ (basis : Basis) (lower : List ℕ) (filling : Filling) (lists a : Arran
   begun = all_pairs basis.reached.seats (lists_by filling lists)
 
   abbrev s1 : List ℕ
-  s1 = (lists_by filling lists).s1
+  s1 = s1_by filling basis.shape (lists_by filling lists).s1
 
   module _ (known : List (ℕ × ℕ)) (gone : List ℕ) (others : Beside known (all_pairs basis.reached.seats a)) (left : Beside gone (downfloaters basis.facts basis.reached a)) where
     psd_stays : (t : Bool) → is_flat basis.facts basis.reached ≡ t
         → is_lower (quality_of basis.facts basis.reached lower a).psd (cond t
-        (psd_with basis.facts basis.reached basis.shape (residents_score basis.facts basis.reached) (s1_by filling basis.shape s1))
+        (psd_with basis.facts basis.reached basis.shape (residents_score basis.facts basis.reached) s1)
         (psd basis.facts (seated_so basis.facts basis.reached known gone))) ≡ false
     psd_stays true flat = psd_holds basis lower filling lists a of' (legal_of basis.facts basis.reached basis.shape a m).arranged begins chosen true flat
     psd_stays false uneven = psd_of_known basis.facts basis.reached lower known gone a others left
 
-    stays : is_better (quality_of basis.facts basis.reached lower a) (floor_by_seats filling basis s1 (seated_so basis.facts basis.reached known gone)) ≡ false
+    stays : is_better (quality_of basis.facts basis.reached lower a) (floor_by_seats basis s1 (seated_so basis.facts basis.reached known gone)) ≡ false
     unfolding quality_of quality quality_with floor_by_seats floor_over psd_over
     stays =
         let legal = legal_of basis.facts basis.reached basis.shape a m in
         let within : basis.reached.mdps ≤ length basis.reached.seats = subst (λ n. basis.reached.mdps ≤ n) (length-map basis.reached.seats (score_at basis.facts)) of'.sound.within in
         let later = awaited_holds basis.facts basis.reached lower basis.shape basis.outlook of' outlook filling lists a legal.arranged begins chosen in
-        floor_stays basis.facts basis.reached lower (psd_over filling basis s1 (seated_so basis.facts basis.reached known gone))
-        (awaited basis.facts basis.reached basis.shape basis.outlook filling s1) (more_in false basis.facts basis.reached basis.shape (seated_so basis.facts basis.reached known gone))
+        floor_stays basis.facts basis.reached lower (psd_over basis s1 (seated_so basis.facts basis.reached known gone))
+        (awaited basis.facts basis.reached basis.shape basis.outlook s1) (more_in false basis.facts basis.reached basis.shape (seated_so basis.facts basis.reached known gone))
         (more_in true basis.facts basis.reached basis.shape (seated_so basis.facts basis.reached known gone)) known gone a others left (psd_stays (is_flat basis.facts basis.reached) refl) later.0 later.1
         (more_miss basis.facts basis.reached basis.shape known gone a within legal.arranged others left)
         (more_miss_strongly basis.facts basis.reached basis.shape known gone a within m others left)
 
   stays_knowing : (known : Known) → Holds basis.facts basis.reached known a
-      → is_better (quality_of basis.facts basis.reached lower a) (floor_by_seats filling basis s1 (known_by basis.facts basis.reached known begun)) ≡ false
+      → is_better (quality_of basis.facts basis.reached lower a) (floor_by_seats basis s1 (known_by basis.facts basis.reached known begun)) ≡ false
   stays_knowing (Meet p q) holds =
       stays (with_pair (p, q) begun) []
       (pair_beside (p, q) begun (all_pairs basis.reached.seats a) (beside basis.reached.seats (lists_by filling lists) a (begun_pairs filling lists a begins)) holds)

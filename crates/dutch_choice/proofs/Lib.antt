@@ -7,7 +7,6 @@ pub mod KnownByWish
 pub mod AllPaired
 pub mod RuledOutLemmas
 pub mod BestLemmas
-pub mod CertificateFloors
 pub mod ChoiceLemmas
 pub mod KeptValues
 pub mod SkippedLemmas

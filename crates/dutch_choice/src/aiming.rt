@@ -9,7 +9,7 @@ use dutch_bracket::context::Context;
 use dutch_bracket::differences::put;
 use dutch_bracket::quality::{NextValue, Quality, Room, fill_seated};
 use dutch_bracket::seated::{Pair, Seated, difference_down};
-use dutch_order::{Filling, LIMIT, Numbers};
+use dutch_order::{LIMIT, Numbers};
 use dutch_weights::asking::Matched;
 use dutch_weights::rest::is_in;
 use dutch_weights::weight_floor::WeightFloors;
@@ -107,7 +107,7 @@ fn next_by(pass: &Pass<'_>, weights: &WeightFloors<'_>, matched: &Matched) -> Ne
     if weights.counts_next() {
         value_below(pass.context, matched)
     } else {
-        pass.floors.awaited(Filling::S1, &[]).copied()
+        pass.floors.awaited_first().copied()
     }
 }
 

@@ -11,7 +11,7 @@ ghost use Rattle.std.specs.Option.{ForSome};
 ghost use Rattle.dutch_order.specs.Arrangements.{Arrangement, Fits};
 ghost use Rattle.dutch_order.specs.Keys.{IsIn};
 ghost use Rattle.dutch_order.specs.Prefixes.{Begins};
-ghost use Rattle.dutch_bracket.specs.Reached.{frame_of};
+ghost use Rattle.dutch_bracket.specs.Reached.{IsOf, frame_of};
 ghost use Rattle.dutch_floors.specs.FloorOf.{IsBasis};
 ghost use Rattle.dutch_bracket.specs.Quality.{is_better};
 ghost use Rattle.dutch_bracket.specs.QualityIn.{next_in, quality_in};
@@ -47,6 +47,7 @@ pub(crate) struct Pass<'a> {
     /// The few steps that come first did not suffice.
     pub(crate) is_long: bool,
     pub(crate) floors: Floors<'a>,
+    ghost of: { IsOf context.now.facts context.now.reached },
     ghost fits: { Fits (frame_of context.now.facts context.now.reached) shape },
     ghost basis: { IsBasis context.now.facts context.now.reached context.now.lower shape floors },
 }
@@ -59,7 +60,6 @@ fn fill_floor(pass: &Pass<'_>, prefix: &Prefix<'_>, room: &mut Room) -> bool
         → is_better (quality_of pass.now.context.now.facts pass.now.context.now.reached pass.now.context.now.lower a)
         (quality_in room.new.quality) ≡ false }
 {
-    let _reached = pass.context.reached();
     pass.floors.floor(prefix, room)
 }
 
@@ -134,7 +134,6 @@ fn fill_floor_knowing(pass: &Pass<'_>, known: Known, prefix: &Prefix<'_>, room: 
         → is_better (quality_of pass.now.context.now.facts pass.now.context.now.reached pass.now.context.now.lower a)
         (quality_in room.new.quality) ≡ false }
 {
-    let _reached = pass.context.reached();
     pass.floors.floor_knowing(known, prefix, room)
 }
 
@@ -183,7 +182,6 @@ fn has_no_better_next(pass: &Pass<'_>, prefix: &Prefix<'_>, quality: &Quality) -
         → HasNoBetter (quality_of pass.now.context.now.facts pass.now.context.now.reached pass.now.context.now.lower a)
         (next_in (quality_in quality.now)) }
 {
-    let _reached = pass.context.reached();
     pass.floors.has_no_better_next(prefix, quality)
 }
 
@@ -314,7 +312,6 @@ impl<'a, 'k> Skipper<'a, 'k> {
             (quality_of self.now.pass.now.context.now.facts self.now.pass.now.context.now.reached
             self.now.pass.now.context.now.lower a) (next_in (quality_in quality.now)) }
     {
-        let _reached = self.pass.context.reached();
         match self.weights {
             Some(weights) if weights.counts_next() => true,
             _ => has_no_better_next(self.pass, prefix, quality),
@@ -334,7 +331,6 @@ impl<'a, 'k> Skipper<'a, 'k> {
             (quality_of self.now.pass.now.context.now.facts self.now.pass.now.context.now.reached
             self.now.pass.now.context.now.lower a) ≡ true }
     {
-        let _reached = self.pass.context.reached();
         let Some(bar) = &self.bars.aim else {
             return false;
         };
@@ -357,7 +353,6 @@ impl<'a, 'k> Skipper<'a, 'k> {
             (quality_of self.now.pass.now.context.now.facts self.now.pass.now.context.now.reached
             self.now.pass.now.context.now.lower a) self.now.kept.now) ≡ true }
     {
-        let _reached = self.pass.context.reached();
         let Some(bar) = &self.bars.kept else {
             return false;
         };
@@ -380,7 +375,6 @@ impl<'a, 'k> Skipper<'a, 'k> {
             (quality_of self.now.pass.now.context.now.facts self.now.pass.now.context.now.reached
             self.now.pass.now.context.now.lower a) ≡ true }
     {
-        let _reached = self.pass.context.reached();
         let Some(least) = weights.least_by(place, prefix) else {
             return false;
         };
@@ -431,7 +425,6 @@ impl<'a, 'k> Skipper<'a, 'k> {
             (quality_of self.now.pass.now.context.now.facts self.now.pass.now.context.now.reached
             self.now.pass.now.context.now.lower a) ≡ true }
     {
-        let _reached = self.pass.context.reached();
         let Some(least) = weights.least_with(place, prefix, exchange) else {
             return false;
         };

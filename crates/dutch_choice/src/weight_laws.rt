@@ -1,20 +1,15 @@
 // Laws of the weight of a candidate: its items that are sums, C.6 and C.8 to C.19, and what the next bracket can be
-// where that is measured, C.7, as the digits of one number (C.04.3). A certificate bounds it for all candidates with a
-// beginning, and that bound is a floor: a quality that none of them is better than.
-ghost use Rattle.std.specs.Prelude.{◌≡◌, ◌+◌, ◌-◌, ◌*◌, ◌<◌, ◌≤◌, ◌||◌, ◌++◌, ◌%◌, ℕ, List, true, false, is_some};
+// where that is measured, C.7, as the digits of one number (C.04.3). A floor of `dual` bounds it for all candidates
+// with a beginning.
+ghost use Rattle.std.specs.Prelude.{◌≡◌, ◌+◌, ◌-◌, ◌*◌, ◌<◌, ◌≤◌, ◌++◌, ◌%◌, ℕ, List, true, is_some};
 ghost use Rattle.std.specs.Prelude.{length, sum_by, nat_lt};
-ghost use Rattle.dual.specs.Duals.{Certificate, IsFeasible};
 ghost use Rattle.dutch_order.specs.declared.bracket.Shape.{Shape};
 ghost use Rattle.dutch_order.specs.Arrangements.{Arrangement, Fits, down};
 ghost use Rattle.dutch_order.specs.Choices.{numbers_from};
 ghost use Rattle.dutch_order.specs.Keys.{IsIn};
 ghost use Rattle.dutch_order.specs.Prefixes.{Begins, Beginning};
 ghost use Rattle.dutch_player.specs.Facts.{Facts};
-ghost use Rattle.dutch_bracket.specs.Beginnings.{HasPairsOf};
-ghost use Rattle.dutch_floors.specs.Outlooks.{IsOutlook, awaited};
-ghost use Rattle.dutch_floors.specs.declared.outlook.Outlook.{Outlook};
-ghost use Rattle.dutch_bracket.specs.PsdFloors.{is_uniform};
-ghost use Rattle.dutch_bracket.specs.Beginnings.{fixed_lists, has_s1};
+ghost use Rattle.dutch_bracket.specs.Beginnings.{fixed_lists};
 ghost use Rattle.dutch_bracket.specs.Quality.{Quality, is_better};
 ghost use Rattle.dutch_bracket.specs.QualityIn.{next_in};
 ghost use Rattle.dutch_order.specs.Forms.{NoneTwice};
@@ -24,9 +19,9 @@ ghost use Rattle.dutch_bracket.specs.Seats.{seats_meet};
 ghost use Rattle.dutch_bracket.specs.declared.reached.BracketKind.TheVariants.{Ordinary};
 ghost use Rattle.dutch_bracket.specs.Reached.{IsAbove, IsOf, Reached, frame_of};
 ghost use Rattle.dutch_bracket.specs.Brackets.{candidates_of, completable, downfloaters, quality_of};
-ghost use Rattle.dutch_bracket.specs.Weights.{HasDigits, IsOn, IsScale, IsScaleFor, Scale, alone_by, least_weight};
+ghost use Rattle.dutch_bracket.specs.Weights.{HasDigits, IsOn, IsScale, IsScaleFor, Scale, alone_by};
 ghost use Rattle.dutch_bracket.specs.Weights.{number_pairs, numbers};
-ghost use Rattle.dutch_bracket.specs.Weights.{weighing, weight_above, weight_below, weight_of};
+ghost use Rattle.dutch_bracket.specs.Weights.{weighing, weight_below, weight_of};
 ghost use Rattle.dutch_weights.specs.declared.scoped.Reach.TheVariants.{Bracket, Lower, Next};
 ghost use Rattle.dutch_bracket.specs.Scopes.{Covers, Scope};
 ghost use Rattle.dutch_weights.specs.ScopedCosts.{costs_in};
@@ -54,61 +49,6 @@ pub fn the_lighter_is_better()
     ensures { (scale : Scale) → IsScale scale → (q r : Quality) → IsOn scale q → IsOn scale r → HasDigits scale q
         → HasDigits scale r
         → HasSameNextOn scale.next q r → is_better q r ≡ nat_lt (weight_of scale q) (weight_of scale r) }
-{}
-
-/// C.6, C.8 to C.19: no candidate with a beginning weighs less than a feasible certificate says, with the slack of the
-/// pairs that the beginning fixes, each once.
-#[tactic(auto, using(dutch_weights::proofs::CandidateMatchings::weighs_no_less))]
-pub fn a_certificate_bounds_the_weight()
-    ensures { (facts : Facts) (reached : Reached) (scale : Scale) (lower : List ℕ) (shape : Shape) (a : Arrangement)
-        → IsOf facts reached
-        → Fits (frame_of facts reached) shape → IsIn a (candidates_of facts reached shape) → (b : Arrangement)
-        → HasPairsOf b a
-        → (certificate : Certificate) → IsFeasible (weighing facts reached scale) (numbers reached) certificate
-        → least_weight facts reached scale certificate shape b ≤ weight_of scale (quality_of facts reached lower a) }
-{}
-
-/// C.6 to C.19: so a quality that weighs no more than that is a floor: no candidate with the beginning is better than
-/// it, unless by a better value of the next bracket.
-pub fn a_certificate_gives_floors()
-    ensures { (facts : Facts) (reached : Reached) (scale : Scale) (lower : List ℕ) (shape : Shape) (a : Arrangement)
-        → IsOf facts reached
-        → Fits (frame_of facts reached) shape → IsIn a (candidates_of facts reached shape) → (b : Arrangement)
-        → HasPairsOf b a
-        → (certificate : Certificate) → IsFeasible (weighing facts reached scale) (numbers reached) certificate
-        → IsScale scale → IsScaleFor facts reached lower shape scale → (f : Quality) → IsOn scale f
-        → weight_of scale f ≤ least_weight facts reached scale certificate shape b
-        → HasNoBetterOn scale.next (quality_of facts reached lower a) (next_in f)
-        → is_better (quality_of facts reached lower a) f ≡ false }
-{}
-
-/// C.6: where the bound is above the PSD of a quality, no candidate with the beginning is better than it, whatever the
-/// next bracket can be.
-pub fn a_certificate_tells_of_the_psd()
-    ensures { (facts : Facts) (reached : Reached) (scale : Scale) (lower : List ℕ) (shape : Shape) (a : Arrangement)
-        → IsOf facts reached
-        → Fits (frame_of facts reached) shape → IsIn a (candidates_of facts reached shape) → (b : Arrangement)
-        → HasPairsOf b a
-        → (certificate : Certificate) → IsFeasible (weighing facts reached scale) (numbers reached) certificate
-        → IsScale scale → IsScaleFor facts reached lower shape scale → (f : Quality) → IsOn scale f
-        → weight_above scale f ≤ least_weight facts reached scale certificate shape b
-        → is_better (quality_of facts reached lower a) f ≡ false }
-{}
-
-/// C.6 to C.19: the same behind a beginning that the search comes to, where the floor has the best that the next
-/// bracket is known to be.
-#[tactic(auto, using(crate::proofs::CertificateFloors::behind_beginning))]
-pub fn a_beginning_has_a_floor_by_weight()
-    ensures { (facts : Facts) (reached : Reached) (scale : Scale) (lower : List ℕ) (shape : Shape) (a : Arrangement)
-        → IsOf facts reached
-        → Fits (frame_of facts reached) shape → IsIn a (candidates_of facts reached shape)
-        → (outlook : Outlook) → IsOutlook facts reached lower shape outlook → (b : Beginning) → Begins b a
-        → (has_s1 b.filling || is_uniform facts reached shape) ≡ true
-        → (certificate : Certificate) → IsFeasible (weighing facts reached scale) (numbers reached) certificate
-        → IsScale scale → IsScaleFor facts reached lower shape scale → (f : Quality) → IsOn scale f
-        → weight_of scale f ≤ least_weight facts reached scale certificate shape (fixed_lists b)
-        → next_in f ≡ awaited facts reached shape outlook b.filling (fixed_lists b).s1
-        → is_better (quality_of facts reached lower a) f ≡ false }
 {}
 
 /// C.6, C.8 to C.19: no candidate behind a beginning weighs less than a floor says that is for all arrangements with

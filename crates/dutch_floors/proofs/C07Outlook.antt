@@ -14,13 +14,13 @@ use Rattle.dutch_player.specs.Facts.{Facts}
 use Rattle.dutch_floors.specs.declared.outlook.Outlook.{Outlook}
 use Rattle.dutch_bracket.specs.declared.reached.BracketKind.{BracketKind}
 use Rattle.dutch_bracket.specs.declared.reached.BracketKind.TheVariants.{Ordinary, Last, Penultimate, Collapsed}
-use Rattle.dutch_floors.specs.FloorOf.{is_flat, residents_score}
+use Rattle.dutch_floors.specs.FloorOf.{is_flat, residents_score, s1_by}
 use Rattle.dutch_bracket.specs.PsdFloors.{is_uniform}
 use Rattle.dutch_bracket.specs.Beginnings.{has_s1, lists_by}
 use Rattle.dutch_bracket.specs.Ghosts.{IsNotBetter, pairs_by_counts}
 use Rattle.dutch_floors.specs.GhostValues.{first_limbo, ghost_value}
 use Rattle.dutch_bracket.specs.NextBracket.{IsFlat, is_lower, next_bracket, no_value, value_in, quality, HasNoBetter}
-use Rattle.dutch_floors.specs.Outlooks.{IsOutlook, awaited, known_by, leaves_first_by, limbo_scores, leaves_first}
+use Rattle.dutch_floors.specs.Outlooks.{IsOutlook, awaited, known_by, limbo_scores, leaves_first}
 use Rattle.dutch_bracket.specs.Quality.{NextValue, quality_with}
 use Rattle.dutch_bracket.specs.Reached.{IsAbove, IsOf, Reached, frame_of}
 use Rattle.dutch_bracket.specs.Brackets.{downfloaters, first_group, quality_of, scoregroups}
@@ -131,7 +131,7 @@ module _ (facts : Facts) (reached : Reached) (lower : List ℕ) (shape : Shape) 
   -- an arrangement leaves the first Limbo where its beginning tells so
   limbo_of : (filling : Filling) (lists a : Arrangement) → IsOf facts reached → IsFlat facts reached → IsIn a (arrangements (frame_of facts reached) shape)
       → BeginsAt filling lists a → (has_s1 filling || is_uniform facts reached shape) ≡ true
-      → leaves_first_by filling facts reached shape (lists_by filling lists).s1 ≡ true → limbo_scores facts reached a.s1 ≡ first_limbo facts reached shape
+      → leaves_first facts reached shape (s1_by filling shape (lists_by filling lists).s1) ≡ true → limbo_scores facts reached a.s1 ≡ first_limbo facts reached shape
   unfolding leaves_first
   limbo_of S1 lists a of' flat m h known t = first_limbo_of_all facts reached of' flat shape a m (uniform_of facts reached shape of' known)
   limbo_of S2 lists a of' flat m h known t =
@@ -141,7 +141,7 @@ module _ (facts : Facts) (reached : Reached) (lower : List ℕ) (shape : Shape) 
 
   module _ (outlook : Outlook) (of' : IsOf facts reached) (is : IsOutlook facts reached lower shape outlook) (filling : Filling) (lists a : Arrangement)
       (m : IsIn a (arrangements (frame_of facts reached) shape)) (h : BeginsAt filling lists a) (known : (has_s1 filling || is_uniform facts reached shape) ≡ true) where
-    by_limbo : (value : NextValue) → outlook.first ≡ Some value → (t : Bool) → leaves_first_by filling facts reached shape (lists_by filling lists).s1 ≡ t
+    by_limbo : (value : NextValue) → outlook.first ≡ Some value → (t : Bool) → leaves_first facts reached shape (s1_by filling shape (lists_by filling lists).s1) ≡ t
         → HasNoBetter (quality_of facts reached lower a) (known_by (Some value) t outlook.any)
     by_limbo value e true t =
         let first = is.first value e in
@@ -149,10 +149,10 @@ module _ (facts : Facts) (reached : Reached) (lower : List ℕ) (shape : Shape) 
     by_limbo value e false t = is.any a m
 
     by_first : (o : Option NextValue) → outlook.first ≡ o
-        → HasNoBetter (quality_of facts reached lower a) (known_by o (leaves_first_by filling facts reached shape (lists_by filling lists).s1) outlook.any)
+        → HasNoBetter (quality_of facts reached lower a) (known_by o (leaves_first facts reached shape (s1_by filling shape (lists_by filling lists).s1)) outlook.any)
     by_first None e = is.any a m
-    by_first (Some value) e = by_limbo value e (leaves_first_by filling facts reached shape (lists_by filling lists).s1) refl
+    by_first (Some value) e = by_limbo value e (leaves_first facts reached shape (s1_by filling shape (lists_by filling lists).s1)) refl
 
     -- what is awaited behind a beginning is no worse than what comes
-    pub awaited_holds : HasNoBetter (quality_of facts reached lower a) (awaited facts reached shape outlook filling (lists_by filling lists).s1)
+    pub awaited_holds : HasNoBetter (quality_of facts reached lower a) (awaited facts reached shape outlook (s1_by filling shape (lists_by filling lists).s1))
     awaited_holds = by_first outlook.first refl

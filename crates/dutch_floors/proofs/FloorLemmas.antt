@@ -1,12 +1,17 @@
 -- What a floor is made of has room in a bracket.
-use Rattle.std.proofs.Common.{◌≡◌, ◌≤◌, true, length}
+use Rattle.std.proofs.Common.{◌≡◌, ℕ, ◌≤◌, true, List, length, refl}
 use Rattle.std.proofs.lemmas.Bool.{and_parts}
+use Rattle.dutch_order.specs.declared.bracket.Shape.{Shape}
+use Rattle.dutch_order.specs.declared.prefix.Filling.{Filling}
+use Rattle.dutch_order.specs.declared.prefix.Filling.TheVariants.{S1, S2, S2r}
 use Rattle.dutch_order.specs.Arrangements.{Fits}
+use Rattle.dutch_order.specs.Choices.{numbers_from}
 use Rattle.dutch_order.specs.Prefixes.{Beginning}
 use Rattle.dutch_bracket.specs.Reached.{IsOf, frame_of}
-use Rattle.dutch_floors.specs.FloorOf.{Basis, is_known}
+use Rattle.dutch_floors.specs.FloorOf.{Basis, is_known, s1_by, s1_of}
+use Rattle.dutch_bracket.specs.Seated.{AllNumbers}
 use Rattle.dutch_bracket.specs.Beginnings.{HasNumbers, fixed_lists, is_of_shape}
-use Rattle.dutch_bracket.proofs.ShapeNumbers.{first_few, numbers_fit}
+use Rattle.dutch_bracket.proofs.ShapeNumbers.{first_few, first_length, first_numbers, numbers_fit}
 
 -- where a floor is known, its lists are of the bracket and the shape
 of_shape : (basis : Basis) (b : Beginning) → is_known basis b ≡ true → is_of_shape basis.reached basis.shape (fixed_lists b) ≡ true
@@ -16,5 +21,22 @@ pub known_numbers : (basis : Basis) (b : Beginning) → Fits (frame_of basis.fac
     → HasNumbers basis.reached (fixed_lists b)
 known_numbers basis b fits of' h = numbers_fit basis.facts basis.reached basis.shape (fixed_lists b) fits of' (of_shape basis b h)
 
-pub known_few : (basis : Basis) (b : Beginning) → is_known basis b ≡ true → length (fixed_lists b).s1 ≤ basis.shape.mdps
+known_few : (basis : Basis) (b : Beginning) → is_known basis b ≡ true → length (fixed_lists b).s1 ≤ basis.shape.mdps
 known_few basis b h = first_few basis.reached basis.shape (fixed_lists b) (of_shape basis b h)
+
+-- S1, or the first one where none is chosen
+first_or : (P : List ℕ → Type 0) (filling : Filling) (shape : Shape) (s1 : List ℕ) → P (numbers_from 1 shape.mdps) → P s1 → P (s1_by filling shape s1)
+first_or P S1 shape s1 first chosen = first
+first_or P S2 shape s1 first chosen = chosen
+first_or P S2r shape s1 first chosen = chosen
+
+pub s1_numbers : (basis : Basis) (b : Beginning) → Fits (frame_of basis.facts basis.reached) basis.shape → IsOf basis.facts basis.reached → is_known basis b ≡ true
+    → AllNumbers basis.reached.seats (s1_of basis b)
+s1_numbers basis b fits of' h =
+    first_or (AllNumbers basis.reached.seats) b.filling basis.shape (fixed_lists b).s1 (first_numbers basis.facts basis.reached basis.shape fits of')
+    (known_numbers basis b fits of' h).s1
+
+pub s1_few : (basis : Basis) (b : Beginning) → is_known basis b ≡ true → length (s1_of basis b) ≤ basis.shape.mdps
+s1_few basis b h =
+    first_or (λ s1. length s1 ≤ basis.shape.mdps) b.filling basis.shape (fixed_lists b).s1
+    (first_length basis.shape (numbers_from 1 basis.shape.mdps) refl) (known_few basis b h)

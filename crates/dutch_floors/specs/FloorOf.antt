@@ -14,14 +14,14 @@ use Rattle.dutch_bracket.specs.Quality.{Quality, psd}
 use Rattle.dutch_bracket.specs.Reached.{Reached}
 use Rattle.dutch_bracket.specs.Seated.{Seated, seat_of, score_at, all_pairs}
 use Rattle.dutch_bracket.specs.Beginnings.{fixed, in_both, fixed_lists, is_of_shape, has_s1}
-use Rattle.dutch_bracket.specs.ColourFloors.{wants, wants_firmly, lonely}
+use Rattle.dutch_bracket.specs.ColourFloors.{wants, wants_firmly, lonely_second, residents_down}
 use Rattle.dutch_bracket.specs.PsdFloors.{psd_with, is_uniform}
 use Rattle.dutch_floors.specs.declared.outlook.Outlook.{Outlook}
 use Rattle.dutch_floors.specs.Outlooks.{IsOutlook, awaited}
 use Rattle.dutch_floors.specs.declared.colour_floor.Wants.{Wants}
 use Rattle.dutch_floors.specs.declared.known.Known.{Known}
 use Rattle.dutch_floors.specs.KnownBeside.{known_by}
-use Rattle.dutch_bracket.specs.Floors.{floor_over, floor_with}
+use Rattle.dutch_bracket.specs.Floors.{floor_over}
 
 -- a bracket of a field, the shape of its arrangements, and what the next bracket can be at best
 pub record Basis : Type 0 where
@@ -45,15 +45,11 @@ abbrev pub is_flat : Facts → Reached → Bool
 is_flat facts reached = nat_lt reached.mdps (length reached.seats) && (residents_score facts reached == score_at facts (seat_of reached.seats (length reached.seats)))
 
 -- C.6: what S1 tells if all residents have one score; otherwise the differences of what is known
-unfoldable pub psd_over : Filling → Basis → List ℕ → Seated → List ℕ
-psd_over filling basis s1 known =
+unfoldable pub psd_over : Basis → List ℕ → Seated → List ℕ
+psd_over basis s1 known =
     if is_flat basis.facts basis.reached
-    then psd_with basis.facts basis.reached basis.shape (residents_score basis.facts basis.reached) (s1_by filling basis.shape s1)
+    then psd_with basis.facts basis.reached basis.shape (residents_score basis.facts basis.reached) s1
     else psd basis.facts known
-
--- the same if a beginning is known
-abbrev pub psd_by : Filling → Basis → Arrangement → List ℕ
-psd_by filling basis lists = psd_over filling basis lists.s1 (fixed basis.facts basis.reached lists)
 
 -- 1 for a seat whose preference is a colour, or only if it is also firm
 abbrev pub wanting : Bool → Facts → Colour → ℕ → ℕ
@@ -82,6 +78,10 @@ abbrev pub more_in : Bool → Facts → Reached → Shape → Seated → ℕ
 more_in firm facts reached shape known =
     max (surplus_in (wanting firm facts White) reached shape known) (surplus_in (wanting firm facts Black) reached shape known)
 
+-- C.10: lonely players miss: those of the pool of S2R who suit nobody of S1R who waits, but for as many residents as go down
+abbrev pub lonely : Facts → Reached → Shape → Arrangement → ℕ
+lonely facts reached shape b = lonely_second facts reached b - residents_down reached shape
+
 -- C.10: how many more miss than in the pairs that are fixed; lonely players are known once S1R is chosen
 abbrev pub more_by : Filling → Basis → Arrangement → ℕ
 more_by S1 basis lists = more_in false basis.facts basis.reached basis.shape (fixed basis.facts basis.reached lists)
@@ -89,28 +89,29 @@ more_by S2 basis lists = more_in false basis.facts basis.reached basis.shape (fi
 more_by S2r basis lists =
     max (more_in false basis.facts basis.reached basis.shape (fixed basis.facts basis.reached lists)) (lonely basis.facts basis.reached basis.shape lists)
 
--- the floor by the list that is being filled and those that are fixed
-unfoldable pub floor_by : Filling → Basis → Arrangement → Quality
-floor_by filling basis lists =
-    floor_with basis.facts basis.reached (psd_by filling basis lists)
-    (awaited basis.facts basis.reached basis.shape basis.outlook filling lists.s1) (more_by filling basis lists)
-    (more_in true basis.facts basis.reached basis.shape (fixed basis.facts basis.reached lists)) lists
+-- the floor by S1 and by what is known by seats, where so many more miss
+abbrev pub floor_by : Basis → List ℕ → ℕ → Seated → Quality
+floor_by basis s1 more known =
+    floor_over basis.facts (psd_over basis s1 known) (awaited basis.facts basis.reached basis.shape basis.outlook s1) more
+    (more_in true basis.facts basis.reached basis.shape known) known
 
--- the floor by what is known, of seats and of S1
-unfoldable pub floor_by_seats : Filling → Basis → List ℕ → Seated → Quality
-floor_by_seats filling basis s1 known =
-    floor_over basis.facts (psd_over filling basis s1 known) (awaited basis.facts basis.reached basis.shape basis.outlook filling s1)
-    (more_in false basis.facts basis.reached basis.shape known) (more_in true basis.facts basis.reached basis.shape known) known
+-- the same by these alone
+unfoldable pub floor_by_seats : Basis → List ℕ → Seated → Quality
+floor_by_seats basis s1 known = floor_by basis s1 (more_in false basis.facts basis.reached basis.shape known) known
+
+-- S1 of a beginning; the first one, if none is chosen
+abbrev pub s1_of : Basis → Beginning → List ℕ
+s1_of basis b = s1_by b.filling basis.shape (fixed_lists b).s1
 
 -- the floor of a beginning of which something more is known
 unfoldable pub floor_knowing : Basis → Known → Beginning → Quality
 floor_knowing basis known b =
-    let lists = fixed_lists b in
-    floor_by_seats b.filling basis lists.s1 (known_by basis.facts basis.reached known (all_pairs basis.reached.seats lists))
+    floor_by_seats basis (s1_of basis b) (known_by basis.facts basis.reached known (all_pairs basis.reached.seats (fixed_lists b)))
 
 -- the floor of a beginning
 unfoldable pub floor_of : Basis → Beginning → Quality
-floor_of basis b = floor_by b.filling basis (fixed_lists b)
+floor_of basis b =
+    floor_by basis (s1_of basis b) (more_by b.filling basis (fixed_lists b)) (fixed basis.facts basis.reached (fixed_lists b))
 
 -- a floor is known: the lists are those of the bracket and the shape, and S1 is chosen, or it does not matter which is
 abbrev pub is_known : Basis → Beginning → Bool

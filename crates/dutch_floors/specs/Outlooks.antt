@@ -1,8 +1,6 @@
 -- The best that the next bracket can be, as it is known before any candidate is looked at (C.04.3 C.7).
-use Rattle.std.specs.Prelude.{◌≡◌, ℕ, Bool, true, if◌then◌else◌, List, map, Option, Some, None}
+use Rattle.std.specs.Prelude.{◌≡◌, ℕ, Bool, if◌then◌else◌, List, map, Option, Some, None}
 use Rattle.dutch_order.specs.declared.bracket.Shape.{Shape}
-use Rattle.dutch_order.specs.declared.prefix.Filling.{Filling}
-use Rattle.dutch_order.specs.declared.prefix.Filling.TheVariants.{S1, S2, S2r}
 use Rattle.dutch_order.specs.Arrangements.{Arrangement, arrangements, left_of}
 use Rattle.dutch_order.specs.Choices.{is_same, numbers_from}
 use Rattle.dutch_order.specs.Keys.{IsIn}
@@ -23,20 +21,14 @@ limbo_scores facts reached s1 = map (λ i. score_at facts (seat_of reached.seats
 unfoldable pub leaves_first : Facts → Reached → Shape → List ℕ → Bool
 leaves_first facts reached shape s1 = is_same (limbo_scores facts reached s1) (first_limbo facts reached shape)
 
--- and so does every S1, if a floor is known before one is chosen
-abbrev pub leaves_first_by : Filling → Facts → Reached → Shape → List ℕ → Bool
-leaves_first_by S1 facts reached shape s1 = true
-leaves_first_by S2 facts reached shape s1 = leaves_first facts reached shape s1
-leaves_first_by S2r facts reached shape s1 = leaves_first facts reached shape s1
-
 -- the value for a Limbo like the first one, if it is known and the Limbo is so; otherwise the value in any case
 abbrev pub known_by : Option NextValue → Bool → NextValue → NextValue
 known_by None same any = any
 known_by (Some first) same any = if same then first else any
 
 -- the best that the next bracket can be behind arrangements with an S1
-abbrev pub awaited : Facts → Reached → Shape → Outlook → Filling → List ℕ → NextValue
-awaited facts reached shape outlook filling s1 = known_by outlook.first (leaves_first_by filling facts reached shape s1) outlook.any
+abbrev pub awaited : Facts → Reached → Shape → Outlook → List ℕ → NextValue
+awaited facts reached shape outlook s1 = known_by outlook.first (leaves_first facts reached shape s1) outlook.any
 
 -- no arrangement has a better value of the next bracket than an outlook says: any at all, and those that leave the first Limbo
 pub record IsOutlook (facts : Facts) (reached : Reached) (lower : List ℕ) (shape : Shape) (outlook : Outlook) : Type 0 where

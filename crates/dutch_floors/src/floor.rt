@@ -7,20 +7,20 @@ ghost use Rattle.dutch_bracket.specs.QualityIn.{next_in, quality_in};
 ghost use Rattle.dutch_bracket.specs.Beginnings.{fixed};
 ghost use Rattle.dutch_bracket.specs.PsdFloors.{psd_with};
 ghost use Rattle.dutch_bracket.specs.Reached.{IsOf, frame_of};
-ghost use Rattle.dutch_bracket.specs.Seated.{all_pairs, AllNumbers, HasSeats};
+ghost use Rattle.dutch_bracket.specs.Seated.{AllNumbers, HasSeats};
 ghost use Rattle.dutch_floors.specs.Outlooks.{awaited};
 ghost use Rattle.dutch_bracket.specs.NextBracket.{IsNoBetter};
-ghost use Rattle.dutch_floors.specs.FloorOf.{AreWants, is_flat, is_known, residents_score, psd_over, more_by, more_in};
+ghost use Rattle.dutch_floors.specs.FloorOf.{AreWants, is_flat, is_known, residents_score, psd_over, more_by, s1_of};
 ghost use Rattle.dutch_floors.specs.FloorOf.{floor_by, floor_by_seats, floor_knowing, floor_of};
 ghost use Rattle.dutch_bracket.specs.PsdFloors.{is_uniform};
 ghost use Rattle.dutch_bracket.specs.Beginnings.{HasNumbers, fixed_lists, has_s1};
 ghost use Rattle.dutch_bracket.specs.Floors.{floor_over};
-ghost use Rattle.dutch_floors.specs.KnownBeside.{AreKnown, known_by};
+ghost use Rattle.dutch_floors.specs.KnownBeside.{AreKnown};
 
 use crate::colour_floor::{Wants, missed, missed_strong, more_missed, wants_in};
 use crate::known::{Known, fill_known};
 use crate::lonely::lonely;
-use crate::outlook::Outlook;
+use crate::outlook::{Outlook, leaves_first};
 use dutch_bracket::begun::{Begun, fill_fixed, fixed_lists, has_s1, is_of_shape};
 use dutch_bracket::context::Context;
 use dutch_bracket::differences::fill_psd;
@@ -52,7 +52,7 @@ impl<'a> Model for Floors<'a> {
     ghost use Rattle.std.specs.Prelude.{◌≡◌, true, false};
     ghost use Rattle.dutch_order.specs.Arrangements.{Fits};
     ghost use Rattle.dutch_order.specs.Choices.{numbers_from};
-    ghost use Rattle.dutch_bracket.specs.Reached.{frame_of};
+    ghost use Rattle.dutch_bracket.specs.Reached.{IsOf, frame_of};
     ghost use Rattle.dutch_floors.specs.FloorOf.{AreWants, Basis, is_flat};
     ghost use Rattle.dutch_bracket.specs.PsdFloors.{is_uniform};
 
@@ -61,7 +61,8 @@ impl<'a> Model for Floors<'a> {
     ghost view = { λ f. record
         { facts = f.context.now.facts; reached = f.context.now.reached; shape = f.shape; outlook = f.outlook } };
 
-    ghost invariant = { λ f. (Fits (frame_of f.context.now.facts f.context.now.reached) f.shape)
+    ghost invariant = { λ f. (IsOf f.context.now.facts f.context.now.reached)
+        × (Fits (frame_of f.context.now.facts f.context.now.reached) f.shape)
         × (f.flat ≡ is_flat f.context.now.facts f.context.now.reached)
         × (f.uniform ≡ is_uniform f.context.now.facts f.context.now.reached f.shape)
         × (f.first.items ≡ numbers_from 1 f.shape.mdps)
@@ -85,8 +86,9 @@ impl<'a> Floors<'a> {
     #[tactic(auto, using(dutch_bracket::proofs::ShapeNumbers::small_mdps))]
     pub fn new(context: &'a Context<'a>, shape: Shape, outlook: Outlook) -> Floors<'a>
         requires { Fits (frame_of context.now.facts context.now.reached) shape }
-        ensures { result ≡ record
+        ensures value { result ≡ record
             { facts = context.now.facts; reached = context.now.reached; shape = shape; outlook = outlook } }
+        ensures of { IsOf context.now.facts context.now.reached }
     {
         let _reached = context.reached();
         let flat = is_flat(context);
@@ -111,7 +113,6 @@ impl<'a> Floors<'a> {
         ensures of { IsOf self.now.facts self.now.reached }
         ensures small { result.pairs ≤ LIMIT }
     {
-        let _reached = self.context.reached();
         self.shape
     }
 
@@ -137,164 +138,161 @@ impl<'a> Floors<'a> {
         fill_psd_with(context.rule(), self.shape(), score, s1, psd)
     }
 
-    /// The best that the next bracket can be behind arrangements with an S1 (C.7).
-    pub fn awaited(&self, filling: Filling, s1: &[u16]) -> &NextValue
-        ensures { result.now ≡ awaited self.now.facts self.now.reached self.now.shape self.now.outlook filling s1.now }
+    /// S1 of a beginning; the first one, if none is chosen.
+    fn s1<'b>(&'b self, prefix: &'b Prefix<'_>) -> &'b [u16]
+        ensures { result.now ≡ s1_of self.now prefix.now }
     {
-        self.outlook
-            .awaited(self.context, self.shape(), filling, s1)
+        match prefix.filling() {
+            Filling::S1 => return &self.first,
+            Filling::S2 | Filling::S2r => return prefix.s1(),
+        }
+    }
+
+    /// The best that the next bracket can be behind arrangements with an S1 (C.7).
+    fn awaited(&self, s1: &[u16]) -> &NextValue
+        ensures { result.now ≡ awaited self.now.facts self.now.reached self.now.shape self.now.outlook s1.now }
+    {
+        match &self.outlook.first {
+            Some(first) => {
+                if leaves_first(self.context, self.shape(), s1) {
+                    return first;
+                }
+                return &self.outlook.any;
+            }
+            None => return &self.outlook.any,
+        }
+    }
+
+    /// The same behind arrangements with the first S1.
+    pub fn awaited_first(&self) -> &NextValue {
+        self.awaited(&self.first)
     }
 
     /// Whether the next bracket is never better behind a beginning than a quality says, as far as that is known (C.7).
     pub fn has_no_better_next(&self, prefix: &Prefix<'_>, quality: &Quality) -> bool
         ensures { result ≡ true →
             ((has_s1 prefix.now.filling || is_uniform self.now.facts self.now.reached self.now.shape) ≡ true)
-            × IsNoBetter (awaited self.now.facts self.now.reached self.now.shape self.now.outlook prefix.now.filling
-            (fixed_lists prefix.now).s1)
+            × IsNoBetter (awaited self.now.facts self.now.reached self.now.shape self.now.outlook
+            (s1_of self.now prefix.now))
             (next_in (quality_in quality.now)) }
     {
-        let filling = prefix.filling();
-        let begun = fixed_lists(prefix);
-        (has_s1(filling) || self.uniform)
-            && self.awaited(filling, begun.s1).is_no_better_than(quality)
+        (has_s1(prefix.filling()) || self.uniform)
+            && self.awaited(self.s1(prefix)).is_no_better_than(quality)
     }
 
     /// How many more miss than in the pairs that are fixed (C.10).
-    fn more_by(&self, filling: Filling, begun: &Begun<'_>, room: &mut Room) -> usize
-        requires numbers { HasNumbers self.now.reached begun.now }
-        requires seated { room.old.seated ≡ fixed self.now.facts self.now.reached begun.now }
+    fn more_by(&self, prefix: &Prefix<'_>, room: &mut Room) -> usize
+        requires numbers { HasNumbers self.now.reached (fixed_lists prefix.now) }
+        requires seated { room.old.seated ≡ fixed self.now.facts self.now.reached (fixed_lists prefix.now) }
         requires inside { HasSeats self.now.facts room.old.seated }
-        ensures value { result ≡ more_by filling self.now begun.now }
+        ensures value { result ≡ more_by prefix.now.filling self.now (fixed_lists prefix.now) }
         ensures few { result ≤ LIMIT }
         ensures seated { room.new.seated ≡ room.old.seated }
     {
         let shape = self.shape();
         let more = more_missed(self.context, shape, &room.seated, self.wants(false));
-        match filling {
+        match prefix.filling() {
             Filling::S1 | Filling::S2 => return more,
             Filling::S2r => {
-                return more.max(lonely(self.context, shape, begun, &mut room.pool));
+                let begun = fixed_lists(prefix);
+                return more.max(lonely(self.context, shape, &begun, &mut room.pool));
             }
         }
     }
 
     /// Fills a list with the PSD (C.6).
-    #[tactic(auto, using(dutch_bracket::proofs::ShapeNumbers::first_numbers, dutch_bracket::proofs::ShapeNumbers::first_length), unfolding(crate::specs::FloorOf::psd_over))]
-    fn fill_psd(&self, filling: Filling, s1: &[u16], seated: &Seated, psd: &mut Numbers)
+    #[tactic(auto, unfolding(crate::specs::FloorOf::psd_over))]
+    fn fill_psd(&self, s1: &[u16], seated: &Seated, psd: &mut Numbers)
         requires inside { HasSeats self.now.facts seated.now }
         requires numbers { AllNumbers self.now.reached.seats s1.now }
         requires few { length s1.now ≤ self.now.shape.mdps }
-        ensures { psd.new.items ≡ psd_over filling self.now s1.now seated.now }
+        ensures { psd.new.items ≡ psd_over self.now s1.now seated.now }
     {
-        let _shape = self.shape();
-        if !self.flat {
-            return fill_psd(self.context.field(), seated, psd);
-        }
-        match filling {
-            Filling::S1 => return self.fill_psd_with(&self.first, psd),
-            Filling::S2 | Filling::S2r => return self.fill_psd_with(s1, psd),
+        if self.flat {
+            self.fill_psd_with(s1, psd)
+        } else {
+            fill_psd(self.context.field(), seated, psd)
         }
     }
 
-    /// Fills the floor by what is known by seats, where so many more miss (C.10).
+    /// Fills the floor by S1 and by what is known by seats, where so many more miss (C.10).
     #[tactic(auto, unfolding(dutch_bracket::specs::Floors::floor_over, dutch_bracket::specs::Quality::quality_with, dutch_bracket::specs::QualityIn::with_others))]
-    fn fill_over(&self, filling: Filling, s1: &[u16], more: usize, room: &mut Room)
+    fn fill_over(&self, s1: &[u16], more: usize, room: &mut Room)
         requires inside { HasSeats self.now.facts room.old.seated }
         requires numbers { AllNumbers self.now.reached.seats s1.now }
         requires few { length s1.now ≤ self.now.shape.mdps }
         requires more { more ≤ LIMIT }
-        ensures { quality_in room.new.quality
-            ≡ floor_over self.now.facts (psd_over filling self.now s1.now room.old.seated)
-            (awaited self.now.facts self.now.reached self.now.shape self.now.outlook filling s1.now) more
-            (more_in true self.now.facts self.now.reached self.now.shape room.old.seated) room.old.seated }
+        ensures { quality_in room.new.quality ≡ floor_by self.now s1.now more room.old.seated }
     {
         let context = self.context;
         let seated = &room.seated;
         let quality = &mut room.quality;
         let more_strong = more_missed(context, self.shape(), seated, self.wants(true));
-        self.fill_psd(filling, s1, seated, &mut quality.psd);
-        let next = self.awaited(filling, s1);
+        self.fill_psd(s1, seated, &mut quality.psd);
+        let next = self.awaited(s1);
         quality.put_next(next.pairs, &next.psd);
         quality.missed_preferences = missed(context, &seated.pairs) + more as u16;
         quality.missed_strong = missed_strong(context, &seated.pairs) + more_strong as u16;
         fill_others(context.field(), seated, quality);
     }
 
-    /// Fills the floor by the list that is being filled and those that are fixed.
-    #[tactic(auto, unfolding(crate::specs::FloorOf::floor_by))]
-    fn fill_floor(&self, filling: Filling, begun: &Begun<'_>, room: &mut Room)
-        requires numbers { HasNumbers self.now.reached begun.now }
-        requires few { length begun.now.s1 ≤ self.now.shape.mdps }
-        ensures { quality_in room.new.quality ≡ floor_by filling self.now begun.now }
-    {
-        fill_fixed(self.context, begun, &mut room.seated);
-        let more = self.more_by(filling, begun, room);
-        self.fill_over(filling, begun.s1, more, room);
-    }
-
-    /// The same with what is known beside them. It says no if there is no room for a pair more.
+    /// Fills the floor by S1 and by what is known by seats alone.
     #[tactic(auto, unfolding(crate::specs::FloorOf::floor_by_seats))]
-    fn fill_floor_knowing(
-        &self,
-        filling: Filling,
-        begun: &Begun<'_>,
-        known: Known,
-        room: &mut Room,
-    ) -> bool
-        requires numbers { HasNumbers self.now.reached begun.now }
-        requires few { length begun.now.s1 ≤ self.now.shape.mdps }
-        requires seats { AreKnown self.now.facts known }
-        ensures { result ≡ true → quality_in room.new.quality
-            ≡ floor_by_seats filling self.now begun.now.s1
-            (known_by self.now.facts self.now.reached known (all_pairs self.now.reached.seats begun.now)) }
+    fn fill_by_seats(&self, s1: &[u16], room: &mut Room)
+        requires inside { HasSeats self.now.facts room.old.seated }
+        requires numbers { AllNumbers self.now.reached.seats s1.now }
+        requires few { length s1.now ≤ self.now.shape.mdps }
+        ensures { quality_in room.new.quality ≡ floor_by_seats self.now s1.now room.old.seated }
     {
-        let context = self.context;
-        if !fill_known(context, begun, known, &mut room.seated) {
-            return false;
-        }
-        let more = more_missed(context, self.shape(), &room.seated, self.wants(false));
-        self.fill_over(filling, begun.s1, more, room);
-        true
+        let more = more_missed(self.context, self.shape(), &room.seated, self.wants(false));
+        self.fill_over(s1, more, room);
     }
 
     /// Whether a floor of a beginning is known. None is if its lists are not of the bracket and the shape, or if S1 is
     /// not chosen and it matters which one is.
+    #[tactic(auto, using(crate::proofs::FloorLemmas::known_numbers, crate::proofs::FloorLemmas::s1_numbers, crate::proofs::FloorLemmas::s1_few))]
     fn is_known(&self, prefix: &Prefix<'_>) -> bool
-        ensures { result ≡ is_known self.now prefix.now }
+        ensures known { result ≡ is_known self.now prefix.now }
+        ensures numbers { is_known self.now prefix.now ≡ true → HasNumbers self.now.reached (fixed_lists prefix.now) }
+        ensures s1 { is_known self.now prefix.now ≡ true → AllNumbers self.now.reached.seats (s1_of self.now prefix.now) }
+        ensures few { is_known self.now prefix.now ≡ true → length (s1_of self.now prefix.now) ≤ self.now.shape.mdps }
     {
         let begun = fixed_lists(prefix);
-        if !is_of_shape(self.context.reached(), self.shape(), &begun) {
-            return false;
-        }
-        has_s1(prefix.filling()) || self.uniform
+        is_of_shape(self.context.reached(), self.shape(), &begun)
+            && (has_s1(prefix.filling()) || self.uniform)
     }
 
     /// Fills the floor of a beginning, if one is known.
-    #[tactic(auto, using(crate::proofs::FloorLemmas::known_numbers, crate::proofs::FloorLemmas::known_few), unfolding(crate::specs::FloorOf::floor_of))]
+    #[tactic(auto, unfolding(crate::specs::FloorOf::floor_of))]
     pub fn floor(&self, prefix: &Prefix<'_>, room: &mut Room) -> bool
         ensures known { result ≡ is_known self.now prefix.now }
         ensures value { result ≡ true → quality_in room.new.quality ≡ floor_of self.now prefix.now }
     {
-        let _shape = self.shape();
         if !self.is_known(prefix) {
             return false;
         }
-        self.fill_floor(prefix.filling(), &fixed_lists(prefix), room);
+        fill_fixed(self.context, &fixed_lists(prefix), &mut room.seated);
+        let more = self.more_by(prefix, room);
+        self.fill_over(self.s1(prefix), more, room);
         true
     }
 
     /// Fills the floor of a beginning of which something more is known, if a floor is known.
-    #[tactic(auto, using(crate::proofs::FloorLemmas::known_numbers, crate::proofs::FloorLemmas::known_few), unfolding(crate::specs::FloorOf::floor_knowing))]
+    #[tactic(auto, unfolding(crate::specs::FloorOf::floor_knowing))]
     pub fn floor_knowing(&self, known: Known, prefix: &Prefix<'_>, room: &mut Room) -> bool
         requires { AreKnown self.now.facts known }
         ensures known { result ≡ true → is_known self.now prefix.now ≡ true }
         ensures value { result ≡ true → quality_in room.new.quality ≡ floor_knowing self.now known prefix.now }
     {
-        let _shape = self.shape();
         if !self.is_known(prefix) {
             return false;
         }
-        self.fill_floor_knowing(prefix.filling(), &fixed_lists(prefix), known, room)
+        let begun = fixed_lists(prefix);
+        if !fill_known(self.context, &begun, known, &mut room.seated) {
+            return false;
+        }
+        self.fill_by_seats(self.s1(prefix), room);
+        true
     }
 
     /// The quality that a first pass aims at, if all residents have one score: what a beginning with the first S1, and
@@ -307,7 +305,6 @@ impl<'a> Floors<'a> {
         if !self.flat {
             return None;
         }
-        let _shape = self.shape();
         let begun = Begun {
             s1: &self.first,
             s2: &[],
@@ -317,12 +314,13 @@ impl<'a> Floors<'a> {
         let mut room = Room::default();
         match known {
             Some(known) => {
-                if !self.fill_floor_knowing(Filling::S2, &begun, known, &mut room) {
+                if !fill_known(self.context, &begun, known, &mut room.seated) {
                     return None;
                 }
             }
-            None => self.fill_floor(Filling::S2, &begun, &mut room),
+            None => fill_fixed(self.context, &begun, &mut room.seated),
         }
+        self.fill_by_seats(&self.first, &mut room);
         Some(room.quality.with_the_worst_floats())
     }
 }

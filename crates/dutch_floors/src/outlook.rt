@@ -6,7 +6,7 @@ ghost use Rattle.dutch_order.specs.Arrangements.{Fits};
 ghost use Rattle.dutch_bracket.specs.declared.reached.BracketKind.TheVariants.{Ordinary};
 ghost use Rattle.dutch_floors.specs.FloorOf.{is_flat};
 ghost use Rattle.dutch_bracket.specs.Ghosts.{pairs_by_counts};
-ghost use Rattle.dutch_floors.specs.Outlooks.{IsOutlook, awaited, leaves_first, leaves_first_by};
+ghost use Rattle.dutch_floors.specs.Outlooks.{IsOutlook, leaves_first};
 ghost use Rattle.dutch_bracket.specs.Reached.{frame_of};
 ghost use Rattle.dutch_bracket.specs.Brackets.{first_group, scoregroups};
 ghost use Rattle.dutch_order.specs.Steps.{Spends};
@@ -15,7 +15,7 @@ use crate::ghost_value::ghost_value;
 use dutch_bracket::context::Context;
 use dutch_bracket::quality::NextValue;
 use dutch_bracket::reached::BracketKind;
-use dutch_order::{Budget, Filling, Numbers, Shape, Stopped};
+use dutch_order::{Budget, Numbers, Shape, Stopped};
 
 /// What the next bracket can be at best.
 #[derive(Drop)]
@@ -28,7 +28,7 @@ pub struct Outlook {
 
 /// Whether an S1 leaves a Limbo with the scores of the first one of a shape.
 #[tactic(auto, using(dutch_bracket::proofs::ArrangementParts::next_number), unfolding(crate::specs::Outlooks::leaves_first))]
-fn leaves_first(context: &Context<'_>, shape: Shape, s1: &[u16]) -> bool
+pub(crate) fn leaves_first(context: &Context<'_>, shape: Shape, s1: &[u16]) -> bool
     requires { Fits (frame_of context.now.facts context.now.reached) shape }
     ensures { result ≡ leaves_first context.now.facts context.now.reached shape s1.now }
 {
@@ -48,17 +48,6 @@ fn leaves_first(context: &Context<'_>, shape: Shape, s1: &[u16]) -> bool
         }
     }
     passed == moved_down
-}
-
-/// The same, where it is known that every S1 does as long as none is chosen.
-fn leaves_first_by(context: &Context<'_>, shape: Shape, filling: Filling, s1: &[u16]) -> bool
-    requires { Fits (frame_of context.now.facts context.now.reached) shape }
-    ensures { result ≡ leaves_first_by filling context.now.facts context.now.reached shape s1.now }
-{
-    match filling {
-        Filling::S1 => return true,
-        Filling::S2 | Filling::S2r => return leaves_first(context, shape, s1),
-    }
 }
 
 /// What half of those who go down and of the next lower scoregroup come to in pairs.
@@ -164,27 +153,5 @@ impl Outlook {
             first: Some(first),
             any,
         })
-    }
-
-    /// The best that the next bracket can be behind arrangements with an S1.
-    pub fn awaited(
-        &self,
-        context: &Context<'_>,
-        shape: Shape,
-        filling: Filling,
-        s1: &[u16],
-    ) -> &NextValue
-        requires { Fits (frame_of context.now.facts context.now.reached) shape }
-        ensures { result.now ≡ awaited context.now.facts context.now.reached shape self.now filling s1.now }
-    {
-        match &self.first {
-            Some(first) => {
-                if leaves_first_by(context, shape, filling, s1) {
-                    return first;
-                }
-                return &self.any;
-            }
-            None => return &self.any,
-        }
     }
 }

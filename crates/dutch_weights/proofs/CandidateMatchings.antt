@@ -1,15 +1,13 @@
 -- The pairs of a candidate, and those whom it leaves over, are a matching of the numbers of its bracket that has the pairs of each beginning
--- of it. So a certificate bounds its weight, and a quality that weighs no more than the bound is a floor.
-use Rattle.std.proofs.Common.{◌≡◌, ℕ, ◌+◌, ◌-◌, ◌*◌, ◌≤◌, ◌⊎◌, Bool, true, false, not, ◌||◌, List, [], ◌∷◌, ◌++◌, All, length, sum_by, Option, None, Some, inl, inr, refl, sym, ap, ◌∙◌, arith}
+-- of it.
+use Rattle.std.proofs.Common.{◌≡◌, ℕ, ◌+◌, ◌-◌, ◌*◌, ◌⊎◌, Bool, true, false, not, ◌||◌, List, [], ◌∷◌, ◌++◌, All, length, sum_by, inl, inr, refl, sym, ap, ◌∙◌, arith}
 use Rattle.std.specs.List.{AllByRecursion, zip}
 use Rattle.std.specs.Option.{ForSome}
 use Rattle.std.proofs.lemmas.Bool.{and_parts}
 use Rattle.std.proofs.lemmas.List.{length-map}
 use Rattle.std.proofs.lemmas.List.Elements.{All-nil, All-cons}
 use Rattle.std.proofs.lemmas.List.Sums.{sum_by-cons, sum_by-append}
-use Rattle.dual.specs.Duals.{Certificate, IsFeasible}
 use Rattle.dual.specs.Matchings.{IsMatching, IsPartOf, in_both}
-use Rattle.dual.proofs.TableLemmas.{least}
 use Rattle.dutch_order.specs.declared.bracket.Shape.{Shape}
 use Rattle.dutch_order.specs.Arrangements.{Arrangement, Fits, arrangements, down, is_legal, leaves_one}
 use Rattle.dutch_order.specs.Choices.{all_meet, numbers_from}
@@ -18,22 +16,17 @@ use Rattle.dutch_order.specs.Prefixes.{GoesOn}
 use Rattle.dutch_player.specs.Facts.{Facts}
 use Rattle.dutch_bracket.specs.Beginnings.{HasPairsOf}
 use Rattle.dutch_bracket.specs.ColourFloors.{beyond}
-use Rattle.dutch_bracket.specs.NextBracket.{HasNoBetter}
-use Rattle.dutch_bracket.specs.Quality.{NextValue, Quality, is_better}
-use Rattle.dutch_bracket.specs.QualityIn.{next_in}
 use Rattle.dutch_bracket.specs.Reached.{IsOf, Reached, ends_round, frame_of, number_may_be_left, numbers_meet}
 use Rattle.dutch_bracket.specs.Brackets.{candidates_of, quality_of}
 use Rattle.dutch_bracket.specs.Seated.{score_at}
-use Rattle.dutch_weights.specs.WeightFloors.{HasNoBetterOn}
-use Rattle.dutch_bracket.specs.Weights.{HasDigits, IsOn, IsScale, IsScaleFor, NextScale, Scale, least_weight, number_pairs, numbers, weighing, weight_above, weight_of}
+use Rattle.dutch_bracket.specs.Weights.{HasDigits, IsScaleFor, Scale, number_pairs, numbers, weighing}
 use Rattle.dutch_bracket.proofs.AllLemmas.{all_join}
 use Rattle.dutch_bracket.proofs.ArrangementParts.{parts_of}
-use Rattle.dutch_weights.proofs.C06ToC19Weights.{IsSmallBelow, candidate_digits, candidate_ordered, candidate_weighs}
+use Rattle.dutch_weights.proofs.C06ToC19Weights.{IsSmallBelow, candidate_digits}
 use Rattle.dutch_bracket.proofs.Everybody.{arranged, bracket_whole}
 use Rattle.dutch_bracket.proofs.GhostPairs.{down_count}
 use Rattle.dutch_bracket.proofs.LegalPairs.{in_passes, legal_of}
 use Rattle.dutch_bracket.proofs.Totals.{total}
-use Rattle.dutch_weights.proofs.WrittenNumbers.{behind_psd, not_lighter}
 
 pub total_sum : (w : ℕ → ℕ) (xs : List ℕ) → total w xs ≡ sum_by w xs
 total_sum w [] = refl
@@ -106,11 +99,6 @@ part_of b a begins =
       );
     }
 
--- a value of the next bracket that is no better is none on a scale either
-pub no_better_on : (next : Option NextScale) (q : Quality) (value : NextValue) → HasNoBetter q value → HasNoBetterOn next q value
-no_better_on None q value better = better
-no_better_on (Some next) q value better = tt {0}
-
 module _ (facts : Facts) (reached : Reached) (scale : Scale) (lower : List ℕ) (shape : Shape) (a : Arrangement) (of' : IsOf facts reached)
     (fits : Fits (frame_of facts reached) shape) (m : IsIn a (candidates_of facts reached shape)) where
   among : length (frame_of facts reached).scores ≡ length reached.seats
@@ -149,14 +137,6 @@ module _ (facts : Facts) (reached : Reached) (scale : Scale) (lower : List ℕ) 
   left_over =
       omega (arith, down_count (frame_of facts reached) shape a of'.sound.within fits.within_pairs (legal_of facts reached shape a m).arranged, among)
 
-  -- no candidate with a beginning weighs less than a certificate says
-  pub weighs_no_less : (b : Arrangement) → HasPairsOf b a → (certificate : Certificate) → IsFeasible (weighing facts reached scale) (numbers reached) certificate
-      → least_weight facts reached scale certificate shape b ≤ weight_of scale (quality_of facts reached lower a)
-  weighs_no_less b begins certificate feasible =
-      let bound = least (weighing facts reached scale) (numbers reached) certificate (length reached.seats - 2 * shape.pairs) (number_pairs b) feasible (number_pairs a)
-      (down (frame_of facts reached) a) candidate_is_matching (part_of b a begins) left_over in
-      omega (arith, bound, candidate_weighs facts reached scale lower a)
-
   -- what C.7 says of a candidate is small, if a scale measures it
   module _ (scaled : IsScaleFor facts reached lower shape scale)
       (next_small : ForSome scale.next (IsSmallBelow (quality_of facts reached lower a))) where
@@ -166,21 +146,3 @@ module _ (facts : Facts) (reached : Reached) (scale : Scale) (lower : List ℕ) 
         (λ w. bracket_whole w facts reached shape a (let within = of'.sound.within in omega (arith, within, among))
         (legal_of facts reached shape a m).arranged)
         scaled.high scaled.floats next_small (λ n e. (scaled.next n e).high)
-
-    -- C.6 to C.19: a quality that weighs no more than the bound, with no worse value of the next bracket than a candidate has, is a floor
-    pub bound_is_floor : (b : Arrangement) → HasPairsOf b a → (certificate : Certificate)
-        → IsFeasible (weighing facts reached scale) (numbers reached) certificate
-        → IsScale scale → (f : Quality) → IsOn scale f → weight_of scale f ≤ least_weight facts reached scale certificate shape b
-        → HasNoBetterOn scale.next (quality_of facts reached lower a) (next_in f) → is_better (quality_of facts reached lower a) f ≡ false
-    bound_is_floor b begins certificate feasible falls f on weighs next =
-        not_lighter scale falls f (quality_of facts reached lower a) on (candidate_ordered facts reached scale lower a next_small) digits_are_small
-        (omega (arith, weighs, weighs_no_less b begins certificate feasible)) next
-
-    -- C.6: and one above whose PSD the bound lies, whatever the next bracket can be
-    pub bound_is_above : (b : Arrangement) → HasPairsOf b a → (certificate : Certificate)
-        → IsFeasible (weighing facts reached scale) (numbers reached) certificate
-        → IsScale scale → (f : Quality) → IsOn scale f → weight_above scale f ≤ least_weight facts reached scale certificate shape b
-        → is_better (quality_of facts reached lower a) f ≡ false
-    bound_is_above b begins certificate feasible falls f on weighs =
-        behind_psd scale falls f (quality_of facts reached lower a) on (candidate_ordered facts reached scale lower a next_small) digits_are_small
-        (omega (arith, weighs, weighs_no_less b begins certificate feasible))

@@ -8,4 +8,4 @@ pub returns : goal.returns
 returns c = λ known.
     let pass = c.args.pass.now in
     no_better pass.context.now.facts pass.context.now.reached pass.context.now.lower pass.shape pass.floors c.args.prefix.now (quality_in c.floor.new.room.quality) pass.basis
-    c.reached-reached.ensures.sound (sym c.floor.ensures.known ∙ known) (c.floor.ensures.value known)
+    pass.of (sym c.floor.ensures.known ∙ known) (c.floor.ensures.value known)

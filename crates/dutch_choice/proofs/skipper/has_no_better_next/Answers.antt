@@ -6,5 +6,5 @@ use Rattle.dutch_choice.proofs.skipper.has_no_better_next.Goals as goal
 pub returns : goal.returns
 returns c = λ none a listed begins.
     let pass = c.args.pass.now in
-    awaited_by pass.context.now.facts pass.context.now.reached pass.context.now.lower pass.shape pass.floors pass.basis c.reached-reached.ensures.sound c.args.prefix.now
+    awaited_by pass.context.now.facts pass.context.now.reached pass.context.now.lower pass.shape pass.floors pass.basis pass.of c.args.prefix.now
     (next_in (quality_in c.args.quality.now)) (c.has_no_better_next.ensures none) a listed begins

@@ -8,12 +8,12 @@ returns-then-is_above c = λ above a listed begins weighs.
     let self = c.args.self.now in
     let pass = self.pass.now in
     let context = pass.context.now in
-    behind_kept context pass.shape a c.reached-reached.ensures.sound pass.fits listed c.args.least self.weights.now weighs c.in-Some.bar self.kept.now self.bars.kept c.in-Some-kept.best c.in-Some-kept.is c.in-Some.is self.best (inl (c.if-is_above.ensures.0 refl))
+    behind_kept context pass.shape a pass.of pass.fits listed c.args.least self.weights.now weighs c.in-Some.bar self.kept.now self.bars.kept c.in-Some-kept.best c.in-Some-kept.is c.in-Some.is self.best (inl (c.if-is_above.ensures.0 refl))
 
 pub returns-then-is_reached : goal.returns-then-is_reached
 returns-then-is_reached c = λ none a listed begins weighs.
     let self = c.args.self.now in
     let pass = self.pass.now in
     let context = pass.context.now in
-    behind_kept context pass.shape a c.reached-reached.ensures.sound pass.fits listed c.args.least self.weights.now weighs c.in-Some.bar self.kept.now self.bars.kept c.in-Some-kept.best c.in-Some-kept.is c.in-Some.is self.best
+    behind_kept context pass.shape a pass.of pass.fits listed c.args.least self.weights.now weighs c.in-Some.bar self.kept.now self.bars.kept c.in-Some-kept.best c.in-Some-kept.is c.in-Some.is self.best
     (inr (c.if-is_reached.ensures.0 refl, c.knows_next.ensures none a listed begins))
