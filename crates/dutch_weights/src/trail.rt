@@ -100,8 +100,8 @@ impl Trail {
         }
     }
 
-    /// Where a walk through the arrangements of a scope is stuck that is at the beginning with these pairs: behind those
-    /// that stood since it was told last. If that is where it was told, it is to be told one pair further on.
+    /// Where a walk through the arrangements of a scope is stuck that is at the beginning with these pairs: behind
+    /// those that stood since it was told last. If that is where it was told, it is to be told one pair further on.
     pub(crate) fn stuck_at<'s>(&self, scope: &'s Scope, pairs: Vec<Pair>) -> Stuck<'s> {
         let stood = common(&self.pairs, &pairs);
         let sound = if stood < self.asked { 0 } else { self.asked };
