@@ -358,7 +358,7 @@ fn few_steps(players: usize) -> u64 {
     let players = players as u64;
     players
         .saturating_mul(2)
-        .saturating_add(64)
+        .saturating_add(128)
         .saturating_mul(players)
 }
 

@@ -161,16 +161,6 @@ module _ (scale : Scale) where
       (λ d. omega (arith, counted d (highest_first xs), counted d xs, highest_first_copies d xs)) in
       omega (arith, same, below_none)
 
-  -- nothing, where C.7 is not measured
-  pub below_nothing : scale.next ≡ None → (n : ℕ) (xs : List ℕ) → weight_below scale n xs ≡ 0
-  unfolding weight_with
-  below_nothing none n xs =
-      let weight : Option NextScale → ℕ → List ℕ → ℕ = λ next m ys.
-      scale.unit * written 0 (in_base scale.base (counts scale.psd nobody.psd)
-      ++ (digits_below next m ys ++ (in_base scale.base (player_digits nobody) ++ float_digits scale nobody))) in
-      let same : weight_below scale n xs ≡ weight_below scale 0 [] = ap (λ next. weight next n xs) none ∙ ap (λ next. weight next 0 []) (sym none) in
-      same ∙ below_none
-
 one_or_none : (b : Bool) → one_if b ≤ 1
 one_or_none true = omega arith
 one_or_none false = omega arith

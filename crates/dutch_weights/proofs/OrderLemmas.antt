@@ -203,23 +203,5 @@ chosen_most : (t : Bool) (w l m : ℕ) → l ≤ m → (if t then w + l else w) 
 chosen_most true w l m le = omega (arith, le)
 chosen_most false w l m le = omega arith
 
-chosen_none : (t : Bool) (w l : ℕ) → l ≡ 0 → (if t then w + l else w) ≡ w
-chosen_none true w l none = omega (arith, none)
-chosen_none false w l none = refl
-
 pub with_first : (order : Order) (w a b : ℕ) → with_lesser order w a b ≤ w + added order a
 with_first order w a b = chosen_most (nat_lt (w + lesser order a b) (2 ^ 512)) w (lesser order a b) (added order a) (omega arith)
-
-pub with_second : (order : Order) (w a b : ℕ) → with_lesser order w a b ≤ w + added order b
-with_second order w a b = chosen_most (nat_lt (w + lesser order a b) (2 ^ 512)) w (lesser order a b) (added order b) (omega arith)
-
--- where nobody adds anything, a weight is as it was
-abbrev pub no_order : Order
-no_order = record { unit = 0; more = [] }
-
-pub added_none : (x : ℕ) → added no_order x ≡ 0
-added_none x = omega arith
-
-pub with_no_order : (w a b : ℕ) → with_lesser no_order w a b ≡ w
-with_no_order w a b =
-    chosen_none (nat_lt (w + lesser no_order a b) (2 ^ 512)) w (lesser no_order a b) (omega (arith, added_none a, added_none b))

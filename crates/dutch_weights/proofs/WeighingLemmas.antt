@@ -1,13 +1,15 @@
 -- Tables of weights that are filled place by place.
-use Rattle.std.proofs.Common.{◌≡◌, ℕ, ◌+◌, ◌<◌, ◌≤◌, List, [], length, get_or, set, Option, None, MatchOption}
+use Rattle.std.proofs.Common.{◌≡◌, ℕ, Bool, ◌+◌, ◌<◌, ◌≤◌, List, [], length, get_or, set, Option, None, MatchOption}
 use Rattle.std.proofs.Common.{inl, inr, refl, sym, ap, subst, ◌∙◌, arith}
 use Rattle.std.proofs.lemmas.Bool.{cases_eq}
 use Rattle.std.proofs.lemmas.List.{get_or-set_other, get_or-set_same}
 use Rattle.dutch_player.specs.Facts.{Facts}
 use Rattle.dutch_bracket.specs.NextBracket.{no_value}
 use Rattle.dutch_bracket.specs.Quality.{NextValue, quality_with}
+use Rattle.dutch_bracket.specs.Reached.{numbers_meet}
 use Rattle.dutch_bracket.specs.Seated.{Seated}
-use Rattle.dutch_weights.specs.WeightTables.{HasPairs, IsNumber, TellsPairsUpto, pair_weight, place_in}
+use Rattle.dutch_weights.specs.WeightTables.{HasPairs, IsNumber, TellsPairsUpto, pair_of, pair_weight, place_in}
+use Rattle.dutch_weights.specs.declared.weighing.PairWeight.{PairWeight}
 use Rattle.dutch_bracket.specs.Weights.{Scale, Weighing, weight_with}
 use Rattle.dutch_weights.proofs.PairPlaces.{inside, same_place}
 
@@ -25,21 +27,30 @@ at_none o P Q none given = subst (λ (q : Option _). MatchOption q P Q) none giv
 
 module _ (w : Weighing) where
   -- an end by another name
-  pub told_same : (table : List ℕ) (from end : ℕ) → from ≡ end → TellsPairsUpto w table from → TellsPairsUpto w table end
+  pub told_same : (table : List PairWeight) (from end : ℕ) → from ≡ end → TellsPairsUpto w table from → TellsPairsUpto w table end
   told_same table from end same told = subst (TellsPairsUpto w table) same told
 
+  -- a place that tells both
+  abbrev with_both : ℕ → Bool → PairWeight
+  with_both weight meets = record { weight = weight; meets = meets }
+
+  pub told_pair : (a b weight : ℕ) (meets : Bool) → weight ≡ pair_weight w a b → meets ≡ numbers_meet w.facts w.reached a b
+      → with_both weight meets ≡ pair_of w a b
+  told_pair a b weight meets weighs may =
+      ap (λ (k : ℕ). with_both k meets) weighs ∙ ap (λ (m : Bool). with_both (pair_weight w a b) m) may
+
   -- one place more
-  pub told_more : (table : List ℕ) (x y weight : ℕ) → IsNumber w.reached x → IsNumber w.reached y → HasPairs w table
-      → weight ≡ pair_weight w x y → TellsPairsUpto w table (place_in w x y) → TellsPairsUpto w (set table (place_in w x y) weight) (place_in w x y + 1)
-  told_more table x y weight p q room is told a b u v less =
+  pub told_more : (table : List PairWeight) (x y : ℕ) (pair : PairWeight) → IsNumber w.reached x → IsNumber w.reached y → HasPairs w table
+      → pair ≡ pair_of w x y → TellsPairsUpto w table (place_in w x y) → TellsPairsUpto w (set table (place_in w x y) pair) (place_in w x y + 1)
+  told_more table x y pair p q room is told a b d u v less =
       let n : ℕ = length w.reached.seats in
       let place : ℕ = place_in w x y in
       elim (cases_eq (place_in w a b) place) [
         | inl same ↦
             let both = same_place n x y a b p q u v same in
-            let here : get_or (set table place weight) place 0 ≡ weight =
-            get_or-set_same table place weight 0 (let lt : place < length table = omega (arith, room, inside n x y p q) in lt) in
-            ap (λ (i : ℕ). get_or (set table place weight) i 0) same
-            ∙ (here ∙ (is ∙ (ap (λ (k : ℕ). pair_weight w k y) (sym both.0) ∙ ap (λ (k : ℕ). pair_weight w a k) (sym both.1))))
-        | inr other ↦ get_or-set_other table place (place_in w a b) weight 0 other ∙ told a b u v (omega arith)
+            let here : get_or (set table place pair) place d ≡ pair =
+            get_or-set_same table place pair d (let lt : place < length table = omega (arith, room, inside n x y p q) in lt) in
+            ap (λ (i : ℕ). get_or (set table place pair) i d) same
+            ∙ (here ∙ (is ∙ (ap (λ (k : ℕ). pair_of w k y) (sym both.0) ∙ ap (λ (k : ℕ). pair_of w a k) (sym both.1))))
+        | inr other ↦ get_or-set_other table place (place_in w a b) pair d other ∙ told a b d u v (omega arith)
       ]

@@ -1,11 +1,12 @@
 -- Tables of what the pairs and the downfloaters of a bracket weigh. Only private functions' clauses cite
 -- these.
-use Rattle.std.specs.Prelude.{◌≡◌, ℕ, ◌+◌, ◌-◌, ◌*◌, ◌^◌, ◌<◌, ◌≤◌, Option, None, Some, List, [], ◌∷◌, length, slice_index, nat_le, if◌then◌else◌}
+use Rattle.std.specs.Prelude.{◌≡◌, ℕ, ◌+◌, ◌-◌, ◌*◌, ◌^◌, ◌<◌, ◌≤◌, Option, None, Some, List, [], ◌∷◌, length, slice_index, slice_index_or, nat_le, if◌then◌else◌}
 use Rattle.std.specs.Option.{ForSome, SomeIff}
 use Rattle.dutch_bracket.specs.Context.{Context}
 use Rattle.dutch_bracket.specs.NextMatchings.{count_below, score_below, seat_below}
-use Rattle.dutch_bracket.specs.Reached.{Reached}
+use Rattle.dutch_bracket.specs.Reached.{Reached, numbers_meet}
 use Rattle.dutch_bracket.specs.Seated.{difference_down, score_at}
+use Rattle.dutch_weights.specs.declared.weighing.PairWeight.{PairWeight}
 use Rattle.dutch_bracket.specs.Weights.{Scale, Weighing, weight_below, weight_of_one_down, weight_of_pair, written}
 
 -- a number that is there exactly where it is less than 2^512
@@ -45,22 +46,28 @@ pair_weight w = weight_of_pair w.facts w.reached w.scale
 abbrev pub down_weight : Weighing → ℕ → ℕ
 down_weight w = weight_of_one_down w.facts w.reached w.scale
 
--- a table tells what each pair weighs whose place is before an end
-abbrev pub TellsPairsUpto : Weighing → List ℕ → ℕ → Type 0
+-- what two numbers weigh as a pair, and whether they may meet (C.1, C.3)
+abbrev pub pair_of : Weighing → ℕ → ℕ → PairWeight
+pair_of w a b = record { weight = pair_weight w a b; meets = numbers_meet w.facts w.reached a b }
+
+-- a table tells that of each pair whose place is before an end
+abbrev pub TellsPairsUpto : Weighing → List PairWeight → ℕ → Type 0
 TellsPairsUpto w table end =
-    (a b : ℕ) → IsNumber w.reached a → IsNumber w.reached b → place_in w a b < end → slice_index table (place_in w a b) ≡ pair_weight w a b
+    (a b : ℕ) (d : PairWeight) → IsNumber w.reached a → IsNumber w.reached b → place_in w a b < end
+    → slice_index_or table (place_in w a b) d ≡ pair_of w a b
 
 -- a table has a place for each pair
-abbrev pub HasPairs : Weighing → List ℕ → Type 0
+abbrev pub HasPairs : Weighing → List PairWeight → Type 0
 HasPairs w table = length table ≡ length w.reached.seats * length w.reached.seats
 
 -- a table has a place for each number
 abbrev pub HasAll : Weighing → List ℕ → Type 0
 HasAll w table = length table ≡ length w.reached.seats
 
--- a table tells what each pair weighs
-abbrev pub TellsPairs : Weighing → List ℕ → Type 0
-TellsPairs w table = (a b : ℕ) → IsNumber w.reached a → IsNumber w.reached b → slice_index table (place_in w a b) ≡ pair_weight w a b
+-- a table tells of each pair what it weighs, and whether the two may meet
+abbrev pub TellsPairs : Weighing → List PairWeight → Type 0
+TellsPairs w table =
+    (a b : ℕ) (d : PairWeight) → IsNumber w.reached a → IsNumber w.reached b → slice_index_or table (place_in w a b) d ≡ pair_of w a b
 
 -- a table tells what each of the first numbers weighs as a downfloater
 abbrev pub TellsDownUpto : Weighing → List ℕ → ℕ → Type 0

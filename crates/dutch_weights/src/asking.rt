@@ -263,8 +263,7 @@ impl<'a> WeightFloors<'a> {
     /// known how many are not ruled out. That number is answered.
     fn ask_behind(
         &mut self,
-        stuck: &Stuck,
-        scope: &Scope,
+        stuck: &Stuck<'_>,
         bars: &Bars,
         budget: &mut Budget,
     ) -> Result<usize, Stopped>
@@ -275,9 +274,12 @@ impl<'a> WeightFloors<'a> {
         let (mut sound, mut ruled_out) = (stuck.sound, stuck.depth);
         let mut depth = stuck.depth;
         for _ in 0..MOST_HALVINGS {
-            let pairs = stuck.front(depth);
-            self.ask(&Asked { scope, pairs }, budget)?;
-            (sound, ruled_out) = if self.rules_out(stuck.front(depth), bars) {
+            let front = Asked {
+                scope: stuck.scope,
+                pairs: stuck.front(depth),
+            };
+            self.ask(&front, budget)?;
+            (sound, ruled_out) = if self.rules_out(front.pairs, bars) {
                 (sound, depth)
             } else {
                 (depth, ruled_out)
@@ -360,8 +362,8 @@ impl<'a> WeightFloors<'a> {
             return Ok(());
         }
         self.trail.turn_to(stuck.scope);
-        let place = self.trail.stuck_at(pairs);
-        let asked = self.ask_behind(&place, stuck.scope, bars, budget)?;
+        let place = self.trail.stuck_at(stuck.scope, pairs);
+        let asked = self.ask_behind(&place, bars, budget)?;
         self.trail.go_on(place.pairs, asked);
         self.trail.note(before, budget.used);
         Ok(())

@@ -21,15 +21,17 @@ pub(crate) struct Trail {
     ordered: Option<Vec<Pair>>,
 }
 
-/// Pairs behind which a floor is to be asked for, and how many of them are known not to be ruled out.
+/// Pairs behind which a floor is to be asked for in the arrangements of a scope, and how many of them are known not to
+/// be ruled out.
 #[derive(Drop)]
-pub(crate) struct Stuck {
+pub(crate) struct Stuck<'s> {
+    pub(crate) scope: &'s Scope,
     pub pairs: Vec<Pair>,
     pub(crate) sound: usize,
     pub(crate) depth: usize,
 }
 
-impl Stuck {
+impl Stuck<'_> {
     /// The first so many of the pairs, or all of them.
     pub(crate) fn front(&self, count: usize) -> &[Pair] {
         let count = count.min(self.pairs.len());
@@ -98,9 +100,9 @@ impl Trail {
         }
     }
 
-    /// Where a walk is stuck that is at the beginning with these pairs: behind those that stood since it was told last.
-    /// If that is where it was told, it is to be told one pair further on.
-    pub(crate) fn stuck_at(&self, pairs: Vec<Pair>) -> Stuck {
+    /// Where a walk through the arrangements of a scope is stuck that is at the beginning with these pairs: behind
+    /// those that stood since it was told last. If that is where it was told, it is to be told one pair further on.
+    pub(crate) fn stuck_at<'s>(&self, scope: &'s Scope, pairs: Vec<Pair>) -> Stuck<'s> {
         let stood = common(&self.pairs, &pairs);
         let sound = if stood < self.asked { 0 } else { self.asked };
         let depth = if stood == self.asked {
@@ -110,6 +112,7 @@ impl Trail {
         };
         let depth = depth.min(pairs.len());
         Stuck {
+            scope,
             pairs,
             sound,
             depth,

@@ -6,6 +6,7 @@ ghost use Rattle.std.specs.Option.{ForSome, SomeIff};
 ghost use Rattle.dutch_bracket.specs.declared.reached.BracketKind.TheVariants.{Ordinary};
 ghost use Rattle.dutch_bracket.specs.Beginnings.{seated_so};
 ghost use Rattle.dutch_bracket.specs.NextBracket.{no_value};
+ghost use Rattle.dutch_bracket.specs.Reached.{numbers_meet};
 ghost use Rattle.dutch_bracket.specs.Quality.{quality_with};
 ghost use Rattle.dutch_bracket.specs.Seated.{HasSeats, seat_of};
 ghost use Rattle.dutch_bracket.specs.NextMatchings.{count_below};
@@ -13,19 +14,27 @@ ghost use Rattle.dutch_weights.specs.WeightTables.{HasAll, HasBelow, HasPairs, I
 ghost use Rattle.dutch_weights.specs.WeightTables.{TellsAlone, TellsBelow};
 ghost use Rattle.dutch_weights.specs.WeightTables.{TellsDown, TellsMet, TellsPairs, TellsPairsUpto, alone_weight};
 ghost use Rattle.dutch_weights.specs.WeightTables.{down_weight, met_weight, own_weight};
-ghost use Rattle.dutch_weights.specs.WeightTables.{pair_weight, place_in, place_of, weighed_on};
+ghost use Rattle.dutch_weights.specs.WeightTables.{pair_of, pair_weight, place_in, place_of, weighed_on};
 ghost use Rattle.dutch_order.specs.declared.numbers.TheConstants.{LIMIT};
 ghost use Rattle.dutch_bracket.specs.Weights.{weight_with};
 
 use crate::scale::Scale;
 use dutch_bracket::context::Context;
 use dutch_bracket::quality::{Quality, Room, fill_seated};
-use dutch_bracket::seated::{Seated, difference_down};
+use dutch_bracket::seated::{Pair, Seated, difference_down};
 use dutch_order::Rule;
 use dutch_player::Field;
 use std::alloc::{AllocError, Global};
 use std::marker::Model;
 use wide::Wide;
+
+/// What two numbers weigh as a pair, and whether they may meet. (To look for a game of the two takes long, and each
+/// certificate asks for it many times.)
+#[derive(Clone, Copy)]
+pub(crate) struct PairWeight {
+    weight: Wide,
+    meets: bool,
+}
 
 /// The weights of the pairs and the downfloaters of a bracket.
 #[derive(Drop)]
@@ -33,7 +42,7 @@ pub(crate) struct Weighing<'a> {
     context: &'a Context<'a>,
     scale: Scale,
     // of each two numbers, row by row
-    pairs: Vec<Wide>,
+    pairs: Vec<PairWeight>,
     // of each number
     down: Vec<Wide>,
     // of each number of the bracket and the next lower scoregroup, if C.7 is measured
@@ -150,18 +159,27 @@ impl Weigher<'_> {
         weigh(field, self.scale, &room.seated, &mut room.quality)
     }
 
-    /// Puts what a pair weighs into a table; no if it is 2^512 or more.
-    fn put_pair(&self, a: u16, b: u16, room: &mut Room, table: &mut [Wide]) -> bool
-        requires first { IsNumber self.now.reached a }
-        requires second { IsNumber self.now.reached b }
+    /// Whether two numbers may meet.
+    fn may_meet(&self, a: u16, b: u16) -> bool
+        ensures { result ≡ numbers_meet self.now.facts self.now.reached a b }
+    {
+        self.context.rule().may_meet(a, b)
+    }
+
+    /// Puts what a pair weighs into a table, and whether the two may meet; no if it weighs 2^512 or more.
+    fn put_pair(&self, pair: Pair, room: &mut Room, table: &mut [PairWeight]) -> bool
+        requires first { IsNumber self.now.reached pair.0 }
+        requires second { IsNumber self.now.reached pair.1 }
         requires room { HasPairs self.now table.old }
-        requires told { TellsPairsUpto self.now table.old (place_in self.now a b) }
-        ensures told { result ≡ true → TellsPairsUpto self.now table.new (place_in self.now a b + 1) }
+        requires told { TellsPairsUpto self.now table.old (place_in self.now pair.0 pair.1) }
+        ensures told { result ≡ true → TellsPairsUpto self.now table.new (place_in self.now pair.0 pair.1 + 1) }
         ensures heavy { result ≡ false → IsHeavy self.now (2 ^ 512) }
     {
+        let (a, b) = pair;
+        let meets = self.may_meet(a, b);
         match self.pair(a, b, room) {
             Some(weight) => {
-                table[place_of(self.context.len(), a, b)] = weight;
+                table[place_of(self.context.len(), a, b)] = PairWeight { weight, meets };
                 true
             }
             None => false,
@@ -169,7 +187,7 @@ impl Weigher<'_> {
     }
 
     /// Puts what the pairs of a number weigh into a table.
-    fn put_row(&self, a: u16, room: &mut Room, table: &mut [Wide]) -> bool
+    fn put_row(&self, a: u16, room: &mut Room, table: &mut [PairWeight]) -> bool
         requires number { IsNumber self.now.reached a }
         requires room { HasPairs self.now table.old }
         requires told { TellsPairsUpto self.now table.old (place_in self.now a 1) }
@@ -177,7 +195,7 @@ impl Weigher<'_> {
         ensures heavy { result ≡ false → IsHeavy self.now (2 ^ 512) }
     {
         for b in 0..self.context.len() {
-            if !self.put_pair(a, b as u16 + 1, room, table) {
+            if !self.put_pair((a, b as u16 + 1), room, table) {
                 return false;
             }
         }
@@ -185,7 +203,7 @@ impl Weigher<'_> {
     }
 
     /// Puts what all pairs weigh into a table.
-    fn put_pairs(&self, room: &mut Room, table: &mut [Wide]) -> bool
+    fn put_pairs(&self, room: &mut Room, table: &mut [PairWeight]) -> bool
         requires { HasPairs self.now table.old }
         ensures told { result ≡ true → TellsPairs self.now table.new }
         ensures heavy { result ≡ false → IsHeavy self.now (2 ^ 512) }
@@ -300,12 +318,16 @@ fn weigh_pairs(
     alloc: Global,
     weigher: &Weigher<'_>,
     room: &mut Room,
-) -> Result<Option<Vec<Wide>>, AllocError>
+) -> Result<Option<Vec<PairWeight>>, AllocError>
     ensures { IfOk result (λ weighed. MatchOption weighed (IsHeavy weigher.now (2 ^ 512))
         (λ table. HasPairs weigher.now table.items × TellsPairs weigher.now table.items)) }
 {
     let count = weigher.context.len();
-    let mut table = vec![in alloc; Wide::zero(); count * count]?;
+    let nothing = PairWeight {
+        weight: Wide::zero(),
+        meets: false,
+    };
+    let mut table = vec![in alloc; nothing; count * count]?;
     if weigher.put_pairs(room, &mut table) {
         Ok(Some(table))
     } else {
@@ -448,6 +470,15 @@ impl<'a> Weighing<'a> {
 }
 
 impl Weighing<'_> {
+    /// What two numbers weigh, and whether they may meet.
+    fn of_pair(&self, a: u16, b: u16) -> PairWeight
+        requires first { IsNumber self.now.reached a }
+        requires second { IsNumber self.now.reached b }
+        ensures { result ≡ pair_of self.now a b }
+    {
+        self.pairs[place_of(self.context.len(), a, b)]
+    }
+
     /// What a number weighs that meets one of the next lower scoregroup (C.7).
     pub(crate) fn met(&self, a: u16) -> Wide
         requires number { IsNumberBelow self.now a }
@@ -486,12 +517,14 @@ impl dual::Rule for Weighing<'_> {
 
     ghost knows = { λ w a. (0 < a) × (a ≤ length w.reached.seats) };
 
+    #[tactic(auto, unfolding(dutch_bracket::specs::Reached::numbers_meet))]
     fn may_meet(&self, a: u16, b: u16) -> bool {
-        self.context.rule().may_meet(a, b)
+        let reached = self.context.reached();
+        reached.has(a) && reached.has(b) && self.of_pair(a, b).meets
     }
 
     fn weight(&self, a: u16, b: u16) -> Wide {
-        self.pairs[place_of(self.context.len(), a, b)]
+        self.of_pair(a, b).weight
     }
 
     fn may_be_left(&self, a: u16) -> bool {
