@@ -1,4 +1,3 @@
 pub mod InputLemmas
 pub mod ControlLemmas
-pub mod NoteLemmas
 pub mod TableLemmas

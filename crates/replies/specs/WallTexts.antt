@@ -50,14 +50,14 @@ values_labels [] values = []
 values_labels (key ∷ keys) [] = []
 values_labels (key ∷ keys) (value ∷ values) = right (value_text key value) ∷ values_labels keys values
 
--- a player's row: place, player, and the values of the keys
-unfoldable pub row_labels : Sheet → List Key → ℕ → RowFacts → List LabelFacts
-row_labels sheet keys place row = right (decimal place) ∷ [] ++ player_labels sheet row.start row.score ++ values_labels keys row.values
+-- a player's row behind their place: the player, and the values of the keys
+unfoldable pub row_labels : Sheet → List Key → RowFacts → List LabelFacts
+row_labels sheet keys row = player_labels sheet row.start row.score ++ values_labels keys row.values
 
 -- rows from a place on
 abbrev pub rows_labels : Sheet → List Key → ℕ → List RowFacts → List (List LabelFacts)
 rows_labels sheet keys place [] = []
-rows_labels sheet keys place (row ∷ rest) = row_labels sheet keys place row ∷ rows_labels sheet keys (place + 1) rest
+rows_labels sheet keys place (row ∷ rest) = (right (decimal place) ∷ row_labels sheet keys row) ∷ rows_labels sheet keys (place + 1) rest
 
 -- the standings, which have four columns and one for each key
 abbrev pub named_rows_text : Sheet → List Key → List RowFacts → List ℕ

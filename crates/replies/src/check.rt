@@ -10,7 +10,7 @@ ghost use Rattle.replies.specs.Statuses.{done};
 use crate::notes::put_notes;
 use crate::refusal::refused;
 use crate::refusal_notes::refused_with_note;
-use crate::reply::{Reply, Status, Text};
+use crate::reply::{Reply, Status};
 use crate::texts;
 use requests::CheckOptions;
 use std::alloc::{AllocError, Global};
@@ -49,10 +49,7 @@ fn accepted(
     if options.notes {
         return with_notes(alloc, text, report, bytes);
     }
-    Ok(Reply {
-        status: Status::Done,
-        text: Text::Made(text),
-    })
+    Ok(Reply::made(Status::Done, text))
 }
 
 // How large a report is.
@@ -75,8 +72,5 @@ fn with_notes(
 {
     let mut text = front.into_bytes();
     put_notes(alloc, &mut text, report, bytes)?;
-    Ok(Reply {
-        status: Status::Done,
-        text: Text::Bytes(text),
-    })
+    Ok(Reply::bytes(Status::Done, text))
 }

@@ -8,7 +8,7 @@ ghost use Rattle.replies.specs.Replies.{answer_of};
 ghost use Rattle.replies.specs.Statuses.{report_answer};
 
 use crate::refusal::refused;
-use crate::reply::{Reply, Status, Text};
+use crate::reply::{Reply, Status};
 use requests::FormatOptions;
 use std::alloc::{AllocError, Global};
 use trf16::{Counted, Excess, Failed, Fault, MOST_BYTES, Report};
@@ -81,8 +81,5 @@ fn of_text(alloc: Global, text: Vec<u8>) -> Result<Reply, AllocError>
     if MOST_BYTES < text.len() {
         return refused(alloc, Fault::TooMany(Excess::Bytes));
     }
-    Ok(Reply {
-        status: Status::Done,
-        text: Text::Bytes(text),
-    })
+    Ok(Reply::bytes(Status::Done, text))
 }

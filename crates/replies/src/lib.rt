@@ -14,6 +14,7 @@ mod controls;
 pub mod format;
 mod input;
 mod notes;
+pub mod points;
 mod question;
 pub mod refusal;
 mod refusal_notes;

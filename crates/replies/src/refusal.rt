@@ -1,6 +1,6 @@
 // The answers that several commands have: to a report that is refused, and if there is no pairing or the steps end
 // first.
-ghost use Rattle.std.specs.Prelude.{◌≡◌, ◌≢◌, IfOk};
+ghost use Rattle.std.specs.Prelude.{◌≡◌, IfOk};
 ghost use Rattle.replies.specs.Statuses.{field_refusal, no_pairing, question_refusal, refusal, tie_refusal};
 ghost use Rattle.replies.specs.Statuses.{undecided};
 ghost use Rattle.replies.specs.Replies.{answer_of};
@@ -13,40 +13,34 @@ use std::alloc::{AllocError, Global};
 use tiebreak::TieFault;
 use trf16::Fault;
 
-/// Why a report is refused.
+/// Why a report is refused, unless memory was.
 pub fn refused(alloc: Global, fault: Fault) -> Result<Reply, AllocError>
-    requires { fault ≢ Fault.OutOfMemory }
     ensures { IfOk result (λ reply. answer_of reply ≡ refusal fault) }
 {
-    let text = refusals::refused(alloc, fault)?;
-    Ok(Reply {
-        status: Status::Refused,
-        text: Text::Made(text),
-    })
+    match fault {
+        Fault::OutOfMemory => Err(AllocError),
+        _ => Ok(Reply::made(Status::Refused, refusals::refused(alloc, fault)?)),
+    }
 }
 
-/// Why the next round cannot be paired from a report.
+/// Why the next round cannot be paired from a report, unless memory was refused.
 pub fn cannot_be_paired(alloc: Global, fault: FieldFault) -> Result<Reply, AllocError>
-    requires { fault ≢ FieldFault.OutOfMemory }
     ensures { IfOk result (λ reply. answer_of reply ≡ field_refusal fault) }
 {
-    let text = refusals::cannot_be_paired(alloc, fault)?;
-    Ok(Reply {
-        status: Status::Refused,
-        text: Text::Made(text),
-    })
+    match fault {
+        FieldFault::OutOfMemory => Err(AllocError),
+        _ => Ok(Reply::made(Status::Refused, refusals::cannot_be_paired(alloc, fault)?)),
+    }
 }
 
-/// Why a report has no standings.
+/// Why a report has no standings, unless memory was refused.
 pub fn has_no_standings(alloc: Global, fault: TieFault) -> Result<Reply, AllocError>
-    requires { fault ≢ TieFault.OutOfMemory }
     ensures { IfOk result (λ reply. answer_of reply ≡ tie_refusal fault) }
 {
-    let text = refusals::has_no_standings(alloc, fault)?;
-    Ok(Reply {
-        status: Status::Refused,
-        text: Text::Made(text),
-    })
+    match fault {
+        TieFault::OutOfMemory => Err(AllocError),
+        _ => Ok(Reply::made(Status::Refused, refusals::has_no_standings(alloc, fault)?)),
+    }
 }
 
 /// What is wrong with the players whom a question names.
@@ -54,10 +48,7 @@ pub fn cannot_be_asked(alloc: Global, fault: QuestionFault) -> Result<Reply, All
     ensures { IfOk result (λ reply. answer_of reply ≡ question_refusal fault) }
 {
     let text = texts::bad_question(alloc, fault)?;
-    Ok(Reply {
-        status: Status::BadWords,
-        text: Text::Made(text),
-    })
+    Ok(Reply::made(Status::BadWords, text))
 }
 
 /// No pairing meets the absolute criteria.
@@ -75,8 +66,5 @@ pub fn undecided(alloc: Global, number: u16, used: u64) -> Result<Reply, AllocEr
     ensures { IfOk result (λ reply. answer_of reply ≡ undecided number used) }
 {
     let text = texts::undecided(alloc, number, used)?;
-    Ok(Reply {
-        status: Status::Undecided,
-        text: Text::Made(text),
-    })
+    Ok(Reply::made(Status::Undecided, text))
 }

@@ -9,8 +9,8 @@ ghost use Rattle.replies.specs.Statuses.{refusal};
 ghost use Rattle.refusals.specs.Texts.{fault_text};
 
 use crate::controls::without_controls;
+use crate::points::HalfPoints;
 use crate::reply::{Reply, Status, Text};
-use crate::texts::halves;
 use report_notes::{
     Columns, Sums, are_lines_read, columns_of, has_characters, held, line_in, line_of, sums_of,
 };
@@ -74,10 +74,9 @@ fn sums_text(alloc: Global, sums: Sums) -> Result<String, AllocError>
     ensures { IfOk result (λ text. string_bytes text ≡ sums_text sums) }
 {
     let player = sums.player;
-    let field = halves(alloc, u32::from(sums.field))?;
-    let paired = halves(alloc, u32::from(sums.paired))?;
-    let all = halves(alloc, u32::from(sums.all))?;
-    let (field, paired, all) = (field.as_str(), paired.as_str(), all.as_str());
+    let field = HalfPoints(u32::from(sums.field));
+    let paired = HalfPoints(u32::from(sums.paired));
+    let all = HalfPoints(u32::from(sums.all));
     format!(in alloc;
         "note player {player}: points field {field}, rounds paired {paired}, all rounds {all}\n"
     )

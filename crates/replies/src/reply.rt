@@ -2,7 +2,7 @@
 // perhaps a note.
 ghost use Rattle.std.specs.Prelude.{◌≡◌, ◌⊎◌, IfOk, string_bytes};
 ghost use Rattle.trf16.specs.Output.{use_of, Puts};
-ghost use Rattle.replies.specs.Statuses.{behind, code_of, is_output};
+ghost use Rattle.replies.specs.Statuses.{behind, code_of, is_output, plain};
 ghost use Rattle.replies.specs.Replies.{answer_of, note_of, text_of};
 ghost use Rattle.replies.specs.WrittenAnswers.{HasTextOrPart, IsCut, IsPrinted, IsToldWith, IsWritten};
 
@@ -100,6 +100,26 @@ pub struct Reply {
 }
 
 impl Reply {
+    /// A status, and a text that was made for it.
+    pub fn made(status: Status, text: String) -> Reply
+        ensures { answer_of result ≡ plain status (string_bytes text) }
+    {
+        Reply {
+            status,
+            text: Text::Made(text),
+        }
+    }
+
+    /// The same of a text that is bytes.
+    pub fn bytes(status: Status, text: Vec<u8>) -> Reply
+        ensures { answer_of result ≡ plain status text.items }
+    {
+        Reply {
+            status,
+            text: Text::Bytes(text),
+        }
+    }
+
     /// The status, and the text behind another one.
     ///
     /// # Errors
@@ -109,10 +129,7 @@ impl Reply {
     {
         let mut bytes = text.into_bytes();
         bytes.extend_from_slice(self.text.as_bytes())?;
-        Ok(Reply {
-            status: self.status,
-            text: Text::Bytes(bytes),
-        })
+        Ok(Reply::bytes(self.status, bytes))
     }
 
     // Writes the text to standard error, which may fail, and then the note to standard output, if there is one.

@@ -1,14 +1,13 @@
 // The command `standings`: the players by score and by the keys that break ties.
-ghost use Rattle.std.specs.Prelude.{◌≡◌, ◌≢◌, ◌++◌, ◌≤◌, ◌<◌, IfOk, Ok, OnOk, length, string_bytes};
+ghost use Rattle.std.specs.Prelude.{◌≡◌, ◌++◌, ◌≤◌, ◌<◌, IfOk, Ok, OnOk, length, string_bytes};
 ghost use Rattle.trf16.specs.Verdict.{verdict};
 ghost use Rattle.replies.specs.Replies.{answer_of};
 ghost use Rattle.replies.specs.StandingsAnswers.{standings_answer, table_answer};
-ghost use Rattle.replies.specs.StandingsTexts.{quarter_text, quarters_text, row_text, rows_text, value_text};
-ghost use Rattle.replies.specs.StandingsTexts.{values_text};
+ghost use Rattle.replies.specs.StandingsTexts.{row_text, rows_text, value_text, values_text};
 
+use crate::points::{HalfPoints, KeyValue};
 use crate::refusal::{has_no_standings, refused};
-use crate::reply::{Reply, Status, Text};
-use crate::texts::halves;
+use crate::reply::{Reply, Status};
 use crate::wall;
 use requests::StandingsOptions;
 use std::alloc::{AllocError, Global};
@@ -60,11 +59,7 @@ fn of_rows(
     if options.names {
         return wall::standings(alloc, report, keys, rows);
     }
-    let text = row_lines(alloc, keys, rows)?;
-    Ok(Reply {
-        status: Status::Done,
-        text: Text::Made(text),
-    })
+    Ok(Reply::made(Status::Done, row_lines(alloc, keys, rows)?))
 }
 
 // The lines of all players without names.
@@ -73,28 +68,19 @@ fn row_lines(alloc: Global, keys: &[Key], rows: &[Row]) -> Result<String, AllocE
 {
     let mut text = String::new(alloc);
     for (i, row) in rows.iter().enumerate() {
-        put_row(alloc, &mut text, keys, i + 1, row)?;
+        put_row(&mut text, keys, i + 1, row)?;
     }
     Ok(text)
 }
 
 // Puts the line of a player.
 #[tactic(auto, unfolding(crate::specs::StandingsTexts::row_text))]
-fn put_row(
-    alloc: Global,
-    text: &mut String,
-    keys: &[Key],
-    place: usize,
-    row: &Row,
-) -> Result<(), AllocError>
+fn put_row(text: &mut String, keys: &[Key], place: usize, row: &Row) -> Result<(), AllocError>
     ensures { OnOk result (string_bytes text.new ≡ string_bytes text.old ++ row_text keys.now place row.now) }
 {
-    let start = row.start();
-    let score = halves(alloc, u32::from(row.score()))?;
-    let score = score.as_str();
-    let front = format!(in alloc; "{place} {start} {score}")?;
-    text.push_str(front.as_str())?;
-    put_values(alloc, text, keys, row.values())?;
+    let (start, score) = (row.start(), HalfPoints(u32::from(row.score())));
+    write!(text, "{place} {start} {score}")?;
+    put_values(*text.allocator(), text, keys, row.values())?;
     text.push_str("\n")
 }
 
@@ -119,40 +105,9 @@ fn put_values(
     Ok(())
 }
 
-/// The value of a key; a dash if it tells nothing.
-pub fn value_of(alloc: Global, key: Key, value: Option<u32>) -> Result<String, AllocError>
+// The value of a key.
+fn value_of(alloc: Global, key: Key, value: Option<u32>) -> Result<String, AllocError>
     ensures { IfOk result (λ text. string_bytes text ≡ value_text key value) }
 {
-    let Some(value) = value else {
-        return String::from_str(alloc, "-");
-    };
-    match key {
-        Key::Direct | Key::Buchholz => halves(alloc, value),
-        Key::SonnebornBerger => quarters(alloc, value),
-    }
-}
-
-// Quarters of a point as points with two decimals.
-fn quarters(alloc: Global, quarters: u32) -> Result<String, AllocError>
-    ensures { IfOk result (λ text. string_bytes text ≡ quarters_text quarters) }
-{
-    let points = quarters / 4;
-    let decimals = quarter(quarters % 4);
-    format!(in alloc; "{points}{decimals}")
-}
-
-// The decimals of quarters of a point.
-fn quarter(quarter: u32) -> &'static str
-    ensures { result.now ≡ quarter_text quarter }
-{
-    if quarter == 0 {
-        return ".00";
-    }
-    if quarter == 1 {
-        return ".25";
-    }
-    if quarter == 2 {
-        return ".50";
-    }
-    ".75"
+    KeyValue { key, value }.to_string(alloc)
 }

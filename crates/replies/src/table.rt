@@ -2,8 +2,10 @@
 ghost use Rattle.std.specs.Prelude.{◌≡◌, ◌++◌, ◌∷◌, [], IfOk, OnOk, replicate, slice_index_or, string_bytes};
 ghost use Rattle.replies.specs.Tables.{gap, labels_text, left, padded, padded_by, right, table_text, widest};
 ghost use Rattle.replies.specs.Tables.{width, width_in, widths};
+ghost use Rattle.replies.specs.WallTexts.{shown};
 ghost use Rattle.trf16.specs.Written.{blanks};
 
+use crate::controls::without_controls;
 use std::alloc::{AllocError, Global};
 use std::marker::Model;
 use trf16::column_count;
@@ -15,7 +17,7 @@ pub enum Side {
     Right,
 }
 
-/// A text that stands at a side of its column.
+// A text that stands at a side of its column.
 #[derive(Debug, Drop)]
 pub struct Label {
     side: Side,
@@ -31,26 +33,6 @@ impl Model for Label {
 }
 
 impl Label {
-    /// A text at the left of its column.
-    pub fn left(text: Vec<u8>) -> Label
-        ensures { result ≡ left text.items }
-    {
-        Label {
-            side: Side::Left,
-            text,
-        }
-    }
-
-    /// A text at the right of its column.
-    pub fn right(text: String) -> Label
-        ensures { result ≡ right (string_bytes text) }
-    {
-        Label {
-            side: Side::Right,
-            text: text.into_bytes(),
-        }
-    }
-
     // How wide the label is.
     fn width(&self, utf8: bool) -> usize
         ensures { result ≡ width utf8 self.now.text }
@@ -101,11 +83,32 @@ impl Line {
         }
     }
 
-    /// Puts a label in the next column.
-    pub fn push(&mut self, label: Label) -> Result<(), AllocError>
-        ensures { OnOk result (self.new ≡ self.old ++ label ∷ []) }
+    /// What the line has its memory from.
+    pub fn allocator(&self) -> Global {
+        *self.labels.allocator()
+    }
+
+    /// Puts a text in the next column, at its right.
+    pub fn push_text(&mut self, text: String) -> Result<(), AllocError>
+        ensures { OnOk result (self.new ≡ self.old ++ right (string_bytes text) ∷ []) }
     {
-        self.labels.push(label)?;
+        self.labels.push(Label {
+            side: Side::Right,
+            text: text.into_bytes(),
+        })?;
+        Ok(())
+    }
+
+    /// Puts a name in the next column, at its left: with a question mark in place of each control character, or as a
+    /// dash where it is blank.
+    pub fn push_name(&mut self, name: &[u8]) -> Result<(), AllocError>
+        ensures { OnOk result (self.new ≡ self.old ++ left (shown name.now) ∷ []) }
+    {
+        let text = shown(self.allocator(), name)?;
+        self.labels.push(Label {
+            side: Side::Left,
+            text,
+        })?;
         Ok(())
     }
 
@@ -118,6 +121,16 @@ impl Line {
             None => 0,
         }
     }
+}
+
+// A name with a question mark in place of each control character, or a dash where it is blank.
+fn shown(alloc: Global, name: &[u8]) -> Result<Vec<u8>, AllocError>
+    ensures { IfOk result (λ text. text.items ≡ shown name.now) }
+{
+    if name.is_empty() {
+        return Vec::from_slice(alloc, b"-");
+    }
+    without_controls(alloc, name)
 }
 
 fn put_blanks(text: &mut Vec<u8>, count: usize) -> Result<(), AllocError>

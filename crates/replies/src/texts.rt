@@ -4,6 +4,7 @@ ghost use Rattle.std.specs.Fmt.{decimal};
 ghost use Rattle.replies.specs.Texts.{accepted_text, halves_text, not_of_bracket_text, not_reached_text};
 ghost use Rattle.replies.specs.Texts.{question_text, undecided_text, word_text};
 
+use crate::points::HalfPoints;
 use crate::question::QuestionFault;
 use requests::WordFault;
 use std::alloc::{AllocError, Global};
@@ -64,14 +65,8 @@ pub fn not_of_bracket(alloc: Global, number: u16) -> Result<String, AllocError>
 }
 
 /// Half points as points with one decimal.
-#[tactic(auto, unfolding(crate::specs::Texts::halves_text))]
 pub fn halves(alloc: Global, halves: u32) -> Result<String, AllocError>
     ensures { IfOk result (λ text. string_bytes text ≡ halves_text halves) }
 {
-    let points = halves / 2;
-    if halves % 2 == 0 {
-        format!(in alloc; "{points}.0")
-    } else {
-        format!(in alloc; "{points}.5")
-    }
+    HalfPoints(halves).to_string(alloc)
 }

@@ -2,5 +2,4 @@ pub mod WordLemmas
 pub mod KeyLemmas
 pub mod KeyRule
 pub mod OptionLemmas
-pub mod CommandLemmas
 pub mod RequestLemmas

@@ -12,8 +12,8 @@ use Rattle.clap.specs.declared.parser.matches.ArgMatches.TheViews.{out-ArgMatche
 use Rattle.requests.specs.Options.{rows_in}
 use Rattle.clap.proofs.OnLiterals.{clap_on_literals}
 use Rattle.requests.specs.CommandLine.{bracket_rule, by_rule, bye_rule, count_rule, from_rule, initial_rule, instead_rule, names_rule, notes_rule, player_rule, points_rule, report_rule, rounds_rule, steps_rule}
-use Rattle.requests.specs.CommandLine.{candidates_app, explain_app, pair_app, standings_app, with_round_rules}
-use Rattle.requests.specs.Words.{ComesTo, FitsKind, arbiter_app, asked_by, check_app, format_app, is_mistake, is_shown, settled, task_by, versioned, with_engine, with_next_round}
+use Rattle.requests.specs.CommandLine.{candidates_app, explain_app, pair_app, standings_app, with_bracket_rules, with_option, with_round_rules, with_table_rules}
+use Rattle.requests.specs.Words.{ComesTo, FitsKind, arbiter_app, asked_by, check_app, format_app, is_mistake, is_shown, settled, task_by, versioned, with_command, with_engine, with_pairing}
 use Rattle.requests.specs.declared.options.WordFault.{WordFault}
 use Rattle.requests.specs.declared.words.Task.{Task}
 use Rattle.requests.specs.declared.words.Asked.{Asked}
@@ -26,7 +26,7 @@ options_on_literals = tt
 
 -- what a proof unfolds to see the commands of the program
 unfoldable pub commands_on_literals : ⊤
-unfolding arbiter_app with_engine with_next_round settled versioned check_app format_app pair_app candidates_app explain_app standings_app with_round_rules
+unfolding arbiter_app with_command with_engine with_pairing settled versioned check_app format_app pair_app candidates_app explain_app standings_app with_option with_bracket_rules with_round_rules with_table_rules
 commands_on_literals = tt
 
 pub simple_and_free : is_simple_and_free arbiter_app ≡ true

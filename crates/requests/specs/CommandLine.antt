@@ -1,6 +1,6 @@
 -- The commands with options, and their options, as clap's rules see them.
 use Rattle.std.specs.Prelude.{◌≡◌, pos, true, false, Some, codes}
-use Rattle.clap.specs.Words.{App, Rule, Text, app_of, new_app, new_rule, with_rule}
+use Rattle.clap.specs.Words.{App, Rule, Text, new_app, new_rule, with_rule}
 use Rattle.clap.specs.declared.Command.{Command, out-Command}
 use Rattle.clap.specs.declared.builder.action.ArgAction.TheVariants.{SetTrue}
 use Rattle.clap.specs.declared.builder.value_parser.ValueParser.{ValueParser}
@@ -79,27 +79,38 @@ bye_rule = number_rule (codes "bye") (Signed (pos 0) (pos 2))
 
 -- ---- commands
 
--- clap's rules see a command as this, and it has no global argument
-pub record IsSeenAs (app : App) (command : Command) : Type 0 where
-  pub rules : app_of command ≡ app
-  pub local : (out-Command command).has_globals ≡ false
+-- two commands have global arguments, or neither has
+abbrev pub HasSameGlobals : Command → Command → Type 0
+HasSameGlobals old new = (out-Command new).has_globals ≡ (out-Command old).has_globals
+
+-- a command with one more option
+unfoldable pub with_option : App → Rule → App
+with_option = with_rule
 
 -- a command with the options of a round: `--rounds`, `--initial` and `--steps`
 unfoldable pub with_round_rules : App → App
-with_round_rules app = with_rule (with_rule (with_rule app rounds_rule) initial_rule) steps_rule
+with_round_rules app = with_option (with_option (with_option app rounds_rule) initial_rule) steps_rule
+
+-- with those of a bracket: `--bracket`, `--from` and `--count`
+unfoldable pub with_bracket_rules : App → App
+with_bracket_rules app = with_option (with_option (with_option app bracket_rule) from_rule) count_rule
+
+-- with those of the standings: `--by` and `--names`
+unfoldable pub with_table_rules : App → App
+with_table_rules app = with_option (with_option app by_rule) names_rule
 
 -- `pair`
 unfoldable pub pair_app : App
-pair_app = with_rule (with_rule (with_rule (with_round_rules (new_app (codes "pair"))) names_rule) report_rule) bye_rule
+pair_app = with_option (with_option (with_option (with_round_rules (new_app (codes "pair"))) names_rule) report_rule) bye_rule
 
 -- `candidates`
 unfoldable pub candidates_app : App
-candidates_app = with_rule (with_round_rules (with_rule (with_rule (with_rule (new_app (codes "candidates")) bracket_rule) from_rule) count_rule)) bye_rule
+candidates_app = with_option (with_round_rules (with_bracket_rules (new_app (codes "candidates")))) bye_rule
 
 -- `explain`
 unfoldable pub explain_app : App
-explain_app = with_rule (with_round_rules (with_rule (with_rule (new_app (codes "explain")) player_rule) instead_rule)) bye_rule
+explain_app = with_option (with_round_rules (with_option (with_option (new_app (codes "explain")) player_rule) instead_rule)) bye_rule
 
 -- `standings`
 unfoldable pub standings_app : App
-standings_app = with_rule (with_rule (with_rule (new_app (codes "standings")) by_rule) names_rule) bye_rule
+standings_app = with_option (with_table_rules (new_app (codes "standings"))) bye_rule

@@ -2,7 +2,7 @@
 use Rattle.std.specs.Prelude.{◌≡◌, ℕ, Bool, true, false, List, [], ◌∷◌, ◌++◌, Option, Some, None, Result, Ok, Err, option_and_then, option_map, codes, if◌then◌else◌}
 use Rattle.std.specs.List.{list_any}
 use Rattle.std.specs.Str.{bytes_eq}
-use Rattle.clap.specs.Words.{App, Row, Text, new_app, subcommand_of, with_rule, with_subcommand, fault_of}
+use Rattle.clap.specs.Words.{App, Row, Text, new_app, subcommand_of, with_subcommand, fault_of}
 use Rattle.clap.specs.Simple.{on_top}
 use Rattle.clap.specs.declared.error.kind.ErrorKind.{ErrorKind}
 use Rattle.clap.specs.declared.error.kind.ErrorKind.TheVariants.{DisplayHelp, DisplayVersion, OutOfMemory}
@@ -10,7 +10,7 @@ use Rattle.dutch_order.specs.Cursors.{has_syntax}
 use Rattle.requests.specs.declared.words.Task.{Task}
 use Rattle.requests.specs.declared.words.Request.{Request}
 use Rattle.requests.specs.declared.words.Request.TheVariants.{Check, Format, Pair, Candidates, Explain, Standings}
-use Rattle.requests.specs.CommandLine.{bye_rule, candidates_app, explain_app, notes_rule, pair_app, points_rule, standings_app}
+use Rattle.requests.specs.CommandLine.{bye_rule, candidates_app, explain_app, notes_rule, pair_app, points_rule, standings_app, with_option}
 use Rattle.requests.specs.Options.{◌>>=◌, bye_in, candidates_options, check_options, explain_options, format_options, pair_options, standings_options}
 use Rattle.requests.specs.declared.words.Asked.{Asked}
 use Rattle.requests.specs.declared.words.Asked.TheVariants.{Command, Help, Mistake, Refused}
@@ -18,11 +18,11 @@ use Rattle.requests.specs.declared.options.WordFault.{WordFault}
 
 -- `check`
 unfoldable pub check_app : App
-check_app = with_rule (with_rule (new_app (codes "check")) notes_rule) bye_rule
+check_app = with_option (with_option (new_app (codes "check")) notes_rule) bye_rule
 
 -- `format`
 unfoldable pub format_app : App
-format_app = with_rule (with_rule (new_app (codes "format")) points_rule) bye_rule
+format_app = with_option (with_option (new_app (codes "format")) points_rule) bye_rule
 
 -- a command with a version
 unfoldable pub versioned : App → App
@@ -37,17 +37,21 @@ settled = on_top (λ top. record top {
   subcommand_required = true;
 })
 
--- a command with those on the next round: `pair`, `candidates` and `explain`
-unfoldable pub with_next_round : App → App
-with_next_round app = with_subcommand (with_subcommand (with_subcommand app pair_app.top) candidates_app.top) explain_app.top
+-- a command with one more below it
+unfoldable pub with_command : App → App → App
+with_command app below = with_subcommand app below.top
 
--- the same, and with `standings`
+-- a program with the commands that pair the next round, and that list candidates of it
+unfoldable pub with_pairing : App → App
+with_pairing app = with_command (with_command app pair_app) candidates_app
+
+-- the same, and with those that explain it, and that rank the players
 unfoldable pub with_engine : App → App
-with_engine app = with_subcommand (with_next_round app) standings_app.top
+with_engine app = with_command (with_command (with_pairing app) explain_app) standings_app
 
 -- the program's command line
 unfoldable pub arbiter_app : App
-arbiter_app = with_engine (with_subcommand (with_subcommand (settled (versioned (new_app (codes "arbiter")))) check_app.top) format_app.top)
+arbiter_app = with_engine (with_command (with_command (settled (versioned (new_app (codes "arbiter")))) check_app) format_app)
 
 -- the request of `pair`
 unfoldable pub pair_request : List Row → Result Request WordFault

@@ -1,11 +1,10 @@
 // The commands with options of their own, and what all commands take, as clap is told of them.
-ghost use Rattle.std.specs.Prelude.{◌≡◌, IfOk, codes, false};
+ghost use Rattle.std.specs.Prelude.{◌≡◌, IfOk, false};
 ghost use Rattle.clap.specs.declared.Command.{out-Command as fields_of};
-ghost use Rattle.clap.specs.Words.{App, app_of, new_app, rule_of, with_rule};
-ghost use Rattle.requests.specs.CommandLine.{IsSeenAs, candidates_app, explain_app, pair_app, standings_app};
-ghost use Rattle.requests.specs.CommandLine.{with_round_rules};
-ghost use Rattle.requests.specs.CommandLine.{bracket_rule, bye_rule, count_rule, from_rule, instead_rule};
-ghost use Rattle.requests.specs.CommandLine.{player_rule};
+ghost use Rattle.clap.specs.Words.{app_of, new_app, rule_of};
+ghost use Rattle.requests.specs.CommandLine.{HasSameGlobals, bye_rule, candidates_app, explain_app, instead_rule};
+ghost use Rattle.requests.specs.CommandLine.{pair_app, player_rule, standings_app, with_bracket_rules, with_option};
+ghost use Rattle.requests.specs.CommandLine.{with_round_rules, with_table_rules};
 
 use crate::arguments;
 use clap::{Arg, Command};
@@ -15,7 +14,8 @@ use std::alloc::{AllocError, Global};
 pub type Made<'a> = Result<Command<'a>, AllocError>;
 
 /// The command `pair`.
-pub fn pair_command<'a>(alloc: Global) -> Result<Command<'a>, AllocError>
+#[tactic(auto, unfolding(crate::specs::CommandLine::pair_app))]
+pub fn pair_command<'a>(alloc: Global) -> Made<'a>
     ensures app { IfOk result (λ command. app_of command ≡ pair_app) }
     ensures local { IfOk result (λ command. (fields_of command).has_globals ≡ false) }
 {
@@ -29,13 +29,14 @@ pub fn pair_command<'a>(alloc: Global) -> Result<Command<'a>, AllocError>
         alloc,
         "Prints the boards with names and scores, in columns for the wall",
     );
-    let command = with_option(with_round(alloc, Ok(command)), names);
-    let command = with_option(command, arguments::report(alloc));
+    let command = with_option(with_round(alloc, command)?, names)?;
+    let command = with_option(command, arguments::report(alloc))?;
     with_worth(alloc, command)
 }
 
 /// The command `candidates`.
-pub fn candidates_command<'a>(alloc: Global) -> Result<Command<'a>, AllocError>
+#[tactic(auto, unfolding(crate::specs::CommandLine::candidates_app))]
+pub fn candidates_command<'a>(alloc: Global) -> Made<'a>
     ensures app { IfOk result (λ command. app_of command ≡ candidates_app) }
     ensures local { IfOk result (λ command. (fields_of command).has_globals ≡ false) }
 {
@@ -45,12 +46,13 @@ pub fn candidates_command<'a>(alloc: Global) -> Result<Command<'a>, AllocError>
         "Lists the legal candidates of a bracket in the order of article D",
         "The report is read from standard input. Printed are the bracket's kind and shape, and then a line for each candidate: its cursor, its pairs in start ranks, and who moves down; the last line says 'end', or 'more' where the count was reached first.\n\nExample: arbiter candidates --bracket 1 --count 20 < report.trf",
     );
-    let command = with_round(alloc, with_bracket(alloc, Ok(command)));
+    let command = with_round(alloc, with_bracket(alloc, command)?)?;
     with_worth(alloc, command)
 }
 
 /// The command `explain`.
-pub fn explain_command<'a>(alloc: Global) -> Result<Command<'a>, AllocError>
+#[tactic(auto, unfolding(crate::specs::CommandLine::explain_app))]
+pub fn explain_command<'a>(alloc: Global) -> Made<'a>
     ensures app { IfOk result (λ command. app_of command ≡ explain_app) }
     ensures local { IfOk result (λ command. (fields_of command).has_globals ≡ false) }
 {
@@ -60,12 +62,13 @@ pub fn explain_command<'a>(alloc: Global) -> Result<Command<'a>, AllocError>
         "Tells why the next round is paired as it is, bracket by bracket, or for one player",
         "The report is read from standard input. Printed are the round, and for each bracket its players with their scores, what is chosen in it, the criteria that count against that (C.6 to C.19; lists of score differences, the highest first), and each board with the rule of article E that decided its colours. With --player it is told of him and of his brackets, and with --instead the first rule that keeps him from this one.\n\nExamples:\n  arbiter explain < report.trf\n  arbiter explain --player 5 --instead 4 < report.trf\n  arbiter explain --player 5 --instead 0 < report.trf",
     );
-    let command = with_round(alloc, with_question(alloc, Ok(command)));
+    let command = with_round(alloc, with_question(alloc, command)?)?;
     with_worth(alloc, command)
 }
 
 /// The command `standings`.
-pub fn standings_command<'a>(alloc: Global) -> Result<Command<'a>, AllocError>
+#[tactic(auto, unfolding(crate::specs::CommandLine::standings_app))]
+pub fn standings_command<'a>(alloc: Global) -> Made<'a>
     ensures app { IfOk result (λ command. app_of command ≡ standings_app) }
     ensures local { IfOk result (λ command. (fields_of command).has_globals ≡ false) }
 {
@@ -75,43 +78,57 @@ pub fn standings_command<'a>(alloc: Global) -> Result<Command<'a>, AllocError>
         "Ranks the players by score and by the keys that break ties",
         "The report is read from standard input. Printed is a line for each player: place, start rank, score, and the keys.\n\nExample: arbiter standings --by buchholz,sb < report.trf",
     );
-    let names = arguments::names(alloc, "Prints the names too, in columns for the wall");
-    let command = with_option(with_option(Ok(command), arguments::by(alloc)), names);
-    with_worth(alloc, command)
+    with_worth(alloc, with_table(alloc, command)?)
 }
 
 /// A command that is told what the pairing-allocated bye is worth, as every command is.
-pub fn with_worth<'a>(alloc: Global, command: Made<'a>) -> Made<'a>
-    ensures { (app : App) → IfOk command.entry (IsSeenAs app) → IfOk result (IsSeenAs (with_rule app bye_rule)) }
+pub fn with_worth<'a>(alloc: Global, command: Command<'a>) -> Made<'a>
+    ensures app { IfOk result (λ made. app_of made ≡ with_option (app_of command.entry) bye_rule) }
+    ensures local { IfOk result (HasSameGlobals command.entry) }
 {
     with_option(command, arguments::bye(alloc))
 }
 
 // A command with the options that say which candidates of which bracket are wanted.
-fn with_bracket<'a>(alloc: Global, command: Made<'a>) -> Made<'a>
-    ensures { (app : App) → IfOk command.entry (IsSeenAs app)
-        → IfOk result (IsSeenAs (with_rule (with_rule (with_rule app bracket_rule) from_rule) count_rule)) }
+#[tactic(auto, unfolding(crate::specs::CommandLine::with_bracket_rules))]
+fn with_bracket<'a>(alloc: Global, command: Command<'a>) -> Made<'a>
+    ensures app { IfOk result (λ made. app_of made ≡ with_bracket_rules (app_of command.entry)) }
+    ensures local { IfOk result (HasSameGlobals command.entry) }
 {
-    let command = with_option(command, arguments::bracket(alloc));
-    let command = with_option(command, arguments::from(alloc));
+    let command = with_option(command, arguments::bracket(alloc))?;
+    let command = with_option(command, arguments::from(alloc))?;
     with_option(command, arguments::count(alloc))
 }
 
 // A command with the options that say of whom it is asked.
-fn with_question<'a>(alloc: Global, command: Made<'a>) -> Made<'a>
-    ensures { (app : App) → IfOk command.entry (IsSeenAs app)
-        → IfOk result (IsSeenAs (with_rule (with_rule app player_rule) instead_rule)) }
+fn with_question<'a>(alloc: Global, command: Command<'a>) -> Made<'a>
+    ensures app { IfOk result (λ made. app_of made
+        ≡ with_option (with_option (app_of command.entry) player_rule) instead_rule) }
+    ensures local { IfOk result (HasSameGlobals command.entry) }
 {
-    let command = with_option(command, arguments::player(alloc));
+    let command = with_option(command, arguments::player(alloc))?;
     with_option(command, arguments::instead(alloc))
 }
 
-// A command with the options of a round.
-fn with_round<'a>(alloc: Global, command: Made<'a>) -> Made<'a>
-    ensures { (app : App) → IfOk command.entry (IsSeenAs app) → IfOk result (IsSeenAs (with_round_rules app)) }
+// A command with the options of the standings.
+#[tactic(auto, unfolding(crate::specs::CommandLine::with_table_rules))]
+fn with_table<'a>(alloc: Global, command: Command<'a>) -> Made<'a>
+    ensures app { IfOk result (λ made. app_of made ≡ with_table_rules (app_of command.entry)) }
+    ensures local { IfOk result (HasSameGlobals command.entry) }
 {
-    let command = with_option(command, arguments::rounds(alloc));
-    let command = with_option(command, arguments::initial(alloc));
+    let command = with_option(command, arguments::by(alloc))?;
+    let names = arguments::names(alloc, "Prints the names too, in columns for the wall");
+    with_option(command, names)
+}
+
+// A command with the options of a round.
+#[tactic(auto, unfolding(crate::specs::CommandLine::with_round_rules))]
+fn with_round<'a>(alloc: Global, command: Command<'a>) -> Made<'a>
+    ensures app { IfOk result (λ made. app_of made ≡ with_round_rules (app_of command.entry)) }
+    ensures local { IfOk result (HasSameGlobals command.entry) }
+{
+    let command = with_option(command, arguments::rounds(alloc))?;
+    let command = with_option(command, arguments::initial(alloc))?;
     with_option(command, arguments::steps(alloc))
 }
 
@@ -122,7 +139,8 @@ pub fn described<'a>(
     about: &'a str,
     after_help: &'a str,
 ) -> Command<'a>
-    ensures { IsSeenAs (new_app name.entry.now) result }
+    ensures app { app_of result ≡ new_app name.entry.now }
+    ensures local { (fields_of result).has_globals ≡ false }
 {
     Command::new(alloc, name)
         .about(about)
@@ -130,10 +148,11 @@ pub fn described<'a>(
 }
 
 /// A command with one more option.
-pub fn with_option<'a>(command: Made<'a>, option: Arg<'a>) -> Made<'a>
+#[tactic(auto, unfolding(crate::specs::CommandLine::with_option))]
+pub fn with_option<'a>(command: Command<'a>, option: Arg<'a>) -> Made<'a>
     requires { option.global ≡ false }
-    ensures { (app : App) → IfOk command.entry (IsSeenAs app)
-        → IfOk result (IsSeenAs (with_rule app (rule_of option.entry))) }
+    ensures app { IfOk result (λ made. app_of made ≡ with_option (app_of command.entry) (rule_of option.entry)) }
+    ensures local { IfOk result (HasSameGlobals command.entry) }
 {
-    command?.arg(option)
+    command.arg(option)
 }

@@ -119,12 +119,7 @@ fn key_named(name: &str) -> Option<Key>
 fn is_among(key: Key, keys: &[Key]) -> bool
     ensures { result ≡ list_any (is_same key) keys.now }
 {
-    for other in keys {
-        if is_same(key, *other) {
-            return true;
-        }
-    }
-    false
+    keys.iter().any(|other| is_same(key, *other))
 }
 
 // Whether two keys are one.

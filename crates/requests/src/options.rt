@@ -2,9 +2,9 @@
 ghost use Rattle.std.specs.Prelude.{◌≡◌, ℕ, List, Bool, option_map, codes, if◌then◌else◌};
 ghost use Rattle.clap.specs.Words.{first_of};
 ghost use Rattle.requests.specs.Options.{bracket_in, bye_in, candidates_options, check_options, count_in};
-ghost use Rattle.requests.specs.Options.{explain_options, flag_in, format_options, from_in, initial_in};
-ghost use Rattle.requests.specs.Options.{instead_in, keys_by, pair_options, player_in, question_by, rounds_in};
-ghost use Rattle.requests.specs.Options.{rows_in, shown_by, standings_options, steps_in};
+ghost use Rattle.requests.specs.Options.{explain_options, flag_in, format_options, from_in, initial_in, keys_by};
+ghost use Rattle.requests.specs.Options.{number_in, pair_options, question_by, rounds_in, rows_in, shown_by};
+ghost use Rattle.requests.specs.Options.{standings_options, steps_in, u16_max};
 
 use crate::keys::{Keys, keys_in};
 use clap::ArgMatches;
@@ -183,7 +183,8 @@ pub fn explain_options(matches: &ArgMatches<'_>) -> Result<ExplainOptions, WordF
     ensures { result ≡ explain_options (rows_in matches.now) }
 {
     let initial = initial_in(matches)?;
-    let question = question_by(player_in(matches), instead_in(matches))?;
+    let (player, instead) = (number_in(matches, "player"), number_in(matches, "instead"));
+    let question = question_by(player, instead)?;
     Ok(ExplainOptions {
         question,
         rounds: rounds_in(matches),
@@ -225,8 +226,7 @@ pub fn candidates_options<'a, S: CursorSyntax>(
 pub fn bye_in(matches: &ArgMatches<'_>) -> u16
     ensures { result ≡ bye_in (rows_in matches.now) }
 {
-    matches
-        .get_one::<u16>("bye")
+    number_in(matches, "bye")
         .filter(|bye| *bye <= 2)
         .unwrap_or(2)
 }
@@ -293,25 +293,18 @@ fn from_in<'a, S: CursorSyntax>(
     }
 }
 
-// `--player`: the player of whom it is asked.
-fn player_in(matches: &ArgMatches<'_>) -> Option<u16>
-    ensures { result ≡ player_in (rows_in matches.now) }
-{
-    matches.get_one::<u16>("player")
-}
-
-// `--instead`: whom the player might have met, 0 for the bye.
-fn instead_in(matches: &ArgMatches<'_>) -> Option<u16>
-    ensures { result ≡ instead_in (rows_in matches.now) }
-{
-    matches.get_one::<u16>("instead")
-}
-
 // `--bracket`: the number of the bracket. No words that leave it out come here.
 fn bracket_in(matches: &ArgMatches<'_>) -> u16
     ensures { result ≡ bracket_in (rows_in matches.now) }
 {
-    matches.get_one::<u16>("bracket").unwrap_or(1)
+    number_in(matches, "bracket").unwrap_or(1)
+}
+
+// The number of an option of 16 bits.
+fn number_in(matches: &ArgMatches<'_>, name: &str) -> Option<u16>
+    ensures { result ≡ number_in u16_max name.now (rows_in matches.now) }
+{
+    matches.get_one::<u16>(name)
 }
 
 // `--count`: how many candidates are wanted.

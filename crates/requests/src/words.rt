@@ -1,14 +1,14 @@
 // The words of the command line: which command they ask for, or what help or refusal they get.
 ghost use Rattle.std.specs.Prelude.{◌≡◌, ◌++◌, ◌∷◌, [], IfOk, map, false, codes};
 ghost use Rattle.clap.specs.declared.Command.{out-Command as fields_of};
-ghost use Rattle.clap.specs.Words.{App, app_of, kind_of, new_app, subcommand_rows_of, with_subcommand};
+ghost use Rattle.clap.specs.Words.{app_of, kind_of, new_app, subcommand_rows_of};
 ghost use Rattle.dutch_order.specs.Cursors.{has_syntax};
-ghost use Rattle.requests.specs.CommandLine.{IsSeenAs};
+ghost use Rattle.requests.specs.CommandLine.{HasSameGlobals};
 ghost use Rattle.requests.specs.Options.{rows_in};
 ghost use Rattle.requests.specs.Words.{ComesTo, FitsKind, asked_by, candidates_request, explain_request, meant};
 ghost use Rattle.requests.specs.Words.{pair_request, request_of, standings_request, task_by, task_of, with_bye};
-ghost use Rattle.requests.specs.Words.{with_engine, with_next_round};
-ghost use Rattle.requests.specs.Words.{arbiter_app, check_app, format_app, settled, versioned};
+ghost use Rattle.requests.specs.Words.{arbiter_app, check_app, format_app, settled, versioned, with_command};
+ghost use Rattle.requests.specs.Words.{with_engine, with_pairing};
 
 use crate::arguments;
 use crate::commands::{
@@ -215,43 +215,51 @@ fn told<'a>(alloc: Global, error: &Error) -> Result<Asked<'a>, AllocError>
 }
 
 // The program's command line.
-fn arbiter_command<'a>(alloc: Global) -> Result<Command<'a>, AllocError>
+#[tactic(auto, unfolding(crate::specs::Words::arbiter_app))]
+fn arbiter_command<'a>(alloc: Global) -> Made<'a>
     ensures app { IfOk result (λ command. app_of command ≡ arbiter_app) }
     ensures local { IfOk result (λ command. (fields_of command).has_globals ≡ false) }
 {
     let command = with_settings(named(alloc)?);
-    let command = with_command(Ok(command), check_command(alloc));
-    let command = with_command(command, format_command(alloc));
+    let command = with_command(command, check_command(alloc)?)?;
+    let command = with_command(command, format_command(alloc)?)?;
     with_engine(alloc, command)
 }
 
 // A program with the commands that ask the engine.
-fn with_engine<'a>(alloc: Global, command: Made<'a>) -> Made<'a>
-    ensures { (app : App) → IfOk command.entry (IsSeenAs app) → IfOk result (IsSeenAs (with_engine app)) }
+#[tactic(auto, unfolding(crate::specs::Words::with_engine))]
+fn with_engine<'a>(alloc: Global, command: Command<'a>) -> Made<'a>
+    ensures app { IfOk result (λ made. app_of made ≡ with_engine (app_of command.entry)) }
+    ensures local { IfOk result (HasSameGlobals command.entry) }
 {
-    with_command(with_next_round(alloc, command), standings_command(alloc))
+    let command = with_pairing(alloc, command)?;
+    let command = with_command(command, explain_command(alloc)?)?;
+    with_command(command, standings_command(alloc)?)
 }
 
-// A program with the commands on the next round.
-fn with_next_round<'a>(alloc: Global, command: Made<'a>) -> Made<'a>
-    ensures { (app : App) → IfOk command.entry (IsSeenAs app) → IfOk result (IsSeenAs (with_next_round app)) }
+// A program with the commands that pair the next round, and that list candidates of it.
+#[tactic(auto, unfolding(crate::specs::Words::with_pairing))]
+fn with_pairing<'a>(alloc: Global, command: Command<'a>) -> Made<'a>
+    ensures app { IfOk result (λ made. app_of made ≡ with_pairing (app_of command.entry)) }
+    ensures local { IfOk result (HasSameGlobals command.entry) }
 {
-    let command = with_command(command, pair_command(alloc));
-    let command = with_command(command, candidates_command(alloc));
-    with_command(command, explain_command(alloc))
+    let command = with_command(command, pair_command(alloc)?)?;
+    with_command(command, candidates_command(alloc)?)
 }
 
 // A program with one more command.
-fn with_command<'a>(command: Made<'a>, more: Made<'a>) -> Made<'a>
-    ensures { (app below : App) → IfOk command.entry (IsSeenAs app) → IfOk more.entry (IsSeenAs below)
-        → IfOk result (IsSeenAs (with_subcommand app below.top)) }
+#[tactic(auto, unfolding(crate::specs::Words::with_command))]
+fn with_command<'a>(command: Command<'a>, more: Command<'a>) -> Made<'a>
+    requires { (fields_of more).has_globals ≡ false }
+    ensures app { IfOk result (λ made. app_of made ≡ with_command (app_of command.entry) (app_of more.entry)) }
+    ensures local { IfOk result (HasSameGlobals command.entry) }
 {
-    command?.subcommand(more?)
+    command.subcommand(more)
 }
 
 // The name and the texts of the program.
 #[tactic(auto, unfolding(crate::specs::Words::versioned))]
-fn named<'a>(alloc: Global) -> Result<Command<'a>, AllocError>
+fn named<'a>(alloc: Global) -> Made<'a>
     ensures app { IfOk result (λ command. app_of command ≡ versioned (new_app (codes "arbiter"))) }
     ensures local { IfOk result (λ command. (fields_of command).has_globals ≡ false) }
 {
@@ -279,7 +287,8 @@ fn with_settings<'a>(command: Command<'a>) -> Command<'a>
 }
 
 // The command `check`.
-fn check_command<'a>(alloc: Global) -> Result<Command<'a>, AllocError>
+#[tactic(auto, unfolding(crate::specs::Words::check_app))]
+fn check_command<'a>(alloc: Global) -> Made<'a>
     ensures app { IfOk result (λ command. app_of command ≡ check_app) }
     ensures local { IfOk result (λ command. (fields_of command).has_globals ≡ false) }
 {
@@ -289,12 +298,12 @@ fn check_command<'a>(alloc: Global) -> Result<Command<'a>, AllocError>
         "Tells how many players and rounds the report has, or why it is refused",
         "The report is read from standard input. Printed are the numbers of its players and of the rounds that were paired; why it is refused goes to standard error.\n\nExample: arbiter check < report.trf",
     );
-    let command = with_option(Ok(command), arguments::notes(alloc));
-    with_worth(alloc, command)
+    with_worth(alloc, with_option(command, arguments::notes(alloc))?)
 }
 
 // The command `format`.
-fn format_command<'a>(alloc: Global) -> Result<Command<'a>, AllocError>
+#[tactic(auto, unfolding(crate::specs::Words::format_app))]
+fn format_command<'a>(alloc: Global) -> Made<'a>
     ensures app { IfOk result (λ command. app_of command ≡ format_app) }
     ensures local { IfOk result (λ command. (fields_of command).has_globals ≡ false) }
 {
@@ -304,6 +313,5 @@ fn format_command<'a>(alloc: Global) -> Result<Command<'a>, AllocError>
         "Writes the report in canonical columns, or tells why it is refused",
         "The report is read from standard input. Printed is each player's line in TRF16's columns, and each other line as it stands.\n\nExample: arbiter format < report.trf > canonical.trf",
     );
-    let command = with_option(Ok(command), arguments::points(alloc));
-    with_worth(alloc, command)
+    with_worth(alloc, with_option(command, arguments::points(alloc))?)
 }

@@ -1,5 +1,4 @@
-use Rattle.std.proofs.Common.{◌≡◌, take}
-use Rattle.std.specs.List.{flat_map}
+use Rattle.std.proofs.Common.{◌≡◌, take, flat_map}
 use Rattle.replies.specs.Tables.{labels_text, widths}
 use Rattle.replies.proofs.table.table.Given as goal
 

@@ -1,17 +1,12 @@
-use Rattle.std.proofs.Common.{codes}
-use Rattle.clap.specs.Words.{App, new_app, with_rule}
-use Rattle.requests.specs.CommandLine.{bracket_rule, candidates_app, count_rule, from_rule, with_round_rules}
-use Rattle.requests.proofs.CommandLemmas.{seen_parts}
+use Rattle.std.proofs.Common.{◌≡◌, ◌∙◌, IfOk, ap, subst}
+use Rattle.clap.specs.Words.{App, app_of}
+use Rattle.requests.specs.CommandLine.{bye_rule, candidates_app, with_bracket_rules, with_option, with_round_rules}
 use Rattle.requests.proofs.commands.candidates_command.Goals as goal
 
-pub returns : goal.returns
+pub returns-clause-app : goal.returns-clause-app
 unfolding candidates_app
-returns c =
-    let app : App = new_app (codes "candidates") in
-    let made = c.described-command.ensures in
-    let made-1 = c.with_bracket.ensures app made in
-    let app-1 : App = with_rule (with_rule (with_rule app bracket_rule) from_rule) count_rule in
-    let made-2 = c.with_round-command.ensures app-1 made-1 in
-    let app-2 : App = with_round_rules app-1 in
-    let parts = seen_parts candidates_app c.with_worth.result (c.with_worth.ensures app-2 made-2) in
-    record { app = parts.0; local = parts.1 }
+returns-clause-app c =
+    subst (λ (app : App). IfOk c.with_worth.result (λ command. app_of command ≡ app))
+    (ap (λ (app : App). with_option app bye_rule)
+    (c.in_ok-command.ensures.app ∙ ap with_round_rules (c.in_ok-with_bracket.ensures.app ∙ ap with_bracket_rules c.described-command.ensures.app)))
+    c.with_worth.ensures.app

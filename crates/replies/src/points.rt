@@ -1,0 +1,72 @@
+// Points as text.
+ghost use Rattle.std.specs.Prelude.{◌≡◌, Some};
+ghost use Rattle.replies.specs.StandingsTexts.{quarter_text, quarters_text, value_text};
+ghost use Rattle.replies.specs.Texts.{halves_text};
+
+use std::fmt;
+use tiebreak::Key;
+
+/// Half points, shown as points with one decimal.
+#[derive(Debug, Drop)]
+pub struct HalfPoints(pub u32);
+
+impl fmt::Display for HalfPoints {
+    ghost output = { λ half. Some (halves_text half.0) };
+
+    #[tactic(auto, unfolding(crate::specs::Texts::halves_text))]
+    fn fmt<W: fmt::Write>(&self, f: &mut fmt::Formatter<W>) -> fmt::Result {
+        let points = self.0 / 2;
+        if self.0 % 2 == 0 {
+            write!(f, "{points}.0")
+        } else {
+            write!(f, "{points}.5")
+        }
+    }
+}
+
+// Quarters of a point, shown as points with two decimals.
+#[derive(Debug, Drop)]
+struct QuarterPoints(u32);
+
+impl fmt::Display for QuarterPoints {
+    ghost output = { λ quarter. Some (quarters_text quarter.0) };
+
+    fn fmt<W: fmt::Write>(&self, f: &mut fmt::Formatter<W>) -> fmt::Result {
+        let points = self.0 / 4;
+        let decimals = decimals(self.0 % 4);
+        write!(f, "{points}{decimals}")
+    }
+}
+
+// The decimals of quarters of a point.
+fn decimals(quarter: u32) -> &'static str
+    ensures { result.now ≡ quarter_text quarter }
+{
+    match quarter {
+        0 => ".00",
+        1 => ".25",
+        2 => ".50",
+        _ => ".75",
+    }
+}
+
+/// The value of a key that breaks ties, shown as points; as a dash if it tells nothing.
+#[derive(Debug, Drop)]
+pub struct KeyValue {
+    pub key: Key,
+    pub value: Option<u32>,
+}
+
+impl fmt::Display for KeyValue {
+    ghost output = { λ it. Some (value_text it.key it.value) };
+
+    fn fmt<W: fmt::Write>(&self, f: &mut fmt::Formatter<W>) -> fmt::Result {
+        let Some(value) = self.value else {
+            return f.write_str("-");
+        };
+        match self.key {
+            Key::Direct | Key::Buchholz => write!(f, "{}", HalfPoints(value)),
+            Key::SonnebornBerger => write!(f, "{}", QuarterPoints(value)),
+        }
+    }
+}
