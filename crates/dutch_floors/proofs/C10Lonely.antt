@@ -1,6 +1,6 @@
--- C.04.3 C.10: lonely players, once all but an end of S2R is chosen. Each of the pool meets a player of S1R who still waits, except for the
--- residents who go down: so many of the pool meet nobody. If one of the pool suits nobody who waits, their pair misses a preference, since
--- the two may meet.
+-- C.04.3 C.10: lonely players, once all but an end of S2R is chosen. Each player of S1R who still waits meets one of the pool. If they
+-- suit nobody there, their pair misses a preference, since the two may meet. The same is true of whoever of the pool suits nobody who
+-- waits, except for the residents who go down: so many of the pool meet nobody.
 use Rattle.std.proofs.Common.{◌≡◌, ℕ, zero, suc, ◌+◌, ◌-◌, ◌≤◌, Bool, true, false, not, ◌&&◌, ◌||◌, ◌==◌, cond, List, [], ◌∷◌, ◌++◌, length, max, inl, inr, refl, sym, ap, ◌∙◌, subst, sum_by, map, arith, length-append}
 use Rattle.std.specs.Prelude.{filter}
 use Rattle.std.specs.List.{AllByRecursion, list_any}
@@ -20,10 +20,9 @@ use Rattle.dutch_bracket.specs.Reached.{Reached, frame_of, numbers_meet}
 use Rattle.dutch_bracket.specs.Brackets.{candidates_of, quality_of}
 use Rattle.dutch_bracket.specs.Quality.{one_if, misses, count_in, count_in_pairs, quality_with}
 use Rattle.dutch_bracket.specs.Beginnings.{LacksEndOfS2r}
-use Rattle.dutch_bracket.specs.ColourFloors.{beyond, suits, lonely_second, residents_down, more_missed}
-use Rattle.dutch_floors.specs.FloorOf.{lonely}
+use Rattle.dutch_bracket.specs.ColourFloors.{beyond, suits, lonely, lonely_first, lonely_second, residents_down, more_missed}
 use Rattle.dutch_bracket.specs.NextBracket.{quality}
-use Rattle.dutch_bracket.proofs.ArrangementParts.{left_none, numbers_rise, lists_of, parts_of, left_cons, tuple_whole}
+use Rattle.dutch_bracket.proofs.ArrangementParts.{left_none, numbers_rise, lists_of, parts_of, left_cons, tuple_members, tuple_whole}
 use Rattle.dutch_floors.proofs.C10Preferences.{beginning_misses}
 use Rattle.dutch_bracket.proofs.FixedPairs.{has_pairs, pairs_on}
 use Rattle.dutch_floors.proofs.FreePlayers.{total_few}
@@ -103,9 +102,26 @@ module _ (facts : Facts) (reached : Reached) where
   unfolding suits numbers_meet
   unsuited x y meet = unsuited_at (numbers_meet facts reached x y) (missed_by x y) meet
 
-  -- 1 for a player who suits nobody of a list, as the second of a pair
+  -- 1 for a player who suits nobody of a list, as the first of a pair or as the second
+  abbrev lonely_among : List ℕ → ℕ → ℕ
+  lonely_among ys x = one_if (not (list_any (suits facts reached x) ys))
+
   abbrev lonely_to : List ℕ → ℕ → ℕ
   lonely_to xs y = one_if (not (list_any (λ x. suits facts reached x y) xs))
+
+  firsts_miss : (all xs ys : List ℕ) → all_meet (numbers_meet facts reached) xs ys ≡ true → length xs ≤ length ys → AllByRecursion (λ y. IsIn y all) ys
+      → total (lonely_among all) xs ≤ sum_by missed_in (pairs_of reached.seats xs ys)
+  firsts_miss all [] ys meet few inside = omega arith
+  firsts_miss all (x ∷ xs) [] meet few inside = absurd (omega arith)
+  firsts_miss all (x ∷ xs) (y ∷ ys) meet few inside =
+      let both = and_parts (numbers_meet facts reached x y) (all_meet (numbers_meet facts reached) xs ys) meet in
+      omega (
+        arith,
+        none_in (suits facts reached x) y all inside.0,
+        unsuited x y both.0,
+        firsts_miss all xs ys both.1 (omega arith) inside.1,
+        sum_by-cons missed_in (seat_of reached.seats x, seat_of reached.seats y) (pairs_of reached.seats xs ys),
+      )
 
   seconds_miss : (all xs ys : List ℕ) → all_meet (numbers_meet facts reached) xs ys ≡ true → length ys ≤ length xs → AllByRecursion (λ x. IsIn x all) xs
       → total (lonely_to all) ys ≤ sum_by missed_in (pairs_of reached.seats xs ys)
@@ -170,8 +186,19 @@ module _ (facts : Facts) (reached : Reached) (shape : Shape) (a : Arrangement) (
       let lists = lists_of (frame_of facts reached) shape a inside (legal_of facts reached shape a m).arranged in
       tuple_end open_pool (remainder_pairs shape) front rest (subst (λ t. IsIn t (tuples open_pool (remainder_pairs shape))) is lists.s2r)
 
+  first_lonely : lonely_first facts reached (with_end a front) ≤ sum_by (missed_in facts reached) (pairs_of reached.seats waits rest)
+  unfolding lonely_first lonely
+  first_lonely =
+      let all : List ℕ = left_of open_pool front in
+      omega (
+        arith,
+        counted (λ x. not (list_any (suits facts reached x) all)) waits,
+        firsts_miss facts reached all waits rest waits_meet (omega (arith, as_many))
+            (tuple_members (λ y. IsIn y all) all rest_chosen.0 rest (all_members (λ y. IsIn y all) all (λ y h. h)) rest_chosen.1),
+      )
+
   second_lonely : lonely_second facts reached (with_end a front) ≤ sum_by (missed_in facts reached) (pairs_of reached.seats waits rest) + residents_down reached shape
-  unfolding lonely_second
+  unfolding lonely_second lonely
   second_lonely =
       let all : List ℕ = left_of open_pool front in
       let residents : List ℕ = residents_of (frame_of facts reached) in
@@ -194,7 +221,8 @@ module _ (facts : Facts) (reached : Reached) (shape : Shape) (a : Arrangement) (
 
   lonely_miss_at : count_in_pairs facts (misses Preference) (all_pairs reached.seats (with_end a front)) + lonely facts reached shape (with_end a front)
       ≤ count_in_pairs facts (misses Preference) (all_pairs reached.seats a)
-  lonely_miss_at = omega (arith, second_lonely, with_others)
+  unfolding lonely lonely_first lonely_second
+  lonely_miss_at = omega (arith, first_lonely, second_lonely, with_others)
 
 -- the beginning is the arrangement but for its S2R
 same_but_end : (b a : Arrangement) → LacksEndOfS2r b a → with_end a b.s2r ≡ b

@@ -14,7 +14,7 @@ use Rattle.dutch_bracket.specs.Quality.{Quality, psd}
 use Rattle.dutch_bracket.specs.Reached.{Reached}
 use Rattle.dutch_bracket.specs.Seated.{Seated, seat_of, score_at, all_pairs}
 use Rattle.dutch_bracket.specs.Beginnings.{fixed, in_both, fixed_lists, is_of_shape, has_s1}
-use Rattle.dutch_bracket.specs.ColourFloors.{wants, wants_firmly, lonely_second, residents_down}
+use Rattle.dutch_bracket.specs.ColourFloors.{wants, wants_firmly, lonely}
 use Rattle.dutch_bracket.specs.PsdFloors.{psd_with, is_uniform}
 use Rattle.dutch_floors.specs.declared.outlook.Outlook.{Outlook}
 use Rattle.dutch_floors.specs.Outlooks.{IsOutlook, awaited}
@@ -77,10 +77,6 @@ pub record AreWants (facts : Facts) (reached : Reached) (wants : Wants) : Type 0
 abbrev pub more_in : Bool → Facts → Reached → Shape → Seated → ℕ
 more_in firm facts reached shape known =
     max (surplus_in (wanting firm facts White) reached shape known) (surplus_in (wanting firm facts Black) reached shape known)
-
--- C.10: lonely players miss: those of the pool of S2R who suit nobody of S1R who waits, but for as many residents as go down
-abbrev pub lonely : Facts → Reached → Shape → Arrangement → ℕ
-lonely facts reached shape b = lonely_second facts reached b - residents_down reached shape
 
 -- C.10: how many more miss than in the pairs that are fixed; lonely players are known once S1R is chosen
 abbrev pub more_by : Filling → Basis → Arrangement → ℕ

@@ -15,7 +15,7 @@ ghost use Rattle.dutch_bracket.specs.Brackets.{candidates_of, quality_of};
 ghost use Rattle.dutch_bracket.specs.Quality.{misses, count_in, count_in_pairs, count_with_topscorers};
 ghost use Rattle.dutch_bracket.specs.Beginnings.{HasPairsOf, LacksEndOfS2r, in_both};
 ghost use Rattle.dutch_bracket.specs.ColourFloors.{wants, wants_firmly, adds_top, more_missed, more_missed_strong};
-ghost use Rattle.dutch_floors.specs.FloorOf.{lonely};
+ghost use Rattle.dutch_bracket.specs.ColourFloors.{lonely};
 
 /// C.10: if both players of a pair want the same colour, one of them misses it.
 #[tactic(auto, using(crate::proofs::C10Preferences::pair_misses))]

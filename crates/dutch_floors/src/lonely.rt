@@ -1,13 +1,12 @@
 // Once S1R is chosen: players who miss their preference, whoever of those left becomes their opponent (C.04.3 C.10).
-ghost use Rattle.std.specs.Prelude.{◌≡◌, ◌+◌, ◌-◌, ◌<◌, ◌≤◌, ◌||◌, ◌++◌, ℕ, not, length, filter};
+ghost use Rattle.std.specs.Prelude.{◌≡◌, ◌+◌, ◌-◌, ◌<◌, ◌≤◌, ◌||◌, ◌++◌, ℕ, not, length, filter, max};
 ghost use Rattle.std.specs.List.{list_any, AllByRecursion};
 ghost use Rattle.arrayvec.specs.ArrayVec.{array_vec_len};
 ghost use Rattle.dutch_order.specs.declared.numbers.TheConstants.{LIMIT};
 ghost use Rattle.dutch_order.specs.Choices.{is_member, numbers_from};
 ghost use Rattle.dutch_bracket.specs.Seated.{AllNumbers};
 ghost use Rattle.dutch_bracket.specs.BitTables.{has_bit};
-ghost use Rattle.dutch_bracket.specs.ColourFloors.{suits, waiting, pool};
-ghost use Rattle.dutch_floors.specs.FloorOf.{lonely};
+ghost use Rattle.dutch_bracket.specs.ColourFloors.{suits, waiting, pool, lonely};
 ghost use Rattle.dutch_bracket.specs.Beginnings.{HasNumbers};
 
 use dutch_bracket::begun::Begun;
@@ -83,6 +82,20 @@ fn waiting<'a>(context: &Context<'_>, begun: &Begun<'a>) -> &'a [u16]
     begun.s1r.split_at(begun.s2r.len()).1
 }
 
+/// Whether a number suits one of some.
+fn suits_one(context: &Context<'_>, x: u16, others: &[u16]) -> bool
+    requires number { (0 < x) × (x ≤ length context.now.reached.seats) }
+    requires others { AllNumbers context.now.reached.seats others.now }
+    ensures { result ≡ list_any (suits context.now.facts context.now.reached x) others.now }
+{
+    for other in others {
+        if context.suits(x, *other) {
+            return true;
+        }
+    }
+    false
+}
+
 /// Whether one of some suits a number.
 fn is_suited(context: &Context<'_>, y: u16, others: &[u16]) -> bool
     requires number { (0 < y) × (y ≤ length context.now.reached.seats) }
@@ -95,6 +108,24 @@ fn is_suited(context: &Context<'_>, y: u16, others: &[u16]) -> bool
         }
     }
     false
+}
+
+/// How many of those who wait suit nobody of the pool.
+#[tactic(auto, unfolding(dutch_bracket::specs::ColourFloors::lonely_first))]
+fn lonely_first(context: &Context<'_>, waiting: &[u16], pool: &[u16]) -> usize
+    requires waiting { AllNumbers context.now.reached.seats waiting.now }
+    requires pool { AllNumbers context.now.reached.seats pool.now }
+    ensures value { result ≡ length
+        (filter (λ x. not (list_any (suits context.now.facts context.now.reached x) pool.now)) waiting.now) }
+    ensures few { result ≤ length waiting.now }
+{
+    let mut count = 0;
+    for x in waiting {
+        if !suits_one(context, *x, pool) {
+            count += 1;
+        }
+    }
+    count
 }
 
 /// How many of the pool suit nobody who waits.
@@ -115,9 +146,20 @@ fn lonely_second(context: &Context<'_>, waiting: &[u16], pool: &[u16]) -> usize
     count
 }
 
-/// How many miss at least for want of an opponent who suits: of those with whom S1R can still be paired, and with whom
-/// the list is filled anew, so many suit nobody who waits, and are more than may go down.
-#[tactic(auto, unfolding(dutch_bracket::specs::ColourFloors::lonely_second))]
+/// The greater of two counts of lonely players, of which so many of the second may go down: a pair may have one of
+/// each.
+fn more_lonely(first: usize, second: usize, down: usize) -> usize
+    requires first { first ≤ LIMIT }
+    requires second { second ≤ LIMIT }
+    ensures value { result ≡ max first (second - down) }
+    ensures few { result ≤ LIMIT }
+{
+    first.max(second.saturating_sub(down))
+}
+
+/// How many miss at least for want of an opponent who suits. The list is filled anew with those with whom S1R can still
+/// be paired.
+#[tactic(auto, unfolding(dutch_bracket::specs::ColourFloors::lonely))]
 pub(crate) fn lonely(
     context: &Context<'_>,
     shape: Shape,
@@ -131,6 +173,7 @@ pub(crate) fn lonely(
 {
     let waiting = waiting(context, begun);
     put_pool(context, begun, pool);
-    let count = lonely_second(context, waiting, pool);
-    count.saturating_sub(context.residents_down(shape))
+    let first = lonely_first(context, waiting, pool);
+    let second = lonely_second(context, waiting, pool);
+    more_lonely(first, second, context.residents_down(shape))
 }
