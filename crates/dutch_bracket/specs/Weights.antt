@@ -5,7 +5,6 @@
 use Rattle.std.specs.Prelude.{◌≡◌, ℕ, ◌+◌, ◌-◌, ◌*◌, ◌<◌, ◌≤◌, not, ◌||◌, ◌==◌, List, [], ◌∷◌, ◌++◌, map, length, count_by, Option, Some, None}
 use Rattle.std.specs.List.{AllByRecursion, zip}
 use Rattle.std.specs.Option.{ForSome}
-use Rattle.dual.specs.Duals.{Certificate, value}
 use Rattle.dual.specs.Matchings.{Costs}
 use Rattle.dutch_order.specs.declared.bracket.Shape.{Shape}
 use Rattle.dutch_order.specs.Arrangements.{Arrangement}
@@ -165,11 +164,6 @@ numbers reached = numbers_from 1 (length reached.seats)
 -- the pairs of an arrangement by number: S1 with S2, then S1R with S2R
 abbrev pub number_pairs : Arrangement → List (ℕ × ℕ)
 number_pairs a = zip a.s1 a.s2 ++ zip a.s1r a.s2r
-
--- the least weight that a certificate leaves to candidates of a shape with the pairs of a beginning
-abbrev pub least_weight : Facts → Reached → Scale → Certificate → Shape → Arrangement → ℕ
-least_weight facts reached scale certificate shape b =
-    value (weighing facts reached scale) certificate (numbers reached) (length reached.seats - 2 * shape.pairs) (number_pairs b)
 
 -- a list stands the highest first, and has these differences alone
 abbrev pub IsAmong : List ℕ → List ℕ → Type 0
