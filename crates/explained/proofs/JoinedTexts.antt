@@ -1,7 +1,6 @@
 -- Texts that are put one behind the other.
-use Rattle.std.proofs.Common.{◌≡◌, ◌∙◌, ◌++◌, ◌==◌, ℕ, false, cond, List, [], Some, Result, Ok, Err, OnOk, ap, sym, subst, append_assoc}
+use Rattle.std.proofs.Common.{◌≡◌, ◌∙◌, ◌++◌, ◌==◌, ℕ, false, cond, List, [], Some, Result, Ok, Err, OnOk, ap, sym, subst, append_assoc, flat_map}
 use Rattle.std.specs.Prelude.{if◌then◌else◌, is_ok, codes}
-use Rattle.std.specs.List.{flat_map}
 use Rattle.dutch_player.specs.Facts.{Facts}
 use Rattle.dutch_bracket.specs.Items.{players_counted, who_counts}
 use Rattle.dutch_bracket.specs.QualityIn.{quality_in}

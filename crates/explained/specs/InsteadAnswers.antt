@@ -12,8 +12,8 @@ use Rattle.dutch_pair.specs.declared.stage.Stage.{Stage}
 use Rattle.dutch_choice.specs.declared.wish.Wish.{Wish}
 use Rattle.dutch_choice.specs.declared.wish.Wish.TheVariants.{Pair, Over}
 use Rattle.trf16.specs.Sheet.{Sheet}
-use Rattle.explained.specs.InsteadTexts.{instead_text, obstacle_text, search_answer}
-use Rattle.round_lines.specs.Obstacles.{against_bye, against_meeting}
+use Rattle.explained.specs.InsteadTexts.{instead_text, search_answer}
+use Rattle.round_lines.specs.Obstacles.{against_bye, against_meeting, obstacle_text}
 use Rattle.replies.specs.Statuses.{Answer, done}
 use Rattle.explained.specs.declared.instead.Rival.{Rival}
 use Rattle.explained.specs.declared.instead.Rival.TheVariants.{Bye, Seat}

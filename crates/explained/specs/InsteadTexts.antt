@@ -7,21 +7,10 @@ use Rattle.dutch_pair.specs.declared.instead.Instead.TheVariants.{Best, FewerMov
 use Rattle.dutch_pair.specs.declared.stage.Stage.{Stage}
 use Rattle.round_lines.specs.ValueTexts.{candidate_text}
 use Rattle.replies.specs.Statuses.{Answer, done, undecided}
-use Rattle.round_lines.specs.declared.obstacle.Obstacle.{Obstacle}
-use Rattle.round_lines.specs.declared.obstacle.Obstacle.TheVariants.{Absent, Met, Apart, Colours, HadBye, Even}
 
 -- the line of who is asked for, 0 for the bye
 abbrev pub instead_text : ℕ → List ℕ → List ℕ
 instead_text number what = codes "instead " ++ (decimal number ++ (codes " " ++ (what ++ codes "\n")))
-
--- what stands against it, whatever is chosen in a bracket
-abbrev pub obstacle_text : Obstacle → List ℕ
-obstacle_text Absent = codes "absent"
-obstacle_text (Met round) = codes "met round " ++ (decimal round ++ codes " C.1")
-obstacle_text Apart = codes "apart XXP"
-obstacle_text Colours = codes "colours C.3"
-obstacle_text HadBye = codes "bye C.2"
-obstacle_text Even = codes "even"
 
 -- ---- what a search finds
 

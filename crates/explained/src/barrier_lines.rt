@@ -12,7 +12,7 @@ use dutch_order::{Numbers, numbered_from};
 use dutch_pair::{Barrier, PairFault, barrier_of, lacks_bye};
 use dutch_player::Field;
 use replies::refusal::no_pairing;
-use replies::{Reply, Status, Text};
+use replies::{Reply, Status};
 use std::alloc::{AllocError, Global};
 
 /// No pairing meets the absolute criteria, and behind that why, where a search of so many steps finds it.
@@ -31,11 +31,8 @@ fn because(alloc: Global, field: &Field, barrier: &Barrier) -> Result<Reply, All
     ensures { IfOk result (λ reply. answer_of reply ≡ no_pairing_with (barrier_text field.now barrier.now)) }
 {
     let mut text = String::from_str(alloc, "no pairing\n")?;
-    put_barrier(alloc, &mut text, field, barrier)?;
-    Ok(Reply {
-        status: Status::NoPairing,
-        text: Text::Made(text),
-    })
+    put_barrier(&mut text, field, barrier)?;
+    Ok(Reply::made(Status::NoPairing, text))
 }
 
 // All seats, by rank.
@@ -49,18 +46,13 @@ fn all_seats(field: &Field) -> Numbers
 
 // Puts why there is no pairing.
 #[tactic(auto, unfolding(crate::specs::BarrierTexts::barrier_text))]
-fn put_barrier(
-    alloc: Global,
-    text: &mut String,
-    field: &Field,
-    barrier: &Barrier,
-) -> Result<(), AllocError>
+fn put_barrier(text: &mut String, field: &Field, barrier: &Barrier) -> Result<(), AllocError>
     ensures { OnOk result (string_bytes text.new ≡ string_bytes text.old ++ barrier_text field.now barrier.now) }
 {
     text.push_str("blocked by")?;
-    put_blockers(alloc, text, field, barrier)?;
+    put_blockers(text, field, barrier)?;
     text.push_str("\n")?;
-    put_groups(alloc, text, field, barrier)?;
+    put_groups(text, field, barrier)?;
     text.push_str(lacking(field))
 }
 
@@ -72,35 +64,25 @@ fn lacking(field: &Field) -> &'static str
 }
 
 // Puts who blocks.
-fn put_blockers(
-    alloc: Global,
-    text: &mut String,
-    field: &Field,
-    barrier: &Barrier,
-) -> Result<(), AllocError>
+fn put_blockers(text: &mut String, field: &Field, barrier: &Barrier) -> Result<(), AllocError>
     ensures { OnOk result (string_bytes text.new ≡ string_bytes text.old ++ blockers_text field.now barrier.now) }
 {
     if barrier.has_blockers(field) {
-        put_labelled(alloc, text, field, barrier, 0)
+        put_labelled(text, field, barrier, 0)
     } else {
         text.push_str(" -")
     }
 }
 
 // Puts the odd groups, in the order of their first players.
-fn put_groups(
-    alloc: Global,
-    text: &mut String,
-    field: &Field,
-    barrier: &Barrier,
-) -> Result<(), AllocError>
+fn put_groups(text: &mut String, field: &Field, barrier: &Barrier) -> Result<(), AllocError>
     ensures { OnOk result (string_bytes text.new
         ≡ string_bytes text.old ++ groups_text field.now barrier.now (everybody field.now)) }
 {
     let all = all_seats(field);
     for seat in all.as_slice() {
         if barrier.opens_odd_group(field, *seat) {
-            put_group(alloc, text, field, barrier, barrier.label(*seat))?;
+            put_group(text, field, barrier, barrier.label(*seat))?;
         }
     }
     Ok(())
@@ -109,7 +91,6 @@ fn put_groups(
 // Puts a group.
 #[tactic(auto, unfolding(crate::specs::BarrierTexts::group_text))]
 fn put_group(
-    alloc: Global,
     text: &mut String,
     field: &Field,
     barrier: &Barrier,
@@ -118,13 +99,12 @@ fn put_group(
     ensures { OnOk result (string_bytes text.new ≡ string_bytes text.old ++ group_text field.now barrier.now group) }
 {
     text.push_str("group")?;
-    put_labelled(alloc, text, field, barrier, group)?;
+    put_labelled(text, field, barrier, group)?;
     text.push_str("\n")
 }
 
 // Puts the players with a label, by rank.
 fn put_labelled(
-    alloc: Global,
     text: &mut String,
     field: &Field,
     barrier: &Barrier,
@@ -136,7 +116,7 @@ fn put_labelled(
     let all = all_seats(field);
     for seat in all.as_slice() {
         if barrier.label(*seat) == group {
-            put_member(alloc, text, field, *seat)?;
+            put_member(text, field, *seat)?;
         }
     }
     Ok(())
@@ -144,11 +124,10 @@ fn put_labelled(
 
 // Puts a player.
 #[tactic(auto, unfolding(crate::specs::BarrierTexts::member_text))]
-fn put_member(alloc: Global, text: &mut String, field: &Field, seat: u16) -> Result<(), AllocError>
+fn put_member(text: &mut String, field: &Field, seat: u16) -> Result<(), AllocError>
     requires { seat < length field.now.seats }
     ensures { OnOk result (string_bytes text.new ≡ string_bytes text.old ++ member_text field.now seat) }
 {
     let start = field.start_rank(seat);
-    let player = format!(in alloc; " {start}")?;
-    text.push_str(player.as_str())
+    write!(text, " {start}")
 }

@@ -14,7 +14,7 @@ use crate::item_lines::put_items;
 use dutch_pair::boards::Board;
 use dutch_pair::{PairFault, Reached, Stage};
 use dutch_player::{ColourRule, Field};
-use replies::texts::halves;
+use replies::points::HalfPoints;
 use round_lines::bracket_texts;
 use round_lines::listing::put_line;
 use std::alloc::{AllocError, Global};
@@ -37,25 +37,19 @@ pub fn round_line(
     let mut text = format!(in alloc;
         "round {round} of {total} present {present} absent {absent} boards {boards}"
     )?;
-    put_with_bye(alloc, &mut text, field, bye)?;
+    put_with_bye(&mut text, field, bye)?;
     text.push_str("\n")?;
     Ok(text)
 }
 
 // Puts who has the bye.
-fn put_with_bye(
-    alloc: Global,
-    text: &mut String,
-    field: &Field,
-    bye: &[u16],
-) -> Result<(), AllocError>
+fn put_with_bye(text: &mut String, field: &Field, bye: &[u16]) -> Result<(), AllocError>
     requires { AreSeats field.now bye.now }
     ensures { OnOk result (string_bytes text.new ≡ string_bytes text.old ++ flat_map (bye_text field.now) bye.now) }
 {
     for seat in bye {
         let start = field.start_rank(*seat);
-        let player = format!(in alloc; " bye {start}")?;
-        text.push_str(player.as_str())?;
+        write!(text, " bye {start}")?;
     }
     Ok(())
 }
@@ -63,7 +57,6 @@ fn put_with_bye(
 /// Puts the brackets, in the order in which the round reaches them: all of them, or those of one seat and what in them
 /// is that seat's own.
 pub fn put_stages(
-    alloc: Global,
     text: &mut String,
     field: &Field,
     stages: &[Stage],
@@ -74,7 +67,7 @@ pub fn put_stages(
 {
     for stage in stages {
         if is_bracket_told(stage.reached(), whose) {
-            put_stage(alloc, text, field, stage, whose)?;
+            put_stage(text, field, stage, whose)?;
         }
     }
     Ok(())
@@ -103,7 +96,6 @@ fn is_bracket_told(reached: &Reached, whose: Option<u16>) -> bool
 // Puts a bracket.
 #[tactic(auto, unfolding(crate::specs::ExplainTexts::stage_text))]
 fn put_stage(
-    alloc: Global,
     text: &mut String,
     field: &Field,
     stage: &Stage,
@@ -113,19 +105,23 @@ fn put_stage(
     ensures { OnOk result (string_bytes text.new ≡ string_bytes text.old ++ stage_text field.now whose stage.now) }
 {
     let reached = stage.reached();
-    let bracket = bracket_texts::bracket(alloc, reached.number(), reached.kind(), stage.shape())?;
+    let bracket = bracket_texts::bracket(
+        *text.allocator(),
+        reached.number(),
+        reached.kind(),
+        stage.shape(),
+    )?;
     text.push_str(bracket.as_str())?;
-    put_players(alloc, text, field, reached)?;
+    put_players(text, field, reached)?;
     if stage.is_again() {
         return text.push_str("again C.4\n");
     }
-    put_chosen(alloc, text, field, stage, whose)
+    put_chosen(text, field, stage, whose)
 }
 
 // Puts what is chosen in a bracket, its boards and who is left over.
 #[tactic(auto, unfolding(crate::specs::ExplainTexts::chosen_text))]
 fn put_chosen(
-    alloc: Global,
     text: &mut String,
     field: &Field,
     stage: &Stage,
@@ -135,28 +131,23 @@ fn put_chosen(
     ensures { OnOk result (string_bytes text.new ≡ string_bytes text.old ++ chosen_text field.now whose stage.now) }
 {
     text.push_str("chosen ")?;
-    put_line(alloc, text, field, stage.reached(), stage.candidate())?;
-    put_items(alloc, text, field, stage)?;
-    put_pairs(alloc, text, field, stage, whose)?;
-    put_byes(alloc, text, field, stage, whose)
+    put_line(text, field, stage.reached(), stage.candidate())?;
+    put_items(text, field, stage)?;
+    put_pairs(text, field, stage, whose)?;
+    put_byes(text, field, stage, whose)
 }
 
 // Puts the players of a bracket.
 #[tactic(auto, unfolding(crate::specs::ExplainTexts::players_text))]
-fn put_players(
-    alloc: Global,
-    text: &mut String,
-    field: &Field,
-    reached: &Reached,
-) -> Result<(), AllocError>
+fn put_players(text: &mut String, field: &Field, reached: &Reached) -> Result<(), AllocError>
     requires { IsOf field.now reached.now }
     ensures { OnOk result (string_bytes text.new ≡ string_bytes text.old ++ players_text field.now reached.now) }
 {
     let (moved_down, residents) = reached.seats().split_at(reached.mdps());
     text.push_str("players")?;
-    put_scored(alloc, text, field, moved_down)?;
+    put_scored(text, field, moved_down)?;
     text.push_str(bar(reached.mdps()))?;
-    put_scored(alloc, text, field, residents)?;
+    put_scored(text, field, residents)?;
     text.push_str("\n")
 }
 
@@ -169,29 +160,21 @@ fn bar(mdps: usize) -> &'static str
 
 // Puts players with their scores.
 #[tactic(auto, unfolding(crate::specs::ExplainTexts::scored_text))]
-fn put_scored(
-    alloc: Global,
-    text: &mut String,
-    field: &Field,
-    seats: &[u16],
-) -> Result<(), AllocError>
+fn put_scored(text: &mut String, field: &Field, seats: &[u16]) -> Result<(), AllocError>
     requires { AreSeats field.now seats.now }
     ensures { OnOk result (string_bytes text.new
         ≡ string_bytes text.old ++ flat_map (scored_text field.now) seats.now) }
 {
     for seat in seats {
         let start = field.start_rank(*seat);
-        let score = halves(alloc, u32::from(field.score(*seat)))?;
-        let score = score.as_str();
-        let player = format!(in alloc; " {start} ({score})")?;
-        text.push_str(player.as_str())?;
+        let score = HalfPoints(u32::from(field.score(*seat)));
+        write!(text, " {start} ({score})")?;
     }
     Ok(())
 }
 
 // Puts the boards of a bracket, in the order of its candidate.
 fn put_pairs(
-    alloc: Global,
     text: &mut String,
     field: &Field,
     stage: &Stage,
@@ -200,16 +183,15 @@ fn put_pairs(
     requires { IsStage field.now stage.now }
     ensures { OnOk result (string_bytes text.new ≡ string_bytes text.old ++ pairs_text field.now whose stage.now) }
 {
-    let mut pairs: Vec<Board> = Vec::new(alloc);
+    let mut pairs: Vec<Board> = Vec::new(*text.allocator());
     match stage.put_pairs(field, &mut pairs) {
-        Ok(()) => put_boards(alloc, text, field, &pairs, whose),
+        Ok(()) => put_boards(text, field, &pairs, whose),
         Err(PairFault::OutOfMemory) => Err(AllocError),
     }
 }
 
 // Puts the boards of pairs.
 fn put_boards(
-    alloc: Global,
     text: &mut String,
     field: &Field,
     pairs: &[Board],
@@ -220,7 +202,7 @@ fn put_boards(
 {
     for pair in pairs {
         if is_told(pair.0, whose) || is_told(pair.1, whose) {
-            put_board(alloc, text, field, *pair)?;
+            put_board(text, field, *pair)?;
         }
     }
     Ok(())
@@ -228,15 +210,14 @@ fn put_boards(
 
 // Puts the board of a pair: who has white, who has black, and the rule that decided.
 #[tactic(auto, using(dutch_pair::proofs::BoardLemmas::colours_pair), unfolding(crate::specs::ExplainTexts::colours_text))]
-fn put_board(alloc: Global, text: &mut String, field: &Field, pair: Board) -> Result<(), AllocError>
+fn put_board(text: &mut String, field: &Field, pair: Board) -> Result<(), AllocError>
     requires { IsPair field.now pair }
     ensures { OnOk result (string_bytes text.new ≡ string_bytes text.old ++ colours_text field.now pair) }
 {
     let (white, black) = field.colours(pair.0, pair.1);
     let (white, black) = (field.start_rank(white), field.start_rank(black));
     let rule = rule(field.colour_rule(pair.0, pair.1));
-    let board = format!(in alloc; "board {white} {black} {rule}\n")?;
-    text.push_str(board.as_str())
+    write!(text, "board {white} {black} {rule}\n")
 }
 
 // The rule that decided the colours of two (E).
@@ -254,7 +235,6 @@ fn rule(rule: ColourRule) -> &'static str
 
 // Puts who is left over in a bracket that ends the round.
 fn put_byes(
-    alloc: Global,
     text: &mut String,
     field: &Field,
     stage: &Stage,
@@ -270,7 +250,7 @@ fn put_byes(
     for number in stage.candidate().down() {
         let seat = reached.seat(*number);
         if is_told(seat, whose) {
-            put_over(alloc, text, field, seat)?;
+            put_over(text, field, seat)?;
         }
     }
     Ok(())
@@ -278,11 +258,10 @@ fn put_byes(
 
 // Puts one who is left over.
 #[tactic(auto, unfolding(crate::specs::ExplainTexts::over_text))]
-fn put_over(alloc: Global, text: &mut String, field: &Field, seat: u16) -> Result<(), AllocError>
+fn put_over(text: &mut String, field: &Field, seat: u16) -> Result<(), AllocError>
     requires { seat < length field.now.seats }
     ensures { OnOk result (string_bytes text.new ≡ string_bytes text.old ++ over_text field.now seat) }
 {
     let start = field.start_rank(seat);
-    let left = format!(in alloc; "bye {start}\n")?;
-    text.push_str(left.as_str())
+    write!(text, "bye {start}\n")
 }

@@ -1,24 +1,22 @@
 // The command `explain`: why the next round is paired as it is, bracket by bracket or for one player.
 ghost use Rattle.std.specs.Prelude.{◌≡◌, ◌<◌, ◌≤◌, ◌++◌, IfOk, Ok, OnOk, length, string_bytes};
 ghost use Rattle.std.specs.List.{AllByRecursion};
-ghost use Rattle.dutch_player.specs.Facts.{facts_of};
 ghost use Rattle.dutch_pair.specs.Outcomes.{AreStages, IsStage};
 ghost use Rattle.trf16.specs.Verdict.{verdict};
 ghost use Rattle.dutch_bracket.specs.Seated.{AreSeats};
 ghost use Rattle.dutch_player.specs.StartRanks.{seat_with};
-ghost use Rattle.explained.specs.ExplainAnswers.{AnswersExplain, AnswersQuestion, ExplainsField, IsExplained};
+ghost use Rattle.explained.specs.ExplainAnswers.{AnswersExplain, ExplainsField, IsExplained, IsToldBehind};
 ghost use Rattle.explained.specs.ExplainAnswers.{TellsPaired, TellsRound, about_text, front_text, present_text};
 ghost use Rattle.replies.specs.Replies.{answer_of};
-ghost use Rattle.replies.specs.Statuses.{done};
 
 use crate::barrier_lines::no_pairing_because;
 use crate::bracket_lines::{put_stages, round_line};
-use crate::instead::{Paired, instead};
+use crate::instead::{Asked, Paired, instead};
 use dutch_pair::{AllStages, PairFault, stages};
 use dutch_player::{Field, FieldFault};
 use replies::refusal::{cannot_be_asked, cannot_be_paired, refused, undecided};
-use replies::{Reply, Status, Text, question_fault};
-use requests::{ExplainOptions, Question};
+use replies::{Reply, Status, question_fault};
+use requests::ExplainOptions;
 use round_lines::{put_absent, put_player};
 use std::alloc::{AllocError, Global};
 use trf16::{Fault, Report};
@@ -122,75 +120,56 @@ fn tell_paired(
     ensures { IfOk result (λ reply. TellsPaired options.question options.steps round.now (answer_of reply)) }
 {
     let mut text = round_line(alloc, round.report, round.field, round.bye)?;
-    match options.question {
-        Some(question) => {
-            put_about(alloc, &mut text, round, question.player)?;
-            with_instead(alloc, text, round, question, options.steps)
+    let Some(question) = options.question else {
+        put_stages(&mut text, round.field, round.stages, None)?;
+        return Ok(Reply::made(Status::Done, text));
+    };
+    put_about(&mut text, round, question.player)?;
+    match question.instead {
+        Some(number) => {
+            let asked = Asked {
+                player: question.player,
+                number,
+                steps: options.steps,
+            };
+            with_instead(alloc, text, round, asked)
         }
-        None => {
-            put_stages(alloc, &mut text, round.field, round.stages, None)?;
-            Ok(told(text))
-        }
+        None => Ok(Reply::made(Status::Done, text)),
     }
 }
 
-// Puts what is told of a player: their line and their brackets, or that they are absent.
-fn put_about(
+// A text, and behind it why the player does not meet another one.
+fn with_instead(
     alloc: Global,
-    text: &mut String,
+    text: String,
     round: &Paired<'_>,
-    player: u16,
-) -> Result<(), AllocError>
+    asked: Asked,
+) -> Result<Reply, AllocError>
+    requires front { string_bytes text ≡ front_text round.now asked.player }
+    requires stages { AllByRecursion (IsStage round.now.facts) round.now.stages }
+    ensures { IfOk result (λ reply. IsToldBehind round.now asked.steps asked.player asked.number (answer_of reply)) }
+{
+    instead(alloc, round, asked)?.behind(text)
+}
+
+// Puts what is told of a player: their line and their brackets, or that they are absent.
+fn put_about(text: &mut String, round: &Paired<'_>, player: u16) -> Result<(), AllocError>
     requires { AllByRecursion (IsStage round.now.facts) round.now.stages }
     ensures { OnOk result (string_bytes text.new
         ≡ string_bytes text.old ++ about_text round.now player (seat_with round.now.facts player)) }
 {
     match round.field.seat_with(player) {
-        Some(seat) => put_present(alloc, text, round, seat),
-        None => put_absent(alloc, text, player),
+        Some(seat) => put_present(text, round, seat),
+        None => put_absent(text, player),
     }
 }
 
 // Puts the line of a present player and their brackets.
-fn put_present(
-    alloc: Global,
-    text: &mut String,
-    round: &Paired<'_>,
-    seat: u16,
-) -> Result<(), AllocError>
+fn put_present(text: &mut String, round: &Paired<'_>, seat: u16) -> Result<(), AllocError>
     requires seat { seat < length round.now.facts.seats }
     requires stages { AllByRecursion (IsStage round.now.facts) round.now.stages }
     ensures { OnOk result (string_bytes text.new ≡ string_bytes text.old ++ present_text round.now seat) }
 {
-    put_player(alloc, text, round.report, round.field, seat)?;
-    put_stages(alloc, text, round.field, round.stages, Some(seat))
-}
-
-// The text, and behind it why the player does not meet another one, if one is named.
-fn with_instead(
-    alloc: Global,
-    text: String,
-    round: &Paired<'_>,
-    question: Question,
-    steps: u64,
-) -> Result<Reply, AllocError>
-    requires front { string_bytes text ≡ front_text round.now question.player }
-    requires stages { AllByRecursion (IsStage round.now.facts) round.now.stages }
-    ensures { IfOk result (λ reply. AnswersQuestion round.now steps question.player question.instead
-        (answer_of reply)) }
-{
-    match question.instead {
-        Some(number) => instead(alloc, round, question.player, number, steps)?.behind(text),
-        None => Ok(told(text)),
-    }
-}
-
-// A text that is told.
-fn told(text: String) -> Reply
-    ensures { answer_of result ≡ done (string_bytes text) }
-{
-    Reply {
-        status: Status::Done,
-        text: Text::Made(text),
-    }
+    put_player(text, round.report, round.field, seat)?;
+    put_stages(text, round.field, round.stages, Some(seat))
 }

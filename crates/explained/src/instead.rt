@@ -1,22 +1,21 @@
 // Why a player does not meet another one in the next round, or does not have the bye: what stands against it first.
-ghost use Rattle.std.specs.Prelude.{◌≡◌, ◌<◌, ◌≤◌, IfOk, IfSome, length, string_bytes};
+ghost use Rattle.std.specs.Prelude.{◌≡◌, ◌<◌, ◌≤◌, IfOk, IfSome, MatchOption, None, Some, length};
 ghost use Rattle.std.specs.List.{AllByRecursion};
 ghost use Rattle.dutch_order.specs.declared.numbers.TheConstants.{LIMIT};
-ghost use Rattle.dutch_pair.specs.Lower.{lower_of};
 ghost use Rattle.dutch_pair.specs.Outcomes.{IsStage};
 ghost use Rattle.dutch_choice.specs.Wishes.{grants};
-ghost use Rattle.dutch_pair.specs.Instead.{IsInstead};
-ghost use Rattle.explained.specs.InsteadAnswers.{AnswersDecided, AnswersInstead, AnswersWish, IsRival, IsSearched};
-ghost use Rattle.explained.specs.InsteadAnswers.{decided_in, goes_on, number_among, number_in, obstacle_of};
-ghost use Rattle.explained.specs.InsteadAnswers.{rival_of, stands_in, stands_in_one, wish_in};
-ghost use Rattle.explained.specs.InsteadTexts.{instead_text, in_bracket, obstacle_text, search_answer};
+ghost use Rattle.explained.specs.InsteadAnswers.{AnswersInstead, AnswersWish, IsRival, IsSearched, decided_in};
+ghost use Rattle.explained.specs.InsteadAnswers.{goes_on, number_among, number_in, obstacle_of, rival_of};
+ghost use Rattle.explained.specs.InsteadAnswers.{stands_in, stands_in_one, wish_in};
+ghost use Rattle.explained.specs.InsteadTexts.{in_bracket, instead_text, search_answer};
+ghost use Rattle.round_lines.specs.Obstacles.{obstacle_text};
 ghost use Rattle.replies.specs.Replies.{answer_of};
 ghost use Rattle.replies.specs.Statuses.{done};
 
 use dutch_pair::{Instead, PairFault, Stage, Wish, best_instead};
 use dutch_player::Field;
 use replies::refusal::undecided;
-use replies::{Reply, Status, Text};
+use replies::{Reply, Status};
 use round_lines::value_texts::candidate;
 use round_lines::{Obstacle, against_bye, against_meeting};
 use std::alloc::{AllocError, Global};
@@ -50,49 +49,47 @@ impl<'a> Model for Paired<'a> {
     ghost view = { λ r. record { sheet = r.report.now; facts = r.field.now; stages = r.stages.now; bye = r.bye.now } };
 }
 
-/// What is answered to a player, by their start rank, who asks for another one instead, or for the bye by 0: the first
-/// of these that stands against it: one of the two is absent; C.1; a line `XXP`; C.3; for the bye C.2, or that nobody
-/// has it; then what is chosen in the first bracket behind which one of them does not stand, and the best of its
-/// candidates that would grant it. The search for that candidate may take at most `steps` steps of its own.
+/// What is asked: by whom and for whom, by their start ranks, for the bye by 0; and in how many steps a candidate may be
+/// searched for.
+#[derive(Clone, Copy)]
+pub struct Asked {
+    pub player: u16,
+    pub number: u16,
+    pub steps: u64,
+}
+
+/// What is answered to a player who asks for another one instead, or for the bye: the first of these that stands
+/// against it: one of the two is absent; C.1; a line `XXP`; C.3; for the bye C.2, or that nobody has it; then what is
+/// chosen in the first bracket behind which one of them does not stand, and the best of its candidates that would grant
+/// it.
 ///
 /// # Errors
 /// Memory was refused.
-pub fn instead(
-    alloc: Global,
-    round: &Paired<'_>,
-    player: u16,
-    number: u16,
-    steps: u64,
-) -> Result<Reply, AllocError>
+pub fn instead(alloc: Global, round: &Paired<'_>, asked: Asked) -> Result<Reply, AllocError>
     requires { AllByRecursion (IsStage round.now.facts) round.now.stages }
-    ensures { IfOk result (λ reply. AnswersInstead round.now player number steps (answer_of reply)) }
+    ensures { IfOk result (λ reply. AnswersInstead round.now asked.player asked.number asked.steps (answer_of reply)) }
 {
-    let Some(player) = round.field.seat_with(player) else {
-        return stands_against(alloc, number, Obstacle::Absent);
+    let Some(player) = round.field.seat_with(asked.player) else {
+        return stands_against(alloc, asked.number, Obstacle::Absent);
     };
-    let Some(rival) = rival_of(round.field, number) else {
-        return stands_against(alloc, number, Obstacle::Absent);
+    let Some(rival) = rival_of(round.field, asked.number) else {
+        return stands_against(alloc, asked.number, Obstacle::Absent);
     };
-    if let Some(obstacle) = obstacle_of(round, player, rival) {
-        return stands_against(alloc, number, obstacle);
+    let meeting = Meeting { player, rival };
+    if let Some(obstacle) = obstacle_of(round, meeting) {
+        return stands_against(alloc, asked.number, obstacle);
     }
-    let asked = Asked {
-        number,
-        player,
-        rival,
-        steps,
-    };
-    by_brackets(alloc, round.field, round.stages, asked)
+    match decided_in(round.field, round.stages, meeting) {
+        Some(decided) => by_wish(alloc, round.field, decided, asked),
+        None => Ok(Reply::made(Status::Done, String::new(alloc))),
+    }
 }
 
-// What is asked: by whom (a seat), for whom, and in how many steps a candidate may be searched for.
+// A meeting that is asked for: the seat of who asks, and for whom.
 #[derive(Clone, Copy)]
-struct Asked {
-    // of who is asked for, as it is told
-    number: u16,
+struct Meeting {
     player: u16,
     rival: Rival,
-    steps: u64,
 }
 
 // The bye for 0; otherwise the seat of a start rank.
@@ -110,14 +107,14 @@ fn rival_of(field: &Field, number: u16) -> Option<Rival>
 }
 
 // What stands against it, whatever is chosen in a bracket.
-fn obstacle_of(round: &Paired<'_>, player: u16, rival: Rival) -> Option<Obstacle>
-    requires player { player < length round.now.facts.seats }
-    requires rival { IsRival round.now.facts rival }
-    ensures { result ≡ obstacle_of round.now player rival }
+fn obstacle_of(round: &Paired<'_>, meeting: Meeting) -> Option<Obstacle>
+    requires player { meeting.player < length round.now.facts.seats }
+    requires rival { IsRival round.now.facts meeting.rival }
+    ensures { result ≡ obstacle_of round.now meeting.player meeting.rival }
 {
-    match rival {
-        Rival::Bye => against_bye(round.field, round.bye, player),
-        Rival::Seat(other) => against_meeting(round.report, round.field, player, other),
+    match meeting.rival {
+        Rival::Bye => against_bye(round.field, round.bye, meeting.player),
+        Rival::Seat(other) => against_meeting(round.report, round.field, meeting.player, other),
     }
 }
 
@@ -126,31 +123,14 @@ fn line(alloc: Global, number: u16, what: &str) -> Result<Reply, AllocError>
     ensures { IfOk result (λ reply. answer_of reply ≡ done (instead_text number what.now)) }
 {
     let text = format!(in alloc; "instead {number} {what}\n")?;
-    Ok(Reply {
-        status: Status::Done,
-        text: Text::Made(text),
-    })
-}
-
-// What stands against it.
-fn obstacle_text(alloc: Global, obstacle: Obstacle) -> Result<String, AllocError>
-    ensures { IfOk result (λ text. string_bytes text ≡ obstacle_text obstacle) }
-{
-    match obstacle {
-        Obstacle::Absent => String::from_str(alloc, "absent"),
-        Obstacle::Met { round } => format!(in alloc; "met round {round} C.1"),
-        Obstacle::Apart => String::from_str(alloc, "apart XXP"),
-        Obstacle::Colours => String::from_str(alloc, "colours C.3"),
-        Obstacle::HadBye => String::from_str(alloc, "bye C.2"),
-        Obstacle::Even => String::from_str(alloc, "even"),
-    }
+    Ok(Reply::made(Status::Done, text))
 }
 
 // The line on what stands against it.
 fn stands_against(alloc: Global, number: u16, obstacle: Obstacle) -> Result<Reply, AllocError>
     ensures { IfOk result (λ reply. answer_of reply ≡ done (instead_text number (obstacle_text obstacle))) }
 {
-    let what = obstacle_text(alloc, obstacle)?;
+    let what = obstacle.to_string(alloc)?;
     line(alloc, number, what.as_str())
 }
 
@@ -203,12 +183,12 @@ fn number_in(field: &Field, stage: &Stage, seat: u16) -> u16
 
 // What is wished in a bracket behind which one of the two does not stand: that they meet, if it is the last bracket of
 // both; otherwise that the one who was paired in it is left over.
-fn wish_in(field: &Field, behind: &[Stage], stage: &Stage, asked: Asked) -> Wish
+fn wish_in(field: &Field, behind: &[Stage], stage: &Stage, meeting: Meeting) -> Wish
     requires { IsStage field.now stage.now }
-    ensures { result ≡ wish_in behind.now stage.now asked.player asked.rival }
+    ensures { result ≡ wish_in behind.now stage.now meeting.player meeting.rival }
 {
-    let player = asked.player;
-    let Rival::Seat(other) = asked.rival else {
+    let player = meeting.player;
+    let Rival::Seat(other) = meeting.rival else {
         return Wish::Over(number_in(field, stage, player));
     };
     if stands_in_one(behind, other) {
@@ -223,13 +203,57 @@ fn wish_in(field: &Field, behind: &[Stage], stage: &Stage, asked: Asked) -> Wish
     )
 }
 
-// A line on what is told of a bracket.
-fn in_bracket(alloc: Global, number: u16, stage: &Stage, what: &str) -> Result<Reply, AllocError>
-    ensures { IfOk result (λ reply. answer_of reply ≡ done (in_bracket number stage.now what.now)) }
+// The first bracket behind which one of the two does not stand, and what is wished in it.
+fn decided_in<'a>(field: &Field, stages: &'a [Stage], meeting: Meeting) -> Option<(&'a Stage, Wish)>
+    requires { AllByRecursion (IsStage field.now) stages.now }
+    ensures decided { MatchOption result (decided_in stages.now meeting.player meeting.rival ≡ None)
+        (λ decided. decided_in stages.now meeting.player meeting.rival ≡ Some (decided.0.now, decided.1)) }
+    ensures stage { IfSome result (λ decided. IsStage field.now decided.0.now) }
 {
-    let bracket = stage.reached().number();
-    let what = format!(in alloc; "bracket {bracket} {what}")?;
-    line(alloc, number, what.as_str())
+    let [stage, behind @ ..] = stages else {
+        return None;
+    };
+    if stands_in_one(behind, meeting.player) && goes_on(behind, meeting.rival) {
+        return decided_in(field, behind, meeting);
+    }
+    Some((stage, wish_in(field, behind, stage, meeting)))
+}
+
+// What is answered to a wish in a bracket: that what is chosen there grants it, or what a search for a candidate that
+// does finds.
+fn by_wish(
+    alloc: Global,
+    field: &Field,
+    decided: (&Stage, Wish),
+    asked: Asked,
+) -> Result<Reply, AllocError>
+    requires { IsStage field.now decided.0.now }
+    ensures { IfOk result (λ reply. AnswersWish field.now asked.steps asked.number decided.entry.0.now decided.entry.1
+        (grants decided.entry.1 decided.entry.0.now.candidate.lists) (answer_of reply)) }
+{
+    if decided.1.is_granted(decided.0.candidate()) {
+        return line(alloc, asked.number, "chosen");
+    }
+    by_search(alloc, field, decided, asked)
+}
+
+// What a search for a candidate that grants a wish in a bracket finds.
+#[tactic(auto, using(crate::proofs::InsteadLemmas::searched))]
+fn by_search(
+    alloc: Global,
+    field: &Field,
+    decided: (&Stage, Wish),
+    asked: Asked,
+) -> Result<Reply, AllocError>
+    requires { IsStage field.now decided.0.now }
+    ensures { IfOk result (λ reply. IsSearched field.now asked.steps asked.number decided.entry.0.now decided.entry.1
+        (answer_of reply)) }
+{
+    let (stage, wish) = decided;
+    match best_instead(alloc, field, stage, wish, asked.steps) {
+        Ok(found) => tell(alloc, asked.number, stage, &found),
+        Err(PairFault::OutOfMemory) => Err(AllocError),
+    }
 }
 
 // What is told of what a search in a bracket found.
@@ -251,79 +275,11 @@ fn tell(alloc: Global, number: u16, stage: &Stage, found: &Instead) -> Result<Re
     }
 }
 
-// Searches for a candidate that grants a wish in a bracket.
-fn search(
-    alloc: Global,
-    field: &Field,
-    stage: &Stage,
-    wish: Wish,
-    steps: u64,
-) -> Result<Instead, AllocError>
-    requires { IsStage field.now stage.now }
-    ensures { IfOk result (IsInstead field.now stage.now.reached
-        (lower_of field.now stage.now.reached) stage.now.shape wish steps) }
+// A line on what is told of a bracket.
+fn in_bracket(alloc: Global, number: u16, stage: &Stage, what: &str) -> Result<Reply, AllocError>
+    ensures { IfOk result (λ reply. answer_of reply ≡ done (in_bracket number stage.now what.now)) }
 {
-    match best_instead(alloc, field, stage, wish, steps) {
-        Ok(found) => Ok(found),
-        Err(PairFault::OutOfMemory) => Err(AllocError),
-    }
-}
-
-// The same, and what is told of what it finds.
-#[tactic(auto, using(crate::proofs::InsteadLemmas::searched))]
-fn by_search(
-    alloc: Global,
-    field: &Field,
-    stage: &Stage,
-    wish: Wish,
-    asked: Asked,
-) -> Result<Reply, AllocError>
-    requires { IsStage field.now stage.now }
-    ensures { IfOk result (λ reply. IsSearched field.now asked.steps asked.number stage.now wish (answer_of reply)) }
-{
-    let found = search(alloc, field, stage, wish, asked.steps)?;
-    tell(alloc, asked.number, stage, &found)
-}
-
-// What is answered to a wish in a bracket: that what is chosen there grants it, or what a search for a candidate that
-// does finds.
-fn by_wish(
-    alloc: Global,
-    field: &Field,
-    stage: &Stage,
-    wish: Wish,
-    asked: Asked,
-) -> Result<Reply, AllocError>
-    requires { IsStage field.now stage.now }
-    ensures { IfOk result (λ reply. AnswersWish field.now asked.steps asked.number stage.now wish
-        (grants wish stage.now.candidate.lists) (answer_of reply)) }
-{
-    if wish.is_granted(stage.candidate()) {
-        return line(alloc, asked.number, "chosen");
-    }
-    by_search(alloc, field, stage, wish, asked)
-}
-
-// What is answered by the bracket in which it was decided: the first behind which one of the two does not stand.
-fn by_brackets(
-    alloc: Global,
-    field: &Field,
-    stages: &[Stage],
-    asked: Asked,
-) -> Result<Reply, AllocError>
-    requires { AllByRecursion (IsStage field.now) stages.now }
-    ensures { IfOk result (λ reply. AnswersDecided field.now asked.steps asked.number
-        (decided_in stages.now asked.player asked.rival) (answer_of reply)) }
-{
-    let [stage, behind @ ..] = stages else {
-        return Ok(Reply {
-            status: Status::Done,
-            text: Text::Fixed(""),
-        });
-    };
-    if stands_in_one(behind, asked.player) && goes_on(behind, asked.rival) {
-        return by_brackets(alloc, field, behind, asked);
-    }
-    let wish = wish_in(field, behind, stage, asked);
-    by_wish(alloc, field, stage, wish, asked)
+    let bracket = stage.reached().number();
+    let what = format!(in alloc; "bracket {bracket} {what}")?;
+    line(alloc, number, what.as_str())
 }

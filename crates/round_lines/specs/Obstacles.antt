@@ -1,5 +1,6 @@
 -- What stands against a meeting in the next round, or against the bye, whatever is chosen in a bracket (C.04.3 C.1 to C.3).
-use Rattle.std.specs.Prelude.{ℕ, Bool, true, false, ◌==◌, if◌then◌else◌, List, [], ◌∷◌, Option, Some, None}
+use Rattle.std.specs.Prelude.{ℕ, Bool, true, false, ◌==◌, if◌then◌else◌, List, [], ◌∷◌, ◌++◌, Option, Some, None, codes}
+use Rattle.std.specs.Fmt.{decimal}
 use Rattle.std.specs.List.{find}
 use Rattle.std.specs.Option.{option_map_or}
 use Rattle.dutch_order.specs.Choices.{numbers_from}
@@ -9,7 +10,7 @@ use Rattle.dutch_player.specs.Meetings.{colours_allow}
 use Rattle.trf16.specs.Absence.{apart}
 use Rattle.trf16.specs.Sheet.{Sheet, cell_in, rounds_played}
 use Rattle.round_lines.specs.declared.obstacle.Obstacle.{Obstacle}
-use Rattle.round_lines.specs.declared.obstacle.Obstacle.TheVariants.{Met, Apart, Colours, HadBye, Even}
+use Rattle.round_lines.specs.declared.obstacle.Obstacle.TheVariants.{Absent, Met, Apart, Colours, HadBye, Even}
 
 -- C.1: one has played a game against the other in a round; a forfeit is none
 abbrev pub has_played : Sheet → ℕ → ℕ → ℕ → Bool
@@ -40,3 +41,12 @@ is_even (seat ∷ seats) = None
 -- C.2: what stands first against the bye of a seat, where these have it
 abbrev pub against_bye : Facts → List ℕ → ℕ → Option Obstacle
 against_bye facts bye seat = if (seat_at facts seat).may_bye then is_even bye else Some HadBye
+
+-- an obstacle as it is told
+abbrev pub obstacle_text : Obstacle → List ℕ
+obstacle_text Absent = codes "absent"
+obstacle_text (Met round) = codes "met round " ++ (decimal round ++ codes " C.1")
+obstacle_text Apart = codes "apart XXP"
+obstacle_text Colours = codes "colours C.3"
+obstacle_text HadBye = codes "bye C.2"
+obstacle_text Even = codes "even"

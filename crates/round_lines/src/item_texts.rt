@@ -11,8 +11,8 @@ ghost use Rattle.round_lines.specs.ItemTexts.{psd_text};
 
 use dutch_bracket::{BracketKind, Item, Quality};
 use dutch_player::Field;
-use replies::texts::halves;
-use std::alloc::{AllocError, Global};
+use replies::points::HalfPoints;
+use std::alloc::AllocError;
 
 /// The article of an item.
 pub fn article(item: Item) -> &'static str
@@ -37,72 +37,55 @@ pub fn article(item: Item) -> &'static str
 }
 
 /// Puts a list of differences, always.
-pub fn put_psd(
-    alloc: Global,
-    text: &mut String,
-    item: Item,
-    differences: &[u16],
-) -> Result<(), AllocError>
+pub fn put_psd(text: &mut String, item: Item, differences: &[u16]) -> Result<(), AllocError>
     ensures { OnOk result (string_bytes text.new ≡ string_bytes text.old ++ psd_text item differences.now) }
 {
     text.push_str(article(item))?;
-    put_differences(alloc, text, differences)?;
+    put_differences(text, differences)?;
     text.push_str("\n")
 }
 
 /// Puts a list of differences, if there are some.
-pub fn put_list(
-    alloc: Global,
-    text: &mut String,
-    item: Item,
-    differences: &[u16],
-) -> Result<(), AllocError>
+pub fn put_list(text: &mut String, item: Item, differences: &[u16]) -> Result<(), AllocError>
     ensures { OnOk result (string_bytes text.new ≡ string_bytes text.old ++ list_text item differences.now) }
 {
     if differences.is_empty() {
         return Ok(());
     }
-    put_psd(alloc, text, item, differences)
+    put_psd(text, item, differences)
 }
 
-// Puts differences as points, or a dash for none.
-fn put_differences(alloc: Global, text: &mut String, differences: &[u16]) -> Result<(), AllocError>
+// Puts differences as points, each behind a blank, or a dash for none.
+fn put_differences(text: &mut String, differences: &[u16]) -> Result<(), AllocError>
     ensures { OnOk result (string_bytes text.new ≡ string_bytes text.old ++ differences_text differences.now) }
 {
     if differences.is_empty() {
         return text.push_str(" -");
     }
-    put_each(alloc, text, differences)
+    put_points(text, " ", differences)
 }
 
-// Puts half points as points, one after the other.
-fn put_each(alloc: Global, text: &mut String, all: &[u16]) -> Result<(), AllocError>
+/// Puts half points as points, each behind a mark.
+pub fn put_points(text: &mut String, mark: &str, all: &[u16]) -> Result<(), AllocError>
     ensures { OnOk result (string_bytes text.new
-        ≡ string_bytes text.old ++ flat_map (λ one. codes " " ++ halves_text one) all.now) }
+        ≡ string_bytes text.old ++ flat_map (λ half. mark.now ++ halves_text half) all.now) }
 {
-    for one in all {
-        text.push_str(" ")?;
-        let points = halves(alloc, u32::from(*one))?;
-        text.push_str(points.as_str())?;
+    for half in all {
+        let points = HalfPoints(u32::from(*half));
+        write!(text, "{mark}{points}")?;
     }
     Ok(())
 }
 
 /// Puts what the next bracket can be, of an ordinary bracket.
-pub fn put_next(
-    alloc: Global,
-    text: &mut String,
-    kind: BracketKind,
-    quality: &Quality,
-) -> Result<(), AllocError>
+pub fn put_next(text: &mut String, kind: BracketKind, quality: &Quality) -> Result<(), AllocError>
     ensures { OnOk result (string_bytes text.new ≡ string_bytes text.old ++ next_text kind (quality_in quality.now)) }
 {
     match kind {
         BracketKind::Ordinary => {
             let pairs = quality.next_pairs();
-            let front = format!(in alloc; "C.7 {pairs}")?;
-            text.push_str(front.as_str())?;
-            put_differences(alloc, text, quality.next_psd())?;
+            write!(text, "C.7 {pairs}")?;
+            put_differences(text, quality.next_psd())?;
             text.push_str("\n")
         }
         BracketKind::Last | BracketKind::Penultimate | BracketKind::Collapsed => Ok(()),
@@ -132,17 +115,11 @@ pub fn players_counted(quality: &Quality, item: Item) -> usize
 }
 
 /// Puts how many players count.
-pub fn put_many(
-    alloc: Global,
-    text: &mut String,
-    item: Item,
-    count: usize,
-) -> Result<(), AllocError>
+pub fn put_many(text: &mut String, item: Item, count: usize) -> Result<(), AllocError>
     ensures { OnOk result (string_bytes text.new ≡ string_bytes text.old ++ many_text item count) }
 {
-    text.push_str(article(item))?;
-    let players = format!(in alloc; " {count} players")?;
-    text.push_str(players.as_str())
+    let article = article(item);
+    write!(text, "{article} {count} players")
 }
 
 // The start rank of a seat; 0 behind the last one.
@@ -157,19 +134,13 @@ fn start_at(field: &Field, seat: u16) -> u16
 }
 
 /// Puts the start ranks of seats.
-pub fn put_ranks(
-    alloc: Global,
-    text: &mut String,
-    field: &Field,
-    seats: &[u16],
-) -> Result<(), AllocError>
+pub fn put_ranks(text: &mut String, field: &Field, seats: &[u16]) -> Result<(), AllocError>
     ensures { OnOk result (string_bytes text.new
         ≡ string_bytes text.old ++ flat_map (λ seat. codes " " ++ rank_text field.now seat) seats.now) }
 {
     for seat in seats {
         let start = start_at(field, *seat);
-        let player = format!(in alloc; " {start}")?;
-        text.push_str(player.as_str())?;
+        write!(text, " {start}")?;
     }
     Ok(())
 }

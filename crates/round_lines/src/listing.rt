@@ -68,7 +68,7 @@ pub fn lines<R: Rule>(
     let mut done = 0;
     while done < count {
         match coming.next(budget) {
-            Step::Found(candidate) => put_line(alloc, &mut text, field, reached, &candidate)?,
+            Step::Found(candidate) => put_line(&mut text, field, reached, &candidate)?,
             Step::End => {
                 let ending = Ending::AtEnd;
                 return Ok(Listed { text, ending });
@@ -87,7 +87,6 @@ pub fn lines<R: Rule>(
 /// Puts the line of a candidate: its cursor, its pairs, and its downfloaters.
 #[tactic(auto, unfolding(crate::specs::CandidateTexts::candidate_text))]
 pub fn put_line(
-    alloc: Global,
     text: &mut String,
     field: &Field,
     reached: &Reached,
@@ -97,107 +96,92 @@ pub fn put_line(
     ensures { OnOk result (string_bytes text.new
         ≡ string_bytes text.old ++ candidate_text field.now reached.now candidate.now) }
 {
+    let bracket = Bracket { field, reached };
     text.push_str(candidate.cursor().print().as_str())?;
-    put_pairs(alloc, text, field, reached, candidate.s1(), candidate.s2())?;
-    put_pairs(
-        alloc,
-        text,
-        field,
-        reached,
-        candidate.s1r(),
-        candidate.s2r(),
-    )?;
-    put_down(alloc, text, field, reached, candidate.down())?;
+    put_pairs(text, &bracket, candidate.s1(), candidate.s2())?;
+    put_pairs(text, &bracket, candidate.s1r(), candidate.s2r())?;
+    put_down(text, &bracket, candidate.down())?;
     text.push_str("\n")
+}
+
+// A bracket of a field, whose numbers are told as start ranks.
+#[derive(Drop)]
+struct Bracket<'a> {
+    field: &'a Field,
+    reached: &'a Reached,
+}
+
+impl<'a> Bracket<'a> {
+    // The start rank of a number; 0 for a number that is none of the bracket's.
+    fn start_of(&self, number: u16) -> u16
+        requires { IsOf self.now.field.now self.now.reached.now }
+        ensures { result ≡ start_of self.now.field.now self.now.reached.now number }
+    {
+        if !self.reached.has(number) {
+            return 0;
+        }
+        self.field.start_rank(self.reached.seat(number))
+    }
 }
 
 // Puts the pairs of two lists, place by place.
 #[tactic(auto, using(crate::proofs::ListingLemmas::pairs_end))]
 fn put_pairs(
-    alloc: Global,
     text: &mut String,
-    field: &Field,
-    reached: &Reached,
+    bracket: &Bracket<'_>,
     firsts: &[u16],
     seconds: &[u16],
 ) -> Result<(), AllocError>
-    requires { IsOf field.now reached.now }
-    ensures { OnOk result (string_bytes text.new
-        ≡ string_bytes text.old ++ pairs_text field.now reached.now firsts.now seconds.now) }
+    requires { IsOf bracket.now.field.now bracket.now.reached.now }
+    ensures { OnOk result (string_bytes text.new ≡ string_bytes text.old
+        ++ pairs_text bracket.now.field.now bracket.now.reached.now firsts.now seconds.now) }
 {
     for (i, first) in firsts.iter().enumerate() {
         if seconds.len() <= i {
             return Ok(());
         }
-        put_pair(alloc, text, field, reached, *first, seconds[i])?;
+        put_pair(text, bracket, *first, seconds[i])?;
     }
     Ok(())
 }
 
 // Puts two who are paired.
 fn put_pair(
-    alloc: Global,
     text: &mut String,
-    field: &Field,
-    reached: &Reached,
+    bracket: &Bracket<'_>,
     first: u16,
     second: u16,
 ) -> Result<(), AllocError>
-    requires { IsOf field.now reached.now }
+    requires { IsOf bracket.now.field.now bracket.now.reached.now }
     ensures { OnOk result (string_bytes text.new
-        ≡ string_bytes text.old ++ pair_text field.now reached.now first second) }
+        ≡ string_bytes text.old ++ pair_text bracket.now.field.now bracket.now.reached.now first second) }
 {
-    let first = start_of(field, reached, first);
-    let second = start_of(field, reached, second);
-    let pair = format!(in alloc; " {first}-{second}")?;
-    text.push_str(pair.as_str())
+    let (first, second) = (bracket.start_of(first), bracket.start_of(second));
+    write!(text, " {first}-{second}")
 }
 
 // Puts those who are left over.
-fn put_down(
-    alloc: Global,
-    text: &mut String,
-    field: &Field,
-    reached: &Reached,
-    down: &[u16],
-) -> Result<(), AllocError>
-    requires { IsOf field.now reached.now }
-    ensures { OnOk result (string_bytes text.new ≡ string_bytes text.old ++ down_text field.now reached.now down.now) }
+fn put_down(text: &mut String, bracket: &Bracket<'_>, down: &[u16]) -> Result<(), AllocError>
+    requires { IsOf bracket.now.field.now bracket.now.reached.now }
+    ensures { OnOk result (string_bytes text.new
+        ≡ string_bytes text.old ++ down_text bracket.now.field.now bracket.now.reached.now down.now) }
 {
     if down.is_empty() {
         return Ok(());
     }
     text.push_str(" down")?;
-    put_each(alloc, text, field, reached, down)
+    put_each(text, bracket, down)
 }
 
 // Puts players with a blank before each.
-fn put_each(
-    alloc: Global,
-    text: &mut String,
-    field: &Field,
-    reached: &Reached,
-    numbers: &[u16],
-) -> Result<(), AllocError>
-    requires { IsOf field.now reached.now }
+fn put_each(text: &mut String, bracket: &Bracket<'_>, numbers: &[u16]) -> Result<(), AllocError>
+    requires { IsOf bracket.now.field.now bracket.now.reached.now }
     ensures { OnOk result (string_bytes text.new ≡ string_bytes text.old
-        ++ flat_map (λ n. codes " " ++ decimal (start_of field.now reached.now n)) numbers.now) }
+        ++ flat_map (λ n. codes " " ++ decimal (start_of bracket.now.field.now bracket.now.reached.now n)) numbers.now) }
 {
     for number in numbers {
-        let start = start_of(field, reached, *number);
-        let player = format!(in alloc; " {start}")?;
-        text.push_str(player.as_str())?;
+        let start = bracket.start_of(*number);
+        write!(text, " {start}")?;
     }
     Ok(())
-}
-
-// The start rank of a number of a bracket; 0 for a number that is none of its.
-fn start_of(field: &Field, reached: &Reached, number: u16) -> u16
-    requires { IsOf field.now reached.now }
-    ensures { result ≡ start_of field.now reached.now number }
-{
-    if !reached.has(number) {
-        return 0;
-    }
-    field.start_rank(reached.seat(number))
 }

@@ -1,9 +1,10 @@
 // What stands against a meeting in the next round, or against the bye, whatever is chosen in a bracket (C.04.3 C.1 to
 // C.3).
-ghost use Rattle.std.specs.Prelude.{◌≡◌, ◌<◌, length};
+ghost use Rattle.std.specs.Prelude.{◌≡◌, ◌<◌, Some, length};
 ghost use Rattle.round_lines.specs.Obstacles.{against_bye, against_meeting, first_meeting, has_played};
 
 use dutch_player::{Field, opponent_played};
+use std::fmt;
 use trf16::Report;
 
 /// Why a player does not meet another one in the next round, or does not have the bye, whatever is chosen in a bracket.
@@ -21,6 +22,23 @@ pub enum Obstacle {
     HadBye,
     /// Nobody has the bye.
     Even,
+}
+
+impl fmt::Display for Obstacle {
+    ghost use Rattle.round_lines.specs.Obstacles.{obstacle_text};
+
+    ghost output = { λ obstacle. Some (obstacle_text obstacle) };
+
+    fn fmt<W: fmt::Write>(&self, f: &mut fmt::Formatter<W>) -> fmt::Result {
+        match *self {
+            Obstacle::Absent => f.write_str("absent"),
+            Obstacle::Met { round } => write!(f, "met round {round} C.1"),
+            Obstacle::Apart => f.write_str("apart XXP"),
+            Obstacle::Colours => f.write_str("colours C.3"),
+            Obstacle::HadBye => f.write_str("bye C.2"),
+            Obstacle::Even => f.write_str("even"),
+        }
+    }
 }
 
 // Whether one has played a game against the other in a round.

@@ -3,7 +3,6 @@ ghost use Rattle.std.specs.Prelude.{◌≡◌, ◌<◌, ◌++◌, IfOk, OnOk, co
 ghost use Rattle.std.specs.List.{flat_map};
 ghost use Rattle.std.specs.Fmt.{decimal};
 ghost use Rattle.dutch_player.specs.Facts.{seat_at};
-ghost use Rattle.dutch_player.specs.Preferences.{difference as difference_of};
 ghost use Rattle.trf16.specs.Sheet.{rounds_played};
 ghost use Rattle.round_lines.specs.PlayerTexts.{absent_text, ascending, colour_text, colours_text, difference_text};
 ghost use Rattle.round_lines.specs.PlayerTexts.{float_text, floats_text, game_text, games_text, history_text};
@@ -11,7 +10,7 @@ ghost use Rattle.round_lines.specs.PlayerTexts.{met_text, placed, player_text, p
 ghost use Rattle.round_lines.specs.PlayerTexts.{score_text, strength_text, wish_text, yes_text};
 
 use dutch_player::{Field, Float, Pref, Strength, colour_played};
-use replies::texts::halves;
+use replies::points::HalfPoints;
 use std::alloc::{AllocError, Global};
 use trf16::{Colour, Report};
 
@@ -23,7 +22,6 @@ use trf16::{Colour, Report};
 /// Memory was refused.
 #[tactic(auto, unfolding(crate::specs::PlayerTexts::player_text))]
 pub fn put_player(
-    alloc: Global,
     text: &mut String,
     report: &Report<'_>,
     field: &Field,
@@ -32,17 +30,16 @@ pub fn put_player(
     requires { seat < length field.now.seats }
     ensures { OnOk result (string_bytes text.new ≡ string_bytes text.old ++ player_text report.now field.now seat) }
 {
-    put_history(alloc, text, report, field, seat)?;
+    put_history(text, report, field, seat)?;
     put_floats(text, field, seat)?;
     text.push_str(" met")?;
-    put_met(alloc, text, field.opponents(seat))?;
+    put_met(text, field.opponents(seat))?;
     put_rights(text, field, seat)
 }
 
 // Puts a player's score and colours.
 #[tactic(auto, unfolding(crate::specs::PlayerTexts::history_text))]
 fn put_history(
-    alloc: Global,
     text: &mut String,
     report: &Report<'_>,
     field: &Field,
@@ -52,34 +49,31 @@ fn put_history(
     ensures { OnOk result (string_bytes text.new
         ≡ string_bytes text.old ++ history_text report.now (seat_at field.now seat)) }
 {
-    put_score(alloc, text, field, seat)?;
+    put_score(text, field, seat)?;
     text.push_str(" colours")?;
     put_colours(text, report, field.start_rank(seat))?;
-    put_wish(alloc, text, field, seat)
+    put_wish(text, field, seat)
 }
 
 /// Puts the line of a player who is absent.
 ///
 /// # Errors
 /// Memory was refused.
-pub fn put_absent(alloc: Global, text: &mut String, start: u16) -> Result<(), AllocError>
+pub fn put_absent(text: &mut String, start: u16) -> Result<(), AllocError>
     ensures { OnOk result (string_bytes text.new ≡ string_bytes text.old ++ absent_text start) }
 {
-    let line = format!(in alloc; "player {start} absent\n")?;
-    text.push_str(line.as_str())
+    write!(text, "player {start} absent\n")
 }
 
 // Puts who a player is, and their score.
 #[tactic(auto, unfolding(crate::specs::PlayerTexts::score_text))]
-fn put_score(alloc: Global, text: &mut String, field: &Field, seat: u16) -> Result<(), AllocError>
+fn put_score(text: &mut String, field: &Field, seat: u16) -> Result<(), AllocError>
     requires { seat < length field.now.seats }
     ensures { OnOk result (string_bytes text.new ≡ string_bytes text.old ++ score_text (seat_at field.now seat)) }
 {
     let start = field.start_rank(seat);
-    let score = halves(alloc, u32::from(field.score(seat)))?;
-    let score = score.as_str();
-    let front = format!(in alloc; "player {start} score {score}")?;
-    text.push_str(front.as_str())
+    let score = HalfPoints(u32::from(field.score(seat)));
+    write!(text, "player {start} score {score}")
 }
 
 // The colour of a game that was played.
@@ -121,14 +115,14 @@ fn put_colours(text: &mut String, report: &Report<'_>, start: u16) -> Result<(),
     put_games(text, report, start, rounds)
 }
 
-// A colour difference, with its sign.
-fn difference(alloc: Global, games: i16) -> Result<String, AllocError>
-    ensures { IfOk result (λ text. string_bytes text ≡ difference_text games) }
+// Puts a colour difference, with its sign.
+fn put_difference(text: &mut String, games: i16) -> Result<(), AllocError>
+    ensures { OnOk result (string_bytes text.new ≡ string_bytes text.old ++ difference_text games) }
 {
     if 0 < games {
-        format!(in alloc; "+{games}")
+        write!(text, "+{games}")
     } else {
-        format!(in alloc; "{games}")
+        write!(text, "{games}")
     }
 }
 
@@ -158,34 +152,18 @@ fn put_preference(text: &mut String, preference: Option<Pref>) -> Result<(), All
     let Some(wish) = preference else {
         return text.push_str("none");
     };
-    text.push_str(strength(wish.strength))?;
-    text.push_str(" ")?;
-    text.push_str(colour(wish.colour))
-}
-
-// Puts a player's colour difference.
-fn put_difference(
-    alloc: Global,
-    text: &mut String,
-    field: &Field,
-    seat: u16,
-) -> Result<(), AllocError>
-    requires { seat < length field.now.seats }
-    ensures { OnOk result (string_bytes text.new
-        ≡ string_bytes text.old ++ difference_text (difference_of (seat_at field.now seat).played)) }
-{
-    let games = difference(alloc, field.difference(seat))?;
-    text.push_str(games.as_str())
+    let (strength, colour) = (strength(wish.strength), colour(wish.colour));
+    write!(text, "{strength} {colour}")
 }
 
 // Puts what a player's colours come to.
 #[tactic(auto, unfolding(crate::specs::PlayerTexts::wish_text))]
-fn put_wish(alloc: Global, text: &mut String, field: &Field, seat: u16) -> Result<(), AllocError>
+fn put_wish(text: &mut String, field: &Field, seat: u16) -> Result<(), AllocError>
     requires { seat < length field.now.seats }
     ensures { OnOk result (string_bytes text.new ≡ string_bytes text.old ++ wish_text (seat_at field.now seat)) }
 {
     text.push_str(" difference ")?;
-    put_difference(alloc, text, field, seat)?;
+    put_difference(text, field.difference(seat))?;
     text.push_str(" prefers ")?;
     put_preference(text, field.preference(seat))
 }
@@ -206,10 +184,8 @@ fn put_floats(text: &mut String, field: &Field, seat: u16) -> Result<(), AllocEr
     requires { seat < length field.now.seats }
     ensures { OnOk result (string_bytes text.new ≡ string_bytes text.old ++ floats_text (seat_at field.now seat)) }
 {
-    text.push_str(" floats ")?;
-    text.push_str(float(field.float(seat, 1)))?;
-    text.push_str(" ")?;
-    text.push_str(float(field.float(seat, 2)))
+    let (latest, earlier) = (float(field.float(seat, 1)), float(field.float(seat, 2)));
+    write!(text, " floats {latest} {earlier}")
 }
 
 // Puts a number to its place among ascending ones, where it does not stand among them.
@@ -244,27 +220,26 @@ fn ascending(alloc: Global, numbers: &[u16]) -> Result<Vec<u16>, AllocError>
 }
 
 // Puts start ranks with a blank before each.
-fn put_each(alloc: Global, text: &mut String, starts: &[u16]) -> Result<(), AllocError>
+fn put_each(text: &mut String, starts: &[u16]) -> Result<(), AllocError>
     ensures { OnOk result (string_bytes text.new
         ≡ string_bytes text.old ++ flat_map (λ start. codes " " ++ decimal start) starts.now) }
 {
     for start in starts {
         let one = *start;
-        let player = format!(in alloc; " {one}")?;
-        text.push_str(player.as_str())?;
+        write!(text, " {one}")?;
     }
     Ok(())
 }
 
 // Puts those whom a player has met.
-fn put_met(alloc: Global, text: &mut String, opponents: &[u16]) -> Result<(), AllocError>
+fn put_met(text: &mut String, opponents: &[u16]) -> Result<(), AllocError>
     ensures { OnOk result (string_bytes text.new ≡ string_bytes text.old ++ met_text opponents.now) }
 {
     if opponents.is_empty() {
         return text.push_str(" -");
     }
-    let met = ascending(alloc, opponents)?;
-    put_each(alloc, text, met.as_slice())
+    let met = ascending(*text.allocator(), opponents)?;
+    put_each(text, met.as_slice())
 }
 
 fn yes(holds: bool) -> &'static str
@@ -280,9 +255,6 @@ fn put_rights(text: &mut String, field: &Field, seat: u16) -> Result<(), AllocEr
     ensures { OnOk result (string_bytes text.new
         ≡ string_bytes text.old ++ rights_text field.now (seat_at field.now seat)) }
 {
-    text.push_str(" topscorer ")?;
-    text.push_str(yes(field.topscorer(seat)))?;
-    text.push_str(" bye ")?;
-    text.push_str(yes(field.may_bye(seat)))?;
-    text.push_str("\n")
+    let (topscorer, bye) = (yes(field.topscorer(seat)), yes(field.may_bye(seat)));
+    write!(text, " topscorer {topscorer} bye {bye}\n")
 }

@@ -1,36 +1,13 @@
 // The values of a quality's items as texts (C.04.3 C.6 to C.19).
-ghost use Rattle.std.specs.Prelude.{◌≡◌, ◌++◌, IfOk, OnOk, codes, string_bytes};
-ghost use Rattle.std.specs.Fmt.{decimal};
-ghost use Rattle.std.specs.List.{flat_map};
+ghost use Rattle.std.specs.Prelude.{◌≡◌, IfOk, string_bytes};
 ghost use Rattle.dutch_bracket.specs.QualityIn.{quality_in};
 ghost use Rattle.round_lines.specs.ValueTexts.{against_text, candidate_text, next_text, points_text, value_text};
-ghost use Rattle.replies.specs.Texts.{halves_text};
 
-use crate::item_texts::article;
+use crate::item_texts::{article, put_points};
 use dutch_bracket::{Item, Quality};
 use dutch_order::Candidate;
-use replies::texts::halves;
+use replies::points::HalfPoints;
 use std::alloc::{AllocError, Global};
-
-// Puts differences as points, with a comma before each.
-fn put_more(alloc: Global, text: &mut String, differences: &[u16]) -> Result<(), AllocError>
-    ensures { OnOk result (string_bytes text.new
-        ≡ string_bytes text.old ++ flat_map (λ more. codes "," ++ halves_text more) differences.now) }
-{
-    for difference in differences {
-        put_one(alloc, text, *difference)?;
-    }
-    Ok(())
-}
-
-// Puts one with a comma before it.
-fn put_one(alloc: Global, text: &mut String, difference: u16) -> Result<(), AllocError>
-    ensures { OnOk result (string_bytes text.new ≡ string_bytes text.old ++ (codes "," ++ halves_text difference)) }
-{
-    text.push_str(",")?;
-    let points = halves(alloc, u32::from(difference))?;
-    text.push_str(points.as_str())
-}
 
 // Differences as points, with commas between them.
 fn points(alloc: Global, differences: &[u16]) -> Result<String, AllocError>
@@ -39,15 +16,9 @@ fn points(alloc: Global, differences: &[u16]) -> Result<String, AllocError>
     let [first, others @ ..] = differences else {
         return String::from_str(alloc, "-");
     };
-    let mut text = halves(alloc, u32::from(*first))?;
-    put_more(alloc, &mut text, others)?;
+    let mut text = HalfPoints(u32::from(*first)).to_string(alloc)?;
+    put_points(&mut text, ",", others)?;
     Ok(text)
-}
-
-fn count(alloc: Global, count: usize) -> Result<String, AllocError>
-    ensures { IfOk result (λ text. string_bytes text ≡ decimal count) }
-{
-    format!(in alloc; "{count}")
 }
 
 // The pairs of the next bracket; if the other quality has as many, their PSD.
@@ -57,7 +28,7 @@ fn next(alloc: Global, mine: &Quality, theirs: &Quality) -> Result<String, Alloc
     if mine.next_pairs() == theirs.next_pairs() {
         points(alloc, mine.next_psd())
     } else {
-        count(alloc, mine.next_pairs())
+        mine.next_pairs().to_string(alloc)
     }
 }
 
@@ -68,14 +39,14 @@ fn value(alloc: Global, item: Item, mine: &Quality, theirs: &Quality) -> Result<
     match item {
         Item::Psd => points(alloc, mine.psd()),
         Item::NextBracket => next(alloc, mine, theirs),
-        Item::WideDifferences => count(alloc, usize::from(mine.wide_differences())),
-        Item::ThirdColours => count(alloc, usize::from(mine.third_colours())),
-        Item::MissedPreferences => count(alloc, usize::from(mine.missed_preferences())),
-        Item::MissedStrong => count(alloc, usize::from(mine.missed_strong())),
-        Item::DownAgain => count(alloc, mine.down_again()),
-        Item::UpAgain => count(alloc, mine.up_again()),
-        Item::DownAgainBefore => count(alloc, mine.down_again_before()),
-        Item::UpAgainBefore => count(alloc, mine.up_again_before()),
+        Item::WideDifferences => mine.wide_differences().to_string(alloc),
+        Item::ThirdColours => mine.third_colours().to_string(alloc),
+        Item::MissedPreferences => mine.missed_preferences().to_string(alloc),
+        Item::MissedStrong => mine.missed_strong().to_string(alloc),
+        Item::DownAgain => mine.down_again().to_string(alloc),
+        Item::UpAgain => mine.up_again().to_string(alloc),
+        Item::DownAgainBefore => mine.down_again_before().to_string(alloc),
+        Item::UpAgainBefore => mine.up_again_before().to_string(alloc),
         Item::DownAgainBy => points(alloc, mine.down_again_by()),
         Item::UpAgainBy => points(alloc, mine.up_again_by()),
         Item::DownAgainBeforeBy => points(alloc, mine.down_again_before_by()),
@@ -98,11 +69,8 @@ fn against(
         return String::from_str(alloc, " behind");
     };
     let article = article(item);
-    let (own, other) = (
-        value(alloc, item, mine, chosen)?,
-        value(alloc, item, chosen, mine)?,
-    );
-    let (own, other) = (own.as_str(), other.as_str());
+    let own = value(alloc, item, mine, chosen)?;
+    let other = value(alloc, item, chosen, mine)?;
     format!(in alloc; " {article} {own} {other}")
 }
 
@@ -122,6 +90,6 @@ pub fn candidate(
 {
     let cursor = candidate.cursor().print();
     let against = against(alloc, mine, chosen, mine.first_difference(chosen))?;
-    let (cursor, against) = (cursor.as_str(), against.as_str());
+    let cursor = cursor.as_str();
     format!(in alloc; "{cursor}{against}")
 }

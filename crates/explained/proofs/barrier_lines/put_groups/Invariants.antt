@@ -1,6 +1,5 @@
 -- The groups so far and those to come make all of them.
-use Rattle.std.proofs.Common.{◌≡◌, ◌++◌, drop}
-use Rattle.std.specs.Prelude.{string_bytes}
+use Rattle.std.proofs.Common.{◌≡◌, ◌++◌, drop, string_bytes}
 use Rattle.explained.specs.BarrierTexts.{groups_text}
 use Rattle.explained.proofs.barrier_lines.put_groups.Given as goal
 

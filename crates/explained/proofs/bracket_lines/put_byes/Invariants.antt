@@ -1,6 +1,5 @@
 -- Those left over so far and those to come make all of them.
-use Rattle.std.proofs.Common.{◌≡◌, ◌++◌, drop}
-use Rattle.std.specs.Prelude.{string_bytes}
+use Rattle.std.proofs.Common.{◌≡◌, ◌++◌, drop, string_bytes}
 use Rattle.explained.specs.ExplainTexts.{left_text}
 use Rattle.explained.proofs.bracket_lines.put_byes.Given as goal
 

@@ -1,7 +1,5 @@
 -- The players so far and those to come make all of them.
-use Rattle.std.proofs.Common.{◌≡◌, ◌++◌, drop}
-use Rattle.std.specs.Prelude.{string_bytes}
-use Rattle.std.specs.List.{flat_map}
+use Rattle.std.proofs.Common.{◌≡◌, ◌++◌, drop, string_bytes, flat_map}
 use Rattle.explained.specs.ExplainTexts.{scored_text}
 use Rattle.explained.proofs.bracket_lines.put_scored.Given as goal
 

@@ -1,6 +1,5 @@
 -- The brackets so far and those to come make all of them.
-use Rattle.std.proofs.Common.{◌≡◌, ◌++◌, drop}
-use Rattle.std.specs.Prelude.{string_bytes}
+use Rattle.std.proofs.Common.{◌≡◌, ◌++◌, drop, string_bytes}
 use Rattle.explained.specs.ExplainTexts.{stages_text}
 use Rattle.explained.proofs.bracket_lines.put_stages.Given as goal
 

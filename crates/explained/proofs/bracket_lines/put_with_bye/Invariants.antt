@@ -1,7 +1,5 @@
 -- Those who have the bye so far and those to come are all of them.
-use Rattle.std.proofs.Common.{◌≡◌, ◌++◌, drop}
-use Rattle.std.specs.Prelude.{string_bytes}
-use Rattle.std.specs.List.{flat_map}
+use Rattle.std.proofs.Common.{◌≡◌, ◌++◌, drop, string_bytes, flat_map}
 use Rattle.explained.specs.ExplainTexts.{bye_text}
 use Rattle.explained.proofs.bracket_lines.put_with_bye.Given as goal
 

@@ -1,6 +1,5 @@
 -- The count, who counts, and the end of the line.
-use Rattle.std.proofs.Common.{◌≡◌, ◌∙◌, ◌==◌, false, ap, arith}
-use Rattle.std.specs.Prelude.{string_bytes}
+use Rattle.std.proofs.Common.{◌≡◌, ◌∙◌, ◌==◌, false, ap, arith, string_bytes}
 use Rattle.std.proofs.lemmas.Bool.Decides.{nat_tests}
 use Rattle.dutch_bracket.specs.Items.{players_counted}
 use Rattle.dutch_bracket.specs.QualityIn.{quality_in}

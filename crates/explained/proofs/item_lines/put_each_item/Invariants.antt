@@ -1,7 +1,5 @@
 -- The items so far and those to come make all of them.
-use Rattle.std.proofs.Common.{◌≡◌, ◌++◌, drop}
-use Rattle.std.specs.Prelude.{string_bytes}
-use Rattle.std.specs.List.{flat_map}
+use Rattle.std.proofs.Common.{◌≡◌, ◌++◌, drop, string_bytes, flat_map}
 use Rattle.explained.specs.StageItems.{item_text}
 use Rattle.explained.proofs.item_lines.put_each_item.Given as goal
 

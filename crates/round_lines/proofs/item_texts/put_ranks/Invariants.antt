@@ -1,7 +1,5 @@
 -- The players so far and those to come make all of them.
-use Rattle.std.proofs.Common.{◌≡◌, ◌++◌, drop}
-use Rattle.std.specs.Prelude.{codes, string_bytes}
-use Rattle.std.specs.List.{flat_map}
+use Rattle.std.proofs.Common.{◌≡◌, ◌++◌, drop, codes, string_bytes, flat_map}
 use Rattle.round_lines.specs.CandidateTexts.{rank_text}
 use Rattle.round_lines.proofs.item_texts.put_ranks.Given as goal
 

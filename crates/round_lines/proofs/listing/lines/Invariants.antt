@@ -1,5 +1,4 @@
-use Rattle.std.proofs.Common.{◌≡◌, ◌≤◌, ◌-◌}
-use Rattle.std.specs.Prelude.{string_bytes}
+use Rattle.std.proofs.Common.{◌≡◌, ◌≤◌, ◌-◌, string_bytes}
 use Rattle.dutch_order.specs.Steps.{Spends}
 use Rattle.dutch_bracket.specs.Reached.{frame_of}
 use Rattle.round_lines.specs.CandidateTexts.{line_text}

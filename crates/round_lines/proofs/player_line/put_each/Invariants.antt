@@ -1,6 +1,4 @@
-use Rattle.std.proofs.Common.{◌≡◌, ◌++◌, take}
-use Rattle.std.specs.Prelude.{codes, decimal, string_bytes}
-use Rattle.std.specs.List.{flat_map}
+use Rattle.std.proofs.Common.{◌≡◌, ◌++◌, take, codes, decimal, string_bytes, flat_map}
 use Rattle.round_lines.proofs.player_line.put_each.Given as goal
 
 abbrev pub invariant-loop-start : goal.invariant-loop-start

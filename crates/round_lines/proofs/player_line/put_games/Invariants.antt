@@ -1,5 +1,4 @@
-use Rattle.std.proofs.Common.{◌≡◌, ◌++◌}
-use Rattle.std.specs.Prelude.{string_bytes}
+use Rattle.std.proofs.Common.{◌≡◌, ◌++◌, string_bytes}
 use Rattle.round_lines.specs.PlayerTexts.{games_text}
 use Rattle.round_lines.proofs.player_line.put_games.Given as goal
 
