@@ -9,8 +9,10 @@ use Rattle.dutch_pair.specs.Outcomes.{IsBracketAt}
 use Rattle.dutch_bracket.specs.Reached.{Reached}
 use Rattle.dutch_player.specs.Facts.{Facts}
 use Rattle.dutch_pair.specs.declared.round.BracketAt.{BracketAt}
+use Rattle.dutch_pair.specs.declared.round.BracketAt.TheVariants.{Bracket, NotReached, NoPairing as NoPairingAt, Undecided as UndecidedAt}
 use Rattle.dutch_order.specs.declared.cursor.CursorFault.{CursorFault}
 use Rattle.command_line.specs.CandidateAnswers.{IsAnswerToField, Lists, AnswersFound, coming_of}
+use Rattle.command_line.specs.Known.{CanBeListed}
 use Rattle.round_lines.specs.CandidateTexts.{bracket_text, line_text}
 use Rattle.round_lines.specs.Listings.{IsListing, ending_text, status_of}
 use Rattle.replies.specs.Replies.{answer_of}
@@ -47,3 +49,10 @@ pub told : (options : CandidatesOptions) (facts : Facts) (found : BracketAt) {E 
     → IfOk r (λ reply. AnswersFound options facts found (answer_of reply)) → IfOk r (λ reply. IsAnswerToField options facts (answer_of reply))
 told options facts found (Ok reply) is h = record { found = found; is = is; tells = h }
 told options facts found (Err error) is h = h
+
+-- the candidates of a bracket that is found can be listed
+pub can_be_listed : (facts : Facts) (limit number : ℕ) (found : BracketAt) → IsBracketAt facts limit number found → CanBeListed facts found
+can_be_listed facts limit number (Bracket reached shape) is = (is.2, is.3)
+can_be_listed facts limit number NotReached is = tt
+can_be_listed facts limit number NoPairingAt is = tt
+can_be_listed facts limit number (UndecidedAt bracket used) is = tt

@@ -1,7 +1,12 @@
 -- What is known where a request is answered, from its words and from its report: a model that carries the proof that boards fit.
 use Rattle.std.specs.Prelude.{◌≡◌, ℕ, ◌≤◌, List, IfSome, Ok}
+use Rattle.dutch_bracket.specs.Reached.{IsOf, frame_of}
+use Rattle.dutch_order.specs.Arrangements.{Fits}
+use Rattle.dutch_pair.specs.declared.round.BracketAt.{BracketAt}
+use Rattle.dutch_pair.specs.declared.round.BracketAt.TheVariants.{Bracket, NotReached, NoPairing as NoPairingAt, Undecided as UndecidedAt}
 use Rattle.dutch_pair.specs.declared.round.Outcome.{Outcome}
 use Rattle.dutch_pair.specs.declared.round.Outcome.TheVariants.{Paired, NoPairing, Undecided}
+use Rattle.dutch_player.specs.Facts.{Facts}
 use Rattle.trf16.specs.Round.{CanBePaired}
 use Rattle.trf16.specs.Sheet.{Sheet}
 use Rattle.trf16.specs.Verdict.{verdict}
@@ -34,3 +39,10 @@ abbrev pub CanBeTold : Sheet → Outcome → Type 0
 CanBeTold sheet (Paired all) = CanBePaired all.items sheet
 CanBeTold sheet NoPairing = Unit {0}
 CanBeTold sheet (Undecided number used) = Unit {0}
+
+-- a bracket that is found, if one is, is one of the field, and its shape fits
+abbrev pub CanBeListed : Facts → BracketAt → Type 0
+CanBeListed facts (Bracket reached shape) = IsOf facts reached × Fits (frame_of facts reached) shape
+CanBeListed facts NotReached = Unit {0}
+CanBeListed facts NoPairingAt = Unit {0}
+CanBeListed facts (UndecidedAt number used) = Unit {0}

@@ -2,9 +2,9 @@
 ghost use Rattle.std.specs.Prelude.{◌≡◌, ◌≤◌, ◌++◌, IfOk, Ok, option_map, string_bytes};
 ghost use Rattle.trf16.specs.Verdict.{verdict};
 ghost use Rattle.dutch_order.specs.Arrangements.{Fits};
-ghost use Rattle.dutch_pair.specs.Outcomes.{IsBracketAt};
 ghost use Rattle.dutch_bracket.specs.Reached.{IsOf, frame_of};
 ghost use Rattle.command_line.specs.CandidateAnswers.{AnswersCandidates, InField, Lists, AnswersFound, coming_of};
+ghost use Rattle.command_line.specs.Known.{CanBeListed};
 ghost use Rattle.round_lines.specs.Listings.{ending_text};
 ghost use Rattle.round_lines.specs.CandidateTexts.{bracket_text};
 ghost use Rattle.replies.specs.Replies.{answer_of};
@@ -54,7 +54,7 @@ fn of_report(
 }
 
 // The same of those whom the next round is paired from.
-#[tactic(auto, using(crate::proofs::CandidateLemmas::told))]
+#[tactic(auto, using(crate::proofs::CandidateLemmas::told, crate::proofs::CandidateLemmas::can_be_listed))]
 fn of_field(
     alloc: Global,
     options: &CandidatesOptions<'_>,
@@ -75,15 +75,31 @@ fn tell(
     field: &Field,
     found: &BracketAt,
 ) -> Result<Reply, AllocError>
-    requires { IsBracketAt field.now options.now.steps options.now.bracket found.now }
+    requires { CanBeListed field.now found.now }
     ensures { IfOk result (λ reply. AnswersFound options.now field.now found.now (answer_of reply)) }
 {
     match found {
-        BracketAt::Bracket { reached, shape } => list(alloc, options, field, reached, *shape),
+        BracketAt::Bracket { reached, shape } => {
+            let shape = *shape;
+            let asked = Asked {
+                field,
+                reached,
+                shape,
+            };
+            list(alloc, options, &asked)
+        }
         BracketAt::NotReached => not_reached(alloc, options.bracket),
         BracketAt::NoPairing => Ok(no_pairing()),
         BracketAt::Undecided { bracket, used } => undecided(alloc, *bracket, *used),
     }
+}
+
+// A bracket whose candidates are asked for: one of a field, and the shape in which they are listed.
+#[derive(Drop)]
+struct Asked<'a> {
+    field: &'a Field,
+    reached: &'a Reached,
+    shape: Shape,
 }
 
 // A bracket and its candidates, all or those behind the cursor.
@@ -91,26 +107,29 @@ fn tell(
 fn list(
     alloc: Global,
     options: &CandidatesOptions<'_>,
-    field: &Field,
-    reached: &Reached,
-    shape: Shape,
+    asked: &Asked<'_>,
 ) -> Result<Reply, AllocError>
-    requires of { IsOf field.now reached.now }
-    requires fits { Fits (frame_of field.now reached.now) shape }
-    ensures { IfOk result (λ reply. Lists options.now field.now reached.now shape
-        (coming_of field.now reached.now shape options.now.from) (answer_of reply)) }
+    requires of { IsOf asked.now.field.now asked.now.reached.now }
+    requires fits { Fits (frame_of asked.now.field.now asked.now.reached.now) asked.now.shape }
+    ensures { IfOk result (λ reply. Lists options.now asked.now.field.now asked.now.reached.now asked.now.shape
+        (coming_of asked.now.field.now asked.now.reached.now asked.now.shape options.now.from) (answer_of reply)) }
 {
+    let Asked {
+        field,
+        reached,
+        shape,
+    } = *asked;
     let frame = reached.frame(field);
     let rule = reached.rule(field);
     match &options.from {
         None => {
             let coming = Candidates::new(&frame, shape, &rule);
-            list_coming(alloc, options, field, reached, shape, coming)
+            list_coming(alloc, options, asked, coming)
         }
         Some(from) => match Cursor::read(from.as_str(), &frame, shape) {
             Ok(cursor) => {
                 let coming = Candidates::from(&frame, shape, &rule, &cursor);
-                list_coming(alloc, options, field, reached, shape, coming)
+                list_coming(alloc, options, asked, coming)
             }
             Err(_) => not_of_bracket(alloc, options.bracket),
         },
@@ -122,23 +141,29 @@ fn list(
 fn list_coming<R: Rule>(
     alloc: Global,
     options: &CandidatesOptions<'_>,
-    field: &Field,
-    reached: &Reached,
-    shape: Shape,
+    asked: &Asked<'_>,
     coming: Candidates<'_, R>,
 ) -> Result<Reply, AllocError>
-    requires of { IsOf field.now reached.now }
-    requires frame { coming.frame ≡ frame_of field.now reached.now }
-    requires coming { coming_of field.now reached.now shape options.now.from ≡ Ok coming.coming }
-    ensures { IfOk result (λ reply. Lists options.now field.now reached.now shape
-        (coming_of field.now reached.now shape options.now.from) (answer_of reply)) }
+    requires of { IsOf asked.now.field.now asked.now.reached.now }
+    requires frame { coming.frame ≡ frame_of asked.now.field.now asked.now.reached.now }
+    requires coming { coming_of asked.now.field.now asked.now.reached.now asked.now.shape options.now.from
+        ≡ Ok coming.coming }
+    ensures { IfOk result (λ reply. Lists options.now asked.now.field.now asked.now.reached.now asked.now.shape
+        (coming_of asked.now.field.now asked.now.reached.now asked.now.shape options.now.from) (answer_of reply)) }
 {
     let mut budget = Budget {
         limit: options.steps,
         used: 0,
     };
-    let listed = lines(alloc, field, reached, coming, options.count, &mut budget)?;
-    let first = bracket_texts::bracket(alloc, options.bracket, reached.kind(), shape)?;
+    let listed = lines(
+        alloc,
+        asked.field,
+        asked.reached,
+        coming,
+        options.count,
+        &mut budget,
+    )?;
+    let first = bracket_texts::bracket(alloc, options.bracket, asked.reached.kind(), asked.shape)?;
     let text = listing(alloc, options.bracket, first, &listed)?;
     Ok(Reply {
         status: listed.ending.status(),
