@@ -14,6 +14,7 @@ pub mod Joins
 pub mod Stops
 pub mod Reached
 pub mod Context
+pub mod InContext
 pub mod Choice
 pub mod Brackets
 pub mod Groups

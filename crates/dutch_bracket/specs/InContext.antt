@@ -1,0 +1,39 @@
+-- What is said of a bracket above its lower seats, by the one record that holds its field, the bracket and those seats: each word here is
+-- the definition of the same name over the three.
+use Rattle.std.specs.Prelude.{Bool, List}
+use Rattle.dutch_order.specs.Arrangements.{Frame, Arrangement, Fits}
+use Rattle.dutch_order.specs.Keys.{IsIn}
+use Rattle.dutch_order.specs.Prefixes.{Beginning, Begins}
+use Rattle.dutch_order.specs.declared.bracket.Shape.{Shape}
+use Rattle.dutch_bracket.specs.Context.{Context}
+use Rattle.dutch_bracket.specs.Quality.{Quality}
+use Rattle.dutch_bracket.specs.Reached.{frame_of}
+use Rattle.dutch_bracket.specs.Brackets.{candidates_of, can_be_chosen, eligible, quality_of}
+
+-- the bracket by scores
+abbrev pub frame_here : Context → Frame
+frame_here context = frame_of context.facts context.reached
+
+-- it has room for a shape
+abbrev pub FitsHere : Context → Shape → Type 0
+FitsHere context shape = Fits (frame_here context) shape
+
+-- C.1 to C.3: its candidates
+abbrev pub candidates_here : Context → Shape → List Arrangement
+candidates_here context shape = candidates_of context.facts context.reached shape
+
+-- C.4: whether a candidate can be chosen in it
+abbrev pub can_be_chosen_here : Context → Arrangement → Bool
+can_be_chosen_here context a = can_be_chosen context.facts context.reached context.lower a
+
+-- C.4: its candidates that can be chosen
+abbrev pub eligible_here : Context → Shape → List Arrangement
+eligible_here context shape = eligible context.facts context.reached context.lower shape
+
+-- C.6 to C.19: the quality of a candidate in it
+abbrev pub quality_here : Context → Arrangement → Quality
+quality_here context a = quality_of context.facts context.reached context.lower a
+
+-- something is said of each of its candidates of a shape that have a beginning
+abbrev pub OfEachBegun : Context → Shape → Beginning → (Arrangement → Type 0) → Type 0
+OfEachBegun context shape beginning says = (a : Arrangement) → IsIn a (candidates_here context shape) → Begins beginning a → says a
