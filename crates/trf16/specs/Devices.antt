@@ -1,10 +1,11 @@
 -- What one call of a device counts: each call, and each failure.
-use Rattle.std.specs.Prelude.{◌≡◌, ◌+◌, ◌-◌, ◌^◌, ◌<◌, ◌≤◌, ℕ, Result, MatchResult}
+use Rattle.std.specs.Prelude.{◌≡◌, ◌+◌, ◌<◌, ◌≤◌, ℕ, Result, MatchResult}
+use Rattle.trf16.specs.declared.devices.TheConstants.{MOST_COUNTED}
 use Rattle.trf16.specs.declared.devices.Counted.{Counted}
 
--- a count below the largest u64 rises by one, and no count rises by more
+-- a count below the largest rises by one, and no count rises by more
 pub record CountsOne (old new : ℕ) : Type 0 where
-  pub counts : old < 2 ^ 64 - 1 → new ≡ old + 1
+  pub counts : old < MOST_COUNTED → new ≡ old + 1
   pub at_most : new ≤ old + 1
 
 -- the count of failures rises so where the call failed, and else stays

@@ -6,6 +6,9 @@ ghost use Rattle.trf16.specs.Devices.{CountsFailure, CountsOne, inner_of, calls_
 use std::io::{Read, Write};
 use thiserror::Error;
 
+/// The largest count of calls or failures: a count that has reached it stays as it is.
+pub const MOST_COUNTED: u64 = u64::MAX;
+
 /// A call of a device failed.
 #[derive(Debug, Clone, Copy, PartialEq, Eq, Error)]
 #[error("the device failed")]
@@ -52,7 +55,7 @@ pub trait Sink {
 }
 
 /// Any reader or writer of std as a device: its calls and failures are counted, each of the two up
-/// to `u64::MAX`.
+/// to [`MOST_COUNTED`].
 #[derive(Debug, Drop)]
 pub struct Counted<T> {
     inner: T,

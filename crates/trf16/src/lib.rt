@@ -49,7 +49,7 @@ mod writing;
 pub use cell::{Bye, Cell, Colour, Outcome};
 pub use cells::{cell_at, front, is_unfinished};
 pub use columns::{column_count, is_blank, split_columns, split_kind};
-pub use devices::{Counted, Failed, Sink, Source};
+pub use devices::{Counted, Failed, MOST_COUNTED, Sink, Source};
 pub use extensions::is_word;
 pub use fault::{Excess, Fault};
 pub use fields::{next_word, number_of, without_blanks};
