@@ -17,8 +17,8 @@ use Rattle.trf16.specs.declared.cell.Colour.{Colour}
 use Rattle.trf16.specs.declared.cell.Colour.TheVariants.{White, Black}
 use Rattle.trf16.specs.declared.cell.Bye.{Bye as ByeKind}
 use Rattle.trf16.specs.declared.cell.Bye.TheVariants.{Half, Full, Allocated, Zero}
-use Rattle.trf16.specs.declared.cell.Outcome.{Outcome}
-use Rattle.trf16.specs.declared.cell.Outcome.TheVariants.{Win, Draw, Loss}
+use Rattle.trf16.specs.declared.cell.GameOutcome.{GameOutcome}
+use Rattle.trf16.specs.declared.cell.GameOutcome.TheVariants.{Win, Draw, Loss}
 use Rattle.trf16.specs.declared.cell.Cell.{Cell}
 use Rattle.trf16.specs.declared.cell.Cell.TheVariants.{Blank, Bye, Game, Forfeit, Unfinished}
 use Rattle.trf16.proofs.WrittenNumbers.{words-blanks, words-digits, digits-decimal, length-decimal, number_of-decimal}
@@ -106,7 +106,7 @@ bye_fields Full = record { opponent = codes "0000"; colour = 45; result = 70; fo
 bye_fields Allocated = record { opponent = codes "0000"; colour = 45; result = 85; four = refl; spelled = refl; read = refl; plain = refl }
 bye_fields Zero = record { opponent = codes "0000"; colour = 45; result = 90; four = refl; spelled = refl; read = refl; plain = refl }
 
-game_fields : (opponent : ℕ) (colour : Colour) (rated : Bool) (got : Outcome) → 0 < opponent → opponent < 10000 → Fields (Game opponent colour rated got)
+game_fields : (opponent : ℕ) (colour : Colour) (rated : Bool) (got : GameOutcome) → 0 < opponent → opponent < 10000 → Fields (Game opponent colour rated got)
 game_fields opponent White true Win some lt = meeting_fields (Game opponent White true Win) opponent (Some White) 49 some lt refl refl refl refl
 game_fields opponent White true Draw some lt = meeting_fields (Game opponent White true Draw) opponent (Some White) 61 some lt refl refl refl refl
 game_fields opponent White true Loss some lt = meeting_fields (Game opponent White true Loss) opponent (Some White) 48 some lt refl refl refl refl

@@ -23,7 +23,7 @@ use Rattle.trf16.specs.Answering.{cells_fit, points_fit, player_fits, players_fi
 use Rattle.trf16.specs.Verdict.{player_at, is_player, is_too_long, player_onto, line_onto, lines_onto, carried_line, without_players, has_too_many_rounds, names_too_many_rounds, sized, laid_out, verdict}
 use Rattle.trf16.specs.Written.{player_text, lines_text, written}
 use Rattle.trf16.specs.declared.cell.Bye.TheVariants.{Half, Full, Allocated, Zero}
-use Rattle.trf16.specs.declared.cell.Outcome.TheVariants.{Win, Draw, Loss}
+use Rattle.trf16.specs.declared.cell.GameOutcome.TheVariants.{Win, Draw, Loss}
 use Rattle.trf16.specs.declared.cell.Cell.{Cell}
 use Rattle.trf16.specs.declared.cell.Cell.TheVariants.{Blank, Bye, Game, Forfeit, Unfinished}
 use Rattle.trf16.specs.declared.fault.Excess.TheVariants.{Bytes, Players, Rounds}

@@ -15,7 +15,7 @@ use Rattle.trf16.specs.Outcomes.{◌>>=◌}
 use Rattle.trf16.specs.Verdict.{blank_at, blanks_at, round_at, rounds_at}
 use Rattle.trf16.specs.Written.{cell_text, round_text}
 use Rattle.trf16.specs.declared.cell.Colour.{Colour}
-use Rattle.trf16.specs.declared.cell.Outcome.{Outcome}
+use Rattle.trf16.specs.declared.cell.GameOutcome.{GameOutcome}
 use Rattle.trf16.specs.declared.cell.Cell.{Cell}
 use Rattle.trf16.specs.declared.cell.Cell.TheVariants.{Blank, Game}
 use Rattle.trf16.specs.declared.fault.Fault.{Fault}
@@ -290,7 +290,7 @@ names_game : (n : ℕ) (colour : Colour) (result : ℕ) → Names (Some n) (game
 unfolding Names
 names_game n colour result = names_either (Some n) (result == 32) _ _ refl (by (outcome_of result))
   where
-    by : (played : Option (Bool × Outcome))
+    by : (played : Option (Bool × GameOutcome))
         → Names (Some n) (option_map_or (λ p. Some (Game n colour p.0 p.1)) played (forfeit_cell n (Some colour) result))
     by None = names_forfeit n (Some colour) result
     by (Some p) = refl

@@ -6,8 +6,8 @@ use Rattle.trf16.specs.Fields.{words, number_of}
 use Rattle.trf16.specs.declared.cell.Colour.{Colour}
 use Rattle.trf16.specs.declared.cell.Colour.TheVariants.{White, Black}
 use Rattle.trf16.specs.declared.cell.Bye.TheVariants.{Half, Full, Allocated, Zero}
-use Rattle.trf16.specs.declared.cell.Outcome.{Outcome}
-use Rattle.trf16.specs.declared.cell.Outcome.TheVariants.{Win, Draw, Loss}
+use Rattle.trf16.specs.declared.cell.GameOutcome.{GameOutcome}
+use Rattle.trf16.specs.declared.cell.GameOutcome.TheVariants.{Win, Draw, Loss}
 use Rattle.trf16.specs.declared.cell.Cell.{Cell}
 use Rattle.trf16.specs.declared.cell.Cell.TheVariants.{Blank, Bye, Game, Forfeit, Unfinished}
 use Rattle.std.specs.Str.{byte}
@@ -42,7 +42,7 @@ forfeit_cell opponent colour result =
     else (if result == byte "-" then Some (Forfeit opponent colour false) else None)
 
 -- whether a game is rated, and how it ended: 1, = or 0 where it is rated, W, D or L where it is not
-abbrev pub outcome_of : ℕ → Option (Bool × Outcome)
+abbrev pub outcome_of : ℕ → Option (Bool × GameOutcome)
 outcome_of result =
     if result == byte "1" then Some (true, Win)
     else (if result == byte "=" then Some (true, Draw)

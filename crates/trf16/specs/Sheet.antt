@@ -3,8 +3,8 @@ use Rattle.std.specs.Prelude.{ℕ, ◌+◌, ◌-◌, Bool, true, false, ◌==◌
 use Rattle.std.specs.List.{list_any}
 use Rattle.trf16.specs.declared.player.Player.{Player}
 use Rattle.trf16.specs.declared.cell.Colour.{Colour}
-use Rattle.trf16.specs.declared.cell.Outcome.{Outcome}
-use Rattle.trf16.specs.declared.cell.Outcome.TheVariants.{Win, Draw, Loss}
+use Rattle.trf16.specs.declared.cell.GameOutcome.{GameOutcome}
+use Rattle.trf16.specs.declared.cell.GameOutcome.TheVariants.{Win, Draw, Loss}
 use Rattle.trf16.specs.declared.cell.Bye.{Bye as ByeKind}
 use Rattle.trf16.specs.declared.cell.Bye.TheVariants.{Half, Full, Allocated, Zero}
 use Rattle.trf16.specs.declared.cell.Cell.{Cell}
@@ -86,7 +86,7 @@ abbrev pub rounds_played : Sheet → ℕ
 rounds_played sheet = last_paired_of sheet.players
 
 -- the half points of a game that was played
-abbrev pub outcome_points : Outcome → ℕ
+abbrev pub outcome_points : GameOutcome → ℕ
 outcome_points Win = 2
 outcome_points Draw = 1
 outcome_points Loss = 0

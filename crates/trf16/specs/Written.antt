@@ -9,8 +9,8 @@ use Rattle.trf16.specs.declared.cell.Colour.{Colour}
 use Rattle.trf16.specs.declared.cell.Colour.TheVariants.{White, Black}
 use Rattle.trf16.specs.declared.cell.Bye.{Bye as ByeKind}
 use Rattle.trf16.specs.declared.cell.Bye.TheVariants.{Half, Full, Allocated, Zero}
-use Rattle.trf16.specs.declared.cell.Outcome.{Outcome}
-use Rattle.trf16.specs.declared.cell.Outcome.TheVariants.{Win, Draw, Loss}
+use Rattle.trf16.specs.declared.cell.GameOutcome.{GameOutcome}
+use Rattle.trf16.specs.declared.cell.GameOutcome.TheVariants.{Win, Draw, Loss}
 use Rattle.trf16.specs.declared.cell.Cell.{Cell}
 use Rattle.trf16.specs.declared.cell.Cell.TheVariants.{Blank, Bye, Game, Forfeit, Unfinished}
 
@@ -49,7 +49,7 @@ colour_letter (Some White) = byte "w"
 colour_letter (Some Black) = byte "b"
 
 -- 1, = and 0 of a rated game, W, D and L of one that is not
-abbrev pub outcome_letter : Bool → Outcome → ℕ
+abbrev pub outcome_letter : Bool → GameOutcome → ℕ
 outcome_letter true Win = byte "1"
 outcome_letter true Draw = byte "="
 outcome_letter true Loss = byte "0"

@@ -23,7 +23,7 @@ pub enum Bye {
 
 /// How a game ended for the player of the cell.
 #[derive(Debug, Clone, Copy, PartialEq, Eq)]
-pub enum Outcome {
+pub enum GameOutcome {
     /// 2 half points.
     Win,
     /// 1 half point.
@@ -44,7 +44,7 @@ pub enum Cell {
         opponent: u16,
         colour: Colour,
         rated: bool,
-        got: Outcome,
+        got: GameOutcome,
     },
     /// A game that was not played, won (`+`) or lost (`-`); the colour may be left out.
     Forfeit {
@@ -70,12 +70,12 @@ impl Cell {
     {
         match self {
             Cell::Game {
-                got: Outcome::Win,
+                got: GameOutcome::Win,
                 ..
             }
             | Cell::Forfeit { won: true, .. } => 2,
             Cell::Game {
-                got: Outcome::Draw,
+                got: GameOutcome::Draw,
                 ..
             } => 1,
             _ => 0,

@@ -4,7 +4,7 @@ ghost use Rattle.trf16.specs.Fields.{words};
 ghost use Rattle.trf16.specs.Cells.{mark_in, colour_of, is_no_colour, bye_cell, forfeit_cell, outcome_of, game_cell};
 ghost use Rattle.trf16.specs.Cells.{cell_of, opponent_in, cell_from};
 
-use crate::cell::{Bye, Cell, Colour, Outcome};
+use crate::cell::{Bye, Cell, Colour, GameOutcome};
 use crate::fields::{next_word, number_of};
 
 // What stands in one column, a letter in upper case; a missing column is blank, and a character of several bytes is no
@@ -60,16 +60,16 @@ fn forfeit_cell(opponent: u16, colour: Option<Colour>, result_mark: u8) -> Optio
 }
 
 // Whether a game is rated, and how it ended.
-fn outcome_of(result_mark: u8) -> Option<(bool, Outcome)>
+fn outcome_of(result_mark: u8) -> Option<(bool, GameOutcome)>
     ensures { result ≡ outcome_of result_mark }
 {
     match result_mark {
-        b'1' => Some((true, Outcome::Win)),
-        b'=' => Some((true, Outcome::Draw)),
-        b'0' => Some((true, Outcome::Loss)),
-        b'W' => Some((false, Outcome::Win)),
-        b'D' => Some((false, Outcome::Draw)),
-        b'L' => Some((false, Outcome::Loss)),
+        b'1' => Some((true, GameOutcome::Win)),
+        b'=' => Some((true, GameOutcome::Draw)),
+        b'0' => Some((true, GameOutcome::Loss)),
+        b'W' => Some((false, GameOutcome::Win)),
+        b'D' => Some((false, GameOutcome::Draw)),
+        b'L' => Some((false, GameOutcome::Loss)),
         _ => None,
     }
 }

@@ -46,7 +46,7 @@ mod start_ranks;
 mod summed;
 mod writing;
 
-pub use cell::{Bye, Cell, Colour, Outcome};
+pub use cell::{Bye, Cell, Colour, GameOutcome};
 pub use cells::{cell_at, front, is_unfinished};
 pub use columns::{column_count, is_blank, split_columns, split_kind};
 pub use devices::{Counted, Failed, MOST_COUNTED, Sink, Source};

@@ -9,7 +9,7 @@ ghost use Rattle.trf16.specs.Written.{blanks, right_in_four, left_in, points_tex
 ghost use Rattle.trf16.specs.Written.{colour_letter, outcome_letter, meeting_text, cell_text, round_text, player_text};
 ghost use Rattle.trf16.specs.Written.{written};
 
-use crate::cell::{Bye, Cell, Colour, Outcome};
+use crate::cell::{Bye, Cell, Colour, GameOutcome};
 use crate::columns::column_count;
 use crate::devices::{Failed, Sink};
 use crate::lines::next_line;
@@ -102,16 +102,16 @@ fn colour_letter(colour: Option<Colour>) -> u8
     }
 }
 
-fn outcome_letter(rated: bool, got: Outcome) -> u8
+fn outcome_letter(rated: bool, got: GameOutcome) -> u8
     ensures { result ≡ outcome_letter rated got }
 {
     match (rated, got) {
-        (true, Outcome::Win) => b'1',
-        (true, Outcome::Draw) => b'=',
-        (true, Outcome::Loss) => b'0',
-        (false, Outcome::Win) => b'W',
-        (false, Outcome::Draw) => b'D',
-        (false, Outcome::Loss) => b'L',
+        (true, GameOutcome::Win) => b'1',
+        (true, GameOutcome::Draw) => b'=',
+        (true, GameOutcome::Loss) => b'0',
+        (false, GameOutcome::Win) => b'W',
+        (false, GameOutcome::Draw) => b'D',
+        (false, GameOutcome::Loss) => b'L',
     }
 }
 

@@ -8,7 +8,7 @@ use dutch_player::{
 use sample_reports::{Line, field_of, text_of};
 use std::alloc::Global;
 use std::test::Fail;
-use trf16::{Cell, Colour, Outcome};
+use trf16::{Cell, Colour, GameOutcome};
 
 const ABSOLUTE_WHITE: Option<Pref> = Some(Pref {
     strength: Strength::Absolute,
@@ -257,7 +257,7 @@ fn a_forfeit_has_no_colour_and_no_opponent(rt: HostRuntime) -> Result<(), Fail> 
         opponent: 5,
         colour: Colour::Black,
         rated: true,
-        got: Outcome::Win,
+        got: GameOutcome::Win,
     };
     assert!(rt; colour_played(&game) == Some(Colour::Black));
     assert!(rt; opponent_played(&game) == Some(5));

@@ -1,7 +1,7 @@
 // Each call over a small report, whose answers follow from TRF16's columns by hand.
 use std::test::Fail;
 use trf16::{
-    Bye, Cell, Colour, Excess, Fault, LineKind, Outcome, Report, cell_at, column_count, front,
+    Bye, Cell, Colour, Excess, Fault, LineKind, GameOutcome, Report, cell_at, column_count, front,
     read, read_with,
 };
 
@@ -65,7 +65,7 @@ fn players_and_cells(rt: HostRuntime) -> Result<(), Fail> {
         opponent: 2,
         colour: Colour::White,
         rated: true,
-        got: Outcome::Win,
+        got: GameOutcome::Win,
     };
     let forfeit = Cell::Forfeit {
         opponent: 2,
