@@ -349,7 +349,6 @@ fn cuts_begun<C: CutsExchanges>(
     numbers: &mut Numbers,
 ) -> bool
     requires ascends { IsStrictlyIncreasing stage.now.pool.now }
-    requires small { (i : ℕ) → slice_index stage.now.pool.now i ≤ 65535 }
     ensures { result ≡ true → (path : List ℕ) → GoesOn begun.now path
         → IdleAt stage.now.pool.now stage.now.k (C.Idle cuts.now) stage.now.size stage.now.difference path }
 {
@@ -376,7 +375,6 @@ struct OfStage<'c, C> {
     stage: &'c Stage<'c>,
     cuts: &'c C,
     ghost ascends: { IsStrictlyIncreasing stage.now.pool.now },
-    ghost small: { (i : ℕ) → slice_index stage.now.pool.now i ≤ 65535 },
 }
 
 impl<'c, C: CutsExchanges> CutsPaths for OfStage<'c, C> {
@@ -402,7 +400,6 @@ fn leave_stage<C: CutsExchanges>(
     budget: &mut Budget,
 ) -> Result<(), Stopped>
     requires ascends { IsStrictlyIncreasing tree.now.tree.pool.now }
-    requires small { (i : ℕ) → slice_index tree.now.tree.pool.now i ≤ 65535 }
     requires standing { Stands (hinted tree.now.hint.now.items (exchange_plan tree.now.tree.pool.now tree.now.tree.k
         tree.now.tree.size tree.now.tree.difference)) walk.old.path.items }
     ensures path { walk.new.path.items ≡ walk.old.path.items }
@@ -440,7 +437,6 @@ fn climb_stage<C: CutsExchanges>(
     budget: &mut Budget,
 ) -> Drawn
     requires ascends { IsStrictlyIncreasing tree.now.tree.pool.now }
-    requires small { (i : ℕ) → slice_index tree.now.tree.pool.now i ≤ 65535 }
     requires standing { Stands (hinted tree.now.hint.now.items (exchange_plan tree.now.tree.pool.now tree.now.tree.k
         tree.now.tree.size tree.now.tree.difference)) walk.old.path.items }
     ensures stands { Stands (hinted tree.now.hint.now.items (exchange_plan tree.now.tree.pool.now tree.now.tree.k
