@@ -44,7 +44,7 @@ use crate::search::{
 };
 use crate::stage::{Stage, greatest_of, least_of};
 use crate::steps::{Budget, Drawn, Step, Stopped};
-use crate::sums::{total_of, value_at};
+use crate::sums::{Sides, total_of, value_at};
 use arrayvec::ArrayVec;
 use std::marker::Model;
 
@@ -146,8 +146,9 @@ fn enter_at(pool: &[u16], k: usize, set: &[u16], place: &mut Place)
     place.hint = out_places(pool, k, set);
     let ins = in_places(pool, k, set);
     place.size = place.hint.len();
-    let out = total_of(pool, k, Side::Out, &place.hint);
-    place.difference = total_of(pool, k, Side::In, &ins).saturating_sub(out);
+    let sides = Sides { pool, k };
+    let out = total_of(&sides, Side::Out, &place.hint);
+    place.difference = total_of(&sides, Side::In, &ins).saturating_sub(out);
     put_behind(&mut place.hint, &ins);
     place.walk.restart(first_hint(&place.hint));
     place.walk.beyond = Some(place.difference + 1);
@@ -265,9 +266,13 @@ fn put_told(stage: &Stage<'_>, told: &Told<'_>, chosen: bool, numbers: &mut Numb
     ensures { numbers.new.items ≡ numbers.old.items
         ++ told_numbers stage.now.pool.now stage.now.k told.now.side told.now.taken.now told.now.limit chosen }
 {
+    let sides = Sides {
+        pool: stage.pool,
+        k: stage.k,
+    };
     for place in 0..count_at(stage, told.side) {
         if is_told(told, chosen, place) {
-            numbers.push(value_at(stage.pool, stage.k, told.side, place) as u16);
+            numbers.push(value_at(&sides, told.side, place) as u16);
         }
     }
 }
@@ -477,31 +482,33 @@ fn climb_stage<C: CutsExchanges>(
 /// Goes on to the next set, whose path the walk then has, past such as are known to be idle. All that was passed over
 /// is idle.
 fn next_set_past<C: CutsExchanges>(
-    pool: &[u16],
-    k: usize,
+    sides: &Sides<'_>,
     cuts: &C,
     place: &mut Place,
     budget: &mut Budget,
 ) -> Drawn
-    requires ascends { IsStrictlyIncreasing pool.now }
-    requires few { length pool.now ≤ LIMIT }
-    requires enough { k ≤ length pool.now }
-    requires standing { IsPlace pool.now k place.old }
-    ensures stands { IsPlace pool.now k place.new }
+    requires ascends { IsStrictlyIncreasing sides.now.pool.now }
+    requires few { length sides.now.pool.now ≤ LIMIT }
+    requires enough { sides.now.k ≤ length sides.now.pool.now }
+    requires standing { IsPlace sides.now.pool.now sides.now.k place.old }
+    ensures stands { IsPlace sides.now.pool.now sides.now.k place.new }
     ensures answer { MatchDrawn result
-        (Passes (C.Idle cuts.now) (sets_from pool.now k place.old) (set_of pool.now k place.new.size
-        place.new.walk.path.items ∷ sets_from pool.now k place.new)
+        (Passes (C.Idle cuts.now) (sets_from sides.now.pool.now sides.now.k place.old)
+        (set_of sides.now.pool.now sides.now.k place.new.size place.new.walk.path.items
+        ∷ sets_from sides.now.pool.now sides.now.k place.new)
         × (length place.new.walk.path.items ≡ place.new.size + place.new.size))
-        (Passes (C.Idle cuts.now) (sets_from pool.now k place.old) [] × (sets_from pool.now k place.new ≡ []))
-        (Passes (C.Idle cuts.now) (sets_from pool.now k place.old) (sets_from pool.now k place.new) × (budget.new.used
-        ≡ budget.new.limit)) }
+        (Passes (C.Idle cuts.now) (sets_from sides.now.pool.now sides.now.k place.old) []
+        × (sets_from sides.now.pool.now sides.now.k place.new ≡ []))
+        (Passes (C.Idle cuts.now) (sets_from sides.now.pool.now sides.now.k place.old)
+        (sets_from sides.now.pool.now sides.now.k place.new)
+        × (budget.new.used ≡ budget.new.limit)) }
     ensures spends { Spends budget.old budget.new }
 {
     loop {
         let tree = Hinted {
             tree: Stage {
-                pool,
-                k,
+                pool: sides.pool,
+                k: sides.k,
                 size: place.size,
                 difference: place.difference,
             },
@@ -510,7 +517,7 @@ fn next_set_past<C: CutsExchanges>(
         if climb_stage(&tree, cuts, &mut place.walk, budget)? {
             return Ok(true);
         }
-        if !next_stage(pool, k, place) {
+        if !next_stage(sides.pool, sides.k, place) {
             return Ok(false);
         }
     }
@@ -708,7 +715,11 @@ impl Exchanges {
             (Passes (C.Idle cuts.now) self.old.coming self.new.coming × (budget.new.used ≡ budget.new.limit)) }
         ensures spends { Spends budget.old budget.new }
     {
-        if !next_set_past(&self.pool, self.k, cuts, &mut self.place, budget)? {
+        let sides = Sides {
+            pool: &self.pool,
+            k: self.k,
+        };
+        if !next_set_past(&sides, cuts, &mut self.place, budget)? {
             return Ok(false);
         }
         put_set(&self.pool, self.k, &self.place, numbers);

@@ -46,6 +46,7 @@ pub use bracket::{Bracket, Shape};
 pub use candidate::Candidate;
 pub use candidates::Candidates;
 pub use cursor::{Cursor, CursorFault, CursorText, TEXT_LIMIT};
+pub use cuts::Within;
 pub use exchange::Exchanges;
 pub use exchanged::Exchange;
 pub use limbo::LimboExchanges;
