@@ -37,13 +37,14 @@ ghost use Rattle.dutch_order.specs.Hints.{hinted, first_hint};
 
 use crate::cuts::CutsExchanges;
 use crate::exchanged::Exchange;
+use crate::generator::Generator;
 use crate::halves::first_of_half;
 use crate::numbers::{LIMIT, Numbers, fill};
 use crate::search::{
     CutsPaths, Hinted, Path, Walk, climb_on, climb_past, end_number, first_hint, put_behind,
 };
 use crate::stage::{Stage, greatest_of, least_of};
-use crate::steps::{Budget, Drawn, Step, Stopped};
+use crate::steps::{Budget, Drawn, Stopped};
 use crate::sums::{Sides, total_of, value_at};
 use arrayvec::ArrayVec;
 use std::marker::Model;
@@ -665,41 +666,6 @@ impl Exchanges {
         enter_at(pool, k, set, &mut self.place);
     }
 
-    /// The next set, in ascending order. `Found` gives the first of those to come. `End` says that none is left.
-    /// `Undecided` says that the budget was used up before the next one was found; then what is to come stays as it
-    /// was.
-    pub fn next(&mut self, budget: &mut Budget) -> Step<Numbers>
-        ensures answer { MatchStep result
-            (λ numbers. self.old.coming ≡ numbers.items ∷ self.new.coming)
-            ((self.old.coming ≡ []) × (self.new.coming ≡ []) × (self.new.left ≡ 0))
-            ((self.new.coming ≡ self.old.coming) × (budget.new.used ≡ budget.new.limit) × (0 < self.new.left)) }
-        ensures steps { budget.new.used + self.new.left ≡ budget.old.used + self.old.left }
-        ensures spends { Spends budget.old budget.new }
-    {
-        let mut numbers = ArrayVec::new();
-        match self.put_next(&mut numbers, budget) {
-            Ok(true) => Step::Found(numbers),
-            Ok(false) => Step::End,
-            Err(Stopped) => Step::Undecided,
-        }
-    }
-
-    /// Fills a list with the next one, as `next` gives it.
-    pub(crate) fn put_next(&mut self, numbers: &mut Numbers, budget: &mut Budget) -> Drawn
-        ensures answer { MatchDrawn result
-            (self.old.coming ≡ numbers.new.items ∷ self.new.coming)
-            ((self.old.coming ≡ []) × (self.new.coming ≡ []) × (self.new.left ≡ 0))
-            ((self.new.coming ≡ self.old.coming) × (budget.new.used ≡ budget.new.limit) × (0 < self.new.left)) }
-        ensures steps { budget.new.used + self.new.left ≡ budget.old.used + self.old.left }
-        ensures spends { Spends budget.old budget.new }
-    {
-        if !next_set(&self.pool, self.k, &mut self.place, budget)? {
-            return Ok(false);
-        }
-        put_set(&self.pool, self.k, &self.place, numbers);
-        Ok(true)
-    }
-
     /// Fills a list with the next one, but sets that the cuts know to be idle may be skipped: they are asked about each
     /// stage where it begins, which is a step if it is left, and about each beginning at which the search arrives, at
     /// no step. All that was skipped is idle, whatever the answer.
@@ -720,6 +686,18 @@ impl Exchanges {
             k: self.k,
         };
         if !next_set_past(&sides, cuts, &mut self.place, budget)? {
+            return Ok(false);
+        }
+        put_set(&self.pool, self.k, &self.place, numbers);
+        Ok(true)
+    }
+}
+
+impl Generator for Exchanges {
+    ghost ahead = { λ t. t };
+
+    fn put_next(&mut self, numbers: &mut Numbers, budget: &mut Budget) -> Drawn {
+        if !next_set(&self.pool, self.k, &mut self.place, budget)? {
             return Ok(false);
         }
         put_set(&self.pool, self.k, &self.place, numbers);
