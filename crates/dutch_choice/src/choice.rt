@@ -31,7 +31,7 @@ use dutch_bracket::shape::shape_of;
 use dutch_bracket::spending::spend;
 use dutch_floors::floor::Floors;
 use dutch_floors::outlook::Outlook;
-use dutch_order::{Budget, Candidate, Shape, Step, Stopped};
+use dutch_order::{Budget, Candidate, Shape, Step, Stopped, Within};
 use dutch_player::Field;
 use dutch_weights::asking::Asked;
 use dutch_weights::weight_floor::WeightFloors;
@@ -155,9 +155,10 @@ fn draw_once<'a>(
     ensures spends { Spends budget.old budget.new }
 {
     let skipper = Skipper::new(sought.pass, sought.kept, &judge.weights);
+    let within = Within::new(&skipper, &mut judge.room);
     lister
         .listing
-        .put_next_within(&skipper, &mut judge.room, &mut lister.drawn, budget)
+        .put_next_within(&within, &mut lister.drawn, budget)
 }
 
 /// For how many steps each one of a pass counts: for one alone in the few steps that come first, and behind them for

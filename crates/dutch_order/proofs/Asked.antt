@@ -1,5 +1,5 @@
 -- What a path that has begun tells of the sets of its stage: who is in each of them, and who is in none.
-use Rattle.std.proofs.Common.{◌≡◌, ℕ, zero, suc, ◌+◌, ◌-◌, ◌<◌, ◌≤◌, Bool, true, false, not, ◌&&◌, nat_lt, eqb, cond, slice_index, List, [], ◌∷◌, ◌++◌, map, length, take, drop, refl, sym, ◌∙◌, ap, append_assoc, append-nil, arith, subst, ◌⊎◌, inl, inr, if◌then◌else◌, length-append}
+use Rattle.std.proofs.Common.{◌≡◌, ℕ, zero, suc, ◌+◌, ◌-◌, ◌<◌, ◌≤◌, Bool, true, false, not, ◌&&◌, nat_lt, eqb, cond, List, [], ◌∷◌, ◌++◌, map, length, take, drop, refl, sym, ◌∙◌, ap, append_assoc, append-nil, arith, subst, ◌⊎◌, inl, inr, if◌then◌else◌, length-append}
 use Rattle.std.specs.List.{AllByRecursion, filter}
 use Rattle.std.specs.List.Sorted.{IsStrictlyIncreasing}
 use Rattle.std.proofs.lemmas.List.Kept.{AllPairs-from_increasing}
@@ -168,7 +168,7 @@ not-not : (b : Bool) → not (not b) ≡ b
 not-not true = refl
 not-not false = refl
 
-module _ (pool : List ℕ) (k : ℕ) (rises : IsStrictlyIncreasing pool) (enough : k ≤ length pool) (small : (i : ℕ) → slice_index pool i ≤ 65535) where
+module _ (pool : List ℕ) (k : ℕ) (rises : IsStrictlyIncreasing pool) (enough : k ≤ length pool) where
   abbrev inn : ℕ → ℕ
   inn = value_of pool k In
 
@@ -262,7 +262,7 @@ module _ (pool : List ℕ) (k : ℕ) (rises : IsStrictlyIncreasing pool) (enough
   -- what is known of the set of a path that goes on from what has begun
   pub path-known : (size difference : ℕ) (begun path : List ℕ) → 0 < size → IsOfStage pool k size difference path → GoesOn begun path → IsExchange (known_exchange pool k size difference begun) (set_of pool k size path)
   path-known size difference begun path some of on =
-      let by = path-exchange pool k rises enough small size difference (λ none. absurd (omega (arith, some, none))) path (subst (IsIn path) (stage-hits pool k rises enough small size difference) of) in
+      let by = path-exchange pool k rises enough size difference (λ none. absurd (omega (arith, some, none))) path (subst (IsIn path) (stage-hits pool k rises enough size difference) of) in
       exchange-is_known size difference (set_of pool k size path) by.0 by.1 by.3 begun on.rest (sym by.2 ∙ on.is)
 
 -- there is room for one more that passes

@@ -18,7 +18,7 @@ Ascends key [] = Unit {0}
 Ascends key (choice ∷ others) =
     AllByRecursion (λ other. is_before (key choice) (key other) ≡ true) others × Ascends key others
 
--- a number as it counts in a key where the higher one is first; no number is above the bound
+-- a number as it counts in a key where the higher one is first: by how much a bound, which no number exceeds, is above it
 abbrev pub turned_in : ℕ → ℕ → ℕ
 turned_in bound number = bound - number
 
@@ -29,7 +29,7 @@ turned = turned_in 65535
 abbrev pub exchange_key : List ℕ → ℕ → List ℕ → List ℕ
 exchange_key pool k set =
     length (moved_out pool k set) ∷ (sum_of (moved_in pool k set) - sum_of (moved_out pool k set))
-    ∷ (map turned (reverse (moved_out pool k set)) ++ moved_in pool k set)
+    ∷ (map (turned_in (sum_of pool)) (reverse (moved_out pool k set)) ++ moved_in pool k set)
 
 -- the key of a set of moved-down players: its scores, and then its numbers
 abbrev pub limbo_key_in : ℕ → List ℕ → List ℕ → List ℕ

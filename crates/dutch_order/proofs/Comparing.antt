@@ -15,7 +15,7 @@ use Rattle.dutch_order.specs.Choices.{is_member}
 use Rattle.dutch_order.specs.Exchange.{exchange_cmp, highest_out, moved_count, moved_in, moved_out, sum_difference, sum_of}
 use Rattle.dutch_order.specs.Keys.{IsIn, lower_first, Ascends as AscendsIn}
 use Rattle.dutch_order.specs.Limbo.{limbo_cmp, score_of, scores_of}
-use Rattle.dutch_order.proofs.ByKeys.{is_before, Ascends, turned_in, turned, exchange_key, limbo_key_in}
+use Rattle.dutch_order.proofs.ByKeys.{is_before, Ascends, turned_in, exchange_key, limbo_key_in}
 use Rattle.dutch_order.proofs.Orders.{IsIn-append, IsIn-filter, all_members, is_before-total, member_has}
 
 -- a number first, and then something else
@@ -90,28 +90,28 @@ take-in zero x (y ∷ xs) m = absurd m
 take-in (suc k) x (y ∷ xs) (inl same) = inl same
 take-in (suc k) x (y ∷ xs) (inr m) = inr (take-in k x xs m)
 
-pub members_small : (bound x : ℕ) (xs : List ℕ) → ((i : ℕ) → slice_index xs i ≤ bound) → IsIn x xs → x ≤ bound
-members_small bound x [] small m = absurd m
-members_small bound x (y ∷ xs) small (inl same) = let least : y ≤ bound = small 0 in omega (arith, least, same)
-members_small bound x (y ∷ xs) small (inr m) = members_small bound x xs (λ i. small (suc i)) m
+member_under : (x : ℕ) (xs : List ℕ) → IsIn x xs → x ≤ sum_of xs
+member_under x [] m = absurd m
+member_under x (y ∷ xs) (inl same) = omega (arith, same)
+member_under x (y ∷ xs) (inr m) = omega (arith, member_under x xs m)
 
-out_small : (pool : List ℕ) (k : ℕ) (set : List ℕ) → ((i : ℕ) → slice_index pool i ≤ 65535) → AllByRecursion (λ x. x ≤ 65535) (reverse (moved_out pool k set))
-out_small pool k set small =
-    all-reverse (λ x. x ≤ 65535) (moved_out pool k set)
-    (all_members (λ x. x ≤ 65535) (moved_out pool k set)
-    (λ x m. members_small 65535 x pool small (take-in k x pool (IsIn-filter (λ x. not (is_member x set)) x (take k pool) m).0)))
+out_small : (pool : List ℕ) (k : ℕ) (set : List ℕ) → AllByRecursion (λ x. x ≤ sum_of pool) (reverse (moved_out pool k set))
+out_small pool k set =
+    all-reverse (λ x. x ≤ sum_of pool) (moved_out pool k set)
+    (all_members (λ x. x ≤ sum_of pool) (moved_out pool k set)
+    (λ x m. member_under x pool (take-in k x pool (IsIn-filter (λ x. not (is_member x set)) x (take k pool) m).0)))
 
-pub exchange_cmp-is : (pool : List ℕ) (k : ℕ) → ((i : ℕ) → slice_index pool i ≤ 65535) → (a b : List ℕ) → is_lt (exchange_cmp pool k a b) ≡ is_before (exchange_key pool k a) (exchange_key pool k b)
+pub exchange_cmp-is : (pool : List ℕ) (k : ℕ) (a b : List ℕ) → is_lt (exchange_cmp pool k a b) ≡ is_before (exchange_key pool k a) (exchange_key pool k b)
 unfolding exchange_cmp
-exchange_cmp-is pool k small a b =
+exchange_cmp-is pool k a b =
     let out : List ℕ → List ℕ = moved_out pool k in
     let by : List ℕ → ℕ = λ set. sum_of (moved_in pool k set) - sum_of (moved_out pool k set) in
-    let lists : List ℕ → List ℕ = λ set. map turned (reverse (moved_out pool k set)) ++ moved_in pool k set in
+    let lists : List ℕ → List ℕ = λ set. map (turned_in (sum_of pool)) (reverse (moved_out pool k set)) ++ moved_in pool k set in
     let last : Ordering = ordering_then (slice_cmp (flip_args nat_cmp) (reverse (out a)) (reverse (out b))) (lower_first (moved_in pool k a) (moved_in pool k b)) in
     number_first (length (out a)) (length (out b)) (ordering_then (nat_cmp (by a) (by b)) last) (is_before (by a ∷ lists a) (by b ∷ lists b))
     (λ same. number_first (by a) (by b) last (is_before (lists a) (lists b))
-    (λ _. higher_first-is 65535 (reverse (out a)) (reverse (out b)) (moved_in pool k a) (moved_in pool k b) (lower_first (moved_in pool k a) (moved_in pool k b))
-    (length-reverse (out a) ∙ same ∙ sym (length-reverse (out b))) (out_small pool k a small) (out_small pool k b small)
+    (λ _. higher_first-is (sum_of pool) (reverse (out a)) (reverse (out b)) (moved_in pool k a) (moved_in pool k b) (lower_first (moved_in pool k a) (moved_in pool k b))
+    (length-reverse (out a) ∙ same ∙ sym (length-reverse (out b))) (out_small pool k a) (out_small pool k b)
     (lower_first-is (moved_in pool k a) (moved_in pool k b))))
 
 -- ---- exchanges of moved-down players
@@ -184,13 +184,13 @@ unfolding limbo_cmp
 limbo_cmp_total scores = then_total (on_total (scores_of scores) (lists_total (back_total nat_cmp_total))) nat_list_cmp_total
 
 -- keys of choices that an order does not tell apart are the same
-pub keys_tied : (pool : List ℕ) (k : ℕ) → ((i : ℕ) → slice_index pool i ≤ 65535) → (a b : List ℕ) → exchange_cmp pool k a b ≡ Equal → exchange_key pool k a ≡ exchange_key pool k b
-keys_tied pool k small a b e =
+pub keys_tied : (pool : List ℕ) (k : ℕ) (a b : List ℕ) → exchange_cmp pool k a b ≡ Equal → exchange_key pool k a ≡ exchange_key pool k b
+keys_tied pool k a b e =
     let back : exchange_cmp pool k b a ≡ Equal = (exchange_cmp_total pool k).antisymm b a ∙ ap ordering_reverse e in
     elim (is_before-total (exchange_key pool k a) (exchange_key pool k b)) [
       | inl same ↦ same
-      | inr (inl first) ↦ absurd (true≢false (sym first ∙ sym (exchange_cmp-is pool k small a b) ∙ ap is_lt e))
-      | inr (inr second) ↦ absurd (true≢false (sym second ∙ sym (exchange_cmp-is pool k small b a) ∙ ap is_lt back))
+      | inr (inl first) ↦ absurd (true≢false (sym first ∙ sym (exchange_cmp-is pool k a b) ∙ ap is_lt e))
+      | inr (inr second) ↦ absurd (true≢false (sym second ∙ sym (exchange_cmp-is pool k b a) ∙ ap is_lt back))
     ]
 
 -- each number of a list is at most their sum

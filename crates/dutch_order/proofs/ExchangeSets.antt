@@ -18,7 +18,7 @@ use Rattle.dutch_order.proofs.HalfWalks.{Climbs}
 use Rattle.dutch_order.proofs.Orders.{IsIn-map, map-IsIn}
 use Rattle.dutch_order.proofs.Sets.{Climbs-lower, subsets-climb, climbs-subset, subsets-map}
 use Rattle.dutch_order.proofs.Members.{member-none, member-filter, filter-climbs, filter-numbers, climbs-filter, filter-length, length-numbers, numbers-append, numbers-shift, filter-map, mirror-filter}
-use Rattle.dutch_order.proofs.ByKeys.{turned, exchange_key}
+use Rattle.dutch_order.proofs.ByKeys.{turned_in, exchange_key}
 
 pub Climbs-append : (low middle bound : ℕ) (xs ys : List ℕ) → low ≤ middle → middle ≤ bound → Climbs low middle xs → Climbs middle bound ys → Climbs low bound (xs ++ ys)
 Climbs-append low middle bound [] ys h h' p q = Climbs-lower low middle bound ys h q
@@ -209,15 +209,15 @@ module _ (pool : List ℕ) (k : ℕ) (rises : IsStrictlyIncreasing pool) (enough
         ∙ map-map v (λ place. k + place) ins
 
     -- the key of an exchange's set
-    pub exchange_key-is : exchange_key pool k set ≡ length outs ∷ (total (value_of pool k In) ins - total (value_of pool k Out) outs) ∷ (map turned (map (value_of pool k Out) outs) ++ map (value_of pool k In) ins)
+    pub exchange_key-is : exchange_key pool k set ≡ length outs ∷ (total (value_of pool k In) ins - total (value_of pool k Out) outs) ∷ (map (turned_in (sum_of pool)) (map (value_of pool k Out) outs) ++ map (value_of pool k In) ins)
     exchange_key-is =
         let out : List ℕ = map (value_of pool k Out) outs in
-        ap (λ a. length a ∷ (sum_of (moved_in pool k set) - sum_of a) ∷ (map turned (reverse a) ++ moved_in pool k set)) moved_out-is
-        ∙ ap (λ b. length (reverse out) ∷ (sum_of b - sum_of (reverse out)) ∷ (map turned (reverse (reverse out)) ++ b)) moved_in-is
-        ∙ ap (λ n. n ∷ (sum_of (map (value_of pool k In) ins) - sum_of (reverse out)) ∷ (map turned (reverse (reverse out)) ++ map (value_of pool k In) ins)) (length-reverse out ∙ length-map outs (value_of pool k Out))
-        ∙ ap (λ n. length outs ∷ (n - sum_of (reverse out)) ∷ (map turned (reverse (reverse out)) ++ map (value_of pool k In) ins)) (sum_of-map (value_of pool k In) ins)
-        ∙ ap (λ n. length outs ∷ (total (value_of pool k In) ins - n) ∷ (map turned (reverse (reverse out)) ++ map (value_of pool k In) ins)) (sum_of-reverse out ∙ sum_of-map (value_of pool k Out) outs)
-        ∙ ap (λ xs. length outs ∷ (total (value_of pool k In) ins - total (value_of pool k Out) outs) ∷ (map turned xs ++ map (value_of pool k In) ins)) (reverse-reverse out)
+        ap (λ a. length a ∷ (sum_of (moved_in pool k set) - sum_of a) ∷ (map (turned_in (sum_of pool)) (reverse a) ++ moved_in pool k set)) moved_out-is
+        ∙ ap (λ b. length (reverse out) ∷ (sum_of b - sum_of (reverse out)) ∷ (map (turned_in (sum_of pool)) (reverse (reverse out)) ++ b)) moved_in-is
+        ∙ ap (λ n. n ∷ (sum_of (map (value_of pool k In) ins) - sum_of (reverse out)) ∷ (map (turned_in (sum_of pool)) (reverse (reverse out)) ++ map (value_of pool k In) ins)) (length-reverse out ∙ length-map outs (value_of pool k Out))
+        ∙ ap (λ n. length outs ∷ (n - sum_of (reverse out)) ∷ (map (turned_in (sum_of pool)) (reverse (reverse out)) ++ map (value_of pool k In) ins)) (sum_of-map (value_of pool k In) ins)
+        ∙ ap (λ n. length outs ∷ (total (value_of pool k In) ins - n) ∷ (map (turned_in (sum_of pool)) (reverse (reverse out)) ++ map (value_of pool k In) ins)) (sum_of-reverse out ∙ sum_of-map (value_of pool k Out) outs)
+        ∙ ap (λ xs. length outs ∷ (total (value_of pool k In) ins - total (value_of pool k Out) outs) ∷ (map (turned_in (sum_of pool)) xs ++ map (value_of pool k In) ins)) (reverse-reverse out)
 
   -- the exchange of a set
   pub exchange-of : (set : List ℕ) → IsIn set (subsets pool k) → (outs : List ℕ) × (ins : List ℕ) × Climbs 0 k outs × Climbs 0 (length pool - k) ins × (length outs ≡ length ins) × (set ≡ kept_of pool k outs ++ map (value_of pool k In) ins)

@@ -1,5 +1,5 @@
 -- A search of exchanges that begins at a set finds the sets from it on, by their keys.
-use Rattle.std.proofs.Common.{◌≡◌, ℕ, suc, ◌+◌, ◌-◌, ◌<◌, ◌≤◌, Bool, true, not, List, [], ◌∷◌, ◌++◌, map, length, refl, sym, ◌∙◌, ap, arith, subst, inl, inr, slice_index, Option, Some, None}
+use Rattle.std.proofs.Common.{◌≡◌, ℕ, suc, ◌+◌, ◌-◌, ◌<◌, ◌≤◌, Bool, true, not, List, [], ◌∷◌, ◌++◌, map, length, refl, sym, ◌∙◌, ap, arith, subst, inl, inr, Option, Some, None}
 use Rattle.std.specs.List.Sorted.{IsStrictlyIncreasing}
 use Rattle.std.proofs.lemmas.Bool.{true≢false, cases_order, not_from_true, not_from_false}
 use Rattle.dutch_order.specs.declared.exchange.Side.TheVariants.{Out, In}
@@ -8,7 +8,7 @@ use Rattle.std.specs.List.{filter}
 use Rattle.dutch_order.specs.Choices.{subsets, from_on}
 use Rattle.dutch_order.specs.Hints.{hinted, first_hint}
 use Rattle.dutch_order.specs.Keys.{IsIn}
-use Rattle.dutch_order.specs.Exchange.{exchanges, exchange_cmp}
+use Rattle.dutch_order.specs.Exchange.{exchanges, exchange_cmp, sum_of}
 use Rattle.dutch_order.specs.Stages.{total, value_of, exchange_plan, kept_of, set_of, stage_left, sets_of_stages, sets_of_sizes, stages_of, least_difference, greatest_difference, most_exchanged, sets_ahead, out_places, in_places, exchange_path, exchange_difference}
 use Rattle.dutch_order.proofs.HalfWalks.{Climbs, Admitted}
 use Rattle.dutch_order.proofs.Orders.{is_before-lower, is_before-equal, IsIn-map, map-IsIn, IsIn-append, IsIn-front, IsIn-back, IsIn-filter, filter-IsIn, Ascends-append, Ascends-filter, Ascends-unique, is_before-asymmetric}
@@ -21,9 +21,9 @@ use Rattle.dutch_order.proofs.ExchangeSets.{set-in_pool, exchange-of, places-of_
 use Rattle.dutch_order.proofs.Reach.{difference-least, difference-greatest}
 use Rattle.dutch_order.proofs.StageSets.{Climbs-length, Exchange, path-set, no_difference, path-exchange, stage-exchange, stage-hits, exchange-admitted, key-at, stage-order, beyond_above, below_above, stages-in, in-stages, stages-ascend, in-sizes, size-exchange, sizes-ascend, sizes-sorted}
 use Rattle.dutch_order.proofs.StageMoves.{sets-low}
-use Rattle.dutch_order.proofs.ByKeys.{is_before, Ascends, turned, exchange_key}
+use Rattle.dutch_order.proofs.ByKeys.{is_before, Ascends, turned_in, exchange_key}
 
-module _ (pool : List ℕ) (k : ℕ) (rises : IsStrictlyIncreasing pool) (enough : k ≤ length pool) (small : (i : ℕ) → slice_index pool i ≤ 65535) where
+module _ (pool : List ℕ) (k : ℕ) (rises : IsStrictlyIncreasing pool) (enough : k ≤ length pool) where
   abbrev key : List ℕ → List ℕ
   key = exchange_key pool k
 
@@ -63,16 +63,16 @@ module _ (pool : List ℕ) (k : ℕ) (rises : IsStrictlyIncreasing pool) (enough
   -- fewer exchanged are before more, and then a smaller difference before a larger one
   before-larger : (size size' difference difference' : ℕ) (x y outs ins outs' ins' : List ℕ) → size < size' → Exchange pool k size difference x outs ins → Exchange pool k size' difference' y outs' ins' → is_before (key x) (key y) ≡ true
   before-larger size size' difference difference' x y outs ins outs' ins' less e e' =
-      subst (λ z. is_before z (key y) ≡ true) (sym (key-at pool k rises enough small size difference x outs ins e))
-      (subst (λ z. is_before (size ∷ difference ∷ (map (λ i. turned (out i)) outs ++ map inn ins)) z ≡ true) (sym (key-at pool k rises enough small size' difference' y outs' ins' e'))
-      (is_before-lower size size' (difference ∷ (map (λ i. turned (out i)) outs ++ map inn ins)) (difference' ∷ (map (λ i. turned (out i)) outs' ++ map inn ins')) less))
+      subst (λ z. is_before z (key y) ≡ true) (sym (key-at pool k rises enough size difference x outs ins e))
+      (subst (λ z. is_before (size ∷ difference ∷ (map (λ i. turned_in (sum_of pool) (out i)) outs ++ map inn ins)) z ≡ true) (sym (key-at pool k rises enough size' difference' y outs' ins' e'))
+      (is_before-lower size size' (difference ∷ (map (λ i. turned_in (sum_of pool) (out i)) outs ++ map inn ins)) (difference' ∷ (map (λ i. turned_in (sum_of pool) (out i)) outs' ++ map inn ins')) less))
 
   before-wider : (size difference difference' : ℕ) (x y outs ins outs' ins' : List ℕ) → difference < difference' → Exchange pool k size difference x outs ins → Exchange pool k size difference' y outs' ins' → is_before (key x) (key y) ≡ true
   before-wider size difference difference' x y outs ins outs' ins' less e e' =
-      let one : List ℕ = map (λ i. turned (out i)) outs ++ map inn ins in
-      let two : List ℕ = map (λ i. turned (out i)) outs' ++ map inn ins' in
-      subst (λ z. is_before z (key y) ≡ true) (sym (key-at pool k rises enough small size difference x outs ins e))
-      (subst (λ z. is_before (size ∷ difference ∷ one) z ≡ true) (sym (key-at pool k rises enough small size difference' y outs' ins' e'))
+      let one : List ℕ = map (λ i. turned_in (sum_of pool) (out i)) outs ++ map inn ins in
+      let two : List ℕ = map (λ i. turned_in (sum_of pool) (out i)) outs' ++ map inn ins' in
+      subst (λ z. is_before z (key y) ≡ true) (sym (key-at pool k rises enough size difference x outs ins e))
+      (subst (λ z. is_before (size ∷ difference ∷ one) z ≡ true) (sym (key-at pool k rises enough size difference' y outs' ins' e'))
       (is_before-equal size (difference ∷ one) (difference' ∷ two) ∙ is_before-lower difference difference' one two less))
 
   -- a known next difference that none lies before
@@ -107,7 +107,7 @@ module _ (pool : List ℕ) (k : ℕ) (rises : IsStrictlyIncreasing pool) (enough
 
     -- where nothing is exchanged, nothing differs
     none : size ≡ 0 → difference ≡ 0
-    none empty = no_difference pool k rises enough small outs ins empty (e.ins_size ∙ empty)
+    none empty = no_difference pool k rises enough outs ins empty (e.ins_size ∙ empty)
 
     none_later : (difference' : ℕ) → suc difference ≤ difference' → difference' < suc difference + (greatest_difference pool k size - difference) → size ≡ 0 → difference' ≡ 0
     none_later difference' from below' empty =
@@ -115,7 +115,7 @@ module _ (pool : List ℕ) (k : ℕ) (rises : IsStrictlyIncreasing pool) (enough
         absurd (omega (arith, from, below', nothing))
 
     admitted : Admitted stage (size + size) [] hint
-    admitted = exchange-admitted pool k rises enough small size difference set outs ins e
+    admitted = exchange-admitted pool k rises enough size difference set outs ins e
 
     here : IsIn hint (found stage (size + size) [])
     here = admitted-found stage (size + size) [] hint admitted
@@ -124,7 +124,7 @@ module _ (pool : List ℕ) (k : ℕ) (rises : IsStrictlyIncreasing pool) (enough
     whole = sym (admitted-length stage (size + size) [] hint admitted)
 
     hint-set : set_of pool k size hint ≡ set
-    hint-set = path-set pool k rises enough small size outs ins refl ∙ sym e.is_set
+    hint-set = path-set pool k rises enough size outs ins refl ∙ sym e.is_set
 
     -- what its stage still finds
     first_sets : List (List ℕ)
@@ -137,7 +137,7 @@ module _ (pool : List ℕ) (k : ℕ) (rises : IsStrictlyIncreasing pool) (enough
     next-from : lower (Some (suc difference)) (lowest (ahead (hinted hint stage) [] (first_hint hint))) ≡ Some (suc difference)
     next-from =
         lower-next difference (lowest (ahead (hinted hint stage) [] (first_hint hint)))
-        (λ n is. below_above pool k rises enough small (hinted hint stage) difference (beyond_above pool k rises enough small size difference) (size + size) [] (entry (hinted hint stage) (size + size) []) n
+        (λ n is. below_above pool k rises enough (hinted hint stage) difference (beyond_above pool k rises enough size difference) (size + size) [] (entry (hinted hint stage) (size + size) []) n
         (ap lowest (sym (hinted-ahead stage hint whole)) ∙ is))
 
     second_sets : List (List ℕ)
@@ -150,14 +150,14 @@ module _ (pool : List ℕ) (k : ℕ) (rises : IsStrictlyIncreasing pool) (enough
     path-late : (path : List ℕ) → IsIn path (found stage (size + size) []) → late (set_of pool k size path) ≡ not (is_before path hint)
     path-late path m =
         ap (λ s. not (is_before (key (set_of pool k size path)) (key s))) (sym hint-set)
-        ∙ ap not (sym (order-same key (set_of pool k size) (found stage (size + size) []) (stage-order pool k rises enough small size difference none) path hint m here))
+        ∙ ap not (sym (order-same key (set_of pool k size) (found stage (size + size) []) (stage-order pool k rises enough size difference none) path hint m here))
 
     first-in : (x : List ℕ) → IsIn x first_sets → (late x ≡ true) × ((outs' : List ℕ) × (ins' : List ℕ) × Exchange pool k size difference x outs' ins')
     unfolding first_sets
     first-in x m =
         let from = IsIn-map (set_of pool k size) x (filter (λ path. not (is_before path hint)) (found stage (size + size) [])) m in
         let kept = IsIn-filter (λ path. not (is_before path hint)) from.0 (found stage (size + size) []) from.2 in
-        let path = path-exchange pool k rises enough small size difference none from.0 kept.0 in (
+        let path = path-exchange pool k rises enough size difference none from.0 kept.0 in (
           ap late from.1 ∙ path-late from.0 kept.0 ∙ kept.1,
           (path.0, path.1, subst (λ s. Exchange pool k size difference s path.0 path.1) (sym from.1) path.3),
         )
@@ -165,14 +165,14 @@ module _ (pool : List ℕ) (k : ℕ) (rises : IsStrictlyIncreasing pool) (enough
     second-in : (x : List ℕ) → IsIn x second_sets → (difference' : ℕ) × (outs' : List ℕ) × (ins' : List ℕ) × (difference < difference') × Exchange pool k size difference' x outs' ins'
     unfolding second_sets
     second-in x m =
-        let later = stages-in pool k rises enough small (greatest_difference pool k size - difference) size (suc difference) (Some (suc difference)) x m in
-        let there = stage-exchange pool k rises enough small size later.0 (none_later later.0 later.1 later.2) x later.3 in
+        let later = stages-in pool k rises enough (greatest_difference pool k size - difference) size (suc difference) (Some (suc difference)) x m in
+        let there = stage-exchange pool k rises enough size later.0 (none_later later.0 later.1 later.2) x later.3 in
         (later.0, there.0, there.1, omega (arith, later.1), there.2)
 
     third-in : (x : List ℕ) → IsIn x third_sets → (size' : ℕ) × (difference' : ℕ) × (outs' : List ℕ) × (ins' : List ℕ) × (size < size') × Exchange pool k size' difference' x outs' ins'
     unfolding third_sets
     third-in x m =
-        let there = size-exchange pool k rises enough small (most_exchanged pool k - size) (suc size) x m in
+        let there = size-exchange pool k rises enough (most_exchanged pool k - size) (suc size) x m in
         (there.0, there.1, there.2, there.3, omega (arith, there.4), there.5)
 
     after-late : (x : List ℕ) → is_before (key set) (key x) ≡ true → late x ≡ true
@@ -184,13 +184,13 @@ module _ (pool : List ℕ) (k : ℕ) (rises : IsStrictlyIncreasing pool) (enough
         let first_ascend : Ascends key first_sets =
         Ascends-map key (set_of pool k size) (filter (λ path. not (is_before path hint)) (found stage (size + size) []))
         (Ascends-filter (λ path. path) (λ path. not (is_before path hint)) (found stage (size + size) []) (found-ascends stage (size + size) []))
-        (λ p q m n. stage-order pool k rises enough small size difference none p q
+        (λ p q m n. stage-order pool k rises enough size difference none p q
         (IsIn-filter (λ path. not (is_before path hint)) p (found stage (size + size) []) m).0
         (IsIn-filter (λ path. not (is_before path hint)) q (found stage (size + size) []) n).0) in
         let rest_ascend : Ascends key (second_sets ++ third_sets) =
         Ascends-append key second_sets third_sets
-        (stages-ascend pool k rises enough small (greatest_difference pool k size - difference) size (suc difference) (Some (suc difference)) none_later)
-        (sizes-ascend pool k rises enough small (most_exchanged pool k - size) (suc size))
+        (stages-ascend pool k rises enough (greatest_difference pool k size - difference) size (suc difference) (Some (suc difference)) none_later)
+        (sizes-ascend pool k rises enough (most_exchanged pool k - size) (suc size))
         (λ x y m n.
         let one = second-in x m in
         let two = third-in y n in
@@ -225,8 +225,8 @@ module _ (pool : List ℕ) (k : ℕ) (rises : IsStrictlyIncreasing pool) (enough
     unfolding first_sets
     late-first x outs' ins' e' is =
         let path : List ℕ = outs' ++ ins' in
-        let there : IsIn path (found stage (size + size) []) = admitted-found stage (size + size) [] path (exchange-admitted pool k rises enough small size difference x outs' ins' e') in
-        let made : set_of pool k size path ≡ x = path-set pool k rises enough small size outs' ins' e'.outs_size ∙ sym e'.is_set in
+        let there : IsIn path (found stage (size + size) []) = admitted-found stage (size + size) [] path (exchange-admitted pool k rises enough size difference x outs' ins' e') in
+        let made : set_of pool k size path ≡ x = path-set pool k rises enough size outs' ins' e'.outs_size ∙ sym e'.is_set in
         subst (λ s. IsIn s (map (set_of pool k size) (filter (λ path. not (is_before path hint)) (found stage (size + size) [])))) made
         (map-IsIn (set_of pool k size) path (filter (λ path. not (is_before path hint)) (found stage (size + size) []))
         (filter-IsIn (λ path. not (is_before path hint)) path (found stage (size + size) []) there
@@ -236,7 +236,7 @@ module _ (pool : List ℕ) (k : ℕ) (rises : IsStrictlyIncreasing pool) (enough
     unfolding second_sets
     late-second difference' x outs' ins' e' less =
         let greatest : total inn ins' - total out outs' ≤ greatest_difference pool k size = difference-greatest pool k rises enough outs' ins' size e'.outs_size e'.ins_size e'.outs_climb e'.ins_climb in
-        in-stages pool k rises enough small (greatest_difference pool k size - difference) size (suc difference) difference' (suc difference) (Some (suc difference)) x outs' ins' e' refl (omega arith) (omega arith)
+        in-stages pool k rises enough (greatest_difference pool k size - difference) size (suc difference) difference' (suc difference) (Some (suc difference)) x outs' ins' e' refl (omega arith) (omega arith)
         (omega (arith, greatest, e'.differs, less))
 
     late-third : (size' difference' : ℕ) (x outs' ins' : List ℕ) → Exchange pool k size' difference' x outs' ins' → size < size' → IsIn x third_sets
@@ -246,8 +246,8 @@ module _ (pool : List ℕ) (k : ℕ) (rises : IsStrictlyIncreasing pool) (enough
         let greatest : total inn ins' - total out outs' ≤ greatest_difference pool k size' = difference-greatest pool k rises enough outs' ins' size' e'.outs_size e'.ins_size e'.outs_climb e'.ins_climb in
         let out_room : 0 + length outs' ≤ k = Climbs-length 0 k outs' (omega arith) e'.outs_climb in
         let in_room : 0 + length ins' ≤ length pool - k = Climbs-length 0 (length pool - k) ins' (omega arith) e'.ins_climb in
-        in-sizes pool k rises enough small (most_exchanged pool k - size) (suc size) size' x (omega (arith, less)) (omega (arith, less, e'.outs_size, e'.ins_size))
-        (in-stages pool k rises enough small (stages_of pool k size') size' (least_difference pool k size') difference' (least_difference pool k size') (Some (least_difference pool k size')) x outs' ins' e' refl (omega (arith, least, e'.differs)) (omega (arith, least, e'.differs)) (omega (arith, least, greatest, e'.differs)))
+        in-sizes pool k rises enough (most_exchanged pool k - size) (suc size) size' x (omega (arith, less)) (omega (arith, less, e'.outs_size, e'.ins_size))
+        (in-stages pool k rises enough (stages_of pool k size') size' (least_difference pool k size') difference' (least_difference pool k size') (Some (least_difference pool k size')) x outs' ins' e' refl (omega (arith, least, e'.differs)) (omega (arith, least, e'.differs)) (omega (arith, least, greatest, e'.differs)))
 
     late-parts : (x : List ℕ) → IsIn x (filter late (exchanges pool k)) → IsIn x (first_sets ++ (second_sets ++ third_sets))
     late-parts x m =
@@ -279,7 +279,7 @@ module _ (pool : List ℕ) (k : ℕ) (rises : IsStrictlyIncreasing pool) (enough
 
     pub late-own : (x : List ℕ) → IsIn x (hits (ahead (hinted hint stage) [] (first_hint hint))) → IsIn x (hits (ahead stage [] 0))
     late-own x m =
-        subst (IsIn x) (sym (stage-hits pool k rises enough small size difference))
+        subst (IsIn x) (sym (stage-hits pool k rises enough size difference))
         (IsIn-filter (λ path. not (is_before path hint)) x (found stage (size + size) [])
         (subst (IsIn x) (hinted-hits stage hint whole (admitted-reaches stage (size + size) [] hint admitted)) m)).0
 
@@ -287,7 +287,7 @@ module _ (pool : List ℕ) (k : ℕ) (rises : IsStrictlyIncreasing pool) (enough
     pub exchanges-from : sets_ahead pool k hint size difference [] (first_hint hint) (Some (suc difference)) ≡ from_on set (exchanges pool k)
     unfolding second_sets third_sets sets_ahead
     exchanges-from =
-        let ascend : Ascends key (exchanges pool k) = subst (Ascends key) (sizes-sorted pool k rises enough small) (sizes-ascend pool k rises enough small (suc (most_exchanged pool k)) 0) in
+        let ascend : Ascends key (exchanges pool k) = subst (Ascends key) (sizes-sorted pool k rises enough) (sizes-ascend pool k rises enough (suc (most_exchanged pool k)) 0) in
         ap (λ sets. sets ++ (sets_of_stages pool k (greatest_difference pool k size - difference) size (suc difference) (lower (Some (suc difference)) (lowest (ahead (hinted hint stage) [] (first_hint hint)))) ++ third_sets)) stage-from
         ∙ ap (λ next. first_sets ++ (sets_of_stages pool k (greatest_difference pool k size - difference) size (suc difference) next ++ third_sets)) next-from
         ∙ Ascends-unique key (first_sets ++ (second_sets ++ third_sets)) (filter late (exchanges pool k)) parts-ascend (Ascends-filter key late (exchanges pool k) ascend) parts-late late-parts

@@ -1,5 +1,5 @@
 -- Where a search of exchanges stands: what is known of what lies beyond its stage, and which paths are to come.
-use Rattle.std.proofs.Common.{◌≡◌, ℕ, suc, ◌-◌, ◌≤◌, List, [], ◌∷◌, ◌++◌, map, length, refl, sym, ◌∙◌, ap, arith, subst, ◌⊎◌, inl, inr, slice_index, Option, Some, None}
+use Rattle.std.proofs.Common.{◌≡◌, ℕ, suc, ◌-◌, ◌≤◌, List, [], ◌∷◌, ◌++◌, map, length, refl, sym, ◌∙◌, ap, arith, subst, ◌⊎◌, inl, inr, Option, Some, None}
 use Rattle.std.specs.List.{AllByRecursion}
 use Rattle.std.specs.List.Sorted.{IsStrictlyIncreasing}
 use Rattle.dutch_order.specs.Choices.{subsets}
@@ -21,8 +21,8 @@ none_after pool k size difference empty =
     omega (arith, nothing)
 
 -- a stage that has not begun
-pub new-place : (pool : List ℕ) (k : ℕ) → IsStrictlyIncreasing pool → k ≤ length pool → ((i : ℕ) → slice_index pool i ≤ 65535) → (place : Place) → place.hint.items ≡ [] → place.walk.path.items ≡ [] → place.walk.number ≡ 0 → place.walk.beyond ≡ None → IsKnown pool k place × IsOwn pool k place
-new-place pool k rises enough small place no_hint no_path no_number no_beyond =
+pub new-place : (pool : List ℕ) (k : ℕ) → IsStrictlyIncreasing pool → k ≤ length pool → (place : Place) → place.hint.items ≡ [] → place.walk.path.items ≡ [] → place.walk.number ≡ 0 → place.walk.beyond ≡ None → IsKnown pool k place × IsOwn pool k place
+new-place pool k rises enough place no_hint no_path no_number no_beyond =
     let plan : Plan = exchange_plan pool k place.size place.difference in
     let start : ahead (hinted place.hint.items plan) place.walk.path.items place.walk.number ≡ ahead plan [] 0 =
     ap (λ hint. ahead (hinted hint plan) place.walk.path.items place.walk.number) no_hint
@@ -31,7 +31,7 @@ new-place pool k rises enough small place no_hint no_path no_number no_beyond =
     let count : ℕ = greatest_difference pool k place.size - place.difference in (
       ap (sets_of_stages pool k count place.size (suc place.difference))
           (ap (λ o. lower o (lowest (ahead (hinted place.hint.items plan) place.walk.path.items place.walk.number))) no_beyond ∙ ap lowest start)
-          ∙ stages-known pool k rises enough small count place.size place.difference (none_after pool k place.size place.difference),
+          ∙ stages-known pool k rises enough count place.size place.difference (none_after pool k place.size place.difference),
       all-members (IsOfStage pool k place.size place.difference) (hits (ahead (hinted place.hint.items plan) place.walk.path.items place.walk.number))
           (λ x m. subst (IsIn x) (ap hits start) m),
     )
@@ -42,13 +42,13 @@ known-kept pool k count size difference old new (inl none) known = ap (sets_of_s
 known-kept pool k count size difference old new (inr same) known = ap (sets_of_stages pool k count size difference) same ∙ known
 
 -- a stage that begins at a set
-pub late-place : (pool : List ℕ) (k : ℕ) → IsStrictlyIncreasing pool → k ≤ length pool → ((i : ℕ) → slice_index pool i ≤ 65535) → (set : List ℕ) → IsIn set (subsets pool k) → (copy : List ℕ) → copy ≡ pool → (place : Place) → place.size ≡ length (out_places pool k set) → place.difference ≡ exchange_difference pool k set → place.hint.items ≡ exchange_path pool k set → place.walk.path.items ≡ [] → place.walk.number ≡ first_hint (exchange_path pool k set) → place.walk.beyond ≡ Some (suc (exchange_difference pool k set)) → IsKnown copy k place × IsOwn copy k place
-late-place pool k rises enough small set given copy is_copy place is_size is_difference is_hint no_path is_number is_beyond =
+pub late-place : (pool : List ℕ) (k : ℕ) → IsStrictlyIncreasing pool → k ≤ length pool → (set : List ℕ) → IsIn set (subsets pool k) → (copy : List ℕ) → copy ≡ pool → (place : Place) → place.size ≡ length (out_places pool k set) → place.difference ≡ exchange_difference pool k set → place.hint.items ≡ exchange_path pool k set → place.walk.path.items ≡ [] → place.walk.number ≡ first_hint (exchange_path pool k set) → place.walk.beyond ≡ Some (suc (exchange_difference pool k set)) → IsKnown copy k place × IsOwn copy k place
+late-place pool k rises enough set given copy is_copy place is_size is_difference is_hint no_path is_number is_beyond =
     let size : ℕ = length (out_places pool k set) in
     let difference : ℕ = exchange_difference pool k set in
     let hint : List ℕ = exchange_path pool k set in
-    let known = late-known pool k rises enough small set given in
-    let own = late-own pool k rises enough small set given in
+    let known = late-known pool k rises enough set given in
+    let own = late-own pool k rises enough set given in
     let events : ahead (hinted place.hint.items (exchange_plan copy k place.size place.difference)) place.walk.path.items place.walk.number ≡ ahead (hinted hint (exchange_plan pool k size difference)) [] (first_hint hint) = cc in
     let stage : hits (ahead (exchange_plan copy k place.size place.difference) [] 0) ≡ hits (ahead (exchange_plan pool k size difference) [] 0) = cc in
     let next : lower place.walk.beyond (lowest (ahead (hinted place.hint.items (exchange_plan copy k place.size place.difference)) place.walk.path.items place.walk.number)) ≡ lower (Some (suc difference)) (lowest (ahead (hinted hint (exchange_plan pool k size difference)) [] (first_hint hint))) = cc in

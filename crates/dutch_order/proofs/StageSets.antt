@@ -1,5 +1,5 @@
 -- The stages of exchanges find all sets, by their keys.
-use Rattle.std.proofs.Common.{◌≡◌, ℕ, zero, suc, ◌+◌, ◌-◌, ◌<◌, ◌≤◌, Bool, true, false, min, List, [], ◌∷◌, ◌++◌, map, length, drop, refl, sym, ◌∙◌, ap, append_assoc, arith, subst, ◌⊎◌, inl, inr, slice_index, zero-add, Option, Some, None, cond, nat_lt, nat_le, ◌&&◌, if◌then◌else◌}
+use Rattle.std.proofs.Common.{◌≡◌, ℕ, zero, suc, ◌+◌, ◌-◌, ◌<◌, ◌≤◌, Bool, true, false, min, List, [], ◌∷◌, ◌++◌, map, length, drop, refl, sym, ◌∙◌, ap, append_assoc, arith, subst, ◌⊎◌, inl, inr, zero-add, Option, Some, None, cond, nat_lt, nat_le, ◌&&◌, if◌then◌else◌}
 use Rattle.std.specs.List.Sorted.{IsStrictlyIncreasing}
 use Rattle.std.proofs.lemmas.List.{append-nil, length-map}
 use Rattle.std.proofs.lemmas.Simd.{map-map}
@@ -9,7 +9,7 @@ use Rattle.dutch_order.specs.Trials.{Plan, Event, Tried, Hit, entry, below, ahea
 use Rattle.std.specs.List.{flat_map}
 use Rattle.dutch_order.specs.Choices.{subsets, numbers_from}
 use Rattle.dutch_order.specs.Keys.{IsIn}
-use Rattle.dutch_order.specs.Exchange.{exchanges, exchange_cmp}
+use Rattle.dutch_order.specs.Exchange.{exchanges, exchange_cmp, sum_of}
 use Rattle.dutch_order.specs.Halves.{half_start}
 use Rattle.dutch_order.specs.Stages.{total, value_of, within_reach, beyond_reach, exchange_plan, kept_of, set_of, stage_sets, stage_left, sets_of_stages, sets_of_sizes, stages_of, least_difference, greatest_difference, most_exchanged, sets_ahead, is_next, least_at, greatest_at}
 use Rattle.dutch_order.proofs.HalfWalks.{Climbs, AllFit, Admitted, halves-split, halves-join, Climbs-room}
@@ -22,8 +22,8 @@ use Rattle.dutch_order.proofs.ExchangeSets.{v, v-raises, pool-is, set-is, set-in
 use Rattle.dutch_order.proofs.Moves.{lower-assoc}
 use Rattle.dutch_order.proofs.StageMoves.{sets-first}
 use Rattle.dutch_order.proofs.Reach.{out-falls, inn-raises, difference-least, difference-greatest, outs-fit, ins-fit, ins-exact, take_front_of}
-use Rattle.dutch_order.proofs.ByKeys.{is_before, Ascends, turned, exchange_key}
-use Rattle.dutch_order.proofs.Comparing.{exchange_cmp-is}
+use Rattle.dutch_order.proofs.ByKeys.{is_before, Ascends, turned_in, exchange_key}
+use Rattle.dutch_order.proofs.Comparing.{exchange_cmp-is, under_sum}
 
 -- a map that raises the numbers below a bound keeps the order of lists of them
 pub is_before-map_below : (f : ℕ → ℕ) (bound low : ℕ) → ((x y : ℕ) → x < y → y < bound → f x < f y) → (xs ys : List ℕ) → Climbs low bound ys → is_before xs ys ≡ true → is_before (map f xs) (map f ys) ≡ true
@@ -72,7 +72,7 @@ pub record Exchange (pool : List ℕ) (k size difference : ℕ) (set outs ins : 
   pub differs : total (value_of pool k In) ins - total (value_of pool k Out) outs ≡ difference
   pub is_set : set ≡ kept_of pool k outs ++ map (value_of pool k In) ins
 
-module _ (pool : List ℕ) (k : ℕ) (rises : IsStrictlyIncreasing pool) (enough : k ≤ length pool) (small : (i : ℕ) → slice_index pool i ≤ 65535) where
+module _ (pool : List ℕ) (k : ℕ) (rises : IsStrictlyIncreasing pool) (enough : k ≤ length pool) where
   abbrev pub key : List ℕ → List ℕ
   key = exchange_key pool k
 
@@ -161,13 +161,13 @@ module _ (pool : List ℕ) (k : ℕ) (rises : IsStrictlyIncreasing pool) (enough
       (map-IsIn (set_of pool k size) (outs ++ ins) (found (exchange_plan pool k size difference) (size + size) [])
       (admitted-found (exchange_plan pool k size difference) (size + size) [] (outs ++ ins) (exchange-admitted size difference set outs ins e))))
 
-  pub key-at : (size difference : ℕ) (set outs ins : List ℕ) → Exchange pool k size difference set outs ins → key set ≡ size ∷ difference ∷ (map (λ i. turned (out i)) outs ++ map inn ins)
+  pub key-at : (size difference : ℕ) (set outs ins : List ℕ) → Exchange pool k size difference set outs ins → key set ≡ size ∷ difference ∷ (map (λ i. turned_in (sum_of pool) (out i)) outs ++ map inn ins)
   key-at size difference set outs ins e =
       ap key (e.is_set ∙ set-is pool k rises enough outs ins)
       ∙ exchange_key-is pool k rises enough outs ins e.outs_climb e.ins_climb
-      ∙ ap (λ n. n ∷ (total inn ins - total out outs) ∷ (map turned (map out outs) ++ map inn ins)) e.outs_size
-      ∙ ap (λ n. size ∷ n ∷ (map turned (map out outs) ++ map inn ins)) e.differs
-      ∙ ap (λ xs. size ∷ difference ∷ (xs ++ map inn ins)) (map-map turned out outs)
+      ∙ ap (λ n. n ∷ (total inn ins - total out outs) ∷ (map (turned_in (sum_of pool)) (map out outs) ++ map inn ins)) e.outs_size
+      ∙ ap (λ n. size ∷ n ∷ (map (turned_in (sum_of pool)) (map out outs) ++ map inn ins)) e.differs
+      ∙ ap (λ xs. size ∷ difference ∷ (xs ++ map inn ins)) (map-map (turned_in (sum_of pool)) out outs)
 
   -- within a stage, earlier paths have earlier keys
   pub stage-order : (size difference : ℕ) → (size ≡ 0 → difference ≡ 0) → (p q : List ℕ) → IsIn p (found (exchange_plan pool k size difference) (size + size) []) → IsIn q (found (exchange_plan pool k size difference) (size + size) []) → is_before p q ≡ true → is_before (key (set_of pool k size p)) (key (set_of pool k size q)) ≡ true
@@ -178,7 +178,7 @@ module _ (pool : List ℕ) (k : ℕ) (rises : IsStrictlyIncreasing pool) (enough
       let key_p = key-at size difference (set_of pool k size p) C A one.3 in
       let key_q = key-at size difference (set_of pool k size q) D B two.3 in
       let same : length C ≡ length D = one.3.outs_size ∙ sym two.3.outs_size in
-      let weight : ℕ → ℕ = λ i. turned (out i) in
+      let weight : ℕ → ℕ = λ i. turned_in (sum_of pool) (out i) in
       let cases = is_before-split C D A B same (subst (λ z. is_before (C ++ A) z ≡ true) two.2 (subst (λ z. is_before z q ≡ true) one.2 h)) in
       let tails : is_before (map weight C ++ map inn A) (map weight D ++ map inn B) ≡ true =
       elim cases [
@@ -187,7 +187,7 @@ module _ (pool : List ℕ) (k : ℕ) (rises : IsStrictlyIncreasing pool) (enough
             (is_before-begun (map weight C) (map inn A) (map inn B) ∙ is_before-map_below inn (length pool - k) 0 (inn-raises pool k rises enough) A B two.3.ins_climb equal.1)
         | inr first ↦
             is_before-join (map weight C) (map weight D) (map inn A) (map inn B) (length-map C weight ∙ same ∙ sym (length-map D weight))
-            (is_before-map_below weight k 0 (λ x y below within. omega (arith, out-falls pool k rises enough x y below within, small (k - 1 - x), small (k - 1 - y))) C D two.3.outs_climb first)
+            (is_before-map_below weight k 0 (λ x y below within. omega (arith, out-falls pool k rises enough x y below within, under_sum pool (k - 1 - x), under_sum pool (k - 1 - y))) C D two.3.outs_climb first)
       ] in
       subst (λ z. is_before z (key (set_of pool k size q)) ≡ true) (sym key_p)
       (subst (λ z. is_before (size ∷ difference ∷ (map weight C ++ map inn A)) z ≡ true) (sym key_q)
@@ -337,7 +337,7 @@ module _ (pool : List ℕ) (k : ℕ) (rises : IsStrictlyIncreasing pool) (enough
             (subst (λ s. IsIn s (map (set_of pool k size) (found (exchange_plan pool k size first) (size + size) []))) (path-set size outs ins e.outs_size ∙ sym e.is_set)
             (map-IsIn (set_of pool k size) (outs ++ ins) (found (exchange_plan pool k size first) (size + size) []) (admitted-found (exchange_plan pool k size first) (size + size) [] (outs ++ ins) here))) in
             let other = stage-exchange size first none set there in
-            let keys : size ∷ first ∷ (map (λ i. turned (out i)) other.0 ++ map inn other.1) ≡ size ∷ difference ∷ (map (λ i. turned (out i)) outs ++ map inn ins) =
+            let keys : size ∷ first ∷ (map (λ i. turned_in (sum_of pool) (out i)) other.0 ++ map inn other.1) ≡ size ∷ difference ∷ (map (λ i. turned_in (sum_of pool) (out i)) outs ++ map inn ins) =
             sym (key-at size first set other.0 other.1 other.2) ∙ key-at size difference set outs ins e in
             let same : first ≡ difference = cc in
             absurd (omega (arith, less, same))
@@ -392,8 +392,8 @@ module _ (pool : List ℕ) (k : ℕ) (rises : IsStrictlyIncreasing pool) (enough
       let here = stage-exchange size first (none first (omega arith) (omega arith)) x m in
       let later = stages-in count size (suc first) found_next y n in
       let there = stage-exchange size later.0 (none later.0 (omega (arith, later.1)) (omega (arith, later.2))) y later.3 in
-      let one : List ℕ = map (λ i. turned (out i)) here.0 ++ map inn here.1 in
-      let two : List ℕ = map (λ i. turned (out i)) there.0 ++ map inn there.1 in
+      let one : List ℕ = map (λ i. turned_in (sum_of pool) (out i)) here.0 ++ map inn here.1 in
+      let two : List ℕ = map (λ i. turned_in (sum_of pool) (out i)) there.0 ++ map inn there.1 in
       subst (λ z. is_before z (key y) ≡ true) (sym (key-at size first x here.0 here.1 here.2))
       (subst (λ z. is_before (size ∷ first ∷ one) z ≡ true) (sym (key-at size later.0 y there.0 there.1 there.2))
       (is_before-equal size (first ∷ one) (later.0 ∷ two) ∙ is_before-lower first later.0 one two (omega (arith, later.1))))))
@@ -459,8 +459,8 @@ module _ (pool : List ℕ) (k : ℕ) (rises : IsStrictlyIncreasing pool) (enough
       let here = stage-exchange first stage.0 (none_at first stage.0 stage.1 stage.2) x stage.3 in
       let there = size-exchange count (suc first) y n in
       subst (λ z. is_before z (key y) ≡ true) (sym (key-at first stage.0 x here.0 here.1 here.2))
-      (subst (λ z. is_before (first ∷ stage.0 ∷ (map (λ i. turned (out i)) here.0 ++ map inn here.1)) z ≡ true) (sym (key-at there.0 there.1 y there.2 there.3 there.5))
-      (is_before-lower first there.0 (stage.0 ∷ (map (λ i. turned (out i)) here.0 ++ map inn here.1)) (there.1 ∷ (map (λ i. turned (out i)) there.2 ++ map inn there.3)) (omega (arith, there.4)))))
+      (subst (λ z. is_before (first ∷ stage.0 ∷ (map (λ i. turned_in (sum_of pool) (out i)) here.0 ++ map inn here.1)) z ≡ true) (sym (key-at there.0 there.1 y there.2 there.3 there.5))
+      (is_before-lower first there.0 (stage.0 ∷ (map (λ i. turned_in (sum_of pool) (out i)) here.0 ++ map inn here.1)) (there.1 ∷ (map (λ i. turned_in (sum_of pool) (out i)) there.2 ++ map inn there.3)) (omega (arith, there.4)))))
 
   found-set : (set : List ℕ) → IsIn set (sets_of_sizes pool k (suc (most_exchanged pool k)) 0) → IsIn set (subsets pool k)
   found-set set m =
@@ -502,7 +502,7 @@ module _ (pool : List ℕ) (k : ℕ) (rises : IsStrictlyIncreasing pool) (enough
   pub sizes-sorted : sets_of_sizes pool k (suc (most_exchanged pool k)) 0 ≡ exchanges pool k
   sizes-sorted =
       let ascend = sizes-ascend (suc (most_exchanged pool k)) 0 in
-      ascending-sorted key (exchange_cmp pool k) (sets_of_sizes pool k (suc (most_exchanged pool k)) 0) (subsets pool k) (λ x y m n. exchange_cmp-is pool k small x y) ascend pool-ascend
+      ascending-sorted key (exchange_cmp pool k) (sets_of_sizes pool k (suc (most_exchanged pool k)) 0) (subsets pool k) (λ x y m n. exchange_cmp-is pool k x y) ascend pool-ascend
       exchange_key-apart
       found-set set-found
 

@@ -27,7 +27,6 @@ use crate::numbers::Numbers;
 use crate::prefix::Prefix;
 use crate::rules::Rule;
 use crate::steps::{Budget, Drawn, Step, Stopped};
-use std::cell::RefCell;
 use std::marker::Model;
 
 /// Whether a player is in one of the four lists.
@@ -434,19 +433,18 @@ impl<'a, R: Rule> Candidates<'a, R> {
     /// rest is still to come. After `End` every further call answers `End` without a step.
     pub fn put_next_within<B: Bound>(
         &mut self,
-        bound: &B,
-        room: &mut B::Room,
+        within: &Within<'_, B>,
         candidate: &mut Candidate,
         budget: &mut Budget,
     ) -> Step<()>
-        requires frame { B.frame bound.now ≡ self.old.frame }
-        requires shape { B.shape bound.now ≡ self.old.shape }
-        requires meets { B.meets bound.now ≡ R.meets self.old.rule }
-        requires may_be_left { B.may_be_left bound.now ≡ R.may_be_left self.old.rule }
+        requires frame { B.frame within.now.bound.now ≡ self.old.frame }
+        requires shape { B.shape within.now.bound.now ≡ self.old.shape }
+        requires meets { B.meets within.now.bound.now ≡ R.meets self.old.rule }
+        requires may_be_left { B.may_be_left within.now.bound.now ≡ R.may_be_left self.old.rule }
         ensures answer { MatchStep result
-            (λ _. GivesPast self.old self.new (λ a. B.is_dull bound.now a ≡ true) candidate.new)
-            (EndsPast self.old self.new (λ a. B.is_dull bound.now a ≡ true))
-            (StopsPast self.old self.new (λ a. B.is_dull bound.now a ≡ true) budget.new) }
+            (λ _. GivesPast self.old self.new (λ a. B.is_dull within.now.bound.now a ≡ true) candidate.new)
+            (EndsPast self.old self.new (λ a. B.is_dull within.now.bound.now a ≡ true))
+            (StopsPast self.old self.new (λ a. B.is_dull within.now.bound.now a ≡ true) budget.new) }
         ensures hopeless { leaves_too_many self.old.frame self.old.shape ≡ true
             → EndsAtOnce result budget.old budget.new }
         ensures ended { TellsEnd self.old self.new result }
@@ -456,11 +454,7 @@ impl<'a, R: Rule> Candidates<'a, R> {
         ensures rule { self.new.rule ≡ self.old.rule }
         ensures spends { Spends budget.old budget.new }
     {
-        let within = Within {
-            bound,
-            room: RefCell::new(room),
-        };
-        self.go_on(&within, candidate, budget)
+        self.go_on(within, candidate, budget)
     }
 
     /// The next candidate, as `put_next_within` finds it.
@@ -488,7 +482,7 @@ impl<'a, R: Rule> Candidates<'a, R> {
         ensures spends { Spends budget.old budget.new }
     {
         let mut candidate = Candidate::empty();
-        let step = self.put_next_within(bound, room, &mut candidate, budget);
+        let step = self.put_next_within(&Within::new(bound, room), &mut candidate, budget);
         holding(step, candidate)
     }
 

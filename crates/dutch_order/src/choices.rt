@@ -19,6 +19,7 @@ use crate::bracket::{Bracket, Shape};
 use crate::cursor::Cursor;
 use crate::cuts::{Cuts, CutsTuples, OfS1r, OfS2, OfS2r, Unless};
 use crate::exchange::Exchanges;
+use crate::generator::Generator;
 use crate::levels::{Arranges, Blocks, Level};
 use crate::limbo::LimboExchanges;
 use crate::numbers::{Numbers, fill, is_same, put_left_of, refill};

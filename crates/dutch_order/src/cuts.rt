@@ -69,7 +69,19 @@ impl Cuts for NoCuts {
 pub struct Within<'b, B: Bound> {
     pub bound: &'b B,
     // lent for one question after another
-    pub room: RefCell<&'b mut B::Room>,
+    room: RefCell<&'b mut B::Room>,
+}
+
+impl<'b, B: Bound> Within<'b, B> {
+    /// A bound, with the room that it is lent.
+    pub fn new(bound: &'b B, room: &'b mut B::Room) -> Within<'b, B>
+        ensures { result.bound.now ≡ bound.now }
+    {
+        Within {
+            bound,
+            room: RefCell::new(room),
+        }
+    }
 }
 
 impl<'b, B: Bound> Cuts for Within<'b, B> {

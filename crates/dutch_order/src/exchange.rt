@@ -37,14 +37,15 @@ ghost use Rattle.dutch_order.specs.Hints.{hinted, first_hint};
 
 use crate::cuts::CutsExchanges;
 use crate::exchanged::Exchange;
+use crate::generator::Generator;
 use crate::halves::first_of_half;
 use crate::numbers::{LIMIT, Numbers, fill};
 use crate::search::{
     CutsPaths, Hinted, Path, Walk, climb_on, climb_past, end_number, first_hint, put_behind,
 };
 use crate::stage::{Stage, greatest_of, least_of};
-use crate::steps::{Budget, Drawn, Step, Stopped};
-use crate::sums::{total_of, value_at};
+use crate::steps::{Budget, Drawn, Stopped};
+use crate::sums::{Sides, total_of, value_at};
 use arrayvec::ArrayVec;
 use std::marker::Model;
 
@@ -146,8 +147,9 @@ fn enter_at(pool: &[u16], k: usize, set: &[u16], place: &mut Place)
     place.hint = out_places(pool, k, set);
     let ins = in_places(pool, k, set);
     place.size = place.hint.len();
-    let out = total_of(pool, k, Side::Out, &place.hint);
-    place.difference = total_of(pool, k, Side::In, &ins).saturating_sub(out);
+    let sides = Sides { pool, k };
+    let out = total_of(&sides, Side::Out, &place.hint);
+    place.difference = total_of(&sides, Side::In, &ins).saturating_sub(out);
     put_behind(&mut place.hint, &ins);
     place.walk.restart(first_hint(&place.hint));
     place.walk.beyond = Some(place.difference + 1);
@@ -265,9 +267,13 @@ fn put_told(stage: &Stage<'_>, told: &Told<'_>, chosen: bool, numbers: &mut Numb
     ensures { numbers.new.items ≡ numbers.old.items
         ++ told_numbers stage.now.pool.now stage.now.k told.now.side told.now.taken.now told.now.limit chosen }
 {
+    let sides = Sides {
+        pool: stage.pool,
+        k: stage.k,
+    };
     for place in 0..count_at(stage, told.side) {
         if is_told(told, chosen, place) {
-            numbers.push(value_at(stage.pool, stage.k, told.side, place) as u16);
+            numbers.push(value_at(&sides, told.side, place) as u16);
         }
     }
 }
@@ -349,7 +355,6 @@ fn cuts_begun<C: CutsExchanges>(
     numbers: &mut Numbers,
 ) -> bool
     requires ascends { IsStrictlyIncreasing stage.now.pool.now }
-    requires small { (i : ℕ) → slice_index stage.now.pool.now i ≤ 65535 }
     ensures { result ≡ true → (path : List ℕ) → GoesOn begun.now path
         → IdleAt stage.now.pool.now stage.now.k (C.Idle cuts.now) stage.now.size stage.now.difference path }
 {
@@ -376,7 +381,6 @@ struct OfStage<'c, C> {
     stage: &'c Stage<'c>,
     cuts: &'c C,
     ghost ascends: { IsStrictlyIncreasing stage.now.pool.now },
-    ghost small: { (i : ℕ) → slice_index stage.now.pool.now i ≤ 65535 },
 }
 
 impl<'c, C: CutsExchanges> CutsPaths for OfStage<'c, C> {
@@ -402,7 +406,6 @@ fn leave_stage<C: CutsExchanges>(
     budget: &mut Budget,
 ) -> Result<(), Stopped>
     requires ascends { IsStrictlyIncreasing tree.now.tree.pool.now }
-    requires small { (i : ℕ) → slice_index tree.now.tree.pool.now i ≤ 65535 }
     requires standing { Stands (hinted tree.now.hint.now.items (exchange_plan tree.now.tree.pool.now tree.now.tree.k
         tree.now.tree.size tree.now.tree.difference)) walk.old.path.items }
     ensures path { walk.new.path.items ≡ walk.old.path.items }
@@ -440,7 +443,6 @@ fn climb_stage<C: CutsExchanges>(
     budget: &mut Budget,
 ) -> Drawn
     requires ascends { IsStrictlyIncreasing tree.now.tree.pool.now }
-    requires small { (i : ℕ) → slice_index tree.now.tree.pool.now i ≤ 65535 }
     requires standing { Stands (hinted tree.now.hint.now.items (exchange_plan tree.now.tree.pool.now tree.now.tree.k
         tree.now.tree.size tree.now.tree.difference)) walk.old.path.items }
     ensures stands { Stands (hinted tree.now.hint.now.items (exchange_plan tree.now.tree.pool.now tree.now.tree.k
@@ -481,31 +483,33 @@ fn climb_stage<C: CutsExchanges>(
 /// Goes on to the next set, whose path the walk then has, past such as are known to be idle. All that was passed over
 /// is idle.
 fn next_set_past<C: CutsExchanges>(
-    pool: &[u16],
-    k: usize,
+    sides: &Sides<'_>,
     cuts: &C,
     place: &mut Place,
     budget: &mut Budget,
 ) -> Drawn
-    requires ascends { IsStrictlyIncreasing pool.now }
-    requires few { length pool.now ≤ LIMIT }
-    requires enough { k ≤ length pool.now }
-    requires standing { IsPlace pool.now k place.old }
-    ensures stands { IsPlace pool.now k place.new }
+    requires ascends { IsStrictlyIncreasing sides.now.pool.now }
+    requires few { length sides.now.pool.now ≤ LIMIT }
+    requires enough { sides.now.k ≤ length sides.now.pool.now }
+    requires standing { IsPlace sides.now.pool.now sides.now.k place.old }
+    ensures stands { IsPlace sides.now.pool.now sides.now.k place.new }
     ensures answer { MatchDrawn result
-        (Passes (C.Idle cuts.now) (sets_from pool.now k place.old) (set_of pool.now k place.new.size
-        place.new.walk.path.items ∷ sets_from pool.now k place.new)
+        (Passes (C.Idle cuts.now) (sets_from sides.now.pool.now sides.now.k place.old)
+        (set_of sides.now.pool.now sides.now.k place.new.size place.new.walk.path.items
+        ∷ sets_from sides.now.pool.now sides.now.k place.new)
         × (length place.new.walk.path.items ≡ place.new.size + place.new.size))
-        (Passes (C.Idle cuts.now) (sets_from pool.now k place.old) [] × (sets_from pool.now k place.new ≡ []))
-        (Passes (C.Idle cuts.now) (sets_from pool.now k place.old) (sets_from pool.now k place.new) × (budget.new.used
-        ≡ budget.new.limit)) }
+        (Passes (C.Idle cuts.now) (sets_from sides.now.pool.now sides.now.k place.old) []
+        × (sets_from sides.now.pool.now sides.now.k place.new ≡ []))
+        (Passes (C.Idle cuts.now) (sets_from sides.now.pool.now sides.now.k place.old)
+        (sets_from sides.now.pool.now sides.now.k place.new)
+        × (budget.new.used ≡ budget.new.limit)) }
     ensures spends { Spends budget.old budget.new }
 {
     loop {
         let tree = Hinted {
             tree: Stage {
-                pool,
-                k,
+                pool: sides.pool,
+                k: sides.k,
                 size: place.size,
                 difference: place.difference,
             },
@@ -514,7 +518,7 @@ fn next_set_past<C: CutsExchanges>(
         if climb_stage(&tree, cuts, &mut place.walk, budget)? {
             return Ok(true);
         }
-        if !next_stage(pool, k, place) {
+        if !next_stage(sides.pool, sides.k, place) {
             return Ok(false);
         }
     }
@@ -662,41 +666,6 @@ impl Exchanges {
         enter_at(pool, k, set, &mut self.place);
     }
 
-    /// The next set, in ascending order. `Found` gives the first of those to come. `End` says that none is left.
-    /// `Undecided` says that the budget was used up before the next one was found; then what is to come stays as it
-    /// was.
-    pub fn next(&mut self, budget: &mut Budget) -> Step<Numbers>
-        ensures answer { MatchStep result
-            (λ numbers. self.old.coming ≡ numbers.items ∷ self.new.coming)
-            ((self.old.coming ≡ []) × (self.new.coming ≡ []) × (self.new.left ≡ 0))
-            ((self.new.coming ≡ self.old.coming) × (budget.new.used ≡ budget.new.limit) × (0 < self.new.left)) }
-        ensures steps { budget.new.used + self.new.left ≡ budget.old.used + self.old.left }
-        ensures spends { Spends budget.old budget.new }
-    {
-        let mut numbers = ArrayVec::new();
-        match self.put_next(&mut numbers, budget) {
-            Ok(true) => Step::Found(numbers),
-            Ok(false) => Step::End,
-            Err(Stopped) => Step::Undecided,
-        }
-    }
-
-    /// Fills a list with the next one, as `next` gives it.
-    pub(crate) fn put_next(&mut self, numbers: &mut Numbers, budget: &mut Budget) -> Drawn
-        ensures answer { MatchDrawn result
-            (self.old.coming ≡ numbers.new.items ∷ self.new.coming)
-            ((self.old.coming ≡ []) × (self.new.coming ≡ []) × (self.new.left ≡ 0))
-            ((self.new.coming ≡ self.old.coming) × (budget.new.used ≡ budget.new.limit) × (0 < self.new.left)) }
-        ensures steps { budget.new.used + self.new.left ≡ budget.old.used + self.old.left }
-        ensures spends { Spends budget.old budget.new }
-    {
-        if !next_set(&self.pool, self.k, &mut self.place, budget)? {
-            return Ok(false);
-        }
-        put_set(&self.pool, self.k, &self.place, numbers);
-        Ok(true)
-    }
-
     /// Fills a list with the next one, but sets that the cuts know to be idle may be skipped: they are asked about each
     /// stage where it begins, which is a step if it is left, and about each beginning at which the search arrives, at
     /// no step. All that was skipped is idle, whatever the answer.
@@ -712,7 +681,23 @@ impl Exchanges {
             (Passes (C.Idle cuts.now) self.old.coming self.new.coming × (budget.new.used ≡ budget.new.limit)) }
         ensures spends { Spends budget.old budget.new }
     {
-        if !next_set_past(&self.pool, self.k, cuts, &mut self.place, budget)? {
+        let sides = Sides {
+            pool: &self.pool,
+            k: self.k,
+        };
+        if !next_set_past(&sides, cuts, &mut self.place, budget)? {
+            return Ok(false);
+        }
+        put_set(&self.pool, self.k, &self.place, numbers);
+        Ok(true)
+    }
+}
+
+impl Generator for Exchanges {
+    ghost ahead = { λ t. t };
+
+    fn put_next(&mut self, numbers: &mut Numbers, budget: &mut Budget) -> Drawn {
+        if !next_set(&self.pool, self.k, &mut self.place, budget)? {
             return Ok(false);
         }
         put_set(&self.pool, self.k, &self.place, numbers);

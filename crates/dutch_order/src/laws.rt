@@ -1,6 +1,6 @@
 // Laws of the definitions alone: the orders of choices are orders, and the lists of choices are what they are said to
 // be.
-ghost use Rattle.std.specs.Prelude.{◌≡◌, ◌≤◌, ◌⊎◌, ◌↔◌, ℕ, Bool, List, true, false, ◌++◌, length, slice_index};
+ghost use Rattle.std.specs.Prelude.{◌≡◌, ◌≤◌, ◌⊎◌, ◌↔◌, ℕ, Bool, List, true, false, ◌++◌, length};
 ghost use Rattle.std.specs.Cmp.{IsTotalOrder};
 ghost use Rattle.std.specs.declared.cmp.Ordering.TheVariants.{Equal};
 ghost use Rattle.std.specs.List.Sorted.{IsStrictlyIncreasing};
@@ -22,8 +22,7 @@ pub fn orders_are_total()
 /// Of two different choices one goes before the other: those that an order leaves level are the same choice.
 pub fn different_choices_are_not_level()
     ensures tuples { (a b : List ℕ) → lower_first a b ≡ Equal → a ≡ b }
-    ensures exchanges { (pool : List ℕ) (k : ℕ) (a b : List ℕ) → IsStrictlyIncreasing pool
-        → ((i : ℕ) → slice_index pool i ≤ 65535) → k ≤ length pool
+    ensures exchanges { (pool : List ℕ) (k : ℕ) (a b : List ℕ) → IsStrictlyIncreasing pool → k ≤ length pool
         → IsIn a (subsets pool k) → IsIn b (subsets pool k) → exchange_cmp pool k a b ≡ Equal → a ≡ b }
     ensures limbo_exchanges { (scores a b : List ℕ) → limbo_cmp scores a b ≡ Equal → a ≡ b }
 {}
@@ -33,8 +32,7 @@ pub fn choices_ascend()
     ensures tuples { (pool : List ℕ) (k : ℕ) → IsStrictlyIncreasing pool → Ascends lower_first (all_tuples pool k) }
     ensures transpositions { (meets : ℕ → ℕ → Bool) (first pool : List ℕ) → IsStrictlyIncreasing pool
         → Ascends lower_first (transpositions meets first pool) }
-    ensures exchanges { (pool : List ℕ) (k : ℕ) → IsStrictlyIncreasing pool → ((i : ℕ) → slice_index pool i ≤ 65535)
-        → k ≤ length pool
+    ensures exchanges { (pool : List ℕ) (k : ℕ) → IsStrictlyIncreasing pool → k ≤ length pool
         → Ascends (exchange_cmp pool k) (exchanges pool k) }
     ensures limbo_exchanges { (scores : List ℕ) (k : ℕ) → Ascends (limbo_cmp scores) (limbo_exchanges scores k) }
 {}

@@ -10,10 +10,11 @@ ghost use Rattle.dutch_order.specs.Choices.{subsets, from_on, numbers_from};
 ghost use Rattle.dutch_order.specs.Keys.{IsIn};
 ghost use Rattle.dutch_order.specs.Steps.{MatchDrawn, MatchStep, Spends};
 
+use crate::generator::Generator;
 use crate::halves::{end_of_half, first_of_half};
 use crate::numbers::{LIMIT, Numbers, fill};
 use crate::search::{Hinted, PLACES, Path, Tree, Walk, climb_on, first_hint, put_behind};
-use crate::steps::{Budget, Drawn, Step, Stopped};
+use crate::steps::{Budget, Drawn};
 use arrayvec::ArrayVec;
 use std::marker::Model;
 
@@ -261,35 +262,12 @@ impl LimboExchanges {
         put_behind(&mut self.hint, &places);
         self.walk.restart(first_hint(&self.hint));
     }
+}
 
-    /// The next set, in ascending order. `Found` gives the first of those to come. `End` says that none is left.
-    /// `Undecided` says that the budget was used up before the next one was found; then what is to come stays as it
-    /// was.
-    pub fn next(&mut self, budget: &mut Budget) -> Step<Numbers>
-        ensures answer { MatchStep result
-            (λ numbers. self.old.coming ≡ numbers.items ∷ self.new.coming)
-            ((self.old.coming ≡ []) × (self.new.coming ≡ []) × (self.new.left ≡ 0))
-            ((self.new.coming ≡ self.old.coming) × (budget.new.used ≡ budget.new.limit) × (0 < self.new.left)) }
-        ensures steps { budget.new.used + self.new.left ≡ budget.old.used + self.old.left }
-        ensures spends { Spends budget.old budget.new }
-    {
-        let mut numbers = ArrayVec::new();
-        match self.put_next(&mut numbers, budget) {
-            Ok(true) => Step::Found(numbers),
-            Ok(false) => Step::End,
-            Err(Stopped) => Step::Undecided,
-        }
-    }
+impl Generator for LimboExchanges {
+    ghost ahead = { λ t. t };
 
-    /// Fills a list with the next one, as `next` gives it.
-    pub(crate) fn put_next(&mut self, numbers: &mut Numbers, budget: &mut Budget) -> Drawn
-        ensures answer { MatchDrawn result
-            (self.old.coming ≡ numbers.new.items ∷ self.new.coming)
-            ((self.old.coming ≡ []) × (self.new.coming ≡ []) × (self.new.left ≡ 0))
-            ((self.new.coming ≡ self.old.coming) × (budget.new.used ≡ budget.new.limit) × (0 < self.new.left)) }
-        ensures steps { budget.new.used + self.new.left ≡ budget.old.used + self.old.left }
-        ensures spends { Spends budget.old budget.new }
-    {
+    fn put_next(&mut self, numbers: &mut Numbers, budget: &mut Budget) -> Drawn {
         let tree = Hinted {
             tree: Ranked {
                 scores: &self.scores,

@@ -11,7 +11,7 @@ use crate::exchange::Side;
 use crate::halves::{end_of_half, first_of_half};
 use crate::numbers::LIMIT;
 use crate::search::Tree;
-use crate::sums::{run_of, total_of, value_at};
+use crate::sums::{Sides, run_of, total_of, value_at};
 
 /// The differences of the sums that an exchange can still have.
 #[derive(Clone, Copy)]
@@ -31,13 +31,14 @@ fn reach_out(stage: &Stage<'_>, path: &[u16], place: usize) -> Reach
 {
     let pool = stage.pool;
     let k = stage.k;
+    let sides = Sides { pool, k };
     let size = stage.size;
     let rest = size - 1 - path.len();
-    let out = total_of(pool, k, Side::Out, path) + value_at(pool, k, Side::Out, place);
-    let most_out = out + run_of(pool, k, Side::Out, place + 1, rest);
-    let least_out = out + run_of(pool, k, Side::Out, k - rest, rest);
-    let least_in = run_of(pool, k, Side::In, 0, size);
-    let most_in = run_of(pool, k, Side::In, pool.len() - k - size, size);
+    let out = total_of(&sides, Side::Out, path) + value_at(&sides, Side::Out, place);
+    let most_out = out + run_of(&sides, Side::Out, place + 1, rest);
+    let least_out = out + run_of(&sides, Side::Out, k - rest, rest);
+    let least_in = run_of(&sides, Side::In, 0, size);
+    let most_in = run_of(&sides, Side::In, pool.len() - k - size, size);
     Reach {
         least: least_in.saturating_sub(most_out),
         greatest: most_in.saturating_sub(least_out),
@@ -59,13 +60,14 @@ fn reach_in(stage: &Stage<'_>, path: &[u16], place: usize) -> Reach
 {
     let pool = stage.pool;
     let k = stage.k;
+    let sides = Sides { pool, k };
     let size = stage.size;
     let rest = size + size - 1 - path.len();
     let (outs, ins) = path.split_at(size);
-    let out = total_of(pool, k, Side::Out, outs);
-    let moved = total_of(pool, k, Side::In, ins) + value_at(pool, k, Side::In, place);
-    let least_in = moved + run_of(pool, k, Side::In, place + 1, rest);
-    let most_in = moved + run_of(pool, k, Side::In, pool.len() - k - rest, rest);
+    let out = total_of(&sides, Side::Out, outs);
+    let moved = total_of(&sides, Side::In, ins) + value_at(&sides, Side::In, place);
+    let least_in = moved + run_of(&sides, Side::In, place + 1, rest);
+    let most_in = moved + run_of(&sides, Side::In, pool.len() - k - rest, rest);
     Reach {
         least: least_in.saturating_sub(out),
         greatest: most_in.saturating_sub(out),
@@ -149,7 +151,8 @@ pub fn least_of(pool: &[u16], k: usize, size: usize) -> usize
     requires ins { size ≤ length pool.now - k }
     ensures { result ≡ least_difference pool.now k size }
 {
-    run_of(pool, k, Side::In, 0, size).saturating_sub(run_of(pool, k, Side::Out, 0, size))
+    let sides = Sides { pool, k };
+    run_of(&sides, Side::In, 0, size).saturating_sub(run_of(&sides, Side::Out, 0, size))
 }
 
 /// The greatest one.
@@ -160,6 +163,7 @@ pub fn greatest_of(pool: &[u16], k: usize, size: usize) -> usize
     requires ins { size ≤ length pool.now - k }
     ensures { result ≡ greatest_difference pool.now k size }
 {
-    let most_in = run_of(pool, k, Side::In, pool.len() - k - size, size);
-    most_in.saturating_sub(run_of(pool, k, Side::Out, k - size, size))
+    let sides = Sides { pool, k };
+    let most_in = run_of(&sides, Side::In, pool.len() - k - size, size);
+    most_in.saturating_sub(run_of(&sides, Side::Out, k - size, size))
 }

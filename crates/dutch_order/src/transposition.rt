@@ -10,10 +10,11 @@ ghost use Rattle.dutch_order.specs.Keys.{IsIn};
 ghost use Rattle.dutch_order.specs.Steps.{MatchDrawn, MatchStep, Passes, Spends};
 
 use crate::cuts::CutsTuples;
+use crate::generator::Generator;
 use crate::numbers::{LIMIT, Numbers, fill};
 use crate::rules::Rule;
 use crate::search::{CutsPaths, Hinted, Path, Tree, Walk, climb_on, climb_past, first_hint};
-use crate::steps::{Budget, Drawn, Step, Stopped};
+use crate::steps::{Budget, Drawn};
 use arrayvec::ArrayVec;
 use std::marker::Model;
 
@@ -238,48 +239,6 @@ impl<'a, R: Rule> Transpositions<'a, R> {
         self.walk.restart(first_hint(&self.hint));
     }
 
-    /// The next list. `Found` gives the first of those to come. `End` says that none is left. `Undecided` says that the
-    /// budget was used up before the next one was found; then what is to come stays as it was.
-    pub fn next(&mut self, budget: &mut Budget) -> Step<Numbers>
-        ensures answer { MatchStep result
-            (λ numbers. self.old.coming ≡ numbers.items ∷ self.new.coming)
-            ((self.old.coming ≡ []) × (self.new.coming ≡ []) × (self.new.left ≡ 0))
-            ((self.new.coming ≡ self.old.coming) × (budget.new.used ≡ budget.new.limit) × (0 < self.new.left)) }
-        ensures steps { budget.new.used + self.new.left ≡ budget.old.used + self.old.left }
-        ensures spends { Spends budget.old budget.new }
-    {
-        let mut numbers = ArrayVec::new();
-        match self.put_next(&mut numbers, budget) {
-            Ok(true) => Step::Found(numbers),
-            Ok(false) => Step::End,
-            Err(Stopped) => Step::Undecided,
-        }
-    }
-
-    /// Fills a list with the next one, as `next` gives it.
-    pub(crate) fn put_next(&mut self, numbers: &mut Numbers, budget: &mut Budget) -> Drawn
-        ensures answer { MatchDrawn result
-            (self.old.coming ≡ numbers.new.items ∷ self.new.coming)
-            ((self.old.coming ≡ []) × (self.new.coming ≡ []) × (self.new.left ≡ 0))
-            ((self.new.coming ≡ self.old.coming) × (budget.new.used ≡ budget.new.limit) × (0 < self.new.left)) }
-        ensures steps { budget.new.used + self.new.left ≡ budget.old.used + self.old.left }
-        ensures spends { Spends budget.old budget.new }
-    {
-        let tree = Hinted {
-            tree: Opponents {
-                first: &self.first,
-                pool: &self.pool,
-                rule: self.rule,
-            },
-            hint: &self.hint,
-        };
-        if !climb_on(&tree, &mut self.walk, budget)? {
-            return Ok(false);
-        }
-        pick(&self.pool, &self.walk.path, numbers);
-        Ok(true)
-    }
-
     /// Fills a list with the next one, but lists that the cuts know to be idle may be skipped, at no step: they are
     /// asked with the numbers of each beginning at which the search arrives. All that was skipped is idle, whatever the
     /// answer.
@@ -308,6 +267,26 @@ impl<'a, R: Rule> Transpositions<'a, R> {
             cuts,
         };
         if !climb_past(&tree, &places, &mut self.walk, budget)? {
+            return Ok(false);
+        }
+        pick(&self.pool, &self.walk.path, numbers);
+        Ok(true)
+    }
+}
+
+impl<'a, R: Rule> Generator for Transpositions<'a, R> {
+    ghost ahead = { λ t. t };
+
+    fn put_next(&mut self, numbers: &mut Numbers, budget: &mut Budget) -> Drawn {
+        let tree = Hinted {
+            tree: Opponents {
+                first: &self.first,
+                pool: &self.pool,
+                rule: self.rule,
+            },
+            hint: &self.hint,
+        };
+        if !climb_on(&tree, &mut self.walk, budget)? {
             return Ok(false);
         }
         pick(&self.pool, &self.walk.path, numbers);

@@ -5,37 +5,15 @@ ghost use Rattle.dutch_order.specs.declared.numbers.TheConstants.{LIMIT};
 
 use crate::barred::{AMPLE, Barred, FREE, raised};
 use dutch_order::{
-    Budget, Exchanges, LIMIT, LimboExchanges, Numbers, Step, Transpositions, numbered_from,
+    Budget, Exchanges, Generator, LIMIT, LimboExchanges, Numbers, Step, Transpositions,
+    numbered_from,
 };
 use std::alloc::Global;
 use std::test::Fail;
 
-// A generator, whichever it is.
-trait Lists {
-    fn draw(&mut self, budget: &mut Budget) -> Step<Numbers>;
-}
-
-impl<'a> Lists for Transpositions<'a, Barred> {
-    fn draw(&mut self, budget: &mut Budget) -> Step<Numbers> {
-        self.next(budget)
-    }
-}
-
-impl Lists for Exchanges {
-    fn draw(&mut self, budget: &mut Budget) -> Step<Numbers> {
-        self.next(budget)
-    }
-}
-
-impl Lists for LimboExchanges {
-    fn draw(&mut self, budget: &mut Budget) -> Step<Numbers> {
-        self.next(budget)
-    }
-}
-
 // The lists that a generator hands out, one after another, where its limit starts at `limit` and rises by one after
 // each Undecided, and the steps that it used.
-fn drawn<L: Lists + Drop>(
+fn drawn<L: Generator + Drop>(
     alloc: Global,
     mut lists: L,
     limit: u64,
@@ -43,7 +21,7 @@ fn drawn<L: Lists + Drop>(
     let mut budget = Budget { limit, used: 0 };
     let mut numbers = Vec::new(alloc);
     for _turn in 0..100_000u32 {
-        match lists.draw(&mut budget) {
+        match lists.next(&mut budget) {
             Step::Found(list) => numbers.extend_from_slice(&list)?,
             Step::End => break,
             Step::Undecided => {
@@ -58,7 +36,7 @@ fn drawn<L: Lists + Drop>(
 
 // The steps of two equal generators, one under an ample limit and one under limits that rise from 0, where both hand
 // out these lists in as many steps.
-fn steps_of<L: Lists + Drop>(
+fn steps_of<L: Generator + Drop>(
     alloc: Global,
     one: L,
     again: L,

@@ -10,8 +10,8 @@ use Rattle.dutch_order.proofs.exchange.next_set_past.Goals as goal
 pub returns-in_err-climb_stage-clause-stands : goal.returns-in_err-climb_stage-clause-stands
 returns-in_err-climb_stage-clause-stands g c =
     let p = c.loop-place.place in
-    let pool = c.args.pool.now in
-    let k = c.args.k in
+    let pool = c.args.sides.now.pool.now in
+    let k = c.args.sides.now.k in
     let walk = c.climb_stage.new.walk in
     let stands = c.loop-place.invariant.stands in
     let known = known-kept pool k (greatest_difference pool k p.size - p.difference) p.size (suc p.difference) _ _ c.climb_stage.ensures.known stands.3 in
@@ -20,8 +20,8 @@ returns-in_err-climb_stage-clause-stands g c =
 pub returns-in_err-climb_stage-clause-answer : goal.returns-in_err-climb_stage-clause-answer
 returns-in_err-climb_stage-clause-answer g c =
     let p = c.loop-place.place in
-    let pool = c.args.pool.now in
-    let k = c.args.k in
+    let pool = c.args.sides.now.pool.now in
+    let k = c.args.sides.now.k in
     let walk = c.climb_stage.new.walk in
     let stands = c.loop-place.invariant.stands in
     let known = known-kept pool k (greatest_difference pool k p.size - p.difference) p.size (suc p.difference) _ _ c.climb_stage.ensures.known stands.3 in
@@ -34,8 +34,8 @@ returns-in_err-climb_stage-clause-answer g c =
 pub returns-then-branch-clause-stands : goal.returns-then-branch-clause-stands
 returns-then-branch-clause-stands g c =
     let p = c.loop-place.place in
-    let pool = c.args.pool.now in
-    let k = c.args.k in
+    let pool = c.args.sides.now.pool.now in
+    let k = c.args.sides.now.k in
     let walk = c.climb_stage.new.walk in
     let stands = c.loop-place.invariant.stands in
     let known = known-kept pool k (greatest_difference pool k p.size - p.difference) p.size (suc p.difference) _ _ c.climb_stage.ensures.known stands.3 in
@@ -45,8 +45,8 @@ returns-then-branch-clause-stands g c =
 pub returns-then-branch-clause-answer : goal.returns-then-branch-clause-answer
 returns-then-branch-clause-answer g c =
     let p = c.loop-place.place in
-    let pool = c.args.pool.now in
-    let k = c.args.k in
+    let pool = c.args.sides.now.pool.now in
+    let k = c.args.sides.now.k in
     let walk = c.climb_stage.new.walk in
     let stands = c.loop-place.invariant.stands in
     let known = known-kept pool k (greatest_difference pool k p.size - p.difference) p.size (suc p.difference) _ _ c.climb_stage.ensures.known stands.3 in
@@ -57,8 +57,8 @@ returns-then-branch-clause-answer g c =
 pub returns-then-not-next_stage-clause-answer : goal.returns-then-not-next_stage-clause-answer
 returns-then-not-next_stage-clause-answer g c =
     let p = c.loop-place.place in
-    let pool = c.args.pool.now in
-    let k = c.args.k in
+    let pool = c.args.sides.now.pool.now in
+    let k = c.args.sides.now.k in
     let walk = c.climb_stage.new.walk in
     let stands = c.loop-place.invariant.stands in
     let known = known-kept pool k (greatest_difference pool k p.size - p.difference) p.size (suc p.difference) _ _ c.climb_stage.ensures.known stands.3 in
@@ -71,8 +71,8 @@ returns-then-not-next_stage-clause-answer g c =
 pub loop-place-preserved : goal.loop-place-preserved
 loop-place-preserved g c =
     let p = c.loop-place.place in
-    let pool = c.args.pool.now in
-    let k = c.args.k in
+    let pool = c.args.sides.now.pool.now in
+    let k = c.args.sides.now.k in
     let walk = c.climb_stage.new.walk in
     let stands = c.loop-place.invariant.stands in
     let known = known-kept pool k (greatest_difference pool k p.size - p.difference) p.size (suc p.difference) _ _ c.climb_stage.ensures.known stands.3 in

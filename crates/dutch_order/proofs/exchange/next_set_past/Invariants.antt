@@ -4,10 +4,10 @@ use Rattle.dutch_order.proofs.exchange.next_set_past.Given as goal
 
 abbrev pub invariant-loop-place : goal.invariant-loop-place
 invariant-loop-place g l = record {
-  stands : IsPlace l.pool l.k l.place;
-  passes : Passes (g.C.CutsExchanges.Idle l.cuts) (sets_from l.pool l.k l.initial.place) (sets_from l.pool l.k l.place);
+  stands : IsPlace l.sides.pool.now l.sides.k l.place;
+  passes : Passes (g.C.CutsExchanges.Idle l.cuts) (sets_from l.sides.pool.now l.sides.k l.initial.place) (sets_from l.sides.pool.now l.sides.k l.place);
   spends : Spends l.initial.budget l.budget;
 }
 
 abbrev pub decreases-loop-place : goal.decreases-loop-place
-decreases-loop-place g l = stages_ahead l.pool l.k l.place.size l.place.difference
+decreases-loop-place g l = stages_ahead l.sides.pool.now l.sides.k l.place.size l.place.difference

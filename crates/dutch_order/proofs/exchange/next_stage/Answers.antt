@@ -61,7 +61,7 @@ pub returns-in-Some-clause-stands : goal.returns-in-Some-clause-stands
 returns-in-Some-clause-stands c =
     let entered = c.enter.ensures in
     let place = c.enter.new.self in
-    let new = new-place c.args.pool.now c.args.k c.requires.ascends c.requires.enough (λ i. omega (arith, c.type_inv.pool i)) place entered.hint entered.path entered.number entered.beyond in (
+    let new = new-place c.args.pool.now c.args.k c.requires.ascends c.requires.enough place entered.hint entered.path entered.number entered.beyond in (
       omega (arith, entered.size, c.requires.standing.0),
       omega (arith, entered.size, c.requires.standing.1),
       (omega (arith, ap length entered.path), subst (Walked (hinted place.hint.items (exchange_plan c.args.pool.now c.args.k place.size place.difference)) []) (sym entered.path) tt),
@@ -74,7 +74,7 @@ returns-then-place-min-clause-stands c =
     let entered = c.enter-then-place-min.ensures in
     let place = c.enter-then-place-min.new.self in
     let larger : c.args.place.now.size < most_exchanged c.args.pool.now c.args.k = search rules in
-    let new = new-place c.args.pool.now c.args.k c.requires.ascends c.requires.enough (λ i. omega (arith, c.type_inv.pool i)) place entered.hint entered.path entered.number entered.beyond in (
+    let new = new-place c.args.pool.now c.args.k c.requires.ascends c.requires.enough place entered.hint entered.path entered.number entered.beyond in (
       omega (arith, entered.size, larger),
       omega (arith, entered.size, larger),
       (omega (arith, ap length entered.path), subst (Walked (hinted place.hint.items (exchange_plan c.args.pool.now c.args.k place.size place.difference)) []) (sym entered.path) tt),

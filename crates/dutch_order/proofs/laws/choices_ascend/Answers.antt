@@ -31,10 +31,10 @@ returns-clause-transpositions c =
 
 pub returns-clause-exchanges : goal.returns-clause-exchanges
 returns-clause-exchanges c =
-    λ pool k rises small enough.
-    ascends-in (exchange_key pool k) (exchange_cmp pool k) (exchanges pool k) (λ x y m n. exchange_cmp-is pool k small x y)
-    (sorted-ascends (exchange_key pool k) (exchange_cmp pool k) (subsets pool k) (λ x y m n. exchange_cmp-is pool k small x y)
-    (pool-ascend pool k rises enough small) (exchange_key-apart pool k rises enough small))
+    λ pool k rises enough.
+    ascends-in (exchange_key pool k) (exchange_cmp pool k) (exchanges pool k) (λ x y m n. exchange_cmp-is pool k x y)
+    (sorted-ascends (exchange_key pool k) (exchange_cmp pool k) (subsets pool k) (λ x y m n. exchange_cmp-is pool k x y)
+    (pool-ascend pool k rises enough) (exchange_key-apart pool k rises enough))
 
 same_length : (scores : List ℕ) (k : ℕ) (a b : List ℕ) → IsIn a (subsets (numbers_from 1 (length scores)) k) → IsIn b (subsets (numbers_from 1 (length scores)) k) → length a ≡ length b
 same_length scores k a b m n = (subsets-climb 1 (length scores) k a m).1 ∙ sym (subsets-climb 1 (length scores) k b n).1

@@ -7,7 +7,7 @@ returns-clause-tuples c = lists_tied
 
 pub returns-clause-exchanges : goal.returns-clause-exchanges
 returns-clause-exchanges c =
-    λ pool k a b rises small enough m n level. exchange_key-apart pool k rises enough small a b m n (keys_tied pool k small a b level)
+    λ pool k a b rises enough m n level. exchange_key-apart pool k rises enough a b m n (keys_tied pool k a b level)
 
 pub returns-clause-limbo_exchanges : goal.returns-clause-limbo_exchanges
 returns-clause-limbo_exchanges c = limbo_tied

@@ -5,7 +5,7 @@ use Rattle.dutch_order.proofs.sums.run_of.Goals as goal
 
 pub loop-place-preserved : goal.loop-place-preserved
 loop-place-preserved c =
-    let step = total-step (value_of c.args.pool.now c.args.k c.args.side) c.loop-place.place (c.args.first + c.args.count) (omega arith) in
+    let step = total-step (value_of c.args.sides.now.pool.now c.args.sides.now.k c.args.side) c.loop-place.place (c.args.first + c.args.count) (omega arith) in
     record {
       small = omega (arith, c.value_at-sum.ensures.small);
       so_far = omega (arith, step, c.value_at-sum.ensures.value, c.loop-place.invariant.so_far);

@@ -5,5 +5,5 @@ use Rattle.dutch_order.proofs.sums.total_of.Given as goal
 abbrev pub invariant-loop-place : goal.invariant-loop-place
 invariant-loop-place l = record {
   small : l.sum ≤ 65535 * l.place-index;
-  so_far : l.sum + total (value_of l.pool l.k l.side) (drop l.place-index l.places) ≡ total (value_of l.pool l.k l.side) l.places;
+  so_far : l.sum + total (value_of l.sides.pool.now l.sides.k l.side) (drop l.place-index l.places) ≡ total (value_of l.sides.pool.now l.sides.k l.side) l.places;
 }

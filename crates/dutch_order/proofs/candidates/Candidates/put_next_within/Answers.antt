@@ -22,7 +22,7 @@ dull-passed meets own_meets may_be_left own_left frame own_frame shape own_shape
 
 pub returns-clause-answer : goal.returns-clause-answer
 returns-clause-answer g c =
-    let dull = dull-passed _ _ _ _ _ _ _ _ c.requires.meets c.requires.may_be_left c.requires.frame c.requires.shape (λ a. g.B.Bound.is_dull c.args.bound.now a ≡ true) in
+    let dull = dull-passed _ _ _ _ _ _ _ _ c.requires.meets c.requires.may_be_left c.requires.frame c.requires.shape (λ a. g.B.Bound.is_dull c.args.within.now.bound.now a ≡ true) in
     step-each _ _ _ _ _ _
     (λ _ given. (dull _ _ c.go_on.ensures.candidates given.0, given.1, given.2))
     (λ given. (dull _ _ c.go_on.ensures.candidates given.0, given.1, given.2))

@@ -1,4 +1,4 @@
-use Rattle.std.proofs.Common.{◌≡◌, ap, refl, sym, subst, arith, ◌-◌, [], None, length, slice_index}
+use Rattle.std.proofs.Common.{◌≡◌, ap, refl, sym, subst, arith, ◌-◌, [], None, length}
 use Rattle.std.specs.List.Sorted.{IsStrictlyIncreasing}
 use Rattle.dutch_order.specs.Hints.{hinted}
 use Rattle.dutch_order.specs.Walks.{Walked}
@@ -10,7 +10,7 @@ use Rattle.dutch_order.proofs.exchange.Exchanges.start.Goals as goal
 
 pub returns-clause-coming : goal.returns-clause-coming
 returns-clause-coming c =
-    let all = exchanges-found c.args.pool.now c.args.k c.requires.ascends c.requires.enough (λ i. omega (arith, c.type_inv.pool i)) in cc
+    let all = exchanges-found c.args.pool.now c.args.k c.requires.ascends c.requires.enough in cc
 
 pub returns-clause-nothing : goal.returns-clause-nothing
 unfolding trials_of_stages trials_of_sizes trials_ahead
@@ -27,7 +27,7 @@ invariant_of-self c =
     let place = c.enter.new.self in
     let long = ap length c.fill.ensures in
     let pool = c.fill.new.list.items in
-    let new = new-place pool c.args.k (subst IsStrictlyIncreasing (sym c.fill.ensures) c.requires.ascends) (omega (arith, long, c.requires.enough)) (λ i. omega (arith, ap (λ p. slice_index p i) c.fill.ensures, c.type_inv.pool i)) place entered.hint entered.path entered.number entered.beyond in (
+    let new = new-place pool c.args.k (subst IsStrictlyIncreasing (sym c.fill.ensures) c.requires.ascends) (omega (arith, long, c.requires.enough)) place entered.hint entered.path entered.number entered.beyond in (
       omega (arith, long, c.requires.few),
       omega (arith, long, c.requires.enough),
       subst IsStrictlyIncreasing (sym c.fill.ensures) c.requires.ascends,

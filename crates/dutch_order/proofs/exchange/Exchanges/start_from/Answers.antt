@@ -9,10 +9,10 @@ use Rattle.dutch_order.proofs.exchange.Exchanges.start_from.Goals as goal
 
 pub invariant_of-self : goal.invariant_of-self
 invariant_of-self c =
-    let room = exchange-room c.args.pool.now c.args.k c.requires.ascends c.requires.enough (λ i. omega (arith, c.type_inv.pool i)) c.args.set.now c.requires.given in
+    let room = exchange-room c.args.pool.now c.args.k c.requires.ascends c.requires.enough c.args.set.now c.requires.given in
     let place = c.enter_at.new.place in
     let at = c.enter_at.ensures in
-    let late = late-place c.args.pool.now c.args.k c.requires.ascends c.requires.enough (λ i. omega (arith, c.type_inv.pool i)) c.args.set.now c.requires.given
+    let late = late-place c.args.pool.now c.args.k c.requires.ascends c.requires.enough c.args.set.now c.requires.given
     c.fill.new.list.items c.fill.ensures place at.size at.difference at.hint at.path at.number at.beyond in
     let long = ap length c.fill.ensures in (
       omega (arith, long, c.requires.few),
@@ -29,5 +29,5 @@ invariant_of-self c =
 
 pub returns : goal.returns
 returns c =
-    let late = exchanges-from c.args.pool.now c.args.k c.requires.ascends c.requires.enough (λ i. omega (arith, c.type_inv.pool i)) c.args.set.now c.requires.given in
+    let late = exchanges-from c.args.pool.now c.args.k c.requires.ascends c.requires.enough c.args.set.now c.requires.given in
     record { coming = cc }

@@ -2,7 +2,7 @@ use Rattle.std.proofs.Common.{ℕ, List, ◌+◌, ◌≡◌, [], ◌∷◌, ◌�
 use Rattle.dutch_order.specs.declared.exchange.Place.{Place}
 use Rattle.dutch_order.specs.Stages.{sets_from, trials_from, set_of}
 use Rattle.dutch_order.proofs.Skipping.{drawn}
-use Rattle.dutch_order.proofs.exchange.Exchanges.put_next.Goals as goal
+use Rattle.dutch_order.proofs.exchange.ExchangesGenerator.put_next.Goals as goal
 
 pub returns-clause-answer : goal.returns-clause-answer
 returns-clause-answer c =

@@ -5,7 +5,7 @@ use Rattle.dutch_order.specs.Trials.{ahead, hits, trials}
 use Rattle.dutch_order.specs.TranspositionSearch.{transposition_plan, numbers_at}
 use Rattle.dutch_order.proofs.Moves.{Walked-below}
 use Rattle.dutch_order.proofs.Skipping.{drawn, drawn-stopped}
-use Rattle.dutch_order.proofs.transposition.Transpositions.put_next.Goals as goal
+use Rattle.dutch_order.proofs.transposition.TranspositionsGenerator.put_next.Goals as goal
 
 pub pick-requires-clause-within : goal.pick-requires-clause-within
 pick-requires-clause-within g c =

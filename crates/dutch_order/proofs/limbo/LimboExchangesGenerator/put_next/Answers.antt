@@ -4,7 +4,7 @@ use Rattle.dutch_order.specs.declared.numbers.TheConstants.{LIMIT}
 use Rattle.dutch_order.specs.LimboSearch.{limbo_plan}
 use Rattle.dutch_order.proofs.HalfWalks.{half_stop-one}
 use Rattle.dutch_order.proofs.Moves.{Walked-below, AllByRecursion-take, AllByRecursion-drop}
-use Rattle.dutch_order.proofs.limbo.LimboExchanges.put_next.Goals as goal
+use Rattle.dutch_order.proofs.limbo.LimboExchangesGenerator.put_next.Goals as goal
 
 pub put_numbers-requires-clause-within : goal.put_numbers-requires-clause-within
 put_numbers-requires-clause-within c =
