@@ -12,9 +12,9 @@ use Rattle.dual.proofs.table.Table.extras_left.Goals.{then-may_be_left+in-Some, 
 
 pub loop-v-preserved : goal.loop-v-preserved
 loop-v-preserved g c =
-    let costs : Costs = g.R.Rule.costs c.args.rule.now in
+    let costs : Costs = g.R.Rule.costs c.args.pool.now.rule.now in
     let certificate : Certificate = certificate_in c.args.self.now in
-    let players : List ℕ = c.args.players.now in
+    let players : List ℕ = c.args.pool.now.players.now in
     let i : ℕ = c.loop-v.v-index in
     let lt : i < length players = c.loop-v-test.true in
     elim c.if-may_be_left.branch [
@@ -45,15 +45,15 @@ loop-v-preserved g c =
 
 pub returns-clause-whole : goal.returns-clause-whole
 returns-clause-whole g c =
-    let costs : Costs = g.R.Rule.costs c.args.rule.now in
-    let all : take c.loop-v.v-index c.args.players.now ≡ c.args.players.now = take_all c.loop-v.v-index c.args.players.now c.loop-v-test.false in (
+    let costs : Costs = g.R.Rule.costs c.args.pool.now.rule.now in
+    let all : take c.loop-v.v-index c.args.pool.now.players.now ≡ c.args.pool.now.players.now = take_all c.loop-v.v-index c.args.pool.now.players.now c.loop-v-test.false in (
       λ _. subst (All (λ v. costs.may_be_left v ≡ true → CanBearLeft costs (certificate_in c.args.self.now) (2 ^ 512) v)) all c.loop-v.invariant.bear,
       λ _. refl,
     )
 
 pub returns-clause-value : goal.returns-clause-value
 returns-clause-value g c =
-    let costs : Costs = g.R.Rule.costs c.args.rule.now in
-    let all : take c.loop-v.v-index c.args.players.now ≡ c.args.players.now = take_all c.loop-v.v-index c.args.players.now c.loop-v-test.false in
+    let costs : Costs = g.R.Rule.costs c.args.pool.now.rule.now in
+    let all : take c.loop-v.v-index c.args.pool.now.players.now ≡ c.args.pool.now.players.now = take_all c.loop-v.v-index c.args.pool.now.players.now c.loop-v-test.false in
     subst (All (λ v. costs.may_be_left v ≡ true → get_or c.loop-v.extra.items v 0 ≡ slack_left costs (certificate_in c.args.self.now) v)) all
     c.loop-v.invariant.told

@@ -8,9 +8,9 @@ use Rattle.dual.proofs.table.Table.extras_left.Given as goal
 abbrev pub invariant-loop-v : goal.invariant-loop-v
 invariant-loop-v g l = record {
   size : length l.extra.items ≡ l.size;
-  bear : All (λ v. (g.R.Rule.costs l.rule).may_be_left v ≡ true
-      → CanBearLeft (g.R.Rule.costs l.rule) (certificate_in l.self) (2 ^ 512) v) (take l.v-index l.players);
-  told : All (λ v. (g.R.Rule.costs l.rule).may_be_left v ≡ true
-      → get_or l.extra.items v 0 ≡ slack_left (g.R.Rule.costs l.rule) (certificate_in l.self) v)
-      (take l.v-index l.players);
+  bear : All (λ v. (g.R.Rule.costs l.pool.rule.now).may_be_left v ≡ true
+      → CanBearLeft (g.R.Rule.costs l.pool.rule.now) (certificate_in l.self) (2 ^ 512) v) (take l.v-index l.pool.players.now);
+  told : All (λ v. (g.R.Rule.costs l.pool.rule.now).may_be_left v ≡ true
+      → get_or l.extra.items v 0 ≡ slack_left (g.R.Rule.costs l.pool.rule.now) (certificate_in l.self) v)
+      (take l.v-index l.pool.players.now);
 }

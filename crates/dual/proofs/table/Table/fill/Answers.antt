@@ -12,11 +12,11 @@ use Rattle.dual.proofs.table.Table.fill.Goals.{then-may_meet+in-Some, else-may_m
 
 pub loop-v-preserved : goal.loop-v-preserved
 loop-v-preserved g c =
-    let costs : Costs = g.R.Rule.costs c.args.rule.now in
+    let costs : Costs = g.R.Rule.costs c.args.pool.now.rule.now in
     let certificate : Certificate = certificate_in c.args.self.now in
     let u : ℕ = c.args.row.now.player in
     let start : ℕ = c.args.row.now.start in
-    let players : List ℕ = c.args.players.now in
+    let players : List ℕ = c.args.pool.now.players.now in
     let i : ℕ = c.loop-v.v-index in
     let lt : i < length players = c.loop-v-test.true in
     elim c.if-may_meet.branch [
@@ -49,8 +49,8 @@ loop-v-preserved g c =
 
 pub returns-clause-whole : goal.returns-clause-whole
 returns-clause-whole g c =
-    let costs : Costs = g.R.Rule.costs c.args.rule.now in
-    let all : take c.loop-v.v-index c.args.players.now ≡ c.args.players.now = take_all c.loop-v.v-index c.args.players.now c.loop-v-test.false in
+    let costs : Costs = g.R.Rule.costs c.args.pool.now.rule.now in
+    let all : take c.loop-v.v-index c.args.pool.now.players.now ≡ c.args.pool.now.players.now = take_all c.loop-v.v-index c.args.pool.now.players.now c.loop-v-test.false in
     let u : ℕ = c.args.row.now.player in (
       λ _. subst (All (λ v. costs.meets u v ≡ true → CanBear costs (certificate_in c.args.self.now) (2 ^ 512) u v)) all c.loop-v.invariant.bear,
       λ _. refl,
@@ -58,8 +58,8 @@ returns-clause-whole g c =
 
 pub returns-clause-value : goal.returns-clause-value
 returns-clause-value g c = λ _.
-    let costs : Costs = g.R.Rule.costs c.args.rule.now in
+    let costs : Costs = g.R.Rule.costs c.args.pool.now.rule.now in
     let u : ℕ = c.args.row.now.player in
-    let all : take c.loop-v.v-index c.args.players.now ≡ c.args.players.now = take_all c.loop-v.v-index c.args.players.now c.loop-v-test.false in
+    let all : take c.loop-v.v-index c.args.pool.now.players.now ≡ c.args.pool.now.players.now = take_all c.loop-v.v-index c.args.pool.now.players.now c.loop-v-test.false in
     subst (λ some. HasSlacks costs (certificate_in c.args.self.now) u some c.args.row.now.start c.loop-v.extra) all
     c.loop-v.invariant.told

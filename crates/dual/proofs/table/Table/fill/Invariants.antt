@@ -6,7 +6,7 @@ use Rattle.dual.proofs.table.Table.fill.Given as goal
 
 abbrev pub invariant-loop-v : goal.invariant-loop-v
 invariant-loop-v g l = record {
-  bear : AllBear (g.R.Rule.costs l.rule) (certificate_in l.self) (2 ^ 512) l.row.player (take l.v-index l.players);
-  told : HasSlacks (g.R.Rule.costs l.rule) (certificate_in l.self) l.row.player (take l.v-index l.players) l.row.start l.extra;
-  others : (k : ℕ) → All (λ v. ¬ (l.row.start + v ≡ k)) l.players → get_or l.extra k 0 ≡ get_or l.initial.extra k 0;
+  bear : AllBear (g.R.Rule.costs l.pool.rule.now) (certificate_in l.self) (2 ^ 512) l.row.player (take l.v-index l.pool.players.now);
+  told : HasSlacks (g.R.Rule.costs l.pool.rule.now) (certificate_in l.self) l.row.player (take l.v-index l.pool.players.now) l.row.start l.extra;
+  others : (k : ℕ) → All (λ v. ¬ (l.row.start + v ≡ k)) l.pool.players.now → get_or l.extra k 0 ≡ get_or l.initial.extra k 0;
 }
