@@ -9,7 +9,7 @@ ghost use Rattle.dual.specs.Checks.{CanBear, CanBearLeft, AllBear, HasSlacks};
 ghost use Rattle.dual.specs.Tables.{toll_of, certificate_in};
 
 use crate::floor::Floor;
-use crate::rule::Rule;
+use crate::rule::{Pool, Rule};
 use crate::table::{MOST, MarkedSet, Table};
 use std::alloc::{AllocError, Global};
 use wide::Wide;
@@ -95,23 +95,23 @@ impl Table {
     }
 
     // Writes the slacks of a row, and says whether all pairs can bear their potentials.
-    fn fill<R: Rule>(&self, rule: &R, row: &Row<'_>, players: &[u16], extra: &mut [Wide]) -> bool
-        requires first { R.knows rule.now row.now.player }
-        requires known { All (R.knows rule.now) players.now }
-        requires within { All (λ v. row.now.start + v < length extra.old) players.now }
+    fn fill<R: Rule>(&self, pool: &Pool<'_, R>, row: &Row<'_>, extra: &mut [Wide]) -> bool
+        requires first { R.knows pool.now.rule.now row.now.player }
+        requires known { All (R.knows pool.now.rule.now) pool.now.players.now }
+        requires within { All (λ v. row.now.start + v < length extra.old) pool.now.players.now }
         requires few { length extra.old ≤ MOST * MOST }
         requires sets { (v : ℕ) → sum_by (λ set. toll_of v set.now) row.now.sets.items
             ≡ sum_by (toll (row.now.player, v)) (certificate_in self.now).sets }
-        ensures whole { IsTrue result ↔ AllBear (R.costs rule.now) (certificate_in self.now)
-            (2 ^ 512) row.now.player players.now }
-        ensures value { IsTrue result → HasSlacks (R.costs rule.now)
-            (certificate_in self.now) row.now.player players.now row.now.start extra.new }
-        ensures others { (k : ℕ) → (All (λ v. ¬ (row.now.start + v ≡ k)) players.now)
+        ensures whole { IsTrue result ↔ AllBear (R.costs pool.now.rule.now) (certificate_in self.now) (2 ^ 512)
+            row.now.player pool.now.players.now }
+        ensures value { IsTrue result → HasSlacks (R.costs pool.now.rule.now) (certificate_in self.now)
+            row.now.player pool.now.players.now row.now.start extra.new }
+        ensures others { (k : ℕ) → (All (λ v. ¬ (row.now.start + v ≡ k)) pool.now.players.now)
             → slice_index extra.new k ≡ slice_index extra.old k }
     {
-        for v in players {
-            if rule.may_meet(row.player, *v) {
-                let Some(slack) = self.slack(rule, row, *v) else {
+        for v in pool.players {
+            if pool.rule.may_meet(row.player, *v) {
+                let Some(slack) = self.slack(pool.rule, row, *v) else {
                     return false;
                 };
                 extra[row.start + usize::from(*v)] = slack;
@@ -124,23 +124,21 @@ impl Table {
     fn extras<R: Rule>(
         &self,
         alloc: Global,
-        rule: &R,
-        players: &[u16],
+        pool: &Pool<'_, R>,
         size: usize,
     ) -> Result<Option<Vec<Wide>>, AllocError>
-        requires known { All (R.knows rule.now) players.now }
-        requires below { All (λ v. v < size) players.now }
+        requires known { All (R.knows pool.now.rule.now) pool.now.players.now }
+        requires below { All (λ v. v < size) pool.now.players.now }
         requires few { size ≤ MOST }
-        ensures whole { IfOk result (λ found. IsSome found
-            ↔ All (λ u. AllBear (R.costs rule.now) (certificate_in self.now) (2 ^ 512) u players.now) players.now) }
-        ensures value { IfOk result (λ found. IfSome found (λ extra.
-            All (λ u. HasSlacks (R.costs rule.now) (certificate_in self.now) u players.now (u * size) extra.items)
-            players.now)) }
+        ensures whole { IfOk result (λ found. IsSome found ↔ All (λ u. AllBear (R.costs pool.now.rule.now)
+            (certificate_in self.now) (2 ^ 512) u pool.now.players.now) pool.now.players.now) }
+        ensures value { IfOk result (λ found. IfSome found (λ extra. All (λ u. HasSlacks (R.costs pool.now.rule.now)
+            (certificate_in self.now) u pool.now.players.now (u * size) extra.items) pool.now.players.now)) }
     {
         let mut extra = vec![in alloc; Wide::zero(); size * size]?;
-        for a in players {
+        for a in pool.players {
             let row = self.row(alloc, *a, size)?;
-            if !self.fill(rule, &row, players, &mut extra) {
+            if !self.fill(pool, &row, &mut extra) {
                 return Ok(None);
             }
         }
@@ -151,21 +149,22 @@ impl Table {
     fn extras_left<R: Rule>(
         &self,
         alloc: Global,
-        rule: &R,
-        players: &[u16],
+        pool: &Pool<'_, R>,
         size: usize,
     ) -> Result<Option<Vec<Wide>>, AllocError>
-        requires known { All (R.knows rule.now) players.now }
-        requires below { All (λ v. v < size) players.now }
-        ensures whole { IfOk result (λ found. IsSome found ↔ All (λ v. (R.costs rule.now).may_be_left v ≡ true
-            → CanBearLeft (R.costs rule.now) (certificate_in self.now) (2 ^ 512) v) players.now) }
-        ensures value { IfOk result (λ found. IfSome found (λ extra. All (λ v. (R.costs rule.now).may_be_left v ≡ true
-            → slice_index extra.items v ≡ slack_left (R.costs rule.now) (certificate_in self.now) v) players.now)) }
+        requires known { All (R.knows pool.now.rule.now) pool.now.players.now }
+        requires below { All (λ v. v < size) pool.now.players.now }
+        ensures whole { let costs = R.costs pool.now.rule.now in IfOk result (λ found. IsSome found
+            ↔ All (λ v. costs.may_be_left v ≡ true → CanBearLeft costs (certificate_in self.now) (2 ^ 512) v)
+            pool.now.players.now) }
+        ensures value { let costs = R.costs pool.now.rule.now in IfOk result (λ found. IfSome found (λ extra.
+            All (λ v. costs.may_be_left v ≡ true → slice_index extra.items v ≡ slack_left costs
+            (certificate_in self.now) v) pool.now.players.now)) }
     {
         let mut extra = vec![in alloc; Wide::zero(); size]?;
-        for v in players {
-            if rule.may_be_left(*v) {
-                let Some(slack) = self.slack_left(rule, *v) else {
+        for v in pool.players {
+            if pool.rule.may_be_left(*v) {
+                let Some(slack) = self.slack_left(pool.rule, *v) else {
                     return Ok(None);
                 };
                 extra[usize::from(*v)] = slack;
@@ -179,31 +178,31 @@ impl Table {
     pub fn floor<R: Rule>(
         &self,
         alloc: Global,
-        rule: &R,
-        players: &[u16],
+        pool: &Pool<'_, R>,
         left: usize,
     ) -> Result<Option<Floor>, AllocError>
-        requires known { All (R.knows rule.now) players.now }
-        requires few { length players.now ≤ MOST }
-        requires some { left ≤ length players.now }
+        requires known { All (R.knows pool.now.rule.now) pool.now.players.now }
+        requires few { length pool.now.players.now ≤ MOST }
+        requires some { left ≤ length pool.now.players.now }
         ensures whole { IfOk result (λ found. IsSome found
-            ↔ (IsFeasible (R.costs rule.now) players.now (certificate_in self.now)
-            × IsBelow (R.costs rule.now) players.now left (certificate_in self.now) (2 ^ 512))) }
+            ↔ (IsFeasible (R.costs pool.now.rule.now) pool.now.players.now (certificate_in self.now)
+            × IsBelow (R.costs pool.now.rule.now) pool.now.players.now left (certificate_in self.now) (2 ^ 512))) }
         ensures value { IfOk result (λ found. IfSome found
-            (IsFloorOf (R.costs rule.now) players.now left (certificate_in self.now))) }
-        ensures least { IfOk result (λ found. IfSome found (IsFloor (R.costs rule.now) players.now left)) }
+            (IsFloorOf (R.costs pool.now.rule.now) pool.now.players.now left (certificate_in self.now))) }
+        ensures least { IfOk result (λ found. IfSome found
+            (IsFloor (R.costs pool.now.rule.now) pool.now.players.now left)) }
     {
-        let Some(base) = self.gains(players) else {
+        let Some(base) = self.gains(pool.players) else {
             return Ok(None);
         };
-        let Some(debt) = self.losses(players, left) else {
+        let Some(debt) = self.losses(pool.players, left) else {
             return Ok(None);
         };
-        let size = size_for(players);
-        let Some(extra_left) = self.extras_left(alloc, rule, players, size)? else {
+        let size = size_for(pool.players);
+        let Some(extra_left) = self.extras_left(alloc, pool, size)? else {
             return Ok(None);
         };
-        let Some(extra) = self.extras(alloc, rule, players, size)? else {
+        let Some(extra) = self.extras(alloc, pool, size)? else {
             return Ok(None);
         };
         Ok(Some(Floor {
@@ -228,26 +227,25 @@ impl Table {
     /// The floor that the certificate is for all matchings, however many they leave over. There is none if the
     /// certificate gives a pair another thing than twice what it gives a player left over, if it is not feasible, or if
     /// a sum of its numbers is 2^512 or more.
-    #[tactic(auto, using(crate::proofs::FloorLemmas::for_each_left))]
     pub fn floor_for_any<R: Rule>(
         &self,
         alloc: Global,
-        rule: &R,
-        players: &[u16],
+        pool: &Pool<'_, R>,
     ) -> Result<Option<Floor>, AllocError>
-        requires known { All (R.knows rule.now) players.now }
-        requires few { length players.now ≤ MOST }
-        ensures whole { IfOk result (λ found. IsSome found ↔ (GivesEvenly (certificate_in self.now)
-            × IsFeasible (R.costs rule.now) players.now (certificate_in self.now)
-            × IsBelow (R.costs rule.now) players.now (length players.now % 2) (certificate_in self.now) (2 ^ 512))) }
-        ensures value { IfOk result (λ found. IfSome found
-            (IsFloorOf (R.costs rule.now) players.now (length players.now % 2) (certificate_in self.now))) }
+        requires known { All (R.knows pool.now.rule.now) pool.now.players.now }
+        requires few { length pool.now.players.now ≤ MOST }
+        ensures whole { let players = pool.now.players.now in IfOk result (λ found. IsSome found
+            ↔ (GivesEvenly (certificate_in self.now)
+            × IsFeasible (R.costs pool.now.rule.now) players (certificate_in self.now)
+            × IsBelow (R.costs pool.now.rule.now) players (length players % 2) (certificate_in self.now) (2 ^ 512))) }
+        ensures value { let players = pool.now.players.now in IfOk result (λ found. IfSome found
+            (IsFloorOf (R.costs pool.now.rule.now) players (length players % 2) (certificate_in self.now))) }
         ensures least { IfOk result (λ found. IfSome found
-            (λ floor. (left : ℕ) → IsFloor (R.costs rule.now) players.now left floor)) }
+            (λ floor. (left : ℕ) → IsFloor (R.costs pool.now.rule.now) pool.now.players.now left floor)) }
     {
         if !self.gives_evenly() {
             return Ok(None);
         }
-        self.floor(alloc, rule, players, players.len() % 2)
+        self.floor(alloc, pool, pool.players.len() % 2)
     }
 }

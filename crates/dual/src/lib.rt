@@ -9,8 +9,9 @@
 //! many it leaves over, `tells_completable` checks a witness. Whoever finds them need not be trusted.
 //!
 //! Nothing here knows chess: a `Rule` of the caller says, by numbers, who may meet and who may be left over, and at
-//! what cost. Only a floor takes memory, a number for each pair. A check takes time with the square of the number of
-//! players, for a certificate times the number of its sets.
+//! what cost; a certificate is checked for a `Pool` of players and their rule. Only a floor takes memory, a number for
+//! each pair. A check takes time with the square of the number of players, for a certificate times the number of its
+//! sets.
 //!
 //! To mind: certificates are natural numbers below 2^512. Potentials below 0, and a multiplier of the number left over,
 //! are had by giving more.
@@ -26,6 +27,6 @@ mod witness;
 
 pub use barrier::{least_left, tells_incompletable};
 pub use floor::Floor;
-pub use rule::Rule;
+pub use rule::{Pool, Rule};
 pub use table::{MOST, MarkedSet, Table};
 pub use witness::tells_completable;

@@ -1,4 +1,4 @@
-// What is asked of a caller: who may meet, who may be left over, and what that costs.
+// What is asked of a caller: the players, who of them may meet, who may be left over, and what that costs.
 ghost use Rattle.std.specs.Prelude.{◌≡◌, ℕ};
 ghost use Rattle.dual.specs.Matchings.{Costs};
 
@@ -31,4 +31,11 @@ pub trait Rule {
     fn left_cost(&self, a: u16) -> Wide
         requires { knows self.now a }
         ensures { result ≡ (costs self.now).left_cost a };
+}
+
+/// Players of whom pairs are to be made, and the rule that says who may meet, who may be left over, and at what cost.
+#[derive(Drop)]
+pub struct Pool<'a, R> {
+    pub rule: &'a R,
+    pub players: &'a [u16],
 }

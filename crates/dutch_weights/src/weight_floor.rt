@@ -19,7 +19,7 @@ use crate::scale::{Extent, Scale};
 use crate::scoped::{Reach, Scoped};
 use crate::trail::Trail;
 use crate::weighing::Weighing;
-use dual::{Floor, Table};
+use dual::{Floor, Pool, Table};
 use dutch_bracket::begun::fixed_lists;
 use dutch_bracket::context::Context;
 use dutch_bracket::quality::Quality;
@@ -428,7 +428,11 @@ impl<'a> WeightFloors<'a> {
         let scoped = Scoped::new(&self.weighing, scope, Reach::Lower, &order);
         let players = numbered_from(1, scoped.size());
         let left = players.len() % 2;
-        let Some(floor) = table.floor(context.alloc(), &scoped, &players, left)? else {
+        let pool = Pool {
+            rule: &scoped,
+            players: &players,
+        };
+        let Some(floor) = table.floor(context.alloc(), &pool, left)? else {
             return Ok(None);
         };
         // (who goes down may be in a pair here)
@@ -454,7 +458,11 @@ impl<'a> WeightFloors<'a> {
         let context = self.weighing.context();
         let scoped = Scoped::new(&self.weighing, scope, Reach::Next, &order);
         let players = numbered_from(1, scoped.size());
-        let Some(floor) = table.floor_for_any(context.alloc(), &scoped, &players)? else {
+        let pool = Pool {
+            rule: &scoped,
+            players: &players,
+        };
+        let Some(floor) = table.floor_for_any(context.alloc(), &pool)? else {
             return Ok(None);
         };
         // (who goes down may be in a pair here)
@@ -480,7 +488,11 @@ impl<'a> WeightFloors<'a> {
         let players = numbered_from(1, context.len());
         let left = self.left();
         let scoped = Scoped::new(&self.weighing, scope, Reach::Bracket, &order);
-        let Some(floor) = table.floor(context.alloc(), &scoped, &players, left)? else {
+        let pool = Pool {
+            rule: &scoped,
+            players: &players,
+        };
+        let Some(floor) = table.floor(context.alloc(), &pool, left)? else {
             return Ok(None);
         };
         let scope = scope.copied();

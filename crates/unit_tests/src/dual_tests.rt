@@ -4,7 +4,7 @@
 // tests themselves hold no certificate and no wide number, and are proved in little time.
 ghost use Rattle.std.specs.Prelude.{◌≤◌, IfSome, length};
 
-use dual::{Floor, MarkedSet, Rule, Table, tells_completable, tells_incompletable};
+use dual::{Floor, MarkedSet, Pool, Rule, Table, tells_completable, tells_incompletable};
 use std::alloc::Global;
 use std::test::Fail;
 use wide::Wide;
@@ -172,9 +172,13 @@ fn floor_of(
     requires some { IfSome asked.now.left (λ left. left ≤ length asked.now.players.now) }
 {
     let table = table(alloc, certificate)?;
+    let pool = Pool {
+        rule: asked.rule,
+        players: asked.players,
+    };
     let floor = match asked.left {
-        Some(left) => table.floor(alloc, asked.rule, asked.players, left)?,
-        None => table.floor_for_any(alloc, asked.rule, asked.players)?,
+        Some(left) => table.floor(alloc, &pool, left)?,
+        None => table.floor_for_any(alloc, &pool)?,
     };
     Ok(floor)
 }
@@ -433,7 +437,11 @@ fn a_sum_that_does_not_fit_is_no_floor(rt: HostRuntime) -> Result<(), Fail> {
         left: Some(1),
     };
     assert!(rt; has_bound(rt.alloc(), &NOTHING, &asked, Some(0))?);
-    let none = great(rt.alloc())?.floor(rt.alloc(), &rule, &[1, 2, 3], 1)?;
+    let pool = Pool {
+        rule: &rule,
+        players: asked.players,
+    };
+    let none = great(rt.alloc())?.floor(rt.alloc(), &pool, 1)?;
     assert!(rt; none.is_none());
     Ok(())
 }

@@ -11,17 +11,17 @@ use Rattle.dual.proofs.table.Table.extras.Goals as goal
 
 pub fill-requires-clause-within : goal.fill-requires-clause-within
 fill-requires-clause-within g c = λ k d lt.
-    let here : get_or c.args.players.now c.loop-a.a-index 0 < c.args.size = c.requires.below c.loop-a.a-index 0 c.loop-a-test.true in
-    let inside = inside_square (get_or c.args.players.now c.loop-a.a-index 0) (get_or c.args.players.now k d) c.args.size here
+    let here : get_or c.args.pool.now.players.now c.loop-a.a-index 0 < c.args.size = c.requires.below c.loop-a.a-index 0 c.loop-a-test.true in
+    let inside = inside_square (get_or c.args.pool.now.players.now c.loop-a.a-index 0) (get_or c.args.pool.now.players.now k d) c.args.size here
     (c.requires.below k d lt) in
     omega (arith, inside, c.in_ok-row.ensures.start, c.loop-a.invariant.size, ap length c.deref_mut.ensures.value)
 
 pub loop-a-preserved : goal.loop-a-preserved
 loop-a-preserved g c =
-    let costs : Costs = g.R.Rule.costs c.args.rule.now in
+    let costs : Costs = g.R.Rule.costs c.args.pool.now.rule.now in
     let certificate : Certificate = certificate_in c.args.self.now in
     let size : ℕ = c.args.size in
-    let players : List ℕ = c.args.players.now in
+    let players : List ℕ = c.args.pool.now.players.now in
     let i : ℕ = c.loop-a.a-index in
     let lt : i < length players = c.loop-a-test.true in
     let new : List ℕ = c.fill.new.extra in
@@ -45,13 +45,13 @@ loop-a-preserved g c =
 
 pub returns-clause-whole : goal.returns-clause-whole
 returns-clause-whole g c =
-    let costs : Costs = g.R.Rule.costs c.args.rule.now in
-    let all : take c.loop-a.a-index c.args.players.now ≡ c.args.players.now = take_all c.loop-a.a-index c.args.players.now c.loop-a-test.false in
-    (λ _. subst (All (λ u. AllBear costs (certificate_in c.args.self.now) (2 ^ 512) u c.args.players.now)) all c.loop-a.invariant.bear, λ _. refl)
+    let costs : Costs = g.R.Rule.costs c.args.pool.now.rule.now in
+    let all : take c.loop-a.a-index c.args.pool.now.players.now ≡ c.args.pool.now.players.now = take_all c.loop-a.a-index c.args.pool.now.players.now c.loop-a-test.false in
+    (λ _. subst (All (λ u. AllBear costs (certificate_in c.args.self.now) (2 ^ 512) u c.args.pool.now.players.now)) all c.loop-a.invariant.bear, λ _. refl)
 
 pub returns-clause-value : goal.returns-clause-value
 returns-clause-value g c =
-    let costs : Costs = g.R.Rule.costs c.args.rule.now in
-    let all : take c.loop-a.a-index c.args.players.now ≡ c.args.players.now = take_all c.loop-a.a-index c.args.players.now c.loop-a-test.false in
-    subst (All (λ u. HasSlacks costs (certificate_in c.args.self.now) u c.args.players.now (u * c.args.size) c.loop-a.extra.items)) all
+    let costs : Costs = g.R.Rule.costs c.args.pool.now.rule.now in
+    let all : take c.loop-a.a-index c.args.pool.now.players.now ≡ c.args.pool.now.players.now = take_all c.loop-a.a-index c.args.pool.now.players.now c.loop-a-test.false in
+    subst (All (λ u. HasSlacks costs (certificate_in c.args.self.now) u c.args.pool.now.players.now (u * c.args.size) c.loop-a.extra.items)) all
     c.loop-a.invariant.told
