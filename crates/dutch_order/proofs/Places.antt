@@ -1,6 +1,5 @@
 -- Where a search of exchanges stands: what is known of what lies beyond its stage, and which paths are to come.
 use Rattle.std.proofs.Common.{◌≡◌, ℕ, suc, ◌-◌, ◌≤◌, List, [], ◌∷◌, ◌++◌, map, length, refl, sym, ◌∙◌, ap, arith, subst, ◌⊎◌, inl, inr, Option, Some, None}
-use Rattle.std.specs.List.{AllByRecursion}
 use Rattle.std.specs.List.Sorted.{IsStrictlyIncreasing}
 use Rattle.dutch_order.specs.Choices.{subsets}
 use Rattle.dutch_order.specs.Hints.{hinted, first_hint}
