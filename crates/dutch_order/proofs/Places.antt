@@ -1,14 +1,15 @@
 -- Where a search of exchanges stands: what is known of what lies beyond its stage, and which paths are to come.
 use Rattle.std.proofs.Common.{◌≡◌, ℕ, suc, ◌-◌, ◌≤◌, List, [], ◌∷◌, ◌++◌, map, length, refl, sym, ◌∙◌, ap, arith, subst, ◌⊎◌, inl, inr, Option, Some, None}
-use Rattle.std.specs.List.{AllByRecursion}
 use Rattle.std.specs.List.Sorted.{IsStrictlyIncreasing}
 use Rattle.dutch_order.specs.Choices.{subsets}
 use Rattle.dutch_order.specs.Hints.{hinted, first_hint}
 use Rattle.dutch_order.specs.Keys.{IsIn}
-use Rattle.dutch_order.specs.Stages.{IdleAt, IsKnown, IsOfStage, IsOwn, exchange_difference, exchange_path, exchange_plan, greatest_difference, most_exchanged, out_places, set_of, sets_ahead, sets_of_sizes, sets_of_stages, stage_left}
+use Rattle.dutch_order.specs.Stages.{IdleAt, IsKnown, IsOfStage, IsOwn, IsPlace, exchange_difference, exchange_path, exchange_plan, greatest_difference, most_exchanged, out_places, set_of, sets_ahead, sets_from, sets_of_sizes, sets_of_stages, stage_left}
 use Rattle.dutch_order.specs.Steps.{Passes}
 use Rattle.dutch_order.specs.Trials.{Plan, after, ahead, below, hits, lower, lowest}
+use Rattle.dutch_order.specs.Walks.{KeepsBeyond, beyond_all}
 use Rattle.dutch_order.specs.declared.exchange.Place.{Place}
+use Rattle.dutch_order.specs.declared.search.Walk.{Walk}
 use Rattle.dutch_order.proofs.LateSets.{late-known, late-own}
 use Rattle.dutch_order.proofs.LeftOut.{passes-same}
 use Rattle.dutch_order.proofs.Skipping.{all-members, passes-before, passes-weaker, passes-map}
@@ -78,33 +79,39 @@ ended-hits pool hint path number no_pool no_hint no_path is_number =
     ∙ none
 
 -- what is passed over of a stage's paths is passed over of its sets, and the same sets follow
-module _ (pool : List ℕ) (k : ℕ) (hint : List ℕ) (size difference : ℕ) (Idle : List ℕ → Type 0) (path path' : List ℕ) (number number' : ℕ) (beyond beyond' : Option ℕ) where
+module _ (pool : List ℕ) (k : ℕ) (place : Place) (walk : Walk) (stands : IsPlace pool k place) (kept : KeepsBeyond (hinted place.hint.items (exchange_plan pool k place.size place.difference)) place.walk walk) where
+  abbrev size : ℕ
+  size = place.size
+
   abbrev plan : Plan
-  plan = hinted hint (exchange_plan pool k size difference)
+  plan = hinted place.hint.items (exchange_plan pool k size place.difference)
 
   abbrev following_sets : Option ℕ → List (List ℕ)
-  following_sets next = sets_of_stages pool k (greatest_difference pool k size - difference) size (suc difference) next
+  following_sets next = sets_of_stages pool k (greatest_difference pool k size - place.difference) size (suc place.difference) next
 
-  abbrev larger : List (List ℕ)
-  larger = sets_of_sizes pool k (most_exchanged pool k - size) (suc size)
+  pub still-known : following_sets (beyond_all plan walk) ≡ following_sets (Some 0)
+  still-known = known-kept pool k (greatest_difference pool k size - place.difference) size (suc place.difference) (beyond_all plan place.walk) (beyond_all plan walk) kept stands.3
 
-  module _ (known : following_sets (lower beyond (lowest (ahead plan path number))) ≡ following_sets (Some 0)) (known' : following_sets (lower beyond' (lowest (ahead plan path' number'))) ≡ following_sets (Some 0)) (own : AllByRecursion (IsOfStage pool k size difference) (hits (ahead plan path number))) where
-    passed-list : (ys : List (List ℕ)) → Passes (IdleAt pool k Idle size difference) (hits (ahead plan path number)) ys → Passes Idle (sets_ahead pool k hint size difference path number beyond) (map (set_of pool k size) ys ++ (following_sets (lower beyond' (lowest (ahead plan path' number'))) ++ larger))
-    unfolding stage_left sets_ahead
+  module _ (Idle : List ℕ → Type 0) where
+    abbrev xs : List (List ℕ)
+    xs = hits (ahead plan place.walk.path.items place.walk.number)
+
+    abbrev before_them : Option ℕ → List (List ℕ) → List (List ℕ)
+    before_them next ys = map (set_of pool k size) ys ++ (following_sets next ++ sets_of_sizes pool k (most_exchanged pool k - size) (suc size))
+
+    passed-list : (ys : List (List ℕ)) → Passes (IdleAt pool k Idle size place.difference) xs ys → Passes Idle (before_them (beyond_all plan place.walk) xs) (before_them (beyond_all plan walk) ys)
     passed-list ys passes =
-        let xs : List (List ℕ) = hits (ahead plan path number) in
         let sets = set_of pool k size in
-        let there : Passes (λ p. Idle (sets p)) xs ys = passes-weaker (IdleAt pool k Idle size difference) (λ p. Idle (sets p)) (IsOfStage pool k size difference) xs ys (λ p of idle. idle of) own passes in
-        passes-same Idle (map sets xs ++ (following_sets (lower beyond (lowest (ahead plan path number))) ++ larger)) (map sets ys ++ (following_sets (lower beyond (lowest (ahead plan path number))) ++ larger))
-        (map sets ys ++ (following_sets (lower beyond' (lowest (ahead plan path' number'))) ++ larger))
-        (passes-before Idle (map sets xs) (map sets ys) (following_sets (lower beyond (lowest (ahead plan path number))) ++ larger)
-        (passes-map (λ p. Idle (sets p)) Idle sets xs ys (λ p idle. idle) there))
-        (ap (λ later. map sets ys ++ (later ++ larger)) (known ∙ sym known'))
+        let later = following_sets (beyond_all plan place.walk) ++ sets_of_sizes pool k (most_exchanged pool k - size) (suc size) in
+        let there : Passes (λ p. Idle (sets p)) xs ys = passes-weaker (IdleAt pool k Idle size place.difference) (λ p. Idle (sets p)) (IsOfStage pool k size place.difference) xs ys (λ p of idle. idle of) stands.4 passes in
+        passes-same Idle (before_them (beyond_all plan place.walk) xs) (before_them (beyond_all plan place.walk) ys) (before_them (beyond_all plan walk) ys)
+        (passes-before Idle (map sets xs) (map sets ys) later (passes-map (λ p. Idle (sets p)) Idle sets xs ys (λ p idle. idle) there))
+        (ap (λ later. map sets ys ++ (later ++ sets_of_sizes pool k (most_exchanged pool k - size) (suc size))) (stands.3 ∙ sym still-known))
 
-    pub passed-on : Passes (IdleAt pool k Idle size difference) (hits (ahead plan path number)) (hits (ahead plan path' number')) → Passes Idle (sets_ahead pool k hint size difference path number beyond) (sets_ahead pool k hint size difference path' number' beyond')
+    pub passed-on : Passes (IdleAt pool k Idle size place.difference) xs (hits (ahead plan walk.path.items walk.number)) → Passes Idle (sets_from pool k place) (sets_ahead pool k place.hint.items size place.difference walk.path.items walk.number walk.beyond)
     unfolding stage_left sets_ahead
-    passed-on passes = passed-list (hits (ahead plan path' number')) passes
+    passed-on passes = passed-list (hits (ahead plan walk.path.items walk.number)) passes
 
-    pub passed-found : Passes (IdleAt pool k Idle size difference) (hits (ahead plan path number)) (path' ∷ hits (ahead plan path' number')) → Passes Idle (sets_ahead pool k hint size difference path number beyond) (set_of pool k size path' ∷ sets_ahead pool k hint size difference path' number' beyond')
+    pub passed-found : Passes (IdleAt pool k Idle size place.difference) xs (walk.path.items ∷ hits (ahead plan walk.path.items walk.number)) → Passes Idle (sets_from pool k place) (set_of pool k size walk.path.items ∷ sets_ahead pool k place.hint.items size place.difference walk.path.items walk.number walk.beyond)
     unfolding stage_left sets_ahead
-    passed-found passes = passed-list (path' ∷ hits (ahead plan path' number')) passes
+    passed-found passes = passed-list (walk.path.items ∷ hits (ahead plan walk.path.items walk.number)) passes

@@ -138,14 +138,3 @@ drawn F N S same = subst (λ answer. MatchDrawn {E = Stopped} (Ok answer) F N S)
 pub drawn-stopped : (F N S : Type 0) (answer : Result Bool Stopped) → IsErr answer → S → MatchDrawn answer F N S
 drawn-stopped F N S (Err e) is given = given
 drawn-stopped F N S (Ok answer) is given = cc
-
--- a call that skips nothing, as one that may skip
-pub drawn-next : {T : Type 0} (Idle : T → Type 0) (x : T) (xs ys : List T) (Used More Less : Type 0) (answer : Result Bool Stopped) → MatchDrawn answer (xs ≡ x ∷ ys) ((xs ≡ []) × (ys ≡ []) × More) ((ys ≡ xs) × Used × Less) → MatchDrawn answer (Passes Idle xs (x ∷ ys)) (Passes Idle xs [] × (ys ≡ [])) (Passes Idle xs ys × Used)
-drawn-next Idle x xs ys Used More Less (Ok true) told = passes-none Idle xs (x ∷ ys) told
-drawn-next Idle x xs ys Used More Less (Ok false) told = (passes-none Idle xs [] told.0, told.1)
-drawn-next Idle x xs ys Used More Less (Err e) told = (passes-none Idle xs ys (sym told.0), told.1)
-
-pub drawn-very : {T : Type 0} (x : T) (xs ys : List T) (Used More Less : Type 0) (answer : Result Bool Stopped) → MatchDrawn answer (xs ≡ x ∷ ys) ((xs ≡ []) × (ys ≡ []) × More) ((ys ≡ xs) × Used × Less) → MatchDrawn answer (xs ≡ x ∷ ys) (xs ≡ []) (ys ≡ xs)
-drawn-very x xs ys Used More Less (Ok true) told = told
-drawn-very x xs ys Used More Less (Ok false) told = told.0
-drawn-very x xs ys Used More Less (Err e) told = told.0

@@ -322,10 +322,6 @@ module _ (pool : List ℕ) (k : ℕ) (rises : IsStrictlyIncreasing pool) (enough
   ahead-is size first =
       ap (ahead (exchange_plan pool k size first) []) (sym (starts_at_none size first (size + size))) ∙ ahead-new (exchange_plan pool k size first)
 
-  next_above : (size first n : ℕ) → lowest (ahead (exchange_plan pool k size first) [] 0) ≡ Some n → first < n
-  next_above size first n is =
-      below_above (exchange_plan pool k size first) first (beyond_above size first) (size + size) [] (entry (exchange_plan pool k size first) (size + size) []) n (ap lowest (sym (ahead-is size first)) ∙ is)
-
   -- a stage notes a difference that is no more than that of any later exchange
   next_reaches : (size first difference : ℕ) (set outs ins : List ℕ) → Exchange pool k size difference set outs ins → first < difference → AtMost difference (lowest (ahead (exchange_plan pool k size first) [] 0))
   next_reaches size first difference set outs ins e less =

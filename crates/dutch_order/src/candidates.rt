@@ -135,23 +135,16 @@ fn draw_legal<R: Rule, L: Arranges, C: Cuts>(
     candidate: &mut Candidate,
     budget: &mut Budget,
 ) -> Drawn
-    ensures answer { MatchDrawn result
-        (Passes (C.Idle asking.now.cuts.now)
-        (filter (may_leave (R.may_be_left asking.now.leave.now.rule.now) asking.now.leave.now.bracket.now)
-        (listed drawing.old.kept ++ L.coming drawing.old.level))
-        (candidate.new.lists
-        ∷ filter (may_leave (R.may_be_left asking.now.leave.now.rule.now) asking.now.leave.now.bracket.now)
-        (listed drawing.new.kept ++ L.coming drawing.new.level))
-        × (candidate.new.down ≡ down asking.now.leave.now.bracket.now candidate.new.lists))
-        (Passes (C.Idle asking.now.cuts.now)
-        (filter (may_leave (R.may_be_left asking.now.leave.now.rule.now) asking.now.leave.now.bracket.now)
-        (listed drawing.old.kept ++ L.coming drawing.old.level)) [])
-        (Passes (C.Idle asking.now.cuts.now)
-        (filter (may_leave (R.may_be_left asking.now.leave.now.rule.now) asking.now.leave.now.bracket.now)
-        (listed drawing.old.kept ++ L.coming drawing.old.level))
-        (filter (may_leave (R.may_be_left asking.now.leave.now.rule.now) asking.now.leave.now.bracket.now)
-        (listed drawing.new.kept ++ L.coming drawing.new.level))
-        × (budget.new.used ≡ budget.new.limit)) }
+    ensures answer { let leave = asking.now.leave.now in
+        let may = may_leave (R.may_be_left leave.rule.now) leave.bracket.now in
+        let before = filter may (listed drawing.old.kept ++ L.coming drawing.old.level) in
+        let after = filter may (listed drawing.new.kept ++ L.coming drawing.new.level) in
+        let Idle = C.Idle asking.now.cuts.now in
+        MatchDrawn result
+        (Passes Idle before (candidate.new.lists ∷ after)
+        × (candidate.new.down ≡ down leave.bracket.now candidate.new.lists))
+        (Passes Idle before [])
+        (Passes Idle before after × (budget.new.used ≡ budget.new.limit)) }
     ensures spends { Spends budget.old budget.new }
 {
     let leave = asking.leave;

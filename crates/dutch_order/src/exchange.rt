@@ -15,23 +15,23 @@
 // left is not known, so then it tries the very next difference too.
 ghost use Rattle.dutch_order.specs.declared.numbers.TheConstants.{LIMIT};
 ghost use Rattle.std.specs.Prelude.{◌≡◌, ◌+◌, ◌*◌, ◌-◌, ◌<◌, ◌≤◌, ℕ, List, suc, true, false, Some, [], ◌∷◌, ◌++◌};
-ghost use Rattle.std.specs.Prelude.{length, map, take, drop, slice_index};
+ghost use Rattle.std.specs.Prelude.{length, map, take, drop};
 ghost use Rattle.std.specs.List.{AllByRecursion};
 ghost use Rattle.std.specs.Result.{IsErr};
 ghost use Rattle.dutch_order.specs.Prefixes.{GoesOn};
 ghost use Rattle.dutch_order.specs.Sides.{count_of};
 ghost use Rattle.dutch_order.specs.Stages.{IdleAt, barred_numbers, held_numbers, in_limit};
 ghost use Rattle.dutch_order.specs.Stages.{is_told, out_limit, told_numbers};
-ghost use Rattle.dutch_order.specs.Stages.{least_difference, greatest_difference, exchange_plan};
+ghost use Rattle.dutch_order.specs.Stages.{exchange_plan};
 ghost use Rattle.dutch_order.specs.Stages.{IsPlace, sets_from, trials_from, stages_ahead, set_of, kept_of, value_of};
 ghost use Rattle.dutch_order.specs.Stages.{following, out_places, in_places, exchange_path, exchange_difference};
 ghost use Rattle.dutch_order.specs.Exchange.{exchanges};
-ghost use Rattle.dutch_order.specs.Choices.{subsets, from_on, numbers_from};
+ghost use Rattle.dutch_order.specs.Choices.{subsets, from_on};
 ghost use Rattle.dutch_order.specs.Keys.{IsIn};
 ghost use Rattle.std.specs.List.Sorted.{IsStrictlyIncreasing};
 ghost use Rattle.dutch_order.specs.declared.exchange.Side.TheVariants.{In, Out};
-ghost use Rattle.dutch_order.specs.Steps.{MatchDrawn, MatchStep, Passes, Spends};
-ghost use Rattle.dutch_order.specs.Walks.{IsOpen, KeepsBeyond, Stands};
+ghost use Rattle.dutch_order.specs.Steps.{MatchDrawn, Passes, Spends};
+ghost use Rattle.dutch_order.specs.Walks.{KeepsBeyond, Stands};
 ghost use Rattle.dutch_order.specs.Trials.{ahead, hits};
 ghost use Rattle.dutch_order.specs.Hints.{hinted, first_hint};
 
@@ -447,27 +447,15 @@ fn climb_stage<C: CutsExchanges>(
         tree.now.tree.size tree.now.tree.difference)) walk.old.path.items }
     ensures stands { Stands (hinted tree.now.hint.now.items (exchange_plan tree.now.tree.pool.now tree.now.tree.k
         tree.now.tree.size tree.now.tree.difference)) walk.new.path.items }
-    ensures answer { MatchDrawn result
-        (Passes (IdleAt tree.now.tree.pool.now tree.now.tree.k (C.Idle cuts.now) tree.now.tree.size
-        tree.now.tree.difference)
-        (hits (ahead (hinted tree.now.hint.now.items (exchange_plan tree.now.tree.pool.now tree.now.tree.k
-        tree.now.tree.size tree.now.tree.difference)) walk.old.path.items walk.old.number))
-        (walk.new.path.items ∷ hits (ahead (hinted tree.now.hint.now.items (exchange_plan tree.now.tree.pool.now
-        tree.now.tree.k tree.now.tree.size tree.now.tree.difference)) walk.new.path.items walk.new.number))
-        × (length walk.new.path.items ≡ tree.now.tree.size + tree.now.tree.size))
-        (Passes (IdleAt tree.now.tree.pool.now tree.now.tree.k (C.Idle cuts.now) tree.now.tree.size
-        tree.now.tree.difference)
-        (hits (ahead (hinted tree.now.hint.now.items (exchange_plan tree.now.tree.pool.now tree.now.tree.k
-        tree.now.tree.size tree.now.tree.difference)) walk.old.path.items walk.old.number)) []
-        × (ahead (hinted tree.now.hint.now.items (exchange_plan tree.now.tree.pool.now tree.now.tree.k
-        tree.now.tree.size tree.now.tree.difference)) walk.new.path.items walk.new.number ≡ []))
-        (Passes (IdleAt tree.now.tree.pool.now tree.now.tree.k (C.Idle cuts.now) tree.now.tree.size
-        tree.now.tree.difference)
-        (hits (ahead (hinted tree.now.hint.now.items (exchange_plan tree.now.tree.pool.now tree.now.tree.k
-        tree.now.tree.size tree.now.tree.difference)) walk.old.path.items walk.old.number))
-        (hits (ahead (hinted tree.now.hint.now.items (exchange_plan tree.now.tree.pool.now tree.now.tree.k
-        tree.now.tree.size tree.now.tree.difference)) walk.new.path.items walk.new.number))
-        × (budget.new.used ≡ budget.new.limit)) }
+    ensures answer { let stage = tree.now.tree in
+        let plan = hinted tree.now.hint.now.items (exchange_plan stage.pool.now stage.k stage.size stage.difference) in
+        let Idle = IdleAt stage.pool.now stage.k (C.Idle cuts.now) stage.size stage.difference in
+        let before = hits (ahead plan walk.old.path.items walk.old.number) in
+        let after = hits (ahead plan walk.new.path.items walk.new.number) in
+        MatchDrawn result
+        (Passes Idle before (walk.new.path.items ∷ after) × (length walk.new.path.items ≡ stage.size + stage.size))
+        (Passes Idle before [] × (ahead plan walk.new.path.items walk.new.number ≡ []))
+        (Passes Idle before after × (budget.new.used ≡ budget.new.limit)) }
     ensures known { KeepsBeyond (hinted tree.now.hint.now.items (exchange_plan tree.now.tree.pool.now tree.now.tree.k
         tree.now.tree.size tree.now.tree.difference)) walk.old walk.new }
     ensures spends { Spends budget.old budget.new }
@@ -493,16 +481,14 @@ fn next_set_past<C: CutsExchanges>(
     requires enough { sides.now.k ≤ length sides.now.pool.now }
     requires standing { IsPlace sides.now.pool.now sides.now.k place.old }
     ensures stands { IsPlace sides.now.pool.now sides.now.k place.new }
-    ensures answer { MatchDrawn result
-        (Passes (C.Idle cuts.now) (sets_from sides.now.pool.now sides.now.k place.old)
-        (set_of sides.now.pool.now sides.now.k place.new.size place.new.walk.path.items
-        ∷ sets_from sides.now.pool.now sides.now.k place.new)
+    ensures answer { let before = sets_from sides.now.pool.now sides.now.k place.old in
+        let after = sets_from sides.now.pool.now sides.now.k place.new in
+        MatchDrawn result
+        (Passes (C.Idle cuts.now) before
+        (set_of sides.now.pool.now sides.now.k place.new.size place.new.walk.path.items ∷ after)
         × (length place.new.walk.path.items ≡ place.new.size + place.new.size))
-        (Passes (C.Idle cuts.now) (sets_from sides.now.pool.now sides.now.k place.old) []
-        × (sets_from sides.now.pool.now sides.now.k place.new ≡ []))
-        (Passes (C.Idle cuts.now) (sets_from sides.now.pool.now sides.now.k place.old)
-        (sets_from sides.now.pool.now sides.now.k place.new)
-        × (budget.new.used ≡ budget.new.limit)) }
+        (Passes (C.Idle cuts.now) before [] × (after ≡ []))
+        (Passes (C.Idle cuts.now) before after × (budget.new.used ≡ budget.new.limit)) }
     ensures spends { Spends budget.old budget.new }
 {
     loop {

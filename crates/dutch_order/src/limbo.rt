@@ -3,12 +3,10 @@
 ghost use Rattle.dutch_order.specs.declared.numbers.TheConstants.{LIMIT};
 ghost use Rattle.std.specs.Prelude.{◌≡◌, ◌+◌, ◌*◌, ◌<◌, ◌≤◌, ℕ, [], ◌∷◌, ◌-◌, length, map, slice_index};
 ghost use Rattle.std.specs.List.{AllByRecursion};
-ghost use Rattle.dutch_order.specs.Halves.{half_start};
 ghost use Rattle.dutch_order.specs.Limbo.{limbo_exchanges, IsNonAscending};
 ghost use Rattle.dutch_order.specs.LimboSearch.{leads, mirrors, front_with, numbers_of, places_of, leader, leaders};
 ghost use Rattle.dutch_order.specs.Choices.{subsets, from_on, numbers_from};
 ghost use Rattle.dutch_order.specs.Keys.{IsIn};
-ghost use Rattle.dutch_order.specs.Steps.{MatchDrawn, MatchStep, Spends};
 
 use crate::generator::Generator;
 use crate::halves::{end_of_half, first_of_half};

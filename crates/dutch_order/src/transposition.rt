@@ -7,7 +7,7 @@ ghost use Rattle.dutch_order.specs.Transposition.{all_tuples, transpositions, sh
 ghost use Rattle.dutch_order.specs.TranspositionSearch.{transposition_plan, numbers_at, place_in, places_in};
 ghost use Rattle.dutch_order.specs.Choices.{tuples, all_meet, from_on};
 ghost use Rattle.dutch_order.specs.Keys.{IsIn};
-ghost use Rattle.dutch_order.specs.Steps.{MatchDrawn, MatchStep, Passes, Spends};
+ghost use Rattle.dutch_order.specs.Steps.{MatchDrawn, Passes, Spends};
 
 use crate::cuts::CutsTuples;
 use crate::generator::Generator;

@@ -1,4 +1,4 @@
-use Rattle.std.proofs.Common.{sym, subst, length, ◌≤◌, option_copied, ◌≡◌, ◌∙◌, ap, filter}
+use Rattle.std.proofs.Common.{sym, subst, length, ◌≤◌, option_copied, ◌≡◌, ◌∙◌, ap, filter, ℕ, Bool, List, Option}
 use Rattle.std.specs.List.{AllByRecursion}
 use Rattle.std.specs.List.Sorted.{IsStrictlyIncreasing}
 use Rattle.dutch_order.specs.Arrangements.{Arrangement, left_of}
@@ -9,6 +9,11 @@ use Rattle.dutch_order.specs.contracts.cursor.Cursor.{the_view}
 use Rattle.dutch_order.proofs.Blocks.{of-both}
 use Rattle.dutch_order.proofs.Counts.{opponents-leave, opponents-leave-from}
 use Rattle.dutch_order.proofs.choices.ByS2.start.Goals as goal
+
+-- the same lists have the same blocks
+filled : (meets : ℕ → ℕ → Bool) (k : ℕ) (s1 s1' residents residents' : List ℕ) (own : Option Arrangement) (lists lists' : List (List ℕ)) → s1 ≡ s1' → residents ≡ residents' → lists ≡ lists'
+    → joined (s2_blocks meets k s1 residents own lists) ≡ joined (s2_blocks meets k s1' residents' own lists')
+filled meets k s1 s1' residents residents' own lists lists' is_s1 is_residents is_lists = cc
 
 pub invariant_of-self : goal.invariant_of-self
 invariant_of-self g c =
@@ -37,31 +42,16 @@ invariant_of-self-in-None g c =
 pub returns-in-Some : goal.returns-in-Some
 unfolding in_s1
 returns-in-Some g c =
-    let k = c.args.from.now.k in
-    let s1 = c.args.from.now.s1.now in
-    let residents = c.args.from.now.residents.now in
-    let meets = g.R.Rule.meets c.args.rule.now in
-    let at = option_copied c.args.own in
-    let own = c.in-Some.cursor.now in
-    let all = all_tuples residents (length s1) in
-    let coming = c.start_from.new.self.coming in
+    let all = all_tuples c.args.from.now.residents.now (length c.args.from.now.s1.now) in
+    let meets = all_meet (g.R.Rule.meets c.args.rule.now) c.args.from.now.s1.now in
     let at_s2 = ap (λ i. (the_view i).s2) c.cursor-inside.view_is ∙ ap (λ (a : Arrangement). a.s2) c.cursor.view_is in
-    let lists : coming ≡ filter (all_meet meets s1) (from_on own.s2 all) =
-    c.start_from.ensures.coming ∙ ap (λ tuple. filter (all_meet meets s1) (from_on tuple all)) (c.deref.ensures.0 ∙ at_s2) in
-    ap (λ list. joined (s2_blocks meets k list c.fill-2.new.list.items at coming)) c.fill.ensures
-    ∙ ap (λ list. joined (s2_blocks meets k s1 list at coming)) c.fill-2.ensures
-    ∙ ap (λ lists. joined (s2_blocks meets k s1 residents at lists)) (lists ∙ ap (λ other. filter (all_meet meets s1) (choices_from (λ a. a.s2) other all)) (sym (ap (λ lent. option_copied lent) c.in-Some.is)))
+    filled _ _ _ _ _ _ _ _ _ c.fill.ensures c.fill-2.ensures
+    (c.start_from.ensures.coming ∙ ap (λ tuple. filter meets (from_on tuple all)) (c.deref.ensures.0 ∙ at_s2)
+    ∙ ap (λ other. filter meets (choices_from (λ a. a.s2) other all)) (sym (ap (λ lent. option_copied lent) c.in-Some.is)))
 
 pub returns-in-None : goal.returns-in-None
 unfolding in_s1
 returns-in-None g c =
-    let k = c.args.from.now.k in
-    let s1 = c.args.from.now.s1.now in
-    let residents = c.args.from.now.residents.now in
-    let meets = g.R.Rule.meets c.args.rule.now in
-    let at = option_copied c.args.own in
-    let all = all_tuples residents (length s1) in
-    let coming = c.start.new.self.coming in
-    ap (λ list. joined (s2_blocks meets k list c.fill-2.new.list.items at coming)) c.fill.ensures
-    ∙ ap (λ list. joined (s2_blocks meets k s1 list at coming)) c.fill-2.ensures
-    ∙ ap (λ lists. joined (s2_blocks meets k s1 residents at lists)) (c.start.ensures.coming ∙ ap (λ other. filter (all_meet meets s1) (choices_from (λ a. a.s2) other all)) (sym (ap (λ lent. option_copied lent) c.in-None.is)))
+    let all = all_tuples c.args.from.now.residents.now (length c.args.from.now.s1.now) in
+    filled _ _ _ _ _ _ _ _ _ c.fill.ensures c.fill-2.ensures
+    (c.start.ensures.coming ∙ ap (λ other. filter (all_meet (g.R.Rule.meets c.args.rule.now) c.args.from.now.s1.now) (choices_from (λ a. a.s2) other all)) (sym (ap (λ lent. option_copied lent) c.in-None.is)))
