@@ -24,7 +24,7 @@ use crate::outlook::{Outlook, leaves_first};
 use dutch_bracket::begun::{Begun, fill_fixed, fixed_lists, has_s1, is_of_shape};
 use dutch_bracket::context::Context;
 use dutch_bracket::differences::fill_psd;
-use dutch_bracket::psd_floor::{fill_psd_with, is_uniform};
+use dutch_bracket::psd_floor::{FlatShape, is_uniform};
 use dutch_bracket::quality::{NextValue, Quality, Room, fill_others};
 use dutch_bracket::seated::Seated;
 use dutch_order::{Filling, LIMIT, Numbers, Prefix, Shape, numbered_from};
@@ -72,7 +72,8 @@ impl<'a> Model for Floors<'a> {
 
 /// Whether there is a resident, and all residents have one score.
 fn is_flat(context: &Context<'_>) -> bool
-    ensures { result ≡ is_flat context.now.facts context.now.reached }
+    ensures value { result ≡ is_flat context.now.facts context.now.reached }
+    ensures of { IsOf context.now.facts context.now.reached }
 {
     let (first, last) = (context.reached().mdps() + 1, context.len());
     if last < first {
@@ -90,7 +91,6 @@ impl<'a> Floors<'a> {
             { facts = context.now.facts; reached = context.now.reached; shape = shape; outlook = outlook } }
         ensures of { IsOf context.now.facts context.now.reached }
     {
-        let _reached = context.reached();
         let flat = is_flat(context);
         let uniform = is_uniform(context.rule(), shape);
         Floors {
@@ -134,8 +134,12 @@ impl<'a> Floors<'a> {
             (residents_score self.now.facts self.now.reached) s1.now }
     {
         let context = self.context;
-        let score = context.score(context.reached().mdps() as u16 + 1);
-        fill_psd_with(context.rule(), self.shape(), score, s1, psd)
+        let flat = FlatShape {
+            rule: context.rule(),
+            shape: self.shape(),
+            score: context.score(context.reached().mdps() as u16 + 1),
+        };
+        flat.fill_psd(s1, psd)
     }
 
     /// S1 of a beginning; the first one, if none is chosen.
