@@ -9,16 +9,14 @@ use Rattle.dutch_bracket.proofs.told_shape.shape_by.Goals as goal
 
 pub returns : goal.returns
 returns c =
-    let facts = c.args.rule.field.now in
     let reached = c.args.rule.reached.now in
     let partners = c.args.found.now.partners.items in
     let once : is_penultimate reached.kind ≡ false = search rules in
-    let last : ends_round reached.kind ≡ true → AreMatched reached partners = search rules in
     let same : matched_shape reached partners ≡ c.args.most = search rules in
     let shape : matched_shape reached partners ≡ c.matched_shape-shape.result = search rules in
     record {
       once = once;
       always = λ lower.
-          shape_matched facts reached lower partners c.args.most once c.args.rule.sound last c.requires.matching c.requires.most same
+          shape_matched c.args.rule.field.now reached lower partners c.args.most once c.args.rule.sound (search rules) c.requires.matching c.requires.most same
           ∙ ap (λ (s : Shape). Some s) shape;
     }
