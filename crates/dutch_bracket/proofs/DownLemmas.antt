@@ -1,5 +1,5 @@
 -- Those whom an arrangement leaves over are numbers of the bracket.
-use Rattle.std.proofs.Common.{◌≡◌, ◌+◌, ◌<◌, ◌≤◌, ℕ, Bool, not, List, length, filter, arith}
+use Rattle.std.proofs.Common.{◌≡◌, ◌<◌, ◌≤◌, ℕ, Bool, not, List, length, arith}
 use Rattle.std.proofs.lemmas.List.{length-map}
 use Rattle.dutch_order.specs.Choices.{is_member, numbers_from}
 use Rattle.dutch_order.specs.Arrangements.{Arrangement, down, paired}

@@ -20,7 +20,6 @@ use Rattle.dutch_bracket.proofs.PsdParts.{OneScore}
 use Rattle.dutch_bracket.proofs.Descents.{lowest_is_one, none_lower}
 use Rattle.dutch_bracket.proofs.DownLemmas.{players, down_numbers}
 use Rattle.dutch_bracket.proofs.LeastPsd.{Descends, all_climb, first_is_least, in_filter}
-use Rattle.dutch_order.specs.declared.numbers.TheConstants.{LIMIT}
 
 seat_score : (facts : Facts) (reached : Reached) (i : ℕ) → i < length reached.seats → slice_index (frame_of facts reached).scores i ≡ score_at facts (get_or reached.seats i 0)
 seat_score facts reached i h = get_or-map (score_at facts) reached.seats i 0 0 h

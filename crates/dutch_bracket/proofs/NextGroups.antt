@@ -1,5 +1,5 @@
 -- The next lower scoregroup is the front of the lower seats with one score.
-use Rattle.std.proofs.Common.{◌≡◌, ℕ, zero, suc, ◌+◌, ◌<◌, ◌≤◌, Bool, true, false, ◌==◌, cond, List, [], ◌∷◌, length, take, get_or, min, refl, sym, ap, ◌∙◌, subst, arith}
+use Rattle.std.proofs.Common.{◌≡◌, ℕ, zero, suc, ◌<◌, Bool, true, false, ◌==◌, cond, List, [], ◌∷◌, length, take, get_or, refl, sym, ap, ◌∙◌, subst, arith}
 use Rattle.std.proofs.lemmas.List.{length-take}
 use Rattle.std.proofs.lemmas.Bool.{eqb-true}
 use Rattle.dutch_order.specs.Arrangements.{down}
@@ -12,7 +12,6 @@ use Rattle.dutch_bracket.specs.Groups.{front_with}
 use Rattle.dutch_bracket.specs.Brackets.{first_group, scoregroups, quality_of}
 use Rattle.dutch_bracket.specs.NextBracket.{IsNext, quality}
 use Rattle.dutch_bracket.proofs.GroupLemmas.{first_group_is}
-use Rattle.dutch_order.specs.declared.numbers.TheConstants.{LIMIT}
 
 -- the seat at a place of a front has the score, and is that at the same place of all
 abbrev pub IsAt : Facts → ℕ → List ℕ → List ℕ → ℕ → Type 0

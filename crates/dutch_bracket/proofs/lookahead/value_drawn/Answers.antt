@@ -1,5 +1,5 @@
 -- The first candidate of the greatest shape has the least PSD of all.
-use Rattle.std.proofs.Common.{◌≡◌, ℕ, ◌≤◌, List, Option, None, MatchOption, sym, ap, ◌∙◌, subst, refl}
+use Rattle.std.proofs.Common.{◌≡◌, ℕ, ◌≤◌, Option, None, MatchOption, sym, ap, ◌∙◌, subst, refl}
 use Rattle.std.specs.Prelude.{slice_index}
 use Rattle.std.proofs.lemmas.Option.{MatchOption-at_some}
 use Rattle.dutch_order.specs.Arrangements.{Frame}

@@ -1,5 +1,5 @@
 -- The moved-down players are numbers of the bracket.
-use Rattle.std.proofs.Common.{◌≡◌, ◌∙◌, ◌≤◌, length, map, ap, sym, subst, arith}
+use Rattle.std.proofs.Common.{◌≡◌, ◌∙◌, ◌≤◌, length, ap, sym, subst, arith}
 use Rattle.std.proofs.lemmas.List.{length-map}
 use Rattle.dutch_order.proofs.Members.{length-numbers}
 use Rattle.dutch_bracket.specs.Reached.{Reached}
