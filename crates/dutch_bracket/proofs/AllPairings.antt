@@ -162,8 +162,7 @@ module _ (meets : ℕ → ℕ → Bool) (may_go : ℕ → Bool) where
             let others : List ℕ = partner.front ++ partner.behind in
             let p : Picked b later others =
             subst (λ l. Picked b l others) (sym partner.players_are) (picked_between b partner.front partner.behind) in
-            let fewer : length others ≡ n = omega (arith, picked_length b later others p, e) in
-            let rest = way_found n may_be_left others fewer partner.others_hold in
+            let rest = way_found n may_be_left others (omega (arith, picked_length b later others p, e)) partner.others_hold in
             let more = put_back b later others rest.0 rest.1 p rest.2 in
             ((a, b) ∷ rest.0, rest.1, inr (b, rest.0, more.0, refl, more.2, more.1), and_from (meets a b) (list_all (λ pair. meets pair.0 pair.1) rest.0) partner.may_meet rest.3, rest.4))
         | inr left ↦

@@ -18,6 +18,7 @@ use Rattle.dutch_order.proofs.Members.{length-numbers}
 use Rattle.dutch_order.proofs.Counts.{subsets-length, tuples-length, left-append}
 use Rattle.dutch_bracket.proofs.AllLemmas.{all_filter}
 use Rattle.dutch_bracket.proofs.Totals.{total, total_length}
+pub use Rattle.dutch_order.proofs.CursorArrangements.{rises-numbers as numbers_rise}
 
 -- the first of the numbers to come
 pub next_number : (i n : ℕ) → i < n → numbers_from (i + 1) (n - i) ≡ (i + 1) ∷ numbers_from ((i + 1) + 1) (n - (i + 1))
@@ -121,10 +122,6 @@ pub numbers_above : (low first count : ℕ) → low < first → AllByRecursion (
 numbers_above low first zero h = tt
 numbers_above low first (suc count) h = (h, numbers_above low (suc first) count (omega arith))
 
-pub numbers_rise : (first count : ℕ) → Rises (numbers_from first count)
-numbers_rise first zero = tt
-numbers_rise first (suc count) = (numbers_above first (suc first) count (omega arith), numbers_rise (suc first) count)
-
 pub numbers_within : (q first count n : ℕ) → q < first → first + count ≤ n + 1 → AllByRecursion (λ i. (q < i) × (i ≤ n)) (numbers_from first count)
 numbers_within q first zero n h g = tt
 numbers_within q first (suc count) n h g = ((h, omega arith), numbers_within q (suc first) count n (omega arith) (omega arith))
@@ -178,11 +175,8 @@ residents_whole w frame shape a lists =
     let rest : List ℕ = left_of pool a.s2 in
     let rises : Rises pool = numbers_rise (frame.mdps + 1) (length frame.scores - frame.mdps) in
     let rises_rest : Rises rest = Rises-filter (λ x. not (is_member x a.s2)) pool rises in
-    let rises_last : Rises (left_of rest a.s1r) = Rises-filter (λ x. not (is_member x a.s1r)) rest rises_rest in
-    let one = tuple_whole w pool shape.mdps a.s2 rises lists.s2 in
-    let two = subset_whole w rest (remainder_pairs shape) a.s1r rises_rest lists.s1r in
-    let three = tuple_whole w (left_of rest a.s1r) (remainder_pairs shape) a.s2r rises_last lists.s2r in
-    omega (arith, one, two, three)
+    let three = tuple_whole w (left_of rest a.s1r) (remainder_pairs shape) a.s2r (Rises-filter (λ x. not (is_member x a.s1r)) rest rises_rest) lists.s2r in
+    omega (arith, tuple_whole w pool shape.mdps a.s2 rises lists.s2, subset_whole w rest (remainder_pairs shape) a.s1r rises_rest lists.s1r, three)
 
 -- every arrangement of a bracket has such parts
 pub parts_of : (frame : Frame) (shape : Shape) (a : Arrangement) → frame.mdps ≤ length frame.scores → IsIn a (arrangements frame shape)
@@ -199,7 +193,6 @@ parts_of frame shape a inside m =
     let P : ℕ → Type 0 = λ i. (q < i) × (i ≤ n) in
     let all : AllByRecursion P pool = numbers_within q (q + 1) (n - q) n (omega arith) (omega arith) in
     let all_rest : AllByRecursion P rest = all_filter P (λ x. not (is_member x a.s2)) pool all in
-    let all_last : AllByRecursion P last = all_filter P (λ x. not (is_member x a.s1r)) rest all_rest in
     let s2_count : length a.s2 ≡ shape.mdps = tuples-length pool shape.mdps a.s2 lists.s2 in
     let s1r_count : length a.s1r ≡ j = subsets-length rest j a.s1r lists.s1r in
     let s2r_count : length a.s2r ≡ j = tuples-length last j a.s2r lists.s2r in
@@ -207,16 +200,15 @@ parts_of frame shape a inside m =
       s1 = climbs.0;
       s2 = tuple_members P pool shape.mdps a.s2 all lists.s2;
       s1r = subset_members P rest j a.s1r all_rest lists.s1r;
-      s2r = tuple_members P last j a.s2r all_last lists.s2r;
+      s2r = tuple_members P last j a.s2r (all_filter P (λ x. not (is_member x a.s1r)) rest all_rest) lists.s2r;
       s1_count = climbs.1;
       s2_count = s2_count;
       s1r_count = s1r_count;
       s2r_count = s2r_count;
       left =
-          let whole = residents_whole (λ x. 1) frame shape a lists in
           omega (
             arith,
-            whole,
+            (residents_whole (λ x. 1) frame shape a lists),
             total_length a.s2,
             total_length a.s1r,
             total_length a.s2r,

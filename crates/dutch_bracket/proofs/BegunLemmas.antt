@@ -6,9 +6,8 @@ use Rattle.dutch_order.specs.declared.prefix.Filling.TheVariants.{S1, S2, S2r}
 use Rattle.dutch_order.proofs.Moves.{AllByRecursion-take}
 use Rattle.dutch_order.specs.Prefixes.{BeginsAt, GoesOn}
 use Rattle.dutch_player.specs.Facts.{Facts}
-use Rattle.dutch_bracket.specs.Seated.{IsPair}
+use Rattle.dutch_bracket.specs.Seated.{IsPair, seat_of, pairs_of, all_pairs, AreSeats, AllNumbers, AllPairs}
 use Rattle.dutch_bracket.specs.Reached.{Reached}
-use Rattle.dutch_bracket.specs.Seated.{seat_of, pairs_of, all_pairs, AreSeats, AllNumbers, AllPairs}
 use Rattle.dutch_bracket.proofs.AllLemmas.{all_join}
 use Rattle.dutch_bracket.proofs.CandidateSeats.{pairs_within}
 use Rattle.dutch_bracket.specs.Beginnings.{HasPairsOf, LacksEndOfS2r, lists_by}
@@ -27,8 +26,7 @@ pub fixed_within : (facts : Facts) (reached : Reached) (lists : Arrangement) (pa
     → AllNumbers reached.seats lists.s1 → AllNumbers reached.seats lists.s2 → AllNumbers reached.seats lists.s1r → AllNumbers reached.seats lists.s2r
     → pairs ≡ all_pairs reached.seats lists → AllPairs facts pairs
 fixed_within facts reached lists pairs inside s1 s2 s1r s2r e =
-    let P : List (ℕ × ℕ) → Type 0 = AllPairs facts in
-    subst P (sym e) (all_join (IsPair facts) (pairs_of reached.seats lists.s1 lists.s2) (pairs_of reached.seats lists.s1r lists.s2r)
+    subst (AllPairs facts) (sym e) (all_join (IsPair facts) (pairs_of reached.seats lists.s1 lists.s2) (pairs_of reached.seats lists.s1r lists.s2r)
     (pairs_within facts reached.seats lists.s1 lists.s2 inside s1 s2) (pairs_within facts reached.seats lists.s1r lists.s2r inside s1r s2r))
 
 -- a list goes on from nothing

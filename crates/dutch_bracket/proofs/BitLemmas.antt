@@ -27,10 +27,9 @@ bit_set words place lt =
 same_word : (words : List ℕ) (place i : ℕ) → place / 64 < length words → i / 64 ≡ place / 64 → (i ≡ place → ⊥) → has_bit (with_bit words place) i ≡ has_bit words i
 unfolding has_bit
 same_word words place i lt same other =
-    let apart : i % 64 ≡ place % 64 → ⊥ = λ e. other (omega (arith, e, same)) in
     ap (λ k. bit_at (slice_index (with_bit words place) k) (i % 64) == 1) same
     ∙ ap (λ w. bit_at w (i % 64) == 1) (get_or-set_same words (place / 64) (bit_or (slice_index words (place / 64)) (1 * 2 ^ (place % 64) % 18446744073709551616)) 0 lt)
-    ∙ ap (λ b. b == 1) (bit_at_set_other w64 (slice_index words (place / 64)) (place % 64) (omega arith) (i % 64) apart)
+    ∙ ap (λ b. b == 1) (bit_at_set_other w64 (slice_index words (place / 64)) (place % 64) (omega arith) (i % 64) (λ e. other (omega (arith, e, same))))
     ∙ ap (λ k. bit_at (slice_index words k) (i % 64) == 1) (sym same)
 
 pub bit_kept : (words : List ℕ) (place i : ℕ) → place / 64 < length words → (i ≡ place → ⊥) → has_bit (with_bit words place) i ≡ has_bit words i

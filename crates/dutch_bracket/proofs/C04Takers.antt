@@ -63,9 +63,8 @@ module _ (meets : ℕ → ℕ → Bool) (may_go : ℕ → Bool) where
             ∙ partner_serves (meets a) (can_cover meets may_go nobody n 0) [] p.front p.partner p.behind p.may_meet
             (even_uncovered may_be_left n less (p.front ++ p.behind) p.others_hold))
         | inr left ↦
-            let yes : can_cover meets may_go nobody (suc n) 0 later ≡ true = (and_parts (may_be_left a) (can_cover meets may_go nobody (suc n) 0 later) left).1 in
             let no : can_cover meets may_go nobody (suc n) 0 later ≡ false = odd_uncovered meets may_go (suc n) (omega (arith, less)) later in
-            let bad : true ≡ false = sym yes ∙ no in absurd (cc)
+            let bad : true ≡ false = sym (and_parts (may_be_left a) (can_cover meets may_go nobody (suc n) 0 later) left).1 ∙ no in absurd (cc)
       ]
 
   -- so of players of a number one is left out only of an odd number

@@ -104,11 +104,8 @@ psd_by_first facts reached lower shape a of' flat member =
 all_that_fit : (low bound : ℕ) (xs : List ℕ) → Climbs low bound xs → low + length xs ≡ bound → xs ≡ numbers_from low (length xs)
 all_that_fit low bound [] climbs full = refl
 all_that_fit low bound (x ∷ xs) climbs full =
-    let above : low ≤ x = climbs.0 in
-    let room : x + length xs < bound = Climbs-room low bound xs x climbs in
-    let first : x ≡ low = omega (arith, above, room, full) in
-    let later : xs ≡ numbers_from (suc x) (length xs) = all_that_fit (suc x) bound xs climbs.2 (omega (arith, first, full)) in
-    ap (λ rest. x ∷ rest) later ∙ ap (λ k. k ∷ numbers_from (suc k) (length xs)) first
+    let first : x ≡ low = omega (arith, climbs.0, Climbs-room low bound xs x climbs, full) in
+    ap (λ rest. x ∷ rest) (all_that_fit (suc x) bound xs climbs.2 (omega (arith, first, full))) ∙ ap (λ k. k ∷ numbers_from (suc k) (length xs)) first
 
 -- what a value of a number comes to, where it is one and the same for all
 one_value : (f : ℕ → ℕ) (c q low : ℕ) (xs : List ℕ) → 0 < low → ((i : ℕ) → 0 < i → i ≤ q → f i ≡ c) → Climbs low (1 + q) xs → map f xs ≡ repeated c (length xs)
@@ -160,10 +157,9 @@ module _ (facts : Facts) (reached : Reached) (shape : Shape) (s : ℕ) where
       let q = reached.mdps in
       let shared = filter-length (λ x. is_member x s1) (numbers_from 1 q) in
       let room : shape.mdps ≤ q = omega (arith, counted, shared, ap length (climbs-filter 1 q s1 climbs), length-numbers 1 q) in
-      let firsts = psd_of_count same (numbers_from 1 shape.mdps) (numbers-climb 1 shape.mdps (1 + q) (omega arith)) in
       psd_of_count same s1 climbs
       ∙ ap (λ n. highest_first (repeated (by_one 1) n ++ (repeated (by_limbo 1) (q - n) ++ others))) (counted ∙ sym (length-numbers 1 shape.mdps))
-      ∙ sym firsts
+      ∙ sym (psd_of_count same (numbers_from 1 shape.mdps) (numbers-climb 1 shape.mdps (1 + q) (omega arith)))
 
 pub psd_of_all : (facts : Facts) (reached : Reached) (lower : List ℕ) (shape : Shape) (a : Arrangement) → IsOf facts reached → IsFlat facts reached → IsUniform facts reached shape
     → IsIn a (arrangements (frame_of facts reached) shape)
@@ -179,9 +175,8 @@ pub flat_by_ends : (facts : Facts) (reached : Reached) → IsOf facts reached �
 flat_by_ends facts reached of' resident ends = record {
   resident = resident;
   same = λ i p h.
-      let high = seats_fall facts reached of' (reached.mdps + 1) i (omega arith) (omega arith) h in
       let low = seats_fall facts reached of' i (length reached.seats) (omega arith) h (omega arith) in
-      omega (arith, high, low, ends);
+      omega (arith, seats_fall facts reached of' (reached.mdps + 1) i (omega arith) (omega arith) h, low, ends);
 }
 
 -- and so for moved-down players
@@ -191,9 +186,8 @@ uniform_by_ends facts reached shape of' ends =
     let within : reached.mdps ≤ length (frame_of facts reached).scores = of'.sound.within in
     let counted : length (frame_of facts reached).scores ≡ length reached.seats = length-map reached.seats (score_at facts) in
     inr (inr (λ i p h.
-    let high = seats_fall facts reached of' 1 i (omega arith) (omega arith) (omega (arith, within, counted)) in
     let low = seats_fall facts reached of' i reached.mdps p h (omega (arith, within, counted)) in
-    omega (arith, high, low, ends)))
+    omega (arith, seats_fall facts reached of' 1 i (omega arith) (omega arith) (omega (arith, within, counted)), low, ends)))
 
 pub uniform_of : (facts : Facts) (reached : Reached) (shape : Shape) → IsOf facts reached → is_uniform facts reached shape ≡ true → IsUniform facts reached shape
 uniform_of facts reached shape of' h = elim (or_cases (shape.mdps == 0) _ h) [

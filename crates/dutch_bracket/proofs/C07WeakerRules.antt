@@ -87,13 +87,12 @@ empty = record { pairs = 0; mdps = 0 }
 -- in a bracket that is not a last one it always has an arrangement
 pub always_a_shape : (meets : ℕ → ℕ → Bool) (left : ℕ → Bool) (frame : Frame) → frame.last ≡ false → greatest_shape (candidates meets left frame) frame ≡ None → ⊥
 always_a_shape meets left frame open' h =
-    let n = length frame.scores / 2 in
-    let first : nat_lt frame.mdps 0 ≡ false = grind (arith, nat_tests) in
     let second : nat_lt (length frame.scores - frame.mdps) 0 ≡ false = grind (arith, nat_tests) in
     let room : fits frame empty ≡ true =
+    let first : nat_lt frame.mdps 0 ≡ false = grind (arith, nat_tests) in
     ap (λ t. not t && not (nat_lt (length frame.scores - frame.mdps) 0)) first ∙ ap not second in
     let alone : Arrangement = record { s1 = []; s2 = []; s1r = []; s2r = [] } in
     let there : has_member (candidates meets left frame empty) ≡ true =
     ap (λ t. has_member (cond (not t || leaves_one left (down frame alone)) (alone ∷ []) [])) open' in
-    greatest_known (candidates meets left frame) frame None h empty (among n empty (omega arith) (omega arith))
+    greatest_known (candidates meets left frame) frame None h empty (among (length frame.scores / 2) empty (omega arith) (omega arith))
     (and_from (fits frame empty) (has_member (candidates meets left frame empty)) room there)

@@ -59,11 +59,10 @@ module _ (facts : Facts) (reached : Reached) (known : List (ℕ × ℕ)) (gone :
       let of_gone : List ℕ → ℕ = λ seats. f (map (floats_down facts all.lowest) seats) in
       let more : of_pairs fewer.pairs ≤ of_pairs all.pairs =
       no_less of_pairs known all.pairs (filtered_add_up (λ pairs. f (map (goes_down facts) pairs)) (is_uneven facts) (mapped_add_up f (goes_down facts) adds)) others in
-      let further : of_gone gone ≤ of_gone all.down = no_less of_gone gone all.down (mapped_add_up f (floats_down facts all.lowest) adds) left in
       omega (
         arith,
         more,
-        further,
+        (no_less of_gone gone all.down (mapped_add_up f (floats_down facts all.lowest) adds) left),
         adds (map (goes_down facts) (filter (is_uneven facts) fewer.pairs)) (map (floats_down facts all.lowest) gone),
         adds (map (goes_down facts) (filter (is_uneven facts) all.pairs)) (map (floats_down facts all.lowest) all.down),
       )
@@ -87,27 +86,15 @@ module _ (facts : Facts) (float : Float) (back : ℕ) where
       ∙ ap (copies d) (map-append (λ (floater : Floater). floater.by) (again facts float back xs) (again facts float back ys))
       ∙ copies_append d (map (λ (floater : Floater). floater.by) (again facts float back xs)) (map (λ (floater : Floater). floater.by) (again facts float back ys))
 
-module _ (facts : Facts) (reached : Reached) (known : List (ℕ × ℕ)) (gone : List ℕ) (candidate : Candidate) (others : Beside known (all_pairs reached.seats candidate.lists))
-    (left : Beside gone (map (seat_of reached.seats) candidate.down)) where
-  down_count : (back : ℕ) → length (again facts Down back (going_down facts (seated_so facts reached known gone))) ≤ length (again facts Down back (going_down facts (by_seats facts reached.seats candidate)))
-  down_count back = down_no_less facts reached known gone candidate others left (λ floaters. length (again facts Down back floaters)) (counts_add_up facts Down back)
+-- where nothing that adds up is less, no fewer had a float, and no difference stands less often
+module _ (facts : Facts) (float : Float) (few all : List Floater) (grows : (f : List Floater → ℕ) → AddsUp f → f few ≤ f all) (back : ℕ) where
+  as_many : length (again facts float back few) ≤ length (again facts float back all)
+  as_many = grows (λ floaters. length (again facts float back floaters)) (counts_add_up facts float back)
 
-  up_count : (back : ℕ) → length (again facts Up back (going_up facts (seated_so facts reached known gone))) ≤ length (again facts Up back (going_up facts (by_seats facts reached.seats candidate)))
-  up_count back = up_no_less facts reached known gone candidate others left (λ floaters. length (again facts Up back floaters)) (counts_add_up facts Up back)
-
-  down_list : (back : ℕ)
-      → is_lower (differences (again facts Down back (going_down facts (by_seats facts reached.seats candidate)))) (differences (again facts Down back (going_down facts (seated_so facts reached known gone)))) ≡ false
-  down_list back =
-      let by : List Floater → List ℕ = λ floaters. map (λ (floater : Floater). floater.by) (again facts Down back floaters) in
-      more_copies (by (going_down facts (seated_so facts reached known gone))) (by (going_down facts (by_seats facts reached.seats candidate)))
-      (λ d. down_no_less facts reached known gone candidate others left (λ floaters. copies d (by floaters)) (copies_add_up facts Down back d))
-
-  up_list : (back : ℕ)
-      → is_lower (differences (again facts Up back (going_up facts (by_seats facts reached.seats candidate)))) (differences (again facts Up back (going_up facts (seated_so facts reached known gone)))) ≡ false
-  up_list back =
-      let by : List Floater → List ℕ = λ floaters. map (λ (floater : Floater). floater.by) (again facts Up back floaters) in
-      more_copies (by (going_up facts (seated_so facts reached known gone))) (by (going_up facts (by_seats facts reached.seats candidate)))
-      (λ d. up_no_less facts reached known gone candidate others left (λ floaters. copies d (by floaters)) (copies_add_up facts Up back d))
+  no_lower : is_lower (differences (again facts float back all)) (differences (again facts float back few)) ≡ false
+  no_lower =
+      let by : List Floater → List ℕ = λ floaters. map (λ (floater : Floater). floater.by) (again facts float back floaters) in
+      more_copies (by few) (by all) (λ d. grows (λ floaters. copies d (by floaters)) (copies_add_up facts float back d))
 
 pub least_of_known : (facts : Facts) (reached : Reached) (lower : List ℕ) (known : List (ℕ × ℕ)) (gone : List ℕ) (a : Arrangement) → Beside known (all_pairs reached.seats a)
     → Beside gone (downfloaters facts reached a) → NotBelow facts (seated_so facts reached known gone) (quality_of facts reached lower a)
@@ -115,17 +102,19 @@ unfolding quality_of quality quality_with
 least_of_known facts reached lower known gone a others left =
     let candidate : Candidate = record { lists = a; down = down (frame_of facts reached) a } in
     let all : List (ℕ × ℕ) = all_pairs reached.seats a in
+    let down' = down_no_less facts reached known gone candidate others left in
+    let up = up_no_less facts reached known gone candidate others left in
     record {
       wide = no_less (count_with_topscorers facts (misses Wide)) known all (with_topscorers_add_up facts (misses Wide)) others;
       third = no_less (count_with_topscorers facts (misses Third)) known all (with_topscorers_add_up facts (misses Third)) others;
-      down_again = down_count facts reached known gone candidate others left 1;
-      up_again = up_count facts reached known gone candidate others left 1;
-      down_again_before = down_count facts reached known gone candidate others left 2;
-      up_again_before = up_count facts reached known gone candidate others left 2;
-      down_again_by = down_list facts reached known gone candidate others left 1;
-      up_again_by = up_list facts reached known gone candidate others left 1;
-      down_again_before_by = down_list facts reached known gone candidate others left 2;
-      up_again_before_by = up_list facts reached known gone candidate others left 2;
+      down_again = as_many facts Down _ _ down' 1;
+      up_again = as_many facts Up _ _ up 1;
+      down_again_before = as_many facts Down _ _ down' 2;
+      up_again_before = as_many facts Up _ _ up 2;
+      down_again_by = no_lower facts Down _ _ down' 1;
+      up_again_by = no_lower facts Up _ _ up 1;
+      down_again_before_by = no_lower facts Down _ _ down' 2;
+      up_again_before_by = no_lower facts Up _ _ up 2;
     }
 
 pub least_of_beginning : (facts : Facts) (reached : Reached) (lower : List ℕ) (b a : Arrangement) → HasPairsOf b a → NotBelow facts (fixed facts reached b) (quality_of facts reached lower a)

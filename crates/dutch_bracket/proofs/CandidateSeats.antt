@@ -3,8 +3,7 @@ use Rattle.std.proofs.Common.{◌≡◌, ℕ, zero, suc, ◌+◌, ◌-◌, ◌<�
 use Rattle.std.proofs.lemmas.List.{length-map}
 use Rattle.dutch_order.specs.Candidates.{Candidate}
 use Rattle.dutch_player.specs.Facts.{Facts}
-use Rattle.dutch_bracket.specs.Seated.{IsPair}
-use Rattle.dutch_bracket.specs.Seated.{Seated, seat_of, pairs_of, all_pairs, by_seats, AreSeats, AllPairs, AllNumbers, HasSeats, IsCandidate}
+use Rattle.dutch_bracket.specs.Seated.{IsPair, Seated, seat_of, pairs_of, all_pairs, by_seats, AreSeats, AllPairs, AllNumbers, HasSeats, IsCandidate}
 use Rattle.dutch_bracket.proofs.AllLemmas.{all_join}
 
 seat_within : (facts : Facts) (seats : List ℕ) (number : ℕ) → AreSeats facts seats → (0 < number) × (number ≤ length seats)

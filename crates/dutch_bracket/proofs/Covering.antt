@@ -81,8 +81,7 @@ module _ (meets : ℕ → ℕ → Bool) (may_go : ℕ → Bool) where
             (list_of_test n may_be_left (found.front ++ found.behind) fewer found.others_hold))
         | inr left ↦
             (let both = and_parts (may_be_left a) (can_cover meets may_go nobody (suc n) 0 later) left in
-            let fewer : length later ≡ suc n = omega (arith, e) in
-            with_left meets may_be_left a later both.0 (list_of_test (suc n) nobody later fewer both.1))
+            with_left meets may_be_left a later both.0 (list_of_test (suc n) nobody later (omega (arith, e)) both.1))
       ]
 
   -- what the test says of any list of pairs of players of a number
@@ -101,18 +100,16 @@ module _ (meets : ℕ → ℕ → Bool) (may_go : ℕ → Bool) where
       let fewer : length (between ++ behind) ≡ n =
       omega (arith, length-append between behind, length-append between (pair.1 ∷ behind), ap length there, e) in
       let holds : can_cover meets may_go may_be_left n 0 (between ++ behind) ≡ true = two (between ++ behind) fewer pairs rest cover (subst (MayBeLeftOut may_be_left) outs left) in
-      let met : meets a pair.1 ≡ true = ap (λ x. meets x pair.1) here ∙ may in
       or_left (some_partner (meets a) (can_cover meets may_go may_be_left n 0) [] later) (may_be_left a && can_cover meets may_go nobody (suc n) 0 later)
       (ap (λ xs. some_partner (meets a) (can_cover meets may_go may_be_left n 0) [] xs) there
-      ∙ partner_serves (meets a) (can_cover meets may_go may_be_left n 0) [] between pair.1 behind met holds)
+      ∙ partner_serves (meets a) (can_cover meets may_go may_be_left n 0) [] between pair.1 behind (ap (λ x. meets x pair.1) here ∙ may) holds)
   passes_first n may_be_left two one a later e pair pairs out (s ∷ skipped) between behind rest are may outs cover left =
       let here : a ≡ s = cc are in
       let there : later ≡ skipped ++ pair.0 ∷ (between ++ pair.1 ∷ behind) = cc are in
       let lone = one_left may_be_left s (skipped ++ rest) (subst (MayBeLeftOut may_be_left) outs left) in
-      let fewer : length later ≡ suc n = omega (arith, e) in
       let nothing : MayBeLeftOut nobody (skipped ++ rest) = subst (MayBeLeftOut nobody) (sym lone.1) (tt {0}) in
       let holds : can_cover meets may_go nobody (suc n) 0 later ≡ true =
-      one later fewer (pair ∷ pairs) (skipped ++ rest)
+      one later (omega (arith, e)) (pair ∷ pairs) (skipped ++ rest)
       (record { skipped = skipped; between = between; behind = behind; later = rest; players_are = there; may_meet = may; out_are = refl; covered = cover }) nothing in
       or_right (some_partner (meets a) (can_cover meets may_go may_be_left n 0) [] later) (may_be_left a && can_cover meets may_go nobody (suc n) 0 later)
       (and_from (may_be_left a) (can_cover meets may_go nobody (suc n) 0 later) (ap may_be_left here ∙ lone.0) holds)

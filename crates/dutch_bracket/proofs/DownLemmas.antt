@@ -1,5 +1,5 @@
 -- Those whom an arrangement leaves over are numbers of the bracket.
-use Rattle.std.proofs.Common.{◌≡◌, ◌+◌, ◌<◌, ◌≤◌, ℕ, Bool, not, List, length, filter, arith}
+use Rattle.std.proofs.Common.{◌≡◌, ◌<◌, ◌≤◌, ℕ, Bool, not, List, length, arith}
 use Rattle.std.proofs.lemmas.List.{length-map}
 use Rattle.dutch_order.specs.Choices.{is_member, numbers_from}
 use Rattle.dutch_order.specs.Arrangements.{Arrangement, down, paired}
@@ -23,5 +23,4 @@ pub down_few : (facts : Facts) (reached : Reached) (lists : Arrangement) → len
 down_few facts reached lists =
     let numbers : List ℕ = numbers_from 1 (length (frame_of facts reached).scores) in
     let test : ℕ → Bool = λ x. not (is_member x (paired lists)) in
-    let split : length (down (frame_of facts reached) lists) + length (filter (λ x. not (test x)) numbers) ≡ length numbers = filter-length test numbers in
-    omega (arith, split, length-numbers 1 (length (frame_of facts reached).scores), players facts reached)
+    omega (arith, filter-length test numbers, length-numbers 1 (length (frame_of facts reached).scores), players facts reached)

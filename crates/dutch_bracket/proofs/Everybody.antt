@@ -28,14 +28,12 @@ module _ (w : ℕ → ℕ) where
       let lists = lists_of frame shape a inside m in
       let low : List ℕ = numbers_from 1 q in
       let pool : List ℕ = residents_of frame in
-      let moved_down = subset_whole w low shape.mdps a.s1 (numbers_rise 1 q) lists.s1 in
-      let residents = residents_whole w frame shape a lists in
       let left = ap (total w) (down_parts frame shape.mdps (remainder_pairs shape) a inside (parts_of frame shape a inside m)) in
       let both = total_append w (left_of low a.s1) (left_of (left_of (left_of pool a.s2) a.s1r) a.s2r) in
       let whole : numbers_from 1 n ≡ low ++ pool =
       ap (numbers_from 1) (let e : n ≡ q + (n - q) = omega arith in e) ∙ numbers-append 1 q (n - q) ∙ ap (λ k. low ++ numbers_from k (n - q)) (let e : 1 + q ≡ q + 1 = omega arith in e) in
       let halves = ap (total w) whole ∙ total_append w low pool in
-      omega (arith, moved_down, residents, left, both, halves)
+      omega (arith, subset_whole w low shape.mdps a.s1 (numbers_rise 1 q) lists.s1, residents_whole w frame shape a lists, left, both, halves)
 
 -- how many they are
 pub how_many : (frame : Frame) (shape : Shape) (a : Arrangement) → frame.mdps ≤ length frame.scores → IsIn a (arrangements frame shape)
@@ -91,10 +89,9 @@ module _ (w : ℕ → ℕ) (facts : Facts) (reached : Reached) where
       let counted : length frame.scores ≡ length seats = length-map seats (score_at facts) in
       let inside : frame.mdps ≤ length frame.scores = omega (arith, within, counted) in
       let parts = parts_of frame shape a inside m in
-      let numbers = arranged (seated w seats) frame shape a inside m in
       let firsts = pairs_seated w seats a.s1 a.s2 (parts.s1_count ∙ sym parts.s2_count) in
       let others = pairs_seated w seats a.s1r a.s2r (parts.s1r_count ∙ sym parts.s2r_count) in
       let both = pairs_append w (pairs_of seats a.s1 a.s2) (pairs_of seats a.s1r a.s2r) in
       let floats = total_map w (seat_of seats) (down frame a) in
       let count = ap (λ n. total (seated w seats) (numbers_from 1 n)) counted in
-      omega (arith, numbers, firsts, others, both, floats, count, numbers_seated w seats)
+      omega (arith, arranged (seated w seats) frame shape a inside m, firsts, others, both, floats, count, numbers_seated w seats)

@@ -20,7 +20,6 @@ use Rattle.dutch_bracket.proofs.PsdParts.{OneScore}
 use Rattle.dutch_bracket.proofs.Descents.{lowest_is_one, none_lower}
 use Rattle.dutch_bracket.proofs.DownLemmas.{players, down_numbers}
 use Rattle.dutch_bracket.proofs.LeastPsd.{Descends, all_climb, first_is_least, in_filter}
-use Rattle.dutch_order.specs.declared.numbers.TheConstants.{LIMIT}
 
 seat_score : (facts : Facts) (reached : Reached) (i : ℕ) → i < length reached.seats → slice_index (frame_of facts reached).scores i ≡ score_at facts (get_or reached.seats i 0)
 seat_score facts reached i h = get_or-map (score_at facts) reached.seats i 0 0 h
@@ -40,7 +39,6 @@ candidate_of facts reached shape candidate of' m e =
     let inside : q ≤ n = of'.sound.within in
     let parts = parts_of frame shape candidate.lists inside m in
     let a : Arrangement = candidate.lists in
-    let few : n ≤ LIMIT = of'.sound.few in
     record {
       moved_down = parts.s1_count ∙ sym parts.s2_count;
       residents = parts.s1r_count ∙ sym parts.s2r_count;
@@ -49,17 +47,15 @@ candidate_of facts reached shape candidate of' m e =
       s1r = resident_numbers reached.seats q n a.s1r (omega arith) parts.s1r;
       s2r = resident_numbers reached.seats q n a.s2r (omega arith) parts.s2r;
       down = subst (AllNumbers reached.seats) (sym e) (down_numbers facts reached a);
-      few = omega (arith, how_many frame shape a inside m, few, parts.s1_count, parts.s2_count, ap length e);
+      few = omega (arith, how_many frame shape a inside m, of'.sound.few, parts.s1_count, parts.s2_count, ap length e);
     }
 
 -- scores that do not ascend, far apart
 falls_far : (scores : List ℕ) → IsNonAscending scores → (i n : ℕ) → i + n < length scores → slice_index scores (i + n) ≤ slice_index scores i
 falls_far scores falls i zero h = let e : slice_index scores (i + 0) ≡ slice_index scores i = ap (slice_index scores) (let e : i + 0 ≡ i = omega arith in e) in omega (arith, e)
 falls_far scores falls i (suc n) h =
-    let one : slice_index scores (i + n + 1) ≤ slice_index scores (i + n) = falls (i + n) (omega arith) in
-    let more : slice_index scores (i + n) ≤ slice_index scores i = falls_far scores falls i n (omega arith) in
     let e : slice_index scores (i + suc n) ≡ slice_index scores (i + n + 1) = ap (slice_index scores) (let e : i + suc n ≡ i + n + 1 = omega arith in e) in
-    omega (arith, one, more, e)
+    omega (arith, falls (i + n) (omega arith), falls_far scores falls i n (omega arith), e)
 
 -- the seats of a bracket have scores that do not ascend
 pub seats_fall : (facts : Facts) (reached : Reached) → IsOf facts reached
@@ -70,9 +66,7 @@ seats_fall facts reached of' i j p h g =
     falls_far (frame_of facts reached).scores of'.sound.descends (i - 1) (j - i) (omega arith) in
     let e : slice_index (frame_of facts reached).scores ((i - 1) + (j - i)) ≡ slice_index (frame_of facts reached).scores (j - 1) =
     ap (slice_index (frame_of facts reached).scores) (let e : (i - 1) + (j - i) ≡ j - 1 = omega arith in e) in
-    let a = seat_score facts reached (i - 1) (omega arith) in
-    let b = seat_score facts reached (j - 1) (omega arith) in
-    omega (arith, far, e, a, b)
+    omega (arith, far, e, seat_score facts reached (i - 1) (omega arith), seat_score facts reached (j - 1) (omega arith))
 
 pub descends_of : (facts : Facts) (reached : Reached) → IsOf facts reached → ((i : ℕ) → slice_index (frame_of facts reached).scores i ≤ 65535) → Descends facts reached
 descends_of facts reached of' small =
@@ -81,9 +75,7 @@ descends_of facts reached of' small =
     record {
       falling = λ i j p h g. seats_fall facts reached of' i j p h (omega arith);
       small = λ i p h.
-          let a = seat_score facts reached (i - 1) (omega arith) in
-          let b : slice_index (frame_of facts reached).scores (i - 1) ≤ 65535 = small (i - 1) in
-          omega (arith, a, b);
+          omega (arith, seat_score facts reached (i - 1) (omega arith), small (i - 1));
     }
 
 -- the lowest score is one that a seat has, and which none is below
@@ -91,9 +83,7 @@ lowest_of : (facts : Facts) (s : ℕ) (seats : List ℕ) (k : ℕ) → k < lengt
     → score_at facts (get_or seats k 0) ≡ s → lowest facts seats ≡ s
 lowest_of facts s seats k h each e =
     let one = lowest_is_one facts seats (omega (arith, h)) in
-    let low : s ≤ score_at facts (slice_index seats one.0) = each one.0 one.1 in
-    let high : lowest facts seats ≤ score_at facts (get_or seats k 0) = none_lower facts seats k h in
-    omega (arith, low, high, one.2, e)
+    omega (arith, each one.0 one.1, none_lower facts seats k h, one.2, e)
 
 pub one_score_of : (facts : Facts) (reached : Reached) → IsOf facts reached → IsFlat facts reached → OneScore facts reached (score_at facts (seat_of reached.seats (reached.mdps + 1)))
 one_score_of facts reached of' flat =

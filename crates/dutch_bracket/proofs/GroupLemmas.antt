@@ -1,7 +1,6 @@
 -- The scoregroups of seats: the first one is the seats at the front that have the first seat's score.
-use Rattle.std.proofs.Common.{◌≡◌, ℕ, suc, ◌+◌, ◌<◌, Bool, true, false, ◌==◌, cond, List, [], ◌∷◌, length, get_or, take, drop, refl, sym, ap, ◌∙◌, arith, add-one}
+use Rattle.std.proofs.Common.{◌≡◌, ℕ, suc, ◌+◌, Bool, true, false, ◌==◌, cond, List, [], ◌∷◌, take, drop, refl, sym, ap, ◌∙◌, arith, add-one}
 use Rattle.std.specs.List.{concat}
-use Rattle.std.proofs.lemmas.List.{drop_more}
 use Rattle.std.proofs.lemmas.Bool.Decides.{nat_tests}
 use Rattle.std.proofs.lemmas.Bool.{eqb-true}
 use Rattle.dutch_player.specs.Facts.{Facts}
@@ -12,19 +11,6 @@ use Rattle.dutch_bracket.specs.Groups.{front_with}
 swap_of : (a b : ℕ) (t : Bool) → (a == b) ≡ t → (b == a) ≡ t
 swap_of a b true h = grind (arith, nat_tests)
 swap_of a b false h = grind (arith, nat_tests)
-
--- one seat more at the front has the score, or it ends them
-pub front_more : (facts : Facts) (score : ℕ) (seats : List ℕ) (i d : ℕ) → i < length seats → score_at facts (get_or seats i d) ≡ score
-    → front_with facts score (drop i seats) ≡ suc (front_with facts score (drop (i + 1) seats))
-front_more facts score seats i d lt same =
-    let test : (score_at facts (get_or seats i d) == score) ≡ true = grind (arith, nat_tests) in
-    ap (front_with facts score) (drop_more seats i d lt) ∙ ap (λ t. cond t (suc (front_with facts score (drop (i + 1) seats))) 0) test
-
-pub front_ends : (facts : Facts) (score : ℕ) (seats : List ℕ) (i d : ℕ) → i < length seats → (score_at facts (get_or seats i d) ≡ score → ⊥)
-    → front_with facts score (drop i seats) ≡ 0
-front_ends facts score seats i d lt differ =
-    let test : (score_at facts (get_or seats i d) == score) ≡ false = grind (arith, nat_tests) in
-    ap (front_with facts score) (drop_more seats i d lt) ∙ ap (λ t. cond t (suc (front_with facts score (drop (i + 1) seats))) 0) test
 
 -- the first group and the others, for so many seats of the first one's score
 abbrev split : Facts → ℕ → ℕ → List ℕ → List (List ℕ)
@@ -37,8 +23,7 @@ group_at : (facts : Facts) (x y : ℕ) (ys : List ℕ) (t : Bool) → (score_at 
     ((x ∷ []) ∷ split facts y (front_with facts (score_at facts y) ys) ys)
     ≡ split facts x (cond (score_at facts y == score_at facts x) (suc (front_with facts (score_at facts x) ys)) 0) (y ∷ ys)
 group_at facts x y ys true h inner =
-    let same : score_at facts x ≡ score_at facts y = eqb-true (score_at facts x) (score_at facts y) h in
-    ap (λ n. split facts x n (y ∷ ys)) (ap (λ s. suc (front_with facts s ys)) (sym same))
+    ap (λ n. split facts x n (y ∷ ys)) (ap (λ s. suc (front_with facts s ys)) (sym (eqb-true (score_at facts x) (score_at facts y) h)))
     ∙ sym (ap (λ t. split facts x (cond t (suc (front_with facts (score_at facts x) ys)) 0) (y ∷ ys)) (swap_of (score_at facts x) (score_at facts y) true h))
 group_at facts x y ys false h inner =
     ap (λ groups. (x ∷ []) ∷ groups) (sym inner)

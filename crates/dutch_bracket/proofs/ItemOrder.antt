@@ -10,8 +10,7 @@ use Rattle.std.proofs.lemmas.Cmp.{tied_itself}
 use Rattle.dutch_order.specs.Keys.{IsIn}
 use Rattle.dutch_bracket.specs.declared.item.Item.{Item}
 use Rattle.dutch_bracket.specs.Items.{DifferFirstIn, IsInFrontIn, article}
-use Rattle.dutch_bracket.specs.Quality.{all_items, compared_in, differs, first_difference, first_that_differs}
-use Rattle.dutch_bracket.specs.Quality.{Quality, is_better}
+use Rattle.dutch_bracket.specs.Quality.{all_items, compared_in, differs, first_difference, first_that_differs, Quality, is_better}
 use Rattle.dutch_bracket.proofs.InTurn.{compared_in_turn, in_turn}
 use Rattle.dutch_bracket.proofs.QualityOrder.{both_tied, compared_total, irreflexive, less, listed, same_items}
 

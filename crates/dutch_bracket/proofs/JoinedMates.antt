@@ -85,9 +85,8 @@ module _ (joins : Joins) (partners : List (Option ℕ)) (matching : IsMatching (
   -- and may be one of an arrangement
   may_be : (x : ℕ) → IsNumber frame x → (mate x ≡ x → ⊥) → may_pair joins x (mate x) ≡ true
   may_be x h ne =
-      let some = (given_at (slice_get partners x) x ne).1 in
       let pos : x ≡ 0 → ⊥ = λ e. omega (arith, e, h.0) in
-      ap (λ t. cond t (takes_bye joins x) (may_pair joins x (mate x))) (sym (ne_eqb (mate x) 0 some))
+      ap (λ t. cond t (takes_bye joins x) (may_pair joins x (mate x))) (sym (ne_eqb (mate x) 0 (given_at (slice_get partners x) x ne).1))
       ∙ ap (λ t. cond t (takes_bye joins (mate x)) (cond (mate x == 0) (takes_bye joins x) (may_pair joins x (mate x)))) (sym (ne_eqb x 0 pos))
       ∙ (pair_of x ne).joined_to
 
@@ -161,9 +160,7 @@ module _ (joins : Joins) (partners : List (Option ℕ)) (matching : IsMatching (
 
       one_alone : (x y : ℕ) → IsNumber frame x → IsNumber frame y → mate x ≡ x → mate y ≡ y → x ≡ y
       one_alone x y h g own own' =
-          let first : slice_get partners 0 ≡ Some (Some x) = (bye_of x h own).back in
-          let second : slice_get partners 0 ≡ Some (Some y) = (bye_of y g own').back in
-          let both : Some (Some x) ≡ Some (Some y) = sym first ∙ second in cc
+          let both : Some (Some x) ≡ Some (Some y) = sym (bye_of x h own).back ∙ (bye_of y g own').back in cc
 
       may_alone : (x : ℕ) → IsNumber frame x → mate x ≡ x → number_may_be_left joins.facts reached x ≡ true
       may_alone x h own =

@@ -1,5 +1,5 @@
 -- The pairs of a candidate are pairs of a bracket's graph (C.04.3 B.2, C.1 to C.3): so what the graph does not have, no candidate has.
-use Rattle.std.proofs.Common.{◌≡◌, ℕ, suc, ◌+◌, ◌-◌, ◌/◌, ◌<◌, ◌≤◌, Bool, true, false, ◌||◌, nat_le, List, [], ◌∷◌, ◌++◌, All, length, sum_by, inl, inr, refl, sym, ap, ◌∙◌, subst, arith}
+use Rattle.std.proofs.Common.{◌≡◌, ℕ, ◌+◌, ◌-◌, ◌/◌, ◌<◌, ◌≤◌, Bool, true, false, ◌||◌, nat_le, List, [], ◌∷◌, ◌++◌, All, length, sum_by, inl, inr, refl, sym, ap, ◌∙◌, subst, arith}
 use Rattle.std.proofs.lemmas.Bool.{and_parts, and_from, le-leb}
 use Rattle.std.proofs.lemmas.Bool.Decides.{nat_tests}
 use Rattle.std.proofs.lemmas.List.{length-map, length-append}
@@ -15,7 +15,7 @@ use Rattle.dutch_order.specs.Arrangements.{Frame, Arrangement, left_of, resident
 use Rattle.dutch_order.proofs.CursorSets.{AreLists}
 use Rattle.dutch_order.proofs.FormArrangements.{lists-in, in-moved_down, in-residents}
 use Rattle.dutch_order.proofs.Members.{length-numbers, numbers-append}
-use Rattle.dutch_order.proofs.NoneTwice.{in-left}
+use Rattle.dutch_order.proofs.NoneTwice.{in-left, places-count}
 use Rattle.dutch_player.specs.Facts.{Facts}
 use Rattle.dutch_bracket.specs.Reached.{Reached, frame_of, numbers_meet}
 use Rattle.dutch_bracket.specs.Brackets.{candidates_of, eligible}
@@ -28,13 +28,9 @@ use Rattle.dutch_bracket.proofs.EligibleLemmas.{eligible_is}
 use Rattle.dutch_bracket.proofs.LeastPsd.{in_filter}
 use Rattle.dutch_bracket.proofs.LegalPairs.{IsArranged, legal_of}
 use Rattle.dutch_bracket.proofs.ShapeSearch.{has_in, member_of}
-use Rattle.dutch_bracket.proofs.Totals.{total, total_append}
+use Rattle.dutch_bracket.proofs.Totals.{total, total_append, total_sum}
 
 -- ---- sums
-
-total_is : (w : ℕ → ℕ) (xs : List ℕ) → total w xs ≡ sum_by w xs
-total_is w [] = refl
-total_is w (x ∷ xs) = omega (arith, total_is w xs, sum_by-cons w x xs)
 
 numbers_total : (w : ℕ → ℕ) (first more count : ℕ) → total w (numbers_from first (more + count)) ≡ total w (numbers_from first more) + total w (numbers_from (first + more) count)
 numbers_total w first more count =
@@ -47,11 +43,6 @@ places_total w [] (b ∷ seconds) e = absurd (omega (arith, e))
 places_total w (a ∷ firsts) [] e = absurd (omega (arith, e))
 places_total w (a ∷ firsts) (b ∷ seconds) e =
     omega (arith, sum_by-cons (in_both w) (a, b) (by_place firsts seconds), places_total w firsts seconds (omega (arith, e)))
-
-places_length : (firsts seconds : List ℕ) → length firsts ≡ length seconds → length (by_place firsts seconds) ≡ length firsts
-places_length [] seconds e = refl
-places_length (a ∷ firsts) [] e = absurd (omega (arith, e))
-places_length (a ∷ firsts) (b ∷ seconds) e = ap suc (places_length firsts seconds (omega (arith, e)))
 
 -- pairs of two lists whose players meet, before others
 all_onto : (P : ℕ × ℕ → Type 0) (meets : ℕ → ℕ → Bool) (A B : ℕ → Type 0) → ((x y : ℕ) → A x → B y → meets x y ≡ true → P (x, y))
@@ -124,7 +115,7 @@ module _ (facts : Facts) (reached : Reached) (shape : Shape) (a : Arrangement) (
         ap (λ (k : ℕ). total w (numbers_from 1 k)) (let e : reached.mdps + (n - reached.mdps) ≡ n = omega (arith, within) in e),
         ap (λ (k : ℕ). total w (numbers_from k (n - reached.mdps))) (let e : 1 + reached.mdps ≡ reached.mdps + 1 = omega arith in e),
         ap (λ (k : ℕ). total w (numbers_from (reached.mdps + 1) (k - reached.mdps))) count,
-        total_is w (numbers_from 1 n),
+        total_sum w (numbers_from 1 n),
       )
 
   s1_low : (z : ℕ) → IsIn z a.s1 → IsMovedDown frame z
@@ -175,8 +166,8 @@ module _ (facts : Facts) (reached : Reached) (shape : Shape) (a : Arrangement) (
           whole w,
           ap (sum_by w) numbers_are,
           sum_by-append w free_low free_high,
-          total_is w free_low,
-          total_is w free_high,
+          total_sum w free_low,
+          total_sum w free_high,
           sum_by-append (in_both w) first_pairs (other_pairs ++ []),
           sum_by-append (in_both w) other_pairs [],
           places_total w a.s1 a.s2 first_count,
@@ -187,8 +178,8 @@ module _ (facts : Facts) (reached : Reached) (shape : Shape) (a : Arrangement) (
           bound,
           length-append first_pairs (other_pairs ++ []),
           length-append other_pairs [],
-          places_length a.s1 a.s2 first_count,
-          places_length a.s1r a.s2r other_count,
+          places-count a.s1 a.s2 first_count,
+          places-count a.s1r a.s2r other_count,
           lists.s1.count,
           lists.s1r.count,
           fewer,
@@ -197,8 +188,7 @@ module _ (facts : Facts) (reached : Reached) (shape : Shape) (a : Arrangement) (
     few_moved_down : (most : ℕ) → AreAtMost joins most → shape.mdps ≤ most
     few_moved_down most at_most =
         let pairs : List (ℕ × ℕ) = first_pairs ++ [] in
-        let out : List ℕ = (free_low ++ free_high) ++ (a.s1r ++ a.s2r) in
-        let bound : length pairs ≤ most = at_most pairs out (λ w.
+        let bound : length pairs ≤ most = at_most pairs ((free_low ++ free_high) ++ (a.s1r ++ a.s2r)) (λ w.
         omega (
           arith,
           whole w,
@@ -206,14 +196,14 @@ module _ (facts : Facts) (reached : Reached) (shape : Shape) (a : Arrangement) (
           sum_by-append w (free_low ++ free_high) (a.s1r ++ a.s2r),
           sum_by-append w free_low free_high,
           sum_by-append w a.s1r a.s2r,
-          total_is w free_low,
-          total_is w free_high,
-          total_is w a.s1r,
-          total_is w a.s2r,
+          total_sum w free_low,
+          total_sum w free_high,
+          total_sum w a.s1r,
+          total_sum w a.s2r,
           sum_by-append (in_both w) first_pairs [],
           places_total w a.s1 a.s2 first_count,
         )) (first_may [] (All-nil May)) in
-        omega (arith, bound, length-append first_pairs [], places_length a.s1 a.s2 first_count, lists.s1.count)
+        omega (arith, bound, length-append first_pairs [], places-count a.s1 a.s2 first_count, lists.s1.count)
 
 -- ---- what barriers tell of shapes
 
@@ -222,10 +212,8 @@ pub few_matched : (joins : Joins) (count least : ℕ) (players : List ℕ) → p
     → ((pairs : List (ℕ × ℕ)) (out : List ℕ) → MakeUp players pairs out → All (λ pair. may_pair joins pair.0 pair.1 ≡ true) pairs → least ≤ length out)
     → AreAtMost joins ((count - least) / 2)
 few_matched joins count least players named counted left = λ pairs out whole met.
-    let same : numbers_from 1 (length joins.reached.seats) ≡ players = ap (numbers_from 1) counted ∙ sym named in
-    let whole' : MakeUp players pairs out = λ w. whole w ∙ ap (sum_by w) same in
-    let some : least ≤ length out = left pairs out whole' met in
-    omega (arith, some, whole' (λ v. 1), sum_of_twos pairs, sum_of_ones out, sum_of_ones players, ap length named, length-numbers 1 count)
+    let whole' : MakeUp players pairs out = λ w. whole w ∙ ap (sum_by w) (ap (numbers_from 1) counted ∙ sym named) in
+    omega (arith, left pairs out whole' met, whole' (λ v. 1), sum_of_twos pairs, sum_of_ones out, sum_of_ones players, ap length named, length-numbers 1 count)
 
 pub most_by_barriers : (facts : Facts) (reached : Reached) (all moved_down : Joins) (pairs mdps : ℕ) → reached.mdps ≤ length reached.seats
     → all.facts ≡ facts → all.reached ≡ reached → all.residents ≡ true → moved_down.facts ≡ facts → moved_down.reached ≡ reached

@@ -39,8 +39,7 @@ same_above : (ha hb ca cb la lb t k : ℕ → ℕ) (bound d : ℕ)
     → (n e : ℕ) → bound ≤ e + n → d < e → ha e ≡ hb e
 same_above ha hb ca cb la lb t k bound d sa sb ta tb tail above zero e far h = tail e (omega arith)
 same_above ha hb ca cb la lb t k bound d sa sb ta tb tail above (suc n) e far h =
-    let later : ha (e + 2) ≡ hb (e + 2) = same_above ha hb ca cb la lb t k bound d sa sb ta tb tail above n (e + 2) (omega arith) (omega arith) in
-    omega (arith, later, above e h, sa e, sb e, ta e, tb e)
+    omega (arith, same_above ha hb ca cb la lb t k bound d sa sb ta tb tail above n (e + 2) (omega arith) (omega arith), above e h, sa e, sb e, ta e, tb e)
 
 combined : (ha hb ca cb la lb t k : ℕ → ℕ) (bound : ℕ)
     → ((e : ℕ) → ca e ≡ ha (e + 2)) → ((e : ℕ) → cb e ≡ hb (e + 2))
@@ -78,8 +77,7 @@ module _ (score : ℕ → ℕ) (s q : ℕ) (falling : (i j : ℕ) → 0 < i → 
   all_lower x low (y ∷ xs) p h climbs =
       let le : low ≤ y = climbs.0 in
       let lt : y < 1 + q = climbs.1 in
-      let falls : score y ≤ score x = falling x y p (omega arith) (omega arith) in
-      (omega (arith, falls), all_lower x (suc y) xs p (omega arith) climbs.2)
+      (omega (arith, falling x y p (omega arith) (omega arith)), all_lower x (suc y) xs p (omega arith) climbs.2)
 
   pub falls_by : (low : ℕ) (xs : List ℕ) → 0 < low → Climbs low (1 + q) xs → Falls (map (λ i. (score i - s) + 2) xs)
   falls_by low [] p climbs = tt
@@ -127,8 +125,7 @@ module _ (p : Arrangement → Bool) (f : List ℕ → List Arrangement) (key : L
       let head : c ≡ first = cc in
       let tail : cs ++ filter p (flat_map f sets) ≡ rest = cc in
       let at_first : first.s1 ≡ s = own s first (in_filter p first (f s) (subst (IsIn first) (sym e) (inl (sym head)))) in
-      let m' : IsIn b (cs ++ filter p (flat_map f sets)) = subst (IsIn b) (sym tail) m in
-      elim (IsIn-append b cs (filter p (flat_map f sets)) m') [
+      elim (IsIn-append b cs (filter p (flat_map f sets)) (subst (IsIn b) (sym tail) m)) [
         | inl here ↦ inl (own s b (in_filter p b (f s) (subst (IsIn b) (sym e) (inr here))) ∙ sym at_first)
         | inr beyond ↦
             let from = IsIn-flat_map f b sets (in_filter p b (flat_map f sets) beyond) in
@@ -176,12 +173,11 @@ module _ (facts : Facts) (reached : Reached) (s : ℕ) (one : OneScore facts rea
       let scores : List ℕ = moved_down_scores (frame_of facts reached) in
       elim (cases_lt i reached.mdps) [
         | inl inside ↦
-            let here : slice_index scores i ≡ score_of scores (i + 1) = ap (slice_index scores) (omega arith) in
             let is : score_of scores (i + 1) ≡ score_at facts (seat_of reached.seats (i + 1)) = as_scores (i + 1) (omega arith) (omega (arith, inside)) in
+            let here : slice_index scores i ≡ score_of scores (i + 1) = ap (slice_index scores) (omega arith) in
             omega (arith, here, is, down'.small (i + 1) (omega arith) (omega (arith, inside)))
         | inr past ↦
-            let none : slice_index scores i ≡ 0 = get_or_past scores i 0 (omega (arith, past, length-take reached.mdps (frame_of facts reached).scores)) in
-            omega (arith, none)
+            omega (arith, get_or_past scores i 0 (omega (arith, past, length-take reached.mdps (frame_of facts reached).scores)))
       ]
 
   shared : (m j : ℕ) (a : Arrangement) (d : ℕ) → Parts reached.mdps (length (frame_of facts reached).scores) m j a
@@ -191,8 +187,7 @@ module _ (facts : Facts) (reached : Reached) (s : ℕ) (one : OneScore facts rea
   shared m j a d parts =
       let by : ℕ → ℕ = λ i. (score_at facts (seat_of reached.seats i) - s) + 2 in
       let both = copies_shared d by (λ x. is_member x a.s1) (numbers_from 1 reached.mdps) in
-      let found : filter (λ x. is_member x a.s1) (numbers_from 1 reached.mdps) ≡ a.s1 = climbs-filter 1 reached.mdps a.s1 parts.s1 in
-      omega (arith, both, ap (λ xs. copies d (map by xs)) found)
+      omega (arith, both, ap (λ xs. copies d (map by xs)) (climbs-filter 1 reached.mdps a.s1 parts.s1))
 
   -- of two arrangements the one with the earlier S1 has the lower differences
   differences_lower : (m j : ℕ) (a b : Arrangement) → Parts reached.mdps (length (frame_of facts reached).scores) m j a → Parts reached.mdps (length (frame_of facts reached).scores) m j b
@@ -250,9 +245,8 @@ module _ (facts : Facts) (reached : Reached) (s : ℕ) (one : OneScore facts rea
   first_is_least shape first rest e =
       let frame = frame_of facts reached in
       let legal : Arrangement → Bool = is_legal (numbers_meet facts reached) (number_may_be_left facts reached) frame in
-      let inside : reached.mdps ≤ length frame.scores = omega (arith, one.within, counted) in
       let parts : (c : Arrangement) → IsIn c (first ∷ rest) → Parts reached.mdps (length frame.scores) shape.mdps (remainder_pairs shape) c =
-      λ c m. parts_of frame shape c inside (in_filter legal c (arrangements frame shape) (subst (IsIn c) (sym e) m)) in
+      λ c m. parts_of frame shape c (omega (arith, one.within, counted)) (in_filter legal c (arrangements frame shape) (subst (IsIn c) (sym e) m)) in
       let order = first_of_all legal (with_s2 frame shape) (limbo_key (moved_down_scores frame)) (s1_of frame shape)
       (limbo_exchanges (moved_down_scores frame) shape.mdps) (limbo_ascends (moved_down_scores frame) shape.mdps scores_small) first rest e in
       ap (λ all. lowest_list (map (psd_in facts reached) all)) e

@@ -30,8 +30,7 @@ unfolding candidates_of
 legal_of facts reached shape a m =
     let kept = IsIn-filter (is_legal (numbers_meet facts reached) (number_may_be_left facts reached) (frame_of facts reached)) a (arrangements (frame_of facts reached) shape) m in
     let first = and_parts (all_meet (numbers_meet facts reached) a.s1 a.s2) _ kept.1 in
-    let second = and_parts (all_meet (numbers_meet facts reached) a.s1r a.s2r) _ first.1 in
-    record { arranged = kept.0; moved_down = first.0; residents = second.0 }
+    record { arranged = kept.0; moved_down = first.0; residents = (and_parts (all_meet (numbers_meet facts reached) a.s1r a.s2r) _ first.1).0 }
 
 -- the players of a pair may meet
 abbrev pub MayMeet : Facts → ℕ × ℕ → Type 0
@@ -45,8 +44,7 @@ pairs_meet facts reached (a ∷ firsts) [] meet = tt
 pairs_meet facts reached (a ∷ firsts) (b ∷ seconds) meet =
     let parts = and_parts (numbers_meet facts reached a b) (all_meet (numbers_meet facts reached) firsts seconds) meet in
     let both = and_parts (is_number reached a && is_number reached b) _ parts.0 in
-    let one = and_parts (not (a == b)) (may_meet facts (seat_of reached.seats a) (seat_of reached.seats b)) both.1 in
-    (one.1, pairs_meet facts reached firsts seconds parts.1)
+    ((and_parts (not (a == b)) (may_meet facts (seat_of reached.seats a) (seat_of reached.seats b)) both.1).1, pairs_meet facts reached firsts seconds parts.1)
 
 -- the pairs beside those that are known may meet
 pub others_meet : (facts : Facts) (reached : Reached) (shape : Shape) (known : List (ℕ × ℕ)) (a : Arrangement) → IsArranged facts reached shape a

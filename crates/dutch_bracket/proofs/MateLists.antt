@@ -23,10 +23,9 @@ use Rattle.dutch_bracket.proofs.ShapeSearch.{has_in}
 pub fits_arrangement : (frame : Frame) (shape : Shape) (a : Arrangement) → frame.mdps ≤ length frame.scores → shape.mdps ≤ shape.pairs → IsIn a (arrangements frame shape) → Fits frame shape
 fits_arrangement frame shape a within fewer m =
     let parts = parts_of frame shape a within m in
-    let low = Climbs-length 1 (1 + frame.mdps) a.s1 (omega arith) parts.s1 in
     record {
       within_pairs = fewer;
-      within_moved_down = omega (arith, low, parts.s1_count);
+      within_moved_down = omega (arith, Climbs-length 1 (1 + frame.mdps) a.s1 (omega arith) parts.s1, parts.s1_count);
       residents_enough = omega (arith, parts.left);
     }
 
@@ -121,9 +120,8 @@ module _ (frame : Frame) (mate : ℕ → ℕ) (within : frame.mdps ≤ length fr
       let x = from.0 in
       let of' = in_s1 x from.2 in
       let number = low_number x of'.0 in
-      let inside = mates.inside x number in
       let high : IsResident frame (mate x) = elim (cases_lt frame.mdps (mate x)) [
-        | inl above ↦ (above, inside.1)
+        | inl above ↦ (above, (mates.inside x number).1)
         | inr low ↦ absurd (of'.1 (mates.apart x of'.0 low))
       ] in
       (subst (IsResident frame) (sym from.1) high, subst (IsMovedDown frame) (sym (ap mate from.1 ∙ mates.back x number)) of'.0)
@@ -134,13 +132,10 @@ module _ (frame : Frame) (mate : ℕ → ℕ) (within : frame.mdps ≤ length fr
       let x = from.0 in
       let of' = in_s1r x from.2 in
       let number = high_number x of'.0 in
-      let inside = mates.inside x number in
       let own : mate z ≡ x = ap mate from.1 ∙ mates.back x number in
-      let low : frame.mdps < x = of'.0.0 in
       let less : x < mate x = of'.1 in
       let is : z ≡ mate x = from.1 in
-      let top : mate x ≤ length frame.scores = inside.1 in
-      ((omega (arith, low, less, is), omega (arith, top, is)), subst (λ y. IsIn y s1r) (sym own) from.2, omega (arith, own, less, is))
+      ((omega (arith, of'.0.0, less, is), omega (arith, (mates.inside x number).1, is)), subst (λ y. IsIn y s1r) (sym own) from.2, omega (arith, own, less, is))
 
   -- a resident who is not the mate of a moved-down player
   free : (z : ℕ) → IsResident frame z → frame.mdps < mate z → IsIn z (left_of (residents_of frame) s2)
@@ -163,8 +158,7 @@ module _ (frame : Frame) (mate : ℕ → ℕ) (within : frame.mdps ≤ length fr
       rises = Rises-filter goes_first (residents_of frame) (numbers_rise (frame.mdps + 1) (length frame.scores - frame.mdps));
       within = λ x m.
           let of' = in_s1r x m in
-          let low : frame.mdps < x = of'.0.0 in
-          let less : x < mate x = of'.1 in free x of'.0 (omega (arith, low, less));
+          let less : x < mate x = of'.1 in free x of'.0 (omega (arith, of'.0.0, less));
       count = omega arith;
     };
     s2r = record {
@@ -172,11 +166,9 @@ module _ (frame : Frame) (mate : ℕ → ℕ) (within : frame.mdps ≤ length fr
           (λ x y m n e. injective x y (high_number x (in_s1r x m).0) (high_number y (in_s1r y n).0) e));
       within = λ z m.
           let of' = in_s2r z m in
-          let first = in_s1r (mate z) of'.1 in
-          left-in z (left_of (residents_of frame) s2) s1r (free z of'.0 first.0.0)
+          left-in z (left_of (residents_of frame) s2) s1r (free z of'.0 (in_s1r (mate z) of'.1).0.0)
           (λ n.
-          let other : z < mate z = (in_s1r z n).1 in
-          let less : mate z < z = of'.2 in omega (arith, other, less));
+          let less : mate z < z = of'.2 in omega (arith, (in_s1r z n).1, less));
       count = omega (arith, length-map s1r mate);
     };
   }
@@ -215,33 +207,23 @@ module _ (frame : Frame) (mate : ℕ → ℕ) (within : frame.mdps ≤ length fr
       let number : IsNumber frame z = (omega (arith, h.0), omega (arith, h.1)) in
       (number, elim (cases_eq (mate z) z) [ inl same ↦ same | inr ne ↦ absurd (off.1 (paired_mates z number ne)) ])
 
-  module _ (meets : ℕ → ℕ → Bool) (may_be_left : ℕ → Bool) (met : (x : ℕ) → IsNumber frame x → (mate x ≡ x → ⊥) → meets x (mate x) ≡ true)
-      (one : (x y : ℕ) → IsNumber frame x → IsNumber frame y → mate x ≡ x → mate y ≡ y → x ≡ y) (may : (x : ℕ) → IsNumber frame x → mate x ≡ x → may_be_left x ≡ true) where
-    down_one : leaves_one may_be_left (down frame of_mates) ≡ true
-    down_one =
-        one_left may_be_left (down frame of_mates)
+  module _ (meets : ℕ → ℕ → Bool) (may_be_left : ℕ → Bool) (met : (x : ℕ) → IsNumber frame x → (mate x ≡ x → ⊥) → meets x (mate x) ≡ true) where
+    -- mates who meet are a candidate, if those whom it leaves over may be
+    legal_if : (not frame.last || leaves_one may_be_left (down frame of_mates)) ≡ true → has_member (candidates meets may_be_left frame mates_shape) ≡ true
+    legal_if left =
+        has_kept (is_legal meets may_be_left frame) of_mates (arrangements frame mates_shape) mates_arranged
+        (and_from (all_meet meets s1 s2) _ (all_meet_mates meets mate s1 (λ x m. let h = in_s1 x m in met x (low_number x h.0) h.1))
+        (and_from (all_meet meets s1r s2r) _
+        (all_meet_mates meets mate s1r (λ x m. let h = in_s1r x m in met x (high_number x h.0) (λ e. let less : x < mate x = h.1 in omega (arith, e, less)))) left))
+
+    pub mates_candidate : ((x y : ℕ) → IsNumber frame x → IsNumber frame y → mate x ≡ x → mate y ≡ y → x ≡ y) → ((x : ℕ) → IsNumber frame x → mate x ≡ x → may_be_left x ≡ true)
+        → has_member (candidates meets may_be_left frame mates_shape) ≡ true
+    mates_candidate one may =
+        legal_if (or_right (not frame.last) (leaves_one may_be_left (down frame of_mates)) (one_left may_be_left (down frame of_mates)
         (rises-twice (down frame of_mates) (Rises-filter (λ x. not (is_member x (paired of_mates))) (players_of frame) (numbers_rise 1 (length frame.scores))))
         (λ x m. let h = down_alone x m in may x h.0 h.1)
-        (λ x y m n. let h = down_alone x m in let g = down_alone y n in one x y h.0 g.0 h.1 g.1)
+        (λ x y m n. let h = down_alone x m in let g = down_alone y n in one x y h.0 g.0 h.1 g.1)))
 
-    legal_mates : is_legal meets may_be_left frame of_mates ≡ true
-    legal_mates =
-        and_from (all_meet meets s1 s2) _ (all_meet_mates meets mate s1 (λ x m. let h = in_s1 x m in met x (low_number x h.0) h.1))
-        (and_from (all_meet meets s1r s2r) _
-        (all_meet_mates meets mate s1r (λ x m. let h = in_s1r x m in met x (high_number x h.0) (λ e. let less : x < mate x = h.1 in omega (arith, e, less))))
-        (or_right (not frame.last) (leaves_one may_be_left (down frame of_mates)) down_one))
-
-    pub mates_candidate : has_member (candidates meets may_be_left frame mates_shape) ≡ true
-    mates_candidate = has_kept (is_legal meets may_be_left frame) of_mates (arrangements frame mates_shape) mates_arranged legal_mates
-
-  -- where any number may be left over, mates who meet are enough
-  module _ (meets : ℕ → ℕ → Bool) (may_be_left : ℕ → Bool) (met' : (x : ℕ) → IsNumber frame x → (mate x ≡ x → ⊥) → meets x (mate x) ≡ true) (open' : frame.last ≡ false) where
-    open_legal : is_legal meets may_be_left frame of_mates ≡ true
-    open_legal =
-        and_from (all_meet meets s1 s2) _ (all_meet_mates meets mate s1 (λ x m. let h = in_s1 x m in met' x (low_number x h.0) h.1))
-        (and_from (all_meet meets s1r s2r) _
-        (all_meet_mates meets mate s1r (λ x m. let h = in_s1r x m in met' x (high_number x h.0) (λ e. let less : x < mate x = h.1 in omega (arith, e, less))))
-        (ap (λ t. not t || leaves_one may_be_left (down frame of_mates)) open'))
-
-    pub mates_open : has_member (candidates meets may_be_left frame mates_shape) ≡ true
-    mates_open = has_kept (is_legal meets may_be_left frame) of_mates (arrangements frame mates_shape) mates_arranged open_legal
+    -- where any number may be left over, mates who meet are enough
+    pub mates_open : frame.last ≡ false → has_member (candidates meets may_be_left frame mates_shape) ≡ true
+    mates_open open' = legal_if (ap (λ t. not t || leaves_one may_be_left (down frame of_mates)) open')

@@ -111,8 +111,7 @@ module _ (meets : ℕ → ℕ → Bool) where
             let behind = place.behind in
             let whole : a ∷ later ≡ a ∷ (front ++ mate a ∷ behind) = ap (λ xs. a ∷ xs) place.parts in
             let twice' = subst NoneTwice whole twice in
-            let apart : mate a ≡ a → ⊥ = λ e. twice.0 (subst (λ c. IsIn c later) e other) in
-            with_pair meets may_be_left a later (mate a) front behind place.parts (are.met a (inl refl) apart)
+            with_pair meets may_be_left a later (mate a) front behind place.parts (are.met a (inl refl) (λ e. twice.0 (subst (λ c. IsIn c later) e other)))
             (mates_upto n may_be_left (front ++ behind) mate
             (omega (arith, few, ap length place.parts, length-append front (mate a ∷ behind), length-append front behind))
             (twice-middle (mate a) front behind twice'.1).1

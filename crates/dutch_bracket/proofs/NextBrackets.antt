@@ -51,16 +51,12 @@ rising_falls f n (x ∷ xs) falling rises all = (later_below f n x xs all.0.0 fa
 rising_few : (n x : ℕ) (xs : List ℕ) → Rises (x ∷ xs) → AllByRecursion (λ y. (0 < y) × (y ≤ n)) (x ∷ xs) → x + length xs ≤ n
 rising_few n x [] rises all = let le : x ≤ n = all.0.1 in omega (arith, le)
 rising_few n x (y ∷ xs) rises all =
-    let lt : x < y = rises.0.0 in
-    let few : y + length xs ≤ n = rising_few n y xs rises.1 all.1 in
-    omega (arith, lt, few)
+    omega (arith, rises.0.0, rising_few n y xs rises.1 all.1)
 
 numbers_few : (n : ℕ) (xs : List ℕ) → Rises xs → AllByRecursion (λ y. (0 < y) × (y ≤ n)) xs → length xs ≤ n
 numbers_few n [] rises all = omega arith
 numbers_few n (x ∷ xs) rises all =
-    let first : 0 < x = all.0.0 in
-    let few : x + length xs ≤ n = rising_few n x xs rises all in
-    omega (arith, first, few)
+    omega (arith, all.0.0, rising_few n x xs rises all)
 
 -- those whom an arrangement leaves over, by number, ascend
 pub left_by_candidate : (facts : Facts) (reached : Reached) (candidate : Candidate) → IsOfBracket facts reached candidate → AreLeft reached candidate.down
@@ -90,8 +86,7 @@ module _ (facts : Facts) (reached : Reached) (left next : List ℕ) (of' : IsOf 
   apart : (i j : ℕ) → i < length left → j < length next → score_at facts (get_or next j 0) < score_at facts (get_or (map (seat_of reached.seats) left) i 0)
   apart i j h g =
       let number = at_index (λ n. (0 < n) × (n ≤ length reached.seats)) left i numbers h in
-      let lower : score_at facts (get_or next j 0) < score_at facts (seat_of reached.seats (get_or left i 0)) = below.below (get_or left i 0 - 1) j (omega (arith, number.0, number.1)) g in
-      omega (arith, lower, ap (score_at facts) (moved_at i h))
+      omega (arith, below.below (get_or left i 0 - 1) j (omega (arith, number.0, number.1)) g, ap (score_at facts) (moved_at i h))
 
   moved_falls : Falls (map (score_at facts) (map (seat_of reached.seats) left))
   moved_falls = subst Falls (sym (map-map (score_at facts) (seat_of reached.seats) left)) (rising_falls (λ i. score_at facts (seat_of reached.seats i)) (length reached.seats) left (seats_fall facts reached of') rises numbers)
@@ -114,8 +109,7 @@ module _ (facts : Facts) (reached : Reached) (left next : List ℕ) (of' : IsOf 
       elim (cases_lt i (length left)) [
         | inl low ↦
             let lt : i < length (map (seat_of reached.seats) left) = omega (arith, low, count) in
-            let seat : slice_index (map (seat_of reached.seats) left) i < length facts.seats = all_within facts reached.seats left of'.inside numbers i lt in
-            omega (arith, seat, get_or_append_left (map (seat_of reached.seats) left) next 0 i lt)
+            omega (arith, all_within facts reached.seats left of'.inside numbers i lt, get_or_append_left (map (seat_of reached.seats) left) next 0 i lt)
         | inr high ↦
             let seat : slice_index next (i - length (map (seat_of reached.seats) left)) < length facts.seats = below.inside (i - length (map (seat_of reached.seats) left)) (omega (arith, h, high, count, long)) in
             omega (arith, seat, get_or-append_right (map (seat_of reached.seats) left) next (length (map (seat_of reached.seats) left)) i 0 refl (omega (arith, high, count)))

@@ -1,5 +1,5 @@
 -- The next lower scoregroup is the front of the lower seats with one score.
-use Rattle.std.proofs.Common.{◌≡◌, ℕ, zero, suc, ◌+◌, ◌<◌, ◌≤◌, Bool, true, false, ◌==◌, cond, List, [], ◌∷◌, length, take, get_or, min, refl, sym, ap, ◌∙◌, subst, arith}
+use Rattle.std.proofs.Common.{◌≡◌, ℕ, zero, suc, ◌<◌, Bool, true, false, ◌==◌, cond, List, [], ◌∷◌, length, take, get_or, refl, sym, ap, ◌∙◌, subst, arith}
 use Rattle.std.proofs.lemmas.List.{length-take}
 use Rattle.std.proofs.lemmas.Bool.{eqb-true}
 use Rattle.dutch_order.specs.Arrangements.{down}
@@ -12,7 +12,6 @@ use Rattle.dutch_bracket.specs.Groups.{front_with}
 use Rattle.dutch_bracket.specs.Brackets.{first_group, scoregroups, quality_of}
 use Rattle.dutch_bracket.specs.NextBracket.{IsNext, quality}
 use Rattle.dutch_bracket.proofs.GroupLemmas.{first_group_is}
-use Rattle.dutch_order.specs.declared.numbers.TheConstants.{LIMIT}
 
 -- the seat at a place of a front has the score, and is that at the same place of all
 abbrev pub IsAt : Facts → ℕ → List ℕ → List ℕ → ℕ → Type 0
@@ -26,8 +25,7 @@ module _ (facts : Facts) where
   front_at score x xs zero true e rest h = (eqb-true (score_at facts x) score e, omega arith, refl)
   front_at score x xs (suc i) true e rest h =
       let later = rest i (omega (arith, h)) in
-      let lt : i < length xs = later.1 in
-      (later.0, omega (arith, lt), later.2)
+      (later.0, omega (arith, later.1), later.2)
 
   at_front : (score : ℕ) (xs : List ℕ) (i : ℕ) → i < length (take (front_with facts score xs) xs) → IsAt facts score (take (front_with facts score xs) xs) xs i
   at_front score [] i h = let bad : ⊥ = omega (arith, h) in absurd bad
@@ -41,27 +39,20 @@ module _ (facts : Facts) where
   group_at x xs zero h = (refl, omega arith, refl)
   group_at x xs (suc i) h =
       let later = at_front (score_at facts x) xs i (omega (arith, h)) in
-      let lt : i < length xs = later.1 in
-      (later.0, omega (arith, lt), later.2)
+      (later.0, omega (arith, later.1), later.2)
 
   group_is_next : (reached : Reached) (x : ℕ) (xs : List ℕ) → IsAbove facts reached (x ∷ xs) → IsNext facts reached (group_of x xs)
   group_is_next reached x xs above = record {
     inside = λ i h.
         let p = group_at x xs i h in
-        let e : get_or (group_of x xs) i 0 ≡ get_or (x ∷ xs) i 0 = p.2 in
-        let lt : get_or (x ∷ xs) i 0 < length facts.seats = above.inside i p.1 in
-        omega (arith, e, lt);
+        omega (arith, p.2, above.inside i p.1);
     few =
         let n = front_with facts (score_at facts x) xs in
-        let short : length (take n xs) ≡ min n (length xs) = length-take n xs in
-        let few : length reached.seats + length (x ∷ xs) ≤ LIMIT = above.few in
-        omega (arith, short, few);
+        omega (arith, length-take n xs, above.few);
     same = λ i j h g. (group_at x xs i h).0 ∙ sym (group_at x xs j g).0;
     below = λ i j h g.
         let p = group_at x xs j g in
-        let e : score_at facts (get_or (group_of x xs) j 0) ≡ score_at facts (get_or (x ∷ xs) j 0) = ap (score_at facts) p.2 in
-        let lt : score_at facts (get_or (x ∷ xs) j 0) < score_at facts (get_or reached.seats i 0) = above.below i j h p.1 in
-        omega (arith, e, lt);
+        omega (arith, ap (score_at facts) p.2, above.below i j h p.1);
     there = λ k. omega arith;
   }
 

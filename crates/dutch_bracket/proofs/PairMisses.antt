@@ -88,14 +88,10 @@ strong_less None colour = omega arith
 
 strong_in_both : (facts : Facts) (both : ℕ × ℕ) → count_of_both facts (misses StrongPreference) both ≤ count_of_both facts (misses Preference) both
 strong_in_both facts both =
-    let white = strong_less (wish facts both.0) White in
-    let black = strong_less (wish facts both.1) Black in
-    omega (arith, white, black)
+    omega (arith, strong_less (wish facts both.0) White, strong_less (wish facts both.1) Black)
 
 pub no_strong_miss : (facts : Facts) (pair : ℕ × ℕ) (test : Bool) → count_in facts (misses Preference) pair ≡ one_if test → test ≡ false
     → 0 ≡ count_in facts (misses StrongPreference) pair
 unfolding count_in
 no_strong_miss facts pair test e h =
-    let less = strong_in_both facts (colours facts pair.0 pair.1) in
-    let none : count_in facts (misses Preference) pair ≡ 0 = e ∙ ap one_if h in
-    omega (arith, less, none)
+    omega (arith, strong_in_both facts (colours facts pair.0 pair.1), e ∙ ap one_if h)

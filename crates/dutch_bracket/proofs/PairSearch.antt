@@ -120,8 +120,8 @@ most-first : (n k : ℕ) (bye : Bool)
     → most_taking (suc n) k bye ≡ n * (1 + most_taking (n - 1) k bye) + (most_of_one (λ j. most_taking n j bye) k + most_of_bye (most_taking n k false) bye)
 most-first zero k bye = omega arith
 most-first (suc n) k bye =
-    let e : n ≡ suc n - 1 = omega arith in
     let others = most_of_one (λ j. most_taking (suc n) j bye) k + most_of_bye (most_taking (suc n) k false) bye in
+    let e : n ≡ suc n - 1 = omega arith in
     ap (λ m. m * (1 + most_taking n k bye) + others) (add-one n)
     ∙ ap (λ m. suc n * (1 + most_taking m k bye) + others) e
 

@@ -60,17 +60,14 @@ module _ (score : ℕ → ℕ) (s q n : ℕ) (higher : (i : ℕ) → 0 < i → i
   resident_differences seats facts as_scores [] seconds f g equal = refl
   resident_differences seats facts as_scores (a ∷ firsts) [] f g equal = absurd (omega arith)
   resident_differences seats facts as_scores (a ∷ firsts) (b ∷ seconds) f g equal =
-      let first : score a ≡ s = same a f.0.0 f.0.1 in
-      let second : score b ≡ s = same b g.0.0 g.0.1 in
-      let one : difference facts (seat_of seats a, seat_of seats b) ≡ 0 = omega (arith, first, second, as_scores a, as_scores b) in
+      let one : difference facts (seat_of seats a, seat_of seats b) ≡ 0 = omega (arith, same a f.0.0 f.0.1, same b g.0.0 g.0.1, as_scores a, as_scores b) in
       let rest = resident_differences seats facts as_scores firsts seconds f.1 g.1 (omega arith) in
       ap (λ x. x ∷ map (difference facts) (pairs_of seats firsts seconds)) one ∙ ap (λ xs. 0 ∷ xs) rest
 
   pub resident_floats : (numbers : List ℕ) → Residents q n numbers → map limbo_by numbers ≡ repeated 2 (length numbers)
   resident_floats [] residents = refl
   resident_floats (a ∷ numbers) residents =
-      let at_low : score a ≡ s = same a residents.0.0 residents.0.1 in
-      let one : limbo_by a ≡ 2 = omega (arith, at_low) in
+      let one : limbo_by a ≡ 2 = omega (arith, same a residents.0.0 residents.0.1) in
       ap (λ x. x ∷ map limbo_by numbers) one ∙ ap (λ xs. 2 ∷ xs) (resident_floats numbers residents.1)
 
 -- the two halves of those who are left
@@ -160,12 +157,11 @@ psd_copies facts reached s m j a d one parts counted left fits =
     let firsts = paired_differences score s q n one.higher same seats facts as_is 1 a.s1 a.s2 (omega arith) parts.s1 parts.s2 (parts.s1_count ∙ sym parts.s2_count) in
     let others = resident_differences score s q n one.higher same seats facts as_is a.s1r a.s2r parts.s1r parts.s2r (parts.s1r_count ∙ sym parts.s2r_count) in
     let floats = resident_floats score s q n one.higher same rest residents in
-    let halves : down (frame_of facts reached) a ≡ low ++ rest = down_parts (frame_of facts reached) m j a (omega (arith, one.within, counted)) parts in
     let by : ℕ → ℕ = λ i. (score i - s) + 2 in
     let floated : map (difference_down facts (lowest facts seats)) (map (seat_of seats) (down (frame_of facts reached) a)) ≡ map by low ++ map by rest =
     map-map (difference_down facts (lowest facts seats)) (seat_of seats) (down (frame_of facts reached) a)
     ∙ ap (λ least. map (λ i. (score i - least) + 2) (down (frame_of facts reached) a)) one.least
-    ∙ ap (map by) halves
+    ∙ ap (map by) (down_parts (frame_of facts reached) m j a (omega (arith, one.within, counted)) parts)
     ∙ map-append by low rest in
     let paired_up : map (difference facts) (all_pairs seats a) ≡ map (λ i. score i - s) a.s1 ++ repeated 0 j =
     map-append (difference facts) (pairs_of seats a.s1 a.s2) (pairs_of seats a.s1r a.s2r)

@@ -63,10 +63,9 @@ pub same_items : (a b : Quality) → compared a b ≡ Equal → a ≡ b
 same_items a b e =
     let each : (item : Item) → compared_in item a b ≡ Equal = λ item. tied_each a b all_items item (sym (compared_in_turn a b) ∙ e) (listed item) in
     let next = both_tied (nat_cmp b.next_pairs a.next_pairs) (slice_cmp nat_cmp a.next_psd b.next_psd) (each NextBracket) in
-    let pairs : a.next_pairs ≡ b.next_pairs = sym (numbers_tied b.next_pairs a.next_pairs next.0) in
     λ i. record {
       psd = lists_tied a.psd b.psd (each Psd) i;
-      next_pairs = pairs i;
+      next_pairs = (sym (numbers_tied b.next_pairs a.next_pairs next.0)) i;
       next_psd = lists_tied a.next_psd b.next_psd next.1 i;
       wide_differences = numbers_tied a.wide_differences b.wide_differences (each WideDifferences) i;
       third_colours = numbers_tied a.third_colours b.third_colours (each ThirdColours) i;

@@ -38,8 +38,7 @@ few_pairs frame shape h =
 not_greater : (t s : Shape) → t.pairs ≤ s.pairs → (t.pairs ≡ s.pairs → t.mdps ≤ s.mdps) → ¬ IsGreater t s
 not_greater t s fewer level (inl more) = omega (arith, fewer, more)
 not_greater t s fewer level (inr h) =
-    let le : t.mdps ≤ s.mdps = level (sym h.0) in
-    let lt : s.mdps < t.mdps = h.1 in omega (arith, le, lt)
+    let lt : s.mdps < t.mdps = h.1 in omega (arith, level (sym h.0), lt)
 
 -- ---- shapes of which none is greater than one before it
 

@@ -1,7 +1,8 @@
 -- Lists of numbers by what any weight of their members comes to: two lists of the same numbers, in any order, weigh the same.
-use Rattle.std.proofs.Common.{◌≡◌, ℕ, ◌+◌, ◌<◌, nat_eq, cond, List, [], ◌∷◌, ◌++◌, map, length, inl, inr, refl, sym, subst, ap, ◌∙◌, arith}
+use Rattle.std.proofs.Common.{◌≡◌, ℕ, ◌+◌, ◌<◌, nat_eq, cond, List, [], ◌∷◌, ◌++◌, map, length, inl, inr, refl, sym, subst, sum_by, ap, ◌∙◌, arith}
 use Rattle.std.specs.Prelude.{IsPermutation}
 use Rattle.std.proofs.lemmas.Bool.{cases_Bool, eqb-true, eq-eqb}
+use Rattle.std.proofs.lemmas.List.Sums.{sum_by-cons}
 use Rattle.std.proofs.lemmas.List.Sorted.{IsPermutation-refl, IsPermutation-cons, IsPermutation-middle, IsPermutation-sym, IsPermutation-trans}
 pub use Rattle.dutch_order.specs.Stages.{total}
 pub use Rattle.dutch_order.proofs.Reach.{total-append as total_append}
@@ -10,6 +11,10 @@ pub use Rattle.dutch_order.proofs.Reach.{total-append as total_append}
 pub total_length : (xs : List ℕ) → total (λ x. 1) xs ≡ length xs
 total_length [] = refl
 total_length (x ∷ xs) = omega (arith, total_length xs)
+
+pub total_sum : (w : ℕ → ℕ) (xs : List ℕ) → total w xs ≡ sum_by w xs
+total_sum w [] = refl
+total_sum w (x ∷ xs) = omega (arith, total_sum w xs, sum_by-cons w x xs)
 
 pub total_map : (w f : ℕ → ℕ) (xs : List ℕ) → total w (map f xs) ≡ total (λ x. w (f x)) xs
 total_map w f [] = refl

@@ -1,18 +1,25 @@
 -- What is said of a bracket above its lower seats, by the one record that holds its field, the bracket and those seats: each word here is
 -- the definition of the same name over the three.
-use Rattle.std.specs.Prelude.{Bool, List}
+use Rattle.std.specs.Prelude.{ℕ, Bool, List, Option}
 use Rattle.dutch_order.specs.Arrangements.{Frame, Arrangement, Fits}
 use Rattle.dutch_order.specs.Keys.{IsIn}
+use Rattle.dutch_order.specs.Listings.{Listing}
 use Rattle.dutch_order.specs.Prefixes.{Beginning, Begins}
 use Rattle.dutch_order.specs.declared.bracket.Shape.{Shape}
+use Rattle.dutch_bracket.specs.declared.reached.ByNumber.{ByNumber}
 use Rattle.dutch_bracket.specs.Context.{Context}
+use Rattle.dutch_bracket.specs.Eligible.{Lists}
 use Rattle.dutch_bracket.specs.Quality.{Quality}
 use Rattle.dutch_bracket.specs.Reached.{frame_of}
-use Rattle.dutch_bracket.specs.Brackets.{candidates_of, can_be_chosen, eligible, quality_of}
+use Rattle.dutch_bracket.specs.Brackets.{candidates_of, can_be_chosen, eligible, first_group, quality_of, scoregroups, shape_of}
 
 -- the bracket by scores
 abbrev pub frame_here : Context → Frame
 frame_here context = frame_of context.facts context.reached
+
+-- the next lower scoregroup
+abbrev pub group_here : Context → List ℕ
+group_here context = first_group context.facts (scoregroups context.facts context.lower)
 
 -- it has room for a shape
 abbrev pub FitsHere : Context → Shape → Type 0
@@ -29,6 +36,14 @@ can_be_chosen_here context a = can_be_chosen context.facts context.reached conte
 -- C.4: its candidates that can be chosen
 abbrev pub eligible_here : Context → Shape → List Arrangement
 eligible_here context shape = eligible context.facts context.reached context.lower shape
+
+-- C.5: its shape
+abbrev pub shape_here : Context → Option Shape
+shape_here context = shape_of context.facts context.reached context.lower
+
+-- a listing is of it
+abbrev pub ListsHere : Context → Listing ByNumber → Type 0
+ListsHere context listing = Lists context.facts context.reached listing
 
 -- C.6 to C.19: the quality of a candidate in it
 abbrev pub quality_here : Context → Arrangement → Quality

@@ -75,12 +75,7 @@ pub fn has_s1(filling: Filling) -> bool
 fn are_numbers(reached: &Reached, numbers: &[u16]) -> bool
     ensures { result ≡ are_numbers reached.now numbers.now }
 {
-    for number in numbers {
-        if !reached.has(*number) {
-            return false;
-        }
-    }
-    true
+    numbers.iter().all(|number| reached.has(*number))
 }
 
 /// Whether lists are of numbers of the bracket, and have room in a shape.

@@ -1,12 +1,11 @@
 // Which candidates of a bracket can be chosen (C.04.3 C.4), and the first of a shape.
 ghost use Rattle.std.specs.Prelude.{◌≡◌, ◌+◌, ◌≤◌, ◌++◌, false, length, map, min};
 ghost use Rattle.dutch_order.specs.declared.numbers.TheConstants.{LIMIT};
-ghost use Rattle.dutch_order.specs.Arrangements.{Fits, down};
-ghost use Rattle.dutch_bracket.specs.Reached.{frame_of};
+ghost use Rattle.dutch_order.specs.Arrangements.{down};
 ghost use Rattle.dutch_bracket.specs.Seated.{seat_of, AllNumbers};
 ghost use Rattle.dutch_bracket.specs.Shapes.{IsFirst, has_member};
-ghost use Rattle.dutch_bracket.specs.Brackets.{is_penultimate, completable, eligible};
-ghost use Rattle.dutch_bracket.specs.Eligible.{Lists, can_be_chosen};
+ghost use Rattle.dutch_bracket.specs.Brackets.{is_penultimate, completable};
+ghost use Rattle.dutch_bracket.specs.InContext.{FitsHere, ListsHere, can_be_chosen_here, eligible_here, frame_here};
 ghost use Rattle.dutch_bracket.specs.Stops.{Decides};
 ghost use Rattle.dutch_order.specs.Steps.{MatchDrawn, MatchFound, Spends};
 
@@ -135,9 +134,8 @@ pub fn can_be_chosen(
     left: &mut Seats,
     budget: &mut Budget,
 ) -> Result<bool, Stopped>
-    requires left { candidate.now.down ≡ down (frame_of context.now.facts context.now.reached) candidate.now.lists }
-    ensures answer { Decides result
-        (can_be_chosen context.now.facts context.now.reached context.now.lower candidate.now.lists)
+    requires left { candidate.now.down ≡ down (frame_here context.now) candidate.now.lists }
+    ensures answer { Decides result (can_be_chosen_here context.now candidate.now.lists)
         (budget.new.used ≡ budget.new.limit) }
     ensures spends { Spends budget.old budget.new }
 {
@@ -155,14 +153,13 @@ pub(crate) fn first_eligible(
     shape: Shape,
     budget: &mut Budget,
 ) -> Result<bool, Stopped>
-    requires fits { Fits (frame_of context.now.facts context.now.reached) shape }
-    requires lists { Lists context.now.facts context.now.reached lister.old.listing }
+    requires fits { FitsHere context.now shape }
+    requires lists { ListsHere context.now lister.old.listing }
     ensures answer { MatchDrawn result
-        (IsFirst (eligible context.now.facts context.now.reached context.now.lower shape)
-        (frame_of context.now.facts context.now.reached) lister.new.drawn)
-        (has_member (eligible context.now.facts context.now.reached context.now.lower shape) ≡ false)
+        (IsFirst (eligible_here context.now shape) (frame_here context.now) lister.new.drawn)
+        (has_member (eligible_here context.now shape) ≡ false)
         (budget.new.used ≡ budget.new.limit) }
-    ensures lists { Lists context.now.facts context.now.reached lister.new.listing }
+    ensures lists { ListsHere context.now lister.new.listing }
     ensures spends { Spends budget.old budget.new }
 {
     lister.listing.restart(shape);

@@ -21,7 +21,7 @@ ghost use Rattle.dutch_order.specs.Steps.{Spends};
 
 use crate::differences::fill_psd;
 use crate::greatest::{Legal, Lister, Shapes, greatest_shape};
-use crate::psd_floor::{fill_psd_with, is_uniform};
+use crate::psd_floor::{FlatShape, is_uniform};
 use crate::quality::{NextValue, Quality, Room, fill_quality};
 use crate::reached::{BracketKind, ByNumber, Reached, push_all};
 use crate::seated::{by_seats, seats_of};
@@ -30,13 +30,6 @@ use crate::told_shape::told_by_matchings;
 use dutch_order::{Budget, Candidate, Numbers, Shape, Stopped, numbered_from};
 use dutch_player::Field;
 use std::alloc::Global;
-
-/// Scores are such as a `u16` holds.
-fn are_small(scores: &[u16])
-    ensures { (i : ℕ) → slice_index scores.now i ≤ 65535 }
-{
-    let _count = scores.len();
-}
 
 /// The shape of a bracket, as matchings tell it. None says that they do not, or that there is no memory for them.
 fn shape_by_matchings(
@@ -68,8 +61,9 @@ fn value_by_shape(rule: ByNumber<'_>, shape: Shape) -> Option<NextValue>
         return None;
     }
     let score = rule.score(rule.reached.mdps() as u16 + 1);
+    let flat = FlatShape { rule, shape, score };
     let mut psd = Numbers::new();
-    fill_psd_with(rule, shape, score, &numbered_from(1, shape.mdps), &mut psd);
+    flat.fill_psd(&numbered_from(1, shape.mdps), &mut psd);
     Some(NextValue {
         pairs: shape.pairs,
         psd,
@@ -110,6 +104,7 @@ fn value_drawn(
 ) -> NextValue
     requires flat { IsFlat legal.now.rule.now.field.now legal.now.rule.now.reached.now }
     requires frame { legal.now.bracket.now ≡ frame_of legal.now.rule.now.field.now legal.now.rule.now.reached.now }
+    requires small { (i : ℕ) → slice_index legal.now.bracket.now.scores i ≤ 65535 }
     requires found { IsFound (legal_by legal.now.rule.now.field.now legal.now.rule.now.reached.now
         legal.now.bracket.now)
         legal.now.bracket.now found drawn.now }
@@ -118,7 +113,6 @@ fn value_drawn(
     let Some(shape) = found else {
         return NextValue::none();
     };
-    are_small(legal.bracket.scores());
     let (field, reached) = (legal.rule.field, legal.rule.reached);
     let first = by_seats(field, reached.seats(), drawn);
     let mut psd = Numbers::new();
@@ -167,7 +161,7 @@ pub(crate) fn value_of(
 /// A bracket of a field above the next lower scoregroup.
 #[derive(Drop)]
 pub struct Above<'a> {
-    /// For matchings, where there is memory for them.
+    /// For matchings, where memory is lent for them.
     pub alloc: Option<Global>,
     pub field: &'a Field,
     pub reached: &'a Reached,
@@ -231,31 +225,18 @@ fn next_value(
 }
 
 /// The quality of a candidate of a bracket above a next lower scoregroup (C.6 to C.19); none if the budget's limit was
-/// reached first. A step is one number tried at one place in the next bracket. It takes no memory.
+/// reached first. A step is one number tried at one place in the next bracket. It takes memory for matchings alone, and
+/// none where that is not lent.
 #[tactic(auto, unfolding(crate::specs::NextBracket::quality, crate::specs::Quality::quality_with))]
-pub fn quality(
-    field: &Field,
-    reached: &Reached,
-    candidate: &Candidate,
-    next: &[u16],
-    budget: &mut Budget,
-) -> Option<Quality>
-    requires of { IsOf field.now reached.now }
-    requires candidate { IsOfBracket field.now reached.now candidate.now }
-    requires next { IsNext field.now reached.now next.now }
+pub fn quality(above: &Above<'_>, candidate: &Candidate, budget: &mut Budget) -> Option<Quality>
+    requires candidate { IsOfBracket above.now.field.now above.now.reached.now candidate.now }
     ensures answer { MatchOption result (budget.new.used ≡ budget.new.limit)
-        (λ q. quality_in q ≡ quality field.now reached.now next.now candidate.now) }
+        (λ q. quality_in q ≡ quality above.now.field.now above.now.reached.now above.now.next.now candidate.now) }
     ensures spends { Spends budget.old budget.new }
 {
-    let above = Above {
-        alloc: None,
-        field,
-        reached,
-        next,
-    };
-    let value = next_value(&above, candidate, budget).ok()?;
+    let value = next_value(above, candidate, budget).ok()?;
     let mut room = Room::default();
     room.quality.put_next(value.pairs, &value.psd);
-    fill_quality(field, reached.seats(), candidate, &mut room);
+    fill_quality(above.field, above.reached.seats(), candidate, &mut room);
     Some(room.quality)
 }

@@ -7,8 +7,7 @@ ghost use Rattle.dutch_order.specs.Choices.{numbers_from};
 ghost use Rattle.dutch_bracket.specs.Seated.{seat_of, score_at, AllNumbers};
 ghost use Rattle.dutch_bracket.specs.Quality.{placed_all};
 ghost use Rattle.dutch_bracket.specs.ColourFloors.{residents_down};
-ghost use Rattle.dutch_bracket.specs.PsdFloors.{is_uniform};
-ghost use Rattle.dutch_bracket.specs.PsdFloors.{repeated, psd_with};
+ghost use Rattle.dutch_bracket.specs.PsdFloors.{is_uniform, repeated, psd_with};
 ghost use Rattle.dutch_bracket.specs.Reached.{frame_of};
 
 use crate::differences::{put, put_times};
@@ -27,48 +26,61 @@ pub fn is_uniform(rule: ByNumber<'_>, shape: Shape) -> bool
     rule.score(1) == rule.score(mdps as u16)
 }
 
-/// Puts the differences of moved-down players who are paired with residents of a score.
-fn put_paired(rule: ByNumber<'_>, score: u16, s1: &[u16], psd: &mut Numbers)
-    requires numbers { AllNumbers rule.reached.now.seats s1.now }
-    requires room { array_vec_len psd.old + length s1.now ≤ LIMIT }
-    ensures items { psd.new.items ≡ placed_all psd.old.items
-        (map (λ i. score_at rule.entry.field.now (seat_of rule.entry.reached.now.seats i) - score) s1.now) }
-    ensures len { array_vec_len psd.new ≡ array_vec_len psd.old + length s1.now }
-{
-    for number in s1 {
-        put(psd, rule.score(*number).saturating_sub(score));
-    }
+/// A shape of a bracket in which all residents have one score, in half points.
+#[derive(Clone, Copy)]
+pub struct FlatShape<'a> {
+    pub rule: ByNumber<'a>,
+    pub shape: Shape,
+    pub score: u16,
 }
 
-/// Puts the differences of the moved-down players who are not in S1, and so are not paired.
-#[tactic(auto, using(crate::proofs::ArrangementParts::next_number))]
-fn put_limbo(rule: ByNumber<'_>, score: u16, s1: &[u16], psd: &mut Numbers)
-    requires room { array_vec_len psd.old + rule.reached.now.mdps ≤ LIMIT }
-    ensures items { psd.new.items ≡ placed_all psd.old.items
-        (map (λ i. (score_at rule.entry.field.now (seat_of rule.entry.reached.now.seats i) - score) + 2)
-        (left_of (numbers_from 1 rule.entry.reached.now.mdps) s1.now)) }
-    ensures len { array_vec_len psd.new ≤ array_vec_len psd.old + rule.entry.reached.now.mdps }
-{
-    for above in 0..rule.reached.mdps() {
-        let number = above as u16 + 1;
-        if !s1.contains(&number) {
-            put(psd, rule.score(number).saturating_sub(score) + 2);
+impl<'a> FlatShape<'a> {
+    /// Puts the differences of moved-down players who are paired with residents.
+    fn put_paired(&self, s1: &[u16], psd: &mut Numbers)
+        requires numbers { AllNumbers self.now.rule.reached.now.seats s1.now }
+        requires room { array_vec_len psd.old + length s1.now ≤ LIMIT }
+        ensures items { psd.new.items ≡ placed_all psd.old.items
+            (map (λ i. score_at self.now.rule.field.now (seat_of self.now.rule.reached.now.seats i) - self.now.score)
+            s1.now) }
+        ensures len { array_vec_len psd.new ≡ array_vec_len psd.old + length s1.now }
+    {
+        for number in s1 {
+            put(psd, self.rule.score(*number).saturating_sub(self.score));
         }
     }
-}
 
-/// Fills a list with the PSD of each arrangement of a shape with an S1, where all residents have a score.
-#[tactic(auto, using(crate::proofs::Places::placed_all_append), unfolding(crate::specs::PsdFloors::psd_with))]
-pub fn fill_psd_with(rule: ByNumber<'_>, shape: Shape, score: u16, s1: &[u16], psd: &mut Numbers)
-    requires numbers { AllNumbers rule.reached.now.seats s1.now }
-    requires room { (length s1.now + rule.reached.now.mdps)
-        + (remainder_pairs shape + residents_down rule.reached.now shape) ≤ LIMIT }
-    requires small { shape.pairs ≤ LIMIT }
-    ensures { psd.new.items ≡ psd_with rule.entry.field.now rule.entry.reached.now shape score s1.now }
-{
-    psd.clear();
-    put_paired(rule, score, s1, psd);
-    put_limbo(rule, score, s1, psd);
-    put_times(0, shape.pairs.saturating_sub(shape.mdps), psd);
-    put_times(2, rule.residents_down(shape), psd);
+    /// Puts the differences of the moved-down players who are not in S1, and so are not paired.
+    #[tactic(auto, using(crate::proofs::ArrangementParts::next_number))]
+    fn put_limbo(&self, s1: &[u16], psd: &mut Numbers)
+        requires room { array_vec_len psd.old + self.now.rule.reached.now.mdps ≤ LIMIT }
+        ensures items { psd.new.items ≡ placed_all psd.old.items
+            (map (λ i. (score_at self.now.rule.field.now (seat_of self.now.rule.reached.now.seats i)
+            - self.now.score) + 2)
+            (left_of (numbers_from 1 self.now.rule.reached.now.mdps) s1.now)) }
+        ensures len { array_vec_len psd.new ≤ array_vec_len psd.old + self.now.rule.reached.now.mdps }
+    {
+        for above in 0..self.rule.reached.mdps() {
+            let number = above as u16 + 1;
+            if !s1.contains(&number) {
+                put(psd, self.rule.score(number).saturating_sub(self.score) + 2);
+            }
+        }
+    }
+
+    /// Fills a list with the PSD of each arrangement with an S1.
+    #[tactic(auto, using(crate::proofs::Places::placed_all_append), unfolding(crate::specs::PsdFloors::psd_with))]
+    pub fn fill_psd(&self, s1: &[u16], psd: &mut Numbers)
+        requires numbers { AllNumbers self.now.rule.reached.now.seats s1.now }
+        requires room { (length s1.now + self.now.rule.reached.now.mdps)
+            + (remainder_pairs self.now.shape + residents_down self.now.rule.reached.now self.now.shape) ≤ LIMIT }
+        requires small { self.now.shape.pairs ≤ LIMIT }
+        ensures { psd.new.items
+            ≡ psd_with self.now.rule.field.now self.now.rule.reached.now self.now.shape self.now.score s1.now }
+    {
+        psd.clear();
+        self.put_paired(s1, psd);
+        self.put_limbo(s1, psd);
+        put_times(0, self.shape.pairs.saturating_sub(self.shape.mdps), psd);
+        put_times(2, self.rule.residents_down(self.shape), psd);
+    }
 }

@@ -1,6 +1,7 @@
 // A bracket that a round reaches, by the seats of its players (C.04.3 A.3, A.9).
-ghost use Rattle.std.specs.Prelude.{◌≡◌, ◌+◌, ◌*◌, ◌<◌, ◌≤◌, ◌++◌, true, length, map};
+ghost use Rattle.std.specs.Prelude.{◌≡◌, ◌+◌, ◌*◌, ◌<◌, ◌≤◌, ◌++◌, ℕ, true, length, map, slice_index};
 ghost use Rattle.arrayvec.specs.ArrayVec.{array_vec_len};
+ghost use Rattle.dutch_order.specs.Arrangements.{IsBracket};
 ghost use Rattle.dutch_order.specs.declared.numbers.TheConstants.{LIMIT};
 ghost use Rattle.dutch_bracket.specs.Seated.{seat_of, score_at, AreSeats};
 ghost use Rattle.dutch_bracket.specs.Brackets.{bracket};
@@ -9,7 +10,7 @@ ghost use Rattle.dutch_bracket.specs.ColourFloors.{residents_down};
 ghost use Rattle.dutch_bracket.specs.Reached.{IsOf, ends_round, frame_of, is_number, numbers_meet, number_may_be_left};
 
 use arrayvec::ArrayVec;
-use dutch_order::{Bracket, LIMIT, Rule, Shape};
+use dutch_order::{Bracket, LIMIT, Numbers, Rule, Shape};
 use dutch_player::Field;
 use std::marker::Model;
 
@@ -118,13 +119,12 @@ impl Reached {
     /// The bracket by scores, for the field that it comes from.
     pub fn frame(&self, field: &Field) -> Bracket
         requires { IsOf field.now self.now }
-        ensures { result ≡ frame_of field.now self.now }
+        ensures value { result ≡ frame_of field.now self.now }
+        ensures small { (i : ℕ) → slice_index result.scores i ≤ 65535 }
     {
-        Bracket::new(
-            &scores(field, &self.seats),
-            self.mdps,
-            self.kind.ends_round(),
-        )
+        let mut scores = Seats::new();
+        push_scores(field, &self.seats, &mut scores);
+        by_scores(&scores, self.mdps, self.kind.ends_round())
     }
 
     /// Who may meet, and who may be left over, by number in the bracket, for the field that it comes from (C.1 to C.3).
@@ -178,17 +178,24 @@ pub fn bracket(number: u16, kind: BracketKind, moved_down: &[u16], residents: &[
     }
 }
 
-/// The scores of seats, in half points.
-fn scores(field: &Field, seats: &[u16]) -> Seats
-    requires inside { AreSeats field.now seats.now }
-    requires few { length seats.now ≤ LIMIT }
-    ensures { result.items ≡ map (score_at field.now) seats.now }
+/// A bracket by the scores of its players, in half points.
+fn by_scores(scores: &[u16], mdps: usize, last: bool) -> Bracket
+    requires { IsBracket scores.now mdps }
+    ensures value { result ≡ record { scores = scores.now; mdps = mdps; last = last } }
+    ensures small { (i : ℕ) → slice_index result.scores i ≤ 65535 }
 {
-    let mut scores = ArrayVec::new();
+    Bracket::new(scores, mdps, last)
+}
+
+/// Adds the scores of seats, in half points.
+pub fn push_scores(field: &Field, seats: &[u16], scores: &mut Numbers)
+    requires inside { AreSeats field.now seats.now }
+    requires room { array_vec_len scores.old + length seats.now ≤ LIMIT }
+    ensures { scores.new.items ≡ scores.old.items ++ map (score_at field.now) seats.now }
+{
     for seat in seats {
         scores.push(field.score(*seat));
     }
-    scores
 }
 
 /// The rules on two players and on the bye by numbers of a bracket.

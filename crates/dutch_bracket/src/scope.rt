@@ -7,9 +7,7 @@ ghost use Rattle.std.specs.Prelude.{◌≡◌, ◌<◌, ◌≤◌, IfSome, true}
 ghost use Rattle.dutch_order.specs.declared.prefix.Filling.TheVariants.{S2r};
 ghost use Rattle.dutch_bracket.specs.Beginnings.{has_s1};
 ghost use Rattle.dutch_order.specs.Choices.{is_member};
-ghost use Rattle.dutch_bracket.specs.Scopes.{Covers};
-ghost use Rattle.dutch_bracket.specs.Scopes.{is_joined};
-ghost use Rattle.dutch_bracket.specs.Scopes.{may_stay, moved_down_side, resident_side, side_of};
+ghost use Rattle.dutch_bracket.specs.Scopes.{Covers, is_joined, may_stay, moved_down_side, resident_side, side_of};
 
 use crate::begun::has_s1;
 use crate::reached::copied;

@@ -2,12 +2,9 @@
 // players in them.
 ghost use Rattle.std.specs.Prelude.{◌≡◌, ◌*◌, ◌≤◌, Some, None, IfSome, filter, length};
 ghost use Rattle.std.specs.Result.{MatchResult};
-ghost use Rattle.dutch_order.specs.Arrangements.{Fits};
 ghost use Rattle.dutch_order.specs.Steps.{MatchDrawn, MatchFound, Spends};
-ghost use Rattle.dutch_bracket.specs.Eligible.{Lists};
+ghost use Rattle.dutch_bracket.specs.InContext.{FitsHere, ListsHere, eligible_here, frame_here, shape_here};
 ghost use Rattle.dutch_bracket.specs.Joins.{IsAlwaysShape, IsMost};
-ghost use Rattle.dutch_bracket.specs.Reached.{frame_of};
-ghost use Rattle.dutch_bracket.specs.Brackets.{eligible, shape_of};
 ghost use Rattle.dutch_bracket.specs.Shapes.{IsFound, first_with, fits, shapes_with};
 
 use crate::context::Context;
@@ -19,18 +16,16 @@ use crate::told_shape::{Told, told_by_matchings};
 use dutch_order::{Bracket, Budget, Rule, Shape, Stopped};
 
 impl<'a, 'b> Shapes<ByNumber<'b>> for Context<'a> {
-    ghost use Rattle.dutch_bracket.specs.Eligible.{Lists};
-    ghost use Rattle.dutch_bracket.specs.Reached.{frame_of};
-    ghost use Rattle.dutch_bracket.specs.Brackets.{eligible};
+    ghost use Rattle.dutch_bracket.specs.InContext.{ListsHere, eligible_here, frame_here};
 
-    ghost counting = { λ c. eligible c.facts c.reached c.lower };
+    ghost counting = { eligible_here };
 
-    ghost frame = { λ c. frame_of c.facts c.reached };
+    ghost frame = { frame_here };
 
-    ghost lists = { λ c listing. Lists c.facts c.reached listing };
+    ghost lists = { ListsHere };
 
     fn bracket(&self) -> &Bracket
-        ensures { result.now ≡ frame_of self.now.facts self.now.reached }
+        ensures { result.now ≡ frame_here self.now }
     {
         self.frame()
     }
@@ -39,10 +34,9 @@ impl<'a, 'b> Shapes<ByNumber<'b>> for Context<'a> {
     // are, no candidate of a penultimate bracket can be chosen (C.4). To rule this out may take very many steps, so
     // only a part of those that are left goes into it.
     fn may_have(&self, pairs: usize, budget: &mut Budget) -> Result<bool, Stopped>
-        requires small { 2 * pairs ≤ length (frame_of self.now.facts self.now.reached).scores }
+        requires small { 2 * pairs ≤ length (frame_here self.now).scores }
         ensures answer { MatchDrawn result (Unit {0})
-            (first_with (eligible self.now.facts self.now.reached self.now.lower)
-            (filter (fits (frame_of self.now.facts self.now.reached)) (shapes_with pairs)) ≡ None)
+            (first_with (eligible_here self.now) (filter (fits (frame_here self.now)) (shapes_with pairs)) ≡ None)
             (budget.new.used ≡ budget.new.limit) }
         ensures spends { Spends budget.old budget.new }
     {
@@ -78,29 +72,26 @@ struct Bounded<'a, 'b> {
 }
 
 impl<'a, 'b, 'c> Shapes<ByNumber<'c>> for Bounded<'a, 'b> {
-    ghost use Rattle.dutch_bracket.specs.Eligible.{Lists};
-    ghost use Rattle.dutch_bracket.specs.Reached.{frame_of};
-    ghost use Rattle.dutch_bracket.specs.Brackets.{eligible};
+    ghost use Rattle.dutch_bracket.specs.InContext.{ListsHere, eligible_here, frame_here};
 
-    ghost counting = { λ b. eligible b.context.now.facts b.context.now.reached b.context.now.lower };
+    ghost counting = { λ b. eligible_here b.context.now };
 
-    ghost frame = { λ b. frame_of b.context.now.facts b.context.now.reached };
+    ghost frame = { λ b. frame_here b.context.now };
 
-    ghost lists = { λ b listing. Lists b.context.now.facts b.context.now.reached listing };
+    ghost lists = { λ b. ListsHere b.context.now };
 
     fn bracket(&self) -> &Bracket
-        ensures { result.now ≡ frame_of self.now.context.now.facts self.now.context.now.reached }
+        ensures { result.now ≡ frame_here self.now.context.now }
     {
         self.context.frame()
     }
 
     #[tactic(auto, using(crate::proofs::BoundedShapes::none_with_more))]
     fn may_have(&self, pairs: usize, budget: &mut Budget) -> Result<bool, Stopped>
-        requires small { 2 * pairs ≤ length (frame_of self.now.context.now.facts self.now.context.now.reached).scores }
+        requires small { 2 * pairs ≤ length (frame_here self.now.context.now).scores }
         ensures answer { MatchDrawn result (Unit {0})
-            (first_with (eligible self.now.context.now.facts self.now.context.now.reached self.now.context.now.lower)
-            (filter (fits (frame_of self.now.context.now.facts self.now.context.now.reached)) (shapes_with pairs))
-            ≡ None)
+            (first_with (eligible_here self.now.context.now)
+            (filter (fits (frame_here self.now.context.now)) (shapes_with pairs)) ≡ None)
             (budget.new.used ≡ budget.new.limit) }
         ensures spends { Spends budget.old budget.new }
     {
@@ -163,9 +154,8 @@ fn found_within<'b>(
 ) -> Result<Option<Shape>, Stopped>
     requires most { IsMost context.now.facts context.now.reached told.most }
     requires shape { IfSome told.shape (IsAlwaysShape context.now.facts context.now.reached) }
-    requires lists { Lists context.now.facts context.now.reached lister.old.listing }
-    ensures answer { MatchResult result
-        (λ shape. shape_of context.now.facts context.now.reached context.now.lower ≡ shape)
+    requires lists { ListsHere context.now lister.old.listing }
+    ensures answer { MatchResult result (λ shape. shape_here context.now ≡ shape)
         (λ _. budget.new.used ≡ budget.new.limit) }
     ensures spends { Spends budget.old budget.new }
 {
@@ -187,9 +177,8 @@ fn found_shape<'b>(
     lister: &mut Lister<'_, ByNumber<'b>>,
     budget: &mut Budget,
 ) -> Result<Option<Shape>, Stopped>
-    requires lists { Lists context.now.facts context.now.reached lister.old.listing }
-    ensures answer { MatchResult result
-        (λ shape. shape_of context.now.facts context.now.reached context.now.lower ≡ shape)
+    requires lists { ListsHere context.now lister.old.listing }
+    ensures answer { MatchResult result (λ shape. shape_here context.now ≡ shape)
         (λ _. budget.new.used ≡ budget.new.limit) }
     ensures spends { Spends budget.old budget.new }
 {
@@ -208,9 +197,8 @@ fn found_shape<'b>(
 #[tactic(auto, unfolding(crate::specs::Brackets::shape_of))]
 pub fn shape_of(context: &Context<'_>, budget: &mut Budget) -> Result<Option<Shape>, Stopped>
     ensures answer { MatchFound result
-        (λ shape. (shape_of context.now.facts context.now.reached context.now.lower ≡ Some shape)
-        × Fits (frame_of context.now.facts context.now.reached) shape)
-        (shape_of context.now.facts context.now.reached context.now.lower ≡ None)
+        (λ shape. (shape_here context.now ≡ Some shape) × FitsHere context.now shape)
+        (shape_here context.now ≡ None)
         (budget.new.used ≡ budget.new.limit) }
     ensures spends { Spends budget.old budget.new }
 {

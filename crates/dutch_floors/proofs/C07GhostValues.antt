@@ -67,15 +67,13 @@ module _ (facts : Facts) (reached : Reached) (of' : IsOf facts reached) (flat : 
       let q = reached.mdps in
       let f : ℕ → ℕ = λ i. score_at facts (seat_of reached.seats i) in
       let frame : Frame = frame_of facts reached in
-      let count : length frame.scores ≡ length reached.seats = length-map reached.seats (score_at facts) in
-      let parts = parts_of frame shape a (let h = flat.resident in omega (arith, h, count)) m in
+      let parts = parts_of frame shape a (let h = flat.resident in omega (arith, h, length-map reached.seats (score_at facts))) m in
       let low : List ℕ = numbers_from 1 q in
       let limbo : List ℕ = left_of low a.s1 in
       let first : List ℕ = numbers_from (shape.mdps + 1) (q - shape.mdps) in
       let many : length limbo + shape.mdps ≡ q =
       (let all = filter-length (λ x. is_member x a.s1) low in
-      let found : length (filter (λ x. is_member x a.s1) low) ≡ length a.s1 = ap length (climbs-filter 1 q a.s1 parts.s1) in
-      omega (arith, all, found, length-numbers 1 q, parts.s1_count)) in
+      omega (arith, all, ap length (climbs-filter 1 q a.s1 parts.s1), length-numbers 1 q, parts.s1_count)) in
       elim uniform [
         | inl none ↦
             let empty : a.s1 ≡ [] = nil_from_length a.s1 (omega (arith, parts.s1_count, none)) in
@@ -86,8 +84,7 @@ module _ (facts : Facts) (reached : Reached) (of' : IsOf facts reached) (flat : 
             ∙ ap (map f) (sym (nil_from_length first (let e = length-numbers (shape.mdps + 1) (q - shape.mdps) in omega (arith, e, all))))
         | inr (inr same) ↦
             let P : ℕ → Type 0 = λ i. (0 < i) × (i ≤ q) in
-            let in_low : AllByRecursion P low = numbers_within 0 1 q q (omega arith) (omega arith) in
-            let in_limbo : AllByRecursion P limbo = all_filter P (λ x. not (is_member x a.s1)) low in_low in
+            let in_limbo : AllByRecursion P limbo = all_filter P (λ x. not (is_member x a.s1)) low (numbers_within 0 1 q q (omega arith) (omega arith)) in
             let in_first : AllByRecursion P first = numbers_within 0 (shape.mdps + 1) (q - shape.mdps) q (omega arith) (omega (arith, many)) in
             let long : length limbo ≡ length first = (let e = length-numbers (shape.mdps + 1) (q - shape.mdps) in omega (arith, e, many)) in
             all_same P f (f 1) (λ i p. same i p.0 p.1) limbo in_limbo ∙ ap (repeated (f 1)) long ∙ sym (all_same P f (f 1) (λ i p. same i p.0 p.1) first in_first)

@@ -21,7 +21,7 @@ use Rattle.dutch_bracket.specs.declared.reached.BracketKind.TheVariants.{Ordinar
 use Rattle.dutch_bracket.specs.Seated.{seat_of, score_at}
 use Rattle.dutch_bracket.specs.Reached.{Reached, IsOf, frame_of, is_number, numbers_meet, number_may_be_left}
 use Rattle.dutch_bracket.specs.Quality.{NextValue, highest_first}
-use Rattle.dutch_bracket.specs.Shapes.{has_member, greatest_shape}
+use Rattle.dutch_bracket.specs.Shapes.{has_member, greatest_shape, shapes}
 use Rattle.dutch_bracket.specs.NextBracket.{is_lower, lowest_list_upto, lowest_list, next_bracket, legal_in, psd_in, no_value, value_of_shape, value_of, value_in, IsFlat, IsOfBracket, IsNext}
 use Rattle.dutch_bracket.specs.Brackets.{downfloaters}
 use Rattle.dutch_bracket.specs.ColourFloors.{residents_down}
@@ -38,7 +38,6 @@ use Rattle.dutch_order.proofs.Lists.{map-numbers_from}
 use Rattle.dutch_bracket.proofs.C07WeakerRules.{a_weaker_rule_has_no_fewer_pairs, found_fits, found_few, always_a_shape}
 use Rattle.dutch_floors.proofs.C07PsdFloor.{no_psd_is_below_the_floor}
 use Rattle.dutch_bracket.proofs.ShapeSearch.{fits_by_test, first_has}
-use Rattle.dutch_bracket.specs.Shapes.{shapes}
 use Rattle.std.proofs.Math.ListN.{get_or-append}
 use Rattle.std.proofs.Math.Seq.{get_or-append_right}
 
@@ -123,10 +122,9 @@ no_value_has_more_than_half_the_players_in_pairs facts reached = by_shape (great
     by_shape None e =
         subst (λ (o : Option Shape). IsNotBetter (value_of_shape facts reached o) (length reached.seats / 2) []) (sym e) (not_more no_value (omega arith))
     by_shape (Some s) e =
-        let count : length (frame_of facts reached).scores ≡ length reached.seats = length-map reached.seats (score_at facts) in
         let few : s.pairs ≤ length (frame_of facts reached).scores / 2 = found_few (legal_in facts reached) (frame_of facts reached) s e in
         subst (λ (o : Option Shape). IsNotBetter (value_of_shape facts reached o) (length reached.seats / 2) []) (sym e)
-        (not_more (value_of_shape facts reached (Some s)) (subst (λ k. s.pairs ≤ k / 2) count few))
+        (not_more (value_of_shape facts reached (Some s)) (subst (λ k. s.pairs ≤ k / 2) (length-map reached.seats (score_at facts)) few))
 
 pub all_same : (P : ℕ → Type 0) (f : ℕ → ℕ) (s : ℕ) → ((i : ℕ) → P i → f i ≡ s) → (xs : List ℕ) → AllByRecursion P xs → map f xs ≡ repeated s (length xs)
 all_same P f s each [] all = refl
@@ -158,8 +156,7 @@ module _ (facts : Facts) (reached : Reached) (of' : IsOf facts reached) (flat : 
       all_filter P (λ x. not (is_member x a.s2r)) (left_of (left_of pool a.s2) a.s1r)
       (all_filter P (λ x. not (is_member x a.s1r)) (left_of pool a.s2)
       (all_filter P (λ x. not (is_member x a.s2)) pool (numbers_within q (q + 1) (n - q) n (omega arith) (omega (arith, inside))))) in
-      let left : length rest + (shape.mdps + (remainder_pairs shape + remainder_pairs shape)) ≡ n - q = parts.left in
-      let many : length rest ≡ residents_down reached shape = omega (arith, left, count) in
+      let many : length rest ≡ residents_down reached shape = omega (arith, parts.left, count) in
       map-map (score_at facts) (seat_of reached.seats) (down frame a)
       ∙ ap (map f) (down_parts frame shape.mdps (remainder_pairs shape) a inside parts)
       ∙ map-append f low rest
@@ -170,9 +167,8 @@ module _ (facts : Facts) (reached : Reached) (of' : IsOf facts reached) (flat : 
 
   one_of : (i : ℕ) → 1 ≤ i → i ≤ length (downfloaters facts reached a) → IsOneOf reached.seats (seat_of (downfloaters facts reached a ++ next) i)
   one_of i from upto =
-      let floats : List ℕ = downfloaters facts reached a in
-      let short : i - 1 < length floats = omega (arith, from, upto) in
-      subst (IsOneOf reached.seats) (sym (get_or-append floats next 0 (i - 1) short))
+      let short : i - 1 < length (downfloaters facts reached a) = omega (arith, from, upto) in
+      subst (IsOneOf reached.seats) (sym (get_or-append (downfloaters facts reached a) next 0 (i - 1) short))
       (numbers_are_seats reached.seats (down (frame_of facts reached) a) (down_numbers facts reached a) (i - 1)
       (omega (arith, short, length-map (down (frame_of facts reached) a) (seat_of reached.seats))))
 
@@ -189,14 +185,13 @@ module _ (facts : Facts) (reached : Reached) (of' : IsOf facts reached) (flat : 
       let k = length floats in
       let all : List ℕ = floats ++ next in
       let reached' : Reached = next_bracket floats next in
-      let count : length all ≡ k + length next = length-append floats next in
       let both = and_parts (is_number reached' i && is_number reached' j) (not (i == j) && may_meet facts (seat_of all i) (seat_of all j)) e in
       let inside = and_parts (is_number reached' i) (is_number reached' j) both.0 in
       let more = and_parts (not (i == j)) (may_meet facts (seat_of all i) (seat_of all j)) both.1 in
       let first : 1 ≤ i = (let t = (and_parts (nat_le 1 i) (nat_le i (length all)) inside.0).0 in grind (arith, nat_tests)) in
       let second : 1 ≤ j = (let t = (and_parts (nat_le 1 j) (nat_le j (length all)) inside.1).0 in grind (arith, nat_tests)) in
       and_from (is_upto (k + length next) i && is_upto (k + length next) j) (not (i == j) && ghost_pair facts reached.seats k next i j)
-      (ap (λ n. is_upto n i && is_upto n j) (sym count) ∙ both.0)
+      (ap (λ n. is_upto n i && is_upto n j) (sym (length-append floats next)) ∙ both.0)
       (and_from (not (i == j)) (ghost_pair facts reached.seats k next i j) more.0
       (pair_of facts reached.seats next k (seat_of all i) (seat_of all j) i j (one_of i first) (below_of i) (one_of j second) (below_of j) more.1))
 
@@ -207,11 +202,10 @@ module _ (facts : Facts) (reached : Reached) (of' : IsOf facts reached) (flat : 
       let floats : List ℕ = downfloaters facts reached a in
       let k = length floats in
       let all : List ℕ = floats ++ next in
-      let count : length all ≡ k + length next = length-append floats next in
       let both = and_parts (is_number (next_bracket floats next) i) (may_bye facts (seat_of all i)) e in
       let first : 1 ≤ i = (let t = (and_parts (nat_le 1 i) (nat_le i (length all)) both.0).0 in grind (arith, nat_tests)) in
       and_from (is_upto (k + length next) i) (if nat_le i k then list_any (may_bye facts) reached.seats else may_bye facts (seat_of next (i - k)))
-      (ap (λ n. is_upto n i) (sym count) ∙ both.0)
+      (ap (λ n. is_upto n i) (sym (length-append floats next)) ∙ both.0)
       (left_of_ghost facts reached.seats next k (seat_of all i) i (one_of i first) (below_of i) both.1)
 
   -- the floor of the next bracket's PSD is that of its scores

@@ -57,8 +57,7 @@ flat_residents facts reached of' h =
 -- a shape that fits has no more than half the players in pairs
 pub few_pairs : (facts : Facts) (reached : Reached) (shape : Shape) → IsOf facts reached → Fits (frame_of facts reached) shape → 2 * shape.pairs ≤ length reached.seats
 few_pairs facts reached shape of' fits =
-    let counted : length (frame_of facts reached).scores ≡ length reached.seats = length-map reached.seats (score_at facts) in
-    omega (arith, counted, of'.sound.within, fits.within_pairs, fits.within_moved_down, fits.residents_enough)
+    omega (arith, length-map reached.seats (score_at facts), of'.sound.within, fits.within_pairs, fits.within_moved_down, fits.residents_enough)
 
 module _ (facts : Facts) (reached : Reached) (lower : List ℕ) (shape : Shape) where
   abbrev group : List ℕ

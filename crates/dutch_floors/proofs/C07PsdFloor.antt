@@ -93,8 +93,7 @@ lower_than c h l t u j r evens twos bound whole more none tail nobody zs ts d ab
 none_even : (score : ℕ → ℕ) (s q : ℕ) → ((i : ℕ) → 0 < i → i ≤ q → s < score i) → (xs : List ℕ) → AllByRecursion (λ i. (0 < i) × (i ≤ q)) xs → copies 0 (map (λ i. score i - s) xs) ≡ 0
 none_even score s q higher [] all = refl
 none_even score s q higher (x ∷ xs) all =
-    let up : s < score x = higher x all.0.0 all.0.1 in
-    let off : one_if (eqb (score x - s) 0) ≡ 0 = ap one_if (ne_eqb (score x - s) 0 (λ e. omega (arith, e, up))) in
+    let off : one_if (eqb (score x - s) 0) ≡ 0 = ap one_if (ne_eqb (score x - s) 0 (λ e. omega (arith, e, higher x all.0.0 all.0.1))) in
     omega (arith, off, none_even score s q higher xs all.1)
 
 module _ (facts : Facts) (reached : Reached) (of' : IsOf facts reached) (flat : IsFlat facts reached) where
@@ -114,7 +113,6 @@ module _ (facts : Facts) (reached : Reached) (of' : IsOf facts reached) (flat : 
       let parts = parts_of frame shape a (omega (arith, resident, counted)) m in
       let score : ℕ → ℕ = λ i. score_at facts (seat_of reached.seats i) in
       let plain : ℕ → ℕ = λ i. score i - s in
-      let by : ℕ → ℕ = λ i. (score i - s) + 2 in
       let low : List ℕ = numbers_from 1 q in
       let limbo : List ℕ = left_of low a.s1 in
       let u = length limbo in
@@ -123,12 +121,10 @@ module _ (facts : Facts) (reached : Reached) (of' : IsOf facts reached) (flat : 
       let found : filter (λ x. is_member x a.s1) low ≡ a.s1 = climbs-filter 1 q a.s1 parts.s1 in
       let split : u + shape.mdps ≡ q =
       (let all = filter-length (λ x. is_member x a.s1) low in
-      let count : length low ≡ q = length-numbers 1 q in
-      let first : length (filter (λ x. is_member x a.s1) low) ≡ length a.s1 = ap length found in
-      omega (arith, all, count, first, parts.s1_count)) in
+      omega (arith, all, length-numbers 1 q, ap length found, parts.s1_count)) in
       let c : ℕ → ℕ = λ d. copies d (map plain a.s1) in
       let h : ℕ → ℕ = λ d. copies d (map plain limbo) in
-      let l : ℕ → ℕ = λ d. copies d (map by limbo) in
+      let l : ℕ → ℕ = λ d. copies d (map (λ i. (score i - s) + 2) limbo) in
       let t : ℕ → ℕ = λ d. copies d (map plain low) in
       let evens : ℕ = shape.pairs - q in
       let twos : ℕ = n - 2 * shape.pairs in
@@ -138,8 +134,7 @@ module _ (facts : Facts) (reached : Reached) (of' : IsOf facts reached) (flat : 
       let numbers : AllByRecursion (λ i. (0 < i) × (i ≤ q)) limbo =
       all_filter (λ i. (0 < i) × (i ≤ q)) (λ x. not (is_member x a.s1)) low (numbers_within 0 1 q q (omega arith) (omega arith)) in
       let nobody : ((d : ℕ) → h d ≡ 0) → u ≡ 0 = λ none.
-      let e : length (map plain limbo) ≡ 0 = ap length (nobody_there (map plain limbo) none) in
-      omega (arith, e, length-map limbo plain) in
+      omega (arith, ap length (nobody_there (map plain limbo) none), length-map limbo plain) in
       let lower = lower_than c h l t u j r evens twos (sum (map plain limbo) + 1)
       whole (λ d. two_more d plain limbo) (none_even score s q one.higher limbo numbers)
       (λ d far. none_over d (map plain limbo) (omega (arith, far))) nobody (omega (arith, split, within)) (omega (arith, split, within, fits, resident)) in

@@ -158,13 +158,11 @@ module _ (facts : Facts) (reached : Reached) (shape : Shape) (a : Arrangement) (
       let f : ℕ × ℕ → ℕ = missed_in facts reached in
       let first : List (ℕ × ℕ) = pairs_of reached.seats a.s1 a.s2 in
       let known : List (ℕ × ℕ) = pairs_of reached.seats a.s1r front in
-      let more : List (ℕ × ℕ) = pairs_of reached.seats waits rest in
-      let second : pairs_of reached.seats a.s1r a.s2r ≡ known ++ more = ap (pairs_of reached.seats a.s1r) is ∙ pairs_on reached.seats a.s1r front rest in
       omega (
         arith,
         sum_by-append f first (pairs_of reached.seats a.s1r a.s2r),
-        ap (sum_by f) second,
-        sum_by-append f known more,
+        ap (sum_by f) (ap (pairs_of reached.seats a.s1r) is ∙ pairs_on reached.seats a.s1r front rest),
+        sum_by-append f known (pairs_of reached.seats waits rest),
         sum_by-append f first known,
       )
 
@@ -207,14 +205,13 @@ module _ (facts : Facts) (reached : Reached) (shape : Shape) (a : Arrangement) (
       Rises-filter (λ x. not (is_member x front)) open_pool
       (Rises-filter (λ x. not (is_member x a.s1r)) (left_of residents a.s2)
       (Rises-filter (λ x. not (is_member x a.s2)) residents (numbers_rise (reached.mdps + 1) (length (frame_of facts reached).scores - reached.mdps)))) in
-      let parts = parts_of (frame_of facts reached) shape a inside (legal_of facts reached shape a m).arranged in
       omega (
         arith,
         counted (λ y. not (list_any (λ x. suits facts reached x y) waits)) all,
         tuple_whole w all rest_chosen.0 rest rises rest_chosen.1,
         total_few w (λ y. at_most_one (not (list_any (λ x. suits facts reached x y) waits))) (left_of all rest),
         ap length (left-append open_pool front rest ∙ ap (left_of open_pool) (sym is)),
-        parts.left,
+        (parts_of (frame_of facts reached) shape a inside (legal_of facts reached shape a m).arranged).left,
         length-map reached.seats (score_at facts),
         seconds_miss facts reached waits waits rest waits_meet (omega (arith, as_many)) (all_members (λ x. IsIn x waits) waits (λ x h. h)),
       )

@@ -15,11 +15,7 @@ use Rattle.dutch_bracket.specs.Beginnings.{in_both}
 use Rattle.dutch_bracket.proofs.ArrangementParts.{parts_of}
 use Rattle.dutch_bracket.proofs.Everybody.{pairs_total, bracket_whole}
 use Rattle.dutch_bracket.proofs.FixedPairs.{Beside, sum_beside, length_beside}
-use Rattle.dutch_bracket.proofs.Totals.{total, total_length}
-
-total_sum : (w : ℕ → ℕ) (xs : List ℕ) → total w xs ≡ sum_by w xs
-total_sum w [] = refl
-total_sum w (x ∷ xs) = omega (arith, sum_by-cons w x xs, total_sum w xs)
+use Rattle.dutch_bracket.proofs.Totals.{total, total_length, total_sum}
 
 pairs_sum : (w : ℕ → ℕ) (pairs : List (ℕ × ℕ)) → pairs_total w pairs ≡ sum_by (in_both w) pairs
 pairs_sum w [] = refl
@@ -49,8 +45,7 @@ module _ (facts : Facts) (reached : Reached) (shape : Shape) (known : List (ℕ 
   pairs_made : length (all_pairs reached.seats a) ≡ shape.mdps + (shape.pairs - shape.mdps)
   pairs_made =
       let seats : List ℕ = reached.seats in
-      let counted : length (frame_of facts reached).scores ≡ length seats = length-map seats (score_at facts) in
-      let parts = parts_of (frame_of facts reached) shape a (omega (arith, within, counted)) m in
+      let parts = parts_of (frame_of facts reached) shape a (omega (arith, within, length-map seats (score_at facts))) m in
       omega (
         arith,
         length-append (pairs_of seats a.s1 a.s2) (pairs_of seats a.s1r a.s2r),

@@ -46,7 +46,6 @@ module _ (facts : Facts) (reached : Reached) (of' : IsOf facts reached) (flat : 
       let s : ℕ = f (reached.mdps + 1) in
       let u : ℕ = reached.mdps - shape.mdps in
       let d : ℕ = residents_down reached shape in
-      let count = ghost_count in
       let few : d ≤ length reached.seats - reached.mdps = omega arith in
       elim (cases_lt i u) [
         | inl low ↦
@@ -54,7 +53,7 @@ module _ (facts : Facts) (reached : Reached) (of' : IsOf facts reached) (flat : 
             ∙ get_or-map f (numbers_from (shape.mdps + 1) u) i 0 0 (let e = length-numbers (shape.mdps + 1) u in omega (arith, low, e))
             ∙ ap f (number_at (shape.mdps + 1) u i low ∙ (let e : shape.mdps + 1 + i ≡ min shape.mdps reached.mdps + 1 + i = omega (arith, low) in e))
         | inr high ↦
-            let past : i - u < d = omega (arith, h, count, high) in
+            let past : i - u < d = omega (arith, h, ghost_count, high) in
             let place : reached.mdps + 1 + (i - u) ≡ min shape.mdps reached.mdps + 1 + i = omega (arith, high, past) in
             get_or-append_right (first_limbo facts reached shape) (repeated s d) i 0 (omega (arith, high, limbo_length))
             ∙ ap (λ k. get_or (repeated s d) (i - k) 0) limbo_length

@@ -17,10 +17,6 @@ use Rattle.dutch_bracket.proofs.ArrangementParts.{numbers_within}
 use Rattle.std.proofs.Math.Bool.{or-true}
 use Rattle.dutch_order.proofs.Skipping.{filter-keeps, filter-drops}
 
-pub or_false : (t : Bool) → t ≡ (t || false)
-or_false true = refl
-or_false false = refl
-
 marked : (old new rest : List ℕ) (x i : ℕ) → has_bit new x ≡ true → ((j : ℕ) → ¬ (j ≡ x) → has_bit new j ≡ has_bit old j)
     → (has_bit new i || is_member i rest) ≡ (has_bit old i || is_member i (x ∷ rest))
 marked old new rest x i set others =
@@ -96,7 +92,7 @@ beyond_is [] xs = refl
 beyond_is (y ∷ part) [] = refl
 beyond_is (y ∷ part) (x ∷ xs) = beyond_is part xs
 
-pub back_numbers : (seats numbers : List ℕ) (count : ℕ) → AllNumbers seats numbers → AllNumbers seats (drop count numbers)
-back_numbers seats numbers zero h = h
-back_numbers seats [] (suc count) h = tt
-back_numbers seats (x ∷ numbers) (suc count) h = back_numbers seats numbers count h.1
+pub beyond_numbers : (seats part numbers : List ℕ) → AllNumbers seats numbers → AllNumbers seats (beyond part numbers)
+beyond_numbers seats [] numbers h = h
+beyond_numbers seats (y ∷ part) [] h = tt
+beyond_numbers seats (y ∷ part) (x ∷ numbers) h = beyond_numbers seats part numbers h.1

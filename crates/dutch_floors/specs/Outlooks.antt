@@ -7,6 +7,7 @@ use Rattle.dutch_order.specs.Keys.{IsIn}
 use Rattle.dutch_player.specs.Facts.{Facts}
 use Rattle.dutch_floors.specs.declared.outlook.Outlook.{Outlook}
 use Rattle.dutch_floors.specs.GhostValues.{first_limbo}
+use Rattle.dutch_bracket.specs.Context.{Context}
 use Rattle.dutch_bracket.specs.NextBracket.{IsFlat, HasNoBetter}
 use Rattle.dutch_bracket.specs.Quality.{NextValue}
 use Rattle.dutch_bracket.specs.Reached.{Reached, frame_of}
@@ -36,3 +37,7 @@ pub record IsOutlook (facts : Facts) (reached : Reached) (lower : List ℕ) (sha
   pub first : (value : NextValue) → outlook.first ≡ Some value
       → IsFlat facts reached × ((a : Arrangement) → IsIn a (arrangements (frame_of facts reached) shape)
       → limbo_scores facts reached a.s1 ≡ first_limbo facts reached shape → HasNoBetter (quality_of facts reached lower a) value)
+
+-- the same of an outlook from a bracket above its lower seats
+abbrev pub IsOutlookHere : Context → Shape → Outlook → Type 0
+IsOutlookHere context = IsOutlook context.facts context.reached context.lower

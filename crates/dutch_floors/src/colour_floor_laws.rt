@@ -34,6 +34,7 @@ pub fn a_pair_misses_firmly()
 {}
 
 /// C.10: how many miss their preference at least, with a beginning.
+#[tactic(auto, using(crate::proofs::C10Preferences::beginning_misses))]
 pub fn a_beginning_misses()
     ensures { (facts : Facts) (reached : Reached) (lower : List ℕ) (shape : Shape) (b a : Arrangement)
         → reached.mdps ≤ length reached.seats
@@ -43,6 +44,7 @@ pub fn a_beginning_misses()
 {}
 
 /// C.11: how many miss a strong preference at least, with a beginning, if C.8 and C.9 are those of the beginning.
+#[tactic(auto, using(crate::proofs::C11StrongPreferences::beginning_misses_strongly))]
 pub fn a_beginning_misses_strongly()
     ensures { (facts : Facts) (reached : Reached) (lower : List ℕ) (shape : Shape) (b a : Arrangement)
         → reached.mdps ≤ length reached.seats
@@ -57,6 +59,7 @@ pub fn a_beginning_misses_strongly()
 {}
 
 /// C.10: lonely players miss their preference, once all but an end of S2R is chosen.
+#[tactic(auto, using(crate::proofs::C10Lonely::lonely_miss))]
 pub fn lonely_players_miss()
     ensures { (facts : Facts) (reached : Reached) (lower : List ℕ) (shape : Shape) (b a : Arrangement)
         → reached.mdps ≤ length reached.seats
@@ -66,6 +69,7 @@ pub fn lonely_players_miss()
 {}
 
 /// C.10: so at least as many miss their preference as each of the two bounds says.
+#[tactic(auto, using(crate::proofs::C10Lonely::most_miss))]
 pub fn a_beginning_with_s1r_misses()
     ensures { (facts : Facts) (reached : Reached) (lower : List ℕ) (shape : Shape) (b a : Arrangement)
         → reached.mdps ≤ length reached.seats

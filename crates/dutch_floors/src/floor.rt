@@ -4,27 +4,26 @@ ghost use Rattle.std.specs.Prelude.{◌≡◌, ◌<◌, ◌≤◌, ◌||◌, ◌
 ghost use Rattle.dutch_order.specs.Arrangements.{Fits};
 ghost use Rattle.dutch_order.specs.declared.numbers.TheConstants.{LIMIT};
 ghost use Rattle.dutch_bracket.specs.QualityIn.{next_in, quality_in};
-ghost use Rattle.dutch_bracket.specs.Beginnings.{fixed};
-ghost use Rattle.dutch_bracket.specs.PsdFloors.{psd_with};
+ghost use Rattle.dutch_bracket.specs.Beginnings.{fixed, HasNumbers, fixed_lists, has_s1};
+ghost use Rattle.dutch_bracket.specs.PsdFloors.{psd_with, is_uniform};
+ghost use Rattle.dutch_bracket.specs.InContext.{FitsHere};
 ghost use Rattle.dutch_bracket.specs.Reached.{IsOf, frame_of};
 ghost use Rattle.dutch_bracket.specs.Seated.{AllNumbers, HasSeats};
 ghost use Rattle.dutch_floors.specs.Outlooks.{awaited};
 ghost use Rattle.dutch_bracket.specs.NextBracket.{IsNoBetter};
 ghost use Rattle.dutch_floors.specs.FloorOf.{AreWants, is_flat, is_known, residents_score, psd_over, more_by, s1_of};
 ghost use Rattle.dutch_floors.specs.FloorOf.{floor_by, floor_by_seats, floor_knowing, floor_of};
-ghost use Rattle.dutch_bracket.specs.PsdFloors.{is_uniform};
-ghost use Rattle.dutch_bracket.specs.Beginnings.{HasNumbers, fixed_lists, has_s1};
 ghost use Rattle.dutch_bracket.specs.Floors.{floor_over};
 ghost use Rattle.dutch_floors.specs.KnownBeside.{AreKnown};
 
 use crate::colour_floor::{Wants, missed, missed_strong, more_missed, wants_in};
 use crate::known::{Known, fill_known};
 use crate::lonely::lonely;
-use crate::outlook::{Outlook, leaves_first};
+use crate::outlook::{Outlook, is_flat, leaves_first};
 use dutch_bracket::begun::{Begun, fill_fixed, fixed_lists, has_s1, is_of_shape};
 use dutch_bracket::context::Context;
 use dutch_bracket::differences::fill_psd;
-use dutch_bracket::psd_floor::{fill_psd_with, is_uniform};
+use dutch_bracket::psd_floor::{FlatShape, is_uniform};
 use dutch_bracket::quality::{NextValue, Quality, Room, fill_others};
 use dutch_bracket::seated::Seated;
 use dutch_order::{Filling, LIMIT, Numbers, Prefix, Shape, numbered_from};
@@ -50,9 +49,9 @@ pub struct Floors<'a> {
 
 impl<'a> Model for Floors<'a> {
     ghost use Rattle.std.specs.Prelude.{◌≡◌, true, false};
-    ghost use Rattle.dutch_order.specs.Arrangements.{Fits};
     ghost use Rattle.dutch_order.specs.Choices.{numbers_from};
-    ghost use Rattle.dutch_bracket.specs.Reached.{IsOf, frame_of};
+    ghost use Rattle.dutch_bracket.specs.InContext.{FitsHere};
+    ghost use Rattle.dutch_bracket.specs.Reached.{IsOf};
     ghost use Rattle.dutch_floors.specs.FloorOf.{AreWants, Basis, is_flat};
     ghost use Rattle.dutch_bracket.specs.PsdFloors.{is_uniform};
 
@@ -62,7 +61,7 @@ impl<'a> Model for Floors<'a> {
         { facts = f.context.now.facts; reached = f.context.now.reached; shape = f.shape; outlook = f.outlook } };
 
     ghost invariant = { λ f. (IsOf f.context.now.facts f.context.now.reached)
-        × (Fits (frame_of f.context.now.facts f.context.now.reached) f.shape)
+        × (FitsHere f.context.now f.shape)
         × (f.flat ≡ is_flat f.context.now.facts f.context.now.reached)
         × (f.uniform ≡ is_uniform f.context.now.facts f.context.now.reached f.shape)
         × (f.first.items ≡ numbers_from 1 f.shape.mdps)
@@ -70,27 +69,15 @@ impl<'a> Model for Floors<'a> {
         × (AreWants f.context.now.facts f.context.now.reached f.firm_wants × (f.firm_wants.firm ≡ true)) };
 }
 
-/// Whether there is a resident, and all residents have one score.
-fn is_flat(context: &Context<'_>) -> bool
-    ensures { result ≡ is_flat context.now.facts context.now.reached }
-{
-    let (first, last) = (context.reached().mdps() + 1, context.len());
-    if last < first {
-        return false;
-    }
-    context.score(first as u16) == context.score(last as u16)
-}
-
 impl<'a> Floors<'a> {
     /// The floors of a shape, for what the next bracket can be at best.
     #[tactic(auto, using(dutch_bracket::proofs::ShapeNumbers::small_mdps))]
     pub fn new(context: &'a Context<'a>, shape: Shape, outlook: Outlook) -> Floors<'a>
-        requires { Fits (frame_of context.now.facts context.now.reached) shape }
+        requires { FitsHere context.now shape }
         ensures value { result ≡ record
             { facts = context.now.facts; reached = context.now.reached; shape = shape; outlook = outlook } }
         ensures of { IsOf context.now.facts context.now.reached }
     {
-        let _reached = context.reached();
         let flat = is_flat(context);
         let uniform = is_uniform(context.rule(), shape);
         Floors {
@@ -134,8 +121,12 @@ impl<'a> Floors<'a> {
             (residents_score self.now.facts self.now.reached) s1.now }
     {
         let context = self.context;
-        let score = context.score(context.reached().mdps() as u16 + 1);
-        fill_psd_with(context.rule(), self.shape(), score, s1, psd)
+        let flat = FlatShape {
+            rule: context.rule(),
+            shape: self.shape(),
+            score: context.score(context.reached().mdps() as u16 + 1),
+        };
+        flat.fill_psd(s1, psd)
     }
 
     /// S1 of a beginning; the first one, if none is chosen.

@@ -31,6 +31,7 @@ pub fn a_beginning_is_the_least()
 {}
 
 /// C.6: the PSD of an arrangement is not lower than that of the pairs of a beginning that it has.
+#[tactic(auto, using(dutch_bracket::proofs::C06Psd::psd_of_beginning))]
 pub fn no_psd_is_below_that_of_fixed_pairs()
     ensures { (facts : Facts) (reached : Reached) (lower : List ℕ) (b a : Arrangement) → HasPairsOf b a
         → is_lower (quality_of facts reached lower a).psd
@@ -40,6 +41,7 @@ pub fn no_psd_is_below_that_of_fixed_pairs()
 /// C.6 to C.19: no arrangement with a beginning is better than a floor, if its PSD is not lower than the floor's, if
 /// the next bracket can be no better, and if so many more players miss a preference, and a strong one where C.8 and C.9
 /// are those of the beginning.
+#[tactic(auto, using(dutch_bracket::proofs::FloorOrder::floor_holds))]
 pub fn a_floor_holds()
     ensures { (facts : Facts) (reached : Reached) (lower psd : List ℕ) (next : NextValue)
         (more_missed more_missed_strong : ℕ) (b a : Arrangement) → HasPairsOf b a
@@ -61,6 +63,7 @@ pub fn a_floor_holds()
 
 /// C.6: in a bracket whose residents have one score the PSD of an arrangement is known by its S1, and known at once
 /// where all S1 leave moved-down players with the same scores.
+#[tactic(auto, using(dutch_bracket::proofs::C06Psd::psd_by_first, dutch_bracket::proofs::C06Psd::psd_of_all))]
 pub fn psd_is_known()
     ensures by_first { (facts : Facts) (reached : Reached) (lower : List ℕ) (shape : Shape) (a : Arrangement)
         → IsOf facts reached → IsFlat facts reached

@@ -21,6 +21,7 @@ ghost use Rattle.dutch_bracket.specs.Takers.{can_go_out};
 
 /// A number of pairs leaves so many downfloaters. If that many cannot be paired out with the lower players, whoever
 /// they are, then no candidate of a penultimate bracket with so many pairs can be chosen.
+#[tactic(auto, using(dutch_bracket::proofs::C04Takers::no_shape_with))]
 pub fn a_count_of_downfloaters_tells_of_pairs()
     ensures { (facts : Facts) (reached : Reached) (lower : List ℕ) → is_penultimate reached.kind ≡ true
         → reached.mdps ≤ length reached.seats → (pairs : ℕ)
@@ -38,6 +39,7 @@ pub fn a_weaker_rule_has_no_fewer_pairs()
 {}
 
 /// In a bracket whose residents have one score no arrangement has a lower PSD than the floor for as many pairs.
+#[tactic(auto, using(crate::proofs::C07PsdFloor::no_psd_is_below_the_floor))]
 pub fn no_psd_is_below_the_floor()
     ensures { (facts : Facts) (reached : Reached) → IsOf facts reached → IsFlat facts reached
         → (shape : Shape) (a : Arrangement) → shape.mdps ≤ shape.pairs
@@ -47,6 +49,7 @@ pub fn no_psd_is_below_the_floor()
 {}
 
 /// A bracket that is not a last one cannot be better than what a weaker rule finds, with the floor of its PSD.
+#[tactic(auto, using(crate::proofs::C07Ghosts::no_value_is_better_than_by_a_weaker_rule))]
 pub fn no_value_is_better_than_by_a_weaker_rule()
     ensures { (facts : Facts) (reached : Reached) → IsOf facts reached → IsFlat facts reached
         → (frame_of facts reached).last ≡ false
@@ -60,6 +63,7 @@ pub fn no_value_is_better_than_by_a_weaker_rule()
 {}
 
 /// What an arrangement with this Limbo leaves for the next bracket is not better than what ghosts find.
+#[tactic(auto, using(crate::proofs::C07Ghosts::ghosts_tell_of_the_next_bracket))]
 pub fn ghosts_tell_of_the_next_bracket()
     ensures { (facts : Facts) (reached : Reached) → IsOf facts reached → IsFlat facts reached → (next : List ℕ)
         → IsNext facts reached next
@@ -79,6 +83,7 @@ pub fn ghosts_tell_of_the_next_bracket()
 {}
 
 /// Ghosts in front of the next scoregroup are a bracket.
+#[tactic(auto, using(crate::proofs::GhostBrackets::ghosts_are_a_bracket))]
 pub fn ghosts_are_a_bracket()
     ensures { (facts : Facts) (reached : Reached) → IsOf facts reached → IsFlat facts reached → (next : List ℕ)
         → IsNext facts reached next → (shape : Shape)
@@ -88,6 +93,7 @@ pub fn ghosts_are_a_bracket()
 
 /// What the next bracket is worth by ghosts: no arrangement with the Limbo of the first S1 has a better value. Where
 /// all S1 leave the same scores, every arrangement has that Limbo.
+#[tactic(auto, using(crate::proofs::C07GhostValues::no_value_is_better_than_by_ghosts, crate::proofs::C07GhostValues::first_limbo_of_all))]
 pub fn no_value_is_better_than_by_ghosts()
     ensures value { (facts : Facts) (reached : Reached) → IsOf facts reached → IsFlat facts reached
         → (shape : Shape) (a : Arrangement)
@@ -105,6 +111,7 @@ pub fn no_value_is_better_than_by_ghosts()
 {}
 
 /// Without ghosts: what a bracket can be is not better than half its players in pairs, with no PSD at all.
+#[tactic(auto, using(crate::proofs::C07Ghosts::no_value_has_more_than_half_the_players_in_pairs))]
 pub fn no_value_has_more_than_half_the_players_in_pairs()
     ensures { (facts : Facts) (reached : Reached) → IsNotBetter (value_of facts reached) (length reached.seats / 2) [] }
 {}

@@ -4,16 +4,15 @@
 ghost use Rattle.std.specs.Prelude.{◌≡◌, ◌+◌, ◌-◌, ◌*◌, ◌<◌, ◌≤◌, ◌++◌, false, length, map, slice_index};
 ghost use Rattle.std.specs.Result.{MatchResult};
 ghost use Rattle.arrayvec.specs.ArrayVec.{array_vec_len};
-ghost use Rattle.dutch_order.specs.Arrangements.{Fits, IsBracket, left_of};
+ghost use Rattle.dutch_order.specs.Arrangements.{IsBracket, left_of};
 ghost use Rattle.dutch_bracket.specs.declared.reached.BracketKind.TheVariants.{Ordinary};
 ghost use Rattle.dutch_bracket.specs.Ghosts.{ghost_frame};
+ghost use Rattle.dutch_bracket.specs.InContext.{FitsHere, group_here};
 ghost use Rattle.dutch_floors.specs.GhostValues.{first_limbo, first_ghosts, floor_held, ghost_value};
 ghost use Rattle.dutch_bracket.specs.NextBracket.{IsFlat};
 ghost use Rattle.dutch_bracket.specs.PsdFloors.{repeated};
 ghost use Rattle.dutch_bracket.specs.Quality.{placed_all};
-ghost use Rattle.dutch_bracket.specs.Reached.{frame_of};
-ghost use Rattle.dutch_bracket.specs.Seated.{seat_of, score_at, AllNumbers, AreSeats};
-ghost use Rattle.dutch_bracket.specs.Brackets.{first_group, scoregroups};
+ghost use Rattle.dutch_bracket.specs.Seated.{seat_of, score_at, AllNumbers};
 ghost use Rattle.dutch_order.specs.Steps.{Spends};
 
 use crate::ghosts::Ghosts;
@@ -22,9 +21,8 @@ use dutch_bracket::context::Context;
 use dutch_bracket::differences::{push_times, put, put_times};
 use dutch_bracket::greatest::greatest_legal;
 use dutch_bracket::quality::NextValue;
-use dutch_bracket::reached::push_all;
+use dutch_bracket::reached::{push_all, push_scores};
 use dutch_order::{Bracket, Budget, LIMIT, Numbers, Shape, Stopped, numbered_from};
-use dutch_player::Field;
 
 /// Adds the scores of those of some numbers who are not in S1.
 pub(crate) fn push_left(context: &Context<'_>, numbers: &[u16], s1: &[u16], scores: &mut Numbers)
@@ -42,7 +40,7 @@ pub(crate) fn push_left(context: &Context<'_>, numbers: &[u16], s1: &[u16], scor
 
 /// The scores of the moved-down players whom the first S1 of a shape leaves over, in half points.
 pub(crate) fn first_limbo(context: &Context<'_>, shape: Shape) -> Numbers
-    requires { Fits (frame_of context.now.facts context.now.reached) shape }
+    requires { FitsHere context.now shape }
     ensures items { result.items ≡ first_limbo context.now.facts context.now.reached shape }
     ensures len { array_vec_len result ≡ context.now.reached.mdps - shape.mdps }
 {
@@ -53,29 +51,15 @@ pub(crate) fn first_limbo(context: &Context<'_>, shape: Shape) -> Numbers
     scores
 }
 
-/// Adds the scores of seats, in half points.
-fn push_scores(field: &Field, seats: &[u16], scores: &mut Numbers)
-    requires inside { AreSeats field.now seats.now }
-    requires room { array_vec_len scores.old + length seats.now ≤ LIMIT }
-    ensures items { scores.new.items ≡ scores.old.items ++ map (score_at field.now) seats.now }
-    ensures len { array_vec_len scores.new ≡ array_vec_len scores.old + length seats.now }
-{
-    for seat in seats {
-        scores.push(field.score(*seat));
-    }
-}
-
 /// The scores of the ghosts for a shape: those of the Limbo of its first S1, and the residents' score for each who goes
 /// down.
 #[tactic(auto, using(crate::proofs::C07Outlook::few_pairs))]
 fn ghost_scores(context: &Context<'_>, shape: Shape) -> Numbers
     requires flat { IsFlat context.now.facts context.now.reached }
-    requires fits { Fits (frame_of context.now.facts context.now.reached) shape }
+    requires fits { FitsHere context.now shape }
     ensures items { result.items ≡ first_ghosts context.now.facts context.now.reached shape }
-    ensures bracket { IsBracket
-        (ghost_frame context.now.facts (first_ghosts context.now.facts context.now.reached shape)
-        (first_group context.now.facts (scoregroups context.now.facts context.now.lower))).scores
-        (length (first_ghosts context.now.facts context.now.reached shape)) }
+    ensures bracket { let ghosts = first_ghosts context.now.facts context.now.reached shape
+        in IsBracket (ghost_frame context.now.facts ghosts (group_here context.now)).scores (length ghosts) }
 {
     let mut scores = first_limbo(context, shape);
     let reached = context.reached();
@@ -86,10 +70,8 @@ fn ghost_scores(context: &Context<'_>, shape: Shape) -> Numbers
 
 /// The next bracket, with ghosts of these scores in front.
 fn ghost_bracket(context: &Context<'_>, ghosts: &[u16]) -> Bracket
-    requires { IsBracket (ghost_frame context.now.facts ghosts.now
-        (first_group context.now.facts (scoregroups context.now.facts context.now.lower))).scores (length ghosts.now) }
-    ensures { result ≡ ghost_frame context.now.facts ghosts.now
-        (first_group context.now.facts (scoregroups context.now.facts context.now.lower)) }
+    requires { IsBracket (ghost_frame context.now.facts ghosts.now (group_here context.now)).scores (length ghosts.now) }
+    ensures { result ≡ ghost_frame context.now.facts ghosts.now (group_here context.now) }
 {
     let mut scores = ArrayVec::new();
     push_all(ghosts, &mut scores);
@@ -137,10 +119,9 @@ pub(crate) fn ghost_value(
 ) -> Result<NextValue, Stopped>
     requires ordinary { context.now.reached.kind ≡ Ordinary }
     requires flat { IsFlat context.now.facts context.now.reached }
-    requires fits { Fits (frame_of context.now.facts context.now.reached) shape }
+    requires fits { FitsHere context.now shape }
     ensures answer { MatchResult result
-        (λ v. v ≡ ghost_value context.now.facts context.now.reached shape
-        (first_group context.now.facts (scoregroups context.now.facts context.now.lower)))
+        (λ v. v ≡ ghost_value context.now.facts context.now.reached shape (group_here context.now))
         (λ _. budget.new.used ≡ budget.new.limit) }
     ensures spends { Spends budget.old budget.new }
 {

@@ -8,7 +8,7 @@ ghost use Rattle.dutch_player.specs.Meetings.{may_meet};
 ghost use Rattle.dutch_bracket.specs.Seated.{AreSeats};
 ghost use Rattle.dutch_bracket.specs.Ghosts.{is_upto, some_meets, may_bye, ghosts_meet, ghost_may_be_left};
 ghost use Rattle.dutch_floors.specs.GhostRules.{IsRead};
-ghost use Rattle.dutch_bracket.specs.Brackets.{first_group, scoregroups};
+ghost use Rattle.dutch_bracket.specs.InContext.{group_here};
 ghost use Rattle.dutch_order.specs.Steps.{Spends};
 
 use arrayvec::ArrayVec;
@@ -89,12 +89,10 @@ impl<'a> Ghosts<'a> {
             (λ ghosts. ghosts ≡ record {
               facts = context.now.facts;
               seats = context.now.reached.seats;
-              lower = first_group context.now.facts
-                  (scoregroups context.now.facts context.now.lower);
+              lower = group_here context.now;
             })
             (λ _. budget.new.used ≡ budget.new.limit) }
-        ensures counts { let steps = length context.now.reached.seats * length
-            (first_group context.now.facts (scoregroups context.now.facts context.now.lower))
+        ensures counts { let steps = length context.now.reached.seats * length (group_here context.now)
             in MatchResult result (λ _. budget.new.used ≡ budget.old.used + steps)
             (λ _. budget.old.limit < budget.old.used + steps) }
         ensures spends { Spends budget.old budget.new }

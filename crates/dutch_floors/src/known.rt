@@ -41,12 +41,9 @@ impl Known {
 fn has_pair(pair: Pair, pairs: &[Pair]) -> bool
     ensures { result ≡ list_any (λ other. (other.0 == pair.0) && (other.1 == pair.1)) pairs.now }
 {
-    for other in pairs {
-        if other.0 == pair.0 && other.1 == pair.1 {
-            return true;
-        }
-    }
-    false
+    pairs
+        .iter()
+        .any(|other| other.0 == pair.0 && other.1 == pair.1)
 }
 
 /// Adds a pair to others, unless it is one of them.

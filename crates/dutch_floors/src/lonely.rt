@@ -27,20 +27,6 @@ fn mark(numbers: &[u16], marks: &mut Marks)
     }
 }
 
-/// The residents who have a place.
-fn taken(context: &Context<'_>, begun: &Begun<'_>) -> Marks
-    requires { HasNumbers context.now.reached begun.now }
-    ensures { (i : ℕ) → has_bit result i
-        ≡ ((is_member i begun.now.s2 || is_member i begun.now.s1r) || is_member i begun.now.s2r) }
-{
-    let _count = context.len();
-    let mut marks = [0; LIMIT / WORD + 1];
-    mark(begun.s2, &mut marks);
-    mark(begun.s1r, &mut marks);
-    mark(begun.s2r, &mut marks);
-    marks
-}
-
 /// Fills a list with those of so many numbers from a first one on that are not marked.
 #[tactic(auto, using(crate::proofs::LonelyLemmas::unmarked_more, crate::proofs::LonelyLemmas::marked_more))]
 fn put_unmarked(first: usize, count: usize, marks: &Marks, left: &mut Numbers)
@@ -67,18 +53,21 @@ fn put_pool(context: &Context<'_>, begun: &Begun<'_>, left: &mut Numbers)
 {
     let mdps = context.reached().mdps();
     let residents = context.len().saturating_sub(mdps);
-    put_unmarked(mdps + 1, residents, &taken(context, begun), left);
+    // the residents who have a place
+    let mut marks = [0; LIMIT / WORD + 1];
+    mark(begun.s2, &mut marks);
+    mark(begun.s1r, &mut marks);
+    mark(begun.s2r, &mut marks);
+    put_unmarked(mdps + 1, residents, &marks, left);
 }
 
 /// The players of S1R who have no opponent yet.
-#[tactic(auto, using(crate::proofs::LonelyLemmas::beyond_is, crate::proofs::LonelyLemmas::back_numbers))]
-fn waiting<'a>(context: &Context<'_>, begun: &Begun<'a>) -> &'a [u16]
-    requires { HasNumbers context.now.reached begun.now }
+#[tactic(auto, using(crate::proofs::LonelyLemmas::beyond_is))]
+fn waiting<'a>(begun: &Begun<'a>) -> &'a [u16]
+    requires { length begun.now.s2r ≤ length begun.now.s1r }
     ensures items { result.now ≡ waiting begun.now }
-    ensures numbers { AllNumbers context.now.reached.seats result.now }
-    ensures few { length result.now ≤ LIMIT }
+    ensures few { length result.now ≤ length begun.now.s1r }
 {
-    let _count = context.len();
     begun.s1r.split_at(begun.s2r.len()).1
 }
 
@@ -159,7 +148,7 @@ fn more_lonely(first: usize, second: usize, down: usize) -> usize
 
 /// How many miss at least for want of an opponent who suits. The list is filled anew with those with whom S1R can still
 /// be paired.
-#[tactic(auto, unfolding(dutch_bracket::specs::ColourFloors::lonely))]
+#[tactic(auto, using(crate::proofs::LonelyLemmas::beyond_numbers), unfolding(dutch_bracket::specs::ColourFloors::lonely))]
 pub(crate) fn lonely(
     context: &Context<'_>,
     shape: Shape,
@@ -171,7 +160,7 @@ pub(crate) fn lonely(
     ensures value { result ≡ lonely context.now.facts context.now.reached shape begun.now }
     ensures few { result ≤ LIMIT }
 {
-    let waiting = waiting(context, begun);
+    let waiting = waiting(begun);
     put_pool(context, begun, pool);
     let first = lonely_first(context, waiting, pool);
     let second = lonely_second(context, waiting, pool);

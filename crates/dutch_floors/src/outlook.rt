@@ -2,13 +2,12 @@
 // bracket's residents have one score, otherwise by counting players.
 ghost use Rattle.std.specs.Prelude.{◌≡◌, []};
 ghost use Rattle.std.specs.Result.{MatchResult};
-ghost use Rattle.dutch_order.specs.Arrangements.{Fits};
 ghost use Rattle.dutch_bracket.specs.declared.reached.BracketKind.TheVariants.{Ordinary};
 ghost use Rattle.dutch_floors.specs.FloorOf.{is_flat};
 ghost use Rattle.dutch_bracket.specs.Ghosts.{pairs_by_counts};
-ghost use Rattle.dutch_floors.specs.Outlooks.{IsOutlook, leaves_first};
-ghost use Rattle.dutch_bracket.specs.Reached.{frame_of};
-ghost use Rattle.dutch_bracket.specs.Brackets.{first_group, scoregroups};
+ghost use Rattle.dutch_floors.specs.Outlooks.{IsOutlookHere, leaves_first};
+ghost use Rattle.dutch_bracket.specs.InContext.{FitsHere, group_here};
+ghost use Rattle.dutch_bracket.specs.Reached.{IsAbove, IsOf};
 ghost use Rattle.dutch_order.specs.Steps.{Spends};
 
 use crate::ghost_value::ghost_value;
@@ -29,7 +28,7 @@ pub struct Outlook {
 /// Whether an S1 leaves a Limbo with the scores of the first one of a shape.
 #[tactic(auto, using(dutch_bracket::proofs::ArrangementParts::next_number), unfolding(crate::specs::Outlooks::leaves_first))]
 pub(crate) fn leaves_first(context: &Context<'_>, shape: Shape, s1: &[u16]) -> bool
-    requires { Fits (frame_of context.now.facts context.now.reached) shape }
+    requires { FitsHere context.now shape }
     ensures { result ≡ leaves_first context.now.facts context.now.reached shape s1.now }
 {
     let moved_down = context.reached().mdps();
@@ -53,12 +52,10 @@ pub(crate) fn leaves_first(context: &Context<'_>, shape: Shape, s1: &[u16]) -> b
 /// What half of those who go down and of the next lower scoregroup come to in pairs.
 #[tactic(auto, using(crate::proofs::C07Outlook::few_pairs))]
 fn value_by_counts(context: &Context<'_>, shape: Shape) -> NextValue
-    requires { Fits (frame_of context.now.facts context.now.reached) shape }
-    ensures { result ≡ record {
-      pairs = pairs_by_counts context.now.reached shape
-          (first_group context.now.facts (scoregroups context.now.facts context.now.lower));
-      psd = [];
-    } }
+    requires { FitsHere context.now shape }
+    ensures value { result
+        ≡ record { pairs = pairs_by_counts context.now.reached shape (group_here context.now); psd = [] } }
+    ensures above { IsAbove context.now.facts context.now.reached context.now.lower }
 {
     let down = context.reached().seats().len() - 2 * shape.pairs;
     NextValue {
@@ -68,8 +65,9 @@ fn value_by_counts(context: &Context<'_>, shape: Shape) -> NextValue
 }
 
 /// Whether there is a resident, and all residents have one score.
-fn is_flat(context: &Context<'_>) -> bool
-    ensures { result ≡ is_flat context.now.facts context.now.reached }
+pub(crate) fn is_flat(context: &Context<'_>) -> bool
+    ensures value { result ≡ is_flat context.now.facts context.now.reached }
+    ensures of { IsOf context.now.facts context.now.reached }
 {
     let (field, reached) = (context.field(), context.reached());
     let seats = reached.seats();
@@ -88,9 +86,8 @@ impl Outlook {
         shape: Shape,
         budget: &mut Budget,
     ) -> Result<Outlook, Stopped>
-        requires fits { Fits (frame_of context.now.facts context.now.reached) shape }
-        ensures answer { MatchResult result (IsOutlook context.now.facts context.now.reached context.now.lower shape)
-            (λ _. budget.new.used ≡ budget.new.limit) }
+        requires fits { FitsHere context.now shape }
+        ensures answer { MatchResult result (IsOutlookHere context.now shape) (λ _. budget.new.used ≡ budget.new.limit) }
         ensures spends { Spends budget.old budget.new }
     {
         match context.reached().kind() {
@@ -105,8 +102,8 @@ impl Outlook {
     /// What counts alone tell of it.
     #[tactic(auto, using(crate::proofs::C07Outlook::none_counts))]
     pub fn by_counts(context: &Context<'_>, shape: Shape) -> Outlook
-        requires { Fits (frame_of context.now.facts context.now.reached) shape }
-        ensures { IsOutlook context.now.facts context.now.reached context.now.lower shape result }
+        requires { FitsHere context.now shape }
+        ensures { IsOutlookHere context.now shape result }
     {
         match context.reached().kind() {
             BracketKind::Ordinary => Outlook::ordinary_by_counts(context, shape),
@@ -121,10 +118,9 @@ impl Outlook {
     #[tactic(auto, using(crate::proofs::C07Outlook::by_counts))]
     fn ordinary_by_counts(context: &Context<'_>, shape: Shape) -> Outlook
         requires ordinary { context.now.reached.kind ≡ Ordinary }
-        requires fits { Fits (frame_of context.now.facts context.now.reached) shape }
-        ensures { IsOutlook context.now.facts context.now.reached context.now.lower shape result }
+        requires fits { FitsHere context.now shape }
+        ensures { IsOutlookHere context.now shape result }
     {
-        let _reached = context.reached();
         let any = value_by_counts(context, shape);
         Outlook { first: None, any }
     }
@@ -138,12 +134,10 @@ impl Outlook {
         budget: &mut Budget,
     ) -> Result<Outlook, Stopped>
         requires ordinary { context.now.reached.kind ≡ Ordinary }
-        requires fits { Fits (frame_of context.now.facts context.now.reached) shape }
-        ensures answer { MatchResult result (IsOutlook context.now.facts context.now.reached context.now.lower shape)
-            (λ _. budget.new.used ≡ budget.new.limit) }
+        requires fits { FitsHere context.now shape }
+        ensures answer { MatchResult result (IsOutlookHere context.now shape) (λ _. budget.new.used ≡ budget.new.limit) }
         ensures spends { Spends budget.old budget.new }
     {
-        let _reached = context.reached();
         let any = value_by_counts(context, shape);
         if !is_flat(context) {
             return Ok(Outlook { first: None, any });

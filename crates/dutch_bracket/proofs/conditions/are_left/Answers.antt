@@ -22,11 +22,9 @@ returns-then-number-last c =
                       let same : i - 1 + 1 ≡ i = omega (arith, later) in
                       let step : slice_index down (i - 1) < slice_index down i =
                       subst (λ k. slice_index down (i - 1) < slice_index down k) same (left.ascend (i - 1) (omega (arith, same, c.loop-number-test.true))) in
-                      let bad : ⊥ = omega (arith, step, c.loop-number.invariant.last later, w.if-number-last.true) in
-                      absurd bad
+                      absurd (omega (arith, step, c.loop-number.invariant.last later, w.if-number-last.true))
                   | inr first ↦
-                      let bad : ⊥ = omega (arith, here.0, c.loop-number.invariant.first (omega (arith, first)), w.if-number-last.true) in
-                      absurd bad
+                      absurd (omega (arith, here.0, c.loop-number.invariant.first (omega (arith, first)), w.if-number-last.true))
                 ]
             | then-number-last-via-else-number-last+then-not-has w ↦
                 let yes : is_number c.args.reached.now (slice_index down i) ≡ true =
@@ -39,11 +37,10 @@ returns-then-number-last c =
 pub returns : goal.returns
 returns c =
     let numbers = c.loop-number.invariant.numbers in
-    let ascend = c.loop-number.invariant.ascend in
     let all = c.loop-number-test.false in (
       (λ e. record {
         numbers = all_at (λ n. (0 < n) × (n ≤ length c.args.reached.now.seats)) c.args.down.now (λ i lt. numbers i (omega (arith, lt, all)));
-        ascend = (λ i lt. ascend i (omega (arith, lt, all)));
+        ascend = (λ i lt. c.loop-number.invariant.ascend i (omega (arith, lt, all)));
       }),
       λ left. refl,
     )

@@ -12,6 +12,5 @@ value_of-requires-clause-of c =
 
 pub value_of-requires-clause-flat : goal.value_of-requires-clause-flat
 value_of-requires-clause-flat c =
-    let P : Reached → Type 0 = IsFlat c.args.above.now.field.now in
-    subst P (sym c.next_bracket.ensures)
+    subst (IsFlat c.args.above.now.field.now) (sym c.next_bracket.ensures)
     (next_flat c.args.above.now.field.now c.args.above.now.reached.now c.args.down.now c.args.above.now.next.now c.args.above.now.of c.requires.down c.args.above.now.below c.requires.ordinary)

@@ -20,22 +20,22 @@ numbered_from-requires-clause-few c =
     let reached = c.args.rule.reached.now in
     small_mdps facts reached c.args.shape (always_fits facts reached c.args.shape c.requires.shape (frame_of facts reached) refl) c.args.rule.sound
 
-pub fill_psd_with-requires-clause-numbers : goal.fill_psd_with-requires-clause-numbers
-fill_psd_with-requires-clause-numbers c =
+pub fill_psd-requires-clause-numbers : goal.fill_psd-requires-clause-numbers
+fill_psd-requires-clause-numbers c =
     let facts = c.args.rule.field.now in
     let reached = c.args.rule.reached.now in
     let fits = always_fits facts reached c.args.shape c.requires.shape (frame_of facts reached) refl in
     subst (AllNumbers reached.seats) (sym (c.deref.ensures.0 ∙ c.numbered_from.ensures.items)) (first_numbers facts reached c.args.shape fits c.args.rule.sound)
 
-pub fill_psd_with-requires-clause-room : goal.fill_psd_with-requires-clause-room
-fill_psd_with-requires-clause-room c =
+pub fill_psd-requires-clause-room : goal.fill_psd-requires-clause-room
+fill_psd-requires-clause-room c =
     let facts = c.args.rule.field.now in
     let reached = c.args.rule.reached.now in
     let fits = always_fits facts reached c.args.shape c.requires.shape (frame_of facts reached) refl in
     has_room facts reached c.args.shape _ fits c.args.rule.sound (first_length c.args.shape c.deref.result.now (c.deref.ensures.0 ∙ c.numbered_from.ensures.items))
 
-pub fill_psd_with-requires-clause-small : goal.fill_psd_with-requires-clause-small
-fill_psd_with-requires-clause-small c =
+pub fill_psd-requires-clause-small : goal.fill_psd-requires-clause-small
+fill_psd-requires-clause-small c =
     let facts = c.args.rule.field.now in
     let reached = c.args.rule.reached.now in
     small_pairs facts reached c.args.shape (always_fits facts reached c.args.shape c.requires.shape (frame_of facts reached) refl) c.args.rule.sound
@@ -47,8 +47,8 @@ returns c =
     let shape = c.args.shape in
     let uniform = value_of_uniform facts reached shape c.args.rule.sound c.requires.flat (sym c.is_uniform.ensures ∙ c.if-not-is_uniform.false) c.requires.shape in
     let score : c.score-score.result ≡ score_at facts (seat_of reached.seats (reached.mdps + 1)) = c.score-score.ensures.value ∙ ap (λ k. score_at facts (seat_of reached.seats (k + 1))) c.mdps.ensures in
-    let filled : c.fill_psd_with.new.psd.items ≡ psd_with facts reached shape (score_at facts (seat_of reached.seats (reached.mdps + 1))) (numbers_from 1 shape.mdps) =
-    c.fill_psd_with.ensures
+    let filled : c.fill_psd.new.psd.items ≡ psd_with facts reached shape (score_at facts (seat_of reached.seats (reached.mdps + 1))) (numbers_from 1 shape.mdps) =
+    c.fill_psd.ensures
     ∙ ap (psd_with facts reached shape c.score-score.result) (c.deref.ensures.0 ∙ c.numbered_from.ensures.items)
     ∙ ap (λ s. psd_with facts reached shape s (numbers_from 1 shape.mdps)) score in
     ap (λ (list : List ℕ). let value : NextValue = record { pairs = shape.pairs; psd = list } in value) filled ∙ uniform

@@ -1,5 +1,5 @@
 -- The first candidate of the greatest shape has the least PSD of all.
-use Rattle.std.proofs.Common.{◌≡◌, ℕ, ◌≤◌, List, Option, None, MatchOption, sym, ap, ◌∙◌, subst, refl}
+use Rattle.std.proofs.Common.{◌≡◌, ℕ, ◌≤◌, Option, None, MatchOption, sym, ap, ◌∙◌, subst, refl}
 use Rattle.std.specs.Prelude.{slice_index}
 use Rattle.std.proofs.lemmas.Option.{MatchOption-at_some}
 use Rattle.dutch_order.specs.Arrangements.{Frame}
@@ -47,8 +47,7 @@ returns c =
     let known = greatest_as facts facts reached reached c.args.legal.now.bracket.now shape first refl refl c.requires.frame
     (MatchOption-at_some _ _ shape c.in-Some.is c.requires.found) in
     value_found facts reached shape first known.1.others c.fill_psd.new.numbers.items c.args.legal.now.rule.now.sound c.requires.flat
-    (let P : Frame → Type 0 = λ frame. (i : ℕ) → slice_index frame.scores i ≤ 65535 in
-    subst P c.requires.frame (let Q : List ℕ → Type 0 = λ scores. (i : ℕ) → slice_index scores i ≤ 65535 in subst Q c.scores.ensures.scores c.are_small.ensures))
+    (let P : Frame → Type 0 = λ frame. (i : ℕ) → slice_index frame.scores i ≤ 65535 in subst P c.requires.frame c.requires.small)
     known.1.first known.1.down
     (c.fill_psd.ensures ∙ ap (λ (candidate : Seated). psd facts candidate) (c.by_seats-first.ensures.value ∙ ap (λ seats. by_seats facts seats first) c.seats.ensures))
     ∙ ap (value_of_shape facts reached) (sym known.0)

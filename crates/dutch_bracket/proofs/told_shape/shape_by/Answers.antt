@@ -1,24 +1,21 @@
 -- The matching has the shape that no candidate exceeds, in a bracket whose candidates can all be chosen.
-use Rattle.std.proofs.Common.{rules, ◌≡◌, Some, true, false, ap, ◌∙◌}
+use Rattle.std.proofs.Common.{rules, ◌≡◌, Some, false, ap, ◌∙◌}
 use Rattle.dutch_order.specs.declared.bracket.Shape.{Shape}
-use Rattle.dutch_bracket.specs.Joins.{AreMatched, matched_shape}
-use Rattle.dutch_bracket.specs.Reached.{ends_round}
+use Rattle.dutch_bracket.specs.Joins.{matched_shape}
 use Rattle.dutch_bracket.specs.Brackets.{is_penultimate}
 use Rattle.dutch_bracket.proofs.JoinedMates.{shape_matched}
 use Rattle.dutch_bracket.proofs.told_shape.shape_by.Goals as goal
 
 pub returns : goal.returns
 returns c =
-    let facts = c.args.rule.field.now in
     let reached = c.args.rule.reached.now in
     let partners = c.args.found.now.partners.items in
     let once : is_penultimate reached.kind ≡ false = search rules in
-    let last : ends_round reached.kind ≡ true → AreMatched reached partners = search rules in
     let same : matched_shape reached partners ≡ c.args.most = search rules in
     let shape : matched_shape reached partners ≡ c.matched_shape-shape.result = search rules in
     record {
       once = once;
       always = λ lower.
-          shape_matched facts reached lower partners c.args.most once c.args.rule.sound last c.requires.matching c.requires.most same
+          shape_matched c.args.rule.field.now reached lower partners c.args.most once c.args.rule.sound (search rules) c.requires.matching c.requires.most same
           ∙ ap (λ (s : Shape). Some s) shape;
     }

@@ -7,12 +7,8 @@ use Rattle.dutch_order.proofs.Members.{length-numbers}
 use Rattle.dutch_player.specs.Facts.{Facts}
 use Rattle.dutch_bracket.specs.Reached.{Reached, IsOf, frame_of}
 use Rattle.dutch_bracket.specs.Seated.{seat_of, score_at, AllNumbers}
-use Rattle.dutch_bracket.proofs.ArrangementParts.{numbers_within}
+use Rattle.dutch_bracket.proofs.ArrangementParts.{left_none, numbers_within}
 use Rattle.dutch_floors.proofs.ghost_value.first_limbo.Goals as goal
-
-left_of_none : (xs : List ℕ) → left_of xs [] ≡ xs
-left_of_none [] = refl
-left_of_none (x ∷ xs) = ap (λ ys. x ∷ ys) (left_of_none xs)
 
 limbo_numbers : (facts : Facts) (reached : Reached) (m : ℕ) → IsOf facts reached → m ≤ reached.mdps → AllNumbers reached.seats (numbers_from (m + 1) (reached.mdps - m))
 limbo_numbers facts reached m of' h =
@@ -21,22 +17,20 @@ limbo_numbers facts reached m of' h =
 
 pub push_left-requires-clause-numbers : goal.push_left-requires-clause-numbers
 push_left-requires-clause-numbers c =
-    let facts = c.args.context.now.facts in
     let reached = c.args.context.now.reached in
     let m : ℕ = c.args.shape.mdps in
     let same : c.deref.result.now ≡ numbers_from (m + 1) (reached.mdps - m) =
     c.deref.ensures.0 ∙ c.numbered_from-limbo.ensures.items ∙ ap (λ q. numbers_from (m + 1) (q - m)) (c.mdps.ensures ∙ ap (λ (s : Reached). s.mdps) c.reached.ensures.value) in
-    subst (AllNumbers reached.seats) (sym same) (limbo_numbers facts reached m c.reached.ensures.sound c.requires.within_moved_down)
+    subst (AllNumbers reached.seats) (sym same) (limbo_numbers c.args.context.now.facts reached m c.reached.ensures.sound c.requires.within_moved_down)
 
 pub returns-clause-items : goal.returns-clause-items
 returns-clause-items c =
-    let facts = c.args.context.now.facts in
     let reached = c.args.context.now.reached in
     let m : ℕ = c.args.shape.mdps in
-    let f : ℕ → ℕ = λ i. score_at facts (seat_of reached.seats i) in
+    let f : ℕ → ℕ = λ i. score_at c.args.context.now.facts (seat_of reached.seats i) in
     let same : c.deref.result.now ≡ numbers_from (m + 1) (reached.mdps - m) =
     c.deref.ensures.0 ∙ c.numbered_from-limbo.ensures.items ∙ ap (λ q. numbers_from (m + 1) (q - m)) (c.mdps.ensures ∙ ap (λ (s : Reached). s.mdps) c.reached.ensures.value) in
-    c.push_left.ensures.items ∙ ap (λ (front : List ℕ). front ++ map f (left_of c.deref.result.now [])) c.new-scores.ensures ∙ ap (map f) (left_of_none c.deref.result.now ∙ same)
+    c.push_left.ensures.items ∙ ap (λ (front : List ℕ). front ++ map f (left_of c.deref.result.now [])) c.new-scores.ensures ∙ ap (map f) (left_none c.deref.result.now ∙ same)
 
 pub returns-clause-len : goal.returns-clause-len
 returns-clause-len c =

@@ -1,7 +1,11 @@
--- What has been read of the lower players passed so far.
-use Rattle.std.proofs.Common.{◌≡◌, map, take}
+-- What has been read of the lower players passed so far, and what those to come tell, make it all.
+use Rattle.std.proofs.Common.{◌≡◌, ◌++◌, drop, map}
+use Rattle.arrayvec.specs.ArrayVec.{array_vec_len}
 use Rattle.dutch_bracket.specs.Ghosts.{some_meets}
 use Rattle.dutch_floors.proofs.ghosts.read_met.Given as goal
 
 abbrev pub invariant-loop-seat : goal.invariant-loop-seat
-invariant-loop-seat l = l.met.items ≡ map (some_meets l.field l.seats) (take l.seat-index l.lower)
+invariant-loop-seat l = record {
+  items : l.met.items ++ map (some_meets l.field l.seats) (drop l.seat-index l.lower) ≡ map (some_meets l.field l.seats) l.lower;
+  len : array_vec_len l.met ≡ l.seat-index;
+}

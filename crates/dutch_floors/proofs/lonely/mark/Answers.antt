@@ -3,7 +3,8 @@ use Rattle.std.proofs.Common.{◌≡◌, ◌∙◌, ◌||◌, ℕ, List, get_or,
 use Rattle.std.proofs.lemmas.List.{drop_all}
 use Rattle.dutch_order.specs.Choices.{is_member}
 use Rattle.dutch_bracket.specs.BitTables.{has_bit}
-use Rattle.dutch_floors.proofs.LonelyLemmas.{mark_more, or_false}
+use Rattle.std.proofs.Math.Bool.{or-false}
+use Rattle.dutch_floors.proofs.LonelyLemmas.{mark_more}
 use Rattle.dutch_floors.proofs.lonely.mark.Goals as goal
 
 pub loop-number-preserved : goal.loop-number-preserved
@@ -15,6 +16,6 @@ loop-number-preserved c = λ i.
 
 pub returns : goal.returns
 returns c = λ i.
-    or_false (has_bit c.loop-number.marks i)
+    sym (or-false (has_bit c.loop-number.marks i))
     ∙ (ap (λ (xs : List ℕ). has_bit c.loop-number.marks i || is_member i xs) (sym (drop_all c.loop-number.number-index c.args.numbers.now c.loop-number-test.false))
     ∙ c.loop-number.invariant i)

@@ -23,10 +23,9 @@ returns-then-passed-moved_down c =
     let p = c.loop-above.passed in
     let i = c.loop-above.above in
     let f : ℕ → ℕ = λ i. score_at c.args.context.now.facts (seat_of c.args.context.now.reached.seats i) in
-    let counted : n ≡ c.args.context.now.reached.mdps = c.mdps-moved_down.ensures ∙ ap (λ (reached : Reached). reached.mdps) c.reached.ensures.value in
     one_left f i n c.args.s1.now (omega (arith, c.loop-above-test.true)) (sym c.if-not-contains.ensures.value)
     ∙ ap (λ xs. is_same (map f (left_of (numbers_from (i + 1) (n - i)) c.args.s1.now)) (map f xs)) (sym (no_number p n (omega (arith, c.if-passed-moved_down.true))))
-    ∙ (rw counted c.loop-above.invariant.same)
+    ∙ (rw (c.mdps-moved_down.ensures ∙ ap (λ (reached : Reached). reached.mdps) c.reached.ensures.value) c.loop-above.invariant.same)
 
 pub returns : goal.returns
 returns c =

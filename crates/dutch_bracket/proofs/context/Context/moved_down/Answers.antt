@@ -1,5 +1,5 @@
 -- The moved-down players are numbers of the bracket.
-use Rattle.std.proofs.Common.{◌≡◌, ◌∙◌, ◌≤◌, length, map, ap, sym, subst, arith}
+use Rattle.std.proofs.Common.{◌≡◌, ◌∙◌, ◌≤◌, length, ap, sym, subst, arith}
 use Rattle.std.proofs.lemmas.List.{length-map}
 use Rattle.dutch_order.proofs.Members.{length-numbers}
 use Rattle.dutch_bracket.specs.Reached.{Reached}
@@ -14,8 +14,7 @@ returns-clause-len c =
 pub returns-clause-numbers : goal.returns-clause-numbers
 returns-clause-numbers c =
     let same : c.mdps.result ≡ c.args.self.now.reached.mdps = c.mdps.ensures ∙ ap (λ (s : Reached). s.mdps) c.reached.ensures.value in
-    let within : c.args.self.now.reached.mdps ≤ length (map (score_at c.args.self.now.facts) c.args.self.now.reached.seats) = c.reached.ensures.sound.sound.within in
     let counted = length-map c.args.self.now.reached.seats (score_at c.args.self.now.facts) in
-    let few : c.mdps.result ≤ length c.args.self.now.reached.seats = omega (arith, same, within, counted) in
+    let few : c.mdps.result ≤ length c.args.self.now.reached.seats = omega (arith, same, c.reached.ensures.sound.sound.within, counted) in
     subst (AllNumbers c.args.self.now.reached.seats) (sym c.numbered_from.ensures.items)
     (numbers_within 0 1 c.mdps.result (length c.args.self.now.reached.seats) (omega arith) (omega (arith, few)))

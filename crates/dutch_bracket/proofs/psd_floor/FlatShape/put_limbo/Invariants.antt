@@ -5,11 +5,11 @@ use Rattle.dutch_order.specs.Choices.{numbers_from}
 use Rattle.dutch_order.specs.Arrangements.{left_of}
 use Rattle.dutch_bracket.specs.Seated.{seat_of, score_at}
 use Rattle.dutch_bracket.specs.Quality.{placed_all}
-use Rattle.dutch_bracket.proofs.psd_floor.put_limbo.Given as goal
+use Rattle.dutch_bracket.proofs.psd_floor.FlatShape.put_limbo.Given as goal
 
 abbrev pub invariant-loop-above : goal.invariant-loop-above
 invariant-loop-above l = record {
-  items : placed_all l.psd.items (map (λ i. (score_at l.rule.field.now (seat_of l.rule.reached.now.seats i) - l.score) + 2) (left_of (numbers_from (l.above + 1) (l.rule.reached.now.mdps - l.above)) l.s1))
-      ≡ placed_all l.initial.psd.items (map (λ i. (score_at l.rule.field.now (seat_of l.rule.reached.now.seats i) - l.score) + 2) (left_of (numbers_from 1 l.rule.reached.now.mdps) l.s1));
+  items : placed_all l.psd.items (map (λ i. (score_at l.self.rule.field.now (seat_of l.self.rule.reached.now.seats i) - l.self.score) + 2) (left_of (numbers_from (l.above + 1) (l.self.rule.reached.now.mdps - l.above)) l.s1))
+      ≡ placed_all l.initial.psd.items (map (λ i. (score_at l.self.rule.field.now (seat_of l.self.rule.reached.now.seats i) - l.self.score) + 2) (left_of (numbers_from 1 l.self.rule.reached.now.mdps) l.s1));
   len : array_vec_len l.psd ≤ array_vec_len l.initial.psd + l.above;
 }

@@ -3,11 +3,11 @@ use Rattle.std.proofs.Common.{◌≡◌, ◌+◌, ◌-◌, drop, map}
 use Rattle.arrayvec.specs.ArrayVec.{array_vec_len}
 use Rattle.dutch_bracket.specs.Seated.{seat_of, score_at}
 use Rattle.dutch_bracket.specs.Quality.{placed_all}
-use Rattle.dutch_bracket.proofs.psd_floor.put_paired.Given as goal
+use Rattle.dutch_bracket.proofs.psd_floor.FlatShape.put_paired.Given as goal
 
 abbrev pub invariant-loop-number : goal.invariant-loop-number
 invariant-loop-number l = record {
-  items : placed_all l.psd.items (map (λ i. score_at l.rule.field.now (seat_of l.rule.reached.now.seats i) - l.score) (drop l.number-index l.s1))
-      ≡ placed_all l.initial.psd.items (map (λ i. score_at l.rule.field.now (seat_of l.rule.reached.now.seats i) - l.score) l.s1);
+  items : placed_all l.psd.items (map (λ i. score_at l.self.rule.field.now (seat_of l.self.rule.reached.now.seats i) - l.self.score) (drop l.number-index l.s1))
+      ≡ placed_all l.initial.psd.items (map (λ i. score_at l.self.rule.field.now (seat_of l.self.rule.reached.now.seats i) - l.self.score) l.s1);
   len : array_vec_len l.psd ≡ array_vec_len l.initial.psd + l.number-index;
 }
