@@ -7,3 +7,4 @@ pub mod RuledOut
 pub mod Passes
 pub mod Skips
 pub mod Chosen
+pub mod Costs
