@@ -225,18 +225,31 @@ fn next_value(
 }
 
 /// The quality of a candidate of a bracket above a next lower scoregroup (C.6 to C.19); none if the budget's limit was
-/// reached first. A step is one number tried at one place in the next bracket. It takes memory for matchings alone, and
-/// none where that is not lent.
+/// reached first. A step is one number tried at one place in the next bracket. It takes no memory.
 #[tactic(auto, unfolding(crate::specs::NextBracket::quality, crate::specs::Quality::quality_with))]
-pub fn quality(above: &Above<'_>, candidate: &Candidate, budget: &mut Budget) -> Option<Quality>
-    requires candidate { IsOfBracket above.now.field.now above.now.reached.now candidate.now }
+pub fn quality(
+    field: &Field,
+    reached: &Reached,
+    candidate: &Candidate,
+    next: &[u16],
+    budget: &mut Budget,
+) -> Option<Quality>
+    requires of { IsOf field.now reached.now }
+    requires candidate { IsOfBracket field.now reached.now candidate.now }
+    requires next { IsNext field.now reached.now next.now }
     ensures answer { MatchOption result (budget.new.used ≡ budget.new.limit)
-        (λ q. quality_in q ≡ quality above.now.field.now above.now.reached.now above.now.next.now candidate.now) }
+        (λ q. quality_in q ≡ quality field.now reached.now next.now candidate.now) }
     ensures spends { Spends budget.old budget.new }
 {
-    let value = next_value(above, candidate, budget).ok()?;
+    let above = Above {
+        alloc: None,
+        field,
+        reached,
+        next,
+    };
+    let value = next_value(&above, candidate, budget).ok()?;
     let mut room = Room::default();
     room.quality.put_next(value.pairs, &value.psd);
-    fill_quality(above.field, above.reached.seats(), candidate, &mut room);
+    fill_quality(field, reached.seats(), candidate, &mut room);
     Some(room.quality)
 }

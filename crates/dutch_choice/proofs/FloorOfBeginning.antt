@@ -19,6 +19,8 @@ use Rattle.dutch_bracket.specs.PsdFloors.{is_uniform, psd_with, repeated}
 use Rattle.dutch_floors.specs.Outlooks.{IsOutlook, awaited}
 use Rattle.dutch_bracket.specs.NextBracket.{IsFlat, is_lower, quality}
 use Rattle.dutch_bracket.specs.Quality.{Quality, count_in_pairs, highest_first, is_better, misses, psd, quality_with}
+use Rattle.dutch_bracket.specs.Context.{Context}
+use Rattle.dutch_bracket.specs.InContext.{OfEachBegun, quality_here}
 use Rattle.dutch_bracket.specs.Reached.{IsOf, Reached, frame_of}
 use Rattle.dutch_bracket.specs.Brackets.{candidates_of, downfloaters, quality_of}
 use Rattle.dutch_bracket.specs.Seated.{all_pairs, difference, score_at, seat_of}
@@ -45,101 +47,98 @@ known_not_lower facts reached shape s s1 =
     ++ (map (λ i. (score_at facts (seat_of reached.seats i) - s) + 2) (left_of (numbers_from 1 reached.mdps) s1)
     ++ (repeated 0 (remainder_pairs shape) ++ repeated 2 (residents_down reached shape))))
 
--- C.6, where all residents have one score
-psd_at : (basis : Basis) (lower : List ℕ) (filling : Filling) (lists a : Arrangement) → IsOf basis.facts basis.reached → IsFlat basis.facts basis.reached
-    → IsIn a (arrangements (frame_of basis.facts basis.reached) basis.shape) → BeginsAt filling lists a
-    → (has_s1 filling || is_uniform basis.facts basis.reached basis.shape) ≡ true
-    → (quality_of basis.facts basis.reached lower a).psd
-    ≡ psd_with basis.facts basis.reached basis.shape (residents_score basis.facts basis.reached) (s1_by filling basis.shape (lists_by filling lists).s1)
-psd_at basis lower S1 lists a of' flat m h known =
-    psd_of_all basis.facts basis.reached lower basis.shape a of' flat (uniform_of basis.facts basis.reached basis.shape of' known) m
-psd_at basis lower S2 lists a of' flat m h known =
-    psd_by_first basis.facts basis.reached lower basis.shape a of' flat m
-    ∙ ap (psd_with basis.facts basis.reached basis.shape (residents_score basis.facts basis.reached)) (sym h.0)
-psd_at basis lower S2r lists a of' flat m h known =
-    psd_by_first basis.facts basis.reached lower basis.shape a of' flat m
-    ∙ ap (psd_with basis.facts basis.reached basis.shape (residents_score basis.facts basis.reached)) (sym h.0)
-
--- C.6: the PSD is not lower
-pub psd_holds : (basis : Basis) (lower : List ℕ) (filling : Filling) (lists a : Arrangement) → IsOf basis.facts basis.reached
-    → IsIn a (arrangements (frame_of basis.facts basis.reached) basis.shape) → BeginsAt filling lists a
-    → (has_s1 filling || is_uniform basis.facts basis.reached basis.shape) ≡ true
-    → (t : Bool) → is_flat basis.facts basis.reached ≡ t
-    → is_lower (quality_of basis.facts basis.reached lower a).psd (cond t
-    (psd_with basis.facts basis.reached basis.shape (residents_score basis.facts basis.reached) (s1_by filling basis.shape (lists_by filling lists).s1))
-    (psd basis.facts (fixed basis.facts basis.reached (lists_by filling lists)))) ≡ false
-unfolding psd
-psd_holds basis lower filling lists a of' m h known true flat =
-    let same = psd_at basis lower filling lists a of' (flat_residents basis.facts basis.reached of' flat) m h known in
-    ap (λ xs. is_lower xs (psd_with basis.facts basis.reached basis.shape (residents_score basis.facts basis.reached) (s1_by filling basis.shape (lists_by filling lists).s1))) same
-    ∙ known_not_lower basis.facts basis.reached basis.shape (residents_score basis.facts basis.reached) (s1_by filling basis.shape (lists_by filling lists).s1)
-psd_holds basis lower filling lists a of' m h known false uneven =
-    let by : List ℕ = map (difference basis.facts) (all_pairs basis.reached.seats (lists_by filling lists)) in
-    ap (λ xs. is_lower (quality_of basis.facts basis.reached lower a).psd (highest_first xs)) (append-nil by)
-    ∙ psd_of_beginning basis.facts basis.reached lower (lists_by filling lists) a (begun_pairs filling lists a h)
-
--- C.10: so many more miss, by counts alone
-missed_more : (basis : Basis) (lower : List ℕ) (b a : Arrangement) → basis.reached.mdps ≤ length basis.reached.seats
-    → IsIn a (arrangements (frame_of basis.facts basis.reached) basis.shape) → HasPairsOf b a
-    → count_in_pairs basis.facts (misses Preference) (all_pairs basis.reached.seats b) + more_in false basis.facts basis.reached basis.shape (fixed basis.facts basis.reached b)
-    ≤ (quality_of basis.facts basis.reached lower a).missed_preferences
-unfolding quality_of quality quality_with
-missed_more basis lower b a within m begins =
-    more_miss basis.facts basis.reached basis.shape (all_pairs basis.reached.seats b) [] a within m (beside basis.reached.seats b a begins)
-    (none_known (downfloaters basis.facts basis.reached a))
-
--- C.10: so many more miss
-more_holds : (basis : Basis) (lower : List ℕ) (filling : Filling) (lists a : Arrangement) → basis.reached.mdps ≤ length basis.reached.seats
-    → IsIn a (candidates_of basis.facts basis.reached basis.shape) → BeginsAt filling lists a
-    → count_in_pairs basis.facts (misses Preference) (all_pairs basis.reached.seats (lists_by filling lists)) + more_by filling basis (lists_by filling lists)
-    ≤ (quality_of basis.facts basis.reached lower a).missed_preferences
-more_holds basis lower S1 lists a within m h =
-    missed_more basis lower (lists_by S1 lists) a within (legal_of basis.facts basis.reached basis.shape a m).arranged (begun_pairs S1 lists a h)
-more_holds basis lower S2 lists a within m h =
-    missed_more basis lower (lists_by S2 lists) a within (legal_of basis.facts basis.reached basis.shape a m).arranged (begun_pairs S2 lists a h)
-more_holds basis lower S2r lists a within m h =
-    omega (
-      arith,
-      lonely_miss basis.facts basis.reached lower basis.shape (lists_by S2r lists) a within m (record { s1 = h.0; s2 = h.1; s1r = h.2; s2r = h.3 }),
-      missed_more basis lower (lists_by S2r lists) a within (legal_of basis.facts basis.reached basis.shape a m).arranged (begun_pairs S2r lists a h),
-    )
-
--- C.6 to C.19: no candidate with a beginning is better than its floor
-pub floor_stands : (basis : Basis) (lower : List ℕ) (b : Beginning) (a : Arrangement) → IsOf basis.facts basis.reached
-    → IsIn a (candidates_of basis.facts basis.reached basis.shape) → Begins b a
-    → (has_s1 b.filling || is_uniform basis.facts basis.reached basis.shape) ≡ true
-    → IsOutlook basis.facts basis.reached lower basis.shape basis.outlook
-    → is_better (quality_of basis.facts basis.reached lower a) (floor_of basis b) ≡ false
-unfolding quality_of quality quality_with floor_of floor_over psd_over
-floor_stands basis lower b a of' m h known outlook =
-    let legal = legal_of basis.facts basis.reached basis.shape a m in
-    let within : basis.reached.mdps ≤ length basis.reached.seats = subst (λ n. basis.reached.mdps ≤ n) (length-map basis.reached.seats (score_at basis.facts)) of'.sound.within in
-    let later = awaited_holds basis.facts basis.reached lower basis.shape basis.outlook of' outlook b.filling b.lists a legal.arranged h known in
-    floor_holds basis.facts basis.reached lower (psd_over basis (s1_of basis b) (fixed basis.facts basis.reached (fixed_lists b)))
-    (awaited basis.facts basis.reached basis.shape basis.outlook (s1_of basis b)) (more_by b.filling basis (fixed_lists b))
-    (more_in true basis.facts basis.reached basis.shape (fixed basis.facts basis.reached (fixed_lists b))) (fixed_lists b) a
-    (begun_pairs b.filling b.lists a h)
-    (psd_holds basis lower b.filling b.lists a of' legal.arranged h known (is_flat basis.facts basis.reached) refl)
-    later.0 later.1
-    (more_holds basis lower b.filling b.lists a within m h)
-    (more_miss_strongly basis.facts basis.reached basis.shape (all_pairs basis.reached.seats (fixed_lists b)) [] a within m
-    (beside basis.reached.seats (fixed_lists b) a (begun_pairs b.filling b.lists a h)) (none_known (downfloaters basis.facts basis.reached a)))
-
-pub known_s1 : (basis : Basis) (b : Beginning) → is_known basis b ≡ true → (has_s1 b.filling || is_uniform basis.facts basis.reached basis.shape) ≡ true
-known_s1 basis b h = (and_parts (is_of_shape basis.reached basis.shape (fixed_lists b)) _ h).1
-
 -- what holds of the bracket that floors stand on holds of the one that they are for
 pub from_basis : (facts : Facts) (reached : Reached) (lower : List ℕ) (shape : Shape) (basis : Basis) → IsBasis facts reached lower shape basis
     → (P : Facts → Reached → Shape → Type 0) → P basis.facts basis.reached basis.shape → P facts reached shape
 from_basis facts reached lower shape basis is P holds =
     subst (λ fs. P fs reached shape) is.facts_are (subst (λ st. P basis.facts st shape) is.stand_is (subst (P basis.facts basis.reached) is.shape_is holds))
 
--- the same of a pass over the candidates of a bracket
-pub no_better : (facts : Facts) (reached : Reached) (lower : List ℕ) (shape : Shape) (basis : Basis) (b : Beginning) (floor : Quality) → IsBasis facts reached lower shape basis
-    → IsOf facts reached → is_known basis b ≡ true → floor ≡ floor_of basis b
-    → (a : Arrangement) → IsIn a (candidates_of facts reached shape) → Begins b a → is_better (quality_of facts reached lower a) floor ≡ false
-no_better facts reached lower shape basis b floor is of' known e a m h =
-    from_basis facts reached lower shape basis is
-    (λ fs st sh. IsOf fs st → IsOutlook fs st lower sh basis.outlook → IsIn a (candidates_of fs st sh) → is_better (quality_of fs st lower a) floor ≡ false)
-    (λ of'' outlook m'. ap (is_better (quality_of basis.facts basis.reached lower a)) e
-    ∙ floor_stands basis lower b a of'' m' h (known_s1 basis b known) outlook) of' is.outlook m
+module _ (basis : Basis) (lower : List ℕ) (a : Arrangement) (of' : IsOf basis.facts basis.reached) (m : IsIn a (candidates_of basis.facts basis.reached basis.shape)) where
+  abbrev facts : Facts
+  facts = basis.facts
+
+  abbrev reached : Reached
+  reached = basis.reached
+
+  abbrev shape : Shape
+  shape = basis.shape
+
+  abbrev it : Quality
+  it = quality_of facts reached lower a
+
+  arranged : IsIn a (arrangements (frame_of facts reached) shape)
+  arranged = (legal_of facts reached shape a m).arranged
+
+  pub within : basis.reached.mdps ≤ length basis.reached.seats
+  within = subst (λ n. reached.mdps ≤ n) (length-map reached.seats (score_at facts)) of'.sound.within
+
+  psd_by : (s1 : List ℕ) → IsFlat facts reached → s1 ≡ a.s1 → it.psd ≡ psd_with facts reached shape (residents_score facts reached) s1
+  psd_by s1 flat same = psd_by_first facts reached lower shape a of' flat arranged ∙ ap (psd_with facts reached shape (residents_score facts reached)) (sym same)
+
+  -- C.6, where all residents have one score
+  psd_at : (filling : Filling) (lists : Arrangement) → IsFlat facts reached → BeginsAt filling lists a → (has_s1 filling || is_uniform facts reached shape) ≡ true
+      → it.psd ≡ psd_with facts reached shape (residents_score facts reached) (s1_by filling shape (lists_by filling lists).s1)
+  psd_at S1 lists flat h known = psd_of_all facts reached lower shape a of' flat (uniform_of facts reached shape of' known) arranged
+  psd_at S2 lists flat h known = psd_by lists.s1 flat h.0
+  psd_at S2r lists flat h known = psd_by lists.s1 flat h.0
+
+  -- C.6: the PSD is not lower
+  pub psd_holds : (filling : Filling) (lists : Arrangement) → BeginsAt filling lists a → (has_s1 filling || is_uniform basis.facts basis.reached basis.shape) ≡ true
+      → (t : Bool) → is_flat basis.facts basis.reached ≡ t
+      → is_lower (quality_of basis.facts basis.reached lower a).psd (cond t
+      (psd_with basis.facts basis.reached basis.shape (residents_score basis.facts basis.reached) (s1_by filling basis.shape (lists_by filling lists).s1))
+      (psd basis.facts (fixed basis.facts basis.reached (lists_by filling lists)))) ≡ false
+  unfolding psd
+  psd_holds filling lists h known true flat =
+      let s1 = s1_by filling shape (lists_by filling lists).s1 in
+      ap (λ xs. is_lower xs (psd_with facts reached shape (residents_score facts reached) s1)) (psd_at filling lists (flat_residents facts reached of' flat) h known)
+      ∙ known_not_lower facts reached shape (residents_score facts reached) s1
+  psd_holds filling lists h known false uneven =
+      ap (λ xs. is_lower it.psd (highest_first xs)) (append-nil (map (difference facts) (all_pairs reached.seats (lists_by filling lists))))
+      ∙ psd_of_beginning facts reached lower (lists_by filling lists) a (begun_pairs filling lists a h)
+
+  -- C.10: so many more miss, by counts alone
+  missed_more : (b : Arrangement) → HasPairsOf b a
+      → count_in_pairs facts (misses Preference) (all_pairs reached.seats b) + more_in false facts reached shape (fixed facts reached b) ≤ it.missed_preferences
+  unfolding quality_of quality quality_with
+  missed_more b begins =
+      more_miss facts reached shape (all_pairs reached.seats b) [] a within arranged (beside reached.seats b a begins) (none_known (downfloaters facts reached a))
+
+  -- C.10: so many more miss
+  more_holds : (filling : Filling) (lists : Arrangement) → BeginsAt filling lists a
+      → count_in_pairs facts (misses Preference) (all_pairs reached.seats (lists_by filling lists)) + more_by filling basis (lists_by filling lists) ≤ it.missed_preferences
+  more_holds S1 lists h = missed_more (lists_by S1 lists) (begun_pairs S1 lists a h)
+  more_holds S2 lists h = missed_more (lists_by S2 lists) (begun_pairs S2 lists a h)
+  more_holds S2r lists h =
+      omega (
+        arith,
+        lonely_miss facts reached lower shape (lists_by S2r lists) a within m (record { s1 = h.0; s2 = h.1; s1r = h.2; s2r = h.3 }),
+        missed_more (lists_by S2r lists) (begun_pairs S2r lists a h),
+      )
+
+  -- C.6 to C.19: no candidate with a beginning is better than its floor
+  floor_stands : (b : Beginning) → Begins b a → (has_s1 b.filling || is_uniform facts reached shape) ≡ true → IsOutlook facts reached lower shape basis.outlook
+      → is_better it (floor_of basis b) ≡ false
+  unfolding quality_of quality quality_with floor_of floor_over psd_over
+  floor_stands b h known outlook =
+      let later = awaited_holds facts reached lower shape basis.outlook of' outlook b.filling b.lists a arranged h known in
+      let pairs = begun_pairs b.filling b.lists a h in
+      floor_holds facts reached lower (psd_over basis (s1_of basis b) (fixed facts reached (fixed_lists b)))
+      (awaited facts reached shape basis.outlook (s1_of basis b)) (more_by b.filling basis (fixed_lists b))
+      (more_in true facts reached shape (fixed facts reached (fixed_lists b))) (fixed_lists b) a pairs
+      (psd_holds b.filling b.lists h known (is_flat facts reached) refl) later.0 later.1 (more_holds b.filling b.lists h)
+      (more_miss_strongly facts reached shape (all_pairs reached.seats (fixed_lists b)) [] a within m
+      (beside reached.seats (fixed_lists b) a pairs) (none_known (downfloaters facts reached a)))
+
+pub known_s1 : (basis : Basis) (b : Beginning) → is_known basis b ≡ true → (has_s1 b.filling || is_uniform basis.facts basis.reached basis.shape) ≡ true
+known_s1 basis b h = (and_parts (is_of_shape basis.reached basis.shape (fixed_lists b)) _ h).1
+
+-- the same of the bracket that floors are for
+pub no_better : (context : Context) (shape : Shape) (basis : Basis) (b : Beginning) (floor : Quality) → IsBasis context.facts context.reached context.lower shape basis
+    → IsOf context.facts context.reached → is_known basis b ≡ true → floor ≡ floor_of basis b
+    → OfEachBegun context shape b (λ a. is_better (quality_here context a) floor ≡ false)
+no_better context shape basis b floor is of' known e a m h =
+    from_basis context.facts context.reached context.lower shape basis is
+    (λ fs st sh. IsOf fs st → IsOutlook fs st context.lower sh basis.outlook → IsIn a (candidates_of fs st sh) → is_better (quality_of fs st context.lower a) floor ≡ false)
+    (λ of'' outlook m'. ap (is_better (quality_of basis.facts basis.reached context.lower a)) e
+    ∙ floor_stands basis context.lower a of'' m' b h (known_s1 basis b known) outlook) of' is.outlook m

@@ -1,14 +1,14 @@
 -- The floor of a beginning of which something more is known, a pair or one who goes down: no candidate that begins so and has it beats this
 -- floor (C.04.3 C.6 to C.19), since it is made of pairs and downfloaters that each of them has.
-use Rattle.std.proofs.Common.{◌≡◌, ℕ, ◌+◌, ◌≤◌, Bool, true, false, ◌&&◌, ◌||◌, ◌==◌, cond, List, [], ◌∷◌, ◌++◌, length, inl, inr, refl, sym, ap, ◌∙◌, subst, arith}
+use Rattle.std.proofs.Common.{◌≡◌, ◌⊎◌, ℕ, ◌+◌, Bool, true, false, ◌&&◌, ◌||◌, ◌==◌, cond, List, [], ◌∷◌, ◌++◌, inl, inr, refl, sym, ap, ◌∙◌, subst, arith}
 use Rattle.std.specs.List.{list_any}
-use Rattle.std.proofs.lemmas.Bool.{and_from, or_left, or_right, true≢false, eq-eqb}
-use Rattle.std.proofs.lemmas.List.{length-map}
+use Rattle.std.proofs.lemmas.Bool.{true≢false}
+use Rattle.std.proofs.lemmas.Bool.Decides.{nat_tests}
 use Rattle.dutch_order.specs.declared.prefix.Filling.{Filling}
 use Rattle.dutch_order.specs.declared.bracket.Shape.{Shape}
-use Rattle.dutch_order.specs.Arrangements.{Arrangement}
+use Rattle.dutch_order.specs.Arrangements.{Arrangement, arrangements}
 use Rattle.dutch_order.specs.Keys.{IsIn}
-use Rattle.dutch_order.specs.Prefixes.{Begins, BeginsAt, Beginning}
+use Rattle.dutch_order.specs.Prefixes.{BeginsAt, Beginning}
 use Rattle.dutch_order.proofs.Orders.{IsIn-append, IsIn-back, IsIn-front}
 use Rattle.dutch_player.specs.Facts.{Facts}
 use Rattle.dutch_floors.specs.declared.known.Known.{Known}
@@ -22,16 +22,19 @@ use Rattle.dutch_bracket.specs.NextBracket.{is_lower, quality}
 use Rattle.dutch_floors.specs.Outlooks.{IsOutlook, awaited}
 use Rattle.dutch_bracket.specs.PsdFloors.{psd_with}
 use Rattle.dutch_bracket.specs.Quality.{Quality, is_better, psd, quality_with}
-use Rattle.dutch_bracket.specs.Reached.{IsOf, Reached}
+use Rattle.dutch_bracket.specs.Context.{Context}
+use Rattle.dutch_bracket.specs.InContext.{OfEachBegun, quality_here}
+use Rattle.dutch_bracket.specs.Reached.{IsOf, Reached, frame_of}
+use Rattle.dutch_choice.specs.Passes.{HoldsHere}
 use Rattle.dutch_bracket.specs.Brackets.{candidates_of, downfloaters, quality_of}
-use Rattle.dutch_bracket.specs.Seated.{all_pairs, score_at}
+use Rattle.dutch_bracket.specs.Seated.{all_pairs}
 use Rattle.dutch_bracket.specs.Floors.{floor_over}
 use Rattle.dutch_bracket.proofs.C06Psd.{psd_of_known}
 use Rattle.dutch_floors.proofs.C07Outlook.{awaited_holds}
 use Rattle.dutch_floors.proofs.C10Preferences.{more_miss}
 use Rattle.dutch_floors.proofs.C11StrongPreferences.{more_miss_strongly}
 use Rattle.dutch_bracket.proofs.FixedPairs.{Beside, beside, none_known}
-use Rattle.dutch_choice.proofs.FloorOfBeginning.{from_basis, known_s1, psd_holds}
+use Rattle.dutch_choice.proofs.FloorOfBeginning.{from_basis, known_s1, psd_holds, within}
 use Rattle.dutch_bracket.proofs.BegunLemmas.{begun_pairs}
 use Rattle.dutch_bracket.proofs.FloorOrder.{floor_stays}
 use Rattle.dutch_bracket.proofs.LegalPairs.{legal_of}
@@ -49,8 +52,12 @@ split x (y ∷ xs) (inl same) = record { front = []; behind = xs; parts = ap (λ
 split x (y ∷ xs) (inr m) =
     let later = split x xs m in record { front = y ∷ later.front; behind = later.behind; parts = ap (λ zs. y ∷ zs) later.parts }
 
+either_by : {X : Type 0} (x y : X) (front behind known : List X) → IsIn y known ⊎ IsIn y (front ++ x ∷ behind) → IsIn y (known ++ x ∷ []) ⊎ IsIn y (front ++ behind)
+either_by x y front behind known n =
+    grind (arith, IsIn-append y front (x ∷ behind), IsIn-front y front behind, IsIn-back y front behind, IsIn-front y known (x ∷ []), IsIn-back y known (x ∷ []))
+
 one_more : {X : Type 0} (x : X) (known all : List X) → (others : Beside known all) → IsIn x others.others → Beside (known ++ x ∷ []) all
-one_more {X} x known all others m =
+one_more x known all others m =
     let at' = split x others.others m in
     record {
       others = at'.front ++ at'.behind;
@@ -59,20 +66,8 @@ one_more {X} x known all others m =
           omega (arith, others.adds f sums, ap f at'.parts, sums at'.front (x ∷ at'.behind), first, sums known (x ∷ []), sums at'.front at'.behind);
       inside = λ y n.
           others.inside y (subst (IsIn y) (sym at'.parts)
-          (elim (IsIn-append y at'.front at'.behind n) [
-            | inl one ↦ IsIn-front y at'.front (x ∷ at'.behind) one
-            | inr two ↦ IsIn-back y at'.front (x ∷ at'.behind) (inr two)
-          ]));
-      either = λ y n. elim (others.either y n) [
-        | inl known' ↦ inl (IsIn-front y known (x ∷ []) known')
-        | inr other ↦ elim (IsIn-append y at'.front (x ∷ at'.behind) (subst (IsIn y) at'.parts other)) [
-          | inl one ↦ inr (IsIn-front y at'.front at'.behind one)
-          | inr rest ↦ elim rest [
-            | inl same ↦ inl (IsIn-back y known (x ∷ []) (inl same))
-            | inr two ↦ inr (IsIn-back y at'.front at'.behind two)
-          ]
-        ]
-      ];
+          (grind (arith, IsIn-append y at'.front at'.behind n, IsIn-front y at'.front (x ∷ at'.behind), IsIn-back y at'.front (x ∷ at'.behind))));
+      either = λ y n. either_by x y at'.front at'.behind known (subst (λ zs. IsIn y known ⊎ IsIn y zs) at'.parts (others.either y n));
     }
 
 known_more : {X : Type 0} (x : X) (known all : List X) → Beside known all → IsIn x all → (IsIn x known → ⊥) → Beside (known ++ x ∷ []) all
@@ -81,10 +76,7 @@ known_more x known all others m new =
 
 there : (pair : ℕ × ℕ) (pairs : List (ℕ × ℕ)) → IsIn pair pairs → list_any (λ other. (other.0 == pair.0) && (other.1 == pair.1)) pairs ≡ true
 there pair [] m = absurd m
-there pair (other ∷ pairs) (inl same) =
-    or_left ((other.0 == pair.0) && (other.1 == pair.1)) _
-    (subst (λ (x : ℕ × ℕ). ((x.0 == pair.0) && (x.1 == pair.1)) ≡ true) same (and_from (pair.0 == pair.0) (pair.1 == pair.1) (eq-eqb pair.0 pair.0 refl) (eq-eqb pair.1 pair.1 refl)))
-there pair (other ∷ pairs) (inr m) = or_right ((other.0 == pair.0) && (other.1 == pair.1)) _ (there pair pairs m)
+there pair (other ∷ pairs) m = grind (arith, nat_tests, there pair pairs)
 
 pair_at : (pair : ℕ × ℕ) (known all : List (ℕ × ℕ)) (t : Bool) → list_any (λ other. (other.0 == pair.0) && (other.1 == pair.1)) known ≡ t → Beside known all
     → IsIn pair all → Beside (cond t known (known ++ pair ∷ [])) all
@@ -100,49 +92,55 @@ module _ (basis : Basis) (lower : List ℕ) (filling : Filling) (lists a : Arran
     (m : IsIn a (candidates_of basis.facts basis.reached basis.shape)) (begins : BeginsAt filling lists a)
     (chosen : (has_s1 filling || is_uniform basis.facts basis.reached basis.shape) ≡ true)
     (outlook : IsOutlook basis.facts basis.reached lower basis.shape basis.outlook) where
+  abbrev facts : Facts
+  facts = basis.facts
+
+  abbrev reached : Reached
+  reached = basis.reached
+
   abbrev begun : List (ℕ × ℕ)
-  begun = all_pairs basis.reached.seats (lists_by filling lists)
+  begun = all_pairs reached.seats (lists_by filling lists)
 
   abbrev s1 : List ℕ
   s1 = s1_by filling basis.shape (lists_by filling lists).s1
 
-  module _ (known : List (ℕ × ℕ)) (gone : List ℕ) (others : Beside known (all_pairs basis.reached.seats a)) (left : Beside gone (downfloaters basis.facts basis.reached a)) where
-    psd_stays : (t : Bool) → is_flat basis.facts basis.reached ≡ t
-        → is_lower (quality_of basis.facts basis.reached lower a).psd (cond t
-        (psd_with basis.facts basis.reached basis.shape (residents_score basis.facts basis.reached) s1)
-        (psd basis.facts (seated_so basis.facts basis.reached known gone))) ≡ false
-    psd_stays true flat = psd_holds basis lower filling lists a of' (legal_of basis.facts basis.reached basis.shape a m).arranged begins chosen true flat
-    psd_stays false uneven = psd_of_known basis.facts basis.reached lower known gone a others left
+  arranged : IsIn a (arrangements (frame_of facts reached) basis.shape)
+  arranged = (legal_of facts reached basis.shape a m).arranged
 
-    stays : is_better (quality_of basis.facts basis.reached lower a) (floor_by_seats basis s1 (seated_so basis.facts basis.reached known gone)) ≡ false
+  begun_beside : Beside begun (all_pairs reached.seats a)
+  begun_beside = beside reached.seats (lists_by filling lists) a (begun_pairs filling lists a begins)
+
+  module _ (known : List (ℕ × ℕ)) (gone : List ℕ) (others : Beside known (all_pairs reached.seats a)) (left : Beside gone (downfloaters facts reached a)) where
+    psd_stays : (t : Bool) → is_flat facts reached ≡ t
+        → is_lower (quality_of facts reached lower a).psd (cond t (psd_with facts reached basis.shape (residents_score facts reached) s1) (psd facts (seated_so facts reached known gone))) ≡ false
+    psd_stays true flat = psd_holds basis lower a of' m filling lists begins chosen true flat
+    psd_stays false uneven = psd_of_known facts reached lower known gone a others left
+
+    stays : is_better (quality_of facts reached lower a) (floor_by_seats basis s1 (seated_so facts reached known gone)) ≡ false
     unfolding quality_of quality quality_with floor_by_seats floor_over psd_over
     stays =
-        let legal = legal_of basis.facts basis.reached basis.shape a m in
-        let within : basis.reached.mdps ≤ length basis.reached.seats = subst (λ n. basis.reached.mdps ≤ n) (length-map basis.reached.seats (score_at basis.facts)) of'.sound.within in
-        let later = awaited_holds basis.facts basis.reached lower basis.shape basis.outlook of' outlook filling lists a legal.arranged begins chosen in
-        floor_stays basis.facts basis.reached lower (psd_over basis s1 (seated_so basis.facts basis.reached known gone))
-        (awaited basis.facts basis.reached basis.shape basis.outlook s1) (more_in false basis.facts basis.reached basis.shape (seated_so basis.facts basis.reached known gone))
-        (more_in true basis.facts basis.reached basis.shape (seated_so basis.facts basis.reached known gone)) known gone a others left (psd_stays (is_flat basis.facts basis.reached) refl) later.0 later.1
-        (more_miss basis.facts basis.reached basis.shape known gone a within legal.arranged others left)
-        (more_miss_strongly basis.facts basis.reached basis.shape known gone a within m others left)
+        let later = awaited_holds facts reached lower basis.shape basis.outlook of' outlook filling lists a arranged begins chosen in
+        let small = within basis lower a of' m in
+        floor_stays facts reached lower (psd_over basis s1 (seated_so facts reached known gone))
+        (awaited facts reached basis.shape basis.outlook s1) (more_in false facts reached basis.shape (seated_so facts reached known gone))
+        (more_in true facts reached basis.shape (seated_so facts reached known gone)) known gone a others left (psd_stays (is_flat facts reached) refl) later.0 later.1
+        (more_miss facts reached basis.shape known gone a small arranged others left)
+        (more_miss_strongly facts reached basis.shape known gone a small m others left)
 
-  stays_knowing : (known : Known) → Holds basis.facts basis.reached known a
-      → is_better (quality_of basis.facts basis.reached lower a) (floor_by_seats basis s1 (known_by basis.facts basis.reached known begun)) ≡ false
+  stays_knowing : (known : Known) → Holds facts reached known a → is_better (quality_of facts reached lower a) (floor_by_seats basis s1 (known_by facts reached known begun)) ≡ false
   stays_knowing (Meet p q) holds =
-      stays (with_pair (p, q) begun) []
-      (pair_beside (p, q) begun (all_pairs basis.reached.seats a) (beside basis.reached.seats (lists_by filling lists) a (begun_pairs filling lists a begins)) holds)
-      (none_known (downfloaters basis.facts basis.reached a))
+      stays (with_pair (p, q) begun) [] (pair_beside (p, q) begun (all_pairs reached.seats a) begun_beside holds) (none_known (downfloaters facts reached a))
   stays_knowing (Down p) holds =
-      stays begun (p ∷ []) (beside basis.reached.seats (lists_by filling lists) a (begun_pairs filling lists a begins))
-      (known_more p [] (downfloaters basis.facts basis.reached a) (none_known (downfloaters basis.facts basis.reached a)) holds (λ none. none))
+      stays begun (p ∷ []) begun_beside (known_more p [] (downfloaters facts reached a) (none_known (downfloaters facts reached a)) holds (λ none. none))
 
--- the same of a pass over the candidates of a bracket
-pub none_better : (facts : Facts) (reached : Reached) (lower : List ℕ) (shape : Shape) (basis : Basis) (known : Known) (b : Beginning) (floor : Quality)
-    → IsBasis facts reached lower shape basis → IsOf facts reached → is_known basis b ≡ true → floor ≡ floor_knowing basis known b
-    → (a : Arrangement) → IsIn a (candidates_of facts reached shape) → Begins b a → Holds facts reached known a → is_better (quality_of facts reached lower a) floor ≡ false
+-- the same of the bracket that floors are for
+pub none_better : (context : Context) (shape : Shape) (basis : Basis) (known : Known) (b : Beginning) (floor : Quality)
+    → IsBasis context.facts context.reached context.lower shape basis → IsOf context.facts context.reached → is_known basis b ≡ true → floor ≡ floor_knowing basis known b
+    → OfEachBegun context shape b (λ a. HoldsHere context known a → is_better (quality_here context a) floor ≡ false)
 unfolding floor_knowing floor_by_seats
-none_better facts reached lower shape basis known b floor is of' there' e a m h holds =
-    from_basis facts reached lower shape basis is
-    (λ fs st sh. IsOf fs st → IsOutlook fs st lower sh basis.outlook → IsIn a (candidates_of fs st sh) → Holds fs st known a → is_better (quality_of fs st lower a) floor ≡ false)
-    (λ of'' outlook m' holds'. ap (is_better (quality_of basis.facts basis.reached lower a)) e
-    ∙ stays_knowing basis lower b.filling b.lists a of'' m' h (known_s1 basis b there') outlook known holds') of' is.outlook m holds
+none_better context shape basis known b floor is of' there' e a m h holds =
+    from_basis context.facts context.reached context.lower shape basis is
+    (λ fs st sh. IsOf fs st → IsOutlook fs st context.lower sh basis.outlook → IsIn a (candidates_of fs st sh) → Holds fs st known a
+    → is_better (quality_of fs st context.lower a) floor ≡ false)
+    (λ of'' outlook m' holds'. ap (is_better (quality_of basis.facts basis.reached context.lower a)) e
+    ∙ stays_knowing basis context.lower b.filling b.lists a of'' m' h (known_s1 basis b there') outlook known holds') of' is.outlook m holds

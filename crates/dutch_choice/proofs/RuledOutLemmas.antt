@@ -1,8 +1,8 @@
 -- A beginning that rules a wish out has no arrangement that grants it (C.04.3 B.2, B.3).
-use Rattle.std.proofs.Common.{◌≡◌, ℕ, ◌<◌, ◌≤◌, ◌⊎◌, Bool, true, false, not, ◌&&◌, ◌==◌, List, [], ◌∷◌, ◌++◌, length, inl, inr, refl, sym, ap, ◌∙◌, subst, arith}
+use Rattle.std.proofs.Common.{◌≡◌, ℕ, ◌<◌, ◌≤◌, ◌⊎◌, Bool, true, false, not, ◌&&◌, ◌||◌, List, [], ◌∷◌, ◌++◌, length, inl, inr, refl, sym, ap, ◌∙◌, subst, arith}
 use Rattle.std.specs.Prelude.{nat_le}
 use Rattle.std.specs.List.{list_any}
-use Rattle.std.proofs.lemmas.Bool.{leb-true, or_cases, or_left, or_right, and_parts, and_from, not-true, not_from_false, false_from_ne_true, true≢false, eqb-true}
+use Rattle.std.proofs.lemmas.Bool.{leb-true, or_cases, and_parts, not-true, false_from_ne_true, true≢false}
 use Rattle.std.proofs.lemmas.Bool.Decides.{nat_tests}
 use Rattle.dutch_order.specs.declared.bracket.Shape.{Shape}
 use Rattle.dutch_order.specs.declared.prefix.Filling.{Filling}
@@ -21,7 +21,7 @@ use Rattle.dutch_choice.specs.declared.wish.Wish.TheVariants.{Pair, Over}
 use Rattle.dutch_bracket.specs.Beginnings.{fixed_lists, lists_by}
 use Rattle.dutch_choice.specs.RuledOut.{has_player, parts, has_one_of, s1_bars, s1r_bars, halves_bar, rules_out}
 use Rattle.dutch_choice.specs.Wishes.{are_these, grants}
-use Rattle.dutch_choice.proofs.BestGranting.{found_in}
+use Rattle.dutch_choice.proofs.BestGranting.{Are, are_so, found_in}
 use Rattle.dutch_order.proofs.Blocks.{goes-whole}
 
 -- ---- two players as numbers of a pair
@@ -29,63 +29,26 @@ use Rattle.dutch_order.proofs.Blocks.{goes-whole}
 abbrev Holds : ℕ → ℕ × ℕ → Type 0
 Holds z pair = (z ≡ pair.0) ⊎ (z ≡ pair.1)
 
--- a pair that is of two players, in one order or the other
-abbrev Are : ℕ → ℕ → ℕ × ℕ → Type 0
-Are p q pair = ((pair.0 ≡ p) × (pair.1 ≡ q)) ⊎ ((pair.0 ≡ q) × (pair.1 ≡ p))
-
-are_so : (p q : ℕ) (pair : ℕ × ℕ) → are_these p q pair ≡ true → Are p q pair
-are_so p q pair h =
-    elim (or_cases ((pair.0 == p) && (pair.1 == q)) _ h) [
-      | inl one ↦ let both = and_parts (pair.0 == p) _ one in inl (eqb-true pair.0 p both.0, eqb-true pair.1 q both.1)
-      | inr other ↦ let both = and_parts (pair.0 == q) _ other in inr (eqb-true pair.0 q both.0, eqb-true pair.1 p both.1)
-    ]
-
 holds_so : (p : ℕ) (pair : ℕ × ℕ) → has_player p pair ≡ true → Holds p pair
-holds_so p pair h =
-    elim (or_cases (pair.0 == p) _ h) [
-      | inl one ↦ inl (sym (eqb-true pair.0 p one))
-      | inr other ↦ inr (sym (eqb-true pair.1 p other))
-    ]
-
--- both are in it
-has_first : (p q : ℕ) (pair : ℕ × ℕ) → Are p q pair → Holds p pair
-has_first p q pair (inl h) = inl (sym h.0)
-has_first p q pair (inr h) = inr (sym h.1)
-
-has_second : (p q : ℕ) (pair : ℕ × ℕ) → Are p q pair → Holds q pair
-has_second p q pair (inl h) = inr (sym h.1)
-has_second p q pair (inr h) = inl (sym h.0)
+holds_so p pair h = grind (arith, nat_tests)
 
 -- ---- no player is in two pairs
 
 player_in : (z : ℕ) (pair : ℕ × ℕ) (pairs : List (ℕ × ℕ)) → IsIn pair pairs → Holds z pair → IsIn z (players_in pairs)
 player_in z pair [] m h = absurd m
-player_in z pair (x ∷ pairs) (inl same) (inl h) = inl (h ∙ ap (λ (x : ℕ × ℕ). x.0) same)
-player_in z pair (x ∷ pairs) (inl same) (inr h) = inr (inl (h ∙ ap (λ (x : ℕ × ℕ). x.1) same))
-player_in z pair (x ∷ pairs) (inr m) h = inr (inr (player_in z pair pairs m h))
-
-not_later : (z : ℕ) (x pair : ℕ × ℕ) (pairs : List (ℕ × ℕ)) → NoneTwice (players_in (x ∷ pairs)) → Holds z x → IsIn pair pairs → Holds z pair → ⊥
-not_later z x pair pairs once (inl h) m g =
-    once.0 (inr (subst (λ w. IsIn w (players_in pairs)) h (player_in z pair pairs m g)))
-not_later z x pair pairs once (inr h) m g = once.1.0 (subst (λ w. IsIn w (players_in pairs)) h (player_in z pair pairs m g))
+player_in z pair (x ∷ pairs) m h = grind (arith, player_in z pair pairs)
 
 same_pair : (z : ℕ) (one other : ℕ × ℕ) (pairs : List (ℕ × ℕ)) → NoneTwice (players_in pairs) → IsIn one pairs → IsIn other pairs
     → Holds z one → Holds z other → one ≡ other
 same_pair z one other [] once m n h g = absurd m
-same_pair z one other (x ∷ pairs) once (inl same) (inl also) h g = same ∙ sym also
-same_pair z one other (x ∷ pairs) once (inl same) (inr n) h g =
-    absurd (not_later z x other pairs once (subst (Holds z) same h) n g)
-same_pair z one other (x ∷ pairs) once (inr m) (inl also) h g =
-    absurd (not_later z x one pairs once (subst (Holds z) also g) m h)
-same_pair z one other (x ∷ pairs) once (inr m) (inr n) h g = same_pair z one other pairs once.1.1 m n h g
+same_pair z one other (x ∷ pairs) once m n h g = grind (arith, same_pair z one other pairs once.1.1, player_in z one pairs, player_in z other pairs)
 
 -- ---- the pairs of a beginning are pairs of each arrangement that begins so
 
 place_on : (pair : ℕ × ℕ) (xs ys rest : List ℕ) → IsIn pair (by_place xs ys) → IsIn pair (by_place xs (ys ++ rest))
 place_on pair [] ys rest m = absurd m
 place_on pair (x ∷ xs) [] rest m = absurd m
-place_on pair (x ∷ xs) (y ∷ ys) rest (inl same) = inl same
-place_on pair (x ∷ xs) (y ∷ ys) rest (inr m) = inr (place_on pair xs ys rest m)
+place_on pair (x ∷ xs) (y ∷ ys) rest m = grind (arith, place_on pair xs ys rest)
 
 goes_on : (pair : ℕ × ℕ) (xs ys xs' ys' : List ℕ) → xs ≡ xs' → GoesOn ys ys' → IsIn pair (by_place xs ys) → IsIn pair (by_place xs' ys')
 goes_on pair xs ys xs' ys' same on m =
@@ -130,8 +93,11 @@ players_stay S2r lists a z h m =
 place_of : (pair : ℕ × ℕ) (xs ys : List ℕ) → IsIn pair (by_place xs ys) → IsIn pair.0 xs × IsIn pair.1 ys
 place_of pair [] ys m = absurd m
 place_of pair (x ∷ xs) [] m = absurd m
-place_of pair (x ∷ xs) (y ∷ ys) (inl same) = (inl (ap (λ (p : ℕ × ℕ). p.0) same), inl (ap (λ (p : ℕ × ℕ). p.1) same))
-place_of pair (x ∷ xs) (y ∷ ys) (inr m) = let later = place_of pair xs ys m in (inr later.0, inr later.1)
+place_of pair (x ∷ xs) (y ∷ ys) m = grind (arith, place_of pair xs ys)
+
+-- of two players who are a pair one alone is in a list that has the first of the pair and not the second
+one_in : (p q : ℕ) (pair : ℕ × ℕ) (in' : ℕ → Bool) → Are p q pair → in' pair.0 ≡ true → in' pair.1 ≡ false → ((in' p && not (in' q)) || (in' q && not (in' p))) ≡ true
+one_in p q pair in' are first second = grind arith
 
 module _ (frame : Frame) (shape : Shape) (a : Arrangement) (within : frame.mdps ≤ length frame.scores) (lists : AreLists frame shape a) where
   s1_low : (z : ℕ) → IsIn z a.s1 → z ≤ frame.mdps
@@ -177,18 +143,9 @@ module _ (frame : Frame) (shape : Shape) (a : Arrangement) (within : frame.mdps 
         | inr second ↦ let place = place_of pair a.s1r a.s2r second in (place.0, (s2r_off pair.1 place.1).1)
       ]
 
-  off : (z : ℕ) (numbers : List ℕ) → (IsIn z numbers → ⊥) → not (is_member z numbers) ≡ true
-  off z numbers none = not_from_false (is_member z numbers) (false_from_ne_true (is_member z numbers) (λ t. none (member-in z numbers t)))
-
   one_of : (p q : ℕ) (pair : ℕ × ℕ) (numbers : List ℕ) → Are p q pair → IsIn pair.0 numbers → (IsIn pair.1 numbers → ⊥) → has_one_of p q numbers ≡ true
-  one_of p q pair numbers (inl h) m none =
-      or_left (is_member p numbers && not (is_member q numbers)) (is_member q numbers && not (is_member p numbers))
-      (and_from (is_member p numbers) (not (is_member q numbers)) (in-member p numbers (subst (λ z. IsIn z numbers) h.0 m))
-      (off q numbers (λ n. none (subst (λ z. IsIn z numbers) (sym h.1) n))))
-  one_of p q pair numbers (inr h) m none =
-      or_right (is_member p numbers && not (is_member q numbers)) (is_member q numbers && not (is_member p numbers))
-      (and_from (is_member q numbers) (not (is_member p numbers)) (in-member q numbers (subst (λ z. IsIn z numbers) h.0 m))
-      (off p numbers (λ n. none (subst (λ z. IsIn z numbers) (sym h.1) n))))
+  one_of p q pair numbers are m none =
+      one_in p q pair (λ z. is_member z numbers) are (in-member pair.0 numbers m) (false_from_ne_true (is_member pair.1 numbers) (λ t. none (member-in pair.1 numbers t)))
 
   module _ (p q : ℕ) (pair : ℕ × ℕ) (m : IsIn pair (pairs_by_number a)) (are : Are p q pair) where
     high : frame.mdps < pair.1
@@ -198,12 +155,13 @@ module _ (frame : Frame) (shape : Shape) (a : Arrangement) (within : frame.mdps 
     parted numbers begun same n none bars =
         true≢false (sym (one_of p q pair numbers are n none) ∙ ap (has_one_of p q) (sym same) ∙ not-true (has_one_of p q begun) bars)
 
+    s1_parted : (begun : List ℕ) → begun ≡ a.s1 → pair.0 ≤ frame.mdps → not (has_one_of p q begun) ≡ true → ⊥
+    s1_parted begun same low = parted a.s1 begun same (first_low pair m low) (λ n. let also = s1_low pair.1 n in omega (arith, also, high))
+
     s1_apart : (filling : Filling) (begun : Arrangement) → BeginsAt filling begun a → pair.0 ≤ frame.mdps → s1_bars filling p q begun ≡ true → ⊥
     s1_apart S1 begun h low bars = true≢false (sym bars)
-    s1_apart S2 begun h low bars =
-        parted a.s1 begun.s1 h.0 (first_low pair m low) (λ n. let also : pair.1 ≤ frame.mdps = s1_low pair.1 n in let above : frame.mdps < pair.1 = high in omega (arith, also, above)) bars
-    s1_apart S2r begun h low bars =
-        parted a.s1 begun.s1 h.0 (first_low pair m low) (λ n. let also : pair.1 ≤ frame.mdps = s1_low pair.1 n in let above : frame.mdps < pair.1 = high in omega (arith, also, above)) bars
+    s1_apart S2 begun h low bars = s1_parted begun.s1 h.0 low bars
+    s1_apart S2r begun h low bars = s1_parted begun.s1 h.0 low bars
 
     s1r_apart : (filling : Filling) (begun : Arrangement) → BeginsAt filling begun a → frame.mdps < pair.0 → s1r_bars filling p q begun ≡ true → ⊥
     s1r_apart S1 begun h above bars = true≢false (sym bars)
@@ -211,19 +169,14 @@ module _ (frame : Frame) (shape : Shape) (a : Arrangement) (within : frame.mdps 
     s1r_apart S2r begun h above bars =
         let first = first_high pair m above in parted a.s1r begun.s1r h.2 first.0 first.1 bars
 
-    low_first : Are p q pair → (p ≤ frame.mdps) ⊎ (q ≤ frame.mdps) → pair.0 ≤ frame.mdps
-    low_first (inl h) (inl low) = omega (arith, h.0, low)
-    low_first (inl h) (inr low) = let above : frame.mdps < pair.1 = high in omega (arith, h.1, low, above)
-    low_first (inr h) (inl low) = let above : frame.mdps < pair.1 = high in omega (arith, h.1, low, above)
-    low_first (inr h) (inr low) = omega (arith, h.0, low)
+    low_first : (p ≤ frame.mdps) ⊎ (q ≤ frame.mdps) → pair.0 ≤ frame.mdps
+    low_first low = let above : frame.mdps < pair.1 = high in grind arith
 
-    high_first : Are p q pair → frame.mdps < p → frame.mdps < q → frame.mdps < pair.0
-    high_first (inl h) one other = omega (arith, h.0, one)
-    high_first (inr h) one other = omega (arith, h.0, other)
+    high_first : frame.mdps < p → frame.mdps < q → frame.mdps < pair.0
+    high_first one other = grind arith
 
-    one_is_high : Are p q pair → p ≤ frame.mdps → q ≤ frame.mdps → ⊥
-    one_is_high (inl h) one other = let above : frame.mdps < pair.1 = high in omega (arith, h.1, other, above)
-    one_is_high (inr h) one other = let above : frame.mdps < pair.1 = high in omega (arith, h.1, one, above)
+    one_is_high : p ≤ frame.mdps → q ≤ frame.mdps → ⊥
+    one_is_high one other = let above : frame.mdps < pair.1 = high in grind arith
 
     below : (z : ℕ) → nat_le z frame.mdps ≡ true → z ≤ frame.mdps
     below z h = leb-true z frame.mdps h
@@ -234,19 +187,21 @@ module _ (frame : Frame) (shape : Shape) (a : Arrangement) (within : frame.mdps 
     -- they meet, so the first halves do not keep them apart
     halves_apart : (t u : Bool) → nat_le p frame.mdps ≡ t → nat_le q frame.mdps ≡ u → (filling : Filling) (begun : Arrangement) → BeginsAt filling begun a
         → halves_bar t u filling p q begun ≡ true → ⊥
-    halves_apart true true h g filling begun begins bars = one_is_high are (below p h) (below q g)
-    halves_apart true false h g filling begun begins bars = s1_apart filling begun begins (low_first are (inl (below p h))) bars
-    halves_apart false true h g filling begun begins bars = s1_apart filling begun begins (low_first are (inr (below q g))) bars
-    halves_apart false false h g filling begun begins bars = s1r_apart filling begun begins (high_first are (beyond p h) (beyond q g)) bars
+    halves_apart true true h g filling begun begins bars = one_is_high (below p h) (below q g)
+    halves_apart true false h g filling begun begins bars = s1_apart filling begun begins (low_first (inl (below p h))) bars
+    halves_apart false true h g filling begun begins bars = s1_apart filling begun begins (low_first (inr (below q g))) bars
+    halves_apart false false h g filling begun begins bars = s1r_apart filling begun begins (high_first (beyond p h) (beyond q g)) bars
 
     -- and neither of them has another opponent
     others_apart : NoneTwice (players_in (pairs_by_number a)) → (other : ℕ × ℕ) → IsIn other (pairs_by_number a) → parts p q other ≡ true
         → are_these p q pair ≡ true → ⊥
     others_apart once other n apart these =
         let both = and_parts (not (are_these p q other)) _ apart in
+        let first : Holds p pair = grind arith in
+        let second : Holds q pair = grind arith in
         let same : pair ≡ other = elim (or_cases (has_player p other) _ both.1) [
-          | inl one ↦ same_pair p pair other (pairs_by_number a) once m n (has_first p q pair are) (holds_so p other one)
-          | inr two ↦ same_pair q pair other (pairs_by_number a) once m n (has_second p q pair are) (holds_so q other two)
+          | inl one ↦ same_pair p pair other (pairs_by_number a) once m n first (holds_so p other one)
+          | inr two ↦ same_pair q pair other (pairs_by_number a) once m n second (holds_so q other two)
         ] in
         true≢false (sym these ∙ ap (are_these p q) same ∙ not-true (are_these p q other) both.0)
 

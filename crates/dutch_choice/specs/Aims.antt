@@ -1,20 +1,18 @@
 -- The best that one pass over the candidates of a shape finds, of all or of those that grant a wish, where an aim leaves out those that it
 -- is better than (C.04.3 B.8).
-use Rattle.std.specs.Prelude.{ℕ, Bool, false, not, ◌&&◌, ◌||◌, List, filter, Option, Some, None, option_map}
+use Rattle.std.specs.Prelude.{Bool, false, not, ◌&&◌, ◌||◌, List, filter, Option, Some, None, option_map}
 use Rattle.dutch_order.specs.declared.bracket.Shape.{Shape}
 use Rattle.dutch_order.specs.Arrangements.{Arrangement}
-use Rattle.dutch_player.specs.Facts.{Facts}
-use Rattle.dutch_choice.specs.declared.choice.Best.{Best}
+use Rattle.dutch_choice.specs.declared.pass.Best.{Best}
 use Rattle.dutch_bracket.specs.declared.quality.Quality.{Quality as Fields}
 use Rattle.dutch_choice.specs.declared.wish.Wish.{Wish}
+use Rattle.dutch_bracket.specs.Context.{Context}
+use Rattle.dutch_bracket.specs.InContext.{can_be_chosen_here, candidates_here, eligible_here, quality_here}
 use Rattle.dutch_bracket.specs.Quality.{Quality, is_better}
 use Rattle.dutch_bracket.specs.QualityIn.{quality_in}
-use Rattle.dutch_bracket.specs.Reached.{Reached}
-use Rattle.dutch_bracket.specs.Brackets.{quality_of, is_better_in, candidates_of, eligible}
 use Rattle.dutch_bracket.specs.Choice.{best, best_with}
-use Rattle.dutch_bracket.specs.Eligible.{can_be_chosen}
 use Rattle.dutch_choice.specs.Kept.{kept_lists, wins}
-use Rattle.dutch_choice.specs.Wishes.{is_wished}
+use Rattle.dutch_choice.specs.Wishes.{is_better_here, is_wished}
 
 -- the aim of a pass, if it has one
 abbrev pub aim_in : Option Fields → Option Quality
@@ -30,30 +28,30 @@ abbrev pub is_idle : Option Quality → Option Best → Quality → Bool
 is_idle aim kept quality = beats aim quality || not (wins quality kept)
 
 -- an aim is not better than a candidate; without an aim all are near
-abbrev pub is_near : Facts → Reached → List ℕ → Option Quality → Arrangement → Bool
-is_near facts reached lower aim c = not (beats aim (quality_of facts reached lower c))
+abbrev pub is_near : Context → Option Quality → Arrangement → Bool
+is_near context aim c = not (beats aim (quality_here context c))
 
-module _ (facts : Facts) (reached : Reached) (lower : List ℕ) (wish : Option Wish) where
+module _ (context : Context) (wish : Option Wish) where
   -- a candidate that can be chosen and grants the wish
   abbrev pub is_open : Arrangement → Bool
-  is_open c = can_be_chosen facts reached lower c && is_wished wish c
+  is_open c = can_be_chosen_here context c && is_wished wish c
 
   -- a candidate is of no interest: it cannot be chosen, it does not grant the wish, or its quality is of none
   abbrev pub is_dull : Option Quality → Option Best → Arrangement → Bool
-  is_dull aim kept c = not (is_open c) || is_idle aim kept (quality_of facts reached lower c)
+  is_dull aim kept c = not (is_open c) || is_idle aim kept (quality_here context c)
 
   -- and that the aim is not better than
   abbrev pub is_sought : Option Quality → Arrangement → Bool
-  is_sought aim c = is_open c && is_near facts reached lower aim c
+  is_sought aim c = is_open c && is_near context aim c
 
   -- the best for a pass of the candidate that is kept and of those to come
   unfoldable pub best_yet : Option Quality → Option Best → List Arrangement → Option Arrangement
-  best_yet aim kept coming = best_with (is_better_in facts reached lower) (is_sought aim) (kept_lists kept) coming
+  best_yet aim kept coming = best_with (is_better_here context) (is_sought aim) (kept_lists kept) coming
 
   -- the best for a pass of a shape
   unfoldable pub best_near : Option Quality → Shape → Option Arrangement
-  best_near aim shape = best_yet aim None (candidates_of facts reached shape)
+  best_near aim shape = best_yet aim None (candidates_here context shape)
 
   -- B.8: of the candidates of a shape that can be chosen and grant the wish the first that none of them is better than
   unfoldable pub best_wished : Shape → Option Arrangement
-  best_wished shape = best (is_better_in facts reached lower) (filter (is_wished wish) (eligible facts reached lower shape))
+  best_wished shape = best (is_better_here context) (filter (is_wished wish) (eligible_here context shape))

@@ -5,4 +5,6 @@ pub mod Remembered
 pub mod Wishes
 pub mod RuledOut
 pub mod Passes
+pub mod Skips
 pub mod Chosen
+pub mod Costs

@@ -1,13 +1,24 @@
--- What a pass draws, and what it knows by weight (C.04.3 B.8). Only private functions' clauses cite these.
-use Rattle.std.specs.Prelude.{◌≡◌, ℕ, ◌+◌, ◌/◌, if◌then◌else◌, List, Option, Some, None, true}
+-- What a pass draws, what is of no interest to it, and what it ends with (C.04.3 B.8). Only private functions' clauses cite these.
+use Rattle.std.specs.Prelude.{◌≡◌, ℕ, ◌+◌, ◌/◌, if◌then◌else◌, List, ◌∷◌, Option, None, Bool, true}
 use Rattle.std.specs.Option.{ForSome, MatchOption}
-use Rattle.dutch_order.specs.Arrangements.{Arrangement}
+use Rattle.dutch_order.specs.Arrangements.{Arrangement, down}
+use Rattle.dutch_order.specs.Candidates.{Candidate}
+use Rattle.dutch_order.specs.Listings.{Listing}
 use Rattle.dutch_order.specs.Steps.{Passes}
-use Rattle.dutch_choice.specs.declared.choice.Best.{Best}
+use Rattle.dutch_bracket.specs.declared.greatest.Lister.{Lister}
+use Rattle.dutch_bracket.specs.declared.reached.ByNumber.{ByNumber}
+use Rattle.dutch_bracket.specs.Context.{Context}
+use Rattle.dutch_bracket.specs.Eligible.{Lists}
+use Rattle.dutch_bracket.specs.InContext.{can_be_chosen_here, quality_here}
+use Rattle.dutch_bracket.specs.NextBracket.{IsOfBracket}
+use Rattle.dutch_choice.specs.declared.pass.Best.{Best}
 use Rattle.dutch_choice.specs.declared.choice.TheConstants.{PAIRS_FOR_A_STEP}
-use Rattle.dutch_choice.specs.declared.skipper.Pass.{Pass}
-use Rattle.dutch_choice.specs.Aims.{aim_in, best_wished, is_dull}
-use Rattle.dutch_choice.specs.Kept.{IsKept}
+use Rattle.dutch_choice.specs.declared.pass.Pass.{Pass}
+use Rattle.dutch_choice.specs.declared.pass.Search.{Search}
+use Rattle.dutch_choice.specs.Aims.{aim_in, best_near, best_wished, best_yet, is_dull, is_idle}
+use Rattle.dutch_choice.specs.Kept.{IsBest}
+use Rattle.dutch_floors.specs.declared.known.Known.{Known}
+use Rattle.dutch_floors.specs.KnownBeside.{Holds}
 use Rattle.dutch_weights.specs.WeightFloors.{AreOf, Weighed}
 
 -- for how many steps each one of a pass counts: for one alone in the few steps that come first, and behind them once more for each so many
@@ -15,19 +26,71 @@ use Rattle.dutch_weights.specs.WeightFloors.{AreOf, Weighed}
 abbrev pub price : Pass → ℕ
 price pass = if pass.is_long then 1 + pass.shape.pairs / PAIRS_FOR_A_STEP else 1
 
--- floors by weight, if there are any, are those of the bracket and the shape of a pass
-abbrev pub HasWeights : Pass → Option Weighed → Type 0
-HasWeights pass weights = ForSome weights (AreOf pass.context.now.facts pass.context.now.reached pass.context.now.lower pass.shape)
+-- floors by weight are those of the bracket and the shape of a pass
+abbrev pub AreFor : Pass → Weighed → Type 0
+AreFor pass = AreOf pass.context.now.facts pass.context.now.reached pass.context.now.lower pass.shape
 
--- a list of candidates goes on as another one does, once some of its beginning is skipped, each of which is of no interest to a pass
-abbrev pub PassesDull : Pass → Option Best → List Arrangement → List Arrangement → Type 0
-PassesDull pass kept before after =
-    Passes (λ a. is_dull pass.context.now.facts pass.context.now.reached pass.context.now.lower pass.wish (aim_in pass.aim) kept a ≡ true) before after
+-- so are those that there are
+abbrev pub HasWeights : Pass → Option Weighed → Type 0
+HasWeights pass weights = ForSome weights (AreFor pass)
+
+-- a listing is of the bracket of a pass
+abbrev pub ListsFor : Pass → Listing ByNumber → Type 0
+ListsFor pass listing = Lists pass.context.now.facts pass.context.now.reached listing
+
+-- a candidate is one of a bracket
+abbrev pub IsHere : Context → Candidate → Type 0
+IsHere context candidate = IsOfBracket context.facts context.reached candidate
+
+-- it is so in a candidate of a bracket
+abbrev pub HoldsHere : Context → Known → Arrangement → Type 0
+HoldsHere context known a = Holds context.facts context.reached known a
+
+-- a search, beside what it keeps, finds no interest in a candidate's quality
+abbrev pub IsIdle : Search → Arrangement → Type 0
+IsIdle search a = is_idle (aim_in search.pass.now.aim) search.kept.now (quality_here search.pass.now.context.now a) ≡ true
+
+-- the same of a candidate that can be chosen
+abbrev pub IsIdleIfFit : Search → Arrangement → Type 0
+IsIdleIfFit search a = can_be_chosen_here search.pass.now.context.now a ≡ true → IsIdle search a
+
+-- it finds no interest in the candidate
+abbrev pub is_dull_to : Search → Arrangement → Bool
+is_dull_to search = is_dull search.pass.now.context.now search.pass.now.wish (aim_in search.pass.now.aim) search.kept.now
+
+-- a list of candidates goes on as another one does, once some of its beginning is skipped, each of which is of no interest to a search
+abbrev pub PassesDull : Search → List Arrangement → List Arrangement → Type 0
+PassesDull search before after = Passes (λ a. is_dull_to search a ≡ true) before after
+
+-- a lister draws the next candidate, once some are skipped that are of no interest
+abbrev pub Draws : Search → Lister ByNumber → Lister ByNumber → Type 0
+Draws search old new = PassesDull search old.listing.coming (new.drawn.lists ∷ new.listing.coming)
+    × (new.drawn.down ≡ down old.listing.frame new.drawn.lists)
+
+-- what a pass chooses of what it keeps and of the candidates to come
+abbrev pub best_of_pass : Pass → Option Best → List Arrangement → Option Arrangement
+best_of_pass pass kept coming = best_yet pass.context.now pass.wish (aim_in pass.aim) kept coming
+
+-- once a candidate was looked at, what is kept then makes the choice that was to come before
+abbrev pub IsChosenNext : Search → Option Best → Arrangement → Type 0
+IsChosenNext search kept candidate = (coming : List Arrangement)
+    → best_of_pass search.pass.now kept coming ≡ best_of_pass search.pass.now search.kept.now (candidate ∷ coming)
+
+-- what a pass chooses of all
+abbrev pub near_of : Pass → Option Arrangement
+near_of pass = best_near pass.context.now pass.wish (aim_in pass.aim) pass.shape
 
 -- what the passes end with, whatever is aimed at: of the candidates that grant what is wished, and that can be chosen, the first that none is
--- better than; nothing only if there is no such candidate
+-- better than
+abbrev pub wished_of : Pass → Option Arrangement
+wished_of pass = best_wished pass.context.now pass.wish pass.shape
+
+-- it is found; nothing is found only if there is no such candidate
 abbrev pub IsEnd : Pass → Option Best → Type 0
-IsEnd pass found = MatchOption found
-    (best_wished pass.context.now.facts pass.context.now.reached pass.context.now.lower pass.wish pass.shape ≡ None)
-    (λ b. (best_wished pass.context.now.facts pass.context.now.reached pass.context.now.lower pass.wish pass.shape ≡ Some b.candidate.lists)
-    × IsKept pass.context.now.facts pass.context.now.reached pass.context.now.lower (Some b))
+IsEnd pass found = MatchOption found (wished_of pass ≡ None) (IsBest pass.context.now (wished_of pass))
+
+-- a pass goes on in the same bracket, with the same shape and the same wish
+pub record SeeksTheSame (old new : Pass) : Type 0 where
+  pub context : new.context.now ≡ old.context.now
+  pub shape : new.shape ≡ old.shape
+  pub wish : new.wish ≡ old.wish

@@ -8,6 +8,7 @@ use Rattle.dutch_player.specs.Facts.{Facts}
 use Rattle.dutch_bracket.specs.declared.reached.BracketKind.TheVariants.{Ordinary}
 use Rattle.dutch_choice.specs.declared.remembered.Look.{Look}
 use Rattle.dutch_choice.specs.declared.remembered.Look.TheVariants.{Value, Undecided}
+use Rattle.dutch_bracket.specs.Context.{Context}
 use Rattle.dutch_bracket.specs.Seated.{seat_of}
 use Rattle.dutch_bracket.specs.Reached.{Reached, IsOf}
 use Rattle.dutch_bracket.specs.Quality.{NextValue}
@@ -59,22 +60,29 @@ IsLook value stopped Undecided = stopped
 abbrev pub IsUsed : List ℕ → Remembered → Remembered → Type 0
 IsUsed down old new = (new ≡ after_use down old) ⊎ ((is_kept down old.kept ≡ false) × (new ≡ after_refusal old))
 
+-- whether a value is kept for a list: a yes gives the value, and the list was used; after a no all is as it was
+pub record Recalls (yes : Bool) (value : NextValue) (down : List ℕ) (old new : Remembered) : Type 0 where
+  pub value_is : yes ≡ true → value ≡ value_below old.facts old.reached old.next down
+  pub used : yes ≡ true → new ≡ after_use down old
+  pub none : yes ≡ false → is_kept down old.kept ≡ false
+  pub unused : yes ≡ false → new ≡ old
+
 -- what is kept after an answer: with a value its list, which was used; where the limit was reached, all is as it was
 abbrev pub IsKeptAfter : List ℕ → Remembered → Remembered → Look → Type 0
 IsKeptAfter down old new (Value pairs psd) = IsUsed down old new
 IsKeptAfter down old new Undecided = new ≡ old
 
 -- a look-ahead of an ordinary bracket above lower seats: it looks to their first scoregroup
-pub record LooksFrom (facts : Facts) (reached : Reached) (lower : List ℕ) (look : Remembered) : Type 0 where
-  pub ordinary : reached.kind ≡ Ordinary
-  pub field : look.facts ≡ facts
-  pub bracket : look.reached ≡ reached
-  pub group : look.next ≡ first_group facts (scoregroups facts lower)
+pub record LooksFrom (context : Context) (look : Remembered) : Type 0 where
+  pub ordinary : context.reached.kind ≡ Ordinary
+  pub field : look.facts ≡ context.facts
+  pub bracket : look.reached ≡ context.reached
+  pub group : look.next ≡ first_group context.facts (scoregroups context.facts context.lower)
 
 -- there is a look-ahead in an ordinary bracket, and none in another one
-abbrev pub LooksBelow : Facts → Reached → List ℕ → Option Remembered → Type 0
-LooksBelow facts reached lower None = reached.kind ≡ Ordinary → ⊥
-LooksBelow facts reached lower (Some look) = LooksFrom facts reached lower look
+abbrev pub LooksBelow : Context → Option Remembered → Type 0
+LooksBelow context None = context.reached.kind ≡ Ordinary → ⊥
+LooksBelow context (Some look) = LooksFrom context look
 
 -- the lists for which values are kept
 abbrev pub lists_kept : List (ArrayVec ℕ × NextValue) → List (List ℕ)

@@ -10,8 +10,10 @@ use Rattle.dutch_order.specs.Keys.{IsIn}
 use Rattle.dutch_player.specs.Facts.{Facts}
 use Rattle.dutch_choice.specs.declared.wish.Wish.{Wish}
 use Rattle.dutch_choice.specs.declared.wish.Wish.TheVariants.{Pair, Over}
+use Rattle.dutch_bracket.specs.Context.{Context}
+use Rattle.dutch_bracket.specs.InContext.{eligible_here, quality_here}
 use Rattle.dutch_bracket.specs.Reached.{Reached, frame_of}
-use Rattle.dutch_bracket.specs.Brackets.{candidates_of, eligible, is_better_in, quality_of}
+use Rattle.dutch_bracket.specs.Brackets.{candidates_of, is_better_in}
 use Rattle.dutch_bracket.specs.Choice.{best}
 use Rattle.dutch_bracket.specs.Shapes.{fits}
 
@@ -30,12 +32,16 @@ is_wished None = λ lists. true
 is_wished (Some wish) = grants wish
 
 -- C.4: the candidates of a shape that can be chosen and grant a wish
-abbrev pub granting : Facts → Reached → List ℕ → Shape → Wish → List Arrangement
-granting facts reached lower shape wish = filter (grants wish) (eligible facts reached lower shape)
+abbrev pub granting : Context → Shape → Wish → List Arrangement
+granting context shape wish = filter (grants wish) (eligible_here context shape)
+
+-- B.8: a candidate is better than another one
+abbrev pub is_better_here : Context → Arrangement → Arrangement → Bool
+is_better_here context = is_better_in context.facts context.reached context.lower
 
 -- B.8: of these the first that none of them is better than
-unfoldable pub best_granting : Facts → Reached → List ℕ → Shape → Wish → Option Arrangement
-best_granting facts reached lower shape wish = best (is_better_in facts reached lower) (granting facts reached lower shape wish)
+unfoldable pub best_granting : Context → Shape → Wish → Option Arrangement
+best_granting context shape wish = best (is_better_here context) (granting context shape wish)
 
 -- ---- why there is none
 
@@ -74,6 +80,6 @@ pub record ComesBefore (c d : Arrangement) (all : List Arrangement) : Type 0 whe
   pub later : IsIn d behind
 
 -- B.8: a candidate is as good as another one, and is the same or stands before it
-abbrev pub IsAsGoodBefore : Facts → Reached → List ℕ → Shape → Arrangement → Arrangement → Type 0
-IsAsGoodBefore facts reached lower shape c d =
-    (quality_of facts reached lower c ≡ quality_of facts reached lower d) × ((c ≡ d) ⊎ ComesBefore c d (eligible facts reached lower shape))
+abbrev pub IsAsGoodBefore : Context → Shape → Arrangement → Arrangement → Type 0
+IsAsGoodBefore context shape c d =
+    (quality_here context c ≡ quality_here context d) × ((c ≡ d) ⊎ ComesBefore c d (eligible_here context shape))

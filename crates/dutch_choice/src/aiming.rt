@@ -4,7 +4,8 @@
 // made again without one.
 ghost use Rattle.dutch_bracket.specs.Seated.{HasSeats};
 
-use crate::skipper::{Pass, known_with};
+use crate::pass::Pass;
+use crate::skipper::known_with;
 use dutch_bracket::context::Context;
 use dutch_bracket::differences::put;
 use dutch_bracket::quality::{NextValue, Quality, Room, fill_seated};

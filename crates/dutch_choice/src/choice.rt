@@ -1,24 +1,23 @@
 // The choice in a bracket (C.04.3 B.8): its shape, and the first candidate of it that none is better than.
-ghost use Rattle.std.specs.Prelude.{◌≡◌, ◌+◌, ◌-◌, ◌*◌, ◌≤◌, ◌∷◌, [], true, false, Some, None, List, IfOk, IfSome, min};
+ghost use Rattle.std.specs.Prelude.{◌≡◌, ◌+◌, ◌-◌, ◌*◌, ◌≤◌, [], None, Some, IfOk, IfSome, min};
 ghost use Rattle.std.specs.Result.{MatchResult};
-ghost use Rattle.dutch_order.specs.Arrangements.{Arrangement, Fits, down};
 ghost use Rattle.dutch_order.specs.Steps.{MatchDrawn, MatchFound, MatchStep, Spends};
-ghost use Rattle.dutch_bracket.specs.Reached.{IsAbove, frame_of};
-ghost use Rattle.dutch_bracket.specs.NextBracket.{IsOfBracket};
-ghost use Rattle.dutch_bracket.specs.QualityIn.{quality_in};
-ghost use Rattle.dutch_bracket.specs.Brackets.{quality_of};
-ghost use Rattle.dutch_bracket.specs.Eligible.{HasCandidate, Lists};
-ghost use Rattle.dutch_choice.specs.Kept.{IsKept};
-ghost use Rattle.dutch_choice.specs.Aims.{aim_in, best_near, best_wished, best_yet, is_idle};
-ghost use Rattle.dutch_choice.specs.Chosen.{IsChoice};
+ghost use Rattle.dutch_bracket.specs.Reached.{IsAbove};
+ghost use Rattle.dutch_bracket.specs.Eligible.{HasCandidate};
+ghost use Rattle.dutch_bracket.specs.InContext.{FitsHere};
 ghost use Rattle.dutch_floors.specs.Outlooks.{IsOutlook};
+ghost use Rattle.dutch_choice.specs.Aims.{best_wished};
+ghost use Rattle.dutch_choice.specs.Chosen.{IsChoice};
+ghost use Rattle.dutch_choice.specs.Kept.{IsBest, IsKept};
+ghost use Rattle.dutch_choice.specs.Passes.{AreFor, Draws, HasWeights, IsChosenNext, IsEnd, IsHere, ListsFor};
+ghost use Rattle.dutch_choice.specs.Passes.{PassesDull, SeeksTheSame, near_of, price, wished_of};
 ghost use Rattle.dutch_choice.specs.Remembered.{LooksBelow};
-ghost use Rattle.dutch_choice.specs.Passes.{HasWeights, IsEnd, PassesDull, price};
-ghost use Rattle.dutch_weights.specs.WeightFloors.{AreOf};
 
 use crate::aiming::aim_for;
+use crate::bars::{Skipper, bars_of};
+use crate::pass::{Best, Pass, Search, is_idle};
 use crate::remembered::{Judge, judge_candidate, look_below};
-use crate::skipper::{Pass, Skipper, bars_of, known_with};
+use crate::skipper::known_with;
 use crate::wish::{Wish, is_wished};
 use dutch_bracket::context::Context;
 use dutch_bracket::eligible::{at_most, can_be_chosen};
@@ -60,92 +59,57 @@ pub enum Choice {
     Undecided,
 }
 
-/// The best candidate so far, with its quality.
-#[derive(Drop)]
-pub struct Best {
-    pub candidate: Candidate,
-    pub quality: Quality,
-}
-
-/// Whether a quality is of no interest: the aim is better, or it is not better than that of the candidate that is kept.
-pub(crate) fn is_idle(quality: &Quality, aim: &Option<Quality>, kept: &Option<Best>) -> bool
-    ensures { result ≡ is_idle (aim_in aim.now) kept.now (quality_in quality.now) }
-{
-    if let Some(aim) = aim {
-        if aim.is_better(quality) {
-            return true;
-        }
-    }
-    match kept {
-        Some(best) => !quality.is_better(&best.quality),
-        None => false,
-    }
-}
-
-/// Keeps a candidate in place of the one before it if it grants what is wished, is of interest and can be chosen.
-#[tactic(auto, using(crate::proofs::AimLemmas::unwished_passed, crate::proofs::AimLemmas::idle_passed, crate::proofs::BestLemmas::winner_kept, crate::proofs::BestLemmas::unfit_is_passed))]
+/// A candidate with its quality, to be kept in place of the one before it, if it grants what is wished, is of interest
+/// and can be chosen.
+#[tactic(auto, using(crate::proofs::AimLemmas::unwished_passed, crate::proofs::AimLemmas::idle_passed, crate::proofs::AimLemmas::winner_kept, crate::proofs::AimLemmas::unfit_passed))]
 fn consider(
-    pass: &Pass<'_>,
+    search: Search<'_, '_>,
     candidate: &Candidate,
-    kept: &mut Option<Best>,
     judge: &mut Judge<'_>,
     budget: &mut Budget,
-) -> Result<(), Stopped>
-    requires candidate { IsOfBracket pass.now.context.now.facts pass.now.context.now.reached candidate.now }
-    requires kept { IsKept pass.now.context.now.facts pass.now.context.now.reached pass.now.context.now.lower kept.old }
-    requires look { LooksBelow pass.now.context.now.facts pass.now.context.now.reached pass.now.context.now.lower
-        judge.old.look }
-    ensures answer { MatchResult result
-        (λ _. (coming : List Arrangement)
-        → best_yet pass.now.context.now.facts pass.now.context.now.reached pass.now.context.now.lower pass.now.wish
-        (aim_in pass.now.aim) kept.new coming
-        ≡ best_yet pass.now.context.now.facts pass.now.context.now.reached pass.now.context.now.lower pass.now.wish
-        (aim_in pass.now.aim) kept.old (candidate.now.lists ∷ coming))
-        (λ _. budget.new.used ≡ budget.new.limit) }
-    ensures kept { IsKept pass.now.context.now.facts pass.now.context.now.reached pass.now.context.now.lower kept.new }
-    ensures look { LooksBelow pass.now.context.now.facts pass.now.context.now.reached pass.now.context.now.lower
-        judge.new.look }
+) -> Result<Option<Best>, Stopped>
+    requires candidate { IsHere search.pass.now.context.now candidate.now }
+    requires kept { IsKept search.pass.now.context.now search.kept.now }
+    requires look { LooksBelow search.pass.now.context.now judge.old.look }
+    ensures answer { MatchFound result
+        (λ best. IsChosenNext search.entry (Some best) candidate.now.lists)
+        (IsChosenNext search.entry search.entry.kept.now candidate.now.lists)
+        (budget.new.used ≡ budget.new.limit) }
+    ensures kept { IfOk result (IsKept search.entry.pass.now.context.now) }
+    ensures look { LooksBelow search.entry.pass.now.context.now judge.new.look }
     ensures weights { judge.new.weights ≡ judge.old.weights }
     ensures spends { Spends budget.old budget.new }
 {
+    let pass = search.pass;
     if !is_wished(pass.wish, candidate) {
-        return Ok(());
+        return Ok(None);
     }
     judge_candidate(pass.context, candidate, judge, budget)?;
-    if is_idle(&judge.room.quality, &pass.aim, kept) {
-        return Ok(());
+    if is_idle(&judge.room.quality, &pass.aim, search.kept) {
+        return Ok(None);
     }
     if can_be_chosen(pass.context, candidate, &mut judge.left, budget)? {
         let quality = take(&mut judge.room.quality);
         let candidate = candidate.copied();
-        *kept = Some(Best { candidate, quality });
+        return Ok(Some(Best { candidate, quality }));
     }
-    Ok(())
-}
-
-/// What a pass seeks, beside the candidate that it keeps.
-#[derive(Clone, Copy)]
-struct Sought<'a, 'k> {
-    pass: &'a Pass<'a>,
-    kept: &'k Option<Best>,
+    Ok(None)
 }
 
 /// Draws the next candidate that may be of interest.
-fn draw_once<'a>(
-    sought: Sought<'a, '_>,
+fn draw_once(
+    search: Search<'_, '_>,
     lister: &mut Lister<'_, ByNumber<'_>>,
     judge: &mut Judge<'_>,
     budget: &mut Budget,
 ) -> Step<()>
-    requires lists { Lists sought.pass.now.context.now.facts sought.pass.now.context.now.reached lister.old.listing }
-    requires shape { lister.old.listing.shape ≡ sought.pass.now.shape }
-    requires weights { HasWeights sought.pass.now judge.old.weights }
+    requires lists { ListsFor search.pass.now lister.old.listing }
+    requires shape { lister.old.listing.shape ≡ search.pass.now.shape }
+    requires weights { HasWeights search.pass.now judge.old.weights }
     ensures answer { MatchStep result
-        (λ _. PassesDull sought.entry.pass.now sought.entry.kept.now lister.old.listing.coming
-        (lister.new.drawn.lists ∷ lister.new.listing.coming)
-        × (lister.new.drawn.down ≡ down lister.old.listing.frame lister.new.drawn.lists))
-        (PassesDull sought.entry.pass.now sought.entry.kept.now lister.old.listing.coming [])
-        (PassesDull sought.entry.pass.now sought.entry.kept.now lister.old.listing.coming lister.new.listing.coming
+        (λ _. Draws search.entry lister.old lister.new)
+        (PassesDull search.entry lister.old.listing.coming [])
+        (PassesDull search.entry lister.old.listing.coming lister.new.listing.coming
         × (budget.new.used ≡ budget.new.limit)) }
     ensures frame { lister.new.listing.frame ≡ lister.old.listing.frame }
     ensures shape { lister.new.listing.shape ≡ lister.old.listing.shape }
@@ -154,7 +118,7 @@ fn draw_once<'a>(
     ensures weights { judge.new.weights ≡ judge.old.weights }
     ensures spends { Spends budget.old budget.new }
 {
-    let skipper = Skipper::new(sought.pass, sought.kept, &judge.weights);
+    let skipper = Skipper::new(search, &judge.weights);
     let within = Within::new(&skipper, &mut judge.room);
     lister
         .listing
@@ -199,17 +163,17 @@ fn count(pass: &Pass<'_>, turn: &Budget, budget: &mut Budget)
 }
 
 /// Behind a turn, where steps are left: tells the walk more, if floors are kept.
-fn go_on(sought: Sought<'_, '_>, judge: &mut Judge<'_>, budget: &mut Budget) -> Result<(), Stopped>
+fn go_on(search: Search<'_, '_>, judge: &mut Judge<'_>, budget: &mut Budget) -> Result<(), Stopped>
     ensures stopped { MatchResult result (λ _. Unit {0}) (λ _. budget.new.used ≡ budget.new.limit) }
     ensures look { judge.new.look ≡ judge.old.look }
     ensures weights { judge.new.weights ≡ judge.old.weights }
     ensures spends { Spends budget.old budget.new }
 {
-    if budget.limit - budget.used < price(sought.pass) {
+    if budget.limit - budget.used < price(search.pass) {
         budget.used = budget.limit;
         return Err(Stopped);
     }
-    let bars = bars_of(sought.pass, sought.kept, &judge.weights);
+    let bars = bars_of(search, &judge.weights);
     match &mut judge.weights {
         Some(weights) => {
             let stuck = Asked {
@@ -224,20 +188,17 @@ fn go_on(sought: Sought<'_, '_>, judge: &mut Judge<'_>, budget: &mut Budget) -> 
 
 /// Draws the next candidate that may be of interest, in turns of steps if floors by weight are kept. No says that there
 /// is none.
-fn draw<'a>(
-    sought: Sought<'a, '_>,
+fn draw(
+    search: Search<'_, '_>,
     lister: &mut Lister<'_, ByNumber<'_>>,
     judge: &mut Judge<'_>,
     budget: &mut Budget,
 ) -> Result<bool, Stopped>
-    requires lists { Lists sought.pass.now.context.now.facts sought.pass.now.context.now.reached lister.old.listing }
-    requires shape { lister.old.listing.shape ≡ sought.pass.now.shape }
-    requires weights { HasWeights sought.pass.now judge.old.weights }
-    ensures answer { MatchDrawn result
-        (PassesDull sought.entry.pass.now sought.entry.kept.now lister.old.listing.coming
-        (lister.new.drawn.lists ∷ lister.new.listing.coming)
-        × (lister.new.drawn.down ≡ down lister.old.listing.frame lister.new.drawn.lists))
-        (PassesDull sought.entry.pass.now sought.entry.kept.now lister.old.listing.coming [])
+    requires lists { ListsFor search.pass.now lister.old.listing }
+    requires shape { lister.old.listing.shape ≡ search.pass.now.shape }
+    requires weights { HasWeights search.pass.now judge.old.weights }
+    ensures answer { MatchDrawn result (Draws search.entry lister.old lister.new)
+        (PassesDull search.entry lister.old.listing.coming [])
         (budget.new.used ≡ budget.new.limit) }
     ensures frame { lister.new.listing.frame ≡ lister.old.listing.frame }
     ensures shape { lister.new.listing.shape ≡ lister.old.listing.shape }
@@ -247,13 +208,13 @@ fn draw<'a>(
     ensures spends { Spends budget.old budget.new }
 {
     for _ in 0..MOST_TURNS {
-        let mut turn = turn(sought.pass, &judge.weights, budget);
-        let step = draw_once(sought, lister, judge, &mut turn);
-        count(sought.pass, &turn, budget);
+        let mut turn = turn(search.pass, &judge.weights, budget);
+        let step = draw_once(search, lister, judge, &mut turn);
+        count(search.pass, &turn, budget);
         match step {
             Step::Found(()) => return Ok(true),
             Step::End => return Ok(false),
-            Step::Undecided => go_on(sought, judge, budget)?,
+            Step::Undecided => go_on(search, judge, budget)?,
         }
     }
     // (no limit of steps is so high)
@@ -269,27 +230,25 @@ fn best_near<'a>(
     judge: &mut Judge<'_>,
     budget: &mut Budget,
 ) -> Result<Option<Best>, Stopped>
-    requires lists { Lists pass.now.context.now.facts pass.now.context.now.reached lister.old.listing }
-    requires look { LooksBelow pass.now.context.now.facts pass.now.context.now.reached pass.now.context.now.lower
-        judge.old.look }
+    requires lists { ListsFor pass.now lister.old.listing }
+    requires look { LooksBelow pass.now.context.now judge.old.look }
     requires weights { HasWeights pass.now judge.old.weights }
     ensures answer { MatchFound result
-        (λ b. (best_near pass.now.context.now.facts pass.now.context.now.reached pass.now.context.now.lower
-        pass.now.wish (aim_in pass.now.aim) pass.now.shape ≡ Some b.candidate.lists)
-        × IsKept pass.now.context.now.facts pass.now.context.now.reached pass.now.context.now.lower (Some b))
-        (best_near pass.now.context.now.facts pass.now.context.now.reached pass.now.context.now.lower pass.now.wish
-        (aim_in pass.now.aim) pass.now.shape ≡ None)
+        (IsBest pass.now.context.now (near_of pass.now))
+        (near_of pass.now ≡ None)
         (budget.new.used ≡ budget.new.limit) }
-    ensures lists { Lists pass.now.context.now.facts pass.now.context.now.reached lister.new.listing }
-    ensures look { LooksBelow pass.now.context.now.facts pass.now.context.now.reached pass.now.context.now.lower
-        judge.new.look }
+    ensures lists { ListsFor pass.now lister.new.listing }
+    ensures look { LooksBelow pass.now.context.now judge.new.look }
     ensures weights { judge.new.weights ≡ judge.old.weights }
     ensures spends { Spends budget.old budget.new }
 {
     lister.listing.restart(pass.shape);
     let mut kept = None;
-    while draw(Sought { pass, kept: &kept }, lister, judge, budget)? {
-        consider(pass, &lister.drawn, &mut kept, judge, budget)?;
+    while draw(Search { pass, kept: &kept }, lister, judge, budget)? {
+        let search = Search { pass, kept: &kept };
+        if let Some(best) = consider(search, &lister.drawn, judge, budget)? {
+            kept = Some(best);
+        }
     }
     Ok(kept)
 }
@@ -302,19 +261,15 @@ fn best_by_aim<'a>(
     judge: &mut Judge<'_>,
     budget: &mut Budget,
 ) -> Result<Option<Best>, Stopped>
-    requires lists { Lists pass.now.context.now.facts pass.now.context.now.reached lister.old.listing }
-    requires look { LooksBelow pass.now.context.now.facts pass.now.context.now.reached pass.now.context.now.lower
-        judge.old.look }
+    requires lists { ListsFor pass.now lister.old.listing }
+    requires look { LooksBelow pass.now.context.now judge.old.look }
     requires weights { HasWeights pass.now judge.old.weights }
     ensures answer { MatchFound result
-        (λ b. (best_wished pass.now.context.now.facts pass.now.context.now.reached pass.now.context.now.lower
-        pass.now.wish pass.now.shape ≡ Some b.candidate.lists)
-        × IsKept pass.now.context.now.facts pass.now.context.now.reached pass.now.context.now.lower (Some b))
+        (IsBest pass.now.context.now (wished_of pass.now))
         (Unit {0})
         (budget.new.used ≡ budget.new.limit) }
-    ensures lists { Lists pass.now.context.now.facts pass.now.context.now.reached lister.new.listing }
-    ensures look { LooksBelow pass.now.context.now.facts pass.now.context.now.reached pass.now.context.now.lower
-        judge.new.look }
+    ensures lists { ListsFor pass.now lister.new.listing }
+    ensures look { LooksBelow pass.now.context.now judge.new.look }
     ensures weights { judge.new.weights ≡ judge.old.weights }
     ensures spends { Spends budget.old budget.new }
 {
@@ -333,15 +288,11 @@ fn best_in_passes(
     judge: &mut Judge<'_>,
     budget: &mut Budget,
 ) -> Result<Option<Best>, Stopped>
-    requires look { LooksBelow pass.old.context.now.facts pass.old.context.now.reached pass.old.context.now.lower
-        judge.old.look }
+    requires look { LooksBelow pass.old.context.now judge.old.look }
     requires weights { HasWeights pass.old judge.old.weights }
     ensures answer { MatchResult result (IsEnd pass.old) (λ _. budget.new.used ≡ budget.new.limit) }
-    ensures look { LooksBelow pass.old.context.now.facts pass.old.context.now.reached pass.old.context.now.lower
-        judge.new.look }
-    ensures context { pass.new.context.now ≡ pass.old.context.now }
-    ensures shape { pass.new.shape ≡ pass.old.shape }
-    ensures wish { pass.new.wish ≡ pass.old.wish }
+    ensures look { LooksBelow pass.old.context.now judge.new.look }
+    ensures pass { SeeksTheSame pass.old pass.new }
     ensures spends { Spends budget.old budget.new }
 {
     let rule = pass.context.rule();
@@ -377,8 +328,7 @@ fn weighed_by<'a>(
     room: &mut Room,
     budget: &mut Budget,
 ) -> Result<Weighed<'a>, Stopped>
-    requires of { AreOf pass.now.context.now.facts pass.now.context.now.reached pass.now.context.now.lower
-        pass.now.shape weights }
+    requires of { AreFor pass.now weights }
     ensures weights { IfOk result (λ weighed. HasWeights pass.now weighed.weights) }
     ensures stopped { MatchResult result (λ _. Unit {0}) (λ _. budget.new.used ≡ budget.new.limit) }
     ensures spends { Spends budget.old budget.new }
@@ -437,16 +387,12 @@ fn best_within<'a>(
     steps: u64,
     budget: &mut Budget,
 ) -> Result<Option<Option<Best>>, Stopped>
-    requires look { LooksBelow pass.old.context.now.facts pass.old.context.now.reached pass.old.context.now.lower
-        judge.old.look }
+    requires look { LooksBelow pass.old.context.now judge.old.look }
     requires weights { HasWeights pass.old judge.old.weights }
     ensures answer { MatchResult result (λ found. IfSome found (IsEnd pass.old))
         (λ _. budget.new.used ≡ budget.new.limit) }
-    ensures look { LooksBelow pass.old.context.now.facts pass.old.context.now.reached pass.old.context.now.lower
-        judge.new.look }
-    ensures context { pass.new.context.now ≡ pass.old.context.now }
-    ensures shape { pass.new.shape ≡ pass.old.shape }
-    ensures wish { pass.new.wish ≡ pass.old.wish }
+    ensures look { LooksBelow pass.old.context.now judge.new.look }
+    ensures pass { SeeksTheSame pass.old pass.new }
     ensures spends { Spends budget.old budget.new }
 {
     let mut few = at_most(steps, budget);
@@ -467,15 +413,11 @@ fn best_by_weight<'a>(
     next: bool,
     budget: &mut Budget,
 ) -> Result<Option<Option<Best>>, Stopped>
-    requires look { LooksBelow pass.old.context.now.facts pass.old.context.now.reached pass.old.context.now.lower
-        judge.old.look }
+    requires look { LooksBelow pass.old.context.now judge.old.look }
     ensures answer { MatchResult result (λ found. IfSome found (IsEnd pass.old))
         (λ _. budget.new.used ≡ budget.new.limit) }
-    ensures look { LooksBelow pass.old.context.now.facts pass.old.context.now.reached pass.old.context.now.lower
-        judge.new.look }
-    ensures context { pass.new.context.now ≡ pass.old.context.now }
-    ensures shape { pass.new.shape ≡ pass.old.shape }
-    ensures wish { pass.new.wish ≡ pass.old.wish }
+    ensures look { LooksBelow pass.old.context.now judge.new.look }
+    ensures pass { SeeksTheSame pass.old pass.new }
     ensures spends { Spends budget.old budget.new }
 {
     let left = budget.limit - budget.used;
@@ -509,8 +451,7 @@ fn best_in_time<'a>(
     judge: &mut Judge<'a>,
     budget: &mut Budget,
 ) -> Result<Option<Best>, Stopped>
-    requires look { LooksBelow pass.old.context.now.facts pass.old.context.now.reached pass.old.context.now.lower
-        judge.old.look }
+    requires look { LooksBelow pass.old.context.now judge.old.look }
     requires weights { HasWeights pass.old judge.old.weights }
     ensures answer { MatchResult result (IsEnd pass.old) (λ _. budget.new.used ≡ budget.new.limit) }
     ensures spends { Spends budget.old budget.new }
@@ -533,7 +474,7 @@ fn best_in_time<'a>(
 
 /// The best that the next bracket can be, as far as a quarter of the steps that are left tells it.
 fn outlook_of(context: &Context<'_>, shape: Shape, budget: &mut Budget) -> Result<Outlook, Stopped>
-    requires fits { Fits (frame_of context.now.facts context.now.reached) shape }
+    requires fits { FitsHere context.now shape }
     ensures answer { MatchResult result (IsOutlook context.now.facts context.now.reached context.now.lower shape)
         (λ _. budget.new.used ≡ budget.new.limit) }
     ensures spends { Spends budget.old budget.new }
@@ -554,22 +495,20 @@ fn outlook_of(context: &Context<'_>, shape: Shape, budget: &mut Budget) -> Resul
 /// them is better than: what a pass with an aim ends with, or if that is nothing, one without. `End` says that there is
 /// none.
 pub fn best_of<'a>(
-    alloc: Global,
     context: &'a Context<'a>,
     shape: Shape,
     wish: Option<Wish>,
     budget: &mut Budget,
 ) -> Result<Step<Best>, PairFault>
-    requires fits { Fits (frame_of context.now.facts context.now.reached) shape }
+    requires fits { FitsHere context.now shape }
     ensures answer { IfOk result (λ step. MatchStep step
-        (λ b. (best_wished context.now.facts context.now.reached context.now.lower wish shape ≡ Some b.candidate.lists)
-        × IsKept context.now.facts context.now.reached context.now.lower (Some b))
-        (best_wished context.now.facts context.now.reached context.now.lower wish shape ≡ None)
+        (IsBest context.now (best_wished context.now wish shape))
+        (best_wished context.now wish shape ≡ None)
         (budget.new.used ≡ budget.new.limit)) }
     ensures spends { Spends budget.old budget.new }
 {
     let mut judge = Judge {
-        look: look_below(alloc, context)?,
+        look: look_below(context)?,
         room: Room::default(),
         left: Seats::new(),
         weights: None,
@@ -596,14 +535,9 @@ pub fn best_of<'a>(
 
 /// The choice in a bracket that has a candidate.
 #[tactic(auto, using(crate::proofs::AimLemmas::choice_is_best, crate::proofs::AimLemmas::shape_has_one))]
-pub fn choose_in<'a>(
-    alloc: Global,
-    context: &'a Context<'a>,
-    budget: &mut Budget,
-) -> Result<Choice, PairFault>
+pub fn choose_in<'a>(context: &'a Context<'a>, budget: &mut Budget) -> Result<Choice, PairFault>
     requires candidate { HasCandidate context.now.facts context.now.reached context.now.lower }
-    ensures answer { IfOk result
-        (IsChoice context.now.facts context.now.reached context.now.lower (budget.new.used ≡ budget.new.limit)) }
+    ensures answer { IfOk result (IsChoice context.now (budget.new.used ≡ budget.new.limit)) }
     ensures spends { Spends budget.old budget.new }
 {
     let shape = match shape_of(context, budget) {
@@ -611,7 +545,7 @@ pub fn choose_in<'a>(
         Ok(None) => unreachable!(),
         Err(Stopped) => return Ok(Choice::Undecided),
     };
-    match best_of(alloc, context, shape, None, budget)? {
+    match best_of(context, shape, None, budget)? {
         Step::Found(best) => Ok(Choice::Chosen {
             shape,
             candidate: best.candidate,
@@ -633,8 +567,10 @@ pub fn choose(
 ) -> Result<Choice, PairFault>
     requires above { IsAbove field.now reached.now lower.now }
     requires candidate { HasCandidate field.now reached.now lower.now }
-    ensures answer { IfOk result (IsChoice field.now reached.now lower.now (budget.new.used ≡ budget.new.limit)) }
+    ensures answer { IfOk result (IsChoice
+        (record { facts = field.now; reached = reached.now; lower = lower.now })
+        (budget.new.used ≡ budget.new.limit)) }
     ensures spends { Spends budget.old budget.new }
 {
-    choose_in(alloc, &Context::new(alloc, field, reached, lower), budget)
+    choose_in(&Context::new(alloc, field, reached, lower), budget)
 }

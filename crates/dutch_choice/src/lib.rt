@@ -7,7 +7,9 @@
 #![tactic(auto)]
 
 mod aiming;
+mod bars;
 pub mod choice;
+mod pass;
 mod remembered;
 pub mod skipper;
 mod weight_laws;

@@ -4,7 +4,7 @@
 // Candidates of a bracket that leave over the same players have one value, so it is looked for once. The values of the
 // last 64 lists that were used are kept, in a cache that is made once for a bracket. If it cannot grow, this is noted,
 // and the value is looked for each time.
-ghost use Rattle.std.specs.Prelude.{◌≡◌, ◌≤◌, true, false, [], length, map, take, IfOk, ◌⊎◌, if◌then◌else◌, Some, None};
+ghost use Rattle.std.specs.Prelude.{◌≡◌, ◌≤◌, true, false, [], length, IfOk, ◌⊎◌, if◌then◌else◌, Some, None};
 ghost use Rattle.std.specs.Map.{lookup};
 ghost use Rattle.std.specs.Result.{MatchResult};
 ghost use Rattle.lru.specs.LruCache.{lru_cache, promoted, put_entries};
@@ -12,8 +12,10 @@ ghost use Rattle.dutch_bracket.specs.declared.reached.BracketKind.TheVariants.{O
 ghost use Rattle.dutch_bracket.specs.Reached.{IsOf};
 ghost use Rattle.dutch_bracket.specs.NextBracket.{IsNext, IsOfBracket, AreLeft, quality};
 ghost use Rattle.dutch_bracket.specs.QualityIn.{quality_in, next_in};
-ghost use Rattle.dutch_bracket.specs.Brackets.{quality_of};
-ghost use Rattle.dutch_choice.specs.Remembered.{value_below, is_kept, is_key, IsLook, IsUsed, IsKeptAfter, LooksBelow, after_use};
+ghost use Rattle.dutch_bracket.specs.InContext.{quality_here};
+ghost use Rattle.dutch_choice.specs.Remembered.{IsKeptAfter, IsLook, IsUsed, LooksBelow, Recalls, is_kept, is_key};
+ghost use Rattle.dutch_choice.specs.Remembered.{value_below};
+ghost use Rattle.dutch_choice.specs.Passes.{IsHere};
 ghost use Rattle.dutch_order.specs.Steps.{Spends};
 
 use dutch_bracket::context::Context;
@@ -92,17 +94,6 @@ fn no_values(alloc: Global) -> Result<Values, PairFault>
     Ok(LruCache::new(alloc, most)?)
 }
 
-/// The value that is kept for downfloaters, who are then the last used.
-fn recalled(values: &mut Values, down: &Numbers) -> Option<NextValue>
-    ensures value { result ≡ lookup (is_key down.now) values.old.entries }
-    ensures kept { values.new ≡ lru_cache (promoted (is_key down.now) values.old.entries) values.old.cap }
-{
-    match values.get(down) {
-        Some(value) => Some(value.copied()),
-        None => None,
-    }
-}
-
 /// Puts the value that is kept for downfloaters, who are then the last used, into a quality, with no copy between. No
 /// says that none is kept.
 fn put_recalled(values: &mut Values, down: &Numbers, quality: &mut Quality) -> bool
@@ -126,16 +117,6 @@ fn keep(values: &mut Values, down: Numbers, value: NextValue, is_short: &mut boo
     match values.put(down, value) {
         Ok(_) => {}
         Err(_) => *is_short = true,
-    }
-}
-
-/// A value, told.
-fn told(value: NextValue) -> Look
-    ensures { IsLook value ⊥ result }
-{
-    Look::Value {
-        pairs: value.pairs,
-        psd: value.psd,
     }
 }
 
@@ -167,12 +148,13 @@ impl<'a> LookAhead<'a> {
     }
 
     /// What the next bracket can be for downfloaters for whom no value is kept.
-    fn looked_for(&mut self, down: &[u16], budget: &mut Budget) -> Look
+    fn looked_for(&mut self, down: &[u16], budget: &mut Budget) -> Result<NextValue, Stopped>
         requires unknown { is_kept down.now self.old.kept ≡ false }
         requires down { AreLeft self.old.reached down.now }
-        ensures answer { IsLook (value_below self.old.facts self.old.reached self.old.next down.now)
-            (budget.new.used ≡ budget.new.limit) result }
-        ensures kept { IsKeptAfter down.now self.old self.new result }
+        ensures answer { MatchResult result
+            (λ value. value ≡ value_below self.old.facts self.old.reached self.old.next down.now)
+            (λ _. budget.new.used ≡ budget.new.limit) }
+        ensures kept { MatchResult result (λ _. IsUsed down.now self.old self.new) (λ _. self.new ≡ self.old) }
         ensures spends { Spends budget.old budget.new }
     {
         let above = Above {
@@ -181,14 +163,10 @@ impl<'a> LookAhead<'a> {
             reached: self.reached,
             next: &self.next,
         };
-        match value_below(&above, down, budget) {
-            Ok(value) => {
-                let key = copied(down);
-                keep(&mut self.values, key, value.copied(), &mut self.is_short);
-                told(value)
-            }
-            Err(Stopped) => Look::Undecided,
-        }
+        let value = value_below(&above, down, budget)?;
+        let key = copied(down);
+        keep(&mut self.values, key, value.copied(), &mut self.is_short);
+        Ok(value)
     }
 
     /// What the next bracket can be for downfloaters, by their numbers in the bracket. A value that is kept takes no
@@ -201,22 +179,25 @@ impl<'a> LookAhead<'a> {
         ensures kept { IsKeptAfter down.now self.old self.new result }
         ensures spends { Spends budget.old budget.new }
     {
-        let _field = self.field;
-        fill_key(down, &mut self.key);
-        match recalled(&mut self.values, &self.key) {
-            Some(value) => told(value),
-            None => self.looked_for(down, budget),
+        let mut quality = Quality::default();
+        if self.put_kept(down, &mut quality) {
+            let pairs = quality.next_pairs();
+            let psd = quality.next_psd;
+            return Look::Value { pairs, psd };
+        }
+        match self.looked_for(down, budget) {
+            Ok(value) => Look::Value {
+                pairs: value.pairs,
+                psd: value.psd,
+            },
+            Err(Stopped) => Look::Undecided,
         }
     }
 
     /// Puts the value that is kept for downfloaters into a quality. No says that none is kept.
     fn put_kept(&mut self, down: &[u16], quality: &mut Quality) -> bool
         requires { AreLeft self.old.reached down.now }
-        ensures put { result ≡ true
-            → next_in (quality_in quality.new) ≡ value_below self.old.facts self.old.reached self.old.next down.now }
-        ensures none { result ≡ false → is_kept down.now self.old.kept ≡ false }
-        ensures used { result ≡ true → self.new ≡ after_use down.now self.old }
-        ensures unused { result ≡ false → self.new ≡ self.old }
+        ensures { Recalls result (next_in (quality_in quality.new)) down.now self.old self.new }
     {
         fill_key(down, &mut self.key);
         put_recalled(&mut self.values, &self.key, quality)
@@ -242,10 +223,8 @@ impl<'a> LookAhead<'a> {
     {
         let (field, reached, down) = (self.field, self.reached, candidate.down());
         if !self.put_kept(down, &mut room.quality) {
-            match self.looked_for(down, budget) {
-                Look::Value { pairs, psd } => room.quality.put_next(pairs, &psd),
-                Look::Undecided => return Err(Stopped),
-            }
+            let value = self.looked_for(down, budget)?;
+            room.quality.put_next(value.pairs, &value.psd);
         }
         fill_quality(field, reached.seats(), candidate, room);
         Ok(())
@@ -268,14 +247,12 @@ impl<'a> LookAhead<'a> {
 }
 
 /// The look-ahead of a bracket above all lower seats: one for an ordinary bracket, and none for another kind.
-pub(crate) fn look_below<'a>(
-    alloc: Global,
-    context: &'a Context<'a>,
-) -> Result<Option<LookAhead<'a>>, PairFault>
-    ensures { IfOk result (LooksBelow context.now.facts context.now.reached context.now.lower) }
+pub(crate) fn look_below<'a>(context: &'a Context<'a>) -> Result<Option<LookAhead<'a>>, PairFault>
+    ensures { IfOk result (LooksBelow context.now) }
 {
     match context.reached().kind() {
         BracketKind::Ordinary => {
+            let alloc = context.alloc();
             let look = LookAhead::new(alloc, context.field(), context.reached(), context.next())?;
             Ok(Some(look))
         }
@@ -302,13 +279,12 @@ pub(crate) fn judge_candidate(
     judge: &mut Judge<'_>,
     budget: &mut Budget,
 ) -> Result<(), Stopped>
-    requires candidate { IsOfBracket context.now.facts context.now.reached candidate.now }
-    requires look { LooksBelow context.now.facts context.now.reached context.now.lower judge.old.look }
+    requires candidate { IsHere context.now candidate.now }
+    requires look { LooksBelow context.now judge.old.look }
     ensures answer { MatchResult result
-        (λ _. quality_in judge.new.room.quality
-        ≡ quality_of context.now.facts context.now.reached context.now.lower candidate.now.lists)
+        (λ _. quality_in judge.new.room.quality ≡ quality_here context.now candidate.now.lists)
         (λ _. budget.new.used ≡ budget.new.limit) }
-    ensures look { LooksBelow context.now.facts context.now.reached context.now.lower judge.new.look }
+    ensures look { LooksBelow context.now judge.new.look }
     ensures weights { judge.new.weights ≡ judge.old.weights }
     ensures spends { Spends budget.old budget.new }
 {

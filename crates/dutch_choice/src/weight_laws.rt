@@ -1,32 +1,31 @@
 // Laws of the weight of a candidate: its items that are sums, C.6 and C.8 to C.19, and what the next bracket can be
 // where that is measured, C.7, as the digits of one number (C.04.3). A floor of `dual` bounds it for all candidates
 // with a beginning.
-ghost use Rattle.std.specs.Prelude.{◌≡◌, ◌+◌, ◌-◌, ◌*◌, ◌<◌, ◌≤◌, ◌++◌, ◌%◌, ℕ, List, true, is_some};
-ghost use Rattle.std.specs.Prelude.{length, sum_by, nat_lt};
+ghost use Rattle.std.specs.Prelude.{◌≡◌, ◌+◌, ◌-◌, ◌*◌, ◌<◌, ◌≤◌, ◌++◌, ◌%◌, ℕ, true, is_some, length, sum_by, nat_lt};
 ghost use Rattle.dutch_order.specs.declared.bracket.Shape.{Shape};
-ghost use Rattle.dutch_order.specs.Arrangements.{Arrangement, Fits, down};
+ghost use Rattle.dutch_order.specs.Arrangements.{Arrangement, down};
 ghost use Rattle.dutch_order.specs.Choices.{numbers_from};
+ghost use Rattle.dutch_order.specs.Forms.{NoneTwice};
 ghost use Rattle.dutch_order.specs.Keys.{IsIn};
 ghost use Rattle.dutch_order.specs.Prefixes.{Begins, Beginning};
-ghost use Rattle.dutch_player.specs.Facts.{Facts};
 ghost use Rattle.dutch_bracket.specs.Beginnings.{fixed_lists};
-ghost use Rattle.dutch_bracket.specs.Quality.{Quality, is_better};
-ghost use Rattle.dutch_bracket.specs.QualityIn.{next_in};
-ghost use Rattle.dutch_order.specs.Forms.{NoneTwice};
+ghost use Rattle.dutch_bracket.specs.Brackets.{completable, downfloaters};
+ghost use Rattle.dutch_bracket.specs.Context.{Context};
+ghost use Rattle.dutch_bracket.specs.InContext.{FitsHere, candidates_here, frame_here, quality_here};
 ghost use Rattle.dutch_bracket.specs.NextMatchings.{IsSmall, JoinsBelow, MayPairBelow, count_below, players_below};
 ghost use Rattle.dutch_bracket.specs.NextMatchings.{seat_below};
-ghost use Rattle.dutch_bracket.specs.Seats.{seats_meet};
-ghost use Rattle.dutch_bracket.specs.declared.reached.BracketKind.TheVariants.{Ordinary};
-ghost use Rattle.dutch_bracket.specs.Reached.{IsAbove, IsOf, Reached, frame_of};
-ghost use Rattle.dutch_bracket.specs.Brackets.{candidates_of, completable, downfloaters, quality_of};
-ghost use Rattle.dutch_bracket.specs.Weights.{HasDigits, IsOn, IsScale, IsScaleFor, Scale, alone_by};
-ghost use Rattle.dutch_bracket.specs.Weights.{number_pairs, numbers};
-ghost use Rattle.dutch_bracket.specs.Weights.{weighing, weight_below, weight_of};
-ghost use Rattle.dutch_weights.specs.declared.scoped.Reach.TheVariants.{Bracket, Lower, Next};
+ghost use Rattle.dutch_bracket.specs.Quality.{Quality, is_better};
+ghost use Rattle.dutch_bracket.specs.QualityIn.{next_in};
+ghost use Rattle.dutch_bracket.specs.Reached.{IsAbove, IsOf};
 ghost use Rattle.dutch_bracket.specs.Scopes.{Covers, Scope};
-ghost use Rattle.dutch_weights.specs.ScopedCosts.{costs_in};
+ghost use Rattle.dutch_bracket.specs.Seats.{seats_meet};
+ghost use Rattle.dutch_bracket.specs.Weights.{HasDigits, IsOn, IsScale, IsScaleFor, Scale, alone_by, number_pairs};
+ghost use Rattle.dutch_bracket.specs.Weights.{numbers, weighing, weight_below, weight_of};
+ghost use Rattle.dutch_bracket.specs.declared.reached.BracketKind.TheVariants.{Ordinary};
 ghost use Rattle.dutch_weights.specs.Orders.{Order};
 ghost use Rattle.dutch_weights.specs.WeightFloors.{HasNoBetterOn, HasSameNextOn, added_in, bound_behind};
+ghost use Rattle.dutch_weights.specs.declared.scoped.Reach.TheVariants.{Bracket, Lower, Next};
+ghost use Rattle.dutch_choice.specs.Costs.{costs_here};
 ghost use Rattle.dual.specs.Floors.{FloorTable, IsFloor, extra_in};
 ghost use Rattle.dual.specs.Matchings.{cost};
 
@@ -34,11 +33,10 @@ ghost use Rattle.dual.specs.Matchings.{cost};
 /// alone, and, where C.7 is measured, of what its value of the next bracket weighs.
 #[tactic(auto, using(dutch_weights::proofs::C06ToC19Weights::candidate_weighs))]
 pub fn a_weight_is_a_sum()
-    ensures { (facts : Facts) (reached : Reached) (scale : Scale) (lower : List ℕ) (a : Arrangement)
-        → weight_of scale (quality_of facts reached lower a)
-        ≡ cost (weighing facts reached scale) (number_pairs a) (down (frame_of facts reached) a)
-        + weight_below scale (alone_by scale.next (quality_of facts reached lower a).next_pairs)
-        (quality_of facts reached lower a).next_psd }
+    ensures { (context : Context) (scale : Scale) (a : Arrangement) → weight_of scale (quality_here context a)
+        ≡ cost (weighing context.facts context.reached scale) (number_pairs a) (down (frame_here context) a)
+        + weight_below scale (alone_by scale.next (quality_here context a).next_pairs)
+        (quality_here context a).next_psd }
 {}
 
 /// C.6 to C.19: of two qualities with one value of the next bracket, or on a scale that measures that (C.7), the better
@@ -57,21 +55,13 @@ pub fn the_lighter_is_better()
 /// members of its S1R add.
 #[tactic(auto, using(dutch_weights::proofs::WeightsBehind::weighs_more))]
 pub fn a_floor_bounds_the_weight()
-    ensures { (facts : Facts) (reached : Reached) (scale : Scale) (lower : List ℕ) (shape : Shape) (a : Arrangement)
-        → IsOf facts reached
-        → Fits (frame_of facts reached) shape → IsIn a (candidates_of facts reached shape) → (b : Beginning)
-        → Begins b a
-        → (scope : Scope) → Covers scope b → (order : Order) → (floor : FloorTable)
-        → IsFloor (costs_in (record {
-          weighing = record { facts = facts; reached = reached; lower = lower; scale = scale };
-          scope = scope;
-          reach =
-              Bracket;
-          order = order;
-        }))
-        (numbers reached) (length reached.seats - 2 * shape.pairs) floor
-        → bound_behind floor reached.mdps b
-        ≤ floor.debt + (weight_of scale (quality_of facts reached lower a) + added_in order a) }
+    ensures { (context : Context) (scale : Scale) (shape : Shape) (a : Arrangement)
+        → IsOf context.facts context.reached → FitsHere context shape → IsIn a (candidates_here context shape)
+        → (b : Beginning) → Begins b a → (scope : Scope) → Covers scope b → (order : Order) → (floor : FloorTable)
+        → IsFloor (costs_here context scale scope Bracket order) (numbers context.reached)
+        (length context.reached.seats - 2 * shape.pairs) floor
+        → bound_behind floor context.reached.mdps b
+        ≤ floor.debt + (weight_of scale (quality_here context a) + added_in order a) }
 {}
 
 /// C.4, C.6, C.8 to C.19: a candidate that leaves over players who can be paired out with all lower ones weighs no less
@@ -79,22 +69,15 @@ pub fn a_floor_bounds_the_weight()
 /// once, without its debt.
 #[tactic(auto, using(dutch_weights::proofs::C04Lower::weighs_more_below))]
 pub fn a_floor_for_lower_players_bounds_the_weight()
-    ensures { (facts : Facts) (reached : Reached) (scale : Scale) (lower : List ℕ) (scope : Scope) (order : Order)
-        (shape : Shape)
-        (a : Arrangement) → IsOf facts reached → Fits (frame_of facts reached) shape
-        → IsIn a (candidates_of facts reached shape)
+    ensures { (context : Context) (scale : Scale) (scope : Scope) (order : Order) (shape : Shape) (a : Arrangement)
+        → IsOf context.facts context.reached → FitsHere context shape → IsIn a (candidates_here context shape)
         → (b : Beginning) → Begins b a → Covers scope b
-        → completable facts (downfloaters facts reached a ++ lower) ≡ true → (floor : FloorTable)
-        → IsFloor (costs_in (record {
-          weighing = record { facts = facts; reached = reached; lower = lower; scale = scale };
-          scope = scope;
-          reach =
-              Lower;
-          order = order;
-        }))
-        (numbers_from 1 (length reached.seats + length lower)) ((length reached.seats + length lower) % 2) floor
+        → completable context.facts (downfloaters context.facts context.reached a ++ context.lower) ≡ true
+        → (floor : FloorTable) → IsFloor (costs_here context scale scope Lower order)
+        (numbers_from 1 (length context.reached.seats + length context.lower))
+        ((length context.reached.seats + length context.lower) % 2) floor
         → floor.base + sum_by (extra_in floor) (number_pairs (fixed_lists b))
-        ≤ floor.debt + (weight_of scale (quality_of facts reached lower a) + added_in order a) }
+        ≤ floor.debt + (weight_of scale (quality_here context a) + added_in order a) }
 {}
 
 /// C.6 to C.19: on a scale that measures the next bracket (C.7), a candidate of an ordinary bracket weighs no less than
@@ -102,34 +85,24 @@ pub fn a_floor_for_lower_players_bounds_the_weight()
 /// pairs of the beginning add, each once, without its debt.
 #[tactic(auto, using(dutch_weights::proofs::C07NextWeights::weighs_more_next))]
 pub fn a_floor_for_the_next_group_bounds_the_weight()
-    ensures { (facts : Facts) (reached : Reached) (scale : Scale) (lower : List ℕ) (scope : Scope) (order : Order)
-        (shape : Shape)
-        (a : Arrangement) → Fits (frame_of facts reached) shape → IsIn a (candidates_of facts reached shape)
+    ensures { (context : Context) (scale : Scale) (scope : Scope) (order : Order) (shape : Shape) (a : Arrangement)
+        → FitsHere context shape → IsIn a (candidates_here context shape)
         → (b : Beginning) → Begins b a → Covers scope b → is_some scale.next ≡ true
-        → IsScaleFor facts reached lower shape scale
-        → (floor : FloorTable)
-        → ((left : ℕ) → IsFloor (costs_in
-        (record {
-          weighing = record { facts = facts; reached = reached; lower = lower; scale = scale };
-          scope = scope;
-          reach = Next;
-          order = order;
-        }))
-        (numbers_from 1 (count_below facts reached lower)) left floor)
+        → IsScaleFor context.facts context.reached context.lower shape scale → (floor : FloorTable)
+        → ((left : ℕ) → IsFloor (costs_here context scale scope Next order)
+        (numbers_from 1 (count_below context.facts context.reached context.lower)) left floor)
         → floor.base + sum_by (extra_in floor) (number_pairs (fixed_lists b))
-        ≤ floor.debt + (weight_of scale (quality_of facts reached lower a) + added_in order a) }
+        ≤ floor.debt + (weight_of scale (quality_here context a) + added_in order a) }
 {}
 
 /// C.6 to C.19: a quality is better than a candidate that weighs more and has no better value of the next bracket.
 #[tactic(auto, using(dutch_weights::proofs::WeightsBehind::lighter))]
 pub fn a_lighter_quality_is_better()
-    ensures { (facts : Facts) (reached : Reached) (scale : Scale) (lower : List ℕ) (shape : Shape) (a : Arrangement)
-        → IsOf facts reached
-        → Fits (frame_of facts reached) shape → IsIn a (candidates_of facts reached shape)
-        → IsScale scale → IsScaleFor facts reached lower shape scale → (f : Quality) → IsOn scale f
-        → weight_of scale f < weight_of scale (quality_of facts reached lower a)
-        → HasNoBetterOn scale.next (quality_of facts reached lower a) (next_in f)
-        → is_better f (quality_of facts reached lower a) ≡ true }
+    ensures { (context : Context) (scale : Scale) (shape : Shape) (a : Arrangement)
+        → IsOf context.facts context.reached → FitsHere context shape → IsIn a (candidates_here context shape)
+        → IsScale scale → IsScaleFor context.facts context.reached context.lower shape scale
+        → (f : Quality) → IsOn scale f → weight_of scale f < weight_of scale (quality_here context a)
+        → HasNoBetterOn scale.next (quality_here context a) (next_in f) → is_better f (quality_here context a) ≡ true }
 {}
 
 /// C.7: what the next bracket can be at best below a candidate of an ordinary bracket is the value of pairs by number:
@@ -137,25 +110,25 @@ pub fn a_lighter_quality_is_better()
 /// scoregroup.
 #[tactic(auto, using(dutch_weights::proofs::C07NextMatchings::joins_below))]
 pub fn the_next_value_is_that_of_a_matching()
-    ensures { (facts : Facts) (reached : Reached) (lower : List ℕ) (shape : Shape) (a : Arrangement)
-        → IsAbove facts reached lower
-        → reached.kind ≡ Ordinary → IsIn a (candidates_of facts reached shape) → JoinsBelow facts reached lower a }
+    ensures { (context : Context) (shape : Shape) (a : Arrangement)
+        → IsAbove context.facts context.reached context.lower → context.reached.kind ≡ Ordinary
+        → IsIn a (candidates_here context shape) → JoinsBelow context.facts context.reached context.lower a }
 {}
 
 /// C.7: so it has no more pairs than half the players of the next bracket, and no more differences than players, the
 /// highest first.
 pub fn the_next_value_is_small()
-    ensures { (facts : Facts) (reached : Reached) (lower : List ℕ) (shape : Shape) (a : Arrangement)
-        → IsAbove facts reached lower
-        → reached.kind ≡ Ordinary → IsIn a (candidates_of facts reached shape)
-        → IsSmall (players_below facts reached lower shape) (next_in (quality_of facts reached lower a)) }
+    ensures { (context : Context) (shape : Shape) (a : Arrangement)
+        → IsAbove context.facts context.reached context.lower → context.reached.kind ≡ Ordinary
+        → IsIn a (candidates_here context shape)
+        → IsSmall (players_below context.facts context.reached context.lower shape) (next_in (quality_here context a)) }
 {}
 
 /// C.1, C.3: where no lower player comes twice, two who may be a pair of the next bracket are two seats that meet.
 #[tactic(auto, using(dutch_weights::proofs::C07NextMatchings::seats_meet_below))]
 pub fn pairs_of_the_next_bracket_meet()
-    ensures { (facts : Facts) (reached : Reached) (lower : List ℕ) (a : Arrangement) → IsAbove facts reached lower
-        → NoneTwice lower
-        → (pair : ℕ × ℕ) → MayPairBelow facts reached lower a pair
-        → seats_meet facts (seat_below facts reached lower pair.0) (seat_below facts reached lower pair.1) ≡ true }
+    ensures { (context : Context) (a : Arrangement) → IsAbove context.facts context.reached context.lower
+        → NoneTwice context.lower → (pair : ℕ × ℕ) → MayPairBelow context.facts context.reached context.lower a pair
+        → seats_meet context.facts (seat_below context.facts context.reached context.lower pair.0)
+        (seat_below context.facts context.reached context.lower pair.1) ≡ true }
 {}

@@ -4,10 +4,10 @@
 // two who meet, one is in S1 or in S1R, and the other is not. So behind halves that keep the two apart no permutation
 // is looked at.
 ghost use Rattle.std.specs.Prelude.{◌≡◌, nat_le};
-ghost use Rattle.std.specs.List.{list_any};
+ghost use Rattle.std.specs.List.{list_any, zip};
 ghost use Rattle.dutch_order.specs.Arrangements.{paired};
 ghost use Rattle.dutch_order.specs.Choices.{is_member};
-ghost use Rattle.dutch_order.specs.Forms.{by_place, pairs_by_number};
+ghost use Rattle.dutch_order.specs.Forms.{pairs_by_number};
 ghost use Rattle.dutch_choice.specs.Wishes.{are_these, grants, is_wished};
 ghost use Rattle.dutch_choice.specs.RuledOut.{parts, has_one_of, s1_bars, s1r_bars, halves_bar, rules_out};
 
@@ -53,28 +53,22 @@ fn parts(p: u16, q: u16, pair: (u16, u16)) -> bool
 
 /// Whether two players meet in two lists, place by place.
 fn meet_in(p: u16, q: u16, firsts: &[u16], seconds: &[u16]) -> bool
-    ensures { result ≡ list_any (are_these p q) (by_place firsts.now seconds.now) }
+    ensures { result ≡ list_any (are_these p q) (zip firsts.now seconds.now) }
 {
-    let both = firsts.len().min(seconds.len());
-    for place in 0..both {
-        if are_these(p, q, (firsts[place], seconds[place])) {
-            return true;
-        }
-    }
-    false
+    firsts
+        .iter()
+        .zip(seconds.iter())
+        .any(|(first, second)| are_these(p, q, (*first, *second)))
 }
 
 /// Whether one of two players meets another one in two lists, place by place.
 fn part_in(p: u16, q: u16, firsts: &[u16], seconds: &[u16]) -> bool
-    ensures { result ≡ list_any (parts p q) (by_place firsts.now seconds.now) }
+    ensures { result ≡ list_any (parts p q) (zip firsts.now seconds.now) }
 {
-    let both = firsts.len().min(seconds.len());
-    for place in 0..both {
-        if parts(p, q, (firsts[place], seconds[place])) {
-            return true;
-        }
-    }
-    false
+    firsts
+        .iter()
+        .zip(seconds.iter())
+        .any(|(first, second)| parts(p, q, (*first, *second)))
 }
 
 /// Whether two players meet in lists.

@@ -6,12 +6,12 @@ ghost use Rattle.dutch_order.specs.Arrangements.{Arrangement, Frame, down, playe
 ghost use Rattle.dutch_order.specs.Forms.{pairs_by_number};
 ghost use Rattle.dutch_order.specs.Keys.{IsIn};
 ghost use Rattle.dutch_order.specs.declared.bracket.Shape.{Shape};
-ghost use Rattle.dutch_player.specs.Facts.{Facts};
 ghost use Rattle.dutch_choice.specs.declared.wish.Wish.{Wish};
 ghost use Rattle.dutch_choice.specs.declared.wish.Wish.TheVariants.{Over, Pair};
-ghost use Rattle.dutch_bracket.specs.Reached.{Reached};
-ghost use Rattle.dutch_bracket.specs.Brackets.{best_of_shape, eligible, is_better_in};
-ghost use Rattle.dutch_choice.specs.Wishes.{ComesBefore, IsAsGoodBefore, best_granting, grants};
+ghost use Rattle.dutch_bracket.specs.Context.{Context};
+ghost use Rattle.dutch_bracket.specs.InContext.{eligible_here};
+ghost use Rattle.dutch_bracket.specs.Brackets.{best_of_shape};
+ghost use Rattle.dutch_choice.specs.Wishes.{ComesBefore, IsAsGoodBefore, best_granting, grants, is_better_here};
 
 /// That two meet is granted exactly if they are one of an arrangement's pairs. That a player of the bracket is left
 /// over is granted exactly if they are one of its downfloaters. None of some candidates grants a wish exactly if each
@@ -30,28 +30,22 @@ pub fn a_wish_is_granted_by_test()
 /// than each of these that stands before it (B.8).
 #[tactic(auto, using(crate::proofs::BestGranting::best_unbeaten, crate::proofs::BestGranting::best_first))]
 pub fn the_best_that_grants_is_the_first_of_the_best()
-    ensures grants { (facts : Facts) (reached : Reached) (lower : List ℕ) (shape : Shape) (wish : Wish)
-        (a : Arrangement)
-        → best_granting facts reached lower shape wish ≡ Some a → (grants wish a ≡ true)
-        × IsIn a (eligible facts reached lower shape) }
-    ensures unbeaten { (facts : Facts) (reached : Reached) (lower : List ℕ) (shape : Shape) (wish : Wish)
-        (a b : Arrangement)
-        → best_granting facts reached lower shape wish ≡ Some a → IsIn b (eligible facts reached lower shape)
-        → grants wish b ≡ true
-        → is_better_in facts reached lower b a ≡ false }
-    ensures first { (facts : Facts) (reached : Reached) (lower : List ℕ) (shape : Shape) (wish : Wish)
-        (a b : Arrangement)
-        → best_granting facts reached lower shape wish ≡ Some a → ComesBefore b a (eligible facts reached lower shape)
-        → grants wish b ≡ true
-        → is_better_in facts reached lower a b ≡ true }
+    ensures grants { (context : Context) (shape : Shape) (wish : Wish) (a : Arrangement)
+        → best_granting context shape wish ≡ Some a → (grants wish a ≡ true) × IsIn a (eligible_here context shape) }
+    ensures unbeaten { (context : Context) (shape : Shape) (wish : Wish) (a b : Arrangement)
+        → best_granting context shape wish ≡ Some a → IsIn b (eligible_here context shape) → grants wish b ≡ true
+        → is_better_here context b a ≡ false }
+    ensures first { (context : Context) (shape : Shape) (wish : Wish) (a b : Arrangement)
+        → best_granting context shape wish ≡ Some a → ComesBefore b a (eligible_here context shape)
+        → grants wish b ≡ true → is_better_here context a b ≡ true }
 {}
 
 /// What is chosen of a shape is better than the best candidate that grants a wish; or it is as good, and the same or
 /// before it in article D's order (B.8).
 #[tactic(auto, using(crate::proofs::BestGranting::chosen_before))]
 pub fn the_choice_is_better_or_before()
-    ensures { (facts : Facts) (reached : Reached) (lower : List ℕ) (shape : Shape) (wish : Wish)
-        (a chosen : Arrangement)
-        → best_of_shape facts reached lower shape ≡ Some chosen → best_granting facts reached lower shape wish ≡ Some a
-        → (is_better_in facts reached lower chosen a ≡ true) ⊎ IsAsGoodBefore facts reached lower shape chosen a }
+    ensures { (context : Context) (shape : Shape) (wish : Wish) (a chosen : Arrangement)
+        → best_of_shape context.facts context.reached context.lower shape ≡ Some chosen
+        → best_granting context shape wish ≡ Some a
+        → (is_better_here context chosen a ≡ true) ⊎ IsAsGoodBefore context shape chosen a }
 {}

@@ -11,11 +11,13 @@ use Rattle.dutch_choice.specs.declared.wish.Wish.{Wish}
 use Rattle.dutch_choice.specs.Aims.{best_wished}
 use Rattle.dutch_pair.specs.Lower.{lower_of}
 use Rattle.dutch_pair.specs.Outcomes.{IsStage}
+use Rattle.dutch_bracket.specs.Context.{Context}
+use Rattle.dutch_bracket.specs.InContext.{eligible_here}
 use Rattle.dutch_bracket.specs.Reached.{Reached, frame_of}
-use Rattle.dutch_bracket.specs.Brackets.{candidates_of, eligible, is_better_in, is_penultimate, shape_of}
+use Rattle.dutch_bracket.specs.Brackets.{candidates_of, eligible, is_penultimate, shape_of}
 use Rattle.dutch_bracket.specs.Shapes.{fits, has_member}
 use Rattle.dutch_pair.specs.Stages.{choice_of}
-use Rattle.dutch_choice.specs.Wishes.{NoneGrants, grants, some_grants, with_mdps}
+use Rattle.dutch_choice.specs.Wishes.{NoneGrants, granting, grants, is_better_here, some_grants, with_mdps}
 use Rattle.dutch_choice.proofs.BestLemmas.{best_of_some, chosen_is, order_in}
 use Rattle.dutch_bracket.proofs.EligibleLemmas.{eligible_all}
 use Rattle.dutch_bracket.proofs.ShapeLaws.{has_room, none_is_greater}
@@ -42,17 +44,17 @@ any_kept : (test : Arrangement → Bool) (all : List Arrangement) → list_any t
 any_kept test [] = refl
 any_kept test (a ∷ rest) = kept_at test a rest (test a) refl (any_kept test rest)
 
-module _ (facts : Facts) (reached : Reached) (lower : List ℕ) (shape : Shape) (wish : Wish) where
-  none_at : (t : Bool) → has_member (filter (grants wish) (eligible facts reached lower shape)) ≡ t → best_wished facts reached lower (Some wish) shape ≡ None → t ≡ false
+module _ (context : Context) (shape : Shape) (wish : Wish) where
+  none_at : (t : Bool) → has_member (granting context shape wish) ≡ t → best_wished context (Some wish) shape ≡ None → t ≡ false
   unfolding best_wished
-  none_at true some none =
-      absurd (best_of_some (is_better_in facts reached lower) (order_in facts reached lower) (filter (grants wish) (eligible facts reached lower shape)) some none)
+  none_at true some none = absurd (best_of_some (is_better_here context) (order_in context) (granting context shape wish) some none)
   none_at false some none = refl
 
   -- where there is no best one, none that can be chosen grants the wish
-  pub none_granting : best_wished facts reached lower (Some wish) shape ≡ None → list_any (grants wish) (eligible facts reached lower shape) ≡ false
-  none_granting none = any_kept (grants wish) (eligible facts reached lower shape) ∙ none_at _ refl none
+  pub none_granting : best_wished context (Some wish) shape ≡ None → list_any (grants wish) (eligible_here context shape) ≡ false
+  none_granting none = any_kept (grants wish) (eligible_here context shape) ∙ none_at _ refl none
 
+module _ (facts : Facts) (reached : Reached) (lower : List ℕ) (shape : Shape) (wish : Wish) where
   -- and elsewhere than in a penultimate bracket none at all
   pub none_legal : is_penultimate reached.kind ≡ false → list_any (grants wish) (eligible facts reached lower shape) ≡ false
       → list_any (grants wish) (candidates_of facts reached shape) ≡ false

@@ -135,8 +135,8 @@ settled_in facts reached lower k stage same own e left value again =
     }
 
 -- what is chosen in a bracket that was read
-pub chosen_as : (k : Context) (stopped : Type 0) {a b : Made} → a ≡ b → IsChoice k.facts k.reached k.lower stopped a → IsChoice k.facts k.reached k.lower stopped b
-chosen_as k stopped e h = subst (λ (made : Made). IsChoice k.facts k.reached k.lower stopped made) e h
+pub chosen_as : (k : Context) (stopped : Type 0) {a b : Made} → a ≡ b → IsChoice k stopped a → IsChoice k stopped b
+chosen_as k stopped e h = subst (IsChoice k stopped) e h
 
 -- ---- the stage that comes of the bracket of a walk
 

@@ -18,7 +18,7 @@ use Rattle.dutch_choice.specs.Wishes.{IsBarred, SomeGrants, best_granting, grant
 -- reached
 unfoldable pub IsInstead : Facts → Reached → List ℕ → Shape → Wish → ℕ → Instead → Type 0
 IsInstead facts reached lower shape wish limit (Best candidate quality) =
-    (best_granting facts reached lower shape wish ≡ Some candidate.lists) × (candidate.down ≡ down (frame_of facts reached) candidate.lists)
+    (best_granting (record { facts = facts; reached = reached; lower = lower }) shape wish ≡ Some candidate.lists) × (candidate.down ≡ down (frame_of facts reached) candidate.lists)
     × (quality_in quality ≡ quality_of facts reached lower candidate.lists)
 IsInstead facts reached lower shape wish limit NoneEligible =
     IsBarred facts reached wish shape × (list_any (grants wish) (eligible facts reached lower shape) ≡ false)

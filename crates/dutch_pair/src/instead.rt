@@ -232,14 +232,14 @@ fn why_none(wished: &Wished<'_>, budget: &mut Budget) -> Result<Instead, Stopped
 
 /// The best candidate of a bracket's shape that grants a wish, or why there is none.
 #[tactic(auto, using(crate::proofs::InsteadLemmas::none_granting), unfolding(dutch_choice::specs::Aims::best_wished, dutch_choice::specs::Wishes::best_granting, crate::specs::Instead::IsInstead))]
-fn look_for(alloc: Global, wished: &Wished<'_>, budget: &mut Budget) -> Result<Instead, PairFault>
+fn look_for(wished: &Wished<'_>, budget: &mut Budget) -> Result<Instead, PairFault>
     requires greatest { shape_of wished.now.context.now.facts wished.now.context.now.reached
         wished.now.context.now.lower ≡ Some wished.now.shape }
     ensures { IfOk result (IsInstead wished.now.context.now.facts wished.now.context.now.reached
         wished.now.context.now.lower wished.now.shape wished.now.wish budget.old.limit) }
 {
     let wish = Some(wished.wish);
-    match best_of(alloc, wished.context, wished.shape, wish, budget)? {
+    match best_of(wished.context, wished.shape, wish, budget)? {
         Step::Found(best) => Ok(Instead::Best {
             candidate: best.candidate,
             quality: best.quality,
@@ -273,5 +273,5 @@ pub fn best_instead(
         shape: stage.shape(),
         wish,
     };
-    look_for(alloc, &wished, &mut Budget { used: 0, limit })
+    look_for(&wished, &mut Budget { used: 0, limit })
 }

@@ -74,7 +74,7 @@ pub(crate) fn settle(
     ensures spends { Spends budget.old budget.new }
 {
     let context = Context::new(alloc, field, reached, lower);
-    let (shape, candidate, quality) = match choose_in(alloc, &context, budget)? {
+    let (shape, candidate, quality) = match choose_in(&context, budget)? {
         Choice::Chosen {
             shape,
             candidate,

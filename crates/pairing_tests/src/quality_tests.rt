@@ -8,7 +8,7 @@ use dutch_pair::boards::boards;
 use dutch_pair::laws::{
     a_bracket_stands_above_the_lower, candidates_are_of_the_bracket, the_first_scoregroup_is_next,
 };
-use dutch_pair::lookahead::{Above, quality};
+use dutch_pair::lookahead::quality;
 use dutch_pair::{
     BracketAt, Choice, Item, Quality, Reached, bracket_at, choose, lower_of, split_first_group,
 };
@@ -40,12 +40,6 @@ fn qualities(
     let lower = lower_of(field, reached);
     the_first_scoregroup_is_next(field, reached, &lower);
     let (next, _) = split_first_group(field, &lower);
-    let above = Above {
-        alloc: None,
-        field,
-        reached,
-        next,
-    };
     let bracket = reached.frame(field);
     let rule = reached.rule(field);
     let mut candidates = Candidates::new(&bracket, shape, &rule);
@@ -58,7 +52,7 @@ fn qualities(
         match candidates.next(&mut budget) {
             Step::Found(candidate) => {
                 candidates_are_of_the_bracket(field, reached, shape, &candidate);
-                match quality(&above, &candidate, &mut budget) {
+                match quality(field, reached, &candidate, next, &mut budget) {
                     Some(found) => all.push(found)?,
                     None => return Err(Fail::new("undecided")),
                 }

@@ -1,52 +1,42 @@
 -- One candidate more, or the end of all candidates, tells what a pass chooses of the shape.
-use Rattle.std.proofs.Common.{◌≡◌, Bool, true, false, Ok, None, List, [], ◌∷◌, inl, inr, refl, sym, ap, ◌∙◌, subst}
-use Rattle.dutch_order.specs.Arrangements.{Frame, Arrangement, arrangements, is_legal, down}
+use Rattle.std.proofs.Common.{◌≡◌, None, [], inl, inr, refl, sym, ap, ◌∙◌, subst}
+use Rattle.dutch_order.specs.Arrangements.{Frame, down}
 use Rattle.dutch_order.specs.Keys.{IsIn}
-use Rattle.dutch_bracket.specs.declared.reached.ByNumber.{ByNumber}
-use Rattle.dutch_bracket.specs.Reached.{frame_of, numbers_meet, number_may_be_left}
-use Rattle.dutch_bracket.specs.Brackets.{candidates_of}
-use Rattle.dutch_choice.specs.Aims.{aim_in, is_dull, best_near, best_yet}
-use Rattle.dutch_bracket.proofs.LeastPsd.{in_filter}
-use Rattle.dutch_bracket.proofs.FlatBrackets.{listed_as}
-use Rattle.dutch_choice.proofs.BestLemmas.{best_last, handed}
-use Rattle.dutch_choice.proofs.AimLemmas.{skipped_same}
-use Rattle.dutch_choice.proofs.SkippedLemmas.{left_was_there}
-use Rattle.std.proofs.lemmas.Bool.{true≢false}
-use Rattle.dutch_order.specs.Steps.{MatchDrawn}
-use Rattle.dutch_order.specs.declared.steps.Stopped.{Stopped}
-use Rattle.dutch_choice.specs.Passes.{HasWeights, PassesDull}
+use Rattle.dutch_order.specs.Listings.{Listing}
 use Rattle.dutch_order.proofs.Spending.{spends-none, spends-more}
+use Rattle.dutch_bracket.specs.declared.reached.ByNumber.{ByNumber}
+use Rattle.dutch_bracket.specs.Brackets.{candidates_of}
+use Rattle.dutch_bracket.specs.InContext.{candidates_here}
+use Rattle.dutch_bracket.proofs.FlatBrackets.{listed_as}
+use Rattle.dutch_bracket.proofs.LegalPairs.{legal_of}
+use Rattle.dutch_choice.specs.Aims.{aim_in, best_near, best_yet}
+use Rattle.dutch_choice.specs.Passes.{ListsFor, best_of_pass, near_of}
+use Rattle.dutch_choice.specs.declared.pass.Pass.{Pass}
+use Rattle.dutch_choice.proofs.AimLemmas.{best_last, handed, skipped_same}
+use Rattle.dutch_choice.proofs.SkippedLemmas.{left_was_there}
 use Rattle.dutch_choice.proofs.choice.best_near.Goals as goal
 
--- what a draw gives, by its answer
-drawn_yes : (A B C : Type 0) (b : Bool) → b ≡ true → MatchDrawn {E = Stopped} (Ok b) A B C → A
-drawn_yes A B C true is drawn = drawn
-drawn_yes A B C false is drawn = absurd (true≢false (sym is))
-
-drawn_no : (A B C : Type 0) (b : Bool) → b ≡ false → MatchDrawn {E = Stopped} (Ok b) A B C → B
-drawn_no A B C true is drawn = absurd (true≢false is)
-drawn_no A B C false is drawn = drawn
+-- a listing of the bracket that goes on is one of it
+lists_stay : (pass : Pass) (old new : Listing ByNumber) → new.frame ≡ old.frame → new.rule ≡ old.rule → ListsFor pass old → ListsFor pass new
+lists_stay pass old new frame rule lists = record {
+  frame = frame ∙ lists.frame;
+  field = ap (λ (r : ByNumber). r.field.now) rule ∙ lists.field;
+  bracket = ap (λ (r : ByNumber). r.reached.now) rule ∙ lists.bracket;
+}
 
 pub loop-kept-init : goal.loop-kept-init
 unfolding candidates_of best_near best_yet
 loop-kept-init c =
     let pass = c.args.pass.now in
-    let facts = pass.context.now.facts in
-    let reached = pass.context.now.reached in
-    let coming = c.restart.new.self.coming in
     let before = c.args.lister.now.listing in
-    let listed : candidates_of facts reached pass.shape ≡ coming =
-    listed_as facts before.rule.field.now reached before.rule.reached.now before.frame pass.shape coming coming
+    let listed : candidates_here pass.context.now pass.shape ≡ c.restart.new.self.coming =
+    listed_as pass.context.now.facts before.rule.field.now pass.context.now.reached before.rule.reached.now before.frame pass.shape c.restart.new.self.coming c.restart.new.self.coming
     c.restart.ensures.coming c.requires.lists.field c.requires.lists.bracket c.requires.lists.frame refl in
     record {
-      chosen = ap (λ (all : List Arrangement). best_yet facts reached pass.context.now.lower pass.wish (aim_in pass.aim) None all) listed;
+      chosen = ap (best_of_pass pass None) listed;
       kept = tt;
       inside = λ lists m. subst (IsIn lists) (sym listed) m;
-      lists = record {
-        frame = c.restart.ensures.frame ∙ c.requires.lists.frame;
-        field = ap (λ (rule : ByNumber). rule.field.now) c.restart.ensures.rule ∙ c.requires.lists.field;
-        bracket = ap (λ (rule : ByNumber). rule.reached.now) c.restart.ensures.rule ∙ c.requires.lists.bracket;
-      };
+      lists = lists_stay pass before c.restart.new.self c.restart.ensures.frame c.restart.ensures.rule c.requires.lists;
       shape = c.restart.ensures.shape;
       spends = spends-none _;
       look = c.requires.look;
@@ -54,55 +44,44 @@ loop-kept-init c =
     }
 
 pub consider-requires-clause-candidate : goal.consider-requires-clause-candidate
-unfolding candidates_of
 consider-requires-clause-candidate c =
     let pass = c.args.pass.now in
-    let facts = pass.context.now.facts in
-    let reached = pass.context.now.reached in
-    let kept = c.loop-kept.kept in
-    let lister = c.draw.new.lister in
-    let Found : Type 0 = PassesDull pass c.loop-kept.kept c.loop-kept.lister.listing.coming (lister.drawn.lists ∷ lister.listing.coming)
-    × (lister.drawn.down ≡ down c.loop-kept.lister.listing.frame lister.drawn.lists) in
-    let None' : Type 0 = PassesDull pass c.loop-kept.kept c.loop-kept.lister.listing.coming [] in
-    let Stop : Type 0 = c.draw.new.budget.used ≡ c.draw.new.budget.limit in
-    let found : Found = drawn_yes Found None' Stop c.in_ok-draw.field-0 c.if-branch.true c.in_ok-draw.ensures.answer in
+    let found = rw c.if-branch.true at c.in_ok-draw.ensures.answer in
     let lists = c.draw.new.lister.drawn.lists in
-    let m : IsIn lists (candidates_of facts reached pass.shape) =
-    c.loop-kept.invariant.inside lists
-    (left_was_there (λ a. is_dull facts reached pass.context.now.lower pass.wish (aim_in pass.aim) kept a ≡ true) lists c.loop-kept.lister.listing.coming _ found.0 (inl refl)) in
+    let m = c.loop-kept.invariant.inside lists (left_was_there _ lists c.loop-kept.lister.listing.coming _ found.0 (inl refl)) in
     record {
-      lists = (pass.shape, in_filter (is_legal (numbers_meet facts reached) (number_may_be_left facts reached) (frame_of facts reached)) lists (arrangements (frame_of facts reached) pass.shape) m);
+      lists = (pass.shape, (legal_of pass.context.now.facts pass.context.now.reached pass.shape lists m).arranged);
       down = found.1 ∙ ap (λ (frame : Frame). down frame lists) c.loop-kept.invariant.lists.frame;
+    }
+
+pub loop-kept-preserved-in-Some : goal.loop-kept-preserved-in-Some
+loop-kept-preserved-in-Some c =
+    let pass = c.args.pass.now in
+    let found = rw c.if-branch.true at c.in_ok-draw.ensures.answer in
+    let before = c.loop-kept.lister.listing.coming in
+    record {
+      chosen = c.loop-kept.invariant.chosen ∙ skipped_same pass.context.now pass.wish (aim_in pass.aim) c.loop-kept.kept before _ c.loop-kept.invariant.kept found.0
+          ∙ sym ((rw c.in-Some.is at c.in_ok-best.ensures.answer) c.draw.new.lister.listing.coming);
+      kept = rw c.in-Some.is at c.in_ok-best.ensures.kept;
+      inside = λ lists m. c.loop-kept.invariant.inside lists (left_was_there _ lists before _ found.0 (inr m));
+      lists = lists_stay pass c.loop-kept.lister.listing c.draw.new.lister.listing c.in_ok-draw.ensures.frame c.in_ok-draw.ensures.rule c.loop-kept.invariant.lists;
+      shape = c.in_ok-draw.ensures.shape ∙ c.loop-kept.invariant.shape;
+      spends = spends-more c.loop-kept.invariant.spends (spends-more c.in_ok-draw.ensures.spends c.consider.ensures.spends);
+      look = c.consider.ensures.look;
+      weights = c.consider.ensures.weights ∙ c.in_ok-draw.ensures.weights ∙ c.loop-kept.invariant.weights;
     }
 
 pub loop-kept-preserved : goal.loop-kept-preserved
 loop-kept-preserved c =
     let pass = c.args.pass.now in
-    let facts = pass.context.now.facts in
-    let reached = pass.context.now.reached in
-    let lower = pass.context.now.lower in
-    let kept = c.loop-kept.kept in
-    let aim = aim_in pass.aim in
-    let lister = c.draw.new.lister in
-    let Found : Type 0 = PassesDull pass c.loop-kept.kept c.loop-kept.lister.listing.coming (lister.drawn.lists ∷ lister.listing.coming)
-    × (lister.drawn.down ≡ down c.loop-kept.lister.listing.frame lister.drawn.lists) in
-    let None' : Type 0 = PassesDull pass c.loop-kept.kept c.loop-kept.lister.listing.coming [] in
-    let Stop : Type 0 = c.draw.new.budget.used ≡ c.draw.new.budget.limit in
-    let found : Found = drawn_yes Found None' Stop c.in_ok-draw.field-0 c.if-branch.true c.in_ok-draw.ensures.answer in
+    let found = rw c.if-branch.true at c.in_ok-draw.ensures.answer in
     let before = c.loop-kept.lister.listing.coming in
-    let after = c.draw.new.lister.drawn.lists ∷ c.draw.new.lister.listing.coming in
     record {
-      chosen = c.loop-kept.invariant.chosen
-          ∙ skipped_same facts reached lower pass.wish aim kept before after c.loop-kept.invariant.kept found.0
-          ∙ sym (c.in_ok-consider.ensures.answer c.draw.new.lister.listing.coming);
-      kept = c.consider.ensures.kept;
-      inside = λ lists m. c.loop-kept.invariant.inside lists
-          (left_was_there (λ a. is_dull facts reached lower pass.wish aim kept a ≡ true) lists before after found.0 (inr m));
-      lists = record {
-        frame = c.in_ok-draw.ensures.frame ∙ c.loop-kept.invariant.lists.frame;
-        field = ap (λ (rule : ByNumber). rule.field.now) c.in_ok-draw.ensures.rule ∙ c.loop-kept.invariant.lists.field;
-        bracket = ap (λ (rule : ByNumber). rule.reached.now) c.in_ok-draw.ensures.rule ∙ c.loop-kept.invariant.lists.bracket;
-      };
+      chosen = c.loop-kept.invariant.chosen ∙ skipped_same pass.context.now pass.wish (aim_in pass.aim) c.loop-kept.kept before _ c.loop-kept.invariant.kept found.0
+          ∙ sym ((rw c.in_default.is at c.in_ok-best.ensures.answer) c.draw.new.lister.listing.coming);
+      kept = c.loop-kept.invariant.kept;
+      inside = λ lists m. c.loop-kept.invariant.inside lists (left_was_there _ lists before _ found.0 (inr m));
+      lists = lists_stay pass c.loop-kept.lister.listing c.draw.new.lister.listing c.in_ok-draw.ensures.frame c.in_ok-draw.ensures.rule c.loop-kept.invariant.lists;
       shape = c.in_ok-draw.ensures.shape ∙ c.loop-kept.invariant.shape;
       spends = spends-more c.loop-kept.invariant.spends (spends-more c.in_ok-draw.ensures.spends c.consider.ensures.spends);
       look = c.consider.ensures.look;
@@ -112,32 +91,7 @@ loop-kept-preserved c =
 pub returns-clause-answer : goal.returns-clause-answer
 returns-clause-answer c =
     let pass = c.args.pass.now in
-    let facts = pass.context.now.facts in
-    let reached = pass.context.now.reached in
-    let lower = pass.context.now.lower in
-    let kept = c.loop-kept.kept in
-    let aim = aim_in pass.aim in
-    let lister = c.draw.new.lister in
-    let Found : Type 0 = PassesDull pass c.loop-kept.kept c.loop-kept.lister.listing.coming (lister.drawn.lists ∷ lister.listing.coming)
-    × (lister.drawn.down ≡ down c.loop-kept.lister.listing.frame lister.drawn.lists) in
-    let None' : Type 0 = PassesDull pass c.loop-kept.kept c.loop-kept.lister.listing.coming [] in
-    let Stop : Type 0 = c.draw.new.budget.used ≡ c.draw.new.budget.limit in
-    let ended : None' = drawn_no Found None' Stop c.in_ok-draw.field-0 c.if-branch.false c.in_ok-draw.ensures.answer in
-    let all = best_near facts reached lower pass.wish aim pass.shape in
-    handed facts reached lower kept all c.loop-kept.invariant.kept
-    (best_last facts reached lower pass.wish aim kept all
-    (c.loop-kept.invariant.chosen ∙ skipped_same facts reached lower pass.wish aim kept c.loop-kept.lister.listing.coming [] c.loop-kept.invariant.kept ended))
-
-pub draw-requires-clause-weights : goal.draw-requires-clause-weights
-draw-requires-clause-weights c =
-    let pass = c.args.pass.now in
-    subst (λ weights. HasWeights pass weights) (sym c.loop-kept.invariant.weights) c.requires.weights
-
-pub returns-in_err-draw-clause-weights : goal.returns-in_err-draw-clause-weights
-returns-in_err-draw-clause-weights c = c.draw.ensures.weights ∙ c.loop-kept.invariant.weights
-
-pub returns-in_err-consider-clause-weights : goal.returns-in_err-consider-clause-weights
-returns-in_err-consider-clause-weights c = c.consider.ensures.weights ∙ c.draw.ensures.weights ∙ c.loop-kept.invariant.weights
-
-pub returns-clause-weights : goal.returns-clause-weights
-returns-clause-weights c = c.draw.ensures.weights ∙ c.loop-kept.invariant.weights
+    let ended = rw c.if-branch.false at c.in_ok-draw.ensures.answer in
+    handed pass.context.now c.loop-kept.kept (near_of pass) c.loop-kept.invariant.kept
+    (best_last pass.context.now pass.wish (aim_in pass.aim) c.loop-kept.kept (near_of pass)
+    (c.loop-kept.invariant.chosen ∙ skipped_same pass.context.now pass.wish (aim_in pass.aim) c.loop-kept.kept c.loop-kept.lister.listing.coming [] c.loop-kept.invariant.kept ended))

@@ -2,12 +2,11 @@
 use Rattle.std.proofs.Common.{◌≡◌, length}
 use Rattle.dutch_order.specs.Arrangements.{Arrangement}
 use Rattle.dutch_order.specs.Keys.{IsIn}
-use Rattle.dutch_bracket.specs.Eligible.{Lists}
-use Rattle.dutch_bracket.specs.Brackets.{candidates_of}
-use Rattle.dutch_choice.specs.Kept.{IsKept}
-use Rattle.dutch_choice.specs.Aims.{aim_in, best_near, best_yet}
-use Rattle.dutch_choice.specs.Remembered.{LooksBelow}
 use Rattle.dutch_order.specs.Steps.{Spends}
+use Rattle.dutch_bracket.specs.InContext.{candidates_here}
+use Rattle.dutch_choice.specs.Kept.{IsKept}
+use Rattle.dutch_choice.specs.Passes.{ListsFor, best_of_pass, near_of}
+use Rattle.dutch_choice.specs.Remembered.{LooksBelow}
 use Rattle.dutch_choice.proofs.choice.best_near.Given as goal
 
 abbrev pub decreases-loop-kept : goal.decreases-loop-kept
@@ -15,13 +14,12 @@ decreases-loop-kept l = length l.lister.listing.coming
 
 abbrev pub invariant-loop-kept : goal.invariant-loop-kept
 invariant-loop-kept l = record {
-  chosen : best_near l.pass.context.now.facts l.pass.context.now.reached l.pass.context.now.lower l.pass.wish (aim_in l.pass.aim) l.pass.shape
-      ≡ best_yet l.pass.context.now.facts l.pass.context.now.reached l.pass.context.now.lower l.pass.wish (aim_in l.pass.aim) l.kept l.lister.listing.coming;
-  kept : IsKept l.pass.context.now.facts l.pass.context.now.reached l.pass.context.now.lower l.kept;
-  inside : (lists : Arrangement) → IsIn lists l.lister.listing.coming → IsIn lists (candidates_of l.pass.context.now.facts l.pass.context.now.reached l.pass.shape);
-  lists : Lists l.pass.context.now.facts l.pass.context.now.reached l.lister.listing;
+  chosen : near_of l.pass ≡ best_of_pass l.pass l.kept l.lister.listing.coming;
+  kept : IsKept l.pass.context.now l.kept;
+  inside : (lists : Arrangement) → IsIn lists l.lister.listing.coming → IsIn lists (candidates_here l.pass.context.now l.pass.shape);
+  lists : ListsFor l.pass l.lister.listing;
   shape : l.lister.listing.shape ≡ l.pass.shape;
-  look : LooksBelow l.pass.context.now.facts l.pass.context.now.reached l.pass.context.now.lower l.judge.look;
+  look : LooksBelow l.pass.context.now l.judge.look;
   weights : l.judge.weights ≡ l.initial.judge.weights;
   spends : Spends l.initial.budget l.budget;
 }

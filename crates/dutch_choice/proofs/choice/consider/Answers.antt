@@ -4,13 +4,14 @@ use Rattle.std.proofs.lemmas.Bool.{and_from}
 use Rattle.dutch_choice.specs.Aims.{aim_in, is_idle}
 use Rattle.dutch_order.specs.Candidates.{Candidate}
 use Rattle.dutch_bracket.specs.QualityIn.{quality_in}
-use Rattle.dutch_choice.proofs.BestLemmas.{winner_kept}
+use Rattle.dutch_choice.proofs.AimLemmas.{winner_kept}
 use Rattle.dutch_choice.proofs.choice.consider.Goals as goal
 
 pub returns-then-branch-clause-answer : goal.returns-then-branch-clause-answer
 returns-then-branch-clause-answer c = λ coming.
-    let pass = c.args.pass.now in
+    let pass = c.args.search.pass.now in
+    let kept = c.args.search.kept.now in
     let taken = c.take-quality.ensures.value in
-    winner_kept pass.context.now.facts pass.context.now.reached pass.context.now.lower pass.wish (aim_in pass.aim) c.args.kept.now (record { candidate = c.copied-candidate.result; quality = c.take-quality.result })
+    winner_kept pass.context.now pass.wish (aim_in pass.aim) kept (record { candidate = c.copied-candidate.result; quality = c.take-quality.result })
     c.args.candidate.now.lists coming c.requires.kept (ap (λ (candidate : Candidate). candidate.lists) c.copied-candidate.ensures) (ap quality_in taken ∙ c.in_ok-judge_candidate.ensures.answer)
-    (ap (λ quality. is_idle (aim_in pass.aim) c.args.kept.now (quality_in quality)) taken ∙ sym c.if-is_idle.ensures) (and_from _ _ (sym c.in_ok-can_be_chosen.ensures.answer ∙ c.if-branch.true) (sym c.if-not-is_wished.ensures))
+    (ap (λ quality. is_idle (aim_in pass.aim) kept (quality_in quality)) taken ∙ sym c.if-is_idle.ensures) (and_from _ _ (sym c.in_ok-can_be_chosen.ensures.answer ∙ c.if-branch.true) (sym c.if-not-is_wished.ensures))

@@ -6,7 +6,7 @@ use Rattle.dutch_choice.proofs.choice.draw.Given as goal
 
 abbrev pub invariant-loop : goal.invariant-loop
 invariant-loop l = record {
-  passed : PassesDull l.sought.pass.now l.sought.kept.now l.initial.lister.listing.coming l.lister.listing.coming;
+  passed : PassesDull l.search l.initial.lister.listing.coming l.lister.listing.coming;
   frame : l.lister.listing.frame ≡ l.initial.lister.listing.frame;
   shape : l.lister.listing.shape ≡ l.initial.lister.listing.shape;
   rule : l.lister.listing.rule ≡ l.initial.lister.listing.rule;

@@ -4,7 +4,6 @@ use Rattle.dutch_choice.proofs.BarsBehind.{awaited_by}
 use Rattle.dutch_choice.proofs.skipper.has_no_better_next.Goals as goal
 
 pub returns : goal.returns
-returns c = λ none a listed begins.
+returns c = λ none.
     let pass = c.args.pass.now in
-    awaited_by pass.context.now.facts pass.context.now.reached pass.context.now.lower pass.shape pass.floors pass.basis pass.of c.args.prefix.now
-    (next_in (quality_in c.args.quality.now)) (c.has_no_better_next.ensures none) a listed begins
+    awaited_by pass.context.now pass.shape pass.floors pass.basis pass.of c.args.prefix.now (next_in (quality_in c.args.quality.now)) (c.has_no_better_next.ensures none)

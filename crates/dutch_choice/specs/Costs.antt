@@ -1,0 +1,17 @@
+-- What the laws of weights name (C.04.3 C.6 to C.19).
+use Rattle.dual.specs.Matchings.{Costs}
+use Rattle.dutch_bracket.specs.Context.{Context}
+use Rattle.dutch_bracket.specs.Scopes.{Scope}
+use Rattle.dutch_bracket.specs.Weights.{Scale}
+use Rattle.dutch_weights.specs.Orders.{Order}
+use Rattle.dutch_weights.specs.ScopedCosts.{costs_in}
+use Rattle.dutch_weights.specs.declared.scoped.Reach.{Reach}
+
+-- what matchings cost in a bracket above lower seats, on a scale: those of a scope, over so many players, with an order of S1R
+abbrev pub costs_here : Context → Scale → Scope → Reach → Order → Costs
+costs_here context scale scope reach order = costs_in (record {
+  weighing = record { facts = context.facts; reached = context.reached; lower = context.lower; scale = scale };
+  scope = scope;
+  reach = reach;
+  order = order;
+})

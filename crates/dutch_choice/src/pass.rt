@@ -1,0 +1,58 @@
+// One pass over the candidates of a shape (C.04.3 B.8): what it seeks, and the best candidate that it has found so far.
+ghost use Rattle.std.specs.Prelude.{◌≡◌};
+ghost use Rattle.dutch_bracket.specs.InContext.{FitsHere};
+ghost use Rattle.dutch_bracket.specs.QualityIn.{quality_in};
+ghost use Rattle.dutch_bracket.specs.Reached.{IsOf};
+ghost use Rattle.dutch_floors.specs.FloorOf.{IsBasis};
+ghost use Rattle.dutch_choice.specs.Aims.{aim_in, is_idle};
+
+use crate::wish::Wish;
+use dutch_bracket::context::Context;
+use dutch_bracket::quality::Quality;
+use dutch_floors::floor::Floors;
+use dutch_order::{Candidate, Shape};
+
+/// The best candidate so far, with its quality.
+#[derive(Drop)]
+pub struct Best {
+    pub candidate: Candidate,
+    pub quality: Quality,
+}
+
+/// One pass over the candidates of a shape, in a bracket above all lower seats by rank. With an aim it seeks those
+/// alone that the aim is not better than, and with a wish those alone that grant it.
+#[derive(Drop)]
+pub(crate) struct Pass<'a> {
+    pub context: &'a Context<'a>,
+    pub shape: Shape,
+    pub wish: Option<Wish>,
+    pub(crate) aim: Option<Quality>,
+    /// The few steps that come first did not suffice.
+    pub(crate) is_long: bool,
+    pub(crate) floors: Floors<'a>,
+    ghost of: { IsOf context.now.facts context.now.reached },
+    ghost fits: { FitsHere context.now shape },
+    ghost basis: { IsBasis context.now.facts context.now.reached context.now.lower shape floors },
+}
+
+/// A pass, beside the candidate that it keeps.
+#[derive(Clone, Copy)]
+pub(crate) struct Search<'a, 'k> {
+    pub(crate) pass: &'a Pass<'a>,
+    pub(crate) kept: &'k Option<Best>,
+}
+
+/// Whether a quality is of no interest: the aim is better, or it is not better than that of the candidate that is kept.
+pub(crate) fn is_idle(quality: &Quality, aim: &Option<Quality>, kept: &Option<Best>) -> bool
+    ensures { result ≡ is_idle (aim_in aim.now) kept.now (quality_in quality.now) }
+{
+    if let Some(aim) = aim {
+        if aim.is_better(quality) {
+            return true;
+        }
+    }
+    match kept {
+        Some(best) => !quality.is_better(&best.quality),
+        None => false,
+    }
+}
