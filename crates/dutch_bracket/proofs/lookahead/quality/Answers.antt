@@ -1,10 +1,11 @@
 -- A candidate of a bracket has numbers of its seats.
-use Rattle.std.proofs.Common.{sym, subst}
+use Rattle.std.proofs.Common.{List, ℕ, sym, subst}
 use Rattle.dutch_bracket.specs.Seated.{IsCandidate}
 use Rattle.dutch_bracket.proofs.FlatBrackets.{candidate_of}
 use Rattle.dutch_bracket.proofs.lookahead.quality.Goals as goal
 
 pub fill_quality-requires-clause-candidate : goal.fill_quality-requires-clause-candidate
 fill_quality-requires-clause-candidate c =
-    subst (λ seats. IsCandidate seats c.args.candidate.now) (sym c.seats.ensures)
-    (candidate_of c.args.above.now.field.now c.args.above.now.reached.now c.requires.candidate.lists.0 c.args.candidate.now c.args.above.now.of c.requires.candidate.lists.1 c.requires.candidate.down)
+    let P : List ℕ → Type 0 = λ seats. IsCandidate seats c.args.candidate.now in
+    subst P (sym c.seats.ensures)
+    (candidate_of c.args.field.now c.args.reached.now c.requires.candidate.lists.0 c.args.candidate.now c.requires.of c.requires.candidate.lists.1 c.requires.candidate.down)
