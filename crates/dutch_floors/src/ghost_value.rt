@@ -53,7 +53,7 @@ pub(crate) fn first_limbo(context: &Context<'_>, shape: Shape) -> Numbers
 
 /// The scores of the ghosts for a shape: those of the Limbo of its first S1, and the residents' score for each who goes
 /// down.
-#[tactic(auto, using(crate::proofs::C07Outlook::few_pairs))]
+#[tactic(auto, using(crate::proofs::C07Outlook::few_pairs, crate::proofs::GhostBrackets::ghosts_are_a_bracket, dutch_bracket::proofs::NextGroups::first_is_next))]
 fn ghost_scores(context: &Context<'_>, shape: Shape) -> Numbers
     requires flat { IsFlat context.now.facts context.now.reached }
     requires fits { FitsHere context.now shape }

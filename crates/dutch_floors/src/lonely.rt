@@ -148,7 +148,7 @@ fn more_lonely(first: usize, second: usize, down: usize) -> usize
 
 /// How many miss at least for want of an opponent who suits. The list is filled anew with those with whom S1R can still
 /// be paired.
-#[tactic(auto, using(crate::proofs::LonelyLemmas::beyond_numbers), unfolding(dutch_bracket::specs::ColourFloors::lonely))]
+#[tactic(auto, using(crate::proofs::LonelyLemmas::beyond_numbers), unfolding(dutch_bracket::specs::ColourFloors::lonely, dutch_bracket::specs::ColourFloors::lonely_first, dutch_bracket::specs::ColourFloors::lonely_second))]
 pub(crate) fn lonely(
     context: &Context<'_>,
     shape: Shape,
