@@ -3,7 +3,7 @@ use Rattle.std.proofs.Common.{◌≡◌, ◌&&◌, ◌≤◌, ◌^◌, cond, ref
 use Rattle.std.specs.Prelude.{IfSome, codes, option_and_then, option_map, unwrap_or}
 use Rattle.std.specs.Str.{bytes_eq}
 use Rattle.std.specs.Str.Parse.{digits_value, without_leading_plus}
-use Rattle.std.proofs.lemmas.Bool.{leb-true, and_parts}
+use Rattle.std.proofs.lemmas.Bool.{leb-true, and_parts, cond_both}
 use Rattle.clap.specs.ValueTests.{is_numeral, is_unsigned_in}
 use Rattle.clap.specs.Words.{Row, Text, one_of, subcommand_of}
 use Rattle.dutch_order.specs.Cursors.{has_syntax}
@@ -31,21 +31,18 @@ then_ok (Ok x) f y e = (x, refl, e)
 then_ok (Err fault) f y e = absurd (not_ok fault y e)
 
 -- a number that is read is at most the greatest
-number_at : (most n : ℕ) (t : Bool) → (t ≡ true → n ≤ most) → IfSome (cond t (Some n) None) (λ x. x ≤ most)
-number_at most n true passes = passes refl
-number_at most n false passes = tt
-
 number_few : (most : ℕ) (found : Option Text) → IfSome (option_and_then (number_of most) found) (λ x. x ≤ most)
 number_few most None = tt
 number_few most (Some text) =
     let n = digits_value 10 (without_leading_plus text) in
-    number_at most n (is_unsigned_in 0 most text)
+    cond_both (is_unsigned_in 0 most text) (Some n) None (λ (found : Option ℕ). IfSome found (λ x. x ≤ most))
     (λ passes.
     let small = nat_lt n (2 ^ 64) in
     let one = and_parts (is_numeral (without_leading_plus text)) (small && (nat_le 0 n && nat_le n most)) passes in
     let two = and_parts small (nat_le 0 n && nat_le n most) one.1 in
     let three = and_parts (nat_le 0 n) (nat_le n most) two.1 in
     leb-true n most three.1)
+    (λ fails. tt)
 
 rounds_few : (rows : List Row) → IfSome (rounds_in rows) (λ x. x ≤ MOST_ROUNDS)
 rounds_few rows = number_few MOST_ROUNDS (one_of (codes "rounds") rows)
@@ -59,29 +56,10 @@ pair_few rows options e =
     let t = then_ok shown (λ shown. Ok (made s.0 shown)) options s.2 in
     subst HasFewRounds (same_ok (made s.0 t.0) options t.2) (rounds_few rows)
 
-pair_asked : (rows : List Row) (request : Request) → pair_request rows ≡ Ok request → CanBeAnswered request
-unfolding pair_request
-pair_asked rows request e =
-    let s = then_ok (pair_options rows) (λ options. Ok (Pair options)) request e in
-    subst CanBeAnswered (same_ok (Pair s.0) request s.2) (pair_few rows s.0 s.1)
-
-candidates_asked : (rows : List Row) (request : Request) → candidates_request rows ≡ Ok request → CanBeAnswered request
-unfolding candidates_request
-candidates_asked rows request e =
-    let s = then_ok (candidates_options has_syntax rows) (λ options. Ok (Candidates options)) request e in
-    subst CanBeAnswered (same_ok (Candidates s.0) request s.2) tt
-
-explain_asked : (rows : List Row) (request : Request) → explain_request rows ≡ Ok request → CanBeAnswered request
-unfolding explain_request
-explain_asked rows request e =
-    let s = then_ok (explain_options rows) (λ options. Ok (Explain options)) request e in
-    subst CanBeAnswered (same_ok (Explain s.0) request s.2) tt
-
-standings_asked : (rows : List Row) (request : Request) → standings_request rows ≡ Ok request → CanBeAnswered request
-unfolding standings_request
-standings_asked rows request e =
-    let s = then_ok (standings_options rows) (λ options. Ok (Standings options)) request e in
-    subst CanBeAnswered (same_ok (Standings s.0) request s.2) tt
+asked_of : {A : Type 0} (r : Result A WordFault) (f : A → Request) → ((options : A) → r ≡ Ok options → CanBeAnswered (f options)) → (request : Request)
+    → (r >>= (λ options. Ok (f options))) ≡ Ok request → CanBeAnswered request
+asked_of (Ok options) f can request e = subst CanBeAnswered (same_ok (f options) request e) (can options refl)
+asked_of (Err fault) f can request e = absurd (not_ok fault request e)
 
 some_ok : (x y : Result Request WordFault) → Some x ≡ Some y → x ≡ y
 some_ok x y e = cc
@@ -89,12 +67,17 @@ some_ok x y e = cc
 asked_at : (rows : List Row) (request : Request) (check format pair candidates explain standings : Bool)
     → cond check (Some (Ok (Check (check_options rows)))) (cond format (Some (Ok (Format (format_options rows)))) (cond pair (Some (pair_request rows))
     (cond candidates (Some (candidates_request rows)) (cond explain (Some (explain_request rows)) (cond standings (Some (standings_request rows)) None))))) ≡ Some (Ok request) → CanBeAnswered request
+unfolding pair_request candidates_request explain_request standings_request
 asked_at rows request true format pair candidates explain standings e = subst CanBeAnswered (same_ok (Check (check_options rows)) request (some_ok (Ok (Check (check_options rows))) (Ok request) e)) tt
 asked_at rows request false true pair candidates explain standings e = subst CanBeAnswered (same_ok (Format (format_options rows)) request (some_ok (Ok (Format (format_options rows))) (Ok request) e)) tt
-asked_at rows request false false true candidates explain standings e = pair_asked rows request (some_ok (pair_request rows) (Ok request) e)
-asked_at rows request false false false true explain standings e = candidates_asked rows request (some_ok (candidates_request rows) (Ok request) e)
-asked_at rows request false false false false true standings e = explain_asked rows request (some_ok (explain_request rows) (Ok request) e)
-asked_at rows request false false false false false true e = standings_asked rows request (some_ok (standings_request rows) (Ok request) e)
+asked_at rows request false false true candidates explain standings e =
+    asked_of (pair_options rows) (λ options. Pair options) (pair_few rows) request (some_ok (pair_request rows) (Ok request) e)
+asked_at rows request false false false true explain standings e =
+    asked_of (candidates_options has_syntax rows) (λ options. Candidates options) (λ options e. tt) request (some_ok (candidates_request rows) (Ok request) e)
+asked_at rows request false false false false true standings e =
+    asked_of (explain_options rows) (λ options. Explain options) (λ options e. tt) request (some_ok (explain_request rows) (Ok request) e)
+asked_at rows request false false false false false true e =
+    asked_of (standings_options rows) (λ options. Standings options) (λ options e. tt) request (some_ok (standings_request rows) (Ok request) e)
 asked_at rows request false false false false false false e = let bad : None ≡ Some (let made : Result Request WordFault = Ok request in made) = e in cc
 
 command_asked : (command : Text × List Row) (request : Request) → request_of command.0 command.1 ≡ Some (Ok request) → CanBeAnswered request

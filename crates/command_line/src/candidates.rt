@@ -14,10 +14,10 @@ use dutch_order::{Budget, Candidates, Cursor, Rule, Shape};
 use dutch_pair::{BracketAt, PairFault, Reached, bracket_at};
 use dutch_player::{Field, FieldFault};
 use replies::refusal::{cannot_be_paired, no_pairing, refused, undecided};
-use replies::{Reply, Status, Text, texts};
+use replies::{Reply, Status, texts};
 use requests::CandidatesOptions;
 use round_lines::bracket_texts;
-use round_lines::listing::{Listed, lines};
+use round_lines::listing::{Bracket, Coming, Listed, lines};
 use std::alloc::{AllocError, Global};
 use trf16::{Fault, Report};
 
@@ -138,16 +138,16 @@ fn list(
 
 // A bracket and the candidates to come.
 #[tactic(auto, using(crate::proofs::CandidateLemmas::listed))]
-fn list_coming<R: Rule>(
+fn list_coming<'a, R: Rule>(
     alloc: Global,
     options: &CandidatesOptions<'_>,
-    asked: &Asked<'_>,
-    coming: Candidates<'_, R>,
+    asked: &Asked<'a>,
+    candidates: Candidates<'a, R>,
 ) -> Result<Reply, AllocError>
     requires of { IsOf asked.now.field.now asked.now.reached.now }
-    requires frame { coming.frame ≡ frame_of asked.now.field.now asked.now.reached.now }
+    requires frame { candidates.frame ≡ frame_of asked.now.field.now asked.now.reached.now }
     requires coming { coming_of asked.now.field.now asked.now.reached.now asked.now.shape options.now.from
-        ≡ Ok coming.coming }
+        ≡ Ok candidates.coming }
     ensures { IfOk result (λ reply. Lists options.now asked.now.field.now asked.now.reached.now asked.now.shape
         (coming_of asked.now.field.now asked.now.reached.now asked.now.shape options.now.from) (answer_of reply)) }
 {
@@ -155,20 +155,18 @@ fn list_coming<R: Rule>(
         limit: options.steps,
         used: 0,
     };
-    let listed = lines(
-        alloc,
-        asked.field,
-        asked.reached,
-        coming,
-        options.count,
-        &mut budget,
-    )?;
+    let bracket = Bracket {
+        field: asked.field,
+        reached: asked.reached,
+    };
+    let coming = Coming {
+        bracket,
+        candidates,
+    };
+    let listed = lines(alloc, coming, options.count, &mut budget)?;
     let first = bracket_texts::bracket(alloc, options.bracket, asked.reached.kind(), asked.shape)?;
     let text = listing(alloc, options.bracket, first, &listed)?;
-    Ok(Reply {
-        status: listed.ending.status(),
-        text: Text::Made(text),
-    })
+    Ok(Reply::made(listed.ending.status(), text))
 }
 
 // A first line, the lines of the candidates of the bracket of a number, and how they ended.
@@ -187,20 +185,12 @@ fn listing(alloc: Global, number: u16, first: String, listed: &Listed) -> Result
 fn not_reached(alloc: Global, number: u16) -> Result<Reply, AllocError>
     ensures { IfOk result (λ reply. answer_of reply ≡ not_reached number) }
 {
-    let text = texts::not_reached(alloc, number)?;
-    Ok(Reply {
-        status: Status::BadWords,
-        text: Text::Made(text),
-    })
+    Ok(Reply::made(Status::BadWords, texts::not_reached(alloc, number)?))
 }
 
 // The cursor is not one of the bracket that is asked for.
 fn not_of_bracket(alloc: Global, number: u16) -> Result<Reply, AllocError>
     ensures { IfOk result (λ reply. answer_of reply ≡ not_of_bracket number) }
 {
-    let text = texts::not_of_bracket(alloc, number)?;
-    Ok(Reply {
-        status: Status::BadWords,
-        text: Text::Made(text),
-    })
+    Ok(Reply::made(Status::BadWords, texts::not_of_bracket(alloc, number)?))
 }

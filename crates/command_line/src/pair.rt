@@ -18,7 +18,7 @@ use dutch_pair::{Outcome, PairFault, pair_round};
 use dutch_player::{Field, FieldFault};
 use replies::format::rewritten;
 use replies::refusal::{cannot_be_paired, no_pairing, refused, undecided};
-use replies::{Reply, Status, Text, wall};
+use replies::{Reply, Status, wall};
 use requests::{PairOptions, Shown};
 use std::alloc::{AllocError, Global};
 use trf16::{Fault, Report};
@@ -114,11 +114,7 @@ fn tell_boards(
 fn tell_ranks(alloc: Global, boards: &[Board]) -> Result<Reply, AllocError>
     ensures { IfOk result (λ reply. answer_of reply ≡ done (boards_text boards.now)) }
 {
-    let text = board_lines(alloc, boards)?;
-    Ok(Reply {
-        status: Status::Done,
-        text: Text::Made(text),
-    })
+    Ok(Reply::made(Status::Done, board_lines(alloc, boards)?))
 }
 
 // The report whose next round the boards are.

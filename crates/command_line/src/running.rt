@@ -16,7 +16,7 @@ use explained::explain::explain;
 use replies::check::check;
 use replies::format::format;
 use replies::standings::standings;
-use replies::{InputFault, Reply, Status, Text, read_input, texts};
+use replies::{InputFault, Reply, Status, read_input, texts};
 use requests::{Asked, Request, Task, meant, read_words};
 use std::alloc::{AllocError, Global};
 use trf16::{Sink, Source};
@@ -60,18 +60,9 @@ fn reply_to<'a, R: Source>(alloc: Global, words: &'a [&'a str], reader: &mut R) 
 {
     match read_words(alloc, words) {
         Ok(Asked::Command(task)) => reply_to_task(alloc, task, reader),
-        Ok(Asked::Help(text)) => Reply {
-            status: Status::Done,
-            text: Text::Made(text),
-        },
-        Ok(Asked::Mistake(text)) => Reply {
-            status: Status::BadWords,
-            text: Text::Made(text),
-        },
-        Ok(Asked::Refused(fault)) => Reply {
-            status: Status::BadWords,
-            text: Text::Fixed(texts::bad_words(fault)),
-        },
+        Ok(Asked::Help(text)) => Reply::made(Status::Done, text),
+        Ok(Asked::Mistake(text)) => Reply::made(Status::BadWords, text),
+        Ok(Asked::Refused(fault)) => Reply::fixed(Status::BadWords, texts::bad_words(fault)),
         Err(AllocError) => out_of_memory(),
     }
 }
@@ -116,18 +107,12 @@ fn answer(alloc: Global, task: Task<'_>, input: &[u8]) -> Result<Reply, AllocErr
 fn read_failed() -> Reply
     ensures { answer_of result ≡ read_fault }
 {
-    Reply {
-        status: Status::Trouble,
-        text: Text::Fixed("device: read failed\n"),
-    }
+    Reply::fixed(Status::Trouble, "device: read failed\n")
 }
 
 // Memory was refused.
 fn out_of_memory() -> Reply
     ensures { answer_of result ≡ out_of_memory }
 {
-    Reply {
-        status: Status::Trouble,
-        text: Text::Fixed("memory: refused\n"),
-    }
+    Reply::fixed(Status::Trouble, "memory: refused\n")
 }

@@ -2,7 +2,7 @@
 use Rattle.std.proofs.Common.{◌≡◌, ℕ, Bool, true, false, ◌==◌, ◌≢◌, cond, List, [], ◌∷◌, refl, sym, ◌∙◌, arith}
 use Rattle.std.specs.List.{AllByRecursion}
 use Rattle.std.proofs.lemmas.Bool.Decides.{nat_tests}
-use Rattle.std.proofs.lemmas.Bool.{eqb-true}
+use Rattle.std.proofs.lemmas.Bool.{eqb-true, cond_both}
 use Rattle.dutch_player.specs.Facts.{Facts}
 use Rattle.dutch_bracket.specs.Seated.{score_at}
 use Rattle.dutch_bracket.specs.Groups.{IsScoregroup, NeighboursDiffer}
@@ -21,21 +21,17 @@ module _ (facts : Facts) where
   joined_differ seat first others [] same h = tt
   joined_differ seat first others (next ∷ groups) same h = (λ e. h.0 (sym same ∙ e), h.1)
 
-  onto_at : (seat first : ℕ) (others : List ℕ) (groups : List (List ℕ)) (t : Bool) → (score_at facts seat == score_at facts first) ≡ t
-      → AllByRecursion (IsScoregroup facts) ((first ∷ others) ∷ groups) × NeighboursDiffer facts ((first ∷ others) ∷ groups)
-      → AllByRecursion (IsScoregroup facts) (cond t ((seat ∷ first ∷ others) ∷ groups) ((seat ∷ []) ∷ (first ∷ others) ∷ groups))
-      × NeighboursDiffer facts (cond t ((seat ∷ first ∷ others) ∷ groups) ((seat ∷ []) ∷ (first ∷ others) ∷ groups))
-  onto_at seat first others groups true e h =
-      let same : score_at facts seat ≡ score_at facts first = eqb-true (score_at facts seat) (score_at facts first) e in
-      (((sym same, rescored (score_at facts first) (score_at facts seat) others (sym same) h.0.0), h.0.1), joined_differ seat first others groups same h.1)
-  onto_at seat first others groups false e h =
-      ((tt, h.0), (differ_of (score_at facts seat) (score_at facts first) e, h.1))
-
   onto_groups : (seat : ℕ) (groups : List (List ℕ)) → AllByRecursion (IsScoregroup facts) groups × NeighboursDiffer facts groups
       → AllByRecursion (IsScoregroup facts) (onto_group facts seat groups) × NeighboursDiffer facts (onto_group facts seat groups)
   onto_groups seat [] h = ((tt, tt), tt)
   onto_groups seat ([] ∷ groups) h = absurd h.0.0
-  onto_groups seat ((first ∷ others) ∷ groups) h = onto_at seat first others groups (score_at facts seat == score_at facts first) refl h
+  onto_groups seat ((first ∷ others) ∷ groups) h =
+      cond_both (score_at facts seat == score_at facts first) ((seat ∷ first ∷ others) ∷ groups) ((seat ∷ []) ∷ (first ∷ others) ∷ groups)
+      (λ (all : List (List ℕ)). AllByRecursion (IsScoregroup facts) all × NeighboursDiffer facts all)
+      (λ e.
+      let same : score_at facts seat ≡ score_at facts first = eqb-true (score_at facts seat) (score_at facts first) e in
+      (((sym same, rescored (score_at facts first) (score_at facts seat) others (sym same) h.0.0), h.0.1), joined_differ seat first others groups same h.1))
+      (λ e. ((tt, h.0), (differ_of (score_at facts seat) (score_at facts first) e, h.1)))
 
   pub groups_part : (seats : List ℕ) → AllByRecursion (IsScoregroup facts) (scoregroups facts seats) × NeighboursDiffer facts (scoregroups facts seats)
   groups_part [] = (tt, tt)

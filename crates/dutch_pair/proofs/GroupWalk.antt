@@ -2,8 +2,8 @@
 use Rattle.std.proofs.Common.{◌≡◌, ℕ, zero, suc, ◌+◌, ◌<◌, ◌≤◌, Bool, true, false, cond, ◌==◌, List, [], ◌∷◌, ◌++◌, length, length-append, take, drop, refl, sym, ap, ◌∙◌, subst, arith}
 use Rattle.std.specs.List.{AllByRecursion, concat}
 use Rattle.std.proofs.lemmas.Bool.Decides.{nat_tests}
-use Rattle.std.proofs.lemmas.List.{append_cancel_left, take-append-drop, nil_from_length}
-use Rattle.std.proofs.lemmas.Bool.{eqb-true}
+use Rattle.std.proofs.lemmas.List.{append_cancel_left, take-append-drop}
+use Rattle.std.proofs.lemmas.Bool.{eqb-true, cond_both}
 use Rattle.dutch_order.specs.Choices.{numbers_from}
 use Rattle.dutch_order.proofs.Members.{length-numbers}
 use Rattle.dutch_player.specs.Facts.{Facts}
@@ -17,7 +17,7 @@ use Rattle.dutch_bracket.specs.Brackets.{bracket, first_group, scoregroups}
 use Rattle.dutch_pair.specs.Round.{everybody, ordinary_bracket, brackets}
 use Rattle.dutch_pair.specs.Stages.{group_kind, round_by}
 use Rattle.dutch_bracket.proofs.GroupLemmas.{first_group_is, first_group_taken, concat_scoregroups}
-use Rattle.dutch_pair.proofs.WalkLemmas.{Descends, LeftGoOn, is_above, left_go_on, ranked_seats, ranked_front, ranked_back}
+use Rattle.dutch_pair.proofs.WalkLemmas.{Descends, is_above, ranked_seats, ranked_front, ranked_back}
 use Rattle.dutch_bracket.proofs.ArrangementParts.{numbers_above}
 use Rattle.dutch_order.specs.declared.numbers.TheConstants.{LIMIT}
 
@@ -27,23 +27,17 @@ ne_of a b h le = grind (arith, nat_tests)
 add-one : (n : ℕ) → n + 1 ≡ suc n
 add-one n = omega arith
 
--- whether there is somebody, by a test
-pub none_by_test : (xs : List ℕ) → true ≡ (length xs == 0) → xs ≡ []
-none_by_test xs h = nil_from_length xs (eqb-true (length xs) 0 (sym h))
-
+-- there is somebody, by a test
 pub some_by_test : (xs : List ℕ) → false ≡ (length xs == 0) → 0 < length xs
 some_by_test xs h = grind (arith, nat_tests)
 
 module _ (facts : Facts) where
   -- those at the front have the score
-  front_at : (score y : ℕ) (ys : List ℕ) (t : Bool) → (score_at facts y == score) ≡ t → AllByRecursion (λ a. score_at facts a ≡ score) (take (front_with facts score ys) ys)
-      → AllByRecursion (λ a. score_at facts a ≡ score) (take (cond t (suc (front_with facts score ys)) 0) (y ∷ ys))
-  front_at score y ys true e h = (eqb-true (score_at facts y) score e, h)
-  front_at score y ys false e h = tt
-
   front_same : (score : ℕ) (xs : List ℕ) → AllByRecursion (λ a. score_at facts a ≡ score) (take (front_with facts score xs) xs)
   front_same score [] = tt
-  front_same score (y ∷ ys) = front_at score y ys (score_at facts y == score) refl (front_same score ys)
+  front_same score (y ∷ ys) =
+      cond_both (score_at facts y == score) (suc (front_with facts score ys)) 0 (λ (n : ℕ). AllByRecursion (λ a. score_at facts a ≡ score) (take n (y ∷ ys)))
+      (λ e. (eqb-true (score_at facts y) score e, front_same score ys)) (λ e. tt)
 
   all_below : (y score : ℕ) (ys : List ℕ) → Descends facts → score_at facts y < score → AreRanked facts (y ∷ ys) → AreRanked facts ys → AllByRecursion (λ b. score_at facts b < score) ys
   all_below y score [] descends lt h g = tt
@@ -52,20 +46,16 @@ module _ (facts : Facts) where
       (omega (arith, fall, lt), all_below y score ys descends lt (h.0, h.1.1, g.2) g.2)
 
   -- and all behind them have a lower one
-  back_at : (score x y : ℕ) (ys : List ℕ) (t : Bool) → Descends facts → score_at facts x ≡ score → AreRanked facts (x ∷ y ∷ ys) → (score_at facts y == score) ≡ t
-      → (score_at facts y ≡ score → AllByRecursion (λ b. score_at facts b < score) (drop (front_with facts score ys) ys))
-      → AllByRecursion (λ b. score_at facts b < score) (drop (cond t (suc (front_with facts score ys)) 0) (y ∷ ys))
-  back_at score x y ys true descends same h e later = later (eqb-true (score_at facts y) score e)
-  back_at score x y ys false descends same h e later =
-      let fall : score_at facts y ≤ score_at facts x = descends.falls x y h.1.0 h.2.0 in
-      let lt : score_at facts y < score = ne_of (score_at facts y) score e (omega (arith, fall, same)) in
-      (lt, all_below y score ys descends lt h.2 h.2.2)
-
   back_below : (score x : ℕ) (xs : List ℕ) → Descends facts → score_at facts x ≡ score → AreRanked facts (x ∷ xs)
       → AllByRecursion (λ b. score_at facts b < score) (drop (front_with facts score xs) xs)
   back_below score x [] descends same h = tt
   back_below score x (y ∷ ys) descends same h =
-      back_at score x y ys (score_at facts y == score) descends same h refl (λ e. back_below score y ys descends e h.2)
+      cond_both (score_at facts y == score) (suc (front_with facts score ys)) 0 (λ (n : ℕ). AllByRecursion (λ b. score_at facts b < score) (drop n (y ∷ ys)))
+      (λ e. back_below score y ys descends (eqb-true (score_at facts y) score e) h.2)
+      (λ e.
+      let fall : score_at facts y ≤ score_at facts x = descends.falls x y h.1.0 h.2.0 in
+      let lt : score_at facts y < score = ne_of (score_at facts y) score e (omega (arith, fall, same)) in
+      (lt, all_below y score ys descends lt h.2 h.2.2))
 
   all_above : (score : ℕ) (tops lows : List ℕ) → AllByRecursion (λ a. score_at facts a ≡ score) tops → AllByRecursion (λ b. score_at facts b < score) lows → AreAbove facts tops lows
   all_above score [] lows h g = tt
@@ -156,9 +146,6 @@ module _ (facts : Facts) where
   module _ {md rest group lower : List ℕ} (parts : IsParted md rest group lower) where
     pub parted_above : (number : ℕ) (kind : BracketKind) → (kind ≡ Ordinary → 0 < length lower) → IsAbove facts (bracket number kind md group) lower
     parted_above number kind there = is_above facts parts.descends number kind md group lower parts.goes parts.above there
-
-    pub parted_left : (number : ℕ) (kind : BracketKind) → LeftGoOn facts (bracket number kind md group) lower
-    parted_left number kind lists = left_go_on facts parts.descends number kind md group lower lists parts.goes parts.above
 
     pub parted_few : length md + length group ≤ LIMIT
     parted_few =

@@ -1,7 +1,7 @@
 -- Why no candidate that can be chosen grants a wish (C.04.3 B.1, C.4, C.5), and which shape a stage has.
 use Rattle.std.proofs.Common.{◌≡◌, ◌≤◌, ◌<◌, ◌+◌, ◌⊎◌, ℕ, Bool, true, false, not, ◌&&◌, ◌||◌, cond, List, [], ◌∷◌, ◌++◌, filter, length, Some, None, inl, inr, refl, sym, ap, ◌∙◌, subst, arith}
 use Rattle.std.specs.List.{list_any, AllByRecursion}
-use Rattle.std.proofs.lemmas.Bool.{and_parts, cases_lt, not-true, true≢false}
+use Rattle.std.proofs.lemmas.Bool.{and_parts, and_right, cases_lt, not-true, true≢false}
 use Rattle.dutch_order.specs.declared.bracket.Shape.{Shape}
 use Rattle.dutch_order.specs.Arrangements.{Arrangement, Fits, Frame}
 use Rattle.dutch_order.specs.Steps.{Passes}
@@ -9,7 +9,9 @@ use Rattle.dutch_player.specs.Facts.{Facts}
 use Rattle.dutch_pair.specs.declared.stage.Stage.{Stage}
 use Rattle.dutch_choice.specs.declared.wish.Wish.{Wish}
 use Rattle.dutch_choice.specs.Aims.{best_wished}
-use Rattle.dutch_pair.specs.Lower.{lower_of}
+use Rattle.dutch_pair.specs.Lower.{above_lower, lower_of}
+use Rattle.dutch_bracket.specs.Context.{Context}
+use Rattle.dutch_bracket.specs.InContext.{FitsHere}
 use Rattle.dutch_pair.specs.Outcomes.{IsStage}
 use Rattle.dutch_bracket.specs.Context.{Context}
 use Rattle.dutch_bracket.specs.InContext.{eligible_here}
@@ -64,10 +66,6 @@ module _ (facts : Facts) (reached : Reached) (lower : List ℕ) (shape : Shape) 
 pub few_pairs : (frame : Frame) (shape : Shape) → Fits frame shape → shape.pairs ≤ length frame.scores
 few_pairs frame shape h = omega (arith, h.within_pairs, h.within_moved_down, h.residents_enough)
 
-and_false : (t : Bool) → (t && false) ≡ false
-and_false true = refl
-and_false false = refl
-
 any_there : (test : Arrangement → Bool) (all : List Arrangement) → list_any test all ≡ true → has_member all ≡ true
 any_there test [] h = absurd (true≢false (sym h))
 any_there test (a ∷ rest) h = refl
@@ -81,24 +79,9 @@ module _ (facts : Facts) (reached : Reached) (wish : Wish) (shape : Shape) where
   abbrev NoneFrom : ℕ → ℕ → Type 0
   NoneFrom from to = NoneGrants facts reached wish shape from to
 
-  pub none_yet : (to : ℕ) → NoneFrom to to
-  none_yet to = λ mdps least below. absurd (omega (arith, least, below))
-
-  none_there : (n to mdps : ℕ) → grants_with n ≡ false → NoneFrom (n + 1) to → n ≤ mdps → mdps < to → (n < mdps) ⊎ (mdps ≤ n) → grants_with mdps ≡ false
-  none_there n to mdps one others least below (inl more) = others mdps (omega (arith, more)) below
-  none_there n to mdps one others least below (inr fewer) =
-      let same : n ≡ mdps = omega (arith, least, fewer) in ap grants_with (sym same) ∙ one
-
-  -- one number of moved-down players less
-  pub one_less : (n to : ℕ) → grants_with n ≡ false → NoneFrom (n + 1) to → NoneFrom n to
-  one_less n to one others = λ mdps least below. none_there n to mdps one others least below (cases_lt n mdps)
-
-  pub none_from : (n from to : ℕ) → n ≤ from → NoneFrom n to → NoneFrom from to
-  none_from n from to le none = λ mdps least below. none mdps (omega (arith, le, least)) below
-
   -- the shape itself
   own : list_any (grants wish) (candidates_of facts reached shape) ≡ false → grants_with shape.mdps ≡ false
-  own none = ap (λ t. fits (frame_of facts reached) shape && t) none ∙ and_false (fits (frame_of facts reached) shape)
+  own none = and_right (fits (frame_of facts reached) shape) (list_any (grants wish) (candidates_of facts reached shape)) none
 
   upto_at : (mdps : ℕ) → grants_with shape.mdps ≡ false → NoneFrom 0 shape.mdps → mdps < shape.mdps + 1 → (mdps < shape.mdps) ⊎ (shape.mdps ≤ mdps) → grants_with mdps ≡ false
   upto_at mdps one fewer below (inl less) = fewer mdps (omega arith) less
@@ -150,16 +133,11 @@ stage_fits facts stage h =
     has_room facts stage.reached (lower_of facts stage.reached) stage.shape (stage_shape facts stage h)
 
 -- and so has a bracket that was read as the stage's
-pub read_fits : (facts : Facts) (stage : Stage) {own : Facts} {reached : Reached} {shape : Shape} → own ≡ facts → reached ≡ stage.reached → shape ≡ stage.shape
-    → IsStage facts stage → Fits (frame_of own reached) shape
-read_fits facts stage {own = own} {reached = reached} field bracket is h =
-    subst (λ s. Fits (frame_of own reached) s) (sym is)
-    (subst (λ r. Fits (frame_of own r) stage.shape) (sym bracket)
-    (subst (λ f. Fits (frame_of f stage.reached) stage.shape) (sym field) (stage_fits facts stage h)))
+pub read_fits : (facts : Facts) (stage : Stage) {k : Context} {shape : Shape} → k ≡ above_lower facts stage.reached → shape ≡ stage.shape → IsStage facts stage → FitsHere k shape
+read_fits facts stage {k = k} read is h =
+    subst (λ s. FitsHere k s) (sym is) (subst (λ (b : Context). FitsHere b stage.shape) (sym read) (stage_fits facts stage h))
 
 -- and it is the bracket's shape
-pub read_shape : (facts : Facts) (stage : Stage) {own : Facts} {reached : Reached} {lower : List ℕ} {shape : Shape} → own ≡ facts → reached ≡ stage.reached
-    → lower ≡ lower_of facts stage.reached → shape ≡ stage.shape → IsStage facts stage → shape_of own reached lower ≡ Some shape
-read_shape facts stage {reached = reached} {lower = lower} field bracket below is h =
-    ap (λ f. shape_of f reached lower) field ∙ ap (λ r. shape_of facts r lower) bracket ∙ ap (shape_of facts stage.reached) below
-    ∙ stage_shape facts stage h ∙ ap (λ s. Some s) (sym is)
+pub read_shape : (facts : Facts) (stage : Stage) {k : Context} {shape : Shape} → k ≡ above_lower facts stage.reached → shape ≡ stage.shape → IsStage facts stage
+    → shape_of k.facts k.reached k.lower ≡ Some shape
+read_shape facts stage read is h = ap (λ (b : Context). shape_of b.facts b.reached b.lower) read ∙ stage_shape facts stage h ∙ ap (λ s. Some s) (sym is)

@@ -40,24 +40,18 @@ module _ (facts : Facts) where
   abbrev pub kept_along : List ℕ → List ℕ → List ℕ → List ℕ
   kept_along seats kept coming = kept ++ filter (is_below facts seats) coming
 
-  along_at : (seats kept coming : List ℕ) (seat : ℕ) (t : Bool) → is_below facts seats seat ≡ t
-      → kept_along seats kept (seat ∷ coming) ≡ cond t ((kept ++ seat ∷ []) ++ filter (is_below facts seats) coming) (kept_along seats kept coming)
-  along_at seats kept coming seat true e =
-      ap (λ (t : Bool). kept ++ cond t (seat ∷ filter (is_below facts seats) coming) (filter (is_below facts seats) coming)) e
-      ∙ sym (append_assoc kept (seat ∷ []) (filter (is_below facts seats) coming))
-  along_at seats kept coming seat false e =
-      ap (λ (t : Bool). kept ++ cond t (seat ∷ filter (is_below facts seats) coming) (filter (is_below facts seats) coming)) e
-
   pub kept_more : (seats all kept after : List ℕ) (i d : ℕ) → i < length all → is_below facts seats (get_or all i d) ≡ true → after ≡ kept ++ get_or all i d ∷ []
       → kept_along seats kept (drop i all) ≡ kept_along seats after (drop (i + 1) all)
   kept_more seats all kept after i d lt e made =
-      ap (kept_along seats kept) (drop_more all i d lt) ∙ along_at seats kept (drop (i + 1) all) (get_or all i d) true e
-      ∙ ap (λ (xs : List ℕ). kept_along seats xs (drop (i + 1) all)) (sym made)
+      let coming = filter (is_below facts seats) (drop (i + 1) all) in
+      ap (kept_along seats kept) (drop_more all i d lt) ∙ ap (λ (t : Bool). kept ++ cond t (get_or all i d ∷ coming) coming) e
+      ∙ sym (append_assoc kept (get_or all i d ∷ []) coming) ∙ ap (λ (xs : List ℕ). kept_along seats xs (drop (i + 1) all)) (sym made)
 
   pub passed_over : (seats all kept : List ℕ) (i d : ℕ) → i < length all → is_below facts seats (get_or all i d) ≡ false
       → kept_along seats kept (drop i all) ≡ kept_along seats kept (drop (i + 1) all)
   passed_over seats all kept i d lt e =
-      ap (kept_along seats kept) (drop_more all i d lt) ∙ along_at seats kept (drop (i + 1) all) (get_or all i d) false e
+      let coming = filter (is_below facts seats) (drop (i + 1) all) in
+      ap (kept_along seats kept) (drop_more all i d lt) ∙ ap (λ (t : Bool). kept ++ cond t (get_or all i d ∷ coming) coming) e
 
   pub kept_end : (seats all kept : List ℕ) (i : ℕ) → length all ≤ i → kept_along seats kept (drop i all) ≡ kept
   kept_end seats all kept i le = ap (kept_along seats kept) (drop_all i all le) ∙ append-nil kept

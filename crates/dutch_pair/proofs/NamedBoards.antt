@@ -2,7 +2,7 @@
 use Rattle.std.proofs.Common.{◌≡◌, ℕ, zero, suc, ◌+◌, ◌<◌, ◌≤◌, Bool, true, false, cond, nat_lt, List, [], ◌∷◌, ◌++◌, map, length, get_or, Some, inl, inr, refl, sym, ap, ◌∙◌, subst, arith}
 use Rattle.std.specs.Prelude.{All, ◌==◌}
 use Rattle.std.specs.List.{AllByRecursion}
-use Rattle.std.proofs.lemmas.Bool.{lt-ltb, ne_eqb, cases_lt, le-ltb}
+use Rattle.std.proofs.lemmas.Bool.{lt-ltb, ne_eqb, cases_lt, le-ltb, cond_both}
 use Rattle.std.proofs.lemmas.List.{length-map, get_or-map}
 use Rattle.dutch_order.specs.Choices.{numbers_from}
 use Rattle.dutch_order.proofs.Lists.{map-numbers_from}
@@ -27,14 +27,11 @@ module _ (facts : Facts) where
 
   -- ---- the order of the boards
 
-  placed_at : (w : ℕ → ℕ) (pair first : ℕ × ℕ) (rest : List (ℕ × ℕ)) (t : Bool) → pairs_total w (placed facts pair rest) ≡ (w pair.0 + w pair.1) + pairs_total w rest
-      → pairs_total w (cond t (first ∷ placed facts pair rest) (pair ∷ first ∷ rest)) ≡ (w pair.0 + w pair.1) + pairs_total w (first ∷ rest)
-  placed_at w pair first rest true more = omega (arith, more)
-  placed_at w pair first rest false more = refl
-
   placed_total : (w : ℕ → ℕ) (pair : ℕ × ℕ) (all : List (ℕ × ℕ)) → pairs_total w (placed facts pair all) ≡ (w pair.0 + w pair.1) + pairs_total w all
   placed_total w pair [] = refl
-  placed_total w pair (first ∷ rest) = placed_at w pair first rest (goes_before facts first pair) (placed_total w pair rest)
+  placed_total w pair (first ∷ rest) =
+      cond_both (goes_before facts first pair) (first ∷ placed facts pair rest) (pair ∷ first ∷ rest)
+      (λ (all : List (ℕ × ℕ)). pairs_total w all ≡ (w pair.0 + w pair.1) + pairs_total w (first ∷ rest)) (λ e. omega (arith, placed_total w pair rest)) (λ e. refl)
 
   ordered_total : (w : ℕ → ℕ) (all : List (ℕ × ℕ)) → pairs_total w (ordered facts all) ≡ pairs_total w all
   ordered_total w [] = refl
@@ -47,13 +44,10 @@ module _ (facts : Facts) where
   with_total w a b White = refl
   with_total w a b Black = omega arith
 
-  colours_at : (w : ℕ → ℕ) (a b : ℕ) (t : Bool) (high low : Colour)
-      → w (cond t (with_colour a b high) (with_colour b a low)).0 + w (cond t (with_colour a b high) (with_colour b a low)).1 ≡ w a + w b
-  colours_at w a b true high low = with_total w a b high
-  colours_at w a b false high low = omega (arith, with_total w b a low)
-
   colours_total : (w : ℕ → ℕ) (a b : ℕ) → w (colours facts a b).0 + w (colours facts a b).1 ≡ w a + w b
-  colours_total w a b = colours_at w a b (nat_lt a b) (colour_of_higher facts a b) (colour_of_higher facts b a)
+  colours_total w a b =
+      cond_both (nat_lt a b) (with_colour a b (colour_of_higher facts a b)) (with_colour b a (colour_of_higher facts b a)) (λ (both : ℕ × ℕ). w both.0 + w both.1 ≡ w a + w b)
+      (λ e. with_total w a b (colour_of_higher facts a b)) (λ e. omega (arith, with_total w b a (colour_of_higher facts b a)))
 
   -- ---- start ranks
 
@@ -126,7 +120,7 @@ module _ (facts : Facts) where
   -- ---- the boards of a round
 
   weighed : (w : ℕ → ℕ) (pairing : Pairing) → (round facts).pairing ≡ Some pairing → pairing_total w pairing ≡ total w (everybody facts)
-  weighed w pairing e = subst (λ found. Weighs w (total w (everybody facts)) found) e (round_whole w facts)
+  weighed w pairing e = (subst (λ found. Weighs w (total w (everybody facts)) found) e (round_whole w facts)).0
 
   all_starts : map start_of (everybody facts) ≡ start_ranks facts
   unfolding start_of

@@ -1,10 +1,11 @@
 -- No dead end (C.04.3 A.9, C.5): if all players can be paired out, each bracket that the round reaches has a candidate that can be
 -- chosen, so the round is paired.
-use Rattle.std.proofs.Common.{◌≡◌, ℕ, ◌+◌, ◌-◌, ◌<◌, Bool, true, false, cond, List, [], ◌∷◌, ◌++◌, map, length, get_or, is_some, refl, sym, ap, ◌∙◌, arith, subst, inl, inr, Option, Some, None, append_assoc}
+use Rattle.std.proofs.Common.{◌≡◌, ℕ, ◌+◌, ◌-◌, ◌<◌, Bool, true, false, cond, List, [], ◌∷◌, ◌++◌, map, length, take, get_or, is_some, refl, sym, ap, ◌∙◌, arith, subst, inl, inr, Option, Some, None, append_assoc}
 use Rattle.std.specs.Prelude.{option_map, ◌↔◌}
-use Rattle.std.specs.List.{concat}
+use Rattle.std.specs.List.{AllByRecursion, concat}
+use Rattle.std.proofs.Math.Seq.{take-append_seam}
 use Rattle.std.proofs.lemmas.List.{append-nil}
-use Rattle.std.proofs.lemmas.Bool.{cases_eq, cases_order}
+use Rattle.std.proofs.lemmas.Bool.{cases_eq, cases_order, false_from_ne_true, cond_both, true_from_ne_false, true≢false, false≢true}
 use Rattle.dutch_order.specs.declared.bracket.Shape.{Shape}
 use Rattle.dutch_order.specs.Arrangements.{Arrangement, Fits, Frame, arrangements, down, is_legal}
 use Rattle.dutch_order.specs.Choices.{numbers_from}
@@ -14,7 +15,7 @@ use Rattle.dutch_order.proofs.CursorSets.{AreLists}
 use Rattle.dutch_order.proofs.FormArrangements.{in-lists}
 use Rattle.dutch_order.proofs.Lists.{filter-all, map-numbers_from}
 use Rattle.dutch_order.proofs.NoneTwice.{rises-twice, twice-apart, twice-back, twice-front, twice-join}
-use Rattle.dutch_order.proofs.Orders.{IsIn-append, IsIn-back, IsIn-front, IsIn-map, map-IsIn, IsIn-filter, filter-IsIn}
+use Rattle.dutch_order.proofs.Orders.{IsIn-append, IsIn-back, IsIn-front, IsIn-map, map-IsIn, IsIn-filter, filter-IsIn, member_has}
 use Rattle.dutch_player.specs.Facts.{Facts}
 use Rattle.dutch_bracket.specs.Eligible.{HasCandidate}
 use Rattle.dutch_bracket.specs.Completion.{Completable}
@@ -23,7 +24,8 @@ use Rattle.dutch_bracket.specs.declared.reached.BracketKind.{BracketKind}
 use Rattle.dutch_bracket.specs.declared.reached.BracketKind.TheVariants.{Ordinary, Last, Penultimate, Collapsed}
 use Rattle.dutch_bracket.specs.Reached.{Reached, ends_round, frame_of, numbers_meet, number_may_be_left}
 use Rattle.dutch_bracket.specs.Brackets.{Choice, bracket, candidates_of, choice, completable, downfloaters, eligible, is_penultimate, scoregroups}
-use Rattle.dutch_pair.specs.Round.{Pairing, Round, brackets, everybody, final_bracket, no_pairing, ordinary_bracket, pairing_in, passing, penultimate_bracket, round, paired_again}
+use Rattle.dutch_pair.specs.DeadEnds.{NoTwoMayMeet, moved_down}
+use Rattle.dutch_pair.specs.Round.{Pairing, Round, Visit, brackets, everybody, final_bracket, no_pairing, ordinary_bracket, pairing_in, passing, penultimate_bracket, round, paired_again}
 use Rattle.dutch_pair.proofs.RoundBy.{final_by, ordinary_by, penultimate_by}
 use Rattle.dutch_bracket.specs.SeatLaws.{seats_meet_sym}
 use Rattle.dutch_bracket.specs.Seated.{seat_of, all_pairs}
@@ -43,9 +45,18 @@ use Rattle.dutch_pair.proofs.OnePairMore.{pairs_legal}
 use Rattle.dutch_pair.proofs.RoundEnds.{none_past}
 
 module _ (facts : Facts) where
-  -- a round has a pairing
-  abbrev IsPaired : Round → Type 0
-  IsPaired round = is_some round.pairing ≡ true
+  -- no two who were moved down into a bracket may meet, but in the collapsed one
+  abbrev IsApart : Reached → Type 0
+  IsApart reached = (reached.kind ≡ Collapsed → ⊥) → NoTwoMayMeet facts (moved_down reached)
+
+  -- a round has a pairing, and its brackets are such ones
+  abbrev IsSound : Round → Type 0
+  IsSound round = (is_some round.pairing ≡ true) × AllByRecursion (λ visit. IsApart visit.bracket) round.reached
+
+  apart_of : (number : ℕ) (kind : BracketKind) (md residents rest : List ℕ) → GoesOut facts md rest → IsApart (bracket number kind md residents)
+  apart_of number kind md residents rest goes first a b m n =
+      let here : take (length md) (md ++ residents) ≡ md = take-append_seam md residents in
+      false_from_ne_true (seats_meet facts a b) (goes.strangers a b (subst (IsIn a) here m) (subst (IsIn b) here n))
 
   abbrev Mates : List ℕ → (ℕ → ℕ) → Type 0
   Mates = AreMates (seats_meet facts) (seats_may_be_left facts)
@@ -61,13 +72,14 @@ module _ (facts : Facts) where
   some_more f None h = h
   some_more f (Some pairing) h = refl
 
-  more_paired : (reached : Reached) (chosen : Choice) (rest : Round) → IsPaired rest → IsPaired (pairing_in facts reached chosen rest)
-  more_paired reached chosen rest = some_more (λ later. record { pairs = all_pairs reached.seats chosen.lists ++ later.pairs; bye = later.bye }) rest.pairing
+  one_more : (reached : Reached) (chosen : Choice) (rest : Round) → IsApart reached → IsSound rest → IsSound (pairing_in facts reached chosen rest)
+  one_more reached chosen rest own sound =
+      (some_more (λ later. record { pairs = all_pairs reached.seats chosen.lists ++ later.pairs; bye = later.bye }) rest.pairing sound.0, (own, sound.1))
 
   -- ---- the bracket that ends a round
 
-  final_is : (reached : Reached) → Chooses facts reached [] → IsPaired (final_bracket facts reached)
-  final_is reached found = subst (λ o. IsPaired (final_by facts reached o)) (sym found.is) refl
+  final_is : (reached : Reached) → Chooses facts reached [] → IsApart reached → IsSound (final_bracket facts reached)
+  final_is reached found own = subst (λ o. IsSound (final_by facts reached o)) (sym found.is) (refl, (own, tt))
 
   -- a bracket with a candidate has a choice
   has_choice : (reached : Reached) (lower : List ℕ) → HasCandidate facts reached lower → Chooses facts reached lower
@@ -267,15 +279,15 @@ module _ (facts : Facts) where
           let mates = mates_of (left ++ lower) (left_twice lists) ((by_test (left ++ lower)).1 left_complete) in
           final_has place Collapsed left lower refl (left_twice lists) mates.mate mates.are (no_mates mates.mate mates.are)
 
-    again_goes : IsPaired (penultimate_by facts reached lower (choice facts reached lower))
+    again_goes : IsSound (penultimate_by facts reached lower (choice facts reached lower))
     again_goes =
         let found = has_choice reached lower again_has in
         let collapsed = bracket (number + 1) Collapsed (downfloaters facts reached found.chosen.lists) lower in
-        subst (λ o. IsPaired (penultimate_by facts reached lower o)) (sym found.is)
-        (more_paired reached found.chosen (final_bracket facts collapsed)
-        (final_is collapsed (has_choice collapsed [] (collapsed_has found.chosen found.is (number + 1)))))
+        subst (λ o. IsSound (penultimate_by facts reached lower o)) (sym found.is)
+        (one_more reached found.chosen (final_bracket facts collapsed) (apart_of number Penultimate md residents (residents ++ lower) goes)
+        (final_is collapsed (has_choice collapsed [] (collapsed_has found.chosen found.is (number + 1))) (λ first. absurd (first refl))))
 
-  penultimate_goes : (number : ℕ) (md residents lower : List ℕ) → GoesOut facts md (residents ++ lower) → IsPaired (penultimate_bracket facts (paired_again (bracket number Ordinary md residents)) lower)
+  penultimate_goes : (number : ℕ) (md residents lower : List ℕ) → GoesOut facts md (residents ++ lower) → IsSound (penultimate_bracket facts (paired_again (bracket number Ordinary md residents)) lower)
   penultimate_goes number md residents lower goes = again_goes (number + 1) md residents lower goes
 
   -- ---- an ordinary bracket
@@ -309,67 +321,64 @@ module _ (facts : Facts) where
       complete = (by_test (downfloaters facts first chosen.lists ++ lower)).1 e;
     }
 
-    module _ (goes_on : List ℕ → Round) (later : (left : List ℕ) → GoesOut facts left lower → IsPaired (goes_on left)) where
-      kept_on : (chosen : Choice) → choice facts first lower ≡ Some chosen → (t : Bool) → completable facts (downfloaters facts first chosen.lists ++ lower) ≡ t
-          → IsPaired (cond t (pairing_in facts first chosen (goes_on (downfloaters facts first chosen.lists))) (passing facts first chosen (penultimate_bracket facts (paired_again first) lower)))
-      kept_on chosen is' true e =
-          let left = downfloaters facts first chosen.lists in
-          more_paired first chosen (goes_on left) (later left (first_out chosen is' e))
-      kept_on chosen is' false e = penultimate_goes number md residents lower goes
-
-      ordinary_goes : IsPaired (ordinary_bracket facts first lower goes_on)
+    module _ (goes_on : List ℕ → Round) (later : (left : List ℕ) → GoesOut facts left lower → IsSound (goes_on left)) where
+      ordinary_goes : IsSound (ordinary_bracket facts first lower goes_on)
       ordinary_goes =
           let found = has_choice first lower first_has in
-          subst (λ o. IsPaired (ordinary_by facts first lower goes_on o)) (sym found.is)
-          (kept_on found.chosen found.is (completable facts (downfloaters facts first found.chosen.lists ++ lower)) refl)
+          let left : List ℕ = downfloaters facts first found.chosen.lists in
+          let own = apart_of number Ordinary md residents (residents ++ lower) goes in
+          let again = penultimate_goes number md residents lower goes in
+          subst (λ o. IsSound (ordinary_by facts first lower goes_on o)) (sym found.is)
+          (cond_both (completable facts (left ++ lower)) (pairing_in facts first found.chosen (goes_on left))
+          (passing facts first found.chosen (penultimate_bracket facts (paired_again first) lower)) IsSound
+          (λ e. one_more first found.chosen (goes_on left) own (later left (first_out found.chosen found.is e))) (λ e. (again.0, (own, again.1))))
 
   -- ---- all brackets
 
-  brackets_go : (number : ℕ) (md : List ℕ) (groups : List (List ℕ)) → GoesOut facts md (concat groups) → IsPaired (brackets facts number md groups)
-  brackets_go number md [] goes = refl
-  brackets_go number md (group ∷ []) goes = final_is (bracket number Last md group) (has_choice (bracket number Last md group) [] (last_has number md group (subst (GoesOut facts md) (append-nil group) goes)))
+  brackets_go : (number : ℕ) (md : List ℕ) (groups : List (List ℕ)) → GoesOut facts md (concat groups) → IsSound (brackets facts number md groups)
+  brackets_go number md [] goes = (refl, tt)
+  brackets_go number md (group ∷ []) goes =
+      let last = bracket number Last md group in
+      final_is last (has_choice last [] (last_has number md group (subst (GoesOut facts md) (append-nil group) goes))) (apart_of number Last md group (group ++ []) goes)
   brackets_go number md (group ∷ next ∷ groups) goes =
       ordinary_goes number md group (concat (next ∷ groups)) goes (λ left. brackets facts (number + 1) left (next ∷ groups))
       (λ left goes'. brackets_go (number + 1) left (next ∷ groups) goes')
 
-  round_at : (t : Bool) → completable facts (everybody facts) ≡ t → completable facts (everybody facts) ≡ true
-      → IsPaired (cond t (brackets facts 1 [] (scoregroups facts (everybody facts))) (no_pairing facts))
-  round_at true e h =
+  -- what all have to be where a walk begins
+  pub everybody_out : (all : List ℕ) → all ≡ everybody facts → completable facts all ≡ true → GoesOut facts [] all
+  everybody_out all same e = record {
+    twice = subst NoneTwice (sym same) (rises-twice (everybody facts) (numbers_rise 0 (length facts.seats)));
+    strangers = λ s t m n may. absurd m;
+    complete = (by_test all).1 e;
+  }
+
+  whole_sound : completable facts (everybody facts) ≡ true → IsSound (brackets facts 1 [] (scoregroups facts (everybody facts)))
+  whole_sound e =
       let all : List ℕ = everybody facts in
-      brackets_go 1 [] (scoregroups facts all)
-      (subst (GoesOut facts []) (sym (concat_scoregroups facts all)) (record {
-        twice = rises-twice all (numbers_rise 0 (length facts.seats));
-        strangers = λ s t m n may. absurd m;
-        complete = (by_test all).1 h;
-      }))
-  round_at false e h = let bad : false ≡ true = sym e ∙ h in absurd (cc)
+      brackets_go 1 [] (scoregroups facts all) (subst (GoesOut facts []) (sym (concat_scoregroups facts all)) (everybody_out all refl e))
+
+  pub moved_down_apart : (visit : Visit) → IsIn visit (round facts).reached → (visit.bracket.kind ≡ Collapsed → ⊥) → NoTwoMayMeet facts (moved_down visit.bracket)
+  moved_down_apart visit m =
+      member_has (λ (visit : Visit). IsApart visit.bracket) (round facts).reached
+      (cond_both (completable facts (everybody facts)) (brackets facts 1 [] (scoregroups facts (everybody facts))) (no_pairing facts)
+      (λ (r : Round). AllByRecursion (λ visit. IsApart visit.bracket) r.reached) (λ e. (whole_sound e).1) (λ e. tt)) visit m
 
   -- where everybody can be paired out, the round is paired
   pub round_goes : completable facts (everybody facts) ≡ true → is_some (round facts).pairing ≡ true
-  round_goes = round_at (completable facts (everybody facts)) refl
+  round_goes e = ap (λ (t : Bool). is_some (cond t (brackets facts 1 [] (scoregroups facts (everybody facts))) (no_pairing facts)).pairing) e ∙ (whole_sound e).0
 
   -- where not everybody can be, it is not
-  test_of : (t : Bool) → completable facts (everybody facts) ≡ t → is_some (round facts).pairing ≡ true → completable facts (everybody facts) ≡ true
-  test_of true e h = e
-  test_of false e h =
-      let none : is_some (round facts).pairing ≡ false = ap (λ (t : Bool). is_some (cond t (brackets facts 1 [] (scoregroups facts (everybody facts))) (no_pairing facts)).pairing) e in
-      let bad : false ≡ true = sym none ∙ h in absurd (cc)
+  pub not_paired : completable facts (everybody facts) ≡ false → (round facts).pairing ≡ None
+  not_paired e = ap (λ (t : Bool). (cond t (brackets facts 1 [] (scoregroups facts (everybody facts))) (no_pairing facts)).pairing) e
 
   pub paired_exactly : Completable (seats_meet facts) (seats_may_be_left facts) (everybody facts) ↔ (is_some (round facts).pairing ≡ true)
   paired_exactly = (
     λ whole. round_goes ((by_test (everybody facts)).0 whole),
-    λ h. (by_test (everybody facts)).1 (test_of (completable facts (everybody facts)) refl h),
+    λ h. (by_test (everybody facts)).1 (true_from_ne_false (completable facts (everybody facts)) (λ e. false≢true (sym (ap is_some (not_paired e)) ∙ h))),
   )
-
-  none_at : (t : Bool) → completable facts (everybody facts) ≡ t → (round facts).pairing ≡ None → completable facts (everybody facts) ≡ false
-  none_at true e h = let bad : true ≡ false = sym (round_goes e) ∙ ap is_some h in absurd (cc)
-  none_at false e h = e
 
   pub unpaired_exactly : ((round facts).pairing ≡ None) ↔ (completable facts (everybody facts) ≡ false)
-  unpaired_exactly = (
-    none_at (completable facts (everybody facts)) refl,
-    λ e. ap (λ (t : Bool). (cond t (brackets facts 1 [] (scoregroups facts (everybody facts))) (no_pairing facts)).pairing) e,
-  )
+  unpaired_exactly = (λ h. false_from_ne_true (completable facts (everybody facts)) (λ e. true≢false (sym (round_goes e) ∙ ap is_some h)), not_paired)
 
   -- ---- what the calls on a round answer
 
@@ -379,22 +388,11 @@ module _ (facts : Facts) where
   pub not_complete : completable facts (everybody facts) ≡ false → Completable (seats_meet facts) (seats_may_be_left facts) (everybody facts) → ⊥
   not_complete e whole = let bad : true ≡ false = sym ((by_test (everybody facts)).0 whole) ∙ e in cc
 
-  pub not_paired : completable facts (everybody facts) ≡ false → (round facts).pairing ≡ None
-  not_paired e = ap (λ (t : Bool). (cond t (brackets facts 1 [] (scoregroups facts (everybody facts))) (no_pairing facts)).pairing) e
-
   pub nothing_reached : (number : ℕ) → completable facts (everybody facts) ≡ false → visit_of number (round facts).reached ≡ None
   nothing_reached number e =
       ap (λ (t : Bool). visit_of number (cond t (brackets facts 1 [] (scoregroups facts (everybody facts))) (no_pairing facts)).reached) e ∙ none_past number [] (λ some. some)
 
   -- ---- along the walk
-
-  -- what all have to be where a walk begins
-  pub everybody_out : (all : List ℕ) → all ≡ everybody facts → completable facts all ≡ true → GoesOut facts [] all
-  everybody_out all same e = record {
-    twice = subst NoneTwice (sym same) (rises-twice (everybody facts) (numbers_rise 0 (length facts.seats)));
-    strangers = λ s t m n may. absurd m;
-    complete = (by_test all).1 e;
-  }
 
   has_by : (kind : BracketKind) (number : ℕ) (md residents lower : List ℕ) → HasWayOut facts kind number md residents lower → HasCandidate facts (bracket number kind md residents) lower
   has_by Ordinary number md residents lower out = first_has number md residents lower out.0

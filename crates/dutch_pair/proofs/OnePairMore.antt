@@ -10,7 +10,10 @@ use Rattle.dutch_order.specs.Arrangements.{Arrangement, Fits, Frame, arrangement
 use Rattle.dutch_order.proofs.FormArrangements.{form-arrangement, lists-in, paired-pairs, pairs-paired}
 use Rattle.dutch_order.proofs.FormInsertions.{all-inserted, inserted-players, players-inserted, takes-pair}
 use Rattle.dutch_order.proofs.NoneTwice.{in-left, left-in}
+use Rattle.dutch_order.proofs.Skipping.{all-behind}
+use Rattle.dutch_bracket.proofs.AllLemmas.{all_join}
 use Rattle.dutch_bracket.proofs.MateLists.{fits_arrangement}
+use Rattle.dutch_pair.proofs.WalkLemmas.{all_front}
 use Rattle.dutch_bracket.specs.Shapes.{IsGreater}
 
 module _ (meets : ℕ → ℕ → Bool) where
@@ -28,30 +31,18 @@ module _ (meets : ℕ → ℕ → Bool) where
   by_place_meet (x ∷ xs) [] h = refl
   by_place_meet (x ∷ xs) (y ∷ ys) h = and_from (meets x y) (all_meet meets xs ys) h.0 (by_place_meet xs ys h.1)
 
-  front_meets : (xs ys : List (ℕ × ℕ)) → AllByRecursion Meet (xs ++ ys) → AllByRecursion Meet xs
-  front_meets [] ys h = tt
-  front_meets (x ∷ xs) ys h = (h.0, front_meets xs ys h.1)
-
-  back_meets : (xs ys : List (ℕ × ℕ)) → AllByRecursion Meet (xs ++ ys) → AllByRecursion Meet ys
-  back_meets [] ys h = h
-  back_meets (x ∷ xs) ys h = back_meets xs ys h.1
-
-  join_meets : (xs ys : List (ℕ × ℕ)) → AllByRecursion Meet xs → AllByRecursion Meet ys → AllByRecursion Meet (xs ++ ys)
-  join_meets [] ys h g = g
-  join_meets (x ∷ xs) ys h g = (h.0, join_meets xs ys h.1 g)
-
   module _ (may_be_left : ℕ → Bool) (frame : Frame) (not_last : frame.last ≡ false) where
     legal_pairs : (a : Arrangement) → is_legal meets may_be_left frame a ≡ true → AllByRecursion Meet (pairs_by_number a)
     legal_pairs a h =
         let both = and_parts (all_meet meets a.s1 a.s2) _ h in
         let rest = and_parts (all_meet meets a.s1r a.s2r) (not frame.last || leaves_one may_be_left (down frame a)) both.1 in
-        join_meets (by_place a.s1 a.s2) (by_place a.s1r a.s2r) (meet_by_place a.s1 a.s2 both.0) (meet_by_place a.s1r a.s2r rest.0)
+        all_join Meet (by_place a.s1 a.s2) (by_place a.s1r a.s2r) (meet_by_place a.s1 a.s2 both.0) (meet_by_place a.s1r a.s2r rest.0)
 
     pub pairs_legal : (a : Arrangement) → AllByRecursion Meet (pairs_by_number a) → is_legal meets may_be_left frame a ≡ true
     pairs_legal a h =
-        and_from (all_meet meets a.s1 a.s2) _ (by_place_meet a.s1 a.s2 (front_meets (by_place a.s1 a.s2) (by_place a.s1r a.s2r) h))
+        and_from (all_meet meets a.s1 a.s2) _ (by_place_meet a.s1 a.s2 (all_front Meet (by_place a.s1 a.s2) (by_place a.s1r a.s2r) h))
         (and_from (all_meet meets a.s1r a.s2r) (not frame.last || leaves_one may_be_left (down frame a))
-        (by_place_meet a.s1r a.s2r (back_meets (by_place a.s1 a.s2) (by_place a.s1r a.s2r) h))
+        (by_place_meet a.s1r a.s2r (all-behind Meet (by_place a.s1 a.s2) (by_place a.s1r a.s2r) h))
         (ap (λ t. not t || leaves_one may_be_left (down frame a)) not_last))
 
     -- an arrangement with a pair more

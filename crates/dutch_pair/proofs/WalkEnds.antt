@@ -8,8 +8,7 @@ use Rattle.dutch_order.specs.Candidates.{Candidate}
 use Rattle.dutch_order.specs.Keys.{IsIn}
 use Rattle.dutch_player.specs.Facts.{Facts}
 use Rattle.dutch_bracket.specs.declared.reached.BracketKind.TheVariants.{Ordinary, Penultimate, Collapsed}
-use Rattle.dutch_bracket.specs.Seated.{IsPair}
-use Rattle.dutch_bracket.specs.Seated.{seat_of, AreSeats, AllNumbers, IsCandidate}
+use Rattle.dutch_bracket.specs.Seated.{IsPair, seat_of, AreSeats, AllNumbers, IsCandidate}
 use Rattle.dutch_bracket.specs.Reached.{Reached, IsOf, IsAbove, frame_of, numbers_meet, number_may_be_left}
 use Rattle.dutch_bracket.specs.NextBracket.{IsOfBracket}
 use Rattle.dutch_pair.specs.Walk.{AreAbove, Goes}
@@ -21,7 +20,7 @@ use Rattle.dutch_bracket.proofs.FlatBrackets.{candidate_of}
 use Rattle.dutch_bracket.proofs.AllLemmas.{all_join}
 use Rattle.dutch_bracket.proofs.CandidateSeats.{all_within}
 use Rattle.dutch_bracket.proofs.DownLemmas.{down_numbers, down_few}
-use Rattle.dutch_pair.proofs.WalkLemmas.{Descends, LeftGoOn, is_above}
+use Rattle.dutch_pair.proofs.WalkLemmas.{Descends, is_above}
 use Rattle.dutch_order.specs.declared.numbers.TheConstants.{LIMIT}
 
 -- ---- what is chosen is an arrangement
@@ -54,27 +53,9 @@ module _ (facts : Facts) where
   pub pairs_join : (front more : List (ℕ × ℕ)) → AllByRecursion (IsPair facts) front → AllByRecursion (IsPair facts) more → AllByRecursion (IsPair facts) (front ++ more)
   pairs_join front more h g = all_join (IsPair facts) front more h g
 
--- ---- the penultimate bracket, and the collapsed one
-
-pub above_again : (facts : Facts) (reached : Reached) (lower : List ℕ) → IsAbove facts reached lower → IsAbove facts (paired_again reached) lower
-above_again facts reached lower above = record {
-  bracket = record { inside = above.bracket.inside; sound = above.bracket.sound };
-  inside = above.inside;
-  few = above.few;
-  below = above.below;
-  there = λ e. let bad : Penultimate ≡ Ordinary = e in absurd (cc);
-}
-
 pub above_none : (facts : Facts) (tops : List ℕ) → AreAbove facts tops []
 above_none facts [] = tt
 above_none facts (a ∷ tops) = (tt, above_none facts tops)
-
-pub collapsed_above : (facts : Facts) (reached : Reached) (lower left : List ℕ) (lists : Arrangement) (number : ℕ) → Descends facts → LeftGoOn facts reached lower
-    → left ≡ downfloaters facts reached lists → IsAbove facts (bracket number Collapsed left lower) []
-collapsed_above facts reached lower left lists number descends goes e =
-    is_above facts descends number Collapsed left lower []
-    (subst (λ (xs : List ℕ). Goes facts left xs) (sym (append-nil lower)) (subst (λ (xs : List ℕ). Goes facts xs lower) (sym e) (goes lists)))
-    (above_none facts lower) (λ e. let bad : Collapsed ≡ Ordinary = e in absurd (cc))
 
 module _ (facts : Facts) where
   pub down_seats : (reached : Reached) (lists : Arrangement) (left : List ℕ) → IsOf facts reached → left ≡ downfloaters facts reached lists

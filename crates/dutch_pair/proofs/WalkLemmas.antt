@@ -1,5 +1,6 @@
 -- The walk over the brackets keeps its seats by rank, so each bracket is one of the field.
 use Rattle.std.proofs.Common.{◌≡◌, ℕ, zero, suc, ◌+◌, ◌-◌, ◌<◌, ◌≤◌, Bool, true, false, not, cond, List, [], ◌∷◌, ◌++◌, length, get_or, map, filter, refl, sym, ap, ◌∙◌, subst, arith, append_assoc, length-append}
+use Rattle.std.proofs.lemmas.Bool.{cond_both}
 use Rattle.std.specs.List.{AllByRecursion}
 use Rattle.std.proofs.lemmas.List.{length-map, get_or-map, get_or_append_left, get_or-append_right}
 use Rattle.dutch_order.specs.Arrangements.{Arrangement, paired}
@@ -23,11 +24,7 @@ pub record Descends (facts : Facts) : Type 0 where
   pub falls : (a b : ℕ) → a < b → b < length facts.seats → score_at facts b ≤ score_at facts a
   pub few : length facts.seats ≤ LIMIT
 
--- whoever is left over by a bracket goes on above the lower seats
-abbrev pub LeftGoOn : Facts → Reached → List ℕ → Type 0
-LeftGoOn facts reached lower = (lists : Arrangement) → Goes facts (downfloaters facts reached lists) lower
-
-all_front : (P : ℕ → Type 0) (xs ys : List ℕ) → AllByRecursion P (xs ++ ys) → AllByRecursion P xs
+pub all_front : {T : Type 0} (P : T → Type 0) (xs ys : List T) → AllByRecursion P (xs ++ ys) → AllByRecursion P xs
 all_front P [] ys h = tt
 all_front P (x ∷ xs) ys h = (h.0, all_front P xs ys h.1)
 
@@ -171,29 +168,26 @@ module _ (facts : Facts) where
         ∙ (ap (λ s. cond (p first) (s ∷ map (seat_of all) (filter p (numbers_from (suc first) (length seats)))) (map (seat_of all) (filter p (numbers_from (suc first) (length seats))))) (seat_behind front seat seats)
         ∙ ap (λ rest. cond (p first) (seat ∷ rest) rest) later)
 
-    picked_all_at : (P : ℕ → Type 0) (x : ℕ) (xs : List ℕ) (t : Bool) → P x → AllByRecursion P xs → AllByRecursion P (cond t (x ∷ xs) xs)
-    picked_all_at P x xs true h g = (h, g)
-    picked_all_at P x xs false h g = g
-
     -- what holds of all seats holds of those that are kept
     picked_all : (P : ℕ → Type 0) (p : ℕ → Bool) (first : ℕ) (seats : List ℕ) → AllByRecursion P seats → AllByRecursion P (picked p first seats)
     unfolding picked
     picked_all P p first [] h = tt
-    picked_all P p first (seat ∷ seats) h = picked_all_at P seat (picked p (suc first) seats) (p first) h.0 (picked_all P p (suc first) seats h.1)
-
-    picked_ranked_at : (x : ℕ) (xs lower : List ℕ) (t : Bool) → x < length facts.seats → AllByRecursion (λ b. x < b) (xs ++ lower) → AreRanked facts (xs ++ lower)
-        → AreRanked facts (cond t (x ∷ xs) xs ++ lower)
-    picked_ranked_at x xs lower true h all g = (h, all, g)
-    picked_ranked_at x xs lower false h all g = g
+    picked_all P p first (seat ∷ seats) h =
+        let later = picked_all P p (suc first) seats h.1 in
+        cond_both (p first) (seat ∷ picked p (suc first) seats) (picked p (suc first) seats) (AllByRecursion P) (λ e. (h.0, later)) (λ e. later)
 
     picked_ranked : (p : ℕ → Bool) (first : ℕ) (seats lower : List ℕ) → AreRanked facts (seats ++ lower) → AreRanked facts (picked p first seats ++ lower)
     unfolding picked
     picked_ranked p first [] lower h = h
     picked_ranked p first (seat ∷ seats) lower h =
-        picked_ranked_at seat (picked p (suc first) seats) lower (p first) h.0
-        (all_join (λ b. seat < b) (picked p (suc first) seats) lower
-        (picked_all (λ b. seat < b) p (suc first) seats (all_front (λ b. seat < b) seats lower h.1)) (all-behind (λ b. seat < b) seats lower h.1))
-        (picked_ranked p (suc first) seats lower h.2)
+        let later = picked_ranked p (suc first) seats lower h.2 in
+        cond_both (p first) (seat ∷ picked p (suc first) seats) (picked p (suc first) seats) (λ (xs : List ℕ). AreRanked facts (xs ++ lower))
+        (λ e. (
+          h.0,
+          all_join (λ b. seat < b) (picked p (suc first) seats) lower
+              (picked_all (λ b. seat < b) p (suc first) seats (all_front (λ b. seat < b) seats lower h.1)) (all-behind (λ b. seat < b) seats lower h.1),
+          later,
+        )) (λ e. later)
 
     -- those left over go on above the lower seats
     pub left_go_on : (number : ℕ) (kind : BracketKind) (md residents lower : List ℕ) (lists : Arrangement) → Goes facts md (residents ++ lower)

@@ -1,6 +1,6 @@
 -- One bracket more of a walk: what comes next has a way out again, and the round from there on is the rest of the round.
 use Rattle.std.proofs.Common.{◌≡◌, ℕ, ◌+◌, ◌≤◌, Bool, true, false, cond, List, [], ◌∷◌, ◌++◌, length, map, Option, Some, refl, sym, ap, ◌∙◌, subst, arith, append-nil}
-use Rattle.std.proofs.lemmas.Bool.{not-false}
+use Rattle.std.proofs.lemmas.Bool.{not-false, cond_both}
 use Rattle.dutch_order.specs.declared.bracket.Shape.{Shape}
 use Rattle.dutch_order.specs.Arrangements.{down}
 use Rattle.dutch_player.specs.Facts.{Facts}
@@ -9,6 +9,7 @@ use Rattle.dutch_bracket.specs.declared.reached.BracketKind.TheVariants.{Ordinar
 use Rattle.dutch_choice.specs.declared.choice.Choice.{Choice as Made}
 use Rattle.dutch_pair.specs.declared.stage.Stage.{Stage}
 use Rattle.dutch_bracket.specs.Context.{Context}
+use Rattle.dutch_bracket.specs.InContext.{frame_here, quality_here}
 use Rattle.dutch_pair.specs.Lower.{lower_of}
 use Rattle.dutch_pair.specs.Outcomes.{IsStage, shown, visit_at}
 use Rattle.dutch_choice.specs.Chosen.{IsChoice}
@@ -48,6 +49,12 @@ module _ (facts : Facts) (number : ℕ) (reached : Reached) (lower : List ℕ) (
       ap (lower_of facts) s.is
       ∙ lower_is facts (bracket number reached.kind s.md s.residents) (s.goes.front ++ s.residents) lower
       (goes_ends facts descends s.md s.residents lower s.goes s.above s.some)
+
+  -- an ordinary bracket, as it is paired again
+  pub stands_again : reached.kind ≡ Ordinary → StandsBefore facts (number + 1) (paired_again reached) lower
+  stands_again kind =
+      let out = subst (λ k. HasWayOut facts k number s.md s.residents lower) kind s.out in
+      record { md = s.md; residents = s.residents; is = ap paired_again s.is; goes = s.goes; above = s.above; some = s.some; out = (out.0, omega (arith, out.1, out.2), out.1) }
 
   pub stands_collapsed : Descends facts → (made : Choice) → reached.kind ≡ Penultimate → choice facts reached lower ≡ Some made
       → StandsBefore facts (number + 1) (bracket (number + 1) Collapsed (downfloaters facts reached made.lists) lower) []
@@ -98,16 +105,13 @@ is_kept facts lower stage settled e kind =
 -- ---- the bracket that comes next, for its shape alone
 
 module _ (facts : Facts) (reached : Reached) (lower : List ℕ) (made : Choice) (e : choice facts reached lower ≡ Some made) where
-  shown_ordinary : (t : Bool) (on again : Round) → shown (visit_at 0 (cond t (pairing_in facts reached made on) (passing facts reached made again)).reached) ≡ Some (reached, made.shape)
-  shown_ordinary true on again = refl
-  shown_ordinary false on again = refl
-
   shown_by : (kind : BracketKind) (number : ℕ) (md residents : List ℕ) → HasWayOut facts kind number md residents lower
       → shown (visit_at 0 (round_by facts kind reached lower).reached) ≡ Some (reached, made.shape)
   shown_by Ordinary number md residents out =
       let goes_on' : List ℕ → Round = λ left. brackets facts (reached.number + 1) left (scoregroups facts lower) in
       ap (λ (c : Option Choice). shown (visit_at 0 (ordinary_by facts reached lower goes_on' c).reached)) e
-      ∙ shown_ordinary (completable facts (downfloaters facts reached made.lists ++ lower)) (goes_on' (downfloaters facts reached made.lists)) (penultimate_bracket facts (paired_again reached) lower)
+      ∙ cond_both (completable facts (downfloaters facts reached made.lists ++ lower)) (pairing_in facts reached made (goes_on' (downfloaters facts reached made.lists)))
+      (passing facts reached made (penultimate_bracket facts (paired_again reached) lower)) (λ (r : Round). shown (visit_at 0 r.reached) ≡ Some (reached, made.shape)) (λ t. refl) (λ t. refl)
   shown_by Penultimate number md residents out = ap (λ (c : Option Choice). shown (visit_at 0 (penultimate_by facts reached lower c).reached)) e
   shown_by Last number md residents out = ap (λ (c : Option Choice). shown (visit_at 0 (final_by facts reached c).reached)) (ap (choice facts reached) (sym out.1) ∙ e)
   shown_by Collapsed number md residents out = ap (λ (c : Option Choice). shown (visit_at 0 (final_by facts reached c).reached)) (ap (choice facts reached) (sym out.1) ∙ e)
@@ -120,19 +124,15 @@ stands_shown facts number reached lower shape s e =
 
 -- ---- a bracket is settled as the one that was read
 
-pub settled_in : (facts : Facts) (reached : Reached) (lower : List ℕ) (k : Context) (stage : Stage) → k ≡ record { facts = facts; reached = reached; lower = lower } → stage.reached ≡ reached
-    → choice k.facts k.reached k.lower ≡ Some (choice_of stage) → stage.candidate.down ≡ down (frame_of k.facts k.reached) stage.candidate.lists
-    → quality_in stage.quality ≡ quality_of k.facts k.reached k.lower stage.candidate.lists
-    → stage.again ≡ is_again k.reached.kind (completable k.facts (map (seat_of k.reached.seats) stage.candidate.down ++ k.lower)) → IsSettled facts lower stage
-settled_in facts reached lower k stage same own e left value again =
-    let here : k ≡ record { facts = facts; reached = stage.reached; lower = lower } =
-    same ∙ ap (λ (s : Reached). let read : Context = record { facts = facts; reached = s; lower = lower } in read) (sym own) in
-    record {
-      choice = subst (λ (b : Context). choice b.facts b.reached b.lower ≡ Some (choice_of stage)) here e;
-      down = subst (λ (b : Context). stage.candidate.down ≡ down (frame_of b.facts b.reached) stage.candidate.lists) here left;
-      value = subst (λ (b : Context). quality_in stage.quality ≡ quality_of b.facts b.reached b.lower stage.candidate.lists) here value;
-      again = subst (λ (b : Context). stage.again ≡ is_again b.reached.kind (completable b.facts (map (seat_of b.reached.seats) stage.candidate.down ++ b.lower))) here again;
-    }
+pub settled_in : (k : Context) (stage : Stage) → stage.reached ≡ k.reached → choice k.facts k.reached k.lower ≡ Some (choice_of stage)
+    → stage.candidate.down ≡ down (frame_here k) stage.candidate.lists → quality_in stage.quality ≡ quality_here k stage.candidate.lists
+    → stage.again ≡ is_again k.reached.kind (completable k.facts (map (seat_of k.reached.seats) stage.candidate.down ++ k.lower)) → IsSettled k.facts k.lower stage
+settled_in k stage own e left value again = record {
+  choice = ap (λ (b : Reached). choice k.facts b k.lower) own ∙ e;
+  down = left ∙ ap (λ (b : Reached). down (frame_of k.facts b) stage.candidate.lists) (sym own);
+  value = value ∙ ap (λ (b : Reached). quality_of k.facts b k.lower stage.candidate.lists) (sym own);
+  again = again ∙ ap (λ (b : Reached). is_again b.kind (completable k.facts (map (seat_of b.seats) stage.candidate.down ++ k.lower))) (sym own);
+}
 
 -- what is chosen in a bracket that was read
 pub chosen_as : (k : Context) (stopped : Type 0) {a b : Made} → a ≡ b → IsChoice k stopped a → IsChoice k stopped b

@@ -1,28 +1,28 @@
 -- What stands in a bracket in place of what is chosen there, were a wish granted, or why nothing does (C.04.3 B.1, B.8, C.4, C.5).
-use Rattle.std.specs.Prelude.{◌≡◌, ℕ, false, List, Some}
+use Rattle.std.specs.Prelude.{◌≡◌, ℕ, false, Some}
 use Rattle.std.specs.List.{list_any}
 use Rattle.dutch_order.specs.declared.bracket.Shape.{Shape}
 use Rattle.dutch_order.specs.Arrangements.{down}
-use Rattle.dutch_player.specs.Facts.{Facts}
 use Rattle.dutch_pair.specs.declared.instead.Instead.{Instead}
 use Rattle.dutch_pair.specs.declared.instead.Instead.TheVariants.{Best, FewerMovedDown, NoneEligible, NoneLegal, Undecided}
 use Rattle.dutch_choice.specs.declared.wish.Wish.{Wish}
 use Rattle.dutch_bracket.specs.QualityIn.{quality_in}
-use Rattle.dutch_bracket.specs.Reached.{Reached, frame_of}
-use Rattle.dutch_bracket.specs.Brackets.{candidates_of, eligible, quality_of}
+use Rattle.dutch_bracket.specs.Context.{Context}
+use Rattle.dutch_bracket.specs.InContext.{candidates_here, eligible_here, frame_here, quality_here}
 use Rattle.dutch_choice.specs.Wishes.{IsBarred, SomeGrants, best_granting, grants, some_grants, with_mdps}
 
 -- what is told of a wish, for a bracket above lower seats and its shape: the best candidate that grants it, with its downfloaters and its
 -- quality; or the first of these that stands: legal candidates grant it, but none that can be chosen (C.4); none of the shape grants it,
 -- but one with as many pairs and fewer moved-down players in them (B.1); none with as many pairs grants it (C.5); or that the limit was
 -- reached
-unfoldable pub IsInstead : Facts → Reached → List ℕ → Shape → Wish → ℕ → Instead → Type 0
-IsInstead facts reached lower shape wish limit (Best candidate quality) =
-    (best_granting (record { facts = facts; reached = reached; lower = lower }) shape wish ≡ Some candidate.lists) × (candidate.down ≡ down (frame_of facts reached) candidate.lists)
-    × (quality_in quality ≡ quality_of facts reached lower candidate.lists)
-IsInstead facts reached lower shape wish limit NoneEligible =
-    IsBarred facts reached wish shape × (list_any (grants wish) (eligible facts reached lower shape) ≡ false)
-IsInstead facts reached lower shape wish limit FewerMovedDown =
-    (list_any (grants wish) (candidates_of facts reached shape) ≡ false) × SomeGrants facts reached wish shape 0 shape.mdps
-IsInstead facts reached lower shape wish limit NoneLegal = (mdps : ℕ) → some_grants facts reached wish (with_mdps shape mdps) ≡ false
-IsInstead facts reached lower shape wish limit (Undecided used) = used ≡ limit
+unfoldable pub IsInstead : Context → Shape → Wish → ℕ → Instead → Type 0
+IsInstead context shape wish limit (Best candidate quality) =
+    (best_granting context shape wish ≡ Some candidate.lists)
+    × (candidate.down ≡ down (frame_here context) candidate.lists) × (quality_in quality ≡ quality_here context candidate.lists)
+IsInstead context shape wish limit NoneEligible =
+    IsBarred context.facts context.reached wish shape × (list_any (grants wish) (eligible_here context shape) ≡ false)
+IsInstead context shape wish limit FewerMovedDown =
+    (list_any (grants wish) (candidates_here context shape) ≡ false) × SomeGrants context.facts context.reached wish shape 0 shape.mdps
+IsInstead context shape wish limit NoneLegal =
+    (mdps : ℕ) → some_grants context.facts context.reached wish (with_mdps shape mdps) ≡ false
+IsInstead context shape wish limit (Undecided used) = used ≡ limit

@@ -3,6 +3,7 @@ use Rattle.std.specs.Prelude.{ℕ, Bool, nat_lt, List, filter}
 use Rattle.std.specs.List.{list_all}
 use Rattle.dutch_player.specs.Facts.{Facts}
 use Rattle.dutch_bracket.specs.Seated.{score_at}
+use Rattle.dutch_bracket.specs.Context.{Context}
 use Rattle.dutch_bracket.specs.Reached.{Reached}
 use Rattle.dutch_pair.specs.Round.{everybody}
 
@@ -13,3 +14,7 @@ is_below facts seats seat = list_all (λ other. nat_lt (score_at facts seat) (sc
 -- the present players with a lower score than all of a bracket, by rank
 abbrev pub lower_of : Facts → Reached → List ℕ
 lower_of facts reached = filter (is_below facts reached.seats) (everybody facts)
+
+-- a bracket above all players below it
+abbrev pub above_lower : Facts → Reached → Context
+above_lower facts reached = record { facts = facts; reached = reached; lower = lower_of facts reached }

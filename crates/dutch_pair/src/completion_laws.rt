@@ -9,6 +9,7 @@ ghost use Rattle.dutch_bracket.specs.Seats.{seats_meet, seats_may_be_left};
 
 /// There is no dead end: a round is paired exactly if some list of pairs of present players who may meet leaves out at
 /// most one of them, who may have the bye. So each bracket on the way has a candidate that can be chosen.
+#[tactic(auto, using(crate::proofs::NoDeadEnd::unpaired_exactly))]
 pub fn a_round_is_paired_where_it_can_be()
     ensures paired { (facts : Facts)
         → Completable (seats_meet facts) (seats_may_be_left facts) (everybody facts) ↔
@@ -19,6 +20,7 @@ pub fn a_round_is_paired_where_it_can_be()
 
 /// Where a barrier blocks a round, no list of pairs of present players who may meet leaves out at most one of them, who
 /// may have the bye; and the round has no pairing.
+#[tactic(auto, using(crate::proofs::BarrierLemmas::incompletable, crate::proofs::BarrierLemmas::unpaired))]
 pub fn a_round_that_is_blocked_has_no_pairing()
     ensures incompletable { (facts : Facts) (barrier : Barrier) → Blocks facts barrier
         → ¬ Completable (seats_meet facts) (seats_may_be_left facts) (everybody facts) }

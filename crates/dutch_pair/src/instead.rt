@@ -3,12 +3,11 @@
 ghost use Rattle.std.specs.Prelude.{◌≡◌, ◌+◌, IfOk, Some, false, true};
 ghost use Rattle.std.specs.List.{list_any};
 ghost use Rattle.std.specs.Result.{MatchResult};
-ghost use Rattle.dutch_order.specs.Arrangements.{Fits};
 ghost use Rattle.dutch_order.specs.Steps.{MatchDrawn, Spends};
-ghost use Rattle.dutch_pair.specs.Lower.{lower_of};
+ghost use Rattle.dutch_pair.specs.Lower.{above_lower};
 ghost use Rattle.dutch_pair.specs.Outcomes.{IsStage};
-ghost use Rattle.dutch_bracket.specs.Reached.{frame_of};
-ghost use Rattle.dutch_bracket.specs.Brackets.{candidates_of, eligible, shape_of};
+ghost use Rattle.dutch_bracket.specs.InContext.{FitsHere, candidates_here, eligible_here};
+ghost use Rattle.dutch_bracket.specs.Brackets.{shape_of};
 ghost use Rattle.dutch_bracket.specs.Stops.{Decides};
 ghost use Rattle.dutch_choice.specs.Wishes.{NoneGrants, SomeGrants, grants, some_grants, with_mdps};
 ghost use Rattle.dutch_pair.specs.Instead.{IsInstead};
@@ -55,17 +54,18 @@ struct Wished<'a> {
     context: &'a Context<'a>,
     shape: Shape,
     wish: Wish,
-    ghost fits: { Fits (frame_of context.now.facts context.now.reached) shape },
+    ghost fits: { FitsHere context.now shape },
 }
 
 impl<'a> Bound for Wished<'a> {
     type Room = ();
 
     ghost use Rattle.std.specs.Prelude.{not};
-    ghost use Rattle.dutch_bracket.specs.Reached.{frame_of, numbers_meet, number_may_be_left};
+    ghost use Rattle.dutch_bracket.specs.InContext.{frame_here};
+    ghost use Rattle.dutch_bracket.specs.Reached.{numbers_meet, number_may_be_left};
     ghost use Rattle.dutch_choice.specs.Wishes.{grants};
 
-    ghost frame = { λ w. frame_of w.context.now.facts w.context.now.reached };
+    ghost frame = { λ w. frame_here w.context.now };
 
     ghost shape = { λ w. w.shape };
 
@@ -94,8 +94,7 @@ impl<'a> Bound for Wished<'a> {
 #[tactic(auto, using(crate::proofs::InsteadLemmas::skipped_same), unfolding(dutch_bracket::specs::Brackets::candidates_of))]
 fn is_granted(wished: &Wished<'_>, budget: &mut Budget) -> Result<bool, Stopped>
     ensures answer { Decides result
-        (list_any (grants wished.now.wish)
-        (candidates_of wished.now.context.now.facts wished.now.context.now.reached wished.now.shape))
+        (list_any (grants wished.now.wish) (candidates_here wished.now.context.now wished.now.shape))
         (budget.new.used ≡ budget.new.limit) }
     ensures spends { Spends budget.old budget.new }
 {
@@ -168,12 +167,10 @@ fn is_granted_within(
 /// penultimate bracket all of them can be chosen.
 #[tactic(auto, using(crate::proofs::InsteadLemmas::none_legal))]
 fn is_barred(wished: &Wished<'_>, budget: &mut Budget) -> Result<bool, Stopped>
-    requires none { list_any (grants wished.now.wish)
-        (eligible wished.now.context.now.facts wished.now.context.now.reached wished.now.context.now.lower
-        wished.now.shape) ≡ false }
+    requires none { list_any (grants wished.now.wish) (eligible_here wished.now.context.now wished.now.shape)
+        ≡ false }
     ensures answer { Decides result
-        (list_any (grants wished.now.wish)
-        (candidates_of wished.now.context.now.facts wished.now.context.now.reached wished.now.shape))
+        (list_any (grants wished.now.wish) (candidates_here wished.now.context.now wished.now.shape))
         (budget.new.used ≡ budget.new.limit) }
     ensures spends { Spends budget.old budget.new }
 {
@@ -209,12 +206,10 @@ fn is_granted_above(wished: &Wished<'_>, budget: &mut Budget) -> Result<bool, St
 fn why_none(wished: &Wished<'_>, budget: &mut Budget) -> Result<Instead, Stopped>
     requires greatest { shape_of wished.now.context.now.facts wished.now.context.now.reached
         wished.now.context.now.lower ≡ Some wished.now.shape }
-    requires none { list_any (grants wished.now.wish)
-        (eligible wished.now.context.now.facts wished.now.context.now.reached wished.now.context.now.lower
-        wished.now.shape) ≡ false }
+    requires none { list_any (grants wished.now.wish) (eligible_here wished.now.context.now wished.now.shape)
+        ≡ false }
     ensures answer { MatchResult result
-        (IsInstead wished.now.context.now.facts wished.now.context.now.reached wished.now.context.now.lower
-        wished.now.shape wished.now.wish budget.old.limit)
+        (IsInstead wished.now.context.now wished.now.shape wished.now.wish budget.old.limit)
         (λ _. budget.new.used ≡ budget.new.limit) }
     ensures spends { Spends budget.old budget.new }
 {
@@ -235,8 +230,7 @@ fn why_none(wished: &Wished<'_>, budget: &mut Budget) -> Result<Instead, Stopped
 fn look_for(wished: &Wished<'_>, budget: &mut Budget) -> Result<Instead, PairFault>
     requires greatest { shape_of wished.now.context.now.facts wished.now.context.now.reached
         wished.now.context.now.lower ≡ Some wished.now.shape }
-    ensures { IfOk result (IsInstead wished.now.context.now.facts wished.now.context.now.reached
-        wished.now.context.now.lower wished.now.shape wished.now.wish budget.old.limit) }
+    ensures { IfOk result (IsInstead wished.now.context.now wished.now.shape wished.now.wish budget.old.limit) }
 {
     let wish = Some(wished.wish);
     match best_of(wished.context, wished.shape, wish, budget)? {
@@ -255,6 +249,7 @@ fn look_for(wished: &Wished<'_>, budget: &mut Budget) -> Result<Instead, PairFau
 /// What would stand in a bracket in place of what is chosen there, were a wish granted: the best candidate of its shape
 /// that grants it and can be chosen (B.8, C.4), or why there is none. The wish names players by their numbers in the
 /// bracket; no candidate pairs a number that the bracket has not. The search has a budget of its own, of `limit` steps.
+#[tactic(auto, using(crate::proofs::InsteadLemmas::read_shape))]
 pub fn best_instead(
     alloc: Global,
     field: &Field,
@@ -263,8 +258,7 @@ pub fn best_instead(
     limit: u64,
 ) -> Result<Instead, PairFault>
     requires { IsStage field.now stage.now }
-    ensures { IfOk result (IsInstead field.now stage.now.reached
-        (lower_of field.now stage.now.reached) stage.now.shape wish limit) }
+    ensures { IfOk result (IsInstead (above_lower field.now stage.now.reached) stage.now.shape wish limit) }
 {
     let lower = lower_of(field, stage.reached());
     let context = Context::new(alloc, field, stage.reached(), &lower);

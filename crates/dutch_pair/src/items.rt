@@ -13,7 +13,7 @@ ghost use Rattle.dutch_bracket.specs.Seated.{is_uneven};
 use crate::stage::Stage;
 use dutch_bracket::colours_missed::{Miss, has_topscorer, misses};
 use dutch_bracket::differences::put;
-use dutch_bracket::floats::is_float;
+use dutch_bracket::floats::Past;
 use dutch_bracket::item::Item;
 use dutch_bracket::reached::Seats;
 use dutch_bracket::seated::{Pair, Seated, by_seats, goes, is_uneven};
@@ -62,6 +62,7 @@ fn put_if_topscorer(field: &Field, miss: Miss, pair: Pair, seats: &mut Seats)
 }
 
 /// The same of the players in pairs.
+#[tactic(auto, using(crate::proofs::ItemSeats::pair_put))]
 fn put_pairs(field: &Field, miss: Miss, pairs: &[Pair], seats: &mut Seats)
     requires inside { AllPairs field.now pairs.now }
     requires room { array_vec_len seats.old + 2 * length pairs.now ≤ LIMIT }
@@ -83,20 +84,19 @@ fn put_with_topscorers(field: &Field, miss: Miss, pairs: &[Pair], seats: &mut Se
     }
 }
 
-/// Puts the players of pairs who float so, and did in the last round (1) or in the one before it (2), to their places.
-fn put_again(field: &Field, float: Float, back: u8, pairs: &[Pair], seats: &mut Seats)
-    requires inside { AllPairs field.now pairs.now }
+/// Puts the players of pairs who float as in a round before to their places.
+fn put_again(past: Past<'_>, pairs: &[Pair], seats: &mut Seats)
+    requires inside { AllPairs past.field.now pairs.now }
     requires room { array_vec_len seats.old + length pairs.now ≤ LIMIT }
-    requires one { 1 ≤ back }
-    requires two { back ≤ 2 }
     ensures items { seats.new.items ≡ placed_all seats.old.items
-        (seats_of (again field.now float back (map (goes field.now float) (filter (is_uneven field.now) pairs.now)))) }
+        (seats_of (again past.entry.field.now past.entry.float past.entry.back
+        (map (goes past.entry.field.now past.entry.float) (filter (is_uneven past.entry.field.now) pairs.now)))) }
     ensures len { array_vec_len seats.new ≤ array_vec_len seats.old + length pairs.now }
 {
     for pair in pairs {
-        if is_uneven(field, *pair) {
-            let floater = goes(field, float, *pair);
-            if is_float(float, field.float(floater.seat, back)) {
+        if is_uneven(past.field, *pair) {
+            let floater = goes(past.field, past.float, *pair);
+            if past.was_of(floater.seat) {
                 put(seats, floater.seat);
             }
         }
@@ -104,16 +104,15 @@ fn put_again(field: &Field, float: Float, back: u8, pairs: &[Pair], seats: &mut 
 }
 
 /// The same of downfloaters.
-fn put_down_again(field: &Field, least: u16, back: u8, down: &[u16], seats: &mut Seats)
-    requires inside { AreSeats field.now down.now }
+fn put_down_again(past: Past<'_>, least: u16, down: &[u16], seats: &mut Seats)
+    requires inside { AreSeats past.field.now down.now }
     requires room { array_vec_len seats.old + length down.now ≤ LIMIT }
-    requires one { 1 ≤ back }
-    requires two { back ≤ 2 }
     ensures { seats.new.items ≡ placed_all seats.old.items
-        (seats_of (again field.now Down back (map (floats_down field.now least) down.now))) }
+        (seats_of (again past.entry.field.now past.entry.float past.entry.back
+        (map (floats_down past.entry.field.now least) down.now))) }
 {
     for seat in down {
-        if is_float(Float::Down, field.float(*seat, back)) {
+        if past.was_of(*seat) {
             put(seats, *seat);
         }
     }
@@ -129,8 +128,9 @@ fn fill_going_down(field: &Field, back: u8, candidate: &Seated, seats: &mut Seat
         ≡ highest_first (seats_of (again field.now Down back (going_down field.now candidate.now))) }
 {
     seats.clear();
-    put_again(field, Float::Down, back, &candidate.pairs, seats);
-    put_down_again(field, candidate.lowest, back, &candidate.down, seats);
+    let past = Past::new(field, Float::Down, back);
+    put_again(past, &candidate.pairs, seats);
+    put_down_again(past, candidate.lowest, &candidate.down, seats);
 }
 
 /// Fills a list with those of a candidate whom an item counts, the highest number first.
@@ -148,9 +148,9 @@ fn fill_counted(field: &Field, candidate: &Seated, item: Item, seats: &mut Seats
         Item::MissedPreferences => put_pairs(field, Miss::Preference, pairs, seats),
         Item::MissedStrong => put_pairs(field, Miss::StrongPreference, pairs, seats),
         Item::DownAgain => fill_going_down(field, 1, candidate, seats),
-        Item::UpAgain => put_again(field, Float::Up, 1, pairs, seats),
+        Item::UpAgain => put_again(Past::new(field, Float::Up, 1), pairs, seats),
         Item::DownAgainBefore => fill_going_down(field, 2, candidate, seats),
-        Item::UpAgainBefore => put_again(field, Float::Up, 2, pairs, seats),
+        Item::UpAgainBefore => put_again(Past::new(field, Float::Up, 2), pairs, seats),
         Item::Psd
         | Item::NextBracket
         | Item::DownAgainBy

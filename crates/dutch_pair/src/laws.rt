@@ -7,7 +7,7 @@ ghost use Rattle.trf16.specs.Round.{CanBePaired};
 ghost use Rattle.trf16.specs.Sheet.{Sheet};
 ghost use Rattle.trf16.specs.Verdict.{verdict};
 ghost use Rattle.trf16.specs.declared.cell.Colour.{Colour};
-ghost use Rattle.dutch_bracket.specs.Quality.{Quality, is_better};
+ghost use Rattle.dutch_bracket.specs.Quality.{Quality, is_better, first_difference};
 ghost use Rattle.dutch_player.specs.Facts.{Facts, facts_of};
 ghost use Rattle.dutch_player.specs.Laws.{CountFromOne};
 ghost use Rattle.std.specs.List.{AllByRecursion, concat};
@@ -23,7 +23,6 @@ ghost use Rattle.dutch_pair.specs.DeadEnds.{HasNoPairOf, NoTwoMayMeet, PairOut, 
 ghost use Rattle.dutch_bracket.specs.declared.reached.BracketKind.TheVariants.{Collapsed, Penultimate};
 ghost use Rattle.dutch_bracket.specs.Eligible.{HasCandidate};
 ghost use Rattle.dutch_bracket.specs.Items.{DifferFirstIn, IsInFrontIn, players_counted, who_counts};
-ghost use Rattle.dutch_bracket.specs.Quality.{first_difference};
 ghost use Rattle.dutch_bracket.specs.declared.item.Item.{Item};
 ghost use Rattle.dutch_pair.specs.Lower.{lower_of};
 ghost use Rattle.dutch_bracket.specs.NextBracket.{IsOfBracket, IsNext, quality};
@@ -51,6 +50,7 @@ pub fn better_is_an_order()
 
 /// One quality is better than another exactly if it stands in front at the first item in which they differ: they differ
 /// in it, and in none that counts before it. Two that differ in none are the same, and neither is better.
+#[tactic(auto, using(dutch_bracket::proofs::ItemOrder::better_in_front, dutch_bracket::proofs::ItemOrder::none_if_same, dutch_bracket::proofs::ItemOrder::none_is_better))]
 pub fn better_at_the_first_difference()
     ensures better { (a b : Quality)
         → (is_better a b ≡ true) ↔ IsSomeAnd (first_difference a b) (λ item. IsInFrontIn item a b) }
@@ -61,6 +61,7 @@ pub fn better_at_the_first_difference()
 {}
 
 /// Of each candidate of a bracket an item counts as many players as it says (C.8 to C.15).
+#[tactic(auto, using(crate::proofs::ItemSeats::as_many_count))]
 pub fn as_many_count_as_the_item_says()
     ensures { (facts : Facts) (reached : Reached) (next : List ℕ) (draw : Candidate) (item : Item)
         → length (who_counts facts reached draw item) ≡ players_counted item (quality facts reached next draw) }
@@ -83,17 +84,20 @@ pub fn most_of_few()
 {}
 
 /// In a round that is paired each present player stands on exactly one board, once, and nobody else does.
+#[tactic(auto, using(crate::proofs::NamedBoards::everybody_named))]
 pub fn everybody_is_named_once()
     ensures { (facts : Facts) (pairing : Pairing) → CountFromOne facts → (round facts).pairing ≡ Some pairing
         → NameEverybodyOnce facts (boards facts pairing) }
 {}
 
 /// In a round that is paired at most one player has the bye.
+#[tactic(auto, using(crate::proofs::WholeRounds::one_bye))]
 pub fn at_most_one_has_the_bye()
     ensures { (facts : Facts) (pairing : Pairing) → (round facts).pairing ≡ Some pairing → length pairing.bye ≤ 1 }
 {}
 
 /// No two players who were moved down into a bracket that a round reaches may meet, but in the collapsed one (A.9).
+#[tactic(auto, using(crate::proofs::NoDeadEnd::moved_down_apart))]
 pub fn no_two_moved_down_may_meet()
     ensures { (facts : Facts) (visit : Visit) → IsIn visit (round facts).reached → ¬ (visit.bracket.kind ≡ Collapsed)
         → NoTwoMayMeet facts (moved_down visit.bracket) }
@@ -122,6 +126,7 @@ pub fn boards_can_be_the_next_round()
 
 /// The shape of a bracket has room in it and a candidate that can be chosen, and no shape with room and such a
 /// candidate is greater; if the bracket has no shape, no shape has both (C.5, B.1).
+#[tactic(auto, using(dutch_bracket::proofs::ShapeLaws::has_one, dutch_bracket::proofs::ShapeLaws::none_is_greater, dutch_bracket::proofs::ShapeLaws::none_has_one))]
 pub fn the_shape_is_the_greatest()
     ensures room { (facts : Facts) (reached : Reached) (lower : List ℕ) (s : Shape)
         → shape_of facts reached lower ≡ Some s → Fits (frame_of facts reached) s }
@@ -137,12 +142,14 @@ pub fn the_shape_is_the_greatest()
 {}
 
 /// A bracket has room for a shape exactly if the test says so.
+#[tactic(auto, using(dutch_bracket::proofs::ShapeLaws::room_by_test))]
 pub fn room_by_test()
     ensures { (frame : Frame) (shape : Shape) → Fits frame shape ↔ (fits frame shape ≡ true) }
 {}
 
 /// The scoregroups of seats: each is of one score, neighbours have different scores, and one behind the other they are
 /// all seats (A.3).
+#[tactic(auto, using(crate::proofs::GroupLaws::groups_part, dutch_bracket::proofs::GroupLemmas::concat_scoregroups))]
 pub fn scoregroups_part_the_seats()
     ensures one_score { (facts : Facts) (seats : List ℕ)
         → AllByRecursion (IsScoregroup facts) (scoregroups facts seats) }
@@ -151,6 +158,7 @@ pub fn scoregroups_part_the_seats()
 {}
 
 /// The pairs of a round stand in the order of their boards: none goes before one that stands in front of it.
+#[tactic(auto, using(crate::proofs::BoardOrder::boards_in_order))]
 pub fn boards_stand_in_order()
     ensures { (facts : Facts) (pairs : List (ℕ × ℕ)) → AreInOrder facts (ordered facts pairs) }
 {}

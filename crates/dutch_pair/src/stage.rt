@@ -3,11 +3,9 @@ ghost use Rattle.std.specs.Prelude.{◌≡◌, ◌≤◌, ◌++◌, false, lengt
 ghost use Rattle.std.specs.List.{AllByRecursion};
 ghost use Rattle.std.specs.Option.{MatchOption};
 ghost use Rattle.dutch_order.specs.Steps.{Spends};
-ghost use Rattle.dutch_bracket.specs.Seated.{IsPair};
+ghost use Rattle.dutch_bracket.specs.Seated.{IsPair, AllNumbers, seat_of};
 ghost use Rattle.dutch_bracket.specs.Eligible.{HasCandidate};
-ghost use Rattle.dutch_bracket.specs.Reached.{IsAbove};
 ghost use Rattle.dutch_bracket.specs.Brackets.{completable};
-ghost use Rattle.dutch_bracket.specs.Seated.{AllNumbers, seat_of};
 ghost use Rattle.dutch_pair.specs.Outcomes.{IsStage};
 ghost use Rattle.dutch_bracket.specs.Stops.{Decides};
 ghost use Rattle.dutch_pair.specs.Stages.{IsSettled, is_again, own_pairs};
@@ -21,7 +19,6 @@ use dutch_bracket::seated::{Pair, by_seats};
 use dutch_choice::choice::{Choice, choose_in};
 use dutch_order::{Budget, Candidate, Shape, Stopped};
 use dutch_player::Field;
-use std::alloc::Global;
 
 /// A bracket that a round reaches, and what is chosen in it.
 #[derive(Debug, Drop)]
@@ -60,21 +57,13 @@ fn is_again(
 
 /// Settles a bracket that has a candidate. None says that the budget's limit was reached first, by its choice or by the
 /// test behind it.
-pub(crate) fn settle(
-    alloc: Global,
-    field: &Field,
-    reached: &Reached,
-    lower: &[u16],
-    budget: &mut Budget,
-) -> Result<Option<Stage>, PairFault>
-    requires above { IsAbove field.now reached.now lower.now }
-    requires candidate { HasCandidate field.now reached.now lower.now }
+pub(crate) fn settle(context: &Context<'_>, budget: &mut Budget) -> Result<Option<Stage>, PairFault>
+    requires candidate { HasCandidate context.now.facts context.now.reached context.now.lower }
     ensures answer { IfOk result (λ settled. MatchOption settled (budget.new.used ≡ budget.new.limit)
-        (λ stage. (stage.reached ≡ reached.now) × IsSettled field.now lower.now stage)) }
+        (λ stage. (stage.reached ≡ context.now.reached) × IsSettled context.now.facts context.now.lower stage)) }
     ensures spends { Spends budget.old budget.new }
 {
-    let context = Context::new(alloc, field, reached, lower);
-    let (shape, candidate, quality) = match choose_in(&context, budget)? {
+    let (shape, candidate, quality) = match choose_in(context, budget)? {
         Choice::Chosen {
             shape,
             candidate,
@@ -82,11 +71,11 @@ pub(crate) fn settle(
         } => (shape, candidate, quality),
         Choice::Undecided => return Ok(None),
     };
-    let Ok(again) = is_again(&context, &candidate, budget) else {
+    let Ok(again) = is_again(context, &candidate, budget) else {
         return Ok(None);
     };
     Ok(Some(Stage {
-        reached: reached.copied(),
+        reached: context.reached().copied(),
         shape,
         candidate,
         quality,

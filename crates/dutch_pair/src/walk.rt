@@ -4,11 +4,10 @@
 // Whatever bracket comes next, its players and all lower ones can be paired out, and no two of those moved down may
 // meet. So each bracket has a candidate that can be chosen, and at the end of the walk at most one player is left over.
 ghost use Rattle.std.specs.Prelude.{◌≡◌, ◌+◌, ◌<◌, ◌≤◌, length, Some, IfErr};
-ghost use Rattle.dutch_order.specs.Arrangements.{Fits};
 ghost use Rattle.std.specs.Result.{MatchResult};
 ghost use Rattle.dutch_order.specs.Steps.{Spends};
 ghost use Rattle.dutch_bracket.specs.Eligible.{HasCandidate};
-ghost use Rattle.dutch_bracket.specs.Reached.{frame_of};
+ghost use Rattle.dutch_bracket.specs.InContext.{FitsHere};
 ghost use Rattle.dutch_bracket.specs.Brackets.{scoregroups, shape_of};
 ghost use Rattle.dutch_pair.specs.declared.walk.Halt.TheVariants.{Fault};
 ghost use Rattle.dutch_pair.specs.Round.{everybody, brackets, paired_again};
@@ -119,7 +118,7 @@ fn shape_in(context: &Context<'_>, budget: &mut Budget) -> Result<Shape, Stopped
     requires candidate { HasCandidate context.now.facts context.now.reached context.now.lower }
     ensures answer { MatchResult result
         (λ shape. (shape_of context.now.facts context.now.reached context.now.lower ≡ Some shape)
-        × Fits (frame_of context.now.facts context.now.reached) shape)
+        × FitsHere context.now shape)
         (λ _. budget.new.used ≡ budget.new.limit) }
     ensures spends { Spends budget.old budget.new }
 {
@@ -177,6 +176,7 @@ fn behind<'a>(field: &Field, stage: &Stage, lower: &'a [u16]) -> Next<'a>
 impl<'a> Walk<'a> {
     /// A walk over the brackets of the next round. The test of all present players comes first, and counts to the first
     /// bracket.
+    #[tactic(auto, using(crate::proofs::GroupWalk::everybody_few))]
     pub(crate) fn start(
         alloc: Global,
         field: &'a Field,
@@ -230,7 +230,8 @@ impl<'a> Walk<'a> {
         let Next::Bracket { reached, lower } = &self.next else {
             return Ok(None);
         };
-        let Some(stage) = settle(alloc, self.field, reached, lower, &mut self.budget)? else {
+        let context = Context::new(alloc, self.field, reached, lower);
+        let Some(stage) = settle(&context, &mut self.budget)? else {
             return Err(Halt::Undecided {
                 bracket: self.number,
                 used: self.budget.used,

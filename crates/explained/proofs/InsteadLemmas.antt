@@ -5,7 +5,7 @@ use Rattle.std.specs.Option.{option_map_or}
 use Rattle.std.proofs.lemmas.List.{drop_more, drop_all, length-map}
 use Rattle.dutch_order.specs.declared.numbers.TheConstants.{LIMIT}
 use Rattle.dutch_player.specs.Facts.{Facts}
-use Rattle.dutch_pair.specs.Lower.{lower_of}
+use Rattle.dutch_pair.specs.Lower.{above_lower}
 use Rattle.dutch_pair.specs.Outcomes.{IsStage}
 use Rattle.dutch_bracket.specs.Seated.{score_at}
 use Rattle.dutch_pair.specs.Instead.{IsInstead}
@@ -35,7 +35,7 @@ few_seats facts stage is = omega (arith, is.bracket.sound.few, length-map stage.
 
 -- what is told of what a search finds
 pub searched : (facts : Facts) (steps number : ℕ) (stage : Stage) (wish : Wish) (found : Instead) {E : Type 0} (r : Result Reply E)
-    → IsInstead facts stage.reached (lower_of facts stage.reached) stage.shape wish steps found
+    → IsInstead (above_lower facts stage.reached) stage.shape wish steps found
     → IfOk r (λ reply. answer_of reply ≡ search_answer number stage found) → IfOk r (λ reply. IsSearched facts steps number stage wish (answer_of reply))
 searched facts steps number stage wish found (Ok reply) is tells = record { found = found; is = is; tells = tells }
 searched facts steps number stage wish found (Err error) is tells = tells

@@ -6,7 +6,7 @@ use Rattle.dutch_order.specs.Arrangements.{Arrangement}
 use Rattle.dutch_order.specs.Keys.{IsIn}
 use Rattle.dutch_order.proofs.Orders.{filter-IsIn}
 use Rattle.dutch_player.specs.Facts.{Facts}
-use Rattle.dutch_pair.specs.Lower.{lower_of}
+use Rattle.dutch_pair.specs.Lower.{above_lower, lower_of}
 use Rattle.dutch_pair.specs.Outcomes.{IsStage}
 use Rattle.dutch_bracket.specs.Reached.{frame_of}
 use Rattle.dutch_bracket.specs.Brackets.{can_be_chosen, candidates_of, eligible}
@@ -88,14 +88,14 @@ module _ (facts : Facts) (stage : Stage) (wish : Wish) where
   by_either is none (inr (others, more)) = barred is none more.mdps (omega (arith, more.from_on)) (granting more.mdps more.granted)
 
   pub none_can_be_chosen : (limit : ℕ) → IsStage facts stage
-      → IsInstead facts stage.reached (lower_of facts stage.reached) stage.shape wish limit NoneEligible → NoneCanBeChosen facts stage wish
+      → IsInstead (above_lower facts stage.reached) stage.shape wish limit NoneEligible → NoneCanBeChosen facts stage wish
   unfolding IsInstead
   none_can_be_chosen limit is (barred', none) = by_either is none barred'
 
   -- ---- B.1
 
   pub none_with_as_many_moved_down : (limit : ℕ) → IsStage facts stage
-      → IsInstead facts stage.reached (lower_of facts stage.reached) stage.shape wish limit FewerMovedDown → NoneWithAsManyMovedDown facts stage wish
+      → IsInstead (above_lower facts stage.reached) stage.shape wish limit FewerMovedDown → NoneWithAsManyMovedDown facts stage wish
   unfolding IsInstead
   none_with_as_many_moved_down limit is (none, fewer) =
       let it = granting fewer.mdps fewer.granted in
@@ -115,6 +115,6 @@ module _ (facts : Facts) (stage : Stage) (wish : Wish) where
       none_of mdps a (sym (ap (λ t. t && list_any (grants wish) (legal_with mdps)) ((room_by_test (frame_of facts stage.reached) (with_mdps stage.shape mdps)).0 legal.room)) ∙ none) legal
 
   pub none_with_as_many_pairs : (limit : ℕ) → IsStage facts stage
-      → IsInstead facts stage.reached (lower_of facts stage.reached) stage.shape wish limit NoneLegal → NoneWithAsManyPairs facts stage wish
+      → IsInstead (above_lower facts stage.reached) stage.shape wish limit NoneLegal → NoneWithAsManyPairs facts stage wish
   unfolding IsInstead
   none_with_as_many_pairs limit is none = λ mdps a legal. none_at mdps a (none mdps) legal

@@ -4,7 +4,7 @@ use Rattle.std.specs.List.{list_any, position_from}
 use Rattle.std.specs.Option.{option_map_or}
 use Rattle.dutch_player.specs.Facts.{Facts}
 use Rattle.dutch_player.specs.StartRanks.{seat_with}
-use Rattle.dutch_pair.specs.Lower.{lower_of}
+use Rattle.dutch_pair.specs.Lower.{above_lower}
 use Rattle.dutch_choice.specs.Wishes.{grants}
 use Rattle.dutch_pair.specs.Instead.{IsInstead}
 use Rattle.dutch_pair.specs.declared.instead.Instead.{Instead}
@@ -84,7 +84,7 @@ module _ (facts : Facts) (steps number : ℕ) where
   -- a candidate that grants a wish is searched for in a bracket, in so many steps, and what is found is told
   pub record IsSearched (stage : Stage) (wish : Wish) (answer : Answer) : Type 0 where
     pub found : Instead
-    pub is : IsInstead facts stage.reached (lower_of facts stage.reached) stage.shape wish steps found
+    pub is : IsInstead (above_lower facts stage.reached) stage.shape wish steps found
     pub tells : answer ≡ search_answer number stage found
 
   -- what is chosen in a bracket grants the wish; else a candidate that does is searched for

@@ -1,10 +1,9 @@
 // The lines of a round and of its brackets: who is in each, what is chosen, the boards, and who is left over.
 ghost use Rattle.std.specs.Prelude.{◌≡◌, ◌<◌, ◌++◌, IfOk, OnOk, length, string_bytes};
 ghost use Rattle.std.specs.List.{AllByRecursion, flat_map};
-ghost use Rattle.dutch_bracket.specs.Seated.{IsPair};
+ghost use Rattle.dutch_bracket.specs.Seated.{IsPair, AreSeats};
 ghost use Rattle.dutch_pair.specs.Outcomes.{IsStage};
 ghost use Rattle.dutch_bracket.specs.Reached.{IsOf};
-ghost use Rattle.dutch_bracket.specs.Seated.{AreSeats};
 ghost use Rattle.explained.specs.ExplainTexts.{bar_text, boards_text, bye_text, byes_text, chosen_text};
 ghost use Rattle.explained.specs.ExplainTexts.{colours_text, is_bracket_told, is_told, over_text, pairs_text};
 ghost use Rattle.explained.specs.ExplainTexts.{left_text, players_text, round_text, rule_text, scored_text};
@@ -16,7 +15,7 @@ use dutch_pair::{PairFault, Reached, Stage};
 use dutch_player::{ColourRule, Field};
 use replies::points::HalfPoints;
 use round_lines::bracket_texts;
-use round_lines::listing::put_line;
+use round_lines::listing::{Bracket, put_line};
 use std::alloc::{AllocError, Global};
 use trf16::Report;
 
@@ -131,7 +130,8 @@ fn put_chosen(
     ensures { OnOk result (string_bytes text.new ≡ string_bytes text.old ++ chosen_text field.now whose stage.now) }
 {
     text.push_str("chosen ")?;
-    put_line(text, field, stage.reached(), stage.candidate())?;
+    let reached = stage.reached();
+    put_line(text, &Bracket { field, reached }, stage.candidate())?;
     put_items(text, field, stage)?;
     put_pairs(text, field, stage, whose)?;
     put_byes(text, field, stage, whose)

@@ -1,12 +1,12 @@
 // The command `explain`: why the next round is paired as it is, bracket by bracket or for one player.
 ghost use Rattle.std.specs.Prelude.{◌≡◌, ◌<◌, ◌≤◌, ◌++◌, IfOk, Ok, OnOk, length, string_bytes};
 ghost use Rattle.std.specs.List.{AllByRecursion};
-ghost use Rattle.dutch_pair.specs.Outcomes.{AreStages, IsStage};
+ghost use Rattle.dutch_pair.specs.Outcomes.{IsStage};
 ghost use Rattle.trf16.specs.Verdict.{verdict};
 ghost use Rattle.dutch_bracket.specs.Seated.{AreSeats};
 ghost use Rattle.dutch_player.specs.StartRanks.{seat_with};
 ghost use Rattle.explained.specs.ExplainAnswers.{AnswersExplain, ExplainsField, IsExplained, IsToldBehind};
-ghost use Rattle.explained.specs.ExplainAnswers.{TellsPaired, TellsRound, about_text, front_text, present_text};
+ghost use Rattle.explained.specs.ExplainAnswers.{TellsPaired, about_text, front_text, present_text};
 ghost use Rattle.replies.specs.Replies.{answer_of};
 
 use crate::barrier_lines::no_pairing_because;
@@ -78,34 +78,18 @@ fn of_round(
     ensures { IfOk result (λ reply. IsExplained options report.now field.now (answer_of reply)) }
 {
     match stages(alloc, field, options.steps) {
-        Ok(stages) => tell(alloc, options, report, field, &stages),
-        Err(PairFault::OutOfMemory) => Err(AllocError),
-    }
-}
-
-// What is said of the stages of the round.
-fn tell<'a>(
-    alloc: Global,
-    options: ExplainOptions,
-    report: &'a Report<'a>,
-    field: &'a Field,
-    stages: &'a AllStages,
-) -> Result<Reply, AllocError>
-    requires { AreStages field.now options.steps stages.now }
-    ensures { IfOk result (λ reply. TellsRound options report.now field.now stages.now (answer_of reply)) }
-{
-    match stages {
-        AllStages::Paired { stages, bye } => {
+        Ok(AllStages::Paired { stages, bye }) => {
             let round = Paired {
                 report,
                 field,
-                stages,
-                bye,
+                stages: &stages,
+                bye: &bye,
             };
             tell_paired(alloc, options, &round)
         }
-        AllStages::NoPairing => no_pairing_because(alloc, field, options.steps),
-        AllStages::Undecided { bracket, used } => undecided(alloc, *bracket, *used),
+        Ok(AllStages::NoPairing) => no_pairing_because(alloc, field, options.steps),
+        Ok(AllStages::Undecided { bracket, used }) => undecided(alloc, bracket, used),
+        Err(PairFault::OutOfMemory) => Err(AllocError),
     }
 }
 

@@ -2,7 +2,7 @@
 ghost use Rattle.std.specs.Prelude.{◌≡◌, ℕ, ◌&&◌, true, List, Some};
 ghost use Rattle.dutch_player.specs.Facts.{Facts};
 ghost use Rattle.trf16.specs.Sheet.{Sheet};
-ghost use Rattle.dutch_pair.specs.Lower.{lower_of};
+ghost use Rattle.dutch_pair.specs.Lower.{above_lower};
 ghost use Rattle.dutch_pair.specs.Outcomes.{IsStage};
 ghost use Rattle.dutch_pair.specs.Instead.{IsInstead};
 ghost use Rattle.dutch_pair.specs.declared.instead.Instead.TheVariants.{FewerMovedDown, NoneEligible, NoneLegal};
@@ -44,24 +44,27 @@ pub fn it_is_decided_in_the_first_of_the_last_brackets()
 
 /// Where C.4 is told, a legal candidate grants the wish with as many pairs as the bracket has to make, and no fewer
 /// moved-down players in them; but none of these that can be chosen does.
+#[tactic(auto, using(crate::proofs::ReasonLemmas::none_can_be_chosen))]
 pub fn where_c4_is_told_none_can_be_chosen()
     ensures { (facts : Facts) (stage : Stage) (wish : Wish) (limit : ℕ) → IsStage facts stage
-        → IsInstead facts stage.reached (lower_of facts stage.reached) stage.shape wish limit NoneEligible
+        → IsInstead (above_lower facts stage.reached) stage.shape wish limit NoneEligible
         → NoneCanBeChosen facts stage wish }
 {}
 
 /// Where B.1 is told, a legal candidate grants the wish with as many pairs as the bracket has to make, and fewer
 /// moved-down players in them; but none with as many of these does.
+#[tactic(auto, using(crate::proofs::ReasonLemmas::none_with_as_many_moved_down))]
 pub fn where_b1_is_told_fewer_moved_down_would_be_paired()
     ensures { (facts : Facts) (stage : Stage) (wish : Wish) (limit : ℕ) → IsStage facts stage
-        → IsInstead facts stage.reached (lower_of facts stage.reached) stage.shape wish limit FewerMovedDown
+        → IsInstead (above_lower facts stage.reached) stage.shape wish limit FewerMovedDown
         → NoneWithAsManyMovedDown facts stage wish }
 {}
 
 /// Where C.5 is told, no legal candidate grants the wish with as many pairs as the bracket has to make, whatever
 /// moved-down players are in them.
+#[tactic(auto, using(crate::proofs::ReasonLemmas::none_with_as_many_pairs))]
 pub fn where_c5_is_told_none_has_as_many_pairs()
     ensures { (facts : Facts) (stage : Stage) (wish : Wish) (limit : ℕ) → IsStage facts stage
-        → IsInstead facts stage.reached (lower_of facts stage.reached) stage.shape wish limit NoneLegal
+        → IsInstead (above_lower facts stage.reached) stage.shape wish limit NoneLegal
         → NoneWithAsManyPairs facts stage wish }
 {}

@@ -1,12 +1,11 @@
 // The answers that several commands have: to a report that is refused, and if there is no pairing or the steps end
 // first.
 ghost use Rattle.std.specs.Prelude.{◌≡◌, IfOk};
-ghost use Rattle.replies.specs.Statuses.{field_refusal, no_pairing, question_refusal, refusal, tie_refusal};
-ghost use Rattle.replies.specs.Statuses.{undecided};
+ghost use Rattle.replies.specs.Statuses.{field_refusal, no_pairing, question_refusal, refusal, tie_refusal, undecided};
 ghost use Rattle.replies.specs.Replies.{answer_of};
 
 use crate::question::QuestionFault;
-use crate::reply::{Reply, Status, Text};
+use crate::reply::{Reply, Status};
 use crate::texts;
 use dutch_player::FieldFault;
 use std::alloc::{AllocError, Global};
@@ -47,24 +46,19 @@ pub fn has_no_standings(alloc: Global, fault: TieFault) -> Result<Reply, AllocEr
 pub fn cannot_be_asked(alloc: Global, fault: QuestionFault) -> Result<Reply, AllocError>
     ensures { IfOk result (λ reply. answer_of reply ≡ question_refusal fault) }
 {
-    let text = texts::bad_question(alloc, fault)?;
-    Ok(Reply::made(Status::BadWords, text))
+    Ok(Reply::made(Status::BadWords, texts::bad_question(alloc, fault)?))
 }
 
 /// No pairing meets the absolute criteria.
 pub fn no_pairing() -> Reply
     ensures { answer_of result ≡ no_pairing }
 {
-    Reply {
-        status: Status::NoPairing,
-        text: Text::Fixed("no pairing\n"),
-    }
+    Reply::fixed(Status::NoPairing, "no pairing\n")
 }
 
 /// The steps of a bracket reached the limit before it was decided.
 pub fn undecided(alloc: Global, number: u16, used: u64) -> Result<Reply, AllocError>
     ensures { IfOk result (λ reply. answer_of reply ≡ undecided number used) }
 {
-    let text = texts::undecided(alloc, number, used)?;
-    Ok(Reply::made(Status::Undecided, text))
+    Ok(Reply::made(Status::Undecided, texts::undecided(alloc, number, used)?))
 }

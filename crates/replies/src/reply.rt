@@ -110,6 +110,16 @@ impl Reply {
         }
     }
 
+    /// The same of a text that the program has.
+    pub fn fixed(status: Status, text: &'static str) -> Reply
+        ensures { answer_of result ≡ plain status text.entry.now }
+    {
+        Reply {
+            status,
+            text: Text::Fixed(text),
+        }
+    }
+
     /// The same of a text that is bytes.
     pub fn bytes(status: Status, text: Vec<u8>) -> Reply
         ensures { answer_of result ≡ plain status text.items }

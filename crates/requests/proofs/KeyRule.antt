@@ -2,7 +2,7 @@
 use Rattle.std.proofs.Common.{◌≡◌, ◌∙◌, ◌⊎◌, ℕ, ◌+◌, ◌<◌, ◌≤◌, Bool, true, false, not, ◌&&◌, ◌||◌, cond, nat_le, nat_lt, List, [], ◌∷◌, ◌++◌, length, Option, Some, None, refl, sym, ap, append-nil, append_assoc, length-append, inl, inr, arith}
 use Rattle.std.specs.Prelude.{option_and_then, option_map}
 use Rattle.std.specs.List.{list_any}
-use Rattle.std.proofs.lemmas.Bool.{and_from, and_parts, or_cases, or_parts, ltb-true}
+use Rattle.std.proofs.lemmas.Bool.{and_from, and_parts, and_right, not-false, not-true, or_cases, or_parts, or_right, ltb-true}
 use Rattle.std.proofs.lemmas.Bool.Decides.{nat_tests}
 use Rattle.std.proofs.lemmas.List.Folds.{list_any-append}
 use Rattle.requests.specs.KeySteps.{with_key, with_name}
@@ -16,18 +16,6 @@ keys_onto keys [] = Some keys
 keys_onto keys (name ∷ rest) = option_and_then (λ more. keys_onto more rest) (with_name keys name)
 
 -- tests
-
-and_false : (b : Bool) → (b && false) ≡ false
-and_false true = refl
-and_false false = refl
-
-or_true : (b : Bool) → (b || true) ≡ true
-or_true true = refl
-or_true false = refl
-
-not_true : (b : Bool) → not b ≡ true → b ≡ false
-not_true true e = sym e
-not_true false e = refl
 
 one_more : (n m : ℕ) → nat_lt n 3 ≡ true → m ≡ n + 1 → nat_le m 3 ≡ true
 one_more n m h e = let lt : n < 3 = ltb-true n 3 h in grind (arith, nat_tests)
@@ -58,10 +46,10 @@ twice (k ∷ keys) key others e = by (is_same key k) refl e (twice keys key othe
         let here : list_any (is_same k) (keys ++ key ∷ others) ≡ true =
         list_any-append (is_same k) keys (key ∷ others)
         ∙ ap (λ b. list_any (is_same k) keys || (b || list_any (is_same k) others)) (same-sym k key ∙ same)
-        ∙ or_true (list_any (is_same k) keys) in
+        ∙ or_right (list_any (is_same k) keys) true refl in
         ap (λ b. not b && are_different (keys ++ key ∷ others)) here
     by false same e' later =
-        ap (λ b. not (list_any (is_same k) (keys ++ key ∷ others)) && b) (later e') ∙ and_false (not (list_any (is_same k) (keys ++ key ∷ others)))
+        and_right (not (list_any (is_same k) (keys ++ key ∷ others))) (are_different (keys ++ key ∷ others)) (later e')
 
 -- a key that is none of those in front leaves them different
 once : (keys : List Key) (key : Key) → are_different keys ≡ true → list_any (is_same key) keys ≡ false → are_different (keys ++ key ∷ []) ≡ true
@@ -71,7 +59,7 @@ once (k ∷ keys) key different new =
     let apart = or_parts (is_same key k) (list_any (is_same key) keys) new in
     let here : list_any (is_same k) (keys ++ key ∷ []) ≡ false =
     list_any-append (is_same k) keys (key ∷ [])
-    ∙ ap (λ b. b || (is_same k key || false)) (not_true (list_any (is_same k) keys) both.0)
+    ∙ ap (λ b. b || (is_same k key || false)) (not-true (list_any (is_same k) keys) both.0)
     ∙ ap (λ b. b || false) (same-sym k key ∙ apart.0) in
     ap (λ b. not b && are_different (keys ++ key ∷ [])) here ∙ once keys key both.1 apart.1
 
@@ -89,22 +77,18 @@ no_place keys key others e = ap (λ b. cond b (Some (keys ++ key ∷ others)) No
   where
     not_listed : (list_any (is_same key) keys ≡ true) ⊎ (not (nat_lt (length keys) 3) ≡ true) → are_listed (keys ++ key ∷ others) ≡ false
     not_listed (inl among) =
-        ap (λ b. nat_le (length (keys ++ key ∷ others)) 3 && b) (twice keys key others among) ∙ and_false (nat_le (length (keys ++ key ∷ others)) 3)
+        and_right (nat_le (length (keys ++ key ∷ others)) 3) (are_different (keys ++ key ∷ others)) (twice keys key others among)
     not_listed (inr full) =
         ap (λ b. b && are_different (keys ++ key ∷ others))
-        (too_long (length keys) (length (keys ++ key ∷ others)) (not_true (nat_lt (length keys) 3) full) (length-more keys key others))
+        (too_long (length keys) (length (keys ++ key ∷ others)) (not-true (nat_lt (length keys) 3) full) (length-more keys key others))
 
 still_listed : (keys : List Key) (key : Key) → are_listed keys ≡ true → (list_any (is_same key) keys || not (nat_lt (length keys) 3)) ≡ false → are_listed (keys ++ key ∷ []) ≡ true
 still_listed keys key listed place =
     let both = and_parts (nat_le (length keys) 3) (are_different keys) listed in
     let room = or_parts (list_any (is_same key) keys) (not (nat_lt (length keys) 3)) place in
     and_from (nat_le (length (keys ++ key ∷ [])) 3) (are_different (keys ++ key ∷ []))
-    (one_more (length keys) (length (keys ++ key ∷ [])) (has_room (nat_lt (length keys) 3) room.1) (length-append keys (key ∷ [])))
+    (one_more (length keys) (length (keys ++ key ∷ [])) (not-false (nat_lt (length keys) 3) room.1) (length-append keys (key ∷ [])))
     (once keys key both.1 room.0)
-  where
-    has_room : (b : Bool) → not b ≡ false → b ≡ true
-    has_room true e = refl
-    has_room false e = sym e
 
 pub onto_listed : (keys : List Key) (all : List (List ℕ)) → are_listed keys ≡ true → keys_onto keys all ≡ option_and_then (λ more. if_listed (keys ++ more)) (keys_named all)
 unfolding keys_onto

@@ -1,18 +1,17 @@
 -- What clap's rules make of the words of the program.
 use Rattle.std.proofs.Common.{Result, Ok, Err, Option, None, Some, Bor, ◌≡◌, inl, inr, Bool, true, false, List, [], ◌∷◌, ◌||◌, refl, sym, ◌∙◌, ap}
 use Rattle.std.specs.List.{list_any}
-use Rattle.clap.specs.Words.{App, Row, Text, fault_of, subcommand_of, is_simple_and_free, Kinds, IsAmong, HasKind, kind_of}
+use Rattle.std.proofs.lemmas.Bool.{or_right}
+use Rattle.clap.specs.Words.{App, Row, Text, fault_of, subcommand_of, is_simple_and_free, Kinds, IsAmong, HasKind, kind_of, found_of, rows_of, subcommand_name_of, subcommand_rows, subcommand_rows_of}
 use Rattle.clap.specs.declared.error.kind.ErrorKind.{ErrorKind}
 use Rattle.std.specs.Prelude.{⊤, option_map}
 use Rattle.std.specs.Box.{box_value}
-use Rattle.clap.specs.Words.{found_of, rows_of, subcommand_name_of, subcommand_rows, subcommand_rows_of}
 use Rattle.clap.specs.declared.Error.{Error}
 use Rattle.clap.specs.declared.parser.matches.ArgMatches.{ArgMatches}
 use Rattle.clap.specs.declared.parser.matches.ArgMatches.TheViews.{out-ArgMatches, out-SubCommand}
 use Rattle.requests.specs.Options.{rows_in}
 use Rattle.clap.proofs.OnLiterals.{clap_on_literals}
-use Rattle.requests.specs.CommandLine.{bracket_rule, by_rule, bye_rule, count_rule, from_rule, initial_rule, instead_rule, names_rule, notes_rule, player_rule, points_rule, report_rule, rounds_rule, steps_rule}
-use Rattle.requests.specs.CommandLine.{candidates_app, explain_app, pair_app, standings_app, with_bracket_rules, with_option, with_round_rules, with_table_rules}
+use Rattle.requests.specs.CommandLine.{bracket_rule, by_rule, bye_rule, count_rule, from_rule, initial_rule, instead_rule, names_rule, notes_rule, player_rule, points_rule, report_rule, rounds_rule, steps_rule, candidates_app, explain_app, pair_app, standings_app, with_bracket_rules, with_option, with_round_rules, with_table_rules}
 use Rattle.requests.specs.Words.{ComesTo, FitsKind, arbiter_app, asked_by, check_app, format_app, is_mistake, is_shown, settled, task_by, versioned, with_command, with_engine, with_pairing}
 use Rattle.requests.specs.declared.options.WordFault.{WordFault}
 use Rattle.requests.specs.declared.words.Task.{Task}
@@ -45,15 +44,11 @@ accepted_words app words made (Err fault) same accepted rows e = record {
   named = ap task_by (ap (λ a. subcommand_of a words) (sym same) ∙ sym rows) ∙ sym e;
 }
 
-or_true : (b : Bool) → (b || true) ≡ true
-or_true true = refl
-or_true false = refl
-
 -- a kind that passes a test is among kinds of which one passes it
 among_passes : (p : ErrorKind → Bool) (k : ErrorKind) (kinds : Kinds) → IsAmong k kinds → p k ≡ true → list_any p kinds ≡ true
 among_passes p k [] h e = absurd h
 among_passes p k (x ∷ xs) (inl same) e = ap (λ y. p y || list_any p xs) (sym same) ∙ ap (λ b. b || list_any p xs) e
-among_passes p k (x ∷ xs) (inr later) e = ap (λ b. p x || b) (among_passes p k xs later e) ∙ or_true (p x)
+among_passes p k (x ∷ xs) (inr later) e = or_right (p x) (list_any p xs) (among_passes p k xs later e)
 
 -- what an error of a parse comes to is what the words come to
 pub told_of_words : (words : List Text) (error : Error) (asked : Asked) → HasKind (fault_of arbiter_app words) error → FitsKind (kind_of error) asked → ComesTo words asked

@@ -2,9 +2,8 @@
 ghost use Rattle.std.specs.Prelude.{◌≡◌, false};
 ghost use Rattle.clap.specs.Words.{rule_of};
 ghost use Rattle.requests.specs.CommandLine.{bracket_rule, by_rule, bye_rule, count_rule, flag_rule, from_rule};
-ghost use Rattle.requests.specs.CommandLine.{initial_rule, instead_rule, names_rule, notes_rule};
-ghost use Rattle.requests.specs.CommandLine.{option_rule, player_rule, points_rule, report_rule, rounds_rule};
-ghost use Rattle.requests.specs.CommandLine.{steps_rule};
+ghost use Rattle.requests.specs.CommandLine.{initial_rule, instead_rule, names_rule, notes_rule, option_rule};
+ghost use Rattle.requests.specs.CommandLine.{player_rule, points_rule, report_rule, rounds_rule, steps_rule};
 
 use clap::{Arg, ArgAction, value_parser};
 use std::alloc::Global;

@@ -1,8 +1,7 @@
 // The lines of candidates, as many as are asked for, one after the other.
-ghost use Rattle.std.specs.Prelude.{◌≡◌, ◌++◌, ◌∷◌, [], IfOk, OnOk, string_bytes};
+ghost use Rattle.std.specs.Prelude.{◌≡◌, ◌++◌, ◌∷◌, [], IfOk, OnOk, string_bytes, codes};
 ghost use Rattle.std.specs.List.{flat_map};
 ghost use Rattle.std.specs.Fmt.{decimal};
-ghost use Rattle.std.specs.Prelude.{codes};
 ghost use Rattle.dutch_order.specs.Steps.{Spends};
 ghost use Rattle.dutch_bracket.specs.Reached.{IsOf, frame_of};
 ghost use Rattle.round_lines.specs.Listings.{IsListing, StopsAtLimit, ending_text, status_of};
@@ -45,30 +44,46 @@ pub struct Listed {
     pub ending: Ending,
 }
 
+/// A bracket of a field, whose numbers are told as start ranks.
+#[derive(Drop)]
+pub struct Bracket<'a> {
+    pub field: &'a Field,
+    pub reached: &'a Reached,
+}
+
+/// A bracket, and its candidates that are to come.
+#[derive(Drop)]
+pub struct Coming<'a, R: Rule> {
+    pub bracket: Bracket<'a>,
+    pub candidates: Candidates<'a, R>,
+}
+
 /// The lines of the next `count` candidates, or of fewer if no more are left or all steps of the budget are used up
 /// before.
 #[tactic(auto, using(crate::proofs::ListingLemmas::underway_none, crate::proofs::ListingLemmas::underway_line, crate::proofs::ListingLemmas::underway_end, crate::proofs::ListingLemmas::underway_stopped, crate::proofs::ListingLemmas::underway_count))]
 pub fn lines<R: Rule>(
     alloc: Global,
-    field: &Field,
-    reached: &Reached,
-    mut coming: Candidates<'_, R>,
+    coming: Coming<'_, R>,
     count: usize,
     budget: &mut Budget,
 ) -> Result<Listed, AllocError>
-    requires of { IsOf field.now reached.now }
-    requires frame { coming.frame ≡ frame_of field.now reached.now }
+    requires of { IsOf coming.bracket.field.now coming.bracket.reached.now }
+    requires frame { coming.candidates.frame ≡ frame_of coming.bracket.field.now coming.bracket.reached.now }
     ensures listing { IfOk result (λ listed.
-        IsListing (line_text field.now reached.now) coming.entry.coming count budget.old.limit listed.ending
-        (string_bytes listed.text)) }
+        IsListing (line_text coming.entry.bracket.field.now coming.entry.bracket.reached.now)
+        coming.entry.candidates.coming count budget.old.limit listed.ending (string_bytes listed.text)) }
     ensures stopped { IfOk result (λ listed. StopsAtLimit listed.ending budget.new) }
     ensures spends { Spends budget.old budget.new }
 {
+    let Coming {
+        bracket,
+        mut candidates,
+    } = coming;
     let mut text = String::new(alloc);
     let mut done = 0;
     while done < count {
-        match coming.next(budget) {
-            Step::Found(candidate) => put_line(&mut text, field, reached, &candidate)?,
+        match candidates.next(budget) {
+            Step::Found(candidate) => put_line(&mut text, &bracket, &candidate)?,
             Step::End => {
                 let ending = Ending::AtEnd;
                 return Ok(Listed { text, ending });
@@ -88,27 +103,18 @@ pub fn lines<R: Rule>(
 #[tactic(auto, unfolding(crate::specs::CandidateTexts::candidate_text))]
 pub fn put_line(
     text: &mut String,
-    field: &Field,
-    reached: &Reached,
+    bracket: &Bracket<'_>,
     candidate: &Candidate,
 ) -> Result<(), AllocError>
-    requires { IsOf field.now reached.now }
+    requires { IsOf bracket.now.field.now bracket.now.reached.now }
     ensures { OnOk result (string_bytes text.new
-        ≡ string_bytes text.old ++ candidate_text field.now reached.now candidate.now) }
+        ≡ string_bytes text.old ++ candidate_text bracket.now.field.now bracket.now.reached.now candidate.now) }
 {
-    let bracket = Bracket { field, reached };
     text.push_str(candidate.cursor().print().as_str())?;
-    put_pairs(text, &bracket, candidate.s1(), candidate.s2())?;
-    put_pairs(text, &bracket, candidate.s1r(), candidate.s2r())?;
-    put_down(text, &bracket, candidate.down())?;
+    put_pairs(text, bracket, candidate.s1(), candidate.s2())?;
+    put_pairs(text, bracket, candidate.s1r(), candidate.s2r())?;
+    put_down(text, bracket, candidate.down())?;
     text.push_str("\n")
-}
-
-// A bracket of a field, whose numbers are told as start ranks.
-#[derive(Drop)]
-struct Bracket<'a> {
-    field: &'a Field,
-    reached: &'a Reached,
 }
 
 impl<'a> Bracket<'a> {

@@ -1,8 +1,5 @@
-use Rattle.dutch_pair.proofs.NoDeadEnd.{paired_exactly, unpaired_exactly}
+use Rattle.dutch_pair.proofs.NoDeadEnd.{paired_exactly}
 use Rattle.dutch_pair.proofs.completion_laws.a_round_is_paired_where_it_can_be.Goals as goal
 
 pub returns-clause-paired : goal.returns-clause-paired
 returns-clause-paired c = paired_exactly
-
-pub returns-clause-unpaired : goal.returns-clause-unpaired
-returns-clause-unpaired c = unpaired_exactly

@@ -1,27 +1,27 @@
 -- What is settled is the choice of the bracket that was read.
-use Rattle.std.proofs.Common.{refl}
+use Rattle.std.proofs.Common.{refl, ◌∙◌}
 use Rattle.dutch_pair.proofs.WalkEnds.{few_left, numbers_left}
 use Rattle.dutch_pair.proofs.WalkSteps.{chosen_as, settled_in}
 use Rattle.dutch_pair.proofs.stage.settle.Goals as goal
 
 pub is_again-requires-clause-numbers : goal.is_again-requires-clause-numbers
 is_again-requires-clause-numbers c =
-    let k = c.new-context.result in
+    let k = c.args.context.now in
     let h = chosen_as k _ c.in-Chosen.is c.in_ok-shape.ensures.answer in
     numbers_left k.facts k.reached c.in-Chosen.candidate.lists k.reached.seats c.in-Chosen.candidate.down refl h.1
 
 pub is_again-requires-clause-few : goal.is_again-requires-clause-few
 is_again-requires-clause-few c =
-    let k = c.new-context.result in
+    let k = c.args.context.now in
     let h = chosen_as k _ c.in-Chosen.is c.in_ok-shape.ensures.answer in
     few_left k.facts k.reached c.in-Chosen.candidate.lists c.in-Chosen.candidate.down h.1
 
 pub returns-clause-answer : goal.returns-clause-answer
 returns-clause-answer c =
-    let k = c.new-context.result in
-    let h = chosen_as k _ c.in-Chosen.is c.in_ok-shape.ensures.answer in (
-      c.copied.ensures,
-      settled_in c.args.field.now c.args.reached.now c.args.lower.now k
-          (record { reached = c.copied.result; shape = c.in-Chosen.shape; candidate = c.in-Chosen.candidate; quality = c.in-Chosen.quality; again = c.in-Ok.again })
-          c.new-context.ensures c.copied.ensures h.0 h.1 h.3 c.in-Ok.ensures.answer,
+    let k = c.args.context.now in
+    let h = chosen_as k _ c.in-Chosen.is c.in_ok-shape.ensures.answer in
+    let own = c.copied.ensures ∙ c.reached.ensures.value in (
+      own,
+      settled_in k (record { reached = c.copied.result; shape = c.in-Chosen.shape; candidate = c.in-Chosen.candidate; quality = c.in-Chosen.quality; again = c.in-Ok.again })
+          own h.0 h.1 h.3 c.in-Ok.ensures.answer,
     )

@@ -7,8 +7,8 @@ use Rattle.round_lines.proofs.listing.lines.Given as goal
 
 abbrev pub invariant-loop-done : goal.invariant-loop-done
 invariant-loop-done g l = record {
-  underway : IsUnderway (line_text l.field l.reached) l.initial.coming.coming l.coming.coming l.done (string_bytes l.text);
-  frame : l.coming.frame ≡ frame_of l.field l.reached;
+  underway : IsUnderway (line_text l.bracket.field.now l.bracket.reached.now) l.initial.candidates.coming l.candidates.coming l.done (string_bytes l.text);
+  frame : l.candidates.frame ≡ frame_of l.bracket.field.now l.bracket.reached.now;
   within : l.done ≤ l.count;
   spends : Spends l.initial.budget l.budget;
 }

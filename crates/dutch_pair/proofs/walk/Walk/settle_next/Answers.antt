@@ -2,6 +2,8 @@
 use Rattle.std.proofs.Common.{◌≡◌, ℕ, ◌+◌, [], ◌∷◌, ◌++◌, length, refl, ap, sym, ◌∙◌, subst, arith}
 use Rattle.std.proofs.lemmas.List.{length-append}
 use Rattle.std.proofs.lemmas.Option.{MatchOption-at_some}
+use Rattle.dutch_bracket.specs.Context.{Context}
+use Rattle.dutch_bracket.specs.Eligible.{HasCandidate}
 use Rattle.dutch_bracket.specs.Reached.{Reached}
 use Rattle.dutch_pair.specs.Outcomes.{IsStage, visit}
 use Rattle.dutch_pair.specs.Round.{round}
@@ -17,23 +19,28 @@ stands : (c : In-Bracket) → StandsBefore c.self.inside.field.now c.self.inside
 stands c = let w = c.self.inside in subst (StandsAt w.field.now w.number) c.in-Bracket.is c.self.invariant.stands
 
 told : (c : After-behind-self-inside) → (c.in-Some.stage.reached ≡ c.in-Bracket.reached) × IsSettled c.self.inside.field.now c.in-Bracket.lower.now c.in-Some.stage
-told c = MatchOption-at_some _ _ c.in-Some.stage c.in-Some.is c.in_ok-stage.ensures.answer
+told c =
+    subst (λ (k : Context). (c.in-Some.stage.reached ≡ k.reached) × IsSettled k.facts k.lower c.in-Some.stage) c.new-context.ensures
+    (MatchOption-at_some _ _ c.in-Some.stage c.in-Some.is c.in_ok-stage.ensures.answer)
 
 goes_on : (c : After-behind-self-inside) → let facts = c.self.inside.field.now in round_from facts c.self.inside.next ≡ stage_first facts c.in-Some.stage (round_from facts c.behind-self-inside.result)
 goes_on c =
     let facts = c.self.inside.field.now in
     ap (round_from facts) c.in-Bracket.is ∙ ap (λ (b : Reached). round_by facts b.kind b c.in-Bracket.lower.now) (sym (told c).0) ∙ c.behind-self-inside.ensures.rest
 
-pub settle-requires-clause-above : goal.settle-requires-clause-above
-settle-requires-clause-above c =
+pub new-context-requires : goal.new-context-requires
+new-context-requires c =
     let w = c.self.inside in
-    stands_above w.field.now w.number c.in-Bracket.reached c.in-Bracket.lower.now (stands (goal.at.settle-requires-clause-above c).In-Bracket)
+    stands_above w.field.now w.number c.in-Bracket.reached c.in-Bracket.lower.now (stands (goal.at.new-context-requires c).In-Bracket)
     (record { falls = c.scores_do_not_ascend.ensures.scores; few = c.scores_do_not_ascend.ensures.few })
 
-pub settle-requires-clause-candidate : goal.settle-requires-clause-candidate
-settle-requires-clause-candidate c =
+pub settle-requires : goal.settle-requires
+settle-requires c =
     let w = c.self.inside in
-    stands_has w.field.now w.number c.in-Bracket.reached c.in-Bracket.lower.now (stands (goal.at.settle-requires-clause-candidate c).In-Bracket)
+    record {
+      candidate = subst (λ (k : Context). HasCandidate k.facts k.reached k.lower) (sym c.new-context.ensures)
+          (stands_has w.field.now w.number c.in-Bracket.reached c.in-Bracket.lower.now (stands (goal.at.settle-requires c).In-Bracket));
+    }
 
 pub invariant_of-self-2 : goal.invariant_of-self-2
 invariant_of-self-2 c =

@@ -1,15 +1,9 @@
 -- At first all seats are to come, and they can be paired out.
-use Rattle.std.proofs.Common.{◌≤◌, List, ℕ, length, sym, ◌∙◌, subst, arith}
+use Rattle.std.proofs.Common.{List, ℕ, sym, ◌∙◌, subst}
 use Rattle.dutch_pair.specs.WaysOut.{GoesOut}
-use Rattle.dutch_pair.proofs.GroupWalk.{everybody_few, everybody_goes}
-use Rattle.dutch_order.specs.declared.numbers.TheConstants.{LIMIT}
+use Rattle.dutch_pair.proofs.GroupWalk.{everybody_goes}
 use Rattle.dutch_pair.proofs.NoDeadEnd.{everybody_out}
 use Rattle.dutch_pair.proofs.walk.Walk.start.Goals as goal
-
-pub can_complete-requires : goal.can_complete-requires
-can_complete-requires c =
-    let few : length c.args.field.now.seats ≤ LIMIT = c.scores_do_not_ascend.ensures.few in
-    record { few = omega (arith, few, everybody_few c.args.field.now c.args.all.now c.requires.all) }
 
 pub first_group-requires-clause-goes : goal.first_group-requires-clause-goes
 first_group-requires-clause-goes c = everybody_goes c.args.field.now c.new.result.items c.args.all.now c.new.ensures c.requires.all
@@ -18,6 +12,3 @@ pub first_group-requires-clause-out : goal.first_group-requires-clause-out
 first_group-requires-clause-out c =
     subst (λ (xs : List ℕ). GoesOut c.args.field.now xs c.args.all.now) (sym c.new.ensures)
     (everybody_out c.args.field.now c.args.all.now c.requires.all (sym c.in-Ok-true.ensures.answer ∙ c.in-Ok-true.field-0-test))
-
-pub first_group-requires-clause-small : goal.first_group-requires-clause-small
-first_group-requires-clause-small c = omega (arith, everybody_few c.args.field.now c.args.all.now c.requires.all)
