@@ -1,8 +1,7 @@
 -- What is written of a checked certificate, and that it is a floor.
-use Rattle.std.proofs.Common.{◌≡◌, ◌≢◌, ℕ, ◌+◌, ◌-◌, ◌*◌, ◌%◌, ◌<◌, ◌≤◌, Bool, true, cond, nat_eq, List, [], ◌∷◌, All, length}
-use Rattle.std.proofs.Common.{take, drop, get_or, set, sum_by, Option, Some, None, IfSome, IsSome, Result, Ok, Err, IfOk, refl, inl, inr, sym, ap, subst, ◌∙◌, arith}
+use Rattle.std.proofs.Common.{◌≡◌, ◌≢◌, ℕ, ◌+◌, ◌-◌, ◌*◌, ◌%◌, ◌<◌, ◌≤◌, true, cond, nat_eq, List, [], ◌∷◌, All, length}
+use Rattle.std.proofs.Common.{take, drop, get_or, sum_by, Option, Some, None, IfSome, IsSome, Result, Ok, Err, IfOk, refl, inl, inr, sym, ap, subst, ◌∙◌, arith}
 use Rattle.std.proofs.lemmas.Bool.{cases_Bool, cases_lt, eqb-true, eq-eqb, lt-ltb}
-use Rattle.std.proofs.lemmas.List.{get_or-set_same, get_or-set_other}
 use Rattle.std.proofs.lemmas.List.Elements.{All-more, All-weaker, All-head, All-tail}
 use Rattle.std.proofs.lemmas.List.Sums.{sum_by-cons, sum_by-drop_more, sum_by-le-sum_by}
 use Rattle.std.proofs.Math.Nat.{add-mul, mul-add, mul-le-mul_right}
@@ -19,34 +18,6 @@ pub sum_next : {X : Type 0} (f : X → ℕ) (xs ys : List X) (i : ℕ) (x : X) �
 sum_next f xs ys i x inside e same =
     let read : x ≡ get_or xs i x = e ∙ ap (λ zs. get_or zs i x) same in
     omega (arith, sum_by-drop_more f xs i x inside, ap f read)
-
--- ---- a number is written in its player's place
-
-module _ (at slack : ℕ → ℕ) (asks : ℕ → Bool) (same : (v w : ℕ) → at v ≡ at w → v ≡ w) where
-  abbrev Stands : List ℕ → ℕ → Type 0
-  Stands extra v = asks v ≡ true → get_or extra (at v) 0 ≡ slack v
-
-  kept : (extra : List ℕ) (p s v : ℕ) → at p < length extra → s ≡ slack p
-      → get_or extra (at v) 0 ≡ slack v → get_or (set extra (at p) s) (at v) 0 ≡ slack v
-  kept extra p s v inside e h = elim (cases_Bool (nat_eq (at v) (at p))) [
-    | inl here ↦
-        let is : v ≡ p = same v p (eqb-true (at v) (at p) here) in
-        ap (λ u. get_or (set extra (at p) s) (at u) 0) is ∙ get_or-set_same extra (at p) s 0 inside ∙ e ∙ ap slack (sym is)
-    | inr other ↦
-        let ne : at v ≢ at p = λ is. cc (eq-eqb (at v) (at p) is, other) in
-        get_or-set_other extra (at p) (at v) s 0 ne ∙ h
-  ]
-
-  pub stands_more : (players : List ℕ) (i : ℕ) (extra new : List ℕ) (k s : ℕ) → i < length players → k < length extra → k ≡ at (get_or players i 0)
-      → new ≡ set extra k s → s ≡ slack (get_or players i 0) → All (Stands extra) (take i players) → All (Stands new) (take (i + 1) players)
-  stands_more players i extra new k s lt inside place written e told =
-      let p : ℕ = get_or players i 0 in
-      let there : at p < length extra = omega (arith, place, inside) in
-      let after : new ≡ set extra (at p) s = written ∙ ap (λ j. set extra j s) place in
-      subst (λ xs. All (Stands xs) (take (i + 1) players)) (sym after)
-      (All-more (Stands (set extra (at p) s)) players i 0 lt
-      (All-weaker (Stands extra) (Stands (set extra (at p) s)) (λ v h asked. kept extra p s v there e (h asked)) (take i players) told)
-      (λ asked. get_or-set_same extra (at p) s 0 there ∙ e))
 
 -- ---- rows of a square
 

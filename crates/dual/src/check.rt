@@ -227,7 +227,6 @@ impl Table {
     /// The floor that the certificate is for all matchings, however many they leave over. There is none if the
     /// certificate gives a pair another thing than twice what it gives a player left over, if it is not feasible, or if
     /// a sum of its numbers is 2^512 or more.
-    #[tactic(auto, using(crate::proofs::FloorLemmas::for_each_left))]
     pub fn floor_for_any<R: Rule>(
         &self,
         alloc: Global,

@@ -83,6 +83,7 @@ impl Table {
     }
 
     // What the tolls come to at most.
+    #[tactic(auto, using(crate::proofs::FloorLemmas::sum_next))]
     fn most_tolls(&self, players: &[u16]) -> Option<Wide>
         requires { length players.now ≤ MOST }
         ensures { SomeIff result (most_tolls self.now players.now < 2 ^ 512) (most_tolls self.now players.now) }

@@ -56,6 +56,7 @@ fn stand_as_often(pairs: &[(u16, u16)], left: &[u16], players: &[u16]) -> bool
 }
 
 // Whether pairs and those left over make up the players.
+#[tactic(auto, using(crate::proofs::Witnesses::make_up, crate::proofs::Witnesses::as_often))]
 fn make_up(pairs: &[(u16, u16)], left: &[u16], players: &[u16]) -> bool
     ensures { IsTrue result ↔ MakeUp players.now pairs.now left.now }
 {
