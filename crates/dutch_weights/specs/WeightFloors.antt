@@ -31,6 +31,10 @@ pub record Weighed : Type 0 where
   pub shape : Shape
   pub scale : Scale
 
+-- a bracket whose pairs are weighed, for a shape
+abbrev pub weighed_for : Weighing → Shape → Weighed
+weighed_for w shape = record { facts = w.facts; reached = w.reached; lower = w.lower; shape = shape; scale = w.scale }
+
 -- a floor, which arrangements it is for, and what the members of their S1R add to it
 pub record ScopedFloor : Type 0 where
   pub scope : Scope
