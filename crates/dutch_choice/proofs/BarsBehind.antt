@@ -58,9 +58,9 @@ none_better_on q next other first second = (
 -- ---- what bars tell
 
 -- floors of a bracket above lower seats and a shape, as they are of these
-made_of : (facts : Facts) (reached : Reached) (lower : List ℕ) (shape : Shape) (w : Weighed) → AreOf facts reached lower shape w
-    → w ≡ record { facts = facts; reached = reached; lower = lower; shape = shape; scale = w.scale }
-made_of facts reached lower shape w are = λ i. record {
+made_of : (context : Context) (shape : Shape) (w : Weighed) → AreOf context shape w
+    → w ≡ record { facts = context.facts; reached = context.reached; lower = context.lower; shape = shape; scale = w.scale }
+made_of context shape w are = λ i. record {
   facts = are.facts_are i;
   reached = are.reached_is i;
   lower = are.lower_are i;
@@ -131,13 +131,13 @@ module _ (context : Context) (shape : Shape) (a : Arrangement) (of' : IsOf conte
 
 -- what weighs no less, on the scale of the floors that are there
 pub weighs_behind : (context : Context) (shape : Shape) (of' : IsOf context.facts context.reached)
-    (fits : Fits (frame_of context.facts context.reached) shape) (w : Weighed) → AreOf context.facts context.reached context.lower shape w
+    (fits : Fits (frame_of context.facts context.reached) shape) (w : Weighed) → AreOf context shape w
     → (Among : Arrangement → Type 0) (least : ℕ) → IsLeastOf Among w least
     → (a : Arrangement) → IsIn a (candidates_of context.facts context.reached shape) → Among a
     → can_be_chosen context.facts context.reached context.lower a ≡ true
     → (weights : Option Weighed) → weights ≡ Some w → WeighsNoLess context shape weights least (quality_of context.facts context.reached context.lower a)
 weighs_behind context shape of' fits w are Among least is a m among can weights same = λ v there.
-    let made = made_of context.facts context.reached context.lower shape w are in
+    let made = made_of context shape w are in
     let here : IsLeastOf Among (record { facts = context.facts; reached = context.reached; lower = context.lower; shape = shape; scale = w.scale }) least =
     subst (λ u. IsLeastOf Among u least) made is in
     let one : v ≡ w = let e : Some v ≡ Some w = sym there ∙ same in cc in

@@ -17,7 +17,7 @@ price pass = if pass.is_long then 1 + pass.shape.pairs / PAIRS_FOR_A_STEP else 1
 
 -- floors by weight, if there are any, are those of the bracket and the shape of a pass
 abbrev pub HasWeights : Pass → Option Weighed → Type 0
-HasWeights pass weights = ForSome weights (AreOf pass.context.now.facts pass.context.now.reached pass.context.now.lower pass.shape)
+HasWeights pass weights = ForSome weights (AreOf pass.context.now pass.shape)
 
 -- a list of candidates goes on as another one does, once some of its beginning is skipped, each of which is of no interest to a pass
 abbrev pub PassesDull : Pass → Option Best → List Arrangement → List Arrangement → Type 0

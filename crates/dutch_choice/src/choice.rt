@@ -376,8 +376,7 @@ fn weighed_by<'a>(
     room: &mut Room,
     budget: &mut Budget,
 ) -> Result<Weighed<'a>, Stopped>
-    requires of { AreOf pass.now.context.now.facts pass.now.context.now.reached pass.now.context.now.lower
-        pass.now.shape weights }
+    requires of { AreOf pass.now.context.now pass.now.shape weights }
     ensures weights { IfOk result (λ weighed. HasWeights pass.now weighed.weights) }
     ensures stopped { MatchResult result (λ _. Unit {0}) (λ _. budget.new.used ≡ budget.new.limit) }
     ensures spends { Spends budget.old budget.new }

@@ -239,8 +239,7 @@ pub(crate) struct Skipper<'a, 'k> {
     pub(crate) weights: &'k Option<WeightFloors<'k>>,
     /// The bars of the aim and of the candidate that is kept.
     pub(crate) bars: Bars,
-    ghost weighed: { ForSome weights.now
-        (AreOf pass.now.context.now.facts pass.now.context.now.reached pass.now.context.now.lower pass.now.shape) },
+    ghost weighed: { ForSome weights.now (AreOf pass.now.context.now pass.now.shape) },
     ghost aim: { ∥ HasBar weights.now (aim_in pass.now.aim) bars.aim ∥₁ },
     ghost best: { ∥ HasBar weights.now (kept_in kept.now) bars.kept ∥₁ },
 }
@@ -252,8 +251,7 @@ impl<'a, 'k> Skipper<'a, 'k> {
         kept: &'k Option<Best>,
         weights: &'k Option<WeightFloors<'k>>,
     ) -> Skipper<'a, 'k>
-        requires { ForSome weights.now
-            (AreOf pass.now.context.now.facts pass.now.context.now.reached pass.now.context.now.lower pass.now.shape) }
+        requires { ForSome weights.now (AreOf pass.now.context.now pass.now.shape) }
         ensures pass { result.pass.now ≡ pass.now }
         ensures kept { result.kept.now ≡ kept.now }
     {

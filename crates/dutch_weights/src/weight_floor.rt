@@ -12,7 +12,8 @@ ghost use Rattle.dutch_bracket.specs.Quality.{one_if};
 ghost use Rattle.dutch_bracket.specs.QualityIn.{quality_in};
 ghost use Rattle.dutch_bracket.specs.Brackets.{is_penultimate};
 ghost use Rattle.dutch_bracket.specs.Weights.{IsScaleFor};
-ghost use Rattle.dutch_weights.specs.WeightFloors.{IsMostAdded, IsWeightFloor, Weighed, bound_behind, is_first};
+ghost use Rattle.dutch_weights.specs.WeightFloors.{IsMostAdded, IsScaleHere, IsWeightFloor, Weighed, bound_behind};
+ghost use Rattle.dutch_weights.specs.WeightFloors.{is_first};
 ghost use Rattle.dutch_weights.specs.WeightFloors.{left_known, passed_over, weighed_for};
 
 use crate::order::{Halves, Order};
@@ -251,7 +252,7 @@ fn order_bits(context: &Context<'_>) -> u32 {
 /// A scale with digits for C.16 to C.19 and room for the order of S1R (D.2), as far as sums of the weights of all
 /// players fit, those twice over, and what it costs to be left over.
 fn scale_for(context: &Context<'_>, shape: Shape, next: bool) -> Scale
-    ensures { IsScaleFor context.now.facts context.now.reached context.now.lower shape result }
+    ensures { IsScaleHere context.now shape result }
 {
     let order = order_bits(context);
     for floats in [true, false] {
@@ -294,9 +295,8 @@ impl<'a> WeightFloors<'a> {
         shape: Shape,
         scale: Scale,
     ) -> Result<Option<WeightFloors<'a>>, AllocError>
-        requires { IsScaleFor context.now.facts context.now.reached context.now.lower shape scale }
-        ensures { IfOk result (λ found. IfSome found
-            (AreOf context.now.facts context.now.reached context.now.lower shape)) }
+        requires { IsScaleHere context.now shape scale }
+        ensures { IfOk result (λ found. IfSome found (AreOf context.now shape)) }
     {
         match Weighing::read(context, scale)? {
             Some(weighing) => return Ok(Some(WeightFloors::new(weighing, shape))),
@@ -310,8 +310,7 @@ impl<'a> WeightFloors<'a> {
         shape: Shape,
         next: bool,
     ) -> Result<Option<WeightFloors<'a>>, AllocError>
-        ensures { IfOk result (λ found. IfSome found
-            (AreOf context.now.facts context.now.reached context.now.lower shape)) }
+        ensures { IfOk result (λ found. IfSome found (AreOf context.now shape)) }
     {
         WeightFloors::read(context, shape, scale_for(context, shape, next))
     }
