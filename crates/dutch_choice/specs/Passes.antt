@@ -28,7 +28,7 @@ price pass = if pass.is_long then 1 + pass.shape.pairs / PAIRS_FOR_A_STEP else 1
 
 -- floors by weight are those of the bracket and the shape of a pass
 abbrev pub AreFor : Pass → Weighed → Type 0
-AreFor pass = AreOf pass.context.now.facts pass.context.now.reached pass.context.now.lower pass.shape
+AreFor pass = AreOf pass.context.now pass.shape
 
 -- so are those that there are
 abbrev pub HasWeights : Pass → Option Weighed → Type 0

@@ -8,7 +8,7 @@ use Rattle.std.proofs.lemmas.Bool.Decides.{nat_tests}
 use Rattle.std.proofs.lemmas.List.{get_or_append_left, get_or-append-add, map-append}
 use Rattle.std.proofs.lemmas.List.Elements.{All-head, All-tail}
 use Rattle.std.proofs.lemmas.List.Sums.{sum_by-cons, sum_by-append}
-use Rattle.dual.specs.Floors.{FloorTable, IsFloor, extra_in, extra_left_in}
+use Rattle.dual.specs.Floors.{FloorTable, IsFloor, extra_in}
 use Rattle.dual.specs.Matchings.{IsMatching, IsPartOf, MakeUp, cost, in_both}
 use Rattle.dual.proofs.Sums.{sum_none}
 use Rattle.dual.proofs.WeakDuality.{counted}
@@ -25,12 +25,12 @@ use Rattle.dutch_bracket.specs.Completion.{Completable, Covers as Covering, MayB
 use Rattle.dutch_bracket.specs.Beginnings.{fixed_lists}
 use Rattle.dutch_weights.specs.Orders.{Order}
 use Rattle.dutch_bracket.specs.Reached.{IsOf, Reached, frame_of}
-use Rattle.dutch_bracket.specs.Brackets.{candidates_of, completable, downfloaters, is_penultimate, quality_of}
+use Rattle.dutch_bracket.specs.Brackets.{candidates_of, completable, downfloaters, quality_of}
 use Rattle.dutch_bracket.specs.Scopes.{Covers, Scope, may_stay}
 use Rattle.dutch_weights.specs.ScopedCosts.{Scoped, any_seat, both_go, both_weigh, bracket_costs, costs_in, goes_down, going_weight, is_inside, least_of, lower_costs, may_pair_out, side_in}
 use Rattle.dutch_bracket.specs.Seated.{AllNumbers, seat_of}
 use Rattle.dutch_bracket.specs.Seats.{seats_may_be_left, seats_meet}
-use Rattle.dutch_weights.specs.WeightFloors.{IsWeightFloor, Weighed, added_in, bound_behind, left_known, weight_in, weighing_of}
+use Rattle.dutch_weights.specs.WeightFloors.{added_in}
 use Rattle.dutch_bracket.specs.Weights.{Scale, number_pairs, weight_of, weighing}
 use Rattle.dutch_bracket.proofs.AllLemmas.{all_join}
 use Rattle.dutch_bracket.proofs.ArrangementParts.{numbers_above}
@@ -376,24 +376,3 @@ module _ (facts : Facts) (reached : Reached) (scale : Scale) (lower : List ℕ) 
     weighs_more_below can floor is =
         let whole = (completable_by_test (seats_meet facts) (seats_may_be_left facts) (downfloaters facts reached a ++ lower)).1 can in
         bound_of whole.out (rest_paired whole) whole.left_out floor is
-
--- ---- floors that are put
-
--- C.4: a floor for all lower players too, once it adds nothing for whoever is left over, is one of a bracket that is paired again
-pub lower_floor_put : (w : Weighed) → is_penultimate w.reached.kind ≡ true → (scope : Scope) (order : Order) (players : List ℕ) (left : ℕ) (floor kept : FloorTable)
-    → players ≡ numbers_from 1 (length w.reached.seats + length w.lower) → left ≡ (length w.reached.seats + length w.lower) % 2
-    → IsFloor (costs_in (record { weighing = weighing_of w; scope = scope; reach = Lower; order = order })) players left floor
-    → kept ≡ record { base = floor.base; debt = floor.debt; size = floor.size; extra = floor.extra; extra_left = [] }
-    → IsWeightFloor w (record { scope = scope; order = order; floor = kept })
-lower_floor_put w penultimate scope order players left floor kept same count is kept_is = λ b a is_one begins covers.
-    let n : ℕ = length w.reached.seats + length w.lower in
-    let costs = costs_in (record { weighing = weighing_of w; scope = scope; reach = Lower; order = order }) in
-    let held = subst (λ (k : ℕ). IsFloor costs (numbers_from 1 n) k floor) count (subst (λ (xs : List ℕ). IsFloor costs xs left floor) same is) in
-    let can : completable w.facts (downfloaters w.facts w.reached a ++ w.lower) ≡ true =
-    subst (λ t. (not t || completable w.facts (downfloaters w.facts w.reached a ++ w.lower)) ≡ true) penultimate is_one.can in
-    let bound = weighs_more_below w.facts w.reached w.scale w.lower scope order w.shape a is_one.of is_one.fits is_one.listed b begins covers can
-    floor held in
-    let plain : FloorTable = record { base = floor.base; debt = floor.debt; size = floor.size; extra = floor.extra; extra_left = [] } in
-    let adds_none : sum_by (extra_left_in plain) (left_known b.filling w.reached.mdps b.lists.s1) ≡ 0 =
-    sum_none (left_known b.filling w.reached.mdps b.lists.s1) in
-    subst (λ (k : FloorTable). bound_behind k w.reached.mdps b ≤ k.debt + (weight_in w a + added_in order a)) (sym kept_is) (omega (arith, bound, adds_none))

@@ -24,7 +24,7 @@ use Rattle.dutch_bracket.specs.Quality.{Quality, NextValue, again, count_in, cou
 use Rattle.dutch_bracket.specs.Reached.{Reached, frame_of}
 use Rattle.dutch_bracket.specs.Brackets.{downfloaters, quality_of}
 use Rattle.dutch_bracket.specs.Seated.{Seated, all_pairs, difference, difference_down, floats_down, goes_down, goes_up, going_down, going_up, is_uneven, lowest, pairs_of, score_at, seat_of}
-use Rattle.dutch_bracket.specs.Weights.{HasDigits, HasFloatBases, NextScale, Scale, alone_by, count_had, counts, digits_below, digits_with, float_digits, in_base, nobody, number_pairs, player_digits, weight_below, weight_of, weight_with, weighing, written}
+use Rattle.dutch_bracket.specs.Weights.{HasDigits, HasFloatBases, NextScale, Scale, alone_by, count_had, counts, digits_below, digits_with, float_digits, in_base, number_pairs, player_digits, weight_below, weight_of, weight_with, weighing, written}
 use Rattle.dutch_bracket.proofs.AllLemmas.{all_join}
 use Rattle.dutch_bracket.proofs.Copies.{Falls, copies, copies_append, highest_first_copies, highest_first_falls}
 use Rattle.dutch_bracket.proofs.C08ToC19Fixed.{with_topscorers_add_up, filtered_add_up, mapped_add_up, counts_add_up, copies_add_up}
@@ -32,7 +32,7 @@ use Rattle.dutch_bracket.proofs.Everybody.{pairs_total}
 use Rattle.dutch_bracket.proofs.FixedPairs.{AddsUp}
 use Rattle.dutch_weights.proofs.ScaleLemmas.{written_on}
 use Rattle.dutch_bracket.proofs.Totals.{total, total_length}
-use Rattle.dutch_weights.proofs.WrittenNumbers.{IsOrdered, counted}
+use Rattle.dutch_weights.proofs.WrittenNumbers.{IsOrdered, counted, one_cond}
 
 -- ---- numbers whose digits are sums
 
@@ -73,94 +73,6 @@ adds_below (Some next) m n xs ys zs sum =
     adds_more next.base (m + n) m n (in_base next.base (counts next.psd xs)) (in_base next.base (counts next.psd ys))
     (in_base next.base (counts next.psd zs)) refl (adds_counts next.base next.psd xs ys zs sum)
 
--- each digit of a quality, those of C.7 apart, is the sum of those of two others
-record IsSumOf (q r s : Quality) : Type 0 where
-  psd : AddUpTo q.psd r.psd s.psd
-  wide_differences : q.wide_differences ≡ r.wide_differences + s.wide_differences
-  third_colours : q.third_colours ≡ r.third_colours + s.third_colours
-  missed_preferences : q.missed_preferences ≡ r.missed_preferences + s.missed_preferences
-  missed_strong : q.missed_strong ≡ r.missed_strong + s.missed_strong
-  down_again : q.down_again ≡ r.down_again + s.down_again
-  up_again : q.up_again ≡ r.up_again + s.up_again
-  down_again_before : q.down_again_before ≡ r.down_again_before + s.down_again_before
-  up_again_before : q.up_again_before ≡ r.up_again_before + s.up_again_before
-  down_again_by : AddUpTo q.down_again_by r.down_again_by s.down_again_by
-  up_again_by : AddUpTo q.up_again_by r.up_again_by s.up_again_by
-  down_again_before_by : AddUpTo q.down_again_before_by r.down_again_before_by s.down_again_before_by
-  up_again_before_by : AddUpTo q.up_again_before_by r.up_again_before_by s.up_again_before_by
-
-module _ (q r s : Quality) (sum : IsSumOf q r s) where
-  numbers_add : (base : ℕ) → Adds (in_base base (player_digits q)) (in_base base (player_digits r)) (in_base base (player_digits s))
-  numbers_add base =
-      adds_more base q.wide_differences r.wide_differences s.wide_differences _ _ _ sum.wide_differences
-      (adds_more base q.third_colours r.third_colours s.third_colours _ _ _ sum.third_colours
-      (adds_more base q.missed_preferences r.missed_preferences s.missed_preferences _ _ _ sum.missed_preferences
-      (adds_more base q.missed_strong r.missed_strong s.missed_strong _ _ _ sum.missed_strong
-      (adds_more base q.down_again r.down_again s.down_again _ _ _ sum.down_again
-      (adds_more base q.up_again r.up_again s.up_again _ _ _ sum.up_again
-      (adds_more base q.down_again_before r.down_again_before s.down_again_before _ _ _ sum.down_again_before
-      (adds_more base q.up_again_before r.up_again_before s.up_again_before [] [] [] sum.up_again_before (record { is = λ m n. refl }))))))))
-
-  floats_add : (scale : Scale) → Adds (float_digits scale q) (float_digits scale r) (float_digits scale s)
-  floats_add scale =
-      adds_on _ _ _ _ _ _ (adds_counts scale.float_bases.down_again scale.floats q.down_again_by r.down_again_by s.down_again_by sum.down_again_by)
-      (adds_on _ _ _ _ _ _ (adds_counts scale.float_bases.up_again scale.floats q.up_again_by r.up_again_by s.up_again_by sum.up_again_by)
-      (adds_on _ _ _ _ _ _
-      (adds_counts scale.float_bases.down_again_before scale.floats q.down_again_before_by r.down_again_before_by s.down_again_before_by
-      sum.down_again_before_by)
-      (adds_counts scale.float_bases.up_again_before scale.floats q.up_again_before_by r.up_again_before_by s.up_again_before_by
-      sum.up_again_before_by)))
-
-  -- so its weight is, if what is said of the next bracket is a sum too
-  weight_adds : (scale : Scale) (k m n : ℕ) (xs ys zs : List ℕ) → k ≡ m + n → AddUpTo xs ys zs
-      → weight_with scale k xs q ≡ weight_with scale m ys r + weight_with scale n zs s
-  unfolding weight_with
-  weight_adds scale k m n xs ys zs same below =
-      let adds : Adds (digits_with scale (m + n) xs q) (digits_with scale m ys r) (digits_with scale n zs s) =
-      adds_on _ _ _ _ _ _ (adds_counts scale.base scale.psd q.psd r.psd s.psd sum.psd)
-      (adds_on _ _ _ _ _ _ (adds_below scale.next m n xs ys zs below) (adds_on _ _ _ _ _ _ (numbers_add scale.base) (floats_add scale))) in
-      let number : written 0 (digits_with scale k xs q) ≡ written 0 (digits_with scale m ys r) + written 0 (digits_with scale n zs s) =
-      ap (λ i. written 0 (digits_with scale i xs q)) same ∙ adds.is 0 0 in
-      let units : scale.unit * written 0 (digits_with scale k xs q)
-      ≡ scale.unit * (written 0 (digits_with scale m ys r) + written 0 (digits_with scale n zs s)) =
-      ap (λ i. scale.unit * i) number in
-      omega (arith, units, mul-add scale.unit (written 0 (digits_with scale m ys r)) (written 0 (digits_with scale n zs s)))
-
--- ---- what the next bracket weighs (C.7)
-
-nobody_adds : IsSumOf nobody nobody nobody
-nobody_adds = record {
-  psd = λ d. refl;
-  wide_differences = refl;
-  third_colours = refl;
-  missed_preferences = refl;
-  missed_strong = refl;
-  down_again = refl;
-  up_again = refl;
-  down_again_before = refl;
-  up_again_before = refl;
-  down_again_by = λ d. refl;
-  up_again_by = λ d. refl;
-  down_again_before_by = λ d. refl;
-  up_again_before_by = λ d. refl;
-}
-
-module _ (scale : Scale) where
-  pub below_more : (m n : ℕ) (xs ys : List ℕ) → weight_below scale (m + n) (xs ++ ys) ≡ weight_below scale m xs + weight_below scale n ys
-  below_more m n xs ys =
-      weight_adds nobody nobody nobody nobody_adds scale (m + n) m n (xs ++ ys) xs ys refl
-      (λ d. omega (arith, counted d (xs ++ ys), counted d xs, counted d ys, copies_append d xs ys))
-
-  pub below_none : weight_below scale 0 [] ≡ 0
-  below_none = let twice : weight_below scale 0 [] ≡ weight_below scale 0 [] + weight_below scale 0 [] = below_more 0 0 [] [] in omega (arith, twice)
-
-  pub below_ordered : (n : ℕ) (xs : List ℕ) → weight_below scale n (highest_first xs) ≡ weight_below scale n xs
-  below_ordered n xs =
-      let same : weight_below scale n (highest_first xs) ≡ weight_below scale 0 [] + weight_below scale n xs =
-      weight_adds nobody nobody nobody nobody_adds scale n 0 n (highest_first xs) [] xs (omega arith)
-      (λ d. omega (arith, counted d (highest_first xs), counted d xs, highest_first_copies d xs)) in
-      omega (arith, same, below_none)
-
 one_or_none : (b : Bool) → one_if b ≤ 1
 one_or_none true = omega arith
 one_or_none false = omega arith
@@ -181,9 +93,9 @@ one_of_filter : {X : Type 0} (f : List X → ℕ) → IsCount f → (x : X) (b :
 one_of_filter f count x true = count.one x
 one_of_filter f count x false = omega (arith, none_adds f count.adds)
 
-length_of_one : (floater : Floater) (b : Bool) → length (cond b (floater ∷ []) []) ≤ 1
-length_of_one floater true = omega arith
-length_of_one floater false = omega arith
+length_one : (floater : Floater) (b : Bool) → length (cond b (floater ∷ []) []) ≡ one_if b
+length_one floater true = refl
+length_one floater false = refl
 
 copies_of_one : (d : ℕ) (floater : Floater) (b : Bool) → copies d (map (λ (x : Floater). x.by) (cond b (floater ∷ []) [])) ≤ 1
 copies_of_one d floater true = omega (arith, one_or_none (eqb floater.by d))
@@ -195,7 +107,7 @@ module _ (facts : Facts) (float : Float) (back : ℕ) where
 
   again_counts : IsCount (λ floaters. length (again facts float back floaters))
   unfolding had
-  again_counts = record { adds = counts_add_up facts float back; one = λ floater. length_of_one floater (had floater) }
+  again_counts = record { adds = counts_add_up facts float back; one = λ floater. omega (arith, length_one floater (had floater), one_or_none (had floater)) }
 
   again_by_counts : (d : ℕ) → IsCount (λ floaters. copies d (map (λ (floater : Floater). floater.by) (again facts float back floaters)))
   unfolding had
@@ -355,29 +267,6 @@ module _ (facts : Facts) (reached : Reached) where
   unfolding quality_with
   up_before_sum = up_sum (λ q. q.up_again_before) (λ fs. length (again facts Up 2 fs)) (again_counts facts Up 2) (λ pairs down next. refl)
 
-  -- what holds of each digit that adds up holds of all digits
-  sum_of : (q r s : Quality) → ((digit : Quality → ℕ) → IsSum digit → digit q ≡ digit r + digit s) → IsSumOf q r s
-  unfolding quality_with
-  sum_of q r s so = record {
-    psd = λ d. so (λ q. count_by (λ by. by == d) q.psd) (psd_sum d);
-    wide_differences = so (λ q. q.wide_differences) wide_sum;
-    third_colours = so (λ q. q.third_colours) third_sum;
-    missed_preferences = so (λ q. q.missed_preferences) missed_sum;
-    missed_strong = so (λ q. q.missed_strong) strong_sum;
-    down_again = so (λ q. q.down_again) down_again_sum;
-    up_again = so (λ q. q.up_again) up_again_sum;
-    down_again_before = so (λ q. q.down_again_before) down_before_sum;
-    up_again_before = so (λ q. q.up_again_before) up_before_sum;
-    down_again_by = λ d. so (λ q. count_by (λ by. by == d) q.down_again_by)
-        (differences_down (λ q. q.down_again_by) Down 1 (λ pairs down next. refl) d);
-    up_again_by = λ d. so (λ q. count_by (λ by. by == d) q.up_again_by) (differences_up (λ q. q.up_again_by) Up 1 (λ pairs down next. refl) d);
-    down_again_before_by =
-        λ d. so (λ q. count_by (λ by. by == d) q.down_again_before_by)
-        (differences_down (λ q. q.down_again_before_by) Down 2 (λ pairs down next. refl) d);
-    up_again_before_by =
-        λ d. so (λ q. count_by (λ by. by == d) q.up_again_before_by) (differences_up (λ q. q.up_again_before_by) Up 2 (λ pairs down next. refl) d);
-  }
-
   -- ---- one pair more, and one downfloater more
 
   pair_more : (digit : Quality → ℕ) → IsSum digit → (pair : ℕ × ℕ) (pairs : List (ℕ × ℕ)) (down : List ℕ) (next : NextValue)
@@ -430,6 +319,93 @@ module _ (facts : Facts) (reached : Reached) where
         pair_few pair,
       )
 
+  -- ---- weights add up as the digits do
+
+  -- each digit of a quality, those of C.7 apart, is the sum of those of two others
+  abbrev AreSums : Quality → Quality → Quality → Type 0
+  AreSums q r s = (digit : Quality → ℕ) → IsSum digit → digit q ≡ digit r + digit s
+
+  module _ (q r s : Quality) (sums : AreSums q r s) where
+    digit_adds : (base : ℕ) (digit : Quality → ℕ) → IsSum digit → (ds es fs : List (ℕ × ℕ)) → Adds ds es fs
+        → Adds ((base, digit q) ∷ ds) ((base, digit r) ∷ es) ((base, digit s) ∷ fs)
+    digit_adds base digit sum ds es fs more = adds_more base (digit q) (digit r) (digit s) ds es fs (sums digit sum) more
+
+    numbers_add : (base : ℕ) → Adds (in_base base (player_digits q)) (in_base base (player_digits r)) (in_base base (player_digits s))
+    numbers_add base =
+        digit_adds base (λ q. q.wide_differences) wide_sum _ _ _
+        (digit_adds base (λ q. q.third_colours) third_sum _ _ _
+        (digit_adds base (λ q. q.missed_preferences) missed_sum _ _ _
+        (digit_adds base (λ q. q.missed_strong) strong_sum _ _ _
+        (digit_adds base (λ q. q.down_again) down_again_sum _ _ _
+        (digit_adds base (λ q. q.up_again) up_again_sum _ _ _
+        (digit_adds base (λ q. q.down_again_before) down_before_sum _ _ _
+        (digit_adds base (λ q. q.up_again_before) up_before_sum [] [] [] (record { is = λ m n. refl }))))))))
+
+    list_adds : (base : ℕ) (ds : List ℕ) (list : Quality → List ℕ) → ((d : ℕ) → IsSum (λ q. count_by (λ by. by == d) (list q)))
+        → Adds (in_base base (counts ds (list q))) (in_base base (counts ds (list r))) (in_base base (counts ds (list s)))
+    list_adds base ds list sum = adds_counts base ds (list q) (list r) (list s) (λ d. sums (λ q. count_by (λ by. by == d) (list q)) (sum d))
+
+    floats_add : (scale : Scale) → Adds (float_digits scale q) (float_digits scale r) (float_digits scale s)
+    unfolding quality_with
+    floats_add scale =
+        adds_on _ _ _ _ _ _ (list_adds scale.float_bases.down_again scale.floats (λ q. q.down_again_by)
+        (differences_down (λ q. q.down_again_by) Down 1 (λ pairs down next. refl)))
+        (adds_on _ _ _ _ _ _ (list_adds scale.float_bases.up_again scale.floats (λ q. q.up_again_by)
+        (differences_up (λ q. q.up_again_by) Up 1 (λ pairs down next. refl)))
+        (adds_on _ _ _ _ _ _ (list_adds scale.float_bases.down_again_before scale.floats (λ q. q.down_again_before_by)
+        (differences_down (λ q. q.down_again_before_by) Down 2 (λ pairs down next. refl)))
+        (list_adds scale.float_bases.up_again_before scale.floats (λ q. q.up_again_before_by)
+        (differences_up (λ q. q.up_again_before_by) Up 2 (λ pairs down next. refl)))))
+
+    -- so its weight is the sum of theirs, if what is said of the next bracket is a sum too
+    weight_adds : (scale : Scale) (k m n : ℕ) (xs ys zs : List ℕ) → k ≡ m + n → AddUpTo xs ys zs
+        → weight_with scale k xs q ≡ weight_with scale m ys r + weight_with scale n zs s
+    unfolding weight_with
+    weight_adds scale k m n xs ys zs same below =
+        let adds : Adds (digits_with scale (m + n) xs q) (digits_with scale m ys r) (digits_with scale n zs s) =
+        adds_on _ _ _ _ _ _ (list_adds scale.base scale.psd (λ q. q.psd) psd_sum)
+        (adds_on _ _ _ _ _ _ (adds_below scale.next m n xs ys zs below) (adds_on _ _ _ _ _ _ (numbers_add scale.base) (floats_add scale))) in
+        let number : written 0 (digits_with scale k xs q) ≡ written 0 (digits_with scale m ys r) + written 0 (digits_with scale n zs s) =
+        ap (λ i. written 0 (digits_with scale i xs q)) same ∙ adds.is 0 0 in
+        let units : scale.unit * written 0 (digits_with scale k xs q)
+        ≡ scale.unit * (written 0 (digits_with scale m ys r) + written 0 (digits_with scale n zs s)) =
+        ap (λ i. scale.unit * i) number in
+        omega (arith, units, mul-add scale.unit (written 0 (digits_with scale m ys r)) (written 0 (digits_with scale n zs s)))
+
+  -- ---- what the next bracket weighs (C.7)
+
+  module _ (scale : Scale) where
+    -- nobody weighs nothing, the next bracket apart
+    weight_of_none : (next : NextValue) (alone : ℕ) (below : List ℕ) → weight_with scale alone below (of [] [] next) ≡ weight_below scale alone below
+    unfolding weight_with quality_with psd going_down going_up
+    weight_of_none next alone below = refl
+
+    below_adds : (k m n : ℕ) (xs ys zs : List ℕ) → k ≡ m + n → AddUpTo xs ys zs → weight_below scale k xs ≡ weight_below scale m ys + weight_below scale n zs
+    below_adds k m n xs ys zs same below =
+        let none : Quality = of [] [] no_value in
+        omega (
+          arith,
+          weight_adds none none none (λ digit sum. omega (arith, none_of_none digit sum no_value)) scale k m n xs ys zs same below,
+          weight_of_none no_value k xs,
+          weight_of_none no_value m ys,
+          weight_of_none no_value n zs,
+        )
+
+    pub below_more : (m n : ℕ) (xs ys : List ℕ) → weight_below scale (m + n) (xs ++ ys) ≡ weight_below scale m xs + weight_below scale n ys
+    below_more m n xs ys =
+        below_adds (m + n) m n (xs ++ ys) xs ys refl (λ d. omega (arith, counted d (xs ++ ys), counted d xs, counted d ys, copies_append d xs ys))
+
+    pub below_none : weight_below scale 0 [] ≡ 0
+    below_none = omega (arith, below_more 0 0 [] [])
+
+    pub below_ordered : (n : ℕ) (xs : List ℕ) → weight_below scale n (highest_first xs) ≡ weight_below scale n xs
+    below_ordered n xs =
+        omega (
+          arith,
+          below_adds n 0 n (highest_first xs) [] xs (omega arith) (λ d. omega (arith, counted d (highest_first xs), counted d xs, highest_first_copies d xs)),
+          below_none,
+        )
+
 -- ---- pairs of numbers and pairs of seats
 
 zip_seated : (seats firsts seconds : List ℕ) → pairs_of seats firsts seconds ≡ map (λ (pair : ℕ × ℕ). (seat_of seats pair.0, seat_of seats pair.1)) (zip firsts seconds)
@@ -452,25 +428,17 @@ module _ (facts : Facts) (reached : Reached) (scale : Scale) where
   abbrev pub down_alone : ℕ → ℕ
   down_alone seat = weight_with scale 0 [] (of facts reached [] (seat ∷ []) no_value)
 
-  -- nobody weighs nothing, the next bracket apart
-  weight_of_none : (next : NextValue) (alone : ℕ) (below : List ℕ) → weight_with scale alone below (of facts reached [] [] next)
-      ≡ weight_below scale alone below
-  unfolding weight_with quality_with psd going_down going_up
-  weight_of_none next alone below = refl
-
   pub weight_sum : (pairs : List (ℕ × ℕ)) (gone : List ℕ) (next : NextValue) (alone : ℕ) (below : List ℕ)
       → weight_with scale alone below (of facts reached pairs gone next)
       ≡ (sum_by pair_alone pairs + sum_by down_alone gone) + weight_below scale alone below
-  weight_sum [] [] next alone below = omega (arith, weight_of_none next alone below)
+  weight_sum [] [] next alone below = omega (arith, weight_of_none facts reached scale next alone below)
   weight_sum [] (seat ∷ gone) next alone below =
-      let more = weight_adds (of facts reached [] (seat ∷ gone) next) (of facts reached [] (seat ∷ []) no_value) (of facts reached [] gone next)
-      (sum_of facts reached (of facts reached [] (seat ∷ gone) next) (of facts reached [] (seat ∷ []) no_value) (of facts reached [] gone next)
-      (λ digit sum. down_more facts reached digit sum seat gone next)) scale alone 0 alone below [] below (omega arith) (λ d. omega arith) in
+      let more = weight_adds facts reached (of facts reached [] (seat ∷ gone) next) (of facts reached [] (seat ∷ []) no_value) (of facts reached [] gone next)
+      (λ digit sum. down_more facts reached digit sum seat gone next) scale alone 0 alone below [] below (omega arith) (λ d. omega arith) in
       omega (arith, more, weight_sum [] gone next alone below, sum_by-cons down_alone seat gone)
   weight_sum (pair ∷ pairs) gone next alone below =
-      let more = weight_adds (of facts reached (pair ∷ pairs) gone next) (of facts reached (pair ∷ []) [] no_value) (of facts reached pairs gone next)
-      (sum_of facts reached (of facts reached (pair ∷ pairs) gone next) (of facts reached (pair ∷ []) [] no_value) (of facts reached pairs gone next)
-      (λ digit sum. pair_more facts reached digit sum pair pairs gone next)) scale alone 0 alone below [] below (omega arith) (λ d. omega arith) in
+      let more = weight_adds facts reached (of facts reached (pair ∷ pairs) gone next) (of facts reached (pair ∷ []) [] no_value) (of facts reached pairs gone next)
+      (λ digit sum. pair_more facts reached digit sum pair pairs gone next) scale alone 0 alone below [] below (omega arith) (λ d. omega arith) in
       omega (arith, more, weight_sum pairs gone next alone below, sum_by-cons pair_alone pair pairs)
 
   -- so is that of a candidate
@@ -496,6 +464,9 @@ copies_few d (x ∷ xs) = omega (arith, one_or_none (eqb x d), copies_few d xs)
 
 counted_few : (d : ℕ) (xs : List ℕ) → count_by (λ by. by == d) xs ≤ length xs
 counted_few d xs = omega (arith, counted d xs, copies_few d xs)
+
+both : {A B : Type 0} → A → B → A × B
+both a b = (a, b)
 
 -- a digit is less than its base
 abbrev IsSmall : ℕ × ℕ → Type 0
@@ -531,10 +502,6 @@ module _ (facts : Facts) (float : Float) (back : ℕ) where
   abbrev pub had_one : ℕ → ℕ
   had_one seat = one_if (is_float float (float_of facts back seat))
 
-  one_cond : (b : Bool) → cond b 1 0 ≡ one_if b
-  one_cond true = refl
-  one_cond false = refl
-
   had_count : (seats : List ℕ) → count_had facts float back seats ≡ total had_one seats
   had_count [] = refl
   had_count (seat ∷ seats) =
@@ -548,10 +515,6 @@ module _ (facts : Facts) (float : Float) (back : ℕ) where
   one_of_two : (a b : ℕ) (t : Bool) → had_one (if t then b else a) ≤ had_one a + had_one b
   one_of_two a b true = omega arith
   one_of_two a b false = omega arith
-
-  length_one : (floater : Floater) (b : Bool) → length (cond b (floater ∷ []) []) ≡ one_if b
-  length_one floater true = refl
-  length_one floater false = refl
 
   one_again : (floater : Floater) → length (again facts float back (floater ∷ [])) ≡ had_one floater.seat
   one_again floater = length_one floater (is_float float (float_of facts back floater.seat))
@@ -636,28 +599,15 @@ module _ (facts : Facts) (reached : Reached) (pairs : List (ℕ × ℕ)) (gone :
         )
 
     numbers_small : AllByRecursion (λ n. n < scale.base) (player_digits q)
-    numbers_small = (
-      small_number (λ r. r.wide_differences) (wide_sum facts reached),
-      (
-        small_number (λ r. r.third_colours) (third_sum facts reached),
-        (
-          small_number (λ r. r.missed_preferences) (missed_sum facts reached),
-          (
-            small_number (λ r. r.missed_strong) (strong_sum facts reached),
-            (
-              small_number (λ r. r.down_again) (down_again_sum facts reached),
-              (
-                small_number (λ r. r.up_again) (up_again_sum facts reached),
-                (
-                  small_number (λ r. r.down_again_before) (down_before_sum facts reached),
-                  (small_number (λ r. r.up_again_before) (up_before_sum facts reached), tt),
-                ),
-              ),
-            ),
-          ),
-        ),
-      ),
-    )
+    numbers_small =
+        both (small_number (λ r. r.wide_differences) (wide_sum facts reached))
+        (both (small_number (λ r. r.third_colours) (third_sum facts reached))
+        (both (small_number (λ r. r.missed_preferences) (missed_sum facts reached))
+        (both (small_number (λ r. r.missed_strong) (strong_sum facts reached))
+        (both (small_number (λ r. r.down_again) (down_again_sum facts reached))
+        (both (small_number (λ r. r.up_again) (up_again_sum facts reached))
+        (both (small_number (λ r. r.down_again_before) (down_before_sum facts reached))
+        (both (small_number (λ r. r.up_again_before) (up_before_sum facts reached)) tt)))))))
 
     floats_small : AllByRecursion IsSmall (float_digits scale q)
     floats_small =

@@ -1,6 +1,6 @@
 -- The pairs of a candidate and those of the best arrangement of the next bracket (C.04.3 C.7) are a matching of the bracket and the next lower
 -- scoregroup, which costs no more than the candidate weighs on a scale that measures the next bracket.
-use Rattle.std.proofs.Common.{◌≡◌, ℕ, ◌+◌, ◌-◌, ◌*◌, ◌<◌, ◌≤◌, ◌⊎◌, Bool, true, false, not, cond, ◌&&◌, ◌||◌, nat_le, List, [], ◌∷◌, ◌++◌, map, length, get_or, sum_by, Option, Some, None, inl, inr, refl, sym, ap, subst, ◌∙◌, arith}
+use Rattle.std.proofs.Common.{◌≡◌, ℕ, ◌+◌, ◌-◌, ◌*◌, ◌<◌, ◌≤◌, ◌⊎◌, Bool, true, false, not, cond, ◌&&◌, ◌||◌, nat_le, List, [], ◌∷◌, ◌++◌, map, length, get_or, sum_by, Option, Some, None, inl, inr, refl, ap, ◌∙◌, arith}
 use Rattle.std.specs.Prelude.{◌==◌, is_some}
 use Rattle.std.specs.List.{AllByRecursion}
 use Rattle.std.specs.Option.{ForSome}
@@ -8,7 +8,7 @@ use Rattle.std.proofs.lemmas.Bool.{and_from, and_parts, ne_eqb, or_right}
 use Rattle.std.proofs.lemmas.Bool.Decides.{nat_tests}
 use Rattle.std.proofs.lemmas.List.{get_or_append_left, get_or-append_right}
 use Rattle.std.proofs.lemmas.List.Sums.{sum_by-cons, sum_by-append}
-use Rattle.dual.specs.Floors.{FloorTable, IsFloor, extra_in, extra_left_in}
+use Rattle.dual.specs.Floors.{FloorTable, IsFloor, extra_in}
 use Rattle.dual.specs.Matchings.{IsMatching, IsPartOf, cost, in_both}
 use Rattle.dual.proofs.Sums.{sum_none, sum_of_ones, sum_of_twos}
 use Rattle.dutch_order.specs.declared.bracket.Shape.{Shape}
@@ -31,7 +31,7 @@ use Rattle.dutch_bracket.specs.Brackets.{candidates_of, quality_of}
 use Rattle.dutch_bracket.specs.Scopes.{Covers, Scope, is_joined, may_stay}
 use Rattle.dutch_weights.specs.ScopedCosts.{Scoped, are_inside, both_go, bracket_costs, costs_in, goes_down, is_inside, is_number_below, may_meet_below, next_costs, pair_weight_below, side_in}
 use Rattle.dutch_bracket.specs.Seated.{difference, difference_down, score_at}
-use Rattle.dutch_weights.specs.WeightFloors.{IsScaled, IsWeightFloor, Weighed, added_in, bound_behind, left_known, weight_in, weighing_of}
+use Rattle.dutch_weights.specs.WeightFloors.{added_in}
 use Rattle.dutch_weights.specs.WeightTables.{alone_weight, met_weight, own_weight}
 use Rattle.dutch_bracket.specs.Weights.{IsNextScale, IsScaleFor, NextScale, Scale, alone_by, number_pairs, weight_below, weight_of, weighing}
 use Rattle.dutch_bracket.proofs.AllLemmas.{all_join}
@@ -276,7 +276,7 @@ module _ (facts : Facts) (reached : Reached) (scale : Scale) (lower : List ℕ) 
 
         costs_below : (pairs : List (ℕ × ℕ)) → AllByRecursion (MayPairBelow facts reached lower a) pairs
             → sum_by (λ (pair : ℕ × ℕ). (next_costs s).weight pair.0 pair.1) pairs ≡ sum_by (in_both own) pairs + weight_below scale 0 (map by pairs)
-        costs_below [] all = omega (arith, below_none scale)
+        costs_below [] all = omega (arith, below_none facts reached scale)
         costs_below (pair ∷ pairs) all =
             omega (
               arith,
@@ -284,11 +284,11 @@ module _ (facts : Facts) (reached : Reached) (scale : Scale) (lower : List ℕ) 
               sum_by-cons (in_both own) pair pairs,
               one_costs pair all.0,
               costs_below pairs all.1,
-              below_more scale 0 0 (by pair ∷ []) (map by pairs),
+              below_more facts reached scale 0 0 (by pair ∷ []) (map by pairs),
             )
 
         costs_alone : (vs : List ℕ) → sum_by (alone_weight s.weighing) vs ≡ sum_by own vs + weight_below scale (length vs) (map floats vs)
-        costs_alone [] = omega (arith, below_none scale)
+        costs_alone [] = omega (arith, below_none facts reached scale)
         costs_alone (v ∷ vs) =
             omega (
               arith,
@@ -296,7 +296,7 @@ module _ (facts : Facts) (reached : Reached) (scale : Scale) (lower : List ℕ) 
               sum_by-cons own v vs,
               costs_alone vs,
               ap (λ k. weight_below scale k (map floats (v ∷ vs))) (let e : length (v ∷ vs) ≡ 1 + length vs = omega arith in e),
-              below_more scale 1 (length vs) (floats v ∷ []) (map floats vs),
+              below_more facts reached scale 1 (length vs) (floats v ∷ []) (map floats vs),
             )
 
         -- those who go down weigh what they do in the bracket
@@ -344,9 +344,9 @@ module _ (facts : Facts) (reached : Reached) (scale : Scale) (lower : List ℕ) 
         value_weighs some scaled =
             ap (λ k. weight_below scale k q.next_psd) (alone_is scale.next some scaled.next)
             ∙ ap (λ psd. weight_below scale (length joins.alone) psd) (ap (λ (v : NextValue). v.psd) joins.value)
-            ∙ below_ordered scale (length joins.alone) (map by joins.pairs ++ map floats joins.alone)
+            ∙ below_ordered facts reached scale (length joins.alone) (map by joins.pairs ++ map floats joins.alone)
             ∙ ap (λ k. weight_below scale k (map by joins.pairs ++ map floats joins.alone)) (let e : length joins.alone ≡ 0 + length joins.alone = omega arith in e)
-            ∙ below_more scale 0 (length joins.alone) (map by joins.pairs) (map floats joins.alone)
+            ∙ below_more facts reached scale 0 (length joins.alone) (map by joins.pairs) (map floats joins.alone)
 
         -- they cost no more than the candidate weighs, and what the members of its S1R add
         costs_no_more : is_some scale.next ≡ true → IsScaleFor facts reached lower shape scale
@@ -393,21 +393,3 @@ weighs_more_next facts reached scale lower scope order shape a fits m b begins c
     let known = measured facts reached lower shape scale.next some scaled.next in
     bound_of facts reached scale lower scope order known.0 shape a fits m b begins covers (joins_below facts reached lower shape a known.0 known.1 m) some scaled
     floor is
-
--- ---- floors that are put
-
--- C.7: a floor for the next lower scoregroup too, once it adds nothing for whoever is left over, is one of a bracket
-pub next_floor_put : (w : Weighed) → is_some w.scale.next ≡ true → IsScaled w → (scope : Scope) (order : Order) (players : List ℕ) (floor kept : FloorTable)
-    → players ≡ numbers_from 1 (count_below w.facts w.reached w.lower)
-    → ((left : ℕ) → IsFloor (costs_in (record { weighing = weighing_of w; scope = scope; reach = Next; order = order })) players left floor)
-    → kept ≡ record { base = floor.base; debt = floor.debt; size = floor.size; extra = floor.extra; extra_left = [] }
-    → IsWeightFloor w (record { scope = scope; order = order; floor = kept })
-next_floor_put w some scaled scope order players floor kept same is kept_is = λ b a is_one begins covers.
-    let n : ℕ = count_below w.facts w.reached w.lower in
-    let costs = costs_in (record { weighing = weighing_of w; scope = scope; reach = Next; order = order }) in
-    let held = subst (λ (xs : List ℕ). (left : ℕ) → IsFloor costs xs left floor) same is in
-    let bound = weighs_more_next w.facts w.reached w.scale w.lower scope order w.shape a is_one.fits is_one.listed b begins covers some scaled floor held in
-    let plain : FloorTable = record { base = floor.base; debt = floor.debt; size = floor.size; extra = floor.extra; extra_left = [] } in
-    let adds_none : sum_by (extra_left_in plain) (left_known b.filling w.reached.mdps b.lists.s1) ≡ 0 =
-    sum_none (left_known b.filling w.reached.mdps b.lists.s1) in
-    subst (λ (k : FloorTable). bound_behind k w.reached.mdps b ≤ k.debt + (weight_in w a + added_in order a)) (sym kept_is) (omega (arith, bound, adds_none))

@@ -1,10 +1,11 @@
 -- No candidate behind a beginning weighs less than a floor says (C.04.3 C.6, C.8 to C.19). So none is better than a quality that weighs no
 -- more, and one that weighs less is better than all.
-use Rattle.std.proofs.Common.{◌≡◌, ℕ, zero, suc, ◌+◌, ◌-◌, ◌*◌, ◌<◌, ◌≤◌, true, false, not, cond, List, [], ◌∷◌, All, map, drop, length, inl, inr, refl, sym, ap, subst, ◌∙◌, arith}
+use Rattle.std.proofs.Common.{◌≡◌, ℕ, zero, suc, ◌+◌, ◌-◌, ◌*◌, ◌%◌, ◌<◌, ◌≤◌, true, false, not, cond, ◌||◌, List, [], ◌∷◌, ◌++◌, All, sum_by, map, drop, length, inl, inr, refl, sym, ap, subst, ◌∙◌, arith}
 use Rattle.std.specs.List.{AllByRecursion}
 use Rattle.std.specs.Option.{ForSome}
 use Rattle.std.proofs.lemmas.Bool.{eq-eqb, ne_eqb}
-use Rattle.dual.specs.Floors.{FloorTable, IsFloor}
+use Rattle.dual.specs.Floors.{FloorTable, IsFloor, extra_in, extra_left_in}
+use Rattle.dual.proofs.Sums.{sum_none}
 use Rattle.dual.specs.Matchings.{Costs, IsPartOf, cost}
 use Rattle.dutch_order.specs.declared.bracket.Shape.{Shape}
 use Rattle.dutch_order.specs.declared.prefix.Filling.{Filling}
@@ -13,22 +14,25 @@ use Rattle.dutch_order.specs.Arrangements.{Arrangement, Fits, Frame, arrangement
 use Rattle.dutch_order.specs.Choices.{numbers_from, subsets}
 use Rattle.dutch_order.specs.Keys.{IsIn}
 use Rattle.dutch_order.specs.Prefixes.{Begins, BeginsAt, Beginning}
+use Rattle.dutch_order.proofs.Members.{length-numbers}
 use Rattle.dutch_order.proofs.Orders.{IsIn-append, IsIn-map}
 use Rattle.dutch_player.specs.Facts.{Facts}
 use Rattle.dutch_bracket.specs.Beginnings.{fixed_lists}
 use Rattle.dutch_weights.specs.Orders.{Order}
 use Rattle.dutch_bracket.specs.Quality.{Quality, is_better}
 use Rattle.dutch_bracket.specs.QualityIn.{next_in}
-use Rattle.dutch_weights.specs.declared.scoped.Reach.TheVariants.{Bracket}
+use Rattle.dutch_weights.specs.declared.scoped.Reach.{Reach}
+use Rattle.dutch_weights.specs.declared.scoped.Reach.TheVariants.{Bracket, Lower, Next}
 use Rattle.dutch_bracket.specs.Reached.{IsOf, Reached, frame_of}
-use Rattle.dutch_bracket.specs.Brackets.{candidates_of, quality_of}
+use Rattle.dutch_bracket.specs.Brackets.{candidates_of, completable, downfloaters, is_penultimate, quality_of}
 use Rattle.dutch_bracket.specs.Scopes.{Covers, Scope}
-use Rattle.dutch_weights.specs.ScopedCosts.{costs_in}
-use Rattle.dutch_weights.specs.WeightFloors.{HasNoBetterOn, IsWeightFloor, Weighed, added_in, bound_behind, is_first, left_known, passed_over, weighing_of}
+use Rattle.dutch_weights.specs.ScopedCosts.{IsFloorBy, MeasuresNext, Scoped, all_numbers, costs_in, kept_by, without_left}
+use Rattle.dutch_weights.specs.WeightFloors.{AreFloors, HasNoBetterOn, IsChoosable, IsScaled, IsWeightFloor, ScopedFloor, Weighed, added_in, bound_behind, is_first, left_known, passed_over, weighing_of, weight_in}
 use Rattle.dutch_bracket.specs.Weights.{HasDigits, IsOn, IsScale, IsScaleFor, Scale, number_pairs, numbers, weighing, weight_above, weight_of}
 use Rattle.dutch_bracket.proofs.ArrangementParts.{lists_of, numbers_above, numbers_rise, numbers_within, parts_of, subset_members, subset_whole}
 use Rattle.dutch_weights.proofs.C06ToC19Weights.{IsSmallBelow, candidate_ordered, candidate_weighs}
-use Rattle.dutch_weights.proofs.C07NextWeights.{small_below}
+use Rattle.dutch_weights.proofs.C04Lower.{weighs_more_below}
+use Rattle.dutch_weights.proofs.C07NextWeights.{small_below, weighs_more_next}
 use Rattle.dutch_weights.proofs.CandidateMatchings.{digits_are_small, each, left_over, part_of, total_sum}
 use Rattle.dutch_weights.proofs.D02Orders.{pairs_cost}
 use Rattle.dutch_bracket.proofs.BegunLemmas.{begun_pairs}
@@ -178,10 +182,49 @@ module _ (facts : Facts) (reached : Reached) (scale : Scale) (lower : List ℕ) 
 pub numbers_known : (n : ℕ) → All (λ a. (0 < a) × (a ≤ n)) (numbers_from 1 n)
 numbers_known n = each (λ a. (0 < a) × (a ≤ n)) (numbers_from 1 n) (numbers_within 0 1 n n (omega arith) (omega arith))
 
-pub floor_put : (w : Weighed) (scope : Scope) (order : Order) (players : List ℕ) (left : ℕ) (floor : FloorTable) → players ≡ numbers w.reached
-    → left ≡ length w.reached.seats - 2 * w.shape.pairs → IsFloor (costs_in (record { weighing = weighing_of w; scope = scope; reach = Bracket; order = order })) players left floor
-    → IsWeightFloor w (record { scope = scope; order = order; floor = floor })
-floor_put w scope order players left floor same count is = λ b a is_one begins covers.
-    let costs = costs_in (record { weighing = weighing_of w; scope = scope; reach = Bracket; order = order }) in
-    let held = subst (λ (n : ℕ). IsFloor costs (numbers w.reached) n floor) count (subst (λ (xs : List ℕ). IsFloor costs xs left floor) same is) in
-    weighs_more w.facts w.reached w.scale w.lower w.shape a is_one.of is_one.fits is_one.listed b begins scope covers order floor held
+-- a floor that adds nothing for whoever is left over is one of a bracket, if all that it says of known pairs holds
+kept_put : (w : Weighed) (scope : Scope) (order : Order) (floor : FloorTable)
+    → ((b : Beginning) (a : Arrangement) → IsChoosable w a → Begins b a → Covers scope b
+    → floor.base + sum_by (extra_in floor) (number_pairs (fixed_lists b)) ≤ floor.debt + (weight_in w a + added_in order a))
+    → IsWeightFloor w (record { scope = scope; order = order; floor = without_left floor })
+kept_put w scope order floor bound = λ b a is_one begins covers.
+    let adds_none : sum_by (extra_left_in (without_left floor)) (left_known b.filling w.reached.mdps b.lists.s1) ≡ 0 =
+    sum_none (left_known b.filling w.reached.mdps b.lists.s1) in
+    omega (arith, bound b a is_one begins covers, adds_none)
+
+-- what is kept of a floor by matchings of a scope is one of the bracket's weights
+put_by : (w : Weighed) → IsScaled w → (reach : Reach) → (reach ≡ Lower → is_penultimate w.reached.kind ≡ true) → MeasuresNext reach w.scale
+    → (scope : Scope) (order : Order) (floor : FloorTable)
+    → IsFloorBy reach (record { weighing = weighing_of w; scope = scope; reach = reach; order = order }) (length w.reached.seats - 2 * w.shape.pairs) floor
+    → IsWeightFloor w (record { scope = scope; order = order; floor = kept_by reach floor })
+put_by w scaled Bracket penultimate next scope order floor is = λ b a is_one begins covers.
+    weighs_more w.facts w.reached w.scale w.lower w.shape a is_one.of is_one.fits is_one.listed b begins scope covers order floor is
+put_by w scaled Lower penultimate next scope order floor is =
+    let s : Scoped = record { weighing = weighing_of w; scope = scope; reach = Lower; order = order } in
+    let held = subst (λ (n : ℕ). IsFloor (costs_in s) (all_numbers s) (n % 2) floor) (length-numbers 1 (length w.reached.seats + length w.lower)) is in
+    kept_put w scope order floor (λ b a is_one begins covers.
+    let can : completable w.facts (downfloaters w.facts w.reached a ++ w.lower) ≡ true =
+    subst (λ t. (not t || completable w.facts (downfloaters w.facts w.reached a ++ w.lower)) ≡ true) (penultimate refl) is_one.can in
+    weighs_more_below w.facts w.reached w.scale w.lower scope order w.shape a is_one.of is_one.fits is_one.listed b begins covers can floor held)
+put_by w scaled Next penultimate next scope order floor is =
+    kept_put w scope order floor (λ b a is_one begins covers.
+    weighs_more_next w.facts w.reached w.scale w.lower scope order w.shape a is_one.fits is_one.listed b begins covers next scaled floor is)
+
+-- the same where the scope that is kept is a copy
+pub floor_put : (w : Weighed) → IsScaled w → (reach : Reach) → (reach ≡ Lower → is_penultimate w.reached.kind ≡ true) → MeasuresNext reach w.scale
+    → (kept : ScopedFloor) (s : Scoped) (left : ℕ) (floor : FloorTable)
+    → s ≡ record { weighing = weighing_of w; scope = kept.scope; reach = reach; order = kept.order }
+    → left ≡ length w.reached.seats - 2 * w.shape.pairs → kept.floor ≡ kept_by reach floor → IsFloorBy s.reach s left floor → IsWeightFloor w kept
+floor_put w scaled reach penultimate next kept s left floor scoped count kept_is is =
+    let here : Scoped = record { weighing = weighing_of w; scope = kept.scope; reach = reach; order = kept.order } in
+    let held = subst (λ (n : ℕ). IsFloorBy reach here n floor) count (subst (λ (s : Scoped). IsFloorBy s.reach s left floor) scoped is) in
+    subst (λ (f : FloorTable). IsWeightFloor w (record { scope = kept.scope; order = kept.order; floor = f })) (sym kept_is)
+    (put_by w scaled reach penultimate next kept.scope kept.order floor held)
+
+-- floors with one more are floors, where it is one
+pub one_more : (v w : Weighed) (old new : List ScopedFloor) (floor : ScopedFloor) → v ≡ w → AreFloors v old
+    → ((u : Weighed) → All (IsWeightFloor u) old → IsWeightFloor u floor → All (IsWeightFloor u) new) → IsWeightFloor w floor → AreFloors v new
+one_more v w old new floor same held keeps is = record {
+  scaled = held.scaled;
+  hold = keeps v held.hold (subst (λ (u : Weighed). IsWeightFloor u floor) (sym same) is);
+}

@@ -27,8 +27,9 @@ use Rattle.dutch_bracket.proofs.Copies.{Falls, copies, highest_first_falls, not_
 use Rattle.dutch_bracket.proofs.FloorOrder.{number_not}
 use Rattle.dutch_bracket.proofs.InTurn.{better_in_turn, compared_by_colours, compared_by_differences}
 use Rattle.dutch_bracket.proofs.QualityOrder.{total}
+use Rattle.dutch_weights.proofs.ScaleLemmas.{written_on}
 
-one_cond : (b : Bool) → cond b 1 0 ≡ one_if b
+pub one_cond : (b : Bool) → cond b 1 0 ≡ one_if b
 one_cond true = refl
 one_cond false = refl
 
@@ -64,10 +65,6 @@ Small = AllByRecursion (λ digit. digit.1 < digit.0)
 small_behind : (xs ys : List (ℕ × ℕ)) → Small (xs ++ ys) → Small ys
 small_behind [] ys small = small
 small_behind (x ∷ xs) ys small = small_behind xs ys small.1
-
-written_on : (front : ℕ) (xs ys : List (ℕ × ℕ)) → written front (xs ++ ys) ≡ written (written front xs) ys
-written_on front [] ys = refl
-written_on front (x ∷ xs) ys = written_on (x.0 * front + x.1) xs ys
 
 -- the digits of two numbers have the same bases
 abbrev Alike : List (ℕ × ℕ) → List (ℕ × ℕ) → Type 0
@@ -144,6 +141,12 @@ next_digit base x y xs ys not = (
     small = not.small.1;
   },
 )
+
+-- so it is not in front by the first digit, and where that is the same not by others
+number_then : (base x y : ℕ) (xs ys : List (ℕ × ℕ)) (others : Ordering) → NotAbove ((base, x) ∷ xs) ((base, y) ∷ ys)
+    → (NotAbove xs ys → is_lt others ≡ false) → is_lt (ordering_then (nat_cmp y x) others) ≡ false
+number_then base x y xs ys others not later =
+    let one = next_digit base x y xs ys not in number_not y x others one.0 (λ same. later (one.1 same))
 
 module _ (base : ℕ) (list other : List ℕ) where
   -- down to a difference in whose number two lists differ
@@ -249,22 +252,14 @@ module _ (scale : Scale) (falls : IsScale scale) (f a : Quality) (on : IsOn scal
   colours_not : NotAbove (in_base scale.base (player_digits f) ++ float_digits scale f) (in_base scale.base (player_digits a) ++ float_digits scale a)
       → is_lt (compared_by_colours a f) ≡ false
   colours_not not =
-      let n1 = next_digit scale.base f.wide_differences a.wide_differences _ _ not in
-      number_not a.wide_differences f.wide_differences _ n1.0 (λ s1.
-      let n2 = next_digit scale.base f.third_colours a.third_colours _ _ (n1.1 s1) in
-      number_not a.third_colours f.third_colours _ n2.0 (λ s2.
-      let n3 = next_digit scale.base f.missed_preferences a.missed_preferences _ _ (n2.1 s2) in
-      number_not a.missed_preferences f.missed_preferences _ n3.0 (λ s3.
-      let n4 = next_digit scale.base f.missed_strong a.missed_strong _ _ (n3.1 s3) in
-      number_not a.missed_strong f.missed_strong _ n4.0 (λ s4.
-      let n5 = next_digit scale.base f.down_again a.down_again _ _ (n4.1 s4) in
-      number_not a.down_again f.down_again _ n5.0 (λ s5.
-      let n6 = next_digit scale.base f.up_again a.up_again _ _ (n5.1 s5) in
-      number_not a.up_again f.up_again _ n6.0 (λ s6.
-      let n7 = next_digit scale.base f.down_again_before a.down_again_before _ _ (n6.1 s6) in
-      number_not a.down_again_before f.down_again_before _ n7.0 (λ s7.
-      let n8 = next_digit scale.base f.up_again_before a.up_again_before _ _ (n7.1 s7) in
-      number_not a.up_again_before f.up_again_before _ n8.0 (λ s8. differences_not (n8.1 s8)))))))))
+      number_then scale.base f.wide_differences a.wide_differences _ _ _ not (λ n1.
+      number_then scale.base f.third_colours a.third_colours _ _ _ n1 (λ n2.
+      number_then scale.base f.missed_preferences a.missed_preferences _ _ _ n2 (λ n3.
+      number_then scale.base f.missed_strong a.missed_strong _ _ _ n3 (λ n4.
+      number_then scale.base f.down_again a.down_again _ _ _ n4 (λ n5.
+      number_then scale.base f.up_again a.up_again _ _ _ n5 (λ n6.
+      number_then scale.base f.down_again_before a.down_again_before _ _ _ n6 (λ n7.
+      number_then scale.base f.up_again_before a.up_again_before _ _ _ n7 differences_not)))))))
 
   -- what weighs no more has no greater number
   none_above : HasDigits scale a → weight_of scale f ≤ weight_of scale a → NotAbove (digits scale f) (digits scale a)

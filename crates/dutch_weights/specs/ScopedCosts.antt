@@ -1,8 +1,10 @@
 -- What pairs and downfloaters weigh in the arrangements of a bracket that a floor is for (C.04.3 B.3, B.6, B.7), also where those who go down
 -- are paired out with all lower players (C.4), or meet the next lower scoregroup (C.7). What bounds the choice by beginnings stands on
 -- these; a reader of its promise may pass them by.
-use Rattle.std.specs.Prelude.{◌≡◌, ℕ, ◌+◌, ◌-◌, ◌^◌, ◌<◌, ◌≤◌, length, min, Bool, true, ◌&&◌, ◌||◌, not, ◌==◌, if◌then◌else◌, nat_lt, nat_le, List, ◌++◌, slice_index_or, is_some}
+use Rattle.std.specs.Prelude.{◌≡◌, ℕ, ◌+◌, ◌-◌, ◌^◌, ◌%◌, ◌<◌, ◌≤◌, [], length, min, Bool, true, ◌&&◌, ◌||◌, not, ◌==◌, if◌then◌else◌, nat_lt, nat_le, List, ◌++◌, slice_index_or, is_some}
+use Rattle.dual.specs.Floors.{FloorTable, IsFloor}
 use Rattle.dual.specs.Matchings.{Costs}
+use Rattle.dutch_order.specs.Choices.{numbers_from}
 use Rattle.dutch_player.specs.Meetings.{may_meet}
 use Rattle.dutch_weights.specs.declared.scoped.Reach.{Reach}
 use Rattle.dutch_weights.specs.declared.scoped.Reach.TheVariants.{Bracket, Lower, Next}
@@ -150,3 +152,25 @@ MeasuresNext Next scale = is_some scale.next ≡ true
 -- a table tells where each of the first numbers stands
 abbrev pub TellsSides : ℕ → Scope → List Side → Type 0
 TellsSides mdps scope sides = (a : ℕ) (d : Side) → 0 < a → a ≤ length sides → slice_index_or sides (a - 1) d ≡ side_of mdps scope a
+
+-- ---- floors of the matchings
+
+-- all whom they go over
+abbrev pub all_numbers : Scoped → List ℕ
+all_numbers s = numbers_from 1 (size_by s.reach s.weighing)
+
+-- a floor for so many left over where they go over the bracket alone, for one at most with all lower players (C.4), and for any number with
+-- the next lower scoregroup (C.7)
+abbrev pub IsFloorBy : Reach → Scoped → ℕ → FloorTable → Type 0
+IsFloorBy Bracket s left = IsFloor (costs_in s) (all_numbers s) left
+IsFloorBy Lower s left = IsFloor (costs_in s) (all_numbers s) (length (all_numbers s) % 2)
+IsFloorBy Next s left = λ floor. (count : ℕ) → IsFloor (costs_in s) (all_numbers s) count floor
+
+-- what is kept of a floor: nothing for those left over where who goes down may be in a pair of a matching
+abbrev pub without_left : FloorTable → FloorTable
+without_left floor = record { base = floor.base; debt = floor.debt; size = floor.size; extra = floor.extra; extra_left = [] }
+
+abbrev pub kept_by : Reach → FloorTable → FloorTable
+kept_by Bracket floor = floor
+kept_by Lower floor = without_left floor
+kept_by Next floor = without_left floor

@@ -31,6 +31,10 @@ pub record Weighed : Type 0 where
   pub shape : Shape
   pub scale : Scale
 
+-- a bracket whose pairs are weighed, for a shape
+abbrev pub weighed_for : Weighing → Shape → Weighed
+weighed_for w shape = record { facts = w.facts; reached = w.reached; lower = w.lower; shape = shape; scale = w.scale }
+
 -- a floor, which arrangements it is for, and what the members of their S1R add to it
 pub record ScopedFloor : Type 0 where
   pub scope : Scope
@@ -93,6 +97,10 @@ IsMostAdded order b most = (a : Arrangement) → Begins b a → added_in order a
 abbrev pub IsScaled : Weighed → Type 0
 IsScaled w = IsScaleFor w.facts w.reached w.lower w.shape w.scale
 
+-- a scale is one for a bracket's candidates of a shape
+abbrev pub IsScaleHere : Context → Shape → Scale → Type 0
+IsScaleHere context shape scale = IsScaleFor context.facts context.reached context.lower shape scale
+
 -- floors of a bracket and a shape, on a scale for it
 pub record AreFloors (weighed : Weighed) (floors : List ScopedFloor) : Type 0 where
   pub scaled : IsScaled weighed
@@ -116,16 +124,16 @@ abbrev pub IsLeastWith : Weighed → Beginning → KnownExchange → ℕ → Typ
 IsLeastWith weighed b exchange = IsLeastOf (BeginsWith b exchange) weighed
 
 -- floors by weight are those of a bracket above lower seats and a shape
-pub record AreOf (facts : Facts) (reached : Reached) (lower : List ℕ) (shape : Shape) (weighed : Weighed) : Type 0 where
-  pub facts_are : weighed.facts ≡ facts
-  pub reached_is : weighed.reached ≡ reached
-  pub lower_are : weighed.lower ≡ lower
+pub record AreOf (context : Context) (shape : Shape) (weighed : Weighed) : Type 0 where
+  pub facts_are : weighed.facts ≡ context.facts
+  pub reached_is : weighed.reached ≡ context.reached
+  pub lower_are : weighed.lower ≡ context.lower
   pub shape_is : weighed.shape ≡ shape
 
 -- if there are floors by weight, a quality weighs no less than this on their scale, which is one for the candidates of a shape
 abbrev pub WeighsNoLess : Context → Shape → Option Weighed → ℕ → Quality → Type 0
 WeighsNoLess context shape weights least quality =
-    ForSome weights (λ w. IsScaleFor context.facts context.reached context.lower shape w.scale × (least ≤ weight_of w.scale quality))
+    ForSome weights (λ w. IsScaleHere context shape w.scale × (least ≤ weight_of w.scale quality))
 
 -- C.7: a candidate has no better value of the next bracket than another one; where the scale measures it, its weight tells
 abbrev pub HasNoBetterOn : Option NextScale → Quality → NextValue → Type 0

@@ -6,6 +6,7 @@ use Rattle.dutch_bracket.specs.Context.{Context}
 use Rattle.dutch_bracket.specs.NextMatchings.{count_below, score_below, seat_below}
 use Rattle.dutch_bracket.specs.Reached.{Reached, numbers_meet}
 use Rattle.dutch_bracket.specs.Seated.{difference_down, score_at}
+use Rattle.dutch_weights.specs.declared.weighing.Below.{Below}
 use Rattle.dutch_weights.specs.declared.weighing.PairWeight.{PairWeight}
 use Rattle.dutch_bracket.specs.Weights.{Scale, Weighing, weight_below, weight_of_one_down, weight_of_pair, written}
 
@@ -99,28 +100,25 @@ alone_weight w a =
     own_weight w a
     + weight_below w.scale 1 (difference_down w.facts (score_below w.facts w.lower) (seat_below w.facts w.reached w.lower a) ∷ [])
 
+-- C.7: what a number weighs in the next bracket, one way and the other
+abbrev pub below_of : Weighing → ℕ → Below
+below_of w a = record { met = met_weight w a; alone = alone_weight w a }
+
 -- a table has a place for each number of the bracket and the next lower scoregroup
-abbrev pub HasBelow : Weighing → List ℕ → Type 0
+abbrev pub HasBelow : Weighing → List Below → Type 0
 HasBelow w table = length table ≡ count_below w.facts w.reached w.lower
 
--- a table tells of each of the first numbers what it weighs that meets somebody there
-abbrev pub TellsMetUpto : Weighing → List ℕ → ℕ → Type 0
-TellsMetUpto w table end = (a : ℕ) → IsNumberBelow w a → a ≤ end → slice_index table (a - 1) ≡ met_weight w a
-
--- a table tells of each of the first numbers what it weighs that is in no pair there
-abbrev pub TellsAloneUpto : Weighing → List ℕ → ℕ → Type 0
-TellsAloneUpto w table end = (a : ℕ) → IsNumberBelow w a → a ≤ end → slice_index table (a - 1) ≡ alone_weight w a
+-- a table tells of each of the first numbers what it weighs in the next bracket
+abbrev pub TellsBelowUpto : Weighing → List Below → ℕ → Type 0
+TellsBelowUpto w table end = (a : ℕ) (d : Below) → IsNumberBelow w a → a ≤ end → slice_index_or table (a - 1) d ≡ below_of w a
 
 -- and of all
-abbrev pub TellsMet : Weighing → List ℕ → Type 0
-TellsMet w table = (a : ℕ) → IsNumberBelow w a → slice_index table (a - 1) ≡ met_weight w a
+abbrev pub TellsEachBelow : Weighing → List Below → Type 0
+TellsEachBelow w table = (a : ℕ) (d : Below) → IsNumberBelow w a → slice_index_or table (a - 1) d ≡ below_of w a
 
-abbrev pub TellsAlone : Weighing → List ℕ → Type 0
-TellsAlone w table = (a : ℕ) → IsNumberBelow w a → slice_index table (a - 1) ≡ alone_weight w a
-
--- if the next bracket is measured, tables tell both of all numbers
-abbrev pub TellsBelow : Weighing → List ℕ → List ℕ → Type 0
-TellsBelow w met alone = ForSome w.scale.next (λ _. TellsMet w met × TellsAlone w alone)
+-- if the next bracket is measured, a table has a place for each number and tells of all
+abbrev pub TellsBelow : Weighing → List Below → Type 0
+TellsBelow w table = ForSome w.scale.next (λ _. HasBelow w table × TellsEachBelow w table)
 
 -- a pair, a downfloater, or one in the next bracket weighs so much
 pub data IsHeavy (w : Weighing) (most : ℕ) : Type 0 where

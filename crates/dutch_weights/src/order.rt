@@ -1,8 +1,8 @@
 // What the numbers of a bracket add to what an arrangement costs, if they are in S1R, and the most that those of an S1R
 // add of which is known how it differs from the original one (C.04.3 D.2). So a floor of costs tells of places in the
 // order of D.2 as well.
-ghost use Rattle.std.specs.Prelude.{◌≡◌, ℕ, ◌+◌, ◌*◌, ◌<◌, ◌≤◌, ◌^◌, if◌then◌else◌, List, [], All, IfOk, IfSome, min, sum_by};
-ghost use Rattle.std.specs.Prelude.{true};
+ghost use Rattle.std.specs.Prelude.{◌≡◌, ℕ, ◌+◌, ◌*◌, ◌<◌, ◌≤◌, ◌^◌, if◌then◌else◌, List, [], All, IfOk, IfSome};
+ghost use Rattle.std.specs.Prelude.{min, sum_by, true};
 ghost use Rattle.std.specs.Option.{SomeIff};
 ghost use Rattle.dutch_order.specs.Choices.{is_member};
 ghost use Rattle.dutch_order.specs.Exchanged.{IsExchange};
@@ -187,13 +187,7 @@ impl Order {
     {
         let mut sum = Wide::zero();
         for number in s1r {
-            let Some(one) = self.added(*number) else {
-                return None;
-            };
-            let Some(more) = sum.plus(one) else {
-                return None;
-            };
-            sum = more;
+            sum = sum.plus(self.added(*number)?)?;
         }
         Some(sum)
     }
@@ -215,9 +209,7 @@ impl Order {
     fn kept(&self, barred: &[u16], number: u16) -> Option<Wide>
         ensures { IfSome result (λ n. n ≡ kept self.now barred.now number) }
     {
-        let Some(units) = self.unit.times(u32::from(number)) else {
-            return None;
-        };
+        let units = self.unit.times(u32::from(number))?;
         units.plus(self.more_kept(barred, number))
     }
 
@@ -227,13 +219,7 @@ impl Order {
     {
         let mut sum = Wide::zero();
         for number in original {
-            let Some(one) = self.kept(barred, *number) else {
-                return None;
-            };
-            let Some(more) = sum.plus(one) else {
-                return None;
-            };
-            sum = more;
+            sum = sum.plus(self.kept(barred, *number)?)?;
         }
         Some(sum)
     }
@@ -255,13 +241,7 @@ impl Order {
     {
         let mut sum = Wide::zero();
         for number in others {
-            let Some(one) = self.short_of(top, held, *number) else {
-                return None;
-            };
-            let Some(more) = sum.plus(one) else {
-                return None;
-            };
-            sum = more;
+            sum = sum.plus(self.short_of(top, held, *number)?)?;
         }
         Some(sum)
     }

@@ -6,11 +6,12 @@
 //
 // In an ordinary bracket they can go over the next lower scoregroup (C.7). There those who go down meet its members,
 // and what is in no pair, and the differences, weigh by the digits of C.7.
-ghost use Rattle.std.specs.Prelude.{◌≡◌, ◌+◌, ◌<◌, ◌≤◌, ◌^◌, true, min, slice_index, if◌then◌else◌, nat_lt};
+ghost use Rattle.std.specs.Prelude.{◌≡◌, ◌+◌, ◌<◌, ◌≤◌, ◌^◌, true, All, IfOk, IfSome, length, min, slice_index};
+ghost use Rattle.std.specs.Prelude.{if◌then◌else◌, nat_lt};
 ghost use Rattle.dutch_order.specs.declared.numbers.TheConstants.{LIMIT};
 ghost use Rattle.dutch_weights.specs.declared.scoped.Reach.TheVariants.{Next};
 ghost use Rattle.dutch_weights.specs.ScopedCosts.{IsReached, MeasuresNext, TellsSides, any_seat, are_inside, both_go};
-ghost use Rattle.dutch_weights.specs.ScopedCosts.{bracket_costs};
+ghost use Rattle.dutch_weights.specs.ScopedCosts.{IsFloorBy, all_numbers, bracket_costs, kept_by};
 ghost use Rattle.dutch_weights.specs.ScopedCosts.{is_number_below, may_meet_below, pair_weight_below};
 ghost use Rattle.dutch_bracket.specs.Scopes.{is_joined};
 ghost use Rattle.dutch_weights.specs.ScopedCosts.{going_weight, goes_down, is_inside, lower_costs, may_pair_out};
@@ -21,11 +22,12 @@ ghost use Rattle.dutch_weights.specs.WeightTables.{IsNumber};
 use crate::order::Order;
 use crate::weighing::Weighing;
 use arrayvec::ArrayVec;
-use dual::Rule;
+use dual::{Floor, Pool, Rule, Table};
 use dutch_bracket::context::Context;
 use dutch_bracket::scope::{Scope, Side};
 use dutch_bracket::seats::{BySeat, seats};
-use dutch_order::LIMIT;
+use dutch_order::{LIMIT, Numbers, numbered_from};
+use std::alloc::AllocError;
 use std::marker::Model;
 use wide::Wide;
 
@@ -39,6 +41,18 @@ pub enum Reach {
     Lower,
     /// The next lower scoregroup too, whom those who go down can meet in the next bracket.
     Next,
+}
+
+impl Reach {
+    /// What is kept of a floor: nothing for those left over where who goes down may be in a pair of a matching.
+    pub(crate) fn kept(self, floor: Floor) -> Floor
+        ensures { result ≡ kept_by self floor }
+    {
+        match self {
+            Reach::Bracket => floor,
+            Reach::Lower | Reach::Next => floor.without_left(),
+        }
+    }
 }
 
 /// What pairs and downfloaters weigh in the arrangements of a scope, and what an order adds to pairs of residents
@@ -144,6 +158,35 @@ impl<'a, 'b> Scoped<'a, 'b> {
             Reach::Bracket => context.len(),
             Reach::Lower => context.len() + context.lower().len(),
             Reach::Next => context.len_below(),
+        }
+    }
+
+    /// The numbers of the players whom its matchings go over.
+    #[tactic(auto, using(crate::proofs::WeightsBehind::numbers_known))]
+    fn players(&self) -> Numbers
+        ensures items { result.items ≡ all_numbers self.now }
+        ensures known { All (IsReached self.now) result.items }
+    {
+        numbered_from(1, self.size())
+    }
+
+    /// The floor of a certificate by its matchings: by those of the bracket alone that leave so many over, with all
+    /// lower players by those that leave one over at most, and with the next lower scoregroup by all. None says that
+    /// the certificate gives no floor.
+    pub(crate) fn floor(&self, table: &Table, left: usize) -> Result<Option<Floor>, AllocError>
+        requires { left ≤ length self.now.weighing.reached.seats }
+        ensures { IfOk result (λ found. IfSome found (IsFloorBy self.now.reach self.now left)) }
+    {
+        let alloc = self.weighing.context().alloc();
+        let players = self.players();
+        let pool = Pool {
+            rule: self,
+            players: &players,
+        };
+        match self.reach {
+            Reach::Bracket => table.floor(alloc, &pool, left),
+            Reach::Lower => table.floor(alloc, &pool, players.len() % 2),
+            Reach::Next => table.floor_for_any(alloc, &pool),
         }
     }
 

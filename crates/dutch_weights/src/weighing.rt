@@ -1,7 +1,7 @@
 // What each pair and each downfloater of a bracket weighs alone (C.04.3 C.6, C.8 to C.19), and what each number weighs
 // in the next bracket, where that is measured (C.7), worked out once for all certificates of the bracket.
 ghost use Rattle.std.specs.Prelude.{◌≡◌, ◌+◌, ◌*◌, ◌<◌, ◌≤◌, ◌^◌, true, false, [], ◌∷◌, IfOk, MatchOption, is_some};
-ghost use Rattle.std.specs.Prelude.{length, slice_index};
+ghost use Rattle.std.specs.Prelude.{length};
 ghost use Rattle.std.specs.Option.{ForSome, SomeIff};
 ghost use Rattle.dutch_bracket.specs.declared.reached.BracketKind.TheVariants.{Ordinary};
 ghost use Rattle.dutch_bracket.specs.Beginnings.{seated_so};
@@ -11,9 +11,8 @@ ghost use Rattle.dutch_bracket.specs.Quality.{quality_with};
 ghost use Rattle.dutch_bracket.specs.Seated.{HasSeats, seat_of};
 ghost use Rattle.dutch_bracket.specs.NextMatchings.{count_below};
 ghost use Rattle.dutch_weights.specs.WeightTables.{HasAll, HasBelow, HasPairs, IsHeavy, IsNumber, IsNumberBelow};
-ghost use Rattle.dutch_weights.specs.WeightTables.{TellsAlone, TellsBelow};
-ghost use Rattle.dutch_weights.specs.WeightTables.{TellsDown, TellsMet, TellsPairs, TellsPairsUpto, alone_weight};
-ghost use Rattle.dutch_weights.specs.WeightTables.{down_weight, met_weight, own_weight};
+ghost use Rattle.dutch_weights.specs.WeightTables.{TellsBelow, TellsDown, TellsEachBelow, TellsPairs, TellsPairsUpto};
+ghost use Rattle.dutch_weights.specs.WeightTables.{alone_weight, below_of, down_weight, met_weight, own_weight};
 ghost use Rattle.dutch_weights.specs.WeightTables.{pair_of, pair_weight, place_in, place_of, weighed_on};
 ghost use Rattle.dutch_order.specs.declared.numbers.TheConstants.{LIMIT};
 ghost use Rattle.dutch_bracket.specs.Weights.{weight_with};
@@ -46,14 +45,14 @@ pub(crate) struct Weighing<'a> {
     // of each number
     down: Vec<Wide>,
     // of each number of the bracket and the next lower scoregroup, if C.7 is measured
-    below: Below,
+    below: Vec<Below>,
 }
 
-/// What numbers weigh that meet somebody in the next bracket, and what they weigh that are in no pair there (C.7).
-#[derive(Drop)]
-struct Below {
-    met: Vec<Wide>,
-    alone: Vec<Wide>,
+/// What a number weighs that meets somebody in the next bracket, and what it weighs in no pair there (C.7).
+#[derive(Clone, Copy)]
+pub(crate) struct Below {
+    met: Wide,
+    alone: Wide,
 }
 
 impl<'a> Model for Weighing<'a> {
@@ -69,7 +68,7 @@ impl<'a> Model for Weighing<'a> {
         × TellsPairs (weighed_on w.context.now w.scale) w.pairs.items)
         × (HasAll (weighed_on w.context.now w.scale) w.down.items
         × TellsDown (weighed_on w.context.now w.scale) w.down.items)
-        × TellsBelow (weighed_on w.context.now w.scale) w.below.met.items w.below.alone.items };
+        × TellsBelow (weighed_on w.context.now w.scale) w.below.items };
 }
 
 /// What the weights of a bracket are worked out by.
@@ -276,36 +275,31 @@ impl Weigher<'_> {
         self.own(a, down).plus(below)
     }
 
-    /// Puts what all numbers weigh that meet one of the next lower scoregroup into a table.
-    fn put_met(&self, down: &[Wide], table: &mut [Wide]) -> bool
+    /// What a number weighs in the next bracket; none if that is 2^512 or more.
+    fn below(&self, a: u16, down: &[Wide]) -> Option<Below>
+        requires number { IsNumberBelow self.now a }
         requires group { length self.now.reached.seats < count_below self.now.facts self.now.reached self.now.lower }
         requires room { HasAll self.now down.now }
         requires told { TellsDown self.now down.now }
-        requires table { HasBelow self.now table.old }
-        ensures told { result ≡ true → TellsMet self.now table.new }
-        ensures heavy { result ≡ false → IsHeavy self.now (2 ^ 512) }
+        ensures { MatchOption result (IsHeavy self.now (2 ^ 512)) (λ below. below ≡ below_of self.now a) }
     {
-        for a in 0..self.context.len_below() {
-            match self.met(a as u16 + 1, down) {
-                Some(weight) => table[a] = weight,
-                None => return false,
-            }
-        }
-        true
+        let met = self.met(a, down)?;
+        let alone = self.alone(a, down)?;
+        Some(Below { met, alone })
     }
 
-    /// Puts what all numbers weigh that are in no pair of the next bracket into a table.
-    fn put_alone(&self, down: &[Wide], table: &mut [Wide]) -> bool
+    /// Puts what all numbers weigh in the next bracket into a table.
+    fn put_below(&self, down: &[Wide], table: &mut [Below]) -> bool
         requires group { length self.now.reached.seats < count_below self.now.facts self.now.reached self.now.lower }
         requires room { HasAll self.now down.now }
         requires told { TellsDown self.now down.now }
         requires table { HasBelow self.now table.old }
-        ensures told { result ≡ true → TellsAlone self.now table.new }
+        ensures told { result ≡ true → TellsEachBelow self.now table.new }
         ensures heavy { result ≡ false → IsHeavy self.now (2 ^ 512) }
     {
         for a in 0..self.context.len_below() {
-            match self.alone(a as u16 + 1, down) {
-                Some(weight) => table[a] = weight,
+            match self.below(a as u16 + 1, down) {
+                Some(below) => table[a] = below,
                 None => return false,
             }
         }
@@ -352,71 +346,31 @@ fn weigh_down(
     }
 }
 
-/// What all numbers weigh that meet one of the next lower scoregroup; none if one of them is 2^512 or more.
-fn weigh_met(
-    alloc: Global,
-    weigher: &Weigher<'_>,
-    down: &[Wide],
-) -> Result<Option<Vec<Wide>>, AllocError>
-    requires ordinary { weigher.now.reached.kind ≡ Ordinary }
-    requires room { HasAll weigher.now down.now }
-    requires told { TellsDown weigher.now down.now }
-    ensures { IfOk result (λ weighed. MatchOption weighed (IsHeavy weigher.now (2 ^ 512))
-        (λ table. TellsMet weigher.now table.items)) }
-{
-    let mut table = vec![in alloc; Wide::zero(); weigher.context.len_below()]?;
-    if weigher.put_met(down, &mut table) {
-        Ok(Some(table))
-    } else {
-        Ok(None)
-    }
-}
-
-/// What all numbers weigh that are in no pair of the next bracket; none if one of them is 2^512 or more.
-fn weigh_alone(
-    alloc: Global,
-    weigher: &Weigher<'_>,
-    down: &[Wide],
-) -> Result<Option<Vec<Wide>>, AllocError>
-    requires ordinary { weigher.now.reached.kind ≡ Ordinary }
-    requires room { HasAll weigher.now down.now }
-    requires told { TellsDown weigher.now down.now }
-    ensures { IfOk result (λ weighed. MatchOption weighed (IsHeavy weigher.now (2 ^ 512))
-        (λ table. TellsAlone weigher.now table.items)) }
-{
-    let mut table = vec![in alloc; Wide::zero(); weigher.context.len_below()]?;
-    if weigher.put_alone(down, &mut table) {
-        Ok(Some(table))
-    } else {
-        Ok(None)
-    }
-}
-
 /// What all numbers weigh in the next bracket, if C.7 is measured; none if one of them weighs 2^512 or more.
 fn weigh_next(
     alloc: Global,
     weigher: &Weigher<'_>,
     down: &[Wide],
-) -> Result<Option<Below>, AllocError>
+) -> Result<Option<Vec<Below>>, AllocError>
     requires room { HasAll weigher.now down.now }
     requires told { TellsDown weigher.now down.now }
     requires next { ForSome weigher.now.scale.next (λ _. weigher.now.reached.kind ≡ Ordinary) }
     ensures { IfOk result (λ weighed. MatchOption weighed (IsHeavy weigher.now (2 ^ 512))
-        (λ below. TellsBelow weigher.now below.met.items below.alone.items)) }
+        (λ table. TellsBelow weigher.now table.items)) }
 {
     if !weigher.scale.counts_next() {
-        return Ok(Some(Below {
-            met: Vec::new(alloc),
-            alone: Vec::new(alloc),
-        }));
+        return Ok(Some(Vec::new(alloc)));
     }
-    let Some(met) = weigh_met(alloc, weigher, down)? else {
-        return Ok(None);
+    let nothing = Below {
+        met: Wide::zero(),
+        alone: Wide::zero(),
     };
-    let Some(alone) = weigh_alone(alloc, weigher, down)? else {
-        return Ok(None);
-    };
-    Ok(Some(Below { met, alone }))
+    let mut table = vec![in alloc; nothing; weigher.context.len_below()]?;
+    if weigher.put_below(down, &mut table) {
+        Ok(Some(table))
+    } else {
+        Ok(None)
+    }
 }
 
 impl<'a> Weighing<'a> {
@@ -485,7 +439,7 @@ impl Weighing<'_> {
         requires some { is_some self.now.scale.next ≡ true }
         ensures { result ≡ met_weight self.now a }
     {
-        at(&self.below.met, usize::from(a) - 1)
+        self.below[usize::from(a) - 1].met
     }
 
     /// What a number weighs that is in no pair of the next bracket (C.7).
@@ -494,18 +448,7 @@ impl Weighing<'_> {
         requires some { is_some self.now.scale.next ≡ true }
         ensures { result ≡ alone_weight self.now a }
     {
-        at(&self.below.alone, usize::from(a) - 1)
-    }
-}
-
-/// A weight of a table, 0 past its end.
-fn at(table: &[Wide], place: usize) -> Wide
-    ensures { result ≡ slice_index table.now place }
-{
-    if place < table.len() {
-        table[place]
-    } else {
-        Wide::zero()
+        self.below[usize::from(a) - 1].alone
     }
 }
 

@@ -6,25 +6,27 @@ ghost use Rattle.std.specs.Prelude.{drop, length, sum_by, if◌then◌else◌};
 ghost use Rattle.std.specs.List.{zip};
 ghost use Rattle.dual.specs.Floors.{extra_in, extra_left_in};
 ghost use Rattle.dutch_order.specs.declared.numbers.TheConstants.{LIMIT};
-ghost use Rattle.dutch_weights.specs.declared.scoped.Reach.TheVariants.{Lower, Next};
+ghost use Rattle.dutch_weights.specs.declared.scoped.Reach.TheVariants.{Lower};
+ghost use Rattle.dutch_weights.specs.ScopedCosts.{MeasuresNext};
 ghost use Rattle.dutch_bracket.specs.Quality.{one_if};
 ghost use Rattle.dutch_bracket.specs.QualityIn.{quality_in};
 ghost use Rattle.dutch_bracket.specs.Brackets.{is_penultimate};
 ghost use Rattle.dutch_bracket.specs.Weights.{IsScaleFor};
-ghost use Rattle.dutch_weights.specs.WeightFloors.{IsMostAdded, IsWeightFloor, Weighed, bound_behind, is_first};
-ghost use Rattle.dutch_weights.specs.WeightFloors.{left_known, passed_over};
+ghost use Rattle.dutch_weights.specs.WeightFloors.{IsMostAdded, IsScaleHere, IsWeightFloor, Weighed, bound_behind};
+ghost use Rattle.dutch_weights.specs.WeightFloors.{is_first};
+ghost use Rattle.dutch_weights.specs.WeightFloors.{left_known, passed_over, weighed_for};
 
 use crate::order::{Halves, Order};
 use crate::scale::{Extent, Scale};
 use crate::scoped::{Reach, Scoped};
 use crate::trail::Trail;
 use crate::weighing::Weighing;
-use dual::{Floor, Pool, Table};
+use dual::{Floor, Table};
 use dutch_bracket::begun::fixed_lists;
 use dutch_bracket::context::Context;
 use dutch_bracket::quality::Quality;
 use dutch_bracket::scope::Scope;
-use dutch_order::{Exchange, Filling, LIMIT, Prefix, Shape, numbered_from};
+use dutch_order::{Exchange, Filling, LIMIT, Prefix, Shape};
 use std::alloc::AllocError;
 use std::marker::Model;
 use wide::Wide;
@@ -72,25 +74,13 @@ pub struct WeightFloors<'a> {
 }
 
 impl<'a> Model for WeightFloors<'a> {
-    ghost use Rattle.dutch_weights.specs.WeightFloors.{AreFloors, Weighed};
+    ghost use Rattle.dutch_weights.specs.WeightFloors.{AreFloors, Weighed, weighed_for};
 
     ghost Value = { Weighed };
 
-    ghost view = { λ w. record {
-      facts = w.weighing.facts;
-      reached = w.weighing.reached;
-      lower = w.weighing.lower;
-      shape = w.shape;
-      scale = w.weighing.scale;
-    } };
+    ghost view = { λ w. weighed_for w.weighing w.shape };
 
-    ghost invariant = { λ w. AreFloors (record {
-      facts = w.weighing.facts;
-      reached = w.weighing.reached;
-      lower = w.weighing.lower;
-      shape = w.shape;
-      scale = w.weighing.scale;
-    }) w.floors.items };
+    ghost invariant = { λ w. AreFloors (weighed_for w.weighing w.shape) w.floors.items };
 }
 
 /// A sum with what the pairs of two lists add to a floor; none if it does not fit.
@@ -100,10 +90,7 @@ fn plus_pairs(floor: &Floor, firsts: &[u16], seconds: &[u16], sum: Wide) -> Opti
     let count = firsts.len().min(seconds.len());
     let mut sum = sum;
     for i in 0..count {
-        let Some(more) = sum.plus(floor.extra(firsts[i], seconds[i])) else {
-            return None;
-        };
-        sum = more;
+        sum = sum.plus(floor.extra(firsts[i], seconds[i]))?;
     }
     Some(sum)
 }
@@ -144,10 +131,7 @@ fn plus_outside(floor: &Floor, mdps: usize, s1: &[u16], sum: Wide) -> Option<Wid
     for above in 0..mdps {
         let number = above as u16 + 1;
         let is_met = is_at(s1, met, number);
-        let Some(more) = sum.plus(extra_outside(floor, is_met, number)) else {
-            return None;
-        };
-        sum = more;
+        sum = sum.plus(extra_outside(floor, is_met, number))?;
         met = place_after(met, is_met);
     }
     Some(sum)
@@ -171,15 +155,9 @@ fn bound_behind(floor: &Floor, mdps: usize, prefix: &Prefix<'_>) -> Option<Wide>
     ensures { IfSome result (λ n. n + floor.now.debt ≡ bound_behind floor.now mdps prefix.now) }
 {
     let begun = fixed_lists(prefix);
-    let Some(first) = plus_pairs(floor, begun.s1, begun.s2, floor.base()) else {
-        return None;
-    };
-    let Some(second) = plus_pairs(floor, begun.s1r, begun.s2r, first) else {
-        return None;
-    };
-    let Some(all) = plus_left(floor, mdps, prefix, second) else {
-        return None;
-    };
+    let first = plus_pairs(floor, begun.s1, begun.s2, floor.base())?;
+    let second = plus_pairs(floor, begun.s1r, begun.s2r, first)?;
+    let all = plus_left(floor, mdps, prefix, second)?;
     all.minus(floor.debt())
 }
 
@@ -274,7 +252,7 @@ fn order_bits(context: &Context<'_>) -> u32 {
 /// A scale with digits for C.16 to C.19 and room for the order of S1R (D.2), as far as sums of the weights of all
 /// players fit, those twice over, and what it costs to be left over.
 fn scale_for(context: &Context<'_>, shape: Shape, next: bool) -> Scale
-    ensures { IsScaleFor context.now.facts context.now.reached context.now.lower shape result }
+    ensures { IsScaleHere context.now shape result }
 {
     let order = order_bits(context);
     for floats in [true, false] {
@@ -299,13 +277,7 @@ impl<'a> WeightFloors<'a> {
     /// The floors of a bracket and a shape: none so far.
     fn new(weighing: Weighing<'a>, shape: Shape) -> WeightFloors<'a>
         requires { IsScaleFor weighing.facts weighing.reached weighing.lower shape weighing.scale }
-        ensures { result ≡ record {
-          facts = weighing.entry.facts;
-          reached = weighing.entry.reached;
-          lower = weighing.entry.lower;
-          shape = shape;
-          scale = weighing.entry.scale;
-        } }
+        ensures { result ≡ weighed_for weighing.entry shape }
     {
         let alloc = weighing.context().alloc();
         WeightFloors {
@@ -323,9 +295,8 @@ impl<'a> WeightFloors<'a> {
         shape: Shape,
         scale: Scale,
     ) -> Result<Option<WeightFloors<'a>>, AllocError>
-        requires { IsScaleFor context.now.facts context.now.reached context.now.lower shape scale }
-        ensures { IfOk result (λ found. IfSome found
-            (AreOf context.now.facts context.now.reached context.now.lower shape)) }
+        requires { IsScaleHere context.now shape scale }
+        ensures { IfOk result (λ found. IfSome found (AreOf context.now shape)) }
     {
         match Weighing::read(context, scale)? {
             Some(weighing) => return Ok(Some(WeightFloors::new(weighing, shape))),
@@ -339,8 +310,7 @@ impl<'a> WeightFloors<'a> {
         shape: Shape,
         next: bool,
     ) -> Result<Option<WeightFloors<'a>>, AllocError>
-        ensures { IfOk result (λ found. IfSome found
-            (AreOf context.now.facts context.now.reached context.now.lower shape)) }
+        ensures { IfOk result (λ found. IfSome found (AreOf context.now shape)) }
     {
         WeightFloors::read(context, shape, scale_for(context, shape, next))
     }
@@ -361,7 +331,7 @@ impl<'a> WeightFloors<'a> {
     /// over all lower players too (C.4), unless they are too many.
     pub(crate) fn reach(&self) -> Reach
         ensures lower { result ≡ Lower → is_penultimate self.now.reached.kind ≡ true }
-        ensures next { result ≡ Next → is_some self.now.scale.next ≡ true }
+        ensures next { MeasuresNext result self.now.scale }
     {
         if self.weighing.scale().counts_next() {
             return Reach::Next;
@@ -407,94 +377,12 @@ impl<'a> WeightFloors<'a> {
     ) -> Result<Option<ScopedFloor>, AllocError>
         ensures { IfOk result (λ found. IfSome found (IsWeightFloor self.now)) }
     {
-        match self.reach() {
-            Reach::Bracket => self.check_bracket(table, scope, order),
-            Reach::Lower => self.check_lower(table, scope, order),
-            Reach::Next => self.check_next(table, scope, order),
-        }
-    }
-
-    /// The same by matchings of all lower players too.
-    fn check_lower(
-        &self,
-        table: &Table,
-        scope: &Scope,
-        order: Order,
-    ) -> Result<Option<ScopedFloor>, AllocError>
-        requires { is_penultimate self.now.reached.kind ≡ true }
-        ensures { IfOk result (λ found. IfSome found (IsWeightFloor self.now)) }
-    {
-        let context = self.weighing.context();
-        let scoped = Scoped::new(&self.weighing, scope, Reach::Lower, &order);
-        let players = numbered_from(1, scoped.size());
-        let left = players.len() % 2;
-        let pool = Pool {
-            rule: &scoped,
-            players: &players,
-        };
-        let Some(floor) = table.floor(context.alloc(), &pool, left)? else {
+        let reach = self.reach();
+        let scoped = Scoped::new(&self.weighing, scope, reach, &order);
+        let Some(floor) = scoped.floor(table, self.left())? else {
             return Ok(None);
         };
-        // (who goes down may be in a pair here)
-        let floor = floor.without_left();
-        let scope = scope.copied();
-        Ok(Some(ScopedFloor {
-            scope,
-            order,
-            floor,
-        }))
-    }
-
-    /// The same by matchings of the next lower scoregroup too, however many of them are left over.
-    fn check_next(
-        &self,
-        table: &Table,
-        scope: &Scope,
-        order: Order,
-    ) -> Result<Option<ScopedFloor>, AllocError>
-        requires { is_some self.now.scale.next ≡ true }
-        ensures { IfOk result (λ found. IfSome found (IsWeightFloor self.now)) }
-    {
-        let context = self.weighing.context();
-        let scoped = Scoped::new(&self.weighing, scope, Reach::Next, &order);
-        let players = numbered_from(1, scoped.size());
-        let pool = Pool {
-            rule: &scoped,
-            players: &players,
-        };
-        let Some(floor) = table.floor_for_any(context.alloc(), &pool)? else {
-            return Ok(None);
-        };
-        // (who goes down may be in a pair here)
-        let floor = floor.without_left();
-        let scope = scope.copied();
-        Ok(Some(ScopedFloor {
-            scope,
-            order,
-            floor,
-        }))
-    }
-
-    /// The same by matchings of the bracket alone.
-    fn check_bracket(
-        &self,
-        table: &Table,
-        scope: &Scope,
-        order: Order,
-    ) -> Result<Option<ScopedFloor>, AllocError>
-        ensures { IfOk result (λ found. IfSome found (IsWeightFloor self.now)) }
-    {
-        let context = self.weighing.context();
-        let players = numbered_from(1, context.len());
-        let left = self.left();
-        let scoped = Scoped::new(&self.weighing, scope, Reach::Bracket, &order);
-        let pool = Pool {
-            rule: &scoped,
-            players: &players,
-        };
-        let Some(floor) = table.floor(context.alloc(), &pool, left)? else {
-            return Ok(None);
-        };
+        let floor = reach.kept(floor);
         let scope = scope.copied();
         Ok(Some(ScopedFloor {
             scope,
@@ -528,12 +416,8 @@ impl<'a> WeightFloors<'a> {
         if !scale.measures(quality) {
             return None;
         }
-        let Some(weight) = scale.weigh(quality) else {
-            return None;
-        };
-        let Some(above) = scale.weigh_above(quality) else {
-            return None;
-        };
+        let weight = scale.weigh(quality)?;
+        let above = scale.weigh_above(quality)?;
         Some(Bar { weight, above })
     }
 

@@ -17,7 +17,7 @@ returns c =
     let one = ap (λ (l : Arrangement). sum_by f (zip l.s1 l.s2)) begun in
     let two = ap (λ (l : Arrangement). sum_by f (zip l.s1r l.s2r)) begun in
     let both = sum_by-append f (zip lists.s1 lists.s2) (zip lists.s1r lists.s2r) in
-    let same : c.in-Some-plus_left.all ≡ bound_behind c.args.floor.now c.args.mdps c.args.prefix.now =
-    omega (arith, c.in-Some-plus_left.ensures, c.in-Some-plus_pairs.ensures, c.in-Some.ensures, c.base.ensures, one, two, both) in
-    back_by c.minus.result c.in-Some-plus_left.all c.debt.result c.args.floor.now.debt (bound_behind c.args.floor.now c.args.mdps c.args.prefix.now) c.debt.ensures same
+    let same : c.in_ok-all.all ≡ bound_behind c.args.floor.now c.args.mdps c.args.prefix.now =
+    omega (arith, c.in_ok-all.ensures, c.in_ok-second.ensures, c.in_ok-first.ensures, c.base.ensures, one, two, both) in
+    back_by c.minus.result c.in_ok-all.all c.debt.result c.args.floor.now.debt (bound_behind c.args.floor.now c.args.mdps c.args.prefix.now) c.debt.ensures same
     c.minus.ensures

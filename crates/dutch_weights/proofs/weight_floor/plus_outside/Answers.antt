@@ -10,6 +10,6 @@ loop-above-preserved c =
     let f = extra_left_in c.args.floor.now in
     let step = one_more f c.args.s1.now c.loop-above.met c.loop-above.above c.args.mdps c.is_at-is_met.result c.loop-above-test.true c.is_at-is_met.ensures in
     let moved = ap (λ n. sum_by f (passed_over (drop n c.args.s1.now) ((c.loop-above.above + 1) + 1) (c.args.mdps - (c.loop-above.above + 1)))) c.place_after-met.ensures in (
-      omega (arith, step, moved, c.loop-above.invariant.0, c.extra_outside.ensures, c.in-Some.ensures.1),
+      omega (arith, step, moved, c.loop-above.invariant.0, c.extra_outside.ensures, c.in_ok-sum.ensures.1),
       omega (arith, c.loop-above.invariant.1, c.place_after-met.ensures, at_most_one c.is_at-is_met.result),
     )
