@@ -1,7 +1,6 @@
 -- Numbers that are marked one by one, and those that are left.
-use Rattle.std.proofs.Common.{◌≡◌, ℕ, zero, suc, ◌+◌, ◌-◌, ◌<◌, ◌≤◌, Bool, true, false, not, ◌||◌, cond, List, [], ◌∷◌, ◌++◌, length, map, get_or, drop, filter, inl, inr, refl, sym, ap, ◌∙◌, subst, arith}
-use Rattle.std.proofs.lemmas.Bool.{eq-eqb, ne_eqb, cases_eq}
-use Rattle.std.proofs.lemmas.List.{drop_more, length-map, append-nil}
+use Rattle.std.proofs.Common.{◌≡◌, ℕ, zero, suc, ◌+◌, ◌-◌, ◌<◌, ◌≤◌, Bool, true, false, not, ◌||◌, cond, List, [], ◌∷◌, ◌++◌, length, map, drop, filter, refl, sym, ap, ◌∙◌, subst, arith}
+use Rattle.std.proofs.lemmas.List.{length-map, append-nil}
 use Rattle.std.proofs.lemmas.List.Elements.{filter-append}
 use Rattle.std.specs.List.{AllByRecursion}
 use Rattle.dutch_order.specs.Choices.{is_member, numbers_from}
@@ -14,25 +13,7 @@ use Rattle.dutch_bracket.specs.BitTables.{has_bit}
 use Rattle.dutch_bracket.specs.ColourFloors.{beyond, pool}
 use Rattle.dutch_bracket.proofs.AllLemmas.{all_filter}
 use Rattle.dutch_bracket.proofs.ArrangementParts.{numbers_within}
-use Rattle.std.proofs.Math.Bool.{or-true}
 use Rattle.dutch_order.proofs.Skipping.{filter-keeps, filter-drops}
-
-marked : (old new rest : List ℕ) (x i : ℕ) → has_bit new x ≡ true → ((j : ℕ) → ¬ (j ≡ x) → has_bit new j ≡ has_bit old j)
-    → (has_bit new i || is_member i rest) ≡ (has_bit old i || is_member i (x ∷ rest))
-marked old new rest x i set others =
-    elim (cases_eq i x) [
-      | inl same ↦ ap (λ t. t || is_member i rest) (ap (has_bit new) same ∙ set)
-          ∙ (sym (or-true (has_bit old i)) ∙ sym (ap (λ t. has_bit old i || (t || is_member i rest)) (eq-eqb x i (sym same))))
-      | inr other ↦ ap (λ t. t || is_member i rest) (others i other)
-          ∙ sym (ap (λ t. has_bit old i || (t || is_member i rest)) (ne_eqb x i (λ e. other (sym e))))
-    ]
-
-pub mark_more : (old new numbers : List ℕ) (k i : ℕ) → k < length numbers → has_bit new (get_or numbers k 0) ≡ true
-    → ((j : ℕ) → ¬ (j ≡ get_or numbers k 0) → has_bit new j ≡ has_bit old j)
-    → (has_bit new i || is_member i (drop (k + 1) numbers)) ≡ (has_bit old i || is_member i (drop k numbers))
-mark_more old new numbers k i lt set others =
-    marked old new (drop (k + 1) numbers) (get_or numbers k 0) i set others
-    ∙ ap (λ xs. has_bit old i || is_member i xs) (sym (drop_more numbers k 0 lt))
 
 three : (p q r : ℕ → Bool) (x : ℕ) (xs ys : List ℕ) (a b c : Bool) → p x ≡ not a → q x ≡ not b → r x ≡ not c
     → ys ≡ filter r (filter q (filter p xs)) → cond (not ((a || b) || c)) (x ∷ ys) ys ≡ filter r (filter q (filter p (x ∷ xs)))

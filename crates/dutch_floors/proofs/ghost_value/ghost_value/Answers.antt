@@ -1,18 +1,12 @@
 -- The ghosts are a bracket, and its greatest shape gives the value.
-use Rattle.std.proofs.Common.{◌≡◌, ℕ, List, length, sym, ap, ◌∙◌, subst, arith}
+use Rattle.std.proofs.Common.{◌≡◌, ℕ, List, length, ap, ◌∙◌, arith}
 use Rattle.std.proofs.lemmas.Option.{MatchOption-at_some}
-use Rattle.dutch_order.specs.Arrangements.{Frame, IsBracket}
+use Rattle.dutch_order.specs.Arrangements.{Frame}
 use Rattle.dutch_bracket.specs.Ghosts.{ghost_frame}
 use Rattle.dutch_floors.specs.GhostValues.{first_ghosts}
 use Rattle.dutch_bracket.specs.Brackets.{first_group, scoregroups}
 use Rattle.dutch_bracket.proofs.C07WeakerRules.{found_few}
 use Rattle.dutch_floors.proofs.ghost_value.ghost_value.Goals as goal
-
-pub ghost_bracket-bracket-requires : goal.ghost_bracket-bracket-requires
-ghost_bracket-bracket-requires c =
-    let facts = c.args.context.now.facts in
-    subst (λ (ghosts : List ℕ). IsBracket (ghost_frame facts ghosts (first_group facts (scoregroups facts c.args.context.now.lower))).scores (length ghosts))
-    (sym (c.deref.ensures.0 ∙ c.ghost_scores-scores.ensures.items)) c.ghost_scores-scores.ensures.bracket
 
 pub floor_held-requires-clause-small : goal.floor_held-requires-clause-small
 floor_held-requires-clause-small c =

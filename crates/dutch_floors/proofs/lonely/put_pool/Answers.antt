@@ -10,12 +10,6 @@ use Rattle.dutch_bracket.proofs.BitLemmas.{none_set}
 use Rattle.dutch_floors.proofs.LonelyLemmas.{pool_is, pool_numbers}
 use Rattle.dutch_floors.proofs.lonely.put_pool.Goals as goal
 
-pub put_unmarked-requires-clause-small : goal.put_unmarked-requires-clause-small
-put_unmarked-requires-clause-small c =
-    let mdps : c.mdps-mdps.result ≡ c.args.context.now.reached.mdps = c.mdps-mdps.ensures ∙ ap (λ (s : Reached). s.mdps) c.reached.ensures.value in
-    let counted = length-map c.args.context.now.reached.seats (score_at c.args.context.now.facts) in
-    omega (arith, c.saturating_sub-residents.ensures, c.len.ensures.value, c.len.ensures.few, mdps, c.reached.ensures.sound.sound.within, counted)
-
 pub returns-clause-items : goal.returns-clause-items
 returns-clause-items c =
     let mdps : c.mdps-mdps.result ≡ c.args.context.now.reached.mdps = c.mdps-mdps.ensures ∙ ap (λ (s : Reached). s.mdps) c.reached.ensures.value in
