@@ -245,7 +245,8 @@ impl<'a> Floors<'a> {
     fn is_known(&self, prefix: &Prefix<'_>) -> bool
         ensures known { result ≡ is_known self.now prefix.now }
         ensures numbers { is_known self.now prefix.now ≡ true → HasNumbers self.now.reached (fixed_lists prefix.now) }
-        ensures s1 { is_known self.now prefix.now ≡ true → AllNumbers self.now.reached.seats (s1_of self.now prefix.now) }
+        ensures s1 { is_known self.now prefix.now ≡ true
+            → AllNumbers self.now.reached.seats (s1_of self.now prefix.now) }
         ensures few { is_known self.now prefix.now ≡ true → length (s1_of self.now prefix.now) ≤ self.now.shape.mdps }
     {
         let begun = fixed_lists(prefix);

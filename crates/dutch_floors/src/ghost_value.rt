@@ -70,7 +70,8 @@ fn ghost_scores(context: &Context<'_>, shape: Shape) -> Numbers
 
 /// The next bracket, with ghosts of these scores in front.
 fn ghost_bracket(context: &Context<'_>, ghosts: &[u16]) -> Bracket
-    requires { IsBracket (ghost_frame context.now.facts ghosts.now (group_here context.now)).scores (length ghosts.now) }
+    requires { IsBracket (ghost_frame context.now.facts ghosts.now (group_here context.now)).scores
+        (length ghosts.now) }
     ensures { result ≡ ghost_frame context.now.facts ghosts.now (group_here context.now) }
 {
     let mut scores = ArrayVec::new();

@@ -87,7 +87,8 @@ impl Outlook {
         budget: &mut Budget,
     ) -> Result<Outlook, Stopped>
         requires fits { FitsHere context.now shape }
-        ensures answer { MatchResult result (IsOutlookHere context.now shape) (λ _. budget.new.used ≡ budget.new.limit) }
+        ensures answer { MatchResult result (IsOutlookHere context.now shape)
+            (λ _. budget.new.used ≡ budget.new.limit) }
         ensures spends { Spends budget.old budget.new }
     {
         match context.reached().kind() {
@@ -135,7 +136,8 @@ impl Outlook {
     ) -> Result<Outlook, Stopped>
         requires ordinary { context.now.reached.kind ≡ Ordinary }
         requires fits { FitsHere context.now shape }
-        ensures answer { MatchResult result (IsOutlookHere context.now shape) (λ _. budget.new.used ≡ budget.new.limit) }
+        ensures answer { MatchResult result (IsOutlookHere context.now shape)
+            (λ _. budget.new.used ≡ budget.new.limit) }
         ensures spends { Spends budget.old budget.new }
     {
         let any = value_by_counts(context, shape);

@@ -49,8 +49,8 @@ impl<'a> Model for Paired<'a> {
     ghost view = { λ r. record { sheet = r.report.now; facts = r.field.now; stages = r.stages.now; bye = r.bye.now } };
 }
 
-/// What is asked: by whom and for whom, by their start ranks, for the bye by 0; and in how many steps a candidate may be
-/// searched for.
+/// What is asked: by whom and for whom, by their start ranks, for the bye by 0; and in how many steps a candidate may
+/// be searched for.
 #[derive(Clone, Copy)]
 pub struct Asked {
     pub player: u16,

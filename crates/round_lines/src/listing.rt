@@ -183,7 +183,8 @@ fn put_down(text: &mut String, bracket: &Bracket<'_>, down: &[u16]) -> Result<()
 fn put_each(text: &mut String, bracket: &Bracket<'_>, numbers: &[u16]) -> Result<(), AllocError>
     requires { IsOf bracket.now.field.now bracket.now.reached.now }
     ensures { OnOk result (string_bytes text.new ≡ string_bytes text.old
-        ++ flat_map (λ n. codes " " ++ decimal (start_of bracket.now.field.now bracket.now.reached.now n)) numbers.now) }
+        ++ flat_map (λ n. codes " " ++ decimal (start_of bracket.now.field.now bracket.now.reached.now n))
+        numbers.now) }
 {
     for number in numbers {
         let start = bracket.start_of(*number);
